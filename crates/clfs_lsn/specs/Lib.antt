@@ -1,0 +1,6 @@
+pub mod Lsn
+pub mod Size
+pub mod Place
+pub mod Space
+pub mod Words
+pub mod Spelling

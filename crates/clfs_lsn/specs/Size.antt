@@ -1,0 +1,27 @@
+-- The sizes of records and blocks. A block is made of sectors, each of which has 504 bytes of payload; its payload is a
+-- header of 16 bytes and then its records, each of which is a header of 32 bytes and its data.
+use Rattle.std.specs.Prelude.{ℕ, ◌+◌, ◌-◌, ◌*◌, ◌/◌, ◌≤◌}
+use Rattle.clfs_lsn.specs.declared.shape.Shape.{Shape}
+
+-- A block has 1 to 128 sectors at most, and a container two largest blocks at least and 16,384 sectors at most.
+pub record IsShape (shape : Shape) : Type 0 where
+  pub some_sectors : 1 ≤ shape.block_sectors
+  pub largest_block : shape.block_sectors ≤ 128
+  pub two_blocks : 2 * shape.block_sectors ≤ shape.container_sectors
+  pub largest_container : shape.container_sectors ≤ 16384
+
+-- the bytes of a record with n bytes of data: its header, and the data filled up to a multiple of 8
+abbrev pub size : ℕ → ℕ
+size n = 32 + (n + 7) / 8 * 8
+
+-- the sectors that so many bytes of payload take, the last of them perhaps in part
+abbrev pub sectors : ℕ → ℕ
+sectors used = (used + 503) / 504
+
+-- the sectors of a block that has one record with n bytes of data and no other
+abbrev pub own : ℕ → ℕ
+own n = sectors (16 + size n)
+
+-- the most bytes of data of a record: those that fill a largest block
+abbrev pub longest : Shape → ℕ
+longest shape = 504 * shape.block_sectors - 48

@@ -1,0 +1,32 @@
+// A record with all that the log keeps of it.
+
+use crate::bytes::Bytes;
+use crate::lsn::Lsn;
+
+/// What a record is.
+#[derive(Clone, Copy, Debug, PartialEq, Eq)]
+pub enum Kind {
+    /// A record with a client's data.
+    Plain,
+    /// A restart area, which may carry a new base of its stream.
+    Restart,
+}
+
+/// A record as the log keeps it.
+#[derive(Clone, Debug, Drop)]
+pub struct LogEntry {
+    /// Where it lies: its container, its block's offset and its position in the block.
+    pub lsn: Lsn,
+    /// The number of its stream, from 1.
+    pub stream: u16,
+    /// What it is.
+    pub kind: Kind,
+    /// The record before it, as the client that appended it has it, or null.
+    pub previous: Lsn,
+    /// The record that undoing goes on with, as that client has it, or null.
+    pub undo_next: Lsn,
+    /// The base of its stream from it on, in a restart area; else null.
+    pub new_base: Lsn,
+    /// The client's data.
+    pub bytes: Bytes,
+}

@@ -1,0 +1,30 @@
+//! Log sequence numbers, sizes and places of records, and the plain types of the log.
+//!
+//! Everything else stands on this crate, so it keeps nothing and calls nothing: numbers go in and numbers come out. `Lsn`
+//! names a record by its container, its block's offset and its position in the block. `Shape` says how large blocks and
+//! containers are, `Place` where the next record goes, and `place_after` is the one rule for it: the log appends by it, and
+//! whoever reads a log again finds each record at the LSN that the rule gave. The specs hold besides the calls' own
+//! definitions those that several crates above cite: the free sectors of a log, the spelling of a record, the words of a
+//! script.
+#![tactic(auto)]
+
+mod bytes;
+mod entry;
+mod lsn;
+mod name;
+mod place;
+mod policy;
+mod shape;
+mod sizes;
+
+pub use bytes::Bytes;
+pub use entry::{Kind, LogEntry};
+pub use lsn::{Lsn, every_number_is_an_lsn};
+pub use name::Name;
+pub use place::{Place, frontier, place_after, sealed};
+pub use policy::{Policy, PolicyKind};
+pub use shape::{Shape, longest, own};
+pub use sizes::Sizes;
+
+#[cfg(test)]
+mod tests;
