@@ -1,0 +1,16 @@
+pub mod Happened
+pub mod State
+pub mod Live
+pub mod Space
+pub mod Flush
+pub mod Put
+pub mod Reading
+pub mod Archive
+pub mod Policies
+pub mod Refusals
+pub mod Answers
+pub mod Valid
+pub mod Step
+pub mod Run
+pub mod Lines
+pub mod Text

@@ -1,0 +1,101 @@
+-- How cursors go over records and restart areas.
+use Rattle.std.specs.Prelude.{ℕ, zero, suc, Bool, true, false, not, ◌&&◌, ◌==◌, nat_lt, if◌then◌else◌, List, [], ◌∷◌, ◌++◌, length, map, filter, find, reverse, Option, Some, None, slice_get}
+use Rattle.std.specs.List.{list_any}
+use Rattle.std.specs.Option.{option_and_then}
+use Rattle.clfs_lsn.specs.declared.entry.LogEntry.{LogEntry}
+use Rattle.clfs_lsn.specs.declared.entry.Kind.{Kind}
+use Rattle.clfs_lsn.specs.declared.entry.Kind.TheVariants.{Plain, Restart}
+use Rattle.clfs_model.specs.declared.call.Mode.{Mode}
+use Rattle.clfs_model.specs.declared.call.Mode.TheVariants.{Previous, UndoNext, Forward}
+use Rattle.clfs_model.specs.declared.state.State.{State}
+use Rattle.clfs_model.specs.declared.state.Area.{Area}
+use Rattle.clfs_model.specs.declared.state.Cursor.{Cursor}
+use Rattle.clfs_model.specs.declared.state.CursorKind.{CursorKind}
+use Rattle.clfs_model.specs.declared.state.CursorKind.TheVariants.{Records, RestartAreas}
+use Rattle.clfs_model.specs.State.{least_unused, most_cursors}
+use Rattle.clfs_model.specs.Live.{live, live_at}
+
+-- the record at an LSN, live or not
+abbrev pub record_at : State → ℕ → Option LogEntry
+record_at s lsn = find (λ (entry : LogEntry). entry.lsn == lsn) s.records
+
+-- the record where reading goes next from the one at `last`: the live record that its link names, or the live one with the
+-- least LSN above it
+abbrev pub next : State → ℕ → Mode → ℕ → Option LogEntry
+next s stream Previous last = option_and_then (λ (entry : LogEntry). live_at s stream entry.previous) (record_at s last)
+next s stream UndoNext last = option_and_then (λ (entry : LogEntry). live_at s stream entry.undo_next) (record_at s last)
+next s stream Forward last = find (λ (entry : LogEntry). nat_lt last entry.lsn) (live s stream)
+
+-- so many records at most, from this one on, each the next of the one before
+abbrev pub chain_from : State → ℕ → Mode → ℕ → Option LogEntry → List LogEntry
+chain_from s stream mode zero found = []
+chain_from s stream mode (suc more) None = []
+chain_from s stream mode (suc more) (Some entry) = entry ∷ chain_from s stream mode more (next s stream mode entry.lsn)
+
+-- the records that reading gives from an LSN on; links go down and forward goes up, so no record comes twice
+abbrev pub chain : State → ℕ → ℕ → Mode → List LogEntry
+chain s stream lsn mode = chain_from s stream mode (length s.records) (live_at s stream lsn)
+
+-- whether a record is a restart area
+abbrev pub is_restart : Kind → Bool
+is_restart Plain = false
+is_restart Restart = true
+
+-- the live restart areas of a stream, the newest first
+abbrev pub restart_areas : State → ℕ → List LogEntry
+restart_areas s stream = reverse (filter (λ (entry : LogEntry). is_restart entry.kind) (live s stream))
+
+-- the newest live restart area of a stream
+abbrev pub newest_restart : State → ℕ → Option LogEntry
+newest_restart s stream = slice_get (restart_areas s stream) 0
+
+-- the newest live restart area of a stream below an LSN
+abbrev pub restart_below : State → ℕ → ℕ → Option LogEntry
+restart_below s stream lsn = find (λ (entry : LogEntry). nat_lt entry.lsn lsn) (restart_areas s stream)
+
+-- whether a cursor goes over restart areas
+abbrev pub is_over_restarts : CursorKind → Bool
+is_over_restarts (Records mode) = false
+is_over_restarts RestartAreas = true
+
+-- an area's cursor of this number
+abbrev pub cursor_of : Area → ℕ → Option Cursor
+cursor_of area number = find (λ (cursor : Cursor). cursor.number == number) area.cursors
+
+-- an area's cursor of this number that goes over records
+abbrev pub record_cursor : Area → ℕ → Option Cursor
+record_cursor area number = find (λ (cursor : Cursor). (cursor.number == number) && not (is_over_restarts cursor.kind)) area.cursors
+
+-- an area's cursor of this number that goes over restart areas
+abbrev pub restart_cursor : Area → ℕ → Option Cursor
+restart_cursor area number = find (λ (cursor : Cursor). (cursor.number == number) && is_over_restarts cursor.kind) area.cursors
+
+-- where a cursor of an area comes to next
+abbrev pub next_of_cursor : State → Area → Cursor → Option LogEntry
+next_of_cursor s area cursor = next_of_kind cursor.kind
+  where
+    next_of_kind : CursorKind → Option LogEntry
+    next_of_kind (Records mode) = next s area.stream mode cursor.last
+    next_of_kind RestartAreas = restart_below s area.stream cursor.last
+
+-- whether a cursor has this number
+abbrev pub is_cursor_number : List Cursor → ℕ → Bool
+is_cursor_number cursors number = list_any (λ (cursor : Cursor). cursor.number == number) cursors
+
+-- the number of a new cursor
+abbrev pub unused_cursor : List Cursor → ℕ
+unused_cursor cursors = least_unused most_cursors (is_cursor_number cursors)
+
+-- an area with one cursor more
+abbrev pub with_cursor : Cursor → Area → Area
+with_cursor cursor area = record area { cursors = area.cursors ++ cursor ∷ [] }
+
+-- an area whose cursor of this number has moved to a record
+abbrev pub with_cursor_at : ℕ → ℕ → Area → Area
+with_cursor_at number lsn area = record area {
+  cursors = map (λ (cursor : Cursor). if cursor.number == number then record cursor { last = lsn } else cursor) area.cursors;
+}
+
+-- an area without its cursor of this number
+abbrev pub without_cursor : ℕ → Area → Area
+without_cursor number area = record area { cursors = filter (λ (cursor : Cursor). not (cursor.number == number)) area.cursors }

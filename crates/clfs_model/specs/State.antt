@@ -1,0 +1,88 @@
+-- The state of a log, and how its streams and areas are found and changed. The state itself is the type `State` of `src/`,
+-- whose lists contracts see as lists. It has one list of all records of all streams.
+use Rattle.std.specs.Prelude.{ℕ, ◌-◌, Bool, false, not, ◌&&◌, ◌==◌, if◌then◌else◌, List, [], ◌∷◌, find, filter, Option, None, unwrap_or, slice_get}
+use Rattle.std.specs.List.{range_with_len}
+use Rattle.std.specs.Option.{option_map_or}
+use Rattle.clfs_lsn.specs.Lsn.{null_lsn}
+use Rattle.clfs_lsn.specs.declared.shape.Shape.{Shape}
+use Rattle.clfs_model.specs.declared.state.State.{State}
+use Rattle.clfs_model.specs.declared.state.Stream.{Stream}
+use Rattle.clfs_model.specs.declared.state.Area.{Area}
+
+-- the most containers of a log
+abbrev pub most_containers : ℕ
+most_containers = 256
+
+-- the most streams of a log
+abbrev pub most_streams : ℕ
+most_streams = 128
+
+-- the most bytes of a stream's name
+abbrev pub longest_name : ℕ
+longest_name = 32
+
+-- the most areas of a client
+abbrev pub most_areas : ℕ
+most_areas = 16
+
+-- the highest number of a cursor
+abbrev pub most_cursors : ℕ
+most_cursors = 16
+
+-- a log that has just been made: one empty container with the id 1, and nothing else
+abbrev pub fresh : Shape → ℕ → ℕ → State
+fresh shape containers buffers = record {
+  shape = shape;
+  containers = containers;
+  buffers = buffers;
+  streams = [];
+  records = [];
+  place = record { container = 1; offset = 0; used = 0; records = 0 };
+  waiting = [];
+  areas = [];
+  archive = None;
+  maximum = None;
+  minimum = None;
+  growth = None;
+  automatic = false;
+  broken = false;
+}
+
+-- Streams are numbered from 1, in the order of their first opening.
+abbrev pub stream_at : State → ℕ → Option Stream
+stream_at s number = if number == 0 then None else slice_get s.streams (number - 1)
+
+-- the base of a stream; a new stream's is null
+abbrev pub base_of : State → ℕ → ℕ
+base_of s number = option_map_or (λ (stream : Stream). stream.base) (stream_at s number) null_lsn
+
+-- the first element that passes, changed
+abbrev pub change_first : {A : Type 0} → (A → Bool) → (A → A) → List A → List A
+change_first p change [] = []
+change_first p change (x ∷ xs) = if p x then change x ∷ xs else x ∷ change_first p change xs
+
+-- the streams with this one's base moved
+abbrev pub set_base : ℕ → ℕ → List Stream → List Stream
+set_base number lsn [] = []
+set_base number lsn (stream ∷ streams) =
+    if number == 1 then record stream { base = lsn } ∷ streams else stream ∷ set_base (number - 1) lsn streams
+
+-- An area is named by its client and its number among the client's.
+abbrev pub is_area : ℕ → ℕ → Area → Bool
+is_area client number area = (area.client == client) && (area.number == number)
+
+-- the client's area of this number
+abbrev pub area_of : State → ℕ → ℕ → Option Area
+area_of s client number = find (is_area client number) s.areas
+
+-- the areas of a client
+abbrev pub areas_of : State → ℕ → List Area
+areas_of s client = filter (λ (area : Area). area.client == client) s.areas
+
+-- the state with one area changed
+abbrev pub change_area : (Area → Area) → ℕ → ℕ → State → State
+change_area change client number s = record s { areas = change_first (is_area client number) change s.areas }
+
+-- A new number is the least from 1 to the greatest one that isn't used; 0 where all are.
+abbrev pub least_unused : ℕ → (ℕ → Bool) → ℕ
+least_unused most is_used = unwrap_or (find (λ number. not (is_used number)) (range_with_len 1 most)) 0

@@ -1,0 +1,86 @@
+// The state of the log machine, as contracts see it. No value of it is made: the manager keeps indexes and totals instead.
+
+use crate::call::Mode;
+use clfs_lsn::{LogEntry, Lsn, Name, Place, Shape};
+use std::collections::LinkedList;
+
+/// A stream. Its number is its place in the list of streams, from 1.
+#[derive(Debug, Drop)]
+pub struct Stream {
+    /// Its name, which no other stream has.
+    pub name: Name,
+    /// Its records from here on are live.
+    pub base: Lsn,
+}
+
+/// What a cursor goes over.
+#[derive(Clone, Copy, Debug, PartialEq, Eq)]
+pub enum CursorKind {
+    /// Records, in this mode.
+    Records(Mode),
+    /// Restart areas, from the newest to older ones.
+    RestartAreas,
+}
+
+/// Where a read context stands.
+#[derive(Clone, Copy, Debug)]
+pub struct Cursor {
+    /// Its number in its area, from 1 to 16.
+    pub number: u16,
+    /// What it goes over.
+    pub kind: CursorKind,
+    /// The record that it gave last.
+    pub last: Lsn,
+}
+
+/// A client's area on a stream.
+#[derive(Debug, Drop)]
+pub struct Area {
+    /// The client, 1 to 64.
+    pub client: u16,
+    /// Its number among the client's areas, from 1 to 16.
+    pub number: u16,
+    /// The number of its stream.
+    pub stream: u16,
+    /// The most bytes of data of its records.
+    pub largest: u32,
+    /// The most cursors that it has at a time.
+    pub reads: u16,
+    /// The sectors that it holds for records to come.
+    pub held: u32,
+    /// Its cursors, in the order of their making.
+    pub cursors: LinkedList<Cursor>,
+}
+
+/// The state of a log.
+#[derive(Debug, Drop)]
+pub struct State {
+    /// How large its blocks and containers are.
+    pub shape: Shape,
+    /// The containers that it has, 1 to 256.
+    pub containers: u32,
+    /// The number of write buffers, 1 to 64, which bounds the blocks that wait.
+    pub buffers: u32,
+    /// The streams, in the order of their first opening.
+    pub streams: LinkedList<Stream>,
+    /// The records of all streams, their LSNs rising.
+    pub records: LinkedList<LogEntry>,
+    /// Where the next record goes.
+    pub place: Place,
+    /// The starts of the sealed blocks that aren't written, rising.
+    pub waiting: LinkedList<Lsn>,
+    /// The areas of all clients.
+    pub areas: LinkedList<Area>,
+    /// The archive tail, where archiving is on.
+    pub archive: Option<Lsn>,
+    /// The policy of the most containers, where it is installed.
+    pub maximum: Option<u16>,
+    /// The policy of the fewest containers, where it is installed.
+    pub minimum: Option<u16>,
+    /// The policy of the growth rate, where it is installed.
+    pub growth: Option<u16>,
+    /// Whether the policy of automatic growth is installed.
+    pub automatic: bool,
+    /// Whether an earlier call met a disk fault or damage.
+    pub broken: bool,
+}
