@@ -3,7 +3,7 @@ use Rattle.std.specs.Prelude.{◌≡◌, ℕ, ◌+◌, ◌-◌, ◌^◌, ◌++�
 
 -- a source in memory: the bytes that are left, the greatest piece of one call, the calls made so far,
 -- the numbers (from 1) of the calls that are to fail, and the count of faults
-pub record Giving : Type 0 where
+pub record SourceState : Type 0 where
   pub left : List ℕ
   pub piece : ℕ
   pub calls : ℕ
@@ -11,7 +11,7 @@ pub record Giving : Type 0 where
   pub faults : ℕ
 
 -- a sink in memory: the bytes that were taken, and the rest as for a source
-pub record Taking : Type 0 where
+pub record SinkState : Type 0 where
   pub written : List ℕ
   pub piece : ℕ
   pub calls : ℕ

@@ -22,9 +22,9 @@ pub struct MemorySink {
 
 impl Model for MemorySink {
     ghost use Rattle.std.specs.Prelude.{◌<◌};
-    ghost use Rattle.clfs_ports.specs.Ports.{Taking};
+    ghost use Rattle.clfs_ports.specs.Ports.{SinkState};
 
-    ghost Value = { Taking };
+    ghost Value = { SinkState };
 
     ghost view = { λ s. record {
       written = s.bytes.items;

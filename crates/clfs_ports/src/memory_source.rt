@@ -23,9 +23,9 @@ pub struct MemorySource {
 
 impl Model for MemorySource {
     ghost use Rattle.std.specs.Prelude.{◌<◌, ◌≤◌, drop, vec_len};
-    ghost use Rattle.clfs_ports.specs.Ports.{Giving};
+    ghost use Rattle.clfs_ports.specs.Ports.{SourceState};
 
-    ghost Value = { Giving };
+    ghost Value = { SourceState };
 
     ghost view = { λ s. record {
       left = drop s.given s.bytes.items;
