@@ -1,6 +1,6 @@
 -- The state of a log, and how its streams and areas are found and changed. The state itself is the type `State` of `src/`,
 -- whose lists contracts see as lists. It has one list of all records of all streams.
-use Rattle.std.specs.Prelude.{ℕ, ◌-◌, Bool, false, not, ◌&&◌, ◌==◌, if◌then◌else◌, List, [], ◌∷◌, find, filter, Option, None, unwrap_or, slice_get}
+use Rattle.std.specs.Prelude.{ℕ, ◌-◌, Bool, false, not, ◌&&◌, ◌==◌, if◌then◌else◌, List, [], ◌∷◌, find, filter, Option, None, unwrap_or, slice_get, codes}
 use Rattle.std.specs.List.{range_with_len}
 use Rattle.std.specs.Option.{option_map_or}
 use Rattle.clfs_lsn.specs.Lsn.{null_lsn}
@@ -46,6 +46,14 @@ fresh shape containers buffers = record {
   growth = None;
   automatic = false;
   broken = false;
+}
+
+-- One stream `a` and an area of client 1 on it, in an empty log of 256 containers: where scripts begin while no log is kept on
+-- a disk.
+abbrev pub first : State
+first = record (fresh (record { block_sectors = 2; container_sectors = 16384 }) 256 4) {
+  streams = record { name = codes "a"; base = null_lsn } ∷ [];
+  areas = record { client = 1; number = 1; stream = 1; largest = 960; reads = 4; held = 0; cursors = [] } ∷ [];
 }
 
 -- Streams are numbered from 1, in the order of their first opening.

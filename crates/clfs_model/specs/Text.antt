@@ -34,14 +34,22 @@ extent_text extent = codes " " ++ (hex_text extent.container ++ (codes ":" ++ (h
 abbrev pub archive_text : Option ℕ → List ℕ
 archive_text archive = option_map_or lsn_text archive (codes "off")
 
--- what the log and a stream are like; `size` is that of a container in sectors
-abbrev pub info_text : LogInfo → List ℕ
-info_text info =
+-- the containers of a log and its sectors; `size` is that of a container in sectors
+abbrev pub info_space_text : LogInfo → List ℕ
+info_space_text info =
     codes "info containers " ++ (decimal info.containers ++ (codes " free " ++ (decimal info.free_containers
     ++ (codes " size " ++ (decimal info.container_sectors ++ (codes " sectors " ++ (decimal info.free_sectors
-    ++ (codes " reserved " ++ (decimal info.reserved ++ (codes " base " ++ (lsn_text info.base
-    ++ (codes " last " ++ (lsn_text info.last ++ (codes " flushed " ++ (lsn_text info.flushed
-    ++ (codes " restart " ++ (lsn_text info.restart ++ (codes " archive " ++ archive_text info.archive))))))))))))))))))
+    ++ (codes " reserved " ++ decimal info.reserved))))))))
+
+-- where a stream and the log are
+abbrev pub info_lsns_text : LogInfo → List ℕ
+info_lsns_text info =
+    codes " base " ++ (lsn_text info.base ++ (codes " last " ++ (lsn_text info.last ++ (codes " flushed " ++ (lsn_text info.flushed
+    ++ (codes " restart " ++ (lsn_text info.restart ++ (codes " archive " ++ archive_text info.archive))))))))
+
+-- what the log and a stream are like
+abbrev pub info_text : LogInfo → List ℕ
+info_text info = info_space_text info ++ info_lsns_text info
 
 -- the number and the name of a refusal, and its fields in order
 abbrev pub refusal_text : Refusal → List ℕ

@@ -1,0 +1,14 @@
+-- What the definitions alone answer to a script.
+use Rattle.std.specs.Prelude.{ℕ, ◌*◌, List, ◌++◌, codes, replicate}
+use Rattle.clfs_model.specs.State.{first}
+use Rattle.clfs_model.specs.Run.{replies_of}
+use Rattle.clfs_model.specs.Text.{output_of}
+use Rattle.clfs_engine.specs.TwoLines.{requests_of}
+
+-- the text of the replies to a script's lines where nothing happens and memory suffices
+abbrev pub replies_to : List ℕ → List ℕ
+replies_to script = output_of (requests_of script) (replies_of first (requests_of script))
+
+-- the line of an append of so many zero bytes
+abbrev pub append_of_zeros : ℕ → List ℕ
+append_of_zeros count = codes "1 append 1 " ++ (replicate (2 * count) 48 ++ codes " 0:0:0 0:0:0\n")
