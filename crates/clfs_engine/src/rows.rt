@@ -6,18 +6,16 @@ ghost use Rattle.clfs_engine.specs.Worked.{replies_to, append_of_zeros};
 /// Two appends, reads of a record and of none, and a line that isn't answered; then cursors up to one too many.
 pub fn appends_and_reads()
     ensures lines { replies_to (codes "1 append 1 000102 0:0:0 0:0:0\n1 append 1 - 0:0:0 0:0:0\n1 read 1 1:0:1 forward\n1 read 1 1:0:2 forward\n1 open a\n")
-    ≡ codes "1 lsn 1:0:0\n1 lsn 1:0:1\n1 cursor 1 record 1:0:1 data 0:0:0 0:0:0 0:0:0 -\n1 refused 17 RecordNonexistent 1:0:2\n0 refused 28 BadLine 2\n" }
+        ≡ codes "1 lsn 1:0:0\n1 lsn 1:0:1\n1 cursor 1 record 1:0:1 data 0:0:0 0:0:0 0:0:0 -\n1 refused 17 RecordNonexistent 1:0:2\n0 refused 28 BadLine 2\n" }
     ensures cursors { replies_to (codes "1 append 1 000102 0:0:0 0:0:0\n1 append 1 - 0:0:0 0:0:0\n1 read 1 1:0:1 forward\n1 read 1 1:0:0 forward\n1 read 1 1:0:0 forward\n1 read 1 1:0:0 forward\n1 read 1 1:0:0 forward\n")
-    ≡ codes "1 lsn 1:0:0\n1 lsn 1:0:1\n1 cursor 1 record 1:0:1 data 0:0:0 0:0:0 0:0:0 -\n1 cursor 2 record 1:0:0 data 0:0:0 0:0:0 0:0:0 000102\n1 cursor 3 record 1:0:0 data 0:0:0 0:0:0 0:0:0 000102\n1 cursor 4 record 1:0:0 data 0:0:0 0:0:0 0:0:0 000102\n1 refused 15 CursorLimit 4\n" }
-{
-}
+        ≡ codes "1 lsn 1:0:0\n1 lsn 1:0:1\n1 cursor 1 record 1:0:1 data 0:0:0 0:0:0 0:0:0 -\n1 cursor 2 record 1:0:0 data 0:0:0 0:0:0 0:0:0 000102\n1 cursor 3 record 1:0:0 data 0:0:0 0:0:0 0:0:0 000102\n1 cursor 4 record 1:0:0 data 0:0:0 0:0:0 0:0:0 000102\n1 refused 15 CursorLimit 4\n" }
+{}
 
 /// A record that is one byte too long, and one of the greatest length.
 pub fn lengths_of_records()
     ensures too_long { replies_to (append_of_zeros 961) ≡ codes "1 refused 7 RecordTooLong 961 960\n" }
     ensures longest { replies_to (append_of_zeros 960) ≡ codes "1 lsn 1:0:0\n" }
-{
-}
+{}
 
 /// Where lines end, and where a bad line goes wrong.
 pub fn ends_of_lines()
@@ -26,8 +24,7 @@ pub fn ends_of_lines()
     ensures one_carriage_return { replies_to (codes "1 append 1 - 0:0:0 0:0:0\r\nbad\r\n") ≡ codes "1 lsn 1:0:0\n0 refused 28 BadLine 3\n" }
     ensures empty_line { replies_to (codes "\n") ≡ codes "0 refused 28 BadLine 0\n" }
     ensures space_at_the_end { replies_to (codes "append ") ≡ codes "0 refused 28 BadLine 7\n" }
-{
-}
+{}
 
 /// Words that are an LSN or data, and words that are none.
 pub fn words_of_lines()
@@ -36,7 +33,6 @@ pub fn words_of_lines()
     ensures sequence { replies_to (codes "1 read 1 1:0:200 forward\n") ≡ codes "0 refused 28 BadLine 2\n" }
     ensures leading_zero { replies_to (codes "1 read 1 01:0:0 forward\n") ≡ codes "0 refused 28 BadLine 2\n" }
     ensures upper_case { replies_to (codes "1 append 1 Ab 0:0:0 0:0:0\n1 read 1 1:0:0 forward\n")
-    ≡ codes "1 lsn 1:0:0\n1 cursor 1 record 1:0:0 data 0:0:0 0:0:0 0:0:0 ab\n" }
+        ≡ codes "1 lsn 1:0:0\n1 cursor 1 record 1:0:0 data 0:0:0 0:0:0 0:0:0 ab\n" }
     ensures odd_digits { replies_to (codes "1 append 1 abc 0:0:0 0:0:0\n") ≡ codes "0 refused 28 BadLine 2\n" }
-{
-}
+{}

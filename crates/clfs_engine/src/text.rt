@@ -75,7 +75,9 @@ fn info_space_text(alloc: Global, info: &LogInfo) -> Result<String, AllocError>
     let size = info.container_sectors;
     let sectors = info.free_sectors;
     let reserved = info.reserved;
-    format!(in alloc; "info containers {containers} free {free} size {size} sectors {sectors} reserved {reserved}")
+    format!(in alloc;
+        "info containers {containers} free {free} size {size} sectors {sectors} reserved {reserved}"
+    )
 }
 
 fn info_lsns_text(alloc: Global, info: &LogInfo) -> Result<String, AllocError>
@@ -86,7 +88,9 @@ fn info_lsns_text(alloc: Global, info: &LogInfo) -> Result<String, AllocError>
     let flushed = info.flushed;
     let restart = info.restart;
     let archive = archive_text(alloc, info.archive)?;
-    format!(in alloc; " base {base} last {last} flushed {flushed} restart {restart} archive {archive}")
+    format!(in alloc;
+        " base {base} last {last} flushed {flushed} restart {restart} archive {archive}"
+    )
 }
 
 fn info_text(alloc: Global, info: &LogInfo) -> Result<String, AllocError>
@@ -105,13 +109,23 @@ fn refusal_text(alloc: Global, refusal: &Refusal) -> Result<String, AllocError>
         Refusal::DiskFault => String::from_str(alloc, "2 DiskFault"),
         Refusal::Broken => String::from_str(alloc, "3 Broken"),
         Refusal::NotEnoughContainers { have } => format!(in alloc; "4 NotEnoughContainers {have}"),
-        Refusal::Full { free, reserved, need } => format!(in alloc; "5 Full {free} {reserved} {need}"),
-        Refusal::ReservationShort { held, need } => format!(in alloc; "6 ReservationShort {held} {need}"),
+        Refusal::Full {
+            free,
+            reserved,
+            need,
+        } => format!(in alloc; "5 Full {free} {reserved} {need}"),
+        Refusal::ReservationShort { held, need } => format!(in alloc;
+            "6 ReservationShort {held} {need}"
+        ),
         Refusal::RecordTooLong { len, max } => format!(in alloc; "7 RecordTooLong {len} {max}"),
         Refusal::LinkInvalid { lsn } => format!(in alloc; "8 LinkInvalid {lsn}"),
         Refusal::NoSuchStream => String::from_str(alloc, "9 NoSuchStream"),
         Refusal::NoSuchArea => String::from_str(alloc, "10 NoSuchArea"),
-        Refusal::Damaged { container, offset, at } => format!(in alloc; "11 Damaged {container} {offset} {at}"),
+        Refusal::Damaged {
+            container,
+            offset,
+            at,
+        } => format!(in alloc; "11 Damaged {container} {offset} {at}"),
         Refusal::NoSuchCursor => String::from_str(alloc, "12 NoSuchCursor"),
         Refusal::StreamLimit { count } => format!(in alloc; "13 StreamLimit {count}"),
         Refusal::AreaLimit { count } => format!(in alloc; "14 AreaLimit {count}"),
@@ -121,8 +135,12 @@ fn refusal_text(alloc: Global, refusal: &Refusal) -> Result<String, AllocError>
         Refusal::EndOfLog => String::from_str(alloc, "18 EndOfLog"),
         Refusal::StartOfLog => String::from_str(alloc, "19 StartOfLog"),
         Refusal::NoRestart => String::from_str(alloc, "20 NoRestart"),
-        Refusal::TailInvalid { lsn, base, last } => format!(in alloc; "21 TailInvalid {lsn} {base} {last}"),
-        Refusal::ArchiveTailInvalid { lsn, tail, flushed } => format!(in alloc; "22 ArchiveTailInvalid {lsn} {tail} {flushed}"),
+        Refusal::TailInvalid { lsn, base, last } => format!(in alloc;
+            "21 TailInvalid {lsn} {base} {last}"
+        ),
+        Refusal::ArchiveTailInvalid { lsn, tail, flushed } => format!(in alloc;
+            "22 ArchiveTailInvalid {lsn} {tail} {flushed}"
+        ),
         Refusal::Ephemeral => String::from_str(alloc, "23 Ephemeral"),
         Refusal::CantShrink { active, need } => format!(in alloc; "24 CantShrink {active} {need}"),
         Refusal::ContainerLimit { limit } => format!(in alloc; "25 ContainerLimit {limit}"),

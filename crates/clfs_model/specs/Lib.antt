@@ -13,4 +13,9 @@ pub mod Valid
 pub mod Step
 pub mod Run
 pub mod Lines
+pub mod Script
+pub mod Accepted
 pub mod Text
+pub mod Conditions
+pub mod Journals
+pub mod Survivors

@@ -7,4 +7,4 @@ use Rattle.clfs_engine.proofs.rows.appends_and_reads.Goals as goal
 
 pub returns : goal.returns
 unfolding grown has_room fine_outcome digits decode_pairs encode_with
-returns c = record { lines = refl; cursors = refl; }
+returns c = record { lines = refl; cursors = refl }

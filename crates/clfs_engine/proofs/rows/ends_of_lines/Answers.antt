@@ -7,4 +7,4 @@ use Rattle.clfs_engine.proofs.rows.ends_of_lines.Goals as goal
 
 pub returns : goal.returns
 unfolding grown has_room fine_outcome digits decode_pairs encode_with
-returns c = record { no_line = refl; no_last_line_feed = refl; one_carriage_return = refl; empty_line = refl; space_at_the_end = refl; }
+returns c = record { no_line = refl; no_last_line_feed = refl; one_carriage_return = refl; empty_line = refl; space_at_the_end = refl }

@@ -7,4 +7,4 @@ use Rattle.clfs_engine.proofs.rows.lengths_of_records.Goals as goal
 
 pub returns : goal.returns
 unfolding grown has_room fine_outcome digits decode_pairs encode_with
-returns c = record { too_long = refl; longest = refl; }
+returns c = record { too_long = refl; longest = refl }

@@ -7,4 +7,4 @@ use Rattle.clfs_engine.proofs.rows.words_of_lines.Goals as goal
 
 pub returns : goal.returns
 unfolding grown has_room fine_outcome digits decode_pairs encode_with
-returns c = record { no_record = refl; offset = refl; sequence = refl; leading_zero = refl; upper_case = refl; odd_digits = refl; }
+returns c = record { no_record = refl; offset = refl; sequence = refl; leading_zero = refl; upper_case = refl; odd_digits = refl }
