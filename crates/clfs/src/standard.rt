@@ -1,5 +1,7 @@
 // Standard input as a source and standard output as a sink. What the system gives and takes is not told; what is proved is
 // that a call fails only where the count of faults rises.
+ghost use Rattle.std.specs.Prelude.{◌≡◌};
+
 use clfs_ports::{Failed, Sink, Source};
 use std::io::{Read, Write};
 
@@ -12,7 +14,9 @@ pub struct ReaderSource<R: Read + Drop> {
 
 impl<R: Read + Drop> ReaderSource<R> {
     /// A reader that hasn't failed yet.
-    pub fn new(inner: R) -> Self {
+    pub fn new(inner: R) -> Self
+        ensures { result.faults ≡ 0 }
+    {
         ReaderSource { inner, faults: 0 }
     }
 }
@@ -42,7 +46,9 @@ pub struct WriterSink<W: Write + Drop> {
 
 impl<W: Write + Drop> WriterSink<W> {
     /// A writer that hasn't failed yet.
-    pub fn new(inner: W) -> Self {
+    pub fn new(inner: W) -> Self
+        ensures { result.faults ≡ 0 }
+    {
         WriterSink { inner, faults: 0 }
     }
 }

@@ -1,5 +1,5 @@
 // A log of one stream in memory, with its records in one list in the order of their LSNs. A look-up is a search of that list.
-ghost use Rattle.std.specs.Prelude.{◌≡◌, ◌+◌, ◌-◌, ◌%◌, ◌^◌, ◌<◌, ◌≤◌, ◌==◌, IfOk, vec_len, vec_capacity, true, find};
+ghost use Rattle.std.specs.Prelude.{◌≡◌, ◌+◌, ◌-◌, ◌%◌, ◌^◌, ◌<◌, ◌≤◌, ◌==◌, IfOk, vec_len, vec_capacity, length, true, find};
 ghost use Rattle.std.specs.Option.{option_copied};
 ghost use Rattle.clfs_model.specs.State.{first};
 ghost use Rattle.clfs_model.specs.Reading.{unused_cursor, is_cursor_number};
@@ -24,9 +24,6 @@ const LARGEST: u32 = 960;
 
 /// The most cursors at a time.
 const READS: usize = 4;
-
-/// The highest number that a cursor can have.
-const MAX_CURSOR: u16 = 16;
 
 /// The number of write buffers. Nothing is written, but the machine counts the blocks that would wait.
 const BUFFERS: usize = 4;
@@ -136,18 +133,20 @@ fn is_cursor_number(cursors: &[Cursor], number: u16) -> bool
     cursors.iter().any(|cursor| cursor.number == number)
 }
 
-// The least number from 1 on that no cursor has, or 0 where all have one.
+// The least number from 1 on that no cursor has.
 fn unused_cursor(cursors: &[Cursor]) -> u16
+    requires { length cursors.now ≤ 16 }
     ensures { result ≡ unused_cursor cursors.now }
 {
+    let count = cursors.len() as u16;
     let mut number = 1;
-    while number <= MAX_CURSOR {
+    while number <= count {
         if !is_cursor_number(cursors, number) {
             return number;
         }
         number += 1;
     }
-    0
+    number
 }
 
 fn entry_without_links(lsn: Lsn, bytes: &Bytes) -> Result<LogEntry, AllocError>

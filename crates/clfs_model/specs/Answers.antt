@@ -17,7 +17,7 @@ use Rattle.clfs_model.specs.declared.state.Area.{Area}
 use Rattle.clfs_model.specs.declared.state.Cursor.{Cursor}
 use Rattle.clfs_model.specs.declared.state.CursorKind.{CursorKind}
 use Rattle.clfs_model.specs.declared.state.CursorKind.TheVariants.{Records, RestartAreas}
-use Rattle.clfs_model.specs.State.{most_areas, area_of, areas_of, base_of, is_area, change_area, set_base, least_unused}
+use Rattle.clfs_model.specs.State.{area_of, areas_of, base_of, is_area, change_area, set_base, least_unused}
 use Rattle.clfs_model.specs.Live.{hold, active, live_at, last_live, lsn_or_null}
 use Rattle.clfs_model.specs.Space.{free, reserved, own_sum, with_containers, grown}
 use Rattle.clfs_model.specs.Flush.{flush, flushed}
@@ -47,7 +47,7 @@ opened s name = option_map_or (λ number. outcome (replies.Stream number) s) (st
 
 -- the number of a client's new area
 abbrev pub unused_area : State → ℕ → ℕ
-unused_area s client = least_unused most_areas (λ number. list_any (λ (area : Area). area.number == number) (areas_of s client))
+unused_area s client = least_unused (length (areas_of s client)) (λ number. list_any (λ (area : Area). area.number == number) (areas_of s client))
 
 -- a client's new area, which holds nothing
 abbrev pub new_area : State → ℕ → ℕ → ℕ → ℕ → Area

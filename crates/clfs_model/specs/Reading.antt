@@ -12,7 +12,7 @@ use Rattle.clfs_model.specs.declared.state.Area.{Area}
 use Rattle.clfs_model.specs.declared.state.Cursor.{Cursor}
 use Rattle.clfs_model.specs.declared.state.CursorKind.{CursorKind}
 use Rattle.clfs_model.specs.declared.state.CursorKind.TheVariants.{Records, RestartAreas}
-use Rattle.clfs_model.specs.State.{least_unused, most_cursors}
+use Rattle.clfs_model.specs.State.{least_unused}
 use Rattle.clfs_model.specs.Live.{live, live_at}
 
 -- the record at an LSN, live or not
@@ -84,7 +84,7 @@ is_cursor_number cursors number = list_any (λ (cursor : Cursor). cursor.number 
 
 -- the number of a new cursor
 abbrev pub unused_cursor : List Cursor → ℕ
-unused_cursor cursors = least_unused most_cursors (is_cursor_number cursors)
+unused_cursor cursors = least_unused (length cursors) (is_cursor_number cursors)
 
 -- an area with one cursor more
 abbrev pub with_cursor : Cursor → Area → Area

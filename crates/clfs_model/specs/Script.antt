@@ -36,8 +36,8 @@ pub record Read (A : Type 0) : Type 0 where
   pub value : A
   pub rest : Rest
 
--- the second reading behind the first, unless the first has gone wrong at a place
 infixl 10 ◌>>=◌
+-- the second reading behind the first, unless the first has gone wrong at a place
 abbrev pub ◌>>=◌ : {A B : Type 0} → Result A ℕ → (A → Result B ℕ) → Result B ℕ
 (Ok x) >>= f = f x
 (Err at) >>= f = Err at

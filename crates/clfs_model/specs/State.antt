@@ -1,6 +1,6 @@
 -- The state of a log, and how its streams and areas are found and changed. The state itself is the type `State` of `src/`,
 -- whose lists contracts see as lists. It has one list of all records of all streams.
-use Rattle.std.specs.Prelude.{ℕ, ◌-◌, Bool, false, not, ◌&&◌, ◌==◌, if◌then◌else◌, List, [], ◌∷◌, find, filter, Option, None, unwrap_or, slice_get, codes}
+use Rattle.std.specs.Prelude.{ℕ, ◌+◌, ◌-◌, Bool, false, not, ◌&&◌, ◌==◌, if◌then◌else◌, List, [], ◌∷◌, find, filter, Option, None, unwrap_or, slice_get, codes}
 use Rattle.std.specs.List.{range_with_len}
 use Rattle.std.specs.Option.{option_map_or}
 use Rattle.clfs_lsn.specs.Lsn.{null_lsn}
@@ -91,6 +91,7 @@ areas_of s client = filter (λ (area : Area). area.client == client) s.areas
 abbrev pub change_area : (Area → Area) → ℕ → ℕ → State → State
 change_area change client number s = record s { areas = change_first (is_area client number) change s.areas }
 
--- A new number is the least from 1 to the greatest one that isn't used; 0 where all are.
+-- A new number is the least from 1 on that isn't used. Where so many have numbers, it is one of the first so many, or the one
+-- behind them.
 abbrev pub least_unused : ℕ → (ℕ → Bool) → ℕ
-least_unused most is_used = unwrap_or (find (λ number. not (is_used number)) (range_with_len 1 most)) 0
+least_unused count is_used = unwrap_or (find (λ number. not (is_used number)) (range_with_len 1 count)) (count + 1)
