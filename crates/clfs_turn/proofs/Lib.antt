@@ -1,0 +1,10 @@
+mod Clients
+mod Deals
+mod Gathering
+mod Jobs
+mod Keeping
+mod Pasts
+mod Prefixes
+mod SeatSteps
+mod TableEnds
+mod TurnSteps

@@ -1,0 +1,6 @@
+pub mod Calls
+pub mod Lists
+pub mod Rule
+pub mod Seats
+pub mod Steps
+pub mod Views
