@@ -47,15 +47,9 @@ module _ {V E O : Type 0} (entries : V → List E) (client_of : E → ℕ) (open
   abbrev pub Rule : St → Type 0
   Rule = KeepsTable entries client_of opening reached key
 
-  abbrev pub start : O
-  start = opening key.first.value
-
-  abbrev pub all : List ℕ
-  all = key.clients.items
-
   -- the rule of one view, at this history, word HELD, holder and seats of the clients
   abbrev pub Fits : List E → ℕ → ℕ → (ℕ → ℕ) → ℕ → W → Type 0
-  Fits hist held holder seat_of j u = KeepsView client_of hist held holder seat_of start all j u
+  Fits hist held holder seat_of j u = KeepsView client_of hist held holder seat_of (opening key.first.value) key.clients.items j u
 
   -- another seat's view stays right where the history grows by none of its clients' entries
   pub other_fits : (hist hist' : List E) (held held' holder holder' : ℕ) (seat_of seat_of' : ℕ → ℕ) (j : ℕ) (u : W)

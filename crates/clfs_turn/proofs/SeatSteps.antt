@@ -13,7 +13,7 @@ use Rattle.clfs_turn.specs.Lists.{is_in, mine}
 use Rattle.clfs_turn.specs.Steps.{past, first_client, other_clients, joined, looked}
 use Rattle.clfs_turn.specs.Views.{at_rest, spent}
 use Rattle.clfs_turn.proofs.Clients.{only_one, is_in-later, is_in-left, is_in-right, not_right, mine-between}
-use Rattle.clfs_turn.proofs.Keeping.{Rule, Fits, all, at_set_here, at_snoc_at, each_after, other_fits, unmoved, holder_other}
+use Rattle.clfs_turn.proofs.Keeping.{Rule, Fits, at_set_here, at_snoc_at, each_after, other_fits, unmoved, holder_other}
 use Rattle.clfs_turn.proofs.Pasts.{AllShort, past_wider, past_both, past_seen}
 use Rattle.clfs_turn.proofs.Prefixes.{by_test, prefix_self, prefix_trans, longest}
 
@@ -120,7 +120,7 @@ module _ {V E O : Type 0} (entries : V → List E) (client_of : E → ℕ) (open
         own = λ d there. let e : d ≡ c = only_one d c there in let a = k.own c first in (
           ap (λ b. cond b (length s.views) (r.seat_of d)) (eq-eqb d c e),
           subst (λ z. mine client_of z seen ≡ mine client_of z r.history) (sym e) a.1,
-          ap (λ z. is_in z (all entries client_of opening reached key)) e ∙ a.2,
+          ap (λ z. is_in z key.clients.items) e ∙ a.2,
         );
         turn = λ l e. absurd (cc e);
       }
@@ -165,7 +165,7 @@ module _ {V E O : Type 0} (entries : V → List E) (client_of : E → ℕ) (open
           ),
         );
         own = λ d o. by_test (is_in d w.clients)
-            (λ b. (cond b id (r.seat_of d) ≡ id) × (mine client_of d both.seen ≡ mine client_of d r.history) × (is_in d (all entries client_of opening reached key) ≡ true))
+            (λ b. (cond b id (r.seat_of d) ≡ id) × (mine client_of d both.seen ≡ mine client_of d r.history) × (is_in d key.clients.items ≡ true))
             (λ on. let a = k'.own d on in (refl, mine-between client_of d w.seen both.seen r.history fits.2 fits.0 a.1, a.2))
             (λ off. let a = k.own d (not_right d v.clients w.clients off o) in (a.0, mine-between client_of d v.seen both.seen r.history fits.1 fits.0 a.1, a.2));
         turn = λ l t. absurd (cc (sym t ∙ idle));
@@ -198,7 +198,8 @@ module _ {V E O : Type 0} (entries : V → List E) (client_of : E → ℕ) (open
         views = each_after (Each s r.history r.holder seat_of) mid other spent (spent_fits s r seat_of other)
             (λ j u ne e. each_after (λ i x. i ≢ other → Each s r.history r.holder seat_of i x) s.views id both
             (λ _. takes_in s r id v other w idle at there)
-            (λ i x away q not_other. other_fits entries client_of opening reached key r.history r.history held held r.holder r.holder r.seat_of seat_of i x (r.views i x q)
+            (λ i x away q not_other. other_fits entries client_of opening reached key r.history r.history held held r.holder r.holder
+            r.seat_of seat_of i x (r.views i x q)
             (prefix_self r.history)
             (λ d _ is. (by_test (is_in d w.clients) (λ b. cond b id (r.seat_of d) ≡ i) (λ on. absurd (not_other (sym is ∙ (k'.own d on).0))) (λ _. is), refl))
             (λ l t. let z = (r.views i x q).turn l t in (z.0, z.1, z.2))) j u e ne);

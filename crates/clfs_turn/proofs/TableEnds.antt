@@ -130,7 +130,8 @@ module _ {V E O : Type 0} (entries : V → List E) (client_of : E → ℕ) (open
       )
 
   -- the same, of the lock as contracts see it
-  pub closes : (at : LockState O) (lock : LockId) → ◌≡◌ {A = LockState O} (record { lock = lock; opening = opening key.first.value; clients = key.clients.items }) at
+  pub closes : (at : LockState O) (lock : LockId)
+      → ◌≡◌ {A = LockState O} (record { lock = lock; opening = opening key.first.value; clients = key.clients.items }) at
       → (id : ℕ) (v : W) (ws : List ℕ) (xs : List (Option V)) (ss : List (SeatState E O)) → v.turn ≡ None → AllGathered v ss
       → ((c : ℕ) → is_in c at.clients ≡ true → is_in c (map (λ s. s.client) ss) ≡ true)
       → Final (Seen R id v) ws xs
@@ -139,7 +140,8 @@ module _ {V E O : Type 0} (entries : V → List E) (client_of : E → ℕ) (open
       subst (λ (z : LockState O). ((c : ℕ) → is_in c z.clients ≡ true → is_in c (map (λ s. s.client) ss) ≡ true) → EndsAt entries client_of reached z ss xs) is
       (λ every. ends lock id v ws xs ss idle gathered every f) each
 
-module _ {V E O : Type 0} (entries : V → List E) (client_of : E → ℕ) (reached : O → V → Type 0) (at : LockState O) (ss : List (SeatState E O)) (xs : List (Option V)) where
+module _ {V E O : Type 0} (entries : V → List E) (client_of : E → ℕ) (reached : O → V → Type 0)
+    (at : LockState O) (ss : List (SeatState E O)) (xs : List (Option V)) where
   -- the slot of a closed table has a value
   pub is_home : (r : Option V) → EndsAt entries client_of reached at ss xs → get_elem? xs 0 ≡ some r → is_some r ≡ true
   is_home r e found = ap is_some (some-injective r (Some e.0) (sym found ∙ e.1))

@@ -15,7 +15,7 @@ use Rattle.clfs_turn.specs.Lists.{is_in, mine}
 use Rattle.clfs_turn.specs.Rule.{AllPast}
 use Rattle.clfs_turn.specs.Steps.{Returns, holding, claimed, posted, released}
 use Rattle.clfs_turn.proofs.Clients.{mine-other}
-use Rattle.clfs_turn.proofs.Keeping.{Rule, Fits, all, at_set_here, each_after, other_fits, unmoved, alone, other_client}
+use Rattle.clfs_turn.proofs.Keeping.{Rule, Fits, at_set_here, each_after, other_fits, unmoved, alone, other_client}
 use Rattle.clfs_turn.proofs.Prefixes.{prefix_self}
 
 abbrev or_else : {A : Type 0} → A → Option A → A
@@ -26,6 +26,18 @@ or_else d None = d
 abbrev pub held_value : {V : Type 0} → V → List (ℕ × Option V) → V
 held_value d [] = d
 held_value d (x ∷ xs) = or_else d x.1
+
+module _ {V E O : Type 0} (entries : V → List E) where
+  -- a hand that held nothing in the slot, and then the value
+  pub in_hand : (me me' : Me (Option V) (View E O)) (y : V) → me.1 ≡ (0, None) ∷ [] → me' ≡ (me.0, (0, Some y) ∷ rest me.1) → me' ≡ holding entries me.0 y
+  in_hand me me' y empty is = is ∙ ap (λ (z : List (ℕ × Option V)). (me.0, (0, Some y) ∷ rest z)) empty
+
+  -- after a post the seat knows the list of the value in its hand
+  pub has_posted : (me me' : Me (Option V) (View E O)) (v : View E O) (y : V) → me ≡ holding entries v y
+      → ((z : V) → me.1 ≡ (0, Some z) ∷ [] → me' ≡ holding entries (record me.0 { turn = Some (entries z); seen = entries z }) z)
+      → me' ≡ holding entries (record v { turn = Some (entries y); seen = entries y }) y
+  has_posted me me' v y is told = told y (ap (λ (z : Me (Option V) (View E O)). z.1) is)
+      ∙ ap (λ (z : Me (Option V) (View E O)). holding entries (record z.0 { turn = Some (entries y); seen = entries y }) y) is
 
 module _ {V E O : Type 0} (entries : V → List E) (client_of : E → ℕ) (opening : V → O) (reached : O → V → Type 0) (key : Roll V) where
   abbrev W : Type 0
@@ -66,7 +78,8 @@ module _ {V E O : Type 0} (entries : V → List E) (client_of : E → ℕ) (open
           views = each_after (K r.history held' id r.seat_of) s.views id w
               record { opening = k.opening; sees = k.sees; saw = k.saw; own = k.own; turn = λ l e. (refl, now, sym (cc e) ∙ h.2, (c, owns)) }
               (λ j u ne e. other_fits entries client_of opening reached key r.history r.history (get_or s.words 0 0) held' r.holder id r.seat_of r.seat_of j u
-              (r.views j u e) (prefix_self r.history) (λ d o is. (is, refl)) (λ l t. let had = ((r.views j u e).turn l t).1 in absurd (omega (arith, had, free))));
+              (r.views j u e) (prefix_self r.history) (λ d o is. (is, refl))
+              (λ l t. let had = ((r.views j u e).turn l t).1 in absurd (omega (arith, had, free))));
           home = λ z. absurd (omega (arith, z, now));
           busy = λ _. (w, at_set_here s.views id v w at, ap Some h.2);
           others = r.others;
@@ -96,7 +109,8 @@ module _ {V E O : Type 0} (entries : V → List E) (client_of : E → ℕ) (open
   pub claims_at : (slots id c : ℕ) (me : Me (Option V) W) → me.1 ≡ [] → me.0.turn ≡ None → is_in c me.0.clients ≡ true
       → Allows R slots id me 0 (λ n. either (eqb n 0) 1 n) (claimed entries client_of reached (step slots 0 0 1 none) me)
   claims_at slots id c me empty idle owns =
-      subst (λ (z : List (ℕ × Option V)). Allows R slots id (me.0, z) 0 (λ n. either (eqb n 0) 1 n) (claimed entries client_of reached (step slots 0 0 1 none) (me.0, z)))
+      subst (λ (z : List (ℕ × Option V)). Allows R slots id (me.0, z) 0 (λ n. either (eqb n 0) 1 n)
+      (claimed entries client_of reached (step slots 0 0 1 none) (me.0, z)))
       (sym empty) (claims slots id c me.0 idle owns)
 
   posts : (slots id c : ℕ) (v : W) (h : List E) (y : V) (e : E) (o : O) → v.opening ≡ Some o → reached o y → v.olds ≡ [] → v.turn ≡ Some h
@@ -139,13 +153,15 @@ module _ {V E O : Type 0} (entries : V → List E) (client_of : E → ℕ) (open
               (λ d o is. (
                 is,
                 sym (ap (mine client_of d) (sym grown)
-                    ∙ mine-other client_of d r.history e (λ same. other_client entries client_of opening reached key s r id c v at owns j d ne is (sym names ∙ same))),
+                    ∙ mine-other client_of d r.history e
+                    (λ same. other_client entries client_of opening reached key s r id c v at owns j d ne is (sym names ∙ same))),
               ))
               (λ l q'. absurd (alone entries client_of opening reached key s r id v h at turn j u l ne q q')));
           home = λ z. absurd (omega (arith, z, held, t.1));
           busy = λ _. (w, at_set_here s.views id v w at, refl);
           others = λ d out. ap (mine client_of d) (sym grown)
-              ∙ mine-other client_of d r.history e (λ same. true≢false (sym (k.own c owns).2 ∙ (ap (λ (z : ℕ). is_in z (all entries client_of opening reached key)) (sym names ∙ same) ∙ out)))
+              ∙ mine-other client_of d r.history e
+              (λ same. true≢false (sym (k.own c owns).2 ∙ (ap (λ (z : ℕ). is_in z key.clients.items) (sym names ∙ same) ∙ out)))
               ∙ r.others d out;
           lawful = (y, subst (λ (z : O). reached z y) (k.opening o from) good, prefix_self (entries y));
         },
@@ -175,7 +191,8 @@ module _ {V E O : Type 0} (entries : V → List E) (client_of : E → ℕ) (open
           views = each_after (K r.history held' r.holder r.seat_of) s.views id w
               record { opening = k.opening; sees = k.sees; saw = k.saw; own = k.own; turn = λ l e. absurd (cc e) }
               (λ j u ne e. other_fits entries client_of opening reached key r.history r.history (get_or s.words 0 0) held' r.holder r.holder r.seat_of r.seat_of j u
-              (r.views j u e) (prefix_self r.history) (λ c _ is. (is, refl)) (λ l q. absurd (alone entries client_of opening reached key s r id v h at turn j u l ne e q)));
+              (r.views j u e) (prefix_self r.history) (λ c _ is. (is, refl))
+              (λ l q. absurd (alone entries client_of opening reached key s r id v h at turn j u l ne e q)));
           home = λ _. (y, set_here s.homes 0 (some (Some y)) (omega arith), same ∙ t.2, subst (λ (z : O). reached z y) (k.opening o from) good);
           busy = λ z. absurd (z now);
           others = r.others;
@@ -183,17 +200,6 @@ module _ {V E O : Type 0} (entries : V → List E) (client_of : E → ℕ) (open
         },
         refl,
       )
-
-  -- a hand that held nothing in the slot, and then the value
-  pub in_hand : (me me' : Me (Option V) W) (y : V) → me.1 ≡ (0, None) ∷ [] → me' ≡ (me.0, (0, Some y) ∷ rest me.1) → me' ≡ holding entries me.0 y
-  in_hand me me' y empty is = is ∙ ap (λ (z : List (ℕ × Option V)). (me.0, (0, Some y) ∷ rest z)) empty
-
-  -- after a post the seat knows the list of the value in its hand
-  pub has_posted : (me me' : Me (Option V) W) (v : W) (y : V) → me ≡ holding entries v y
-      → ((z : V) → me.1 ≡ (0, Some z) ∷ [] → me' ≡ holding entries (record me.0 { turn = Some (entries z); seen = entries z }) z)
-      → me' ≡ holding entries (record v { turn = Some (entries y); seen = entries y }) y
-  has_posted me me' v y is told = told y (ap (λ (z : Me (Option V) W). z.1) is)
-      ∙ ap (λ (z : Me (Option V) W). holding entries (record z.0 { turn = Some (entries y); seen = entries y }) y) is
 
   pub posts_at : (slots id c : ℕ) (me : Me (Option V) W) (v : W) (h : List E) (o : O) (y : V) → me ≡ holding entries v y → v.opening ≡ Some o → reached o y
       → v.olds ≡ [] → v.turn ≡ Some h → is_in c v.clients ≡ true → Returns entries client_of true c h y

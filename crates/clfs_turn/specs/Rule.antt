@@ -1,5 +1,6 @@
--- The rule of the table, which holds between any two steps of any threads. Word 0, HELD, is 1 while a seat has the turn. Word 1, COUNT, is the length of the history. Slot 0 has the value.
--- The history exists in the proof alone. Beside each part of the rule stands the mistake that it stops.
+-- The rule of the table, which holds between any two steps of any threads. Word 0, HELD, is 1 while a seat has the turn.
+-- Word 1, COUNT, is the length of the history. Slot 0 has the value. The history exists in the proof alone.
+-- Above each part of the rule stands the mistake that it stops.
 use Rattle.std.specs.Prelude.{◌≡◌, ◌≢◌, ℕ, true, false, List, [], ◌∷◌, length, slice_index, Option, Some}
 use mathlib.Core.Option.{some}
 use mathlib.Core.List.{IsPrefix}
@@ -12,7 +13,7 @@ use Rattle.clfs_turn.specs.Calls.{IsLawful}
 use Rattle.clfs_turn.specs.Lists.{is_in, mine}
 use Rattle.clfs_turn.specs.Views.{at_rest}
 
--- what some seat had seen: the history begins with it, and it has all entries of the seat's clients, which are now among these
+-- what some seat had seen: the history begins with it, and it has all entries of the seat's clients, which are among these
 pub record IsPast {E : Type 0} (client_of : E → ℕ) (history : List E) (clients : List ℕ) (p : Past E) : Type 0 where
   pub begins : IsPrefix p.seen history
   pub own : (c : ℕ) → is_in c p.clients ≡ true → (is_in c clients ≡ true) × (mine client_of c p.seen ≡ mine client_of c history)
@@ -34,8 +35,10 @@ module _ {E O : Type 0} (client_of : E → ℕ) (history : List E) (held holder 
     -- stops a seat that is given another's client or entries, and an entry of a client that its one seat hasn't seen
     pub own : (c : ℕ) → is_in c v.clients ≡ true
         → (seat_of c ≡ j) × (mine client_of c v.seen ≡ mine client_of c history) × (is_in c all ≡ true)
-    -- stops a second seat with the turn, a turn while HELD is 0, a post by a seat that doesn't know the whole history, and a turn of a copy that is no client's seat
-    pub turn : (h : List E) → v.turn ≡ Some h → (j ≡ holder) × (held ≡ 1) × (h ≡ history) × ((c : ℕ) × (is_in c v.clients ≡ true))
+    -- stops a second seat with the turn, a turn while HELD is 0, a post by a seat that doesn't know the whole history,
+    -- and a turn of a copy, which is no client's seat
+    pub turn : (h : List E) → v.turn ≡ Some h
+        → (j ≡ holder) × (held ≡ 1) × (h ≡ history) × ((c : ℕ) × (is_in c v.clients ≡ true))
 
 module _ {V E O : Type 0} (entries : V → List E) (client_of : E → ℕ) (opening : V → O) (reached : O → V → Type 0) where
   -- what the rule keeps of the table
@@ -46,6 +49,7 @@ module _ {V E O : Type 0} (entries : V → List E) (client_of : E → ℕ) (open
     pub holder : ℕ
     -- the one seat that adds the entries of a client
     pub seat_of : ℕ → ℕ
+    -- stops a step on a word or a slot that isn't there
     pub wide : length s.words ≡ 2
     pub deep : length s.homes ≡ 1
     -- stops an entry that isn't counted, a count without an entry, and COUNT raised by two

@@ -9,13 +9,17 @@ use Rattle.clfs_turn.specs.Lists.{mine}
 abbrev pub LockId : Type 0
 LockId = TableId
 
+-- a lock's name that a type parameter has until a call picks another
+abbrev pub blank_lock : LockId
+blank_lock = record { words = 0; slots = 0; views_name = 0; atom = 0; block = 0; offset = 0; slot_names = [] }
+
 -- a lock: which one it is, the state in which its history began, and the clients that have a seat at it
 pub record LockState (O : Type 0) : Type 0 where
   pub lock : LockId
   pub opening : O
   pub clients : List ℕ
 
--- a seat: its lock, its client, the state in which the lock's history began, and the beginning of the history that it has seen
+-- a seat: its lock, its client, the state in which the lock's history began, and the part of the history that it has seen
 pub record SeatState (E O : Type 0) : Type 0 where
   pub lock : LockId
   pub client : ℕ

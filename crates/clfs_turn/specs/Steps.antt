@@ -1,4 +1,5 @@
--- What each step on the table tells the seat that makes it: its view and its slots before, the number found, and its view and slots after.
+-- What each step on the table tells the seat that makes it, by its view and hand before, the number found, and its view and
+-- hand after.
 use Rattle.std.specs.Prelude.{◌≡◌, ◌≢◌, ◌⊎◌, ℕ, ◌<◌, ◌^◌, Bool, true, false, List, [], ◌∷◌, ◌++◌, length, Option, Some, None}
 use mathlib.Core.List.{IsPrefix}
 use Rattle.atomic_table.specs.Table.{Me, Step}
@@ -53,7 +54,7 @@ pub record Grows {E : Type 0} (client_of : E → ℕ) (clients : List ℕ) (x y 
   pub begins : IsPrefix x y
   pub own : (c : ℕ) → is_in c clients ≡ true → mine client_of c x ≡ mine client_of c y
 
--- a value that is to be put back has the history h, with one more entry of this client where it is to be posted; a count of them fits a word
+-- a value to be put back has the history h, with one more entry of this client where one is to be posted, and its length fits COUNT
 abbrev pub Returns : {V E : Type 0} → (V → List E) → (E → ℕ) → Bool → ℕ → List E → V → Type 0
 Returns {V} {E} entries client_of true client h y =
     (e : E) × (entries y ≡ h ++ e ∷ []) × (client_of e ≡ client) × (length (entries y) < 2 ^ 64)
@@ -69,13 +70,13 @@ module _ {V E O : Type 0} where
     abbrev pub holding : View E O → V → SeatOf V E O
     holding v x = (v, (0, Some x) ∷ [])
 
-    -- what the value tells a view that takes it: the value's list begins with all that was seen, has just the seen entries of the view's clients, and the value was lawfully reached
+    -- what a view that takes the value x knows of it, as a seat does
     pub record Meets (client_of : E → ℕ) (reached : O → V → Type 0) (v : View E O) (x : V) : Type 0 where
       pub begins : IsPrefix v.seen (entries x)
       pub own : (c : ℕ) → is_in c v.clients ≡ true → mine client_of c v.seen ≡ mine client_of c (entries x)
       pub lawful : (o : O) → v.opening ≡ Some o → reached o x
 
-    -- a seat at rest took the turn, and a job of the client c took the value from `found` to `left`: the seat has then seen the whole list where an entry was added, and as much as before where none was
+    -- a seat took the turn, and a job of the client c took the value from `found` to `left`: m before, m' after the release
     pub record Worked (client_of : E → ℕ) (reached : O → V → Type 0) (c : ℕ) (job : V → V → Type 0) (m m' : SeatOf V E O) : Type 0 where
       pub found : V
       pub left : V
@@ -102,7 +103,7 @@ module _ {V E O : Type 0} where
     abbrev pub released : Step (Option V) → SeatOf V E O → ℕ → SeatOf V E O → Type 0
     released st m n m' = m' ≡ (record m.0 { turn = None }, [])
 
-    -- look: each kept old one begins what is seen now, which has the same entries of its clients, and what is seen is lawful; the old ones are dropped
+    -- look: what each joined seat had seen begins what is seen now, with the same entries of its clients, and that is lawful
     abbrev pub looked : (E → ℕ) → (O → V → Type 0) → Step (Option V) → SeatOf V E O → ℕ → SeatOf V E O → Type 0
     looked client_of reached st m n m' =
         (m' ≡ (record m.0 { olds = [] }, m.1))

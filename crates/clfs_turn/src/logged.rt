@@ -19,8 +19,8 @@ pub trait Logged<E, O> {
     fn count(&self) -> u64
         ensures { result ≡ length (entries self.now) };
 
-    // No entries lead from a value's own opening to the value.
-    ghost begins: { (x : Self) → entries x ≡ [] → reached (opening x) x };
+    // A value whose list is empty is at its own opening.
+    ghost at_opening: { (x : Self) → entries x ≡ [] → reached (opening x) x };
 }
 
 /// Work on the value, done while nobody else has it. It adds one entry of its client, or none.

@@ -1,5 +1,5 @@
 // Two threads write into one diary, each with a seat of its own.
-ghost use Rattle.std.specs.Prelude.{◌≡◌, ◌++◌, ◌∷◌, [], length, IfOk, MatchResult};
+ghost use Rattle.std.specs.Prelude.{◌≡◌, ◌++◌, ◌∷◌, [], IfOk, MatchResult};
 ghost use Rattle.clfs_turn.specs.Seats.{own, IsSameSeat};
 
 use crate::{Job, Logged, Turn, TurnSeat};
@@ -37,7 +37,7 @@ impl Logged<Note, ()> for Diary {
         self.notes.len() as u64
     }
 
-    ghost begins = { λ _ _. tt };
+    ghost at_opening = { λ _ _. tt };
 }
 
 /// Adds a note.
@@ -54,32 +54,14 @@ impl Job<Diary, Note, ()> for Write {
 
     ghost is_ready = { λ _. Unit {0} };
 
-    ghost ran = { λ w x y r. MatchResult r (λ _. y.notes.items ≡ x.notes.items ++ record { client = w.client; number = w.number } ∷ []) (λ _. y.notes.items ≡ x.notes.items) };
+    ghost ran = { λ w x y r. MatchResult r
+        (λ _. y.notes.items ≡ x.notes.items ++ record { client = w.client; number = w.number } ∷ [])
+        (λ _. y.notes.items ≡ x.notes.items) };
 
     fn run(self, diary: &mut Diary) -> Result<(), AllocError> {
         let Write { client, number } = self;
         diary.notes.push(Note { client, number })?;
         Ok(())
-    }
-}
-
-/// Counts the notes of all clients, and adds none.
-#[derive(Drop)]
-struct Count {
-    client: u16,
-}
-
-impl Job<Diary, Note, ()> for Count {
-    type Answer = usize;
-
-    ghost client = { λ c. c.client };
-
-    ghost is_ready = { λ _. Unit {0} };
-
-    ghost ran = { λ _ x y n. (n ≡ length x.notes.items) × (y.notes.items ≡ x.notes.items) };
-
-    fn run(self, diary: &mut Diary) -> usize {
-        diary.notes.len()
     }
 }
 
@@ -90,20 +72,12 @@ type Writer = TurnSeat<Note, ()>;
 fn write_one<R: Wait>(rt: &R, lock: &Lock, seat: &mut Writer, number: u64) -> Result<(), AllocError>
     requires { seat.old.lock ≡ lock.now.lock }
     ensures same { IsSameSeat seat.old seat.new }
-    ensures own { MatchResult result (λ _. own (λ n. n.client) seat.new ≡ own (λ n. n.client) seat.old ++ record { client = seat.old.client; number = number } ∷ [])
+    ensures own { MatchResult result
+        (λ _. own (λ n. n.client) seat.new ≡ own (λ n. n.client) seat.old ++ record { client = seat.old.client; number = number } ∷ [])
         (λ _. seat.new.seen ≡ seat.old.seen) }
 {
     let client = seat.client();
     lock.call(rt, seat, Write { client, number })
-}
-
-fn count_all<R: Wait>(rt: &R, lock: &Lock, seat: &mut Writer) -> usize
-    requires { seat.old.lock ≡ lock.now.lock }
-    ensures same { IsSameSeat seat.old seat.new }
-    ensures seen { seat.new.seen ≡ seat.old.seen }
-{
-    let client = seat.client();
-    lock.call(rt, seat, Count { client })
 }
 
 /// Writes all notes of one thread, and answers whether each was written.
@@ -164,7 +138,6 @@ fn keep_a_diary<R: Threads + Wait + Abort + Sync>(rt: &R, alloc: Global) -> Resu
     assert_eq!(rt; (a.client(), b.client()), (3, 5));
     let (mut a, mut b) = write_both(rt, &lock, a, b);
     assert_eq!(rt; lock.meet(&mut a, &mut b), Ok(()));
-    assert_eq!(rt; count_all(rt, &lock, &mut a), 2 * NOTES as usize);
     let diary = lock.close(both(alloc, a, b)?);
     let mut next = [0; 2];
     for note in &diary.notes {

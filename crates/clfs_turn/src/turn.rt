@@ -102,7 +102,7 @@ impl<V: Logged<E, O>, E, O> Turn<V, E, O> {
         requires ready { J.is_ready job }
         ensures same { IsSameSeat seat.old seat.new }
         ensures seen { IsPrefix seat.old.seen seat.new.seen }
-        // The count of what was seen fits a word, and COUNT is that count after an entry was added.
+        // After an entry was added this is the length of the history, so COUNT didn't overflow.
         ensures fits { length seat.new.seen < 2 ^ 64 }
         ensures called { Called V.entries V.client_of V.reached (λ x y. J.ran job x y result) seat.old seat.new }
     {
@@ -114,8 +114,7 @@ impl<V: Logged<E, O>, E, O> Turn<V, E, O> {
         answer
     }
 
-    /// Lets two seats share what they have seen. A refusal is want of memory; over this table a copy
-    /// takes none.
+    /// Lets two seats share what they have seen. A refusal is want of memory.
     pub fn meet(&self, a: &mut TurnSeat<E, O>, b: &mut TurnSeat<E, O>) -> Result<(), AllocError>
         requires lock { (a.old.lock ≡ self.now.lock) × (b.old.lock ≡ self.now.lock) }
         ensures same { IsSameSeat a.old a.new × IsSameSeat b.old b.new }
@@ -130,6 +129,7 @@ impl<V: Logged<E, O>, E, O> Turn<V, E, O> {
         let mut one = badge.into_seat::<Option<V>>();
         let badge = mem::replace(&mut b.badge, Badge::blank());
         let mut two = badge.into_seat::<Option<V>>();
+        // Copies of seats of this table take no memory, so there is nothing to refuse.
         let first = copy_of(table, &mut one);
         let second = copy_of(table, &mut two);
         learn(table, &mut two, first);

@@ -11,7 +11,7 @@ fetch_add-requires g c =
     let y = c.args.value in
     let t = c.requires.turn in
     let k = c.requires.lawful in
-    let held = in_hand m.entries m.client_of m.opening m.reached c.args.table.now.key c.args.seat.now.me c.exchange.new.seat.me y c.requires.hand c.exchange.ensures.3 in (
+    let held = in_hand m.entries c.args.seat.now.me c.exchange.new.seat.me y c.requires.hand c.exchange.ensures.3 in (
       search rules,
       search rules,
       posts_at m.entries m.client_of m.opening m.reached c.args.table.now.key _ _ t.2.0 c.exchange.new.seat.me v t.0 k.0 y held k.1 k.2
@@ -25,11 +25,11 @@ store-requires g c =
     let y = c.args.value in
     let t = c.requires.turn in
     let k = c.requires.lawful in
-    let held = in_hand m.entries m.client_of m.opening m.reached c.args.table.now.key c.args.seat.now.me c.exchange.new.seat.me y c.requires.hand c.exchange.ensures.3 in
+    let held = in_hand m.entries c.args.seat.now.me c.exchange.new.seat.me y c.requires.hand c.exchange.ensures.3 in
     elim c.if-posts.branch [
       | then-posts w ↦
           let e = ap (λ p. p.me) w.seat-is
-          ∙ has_posted m.entries m.client_of m.opening m.reached c.args.table.now.key c.exchange.new.seat.me w.fetch_add.new.seat.me v y held w.fetch_add.ensures.2 in (
+          ∙ has_posted m.entries c.exchange.new.seat.me w.fetch_add.new.seat.me v y held w.fetch_add.ensures.2 in (
             search rules,
             search rules,
             releases_at m.entries m.client_of m.opening m.reached c.args.table.now.key _ _ c.if-posts.seat.me _ (m.entries y) k.0 y e refl refl k.1 k.2,

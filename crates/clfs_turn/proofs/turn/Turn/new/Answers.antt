@@ -14,4 +14,4 @@ new-requires g c =
     subst
     (λ (z : List (Option g.row.V.Denot)). KeepsTable v.entries v.client_of v.opening v.reached key (opening (0 ∷ 0 ∷ []) z (dealer v.opening key)))
     (sym one)
-    (opens v.entries v.client_of v.opening v.reached key c.args.value c.of.ensures c.requires.empty (g.met.V.Logged.begins c.args.value c.requires.empty))
+    (opens v.entries v.client_of v.opening v.reached key c.args.value c.of.ensures c.requires.empty (g.met.V.Logged.at_opening c.args.value c.requires.empty))
