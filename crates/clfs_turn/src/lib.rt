@@ -11,10 +11,11 @@
 //! # A call
 //!
 //! `Turn::call` claims HELD from 0 to 1, takes the value out of the slot, does the job, puts the value back, posts
-//! the entry that the job added by one addition to COUNT, and releases HELD. The addition is the moment at which
-//! the entry stands in the history: before it no other seat can have seen the entry, from then on every look may.
-//! A job that added no entry posts nothing. A thread that finds HELD at 1 parks on the word until a release wakes
-//! it, and then tries again. Whether its turn ever comes depends on the others, so nothing is said of that.
+//! the entry that the job added by one addition to COUNT, and releases HELD. The addition is the moment from which
+//! on the entry stands in the history: another seat can see it after that alone, by a call of its own or by meeting
+//! a seat that has seen it. A job that added no entry posts nothing. A thread that finds HELD at 1 parks on the word
+//! until a release wakes it, and then tries again. Whether its turn ever comes depends on the others, so nothing is
+//! said of that.
 //!
 //! # Why one seat at most has the turn
 //!
@@ -25,15 +26,15 @@
 //!
 //! # What a seat knows
 //!
-//! Each client has one seat, which is a token without bytes. A seat has seen a beginning of the history, and since
+//! Each client has one seat, a token that can't be copied. A seat has seen a beginning of the history, and since
 //! nobody else adds entries of its client, it has seen all of these. When it is given the turn, the value's list
 //! begins with what it has seen. A look is a load of COUNT after two seats were joined: since all that any seat has
 //! seen are beginnings of one history, the shorter of two begins the longer, and the look says so. `Turn::meet`
 //! joins a copy of each seat into the other in this way. `Turn::close` joins all seats into one; that one knows that
 //! no seat is left to have the turn, so the value is at home and comes out with all that the seats have seen.
 //!
-//! COUNT can't pass the end of its type: it is the length of the list that the value stands for, and
-//! `Logged::count` has answered that length as a `u64` before the addition.
+//! COUNT can't pass the end of its type: it becomes the length of the value's list, which `Logged::count` answered as
+//! a `u64` before the addition. `Turn::call` passes this on in its clause `fits`.
 #![tactic(auto)]
 
 mod closing;
