@@ -1,1 +1,4 @@
-pub mod RowsLemmas
+pub mod HeldSectors
+pub mod KeptRows
+pub mod Places
+pub mod Changes

@@ -1,6 +1,7 @@
-// The rows in the order in which the areas were made. A log has some dozens of areas and never more
-// than 1,024, so a row is found by going through them, and a row that is gone leaves no gap.
-ghost use Rattle.std.specs.Prelude.{◌≡◌, ◌+◌, ◌-◌, ◌^◌, ◌<◌, ◌↔◌, [], ◌∷◌, ◌++◌, true, false, OnOk, OnErr, IsErr, IfErr, position};
+// The rows in the order in which the areas were made, and their sum beside them. A log has at most 1,024
+// areas, of 64 clients with 16 each, so a row is found by going through the rows.
+ghost use Rattle.std.specs.Prelude.{◌≡◌, ◌+◌, ◌-◌, ◌^◌, ◌<◌, ◌↔◌, [], ◌∷◌, ◌++◌, true, false};
+ghost use Rattle.std.specs.Prelude.{OnOk, OnErr, IsErr, IfErr, position};
 ghost use Rattle.clfs_ledger.specs.Rows.{is_of, has_row, held_of, total_held, with_held, without, OthersStay};
 
 use crate::row::Reservation;

@@ -1,0 +1,93 @@
+-- All that follows from one change of the rows.
+use Rattle.std.proofs.Common.{◌≡◌, ℕ, ◌+◌, ◌-◌, ◌≤◌, true, false, List, slice_set, slice_index_or, remove, refl, arith}
+use Rattle.clfs_ledger.specs.declared.row.Reservation.{Reservation}
+use Rattle.clfs_ledger.specs.Rows.{has_row, held_of, total_held, with_held, without, OthersStay}
+use Rattle.clfs_ledger.specs.Kept.{IsKept}
+use Rattle.clfs_ledger.proofs.HeldSectors.{
+  held_of-with_held,
+  total_held-with_held,
+  total_held-without,
+  others_stay-with_held,
+  others_stay-without,
+}
+use Rattle.clfs_ledger.proofs.KeptRows.{different-with_held, gone-without, kept-without}
+use Rattle.clfs_ledger.proofs.Places.{StandsAt, held_of-stands_at, has_row-stands_at, with_held-stands_at, without-stands_at}
+
+-- what follows where an area holds so many sectors more
+pub record Raised (old new : List Reservation) (c a sectors sum : ℕ) : Type 0 where
+  pub rows : new ≡ with_held old c a (held_of old c a + sectors)
+  pub held : held_of new c a ≡ held_of old c a + sectors
+  pub total : total_held new ≡ total_held old + sectors
+  pub others : OthersStay old new c a
+  pub kept : IsKept new (sum + sectors)
+
+-- what follows where it holds so many less
+pub record Lowered (old new : List Reservation) (c a sectors sum : ℕ) : Type 0 where
+  pub rows : new ≡ with_held old c a (held_of old c a - sectors)
+  pub held : held_of new c a + sectors ≡ held_of old c a
+  pub total : total_held new + sectors ≡ total_held old
+  pub others : OthersStay old new c a
+  pub kept : IsKept new (sum - sectors)
+
+-- what follows where the area's row is taken away
+pub record Removed (old new : List Reservation) (c a held sum : ℕ) : Type 0 where
+  pub held_is : held ≡ held_of old c a
+  pub rows : new ≡ without old c a
+  pub gone : has_row new c a ≡ false
+  pub total : total_held new + held ≡ total_held old
+  pub others : OthersStay old new c a
+  pub kept : IsKept new (sum - held)
+
+raised-with_held : (rows : List Reservation) (c a sectors total : ℕ) → has_row rows c a ≡ true → IsKept rows total
+    → Raised rows (with_held rows c a (held_of rows c a + sectors)) c a sectors total
+raised-with_held rows c a sectors total there h =
+    let n = held_of rows c a + sectors in
+    let sum = total_held-with_held rows c a n there in
+    record {
+      rows = refl;
+      held = held_of-with_held rows c a n there;
+      total = omega (arith, sum);
+      others = others_stay-with_held rows c a n;
+      kept = record { different = different-with_held rows c a n h.different; total_is = omega (arith, sum, h.total_is) };
+    }
+
+lowered-with_held : (rows : List Reservation) (c a sectors total : ℕ) → has_row rows c a ≡ true
+    → sectors ≤ held_of rows c a → IsKept rows total
+    → Lowered rows (with_held rows c a (held_of rows c a - sectors)) c a sectors total
+lowered-with_held rows c a sectors total there enough h =
+    let n = held_of rows c a - sectors in
+    let sum = total_held-with_held rows c a n there in
+    record {
+      rows = refl;
+      held = omega (arith, held_of-with_held rows c a n there);
+      total = omega (arith, sum);
+      others = others_stay-with_held rows c a n;
+      kept = record { different = different-with_held rows c a n h.different; total_is = omega (arith, sum, h.total_is) };
+    }
+
+pub write_raises : (rows : List Reservation) (c a i sectors total : ℕ) (row : Reservation) → StandsAt rows c a i
+    → row ≡ slice_index_or rows i row → IsKept rows total
+    → Raised rows (slice_set rows i (record row { held = row.held + sectors })) c a sectors total
+write_raises rows c a i sectors total row at is h =
+    rw (with_held-stands_at rows c a i (row.held + sectors) row at is, held_of-stands_at rows c a i row at is)
+    (raised-with_held rows c a sectors total (has_row-stands_at rows c a i at) h)
+
+pub write_lowers : (rows : List Reservation) (c a i sectors total held : ℕ) (row : Reservation) → StandsAt rows c a i
+    → row ≡ slice_index_or rows i row → held ≡ held_of rows c a → sectors ≤ held → IsKept rows total
+    → Lowered rows (slice_set rows i (record row { held = held - sectors })) c a sectors total
+write_lowers rows c a i sectors total held row at is same enough h =
+    rw (with_held-stands_at rows c a i (held - sectors) row at is, same)
+    (lowered-with_held rows c a sectors total (has_row-stands_at rows c a i at) (omega (arith, same, enough)) h)
+
+pub removal_removes : (rows new : List Reservation) (c a i total : ℕ) (row : Reservation) → StandsAt rows c a i
+    → row ≡ slice_index_or rows i row → new ≡ remove rows i → IsKept rows total
+    → Removed rows new c a row.held total
+removal_removes rows new c a i total row at is items h =
+    rw (items, without-stands_at rows c a i at, held_of-stands_at rows c a i row at is) record {
+      held_is = refl;
+      rows = refl;
+      gone = gone-without rows c a h.different;
+      total = total_held-without rows c a;
+      others = others_stay-without rows c a;
+      kept = kept-without rows c a total h;
+    }
