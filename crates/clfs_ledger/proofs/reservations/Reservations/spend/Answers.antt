@@ -4,11 +4,20 @@ use Rattle.clfs_ledger.proofs.Places.{stands_at-found, no_row-found, held_of-sta
 use Rattle.clfs_ledger.proofs.Changes.{write_lowers}
 use Rattle.clfs_ledger.proofs.reservations.Reservations.spend.Goals as goal
 
-pub returns-then-sectors-eq0-clause-rows : goal.returns-then-sectors-eq0-clause-rows
-returns-then-sectors-eq0-clause-rows c =
+pub returns-then-sectors-eq0 : goal.returns-then-sectors-eq0
+returns-then-sectors-eq0 c =
     let absent = no_row-found c.self.inside.rows.items _ c.args.client c.args.area _
     c.deref.ensures.value c.place_of.ensures c.in_default.is in
-    rw (← c.self.view_is) (sym (with_held-absent c.self.inside.rows.items _ _ _ absent))
+    let none = held_of-absent c.self.inside.rows.items _ _ absent in
+    rw (← c.self.view_is) record {
+      short = ((λ h. cc), (λ h. absurd (omega (arith, h))));
+      told = tt;
+      err = tt;
+      rows = sym (with_held-absent c.self.inside.rows.items _ _ _ absent);
+      held = omega (arith, none);
+      total = omega arith;
+      others = λ _ _ _. refl;
+    }
 
 pub returns-in_default : goal.returns-in_default
 returns-in_default c =
