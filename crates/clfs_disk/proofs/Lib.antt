@@ -1,0 +1,5 @@
+mod Holdings
+pub mod Moments
+pub mod Places
+mod Replays
+mod Tables

@@ -1,0 +1,9 @@
+pub mod Files
+pub mod State
+pub mod Table
+pub mod Record
+pub mod Copies
+pub mod Images
+pub mod Memory
+pub mod Steady
+pub mod Fuse

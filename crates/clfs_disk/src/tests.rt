@@ -1,0 +1,70 @@
+ghost use Rattle.std.specs.Prelude.{◌≤◌};
+
+use crate::{Disk, Fuse, Memory, Steady, write_synced};
+use std::alloc::Global;
+use std::test::Fail;
+
+// A file of six bytes after a crash: four were synced, two of them overwritten, and two grown and written since.
+fn left_by(alloc: Global, pick: u8) -> Result<[u8; 6], Fail>
+    requires { pick ≤ 2 }
+{
+    let mut disk = Memory::new(alloc, 8, 64, &[])?;
+    disk.grow(3, 4)?;
+    write_synced(&mut disk, 3, 0, &[1, 1, 1, 1])?;
+    disk.write(3, 1, &[2, 2])?;
+    disk.grow(3, 6)?;
+    disk.write(3, 4, &[3, 3])?;
+    let mut left = disk.crash(pick);
+    let mut bytes = [9; 6];
+    left.read(3, 0, &mut bytes)?;
+    Ok(bytes)
+}
+
+#[test]
+fn crash_leaves_what_was_synced_or_read(rt: HostRuntime) -> Result<(), Fail> {
+    assert_eq!(rt; left_by(rt.alloc(), 0)?, [1, 1, 1, 1, 0, 0]);
+    assert_eq!(rt; left_by(rt.alloc(), 1)?, [1, 2, 2, 1, 3, 3]);
+    assert_eq!(rt; left_by(rt.alloc(), 2)?, [1, 1, 2, 1, 3, 0]);
+    Ok(())
+}
+
+// Which of four calls are answered Ok: a growth, two writes of four bytes one behind the other, and a sync.
+fn answers<D: Disk>(disk: &mut D, len: u64) -> [bool; 4] {
+    let grown = disk.grow(0, len).is_ok();
+    let first = disk.write(0, 0, &[7; 4]).is_ok();
+    let second = disk.write(0, 4, &[7; 4]).is_ok();
+    let synced = disk.sync().is_ok();
+    [grown, first, second, synced]
+}
+
+#[test]
+fn calls_fail_past_a_room_an_end_or_a_fuse(rt: HostRuntime) -> Result<(), Fail> {
+    let alloc = rt.alloc();
+    let all = [true; 4];
+    assert_eq!(rt; answers(&mut Memory::new(alloc, 4, 8, &[])?, 8), all);
+    assert_eq!(rt;
+        answers(&mut Memory::new(alloc, 3, 8, &[])?, 8),
+        [true, true, true, false]
+    );
+    assert_eq!(rt;
+        answers(&mut Memory::new(alloc, 4, 7, &[])?, 8),
+        [true, true, false, true]
+    );
+    assert_eq!(rt;
+        answers(&mut Memory::new(alloc, 5, 8, &[1, 4])?, 8),
+        [false, false, false, false]
+    );
+    assert_eq!(rt;
+        answers(&mut Memory::new(alloc, 4, 8, &[2])?, 8),
+        [true, false, true, true]
+    );
+    assert_eq!(rt; answers(&mut Steady::new(alloc)?, 8), all);
+    assert_eq!(rt;
+        answers(&mut Steady::new(alloc)?, 7),
+        [true, true, false, true]
+    );
+    let mut fuse = Fuse::new(Steady::new(alloc)?, 2);
+    assert_eq!(rt; answers(&mut fuse, 8), [true, true, false, false]);
+    assert_eq!(rt; answers(&mut fuse.into_inner(), 8), all);
+    Ok(())
+}
