@@ -1,5 +1,6 @@
 -- What a disk in memory keeps, after each call and after a crash.
-use Rattle.std.proofs.Common.{◌≡◌, ◌≢◌, ◌⊎◌, inl, inr, ⊎_elim, ℕ, ◌+◌, ◌-◌, ◌<◌, ◌≤◌, ◌%◌, Bool, true, false, eqb, leb, ltb, ◌&&◌, cond, List, [], ◌∷◌, ◌++◌, length, get_or, replicate, refl, sym, ◌∙◌, ap, subst, arith, length-append}
+use Rattle.std.proofs.Common.{◌≡◌, ◌≢◌, ◌⊎◌, inl, inr, ⊎_elim, ℕ, ◌+◌, ◌-◌, ◌<◌, ◌≤◌, ◌%◌, Bool, true, false, eqb, leb, ltb, ◌&&◌, cond, List, [], ◌∷◌}
+use Rattle.std.proofs.Common.{◌++◌, length, get_or, replicate, refl, sym, ◌∙◌, ap, subst, arith, length-append}
 use Rattle.std.proofs.lemmas.List.{take_all, get_or_append_left, get_or_past, append-nil}
 use Rattle.std.proofs.lemmas.List.FromFn.{length-map-range_with_len, get_or-map-range_with_len}
 use Rattle.std.proofs.lemmas.Bool.Decides.{nat_tests}
@@ -44,7 +45,8 @@ out_of_range : (f i file at n : ℕ) → f ≡ file → (eqb f file && (leb at i
 out_of_range f i file at n here free = ⊎_elim (λ lt. inl lt)
     (λ (from : at ≤ i). ⊎_elim
     (λ (until : i < at + n).
-    let clash : (eqb f file && (leb at i && ltb i (at + n))) ≡ true = ap (λ b. b && (leb at i && ltb i (at + n))) (same_number f file here) ∙ in_range i at n from until in
+    let clash : (eqb f file && (leb at i && ltb i (at + n))) ≡ true = ap (λ b. b && (leb at i && ltb i (at + n))) (same_number f file here)
+    ∙ in_range i at n from until in
     absurd (cc (clash, free)))
     (λ le. inr le)
     (cases_lt i (at + n)))
@@ -61,7 +63,8 @@ module _ (m : Moment) (s : IsSound m) where
   pub sound_after_write : (file at : ℕ) (bytes : List ℕ) → at + length bytes ≤ length (m.files file) → IsSound (after_write file at bytes m)
   sound_after_write file at bytes room = record {
     same_length = λ f. s.same_length f ∙ sym (⊎_elim
-        (λ (is : f ≡ file). ap (λ (l : List ℕ). length l) (chosen_here f file _ _ is) ∙ length-overwritten (m.files f) at bytes (subst (λ (k : ℕ). at + length bytes ≤ length (m.files k)) (sym is) room))
+        (λ (is : f ≡ file). ap (λ (l : List ℕ). length l) (chosen_here f file _ _ is)
+        ∙ length-overwritten (m.files f) at bytes (subst (λ (k : ℕ). at + length bytes ≤ length (m.files k)) (sym is) room))
         (λ apart. ap (λ (l : List ℕ). length l) (chosen_elsewhere f file _ _ apart))
         (cases_eq f file));
     agree = λ f i free. let parts = or_parts _ _ free in s.agree f i parts.0 ∙ sym (⊎_elim
@@ -79,8 +82,10 @@ module _ (m : Moment) (s : IsSound m) where
   pub sound_after_growth : (file len : ℕ) → IsSound (after_growth file len m)
   sound_after_growth file len = record {
     same_length = λ f. ⊎_elim
-        (λ (is : f ≡ file). ap (λ (l : List ℕ). length l) (chosen_here f file _ _ is) ∙ same_end f ∙ sym (ap (λ (l : List ℕ). length l) (chosen_here f file _ _ is)))
-        (λ apart. ap (λ (l : List ℕ). length l) (chosen_elsewhere f file _ _ apart) ∙ s.same_length f ∙ sym (ap (λ (l : List ℕ). length l) (chosen_elsewhere f file _ _ apart)))
+        (λ (is : f ≡ file). ap (λ (l : List ℕ). length l) (chosen_here f file _ _ is) ∙ same_end f
+        ∙ sym (ap (λ (l : List ℕ). length l) (chosen_here f file _ _ is)))
+        (λ apart. ap (λ (l : List ℕ). length l) (chosen_elsewhere f file _ _ apart) ∙ s.same_length f
+        ∙ sym (ap (λ (l : List ℕ). length l) (chosen_elsewhere f file _ _ apart)))
         (cases_eq f file);
     agree = λ f i free. let parts = or_parts _ _ free in ⊎_elim
         (λ (is : f ≡ file).
@@ -88,8 +93,10 @@ module _ (m : Moment) (s : IsSound m) where
         let lt' : i < length (m.synced f) = omega (arith, lt, s.same_length f) in
         ap (λ (l : List ℕ). get_or l i 0) (chosen_here f file _ _ is) ∙ get_or_append_left (m.synced f) (replicate (len - length (m.synced f)) 0) 0 i lt'
         ∙ s.agree f i parts.0
-        ∙ sym (get_or_append_left (m.files f) (replicate (len - length (m.files f)) 0) 0 i lt) ∙ sym (ap (λ (l : List ℕ). get_or l i 0) (chosen_here f file _ _ is)))
-        (λ apart. ap (λ (l : List ℕ). get_or l i 0) (chosen_elsewhere f file _ _ apart) ∙ s.agree f i parts.0 ∙ sym (ap (λ (l : List ℕ). get_or l i 0) (chosen_elsewhere f file _ _ apart)))
+        ∙ sym (get_or_append_left (m.files f) (replicate (len - length (m.files f)) 0) 0 i lt)
+        ∙ sym (ap (λ (l : List ℕ). get_or l i 0) (chosen_here f file _ _ is)))
+        (λ apart. ap (λ (l : List ℕ). get_or l i 0) (chosen_elsewhere f file _ _ apart) ∙ s.agree f i parts.0
+        ∙ sym (ap (λ (l : List ℕ). get_or l i 0) (chosen_elsewhere f file _ _ apart)))
         (cases_eq f file);
   }
     where
@@ -101,12 +108,14 @@ module _ (m : Moment) (s : IsSound m) where
   -- what a crash leaves by a pick is one of the images
   pub pick_is_image : (pick : ℕ) (image : Files) → ((file : ℕ) → image file ≡ picked pick (m.files file) (m.synced file)) → Image m image
   pick_is_image pick image is file =
-      let size : length (image file) ≡ length (m.files file) = ap (λ (l : List ℕ). length l) (is file) ∙ length-map-range_with_len (byte file) 0 (length (m.files file)) in (
+      let size : length (image file) ≡ length (m.files file) = ap (λ (l : List ℕ). length l) (is file)
+      ∙ length-map-range_with_len (byte file) 0 (length (m.files file)) in (
         size,
         λ i free. ⊎_elim
             (λ (lt : i < length (m.files file)).
             ap (λ (l : List ℕ). get_or l i 0) (is file) ∙ get_or-map-range_with_len (byte file) 0 (length (m.files file)) i i 0 lt (omega arith)
-            ∙ ap (λ (b : ℕ). picked_byte pick i (get_or (m.files file) i 0) b) (s.agree file i free) ∙ either (eqb pick 0) (eqb pick 1) (eqb (i % 2) 0) (get_or (m.files file) i 0))
+            ∙ ap (λ (b : ℕ). picked_byte pick i (get_or (m.files file) i 0) b) (s.agree file i free)
+            ∙ either (eqb pick 0) (eqb pick 1) (eqb (i % 2) 0) (get_or (m.files file) i 0))
             (λ (le : length (m.files file) ≤ i). get_or_past (image file) i 0 (omega (arith, size, le)) ∙ sym (get_or_past (m.files file) i 0 le))
             (cases_lt i (length (m.files file))),
       )
@@ -136,7 +145,8 @@ module _ (files : List FileCopies) (calls : List Event) (written : List ℕ) (h 
         ∙ ap (λ (w : List ℕ). replay (at_rest (first_files files)) (calls ++ event ∷ []) w) are
         ∙ replay_push (at_rest (first_files files)) calls written new event h.bytes wrote
 
-    pub holds_after : Unchanged (after event new (now_of files calls written)).files (read_files files') → Unchanged (after event new (now_of files calls written)).synced (synced_files files')
+    pub holds_after : Unchanged (after event new (now_of files calls written)).files (read_files files')
+        → Unchanged (after event new (now_of files calls written)).synced (synced_files files')
         → IsSound (after event new (now_of files calls written)) → Holds files' calls' written'
     unfolding now
     holds_after read synced sound = record {
@@ -149,12 +159,14 @@ module _ (files : List FileCopies) (calls : List Event) (written : List ℕ) (h 
 
   -- the same copies and the same record
   pub holds_same : (files' : List FileCopies) (calls' : List Event) (written' : List ℕ) → length files' ≡ length files
-      → Unchanged (first_files files) (first_files files') → Unchanged (read_files files) (read_files files') → Unchanged (synced_files files) (synced_files files')
+      → Unchanged (first_files files) (first_files files') → Unchanged (read_files files) (read_files files')
+      → Unchanged (synced_files files) (synced_files files')
       → calls' ≡ calls → written' ≡ written → Holds files' calls' written'
   holds_same files' calls' written' count first read synced is are =
       let start : first_files files' ≡ first_files files = λ i. λ file. first file i in
       let same : now_of files' calls' written' ≡ now_of files calls written =
-      ap (λ (x : Files). replay (at_rest x) calls' written') start ∙ ap (λ (l : List Event). replay (at_rest (first_files files)) l written') is ∙ ap (λ (w : List ℕ). replay (at_rest (first_files files)) calls w) are in
+      ap (λ (x : Files). replay (at_rest x) calls' written') start ∙ ap (λ (l : List Event). replay (at_rest (first_files files)) l written') is ∙ ap
+      (λ (w : List ℕ). replay (at_rest (first_files files)) calls w) are in
       record {
         count = count ∙ h.count;
         bytes = ap total is ∙ h.bytes ∙ sym (ap (λ (l : List ℕ). length l) are);
@@ -177,17 +189,20 @@ holds_fresh files calls written count none no_bytes read synced =
     }
 
 -- where the record ends with nothing pending, nothing is
-pub settled_at_rest : (start rested : Files) (calls : List Event) (written : List ℕ) (files : Files) (faults : ℕ) → replay (at_rest start) calls written ≡ at_rest rested → Unchanged rested files
+pub settled_at_rest : (start rested : Files) (calls : List Event) (written : List ℕ) (files : Files) (faults : ℕ)
+    → replay (at_rest start) calls written ≡ at_rest rested → Unchanged rested files
     → IsSettled (recorded start calls written files faults)
 settled_at_rest start rested calls written files faults is same = record {
   honest = (refl, refl);
   only = λ image at file.
-      let now : Image (at_rest rested) image = subst (λ (m : Moment). Image m image) (ap (λ (l : List Event). replay (at_rest start) l written) (take_all (length calls) calls (omega arith)) ∙ is) at in
+      let now : Image (at_rest rested) image = subst (λ (m : Moment). Image m image) (ap (λ (l : List Event). replay (at_rest start) l written)
+      (take_all (length calls) calls (omega arith)) ∙ is) at in
       image_at_rest rested image now file ∙ sym (same file);
 }
 
 -- a call that failed is noted, or the record is full
-pub holds_refused : (files : List FileCopies) (calls : List Event) (written : List ℕ) → Holds files calls written → (calls' : List Event) (written' : List ℕ) (noted : Bool)
+pub holds_refused : (files : List FileCopies) (calls : List Event) (written : List ℕ) → Holds files calls written
+    → (calls' : List Event) (written' : List ℕ) (noted : Bool)
     → calls' ≡ cond noted (calls ++ Refused ∷ []) calls → written' ≡ written → Holds files calls' written'
 holds_refused files calls written h calls' written' true is are =
     holds_after files calls written h files calls' written' [] Refused refl (λ file. refl) is (are ∙ sym (append-nil written)) refl h.read h.synced h.sound
@@ -199,14 +214,17 @@ pub passes_refused : (start : Files) (calls calls' : List Event) (written writte
     → Passes Unchanged (recorded start calls written files faults) (recorded start calls' written' files faults')
 passes_refused start calls calls' written written' files faults faults' true is are p le =
     passes_with_faults Unchanged (recorded start calls written files faults) (recorded start calls' written' files faults) faults'
-    (passes_noted Unchanged start start calls calls' written written' [] Refused files files faults (λ file. refl) is (are ∙ sym (append-nil written)) p refl (λ image at. image_same (replay (at_rest start) calls written) image at))
+    (passes_noted Unchanged start start calls calls' written written' [] Refused files files faults
+    (λ file. refl) is (are ∙ sym (append-nil written)) p refl (λ image at. image_same (replay (at_rest start) calls written) image at))
     le
 passes_refused start calls calls' written written' files faults faults' false is are p le =
     passes_unnoted Unchanged start start calls calls' written written' files files faults faults' (λ file. refl) is are le
 
 -- after a sync nothing is pending
-pub settled_after_sync : (files : List FileCopies) (calls : List Event) (written : List ℕ) → Holds files calls written → (files' : List FileCopies) (calls' : List Event) (written' : List ℕ) (faults : ℕ)
-    → Unchanged (first_files files) (first_files files') → calls' ≡ calls ++ Synced ∷ [] → written' ≡ written ++ [] → Unchanged (read_files files) (read_files files')
+pub settled_after_sync : (files : List FileCopies) (calls : List Event) (written : List ℕ) → Holds files calls written
+    → (files' : List FileCopies) (calls' : List Event) (written' : List ℕ) (faults : ℕ)
+    → Unchanged (first_files files) (first_files files') → calls' ≡ calls ++ Synced ∷ [] → written' ≡ written ++ []
+    → Unchanged (read_files files) (read_files files')
     → IsSettled (recorded (first_files files') calls' written' (read_files files') faults)
 settled_after_sync files calls written h files' calls' written' faults first is are read =
     let start : first_files files' ≡ first_files files = λ i. λ file. first file i in

@@ -26,16 +26,19 @@ passes_then R S T a b c both first second p q = record {
   nature = q.nature ∙ p.nature;
 }
   where
-    late_image : (moment : ℕ) (image : Files) → (before : Files) × b.image_at b.clock before × S before image → (before : Files) × a.image_at a.clock before × T before image
+    late_image : (moment : ℕ) (image : Files) → (before : Files) × b.image_at b.clock before × S before image → (before : Files) × a.image_at a.clock before
+        × T before image
     late_image moment image from = ⊎_elim
-        (λ (moved : a.clock < b.clock). let earlier = p.images b.clock from.0 moved (omega arith) from.1 in (earlier.0, earlier.1, both earlier.0 from.0 image earlier.2 from.2))
+        (λ (moved : a.clock < b.clock). let earlier = p.images b.clock from.0 moved (omega arith) from.1 in
+        (earlier.0, earlier.1, both earlier.0 from.0 image earlier.2 from.2))
         (λ (still : b.clock ≤ a.clock).
         let same : b.clock ≡ a.clock = omega (arith, still, p.later) in
         (from.0, p.past a.clock from.0 (omega arith) (subst (λ (n : ℕ). b.image_at n from.0) same from.1), second from.0 image from.2))
         (cases_lt a.clock b.clock)
 
 -- a call after which the disk's images are those of before
-pub passes_still : (R : Files → Files → Type 0) (disk : DiskState) (files : Files) (faults : ℕ) → disk.faults ≤ faults → Passes R disk (record disk { files = files; faults = faults })
+pub passes_still : (R : Files → Files → Type 0) (disk : DiskState) (files : Files) (faults : ℕ) → disk.faults ≤ faults
+    → Passes R disk (record disk { files = files; faults = faults })
 passes_still R disk files faults le = record {
   later = omega arith;
   past = λ moment image le at. at;
@@ -104,7 +107,8 @@ pub at_settled : (P : Files → Type 0) (a : DiskState) (image : Files) → IsSe
 at_settled P a image settled here at = subst P (sym (same_files a.files image (settled.only image at))) here
 
 -- from a disk where nothing is pending
-pub leaves_after : (R : Files → Files → Type 0) (P : Files → Type 0) (a b : DiskState) → IsSettled a → Passes R a b → P a.files → ((image : Files) → R a.files image → P image) → Leaves P a b
+pub leaves_after : (R : Files → Files → Type 0) (P : Files → Type 0) (a b : DiskState) → IsSettled a → Passes R a b → P a.files
+    → ((image : Files) → R a.files image → P image) → Leaves P a b
 leaves_after R P a b settled p here changed = record {
   later = p.later;
   past = p.past;

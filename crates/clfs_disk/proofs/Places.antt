@@ -1,10 +1,13 @@
 -- Places in bytes that were overwritten or torn.
-use Rattle.std.proofs.Common.{◌≡◌, ℕ, ◌+◌, ◌-◌, ◌<◌, ◌≤◌, List, ◌++◌, length, get_or, take, drop, replicate, refl, sym, ◌∙◌, ap, subst, arith, length-append, length-drop, append_assoc}
-use Rattle.std.proofs.lemmas.List.{length-replicate, length-take, length-take-le, get_or-take, get_or-drop, get_or_append_left, get_or-append_right, ext_get_or, take_at, drop_at}
+use Rattle.std.proofs.Common.{◌≡◌, ℕ, ◌+◌, ◌-◌, ◌<◌, ◌≤◌, List, ◌++◌, length, get_or, take, drop, replicate, refl, sym, ◌∙◌, ap, subst, arith}
+use Rattle.std.proofs.Common.{length-append, length-drop, append_assoc}
+use Rattle.std.proofs.lemmas.List.{length-replicate, length-take, length-take-le, get_or-take, get_or-drop, get_or_append_left, get_or-append_right}
+use Rattle.std.proofs.lemmas.List.{ext_get_or, take_at, drop_at}
 use Rattle.clfs_disk.specs.Files.{Files, Torn, Grown, overwritten, lengthened, TornIn, GrownIn, WrittenIn, LengthenedIn}
 
 -- parts of two lists that agree there
-pub same_part : (a b : List ℕ) (from n : ℕ) → length a ≡ length b → ((i : ℕ) → from ≤ i → i < from + n → get_or a i 0 ≡ get_or b i 0) → take n (drop from a) ≡ take n (drop from b)
+pub same_part : (a b : List ℕ) (from n : ℕ) → length a ≡ length b → ((i : ℕ) → from ≤ i → i < from + n → get_or a i 0 ≡ get_or b i 0)
+    → take n (drop from a) ≡ take n (drop from b)
 same_part a b from n same each = ext_get_or 0 (take n (drop from a)) (take n (drop from b))
     (omega (arith, length-take n (drop from a), length-take n (drop from b), length-drop from a, length-drop from b, same))
     (λ i lt.
@@ -29,7 +32,15 @@ module _ (old : List ℕ) (at : ℕ) (bytes : List ℕ) (fits : at + length byte
   front_length = length-take-le at old (omega (arith, fits))
 
   pub length-overwritten : length (overwritten old at bytes) ≡ length old
-  length-overwritten = omega (arith, fits, length-append (take at old ++ bytes) (drop (at + length bytes) old), length-append (take at old) bytes, front_length, length-drop (at + length bytes) old)
+  length-overwritten = omega (
+    arith,
+    fits,
+    length-append (take at old ++ bytes) (drop (at + length bytes) old),
+    length-append
+        (take at old) bytes,
+    front_length,
+    length-drop (at + length bytes) old,
+  )
 
   pub overwritten_below : (i : ℕ) → i < at → get_or (overwritten old at bytes) i 0 ≡ get_or old i 0
   overwritten_below i lt =
@@ -58,10 +69,12 @@ module _ (old : List ℕ) (at : ℕ) (bytes : List ℕ) (fits : at + length byte
   pub part_overwritten : take (length bytes) (drop at (overwritten old at bytes)) ≡ bytes
   part_overwritten =
       let split : drop at (overwritten old at bytes) ≡ bytes ++ drop (at + length bytes) old =
-      ap (λ (l : List ℕ). drop at l) (append_assoc (take at old) bytes (drop (at + length bytes) old)) ∙ drop_at (take at old) (bytes ++ drop (at + length bytes) old) at front_length in
+      ap (λ (l : List ℕ). drop at l) (append_assoc (take at old) bytes (drop (at + length bytes) old))
+      ∙ drop_at (take at old) (bytes ++ drop (at + length bytes) old) at front_length in
       ap (λ (l : List ℕ). take (length bytes) l) split ∙ take_at bytes (drop (at + length bytes) old) (length bytes) refl
 
-pub torn_in_written : (file at : ℕ) (bytes : List ℕ) (old new : Files) → at + length bytes ≤ length (old file) → WrittenIn file at bytes old new → TornIn file at (length bytes) old new
+pub torn_in_written : (file at : ℕ) (bytes : List ℕ) (old new : Files) → at + length bytes ≤ length (old file) → WrittenIn file at bytes old new
+    → TornIn file at (length bytes) old new
 torn_in_written file at bytes old new fits written = record {
   here = subst (Torn at (length bytes) (old file)) (sym written.here) (torn_written (old file) at bytes fits);
   elsewhere = written.elsewhere;

@@ -1,7 +1,9 @@
 -- One more call in the record of a disk in memory.
-use Rattle.std.proofs.Common.{◌≡◌, ◌≢◌, ◌⊎◌, inl, inr, ⊎_elim, ℕ, zero, suc, ◌+◌, ◌-◌, ◌<◌, ◌≤◌, Bool, true, false, eqb, leb, ltb, ◌&&◌, ◌||◌, cond, List, [], ◌∷◌, ◌++◌, length, get_or, take, drop, replicate, refl, sym, ◌∙◌, ap, subst, arith, length-append}
+use Rattle.std.proofs.Common.{◌≡◌, ◌≢◌, ◌⊎◌, inl, inr, ⊎_elim, ℕ, zero, suc, ◌+◌, ◌-◌, ◌<◌, ◌≤◌, Bool, true, false, eqb, leb, ltb, ◌&&◌, ◌||◌, cond, List}
+use Rattle.std.proofs.Common.{[], ◌∷◌, ◌++◌, length, get_or, take, drop, replicate, refl, sym, ◌∙◌, ap, subst, arith, length-append}
 use Rattle.std.proofs.Math.Path.{subst₃}
-use Rattle.std.proofs.lemmas.List.{take-append-le, drop-append-le, take_all, length_push, length-take-le, length-replicate, length-drop, get_or-take, get_or-drop, get_or_append_left, get_or_past, ext_get_or}
+use Rattle.std.proofs.lemmas.List.{take-append-le, drop-append-le, take_all, length_push, length-take-le, length-replicate, length-drop, get_or-take}
+use Rattle.std.proofs.lemmas.List.{get_or-drop, get_or_append_left, get_or_past, ext_get_or}
 use Rattle.std.proofs.lemmas.Bool.{cases_eq, cases_lt}
 use Rattle.std.proofs.lemmas.Bool.Decides.{nat_tests}
 use Rattle.clfs_disk.specs.Files.{Files, Unchanged, Torn, Grown, InFile, TornIn, GrownIn, overwritten, lengthened, WrittenIn, LengthenedIn}
@@ -43,27 +45,36 @@ pub total_push : (events : List Event) (event : Event) → total (events ++ even
 total_push [] event = omega arith
 total_push (e ∷ events) event = omega (arith, total_push events event)
 
-module _ (start : Files) (calls : List Event) (written new : List ℕ) (event : Event) (p : total calls ≡ length written) (q : byte_count event ≡ length new) where
+module _ (start : Files) (calls : List Event) (written new : List ℕ) (event : Event) (p : total calls ≡ length written)
+    (q : byte_count event ≡ length new) where
   -- earlier moments stay
-  earlier : (moment : ℕ) → moment ≤ length calls → replay (at_rest start) (take moment (calls ++ event ∷ [])) (written ++ new) ≡ replay (at_rest start) (take moment calls) written
+  earlier : (moment : ℕ) → moment ≤ length calls → replay (at_rest start) (take moment (calls ++ event ∷ [])) (written ++ new) ≡ replay (at_rest start)
+      (take moment calls) written
   earlier moment le = ap (λ (l : List Event). replay (at_rest start) l (written ++ new)) (take-append-le moment calls (event ∷ []) le)
       ∙ replay_more (at_rest start) (take moment calls) written new (omega (arith, total-take moment calls, p))
 
-  latest : (moment : ℕ) → length calls < moment → replay (at_rest start) (take moment (calls ++ event ∷ [])) (written ++ new) ≡ after event new (replay (at_rest start) calls written)
-  latest moment lt = ap (λ (l : List Event). replay (at_rest start) l (written ++ new)) (take_all moment (calls ++ event ∷ []) (omega (arith, lt, length_push calls event)))
+  latest : (moment : ℕ) → length calls < moment → replay (at_rest start) (take moment (calls ++ event ∷ [])) (written ++ new) ≡ after event new
+      (replay (at_rest start) calls written)
+  latest moment lt = ap (λ (l : List Event). replay (at_rest start) l (written ++ new))
+      (take_all moment (calls ++ event ∷ []) (omega (arith, lt, length_push calls event)))
       ∙ replay_push (at_rest start) calls written new event p q
 
   -- a call that is noted: what a crash may leave comes from what it might by a change
   passes_push : (R : Files → Files → Type 0) (files files' : Files) (faults : ℕ)
-      → ((image : Files) → Image (after event new (replay (at_rest start) calls written)) image → (before : Files) × Image (replay (at_rest start) calls written) before × R before image)
+      → ((image : Files) → Image (after event new (replay (at_rest start) calls written)) image → (before : Files)
+      × Image (replay (at_rest start) calls written) before × R before image)
       → Passes R (recorded start calls written files faults) (recorded start (calls ++ event ∷ []) (written ++ new) files' faults)
   passes_push R files files' faults changed = record {
     later = omega (arith, length_push calls event);
     past = λ moment image le at. subst (λ (m : Moment). Image m image) (earlier moment le) at;
     kept = λ moment image le at. subst (λ (m : Moment). Image m image) (sym (earlier moment le)) at;
     images = λ moment image later until at.
-        let from = changed image (subst (λ (m : Moment). Image m image) (latest moment later) at) in
-        (from.0, subst (λ (l : List Event). Image (replay (at_rest start) l written) from.0) (sym (take_all (length calls) calls (omega arith))) from.1, from.2);
+        let from = changed image (subst (λ (m : Moment). Image m image) (latest moment later) at) in (
+          from.0,
+          subst (λ (l : List Event). Image (replay (at_rest start) l written) from.0)
+              (sym (take_all (length calls) calls (omega arith))) from.1,
+          from.2,
+        );
     faults = omega arith;
     nature = refl;
   }
@@ -72,20 +83,25 @@ same_function : (old new : Files) → Unchanged old new → old ≡ new
 same_function old new same = λ i. λ file. (sym (same file)) i
 
 -- the same where the record and the first files are known by equations
-pub passes_noted : (R : Files → Files → Type 0) (start start' : Files) (calls calls' : List Event) (written written' new : List ℕ) (event : Event) (files files' : Files) (faults : ℕ)
+pub passes_noted : (R : Files → Files → Type 0) (start start' : Files) (calls calls' : List Event) (written written' new : List ℕ) (event : Event)
+    (files files' : Files) (faults : ℕ)
     → Unchanged start start' → calls' ≡ calls ++ event ∷ [] → written' ≡ written ++ new → total calls ≡ length written → byte_count event ≡ length new
-    → ((image : Files) → Image (after event new (replay (at_rest start) calls written)) image → (before : Files) × Image (replay (at_rest start) calls written) before × R before image)
+    → ((image : Files) → Image (after event new (replay (at_rest start) calls written)) image → (before : Files)
+    × Image (replay (at_rest start) calls written) before × R before image)
     → Passes R (recorded start calls written files faults) (recorded start' calls' written' files' faults)
 passes_noted R start start' calls calls' written written' new event files files' faults same is are p q changed =
-    subst₃ (λ (x : Files) (l : List Event) (w : List ℕ). Passes R (recorded start calls written files faults) (recorded x l w files' faults)) (same_function start start' same) (sym is) (sym are)
+    subst₃ (λ (x : Files) (l : List Event) (w : List ℕ). Passes R (recorded start calls written files faults) (recorded x l w files' faults))
+    (same_function start start' same) (sym is) (sym are)
     (passes_push start calls written new event p q R files files' faults changed)
 
 -- a call that isn't noted
-pub passes_unnoted : (R : Files → Files → Type 0) (start start' : Files) (calls calls' : List Event) (written written' : List ℕ) (files files' : Files) (faults faults' : ℕ)
+pub passes_unnoted : (R : Files → Files → Type 0) (start start' : Files) (calls calls' : List Event) (written written' : List ℕ) (files files' : Files)
+    (faults faults' : ℕ)
     → Unchanged start start' → calls' ≡ calls → written' ≡ written → faults ≤ faults'
     → Passes R (recorded start calls written files faults) (recorded start' calls' written' files' faults')
 passes_unnoted R start start' calls calls' written written' files files' faults faults' same is are le =
-    subst₃ (λ (x : Files) (l : List Event) (w : List ℕ). Passes R (recorded start calls written files faults) (recorded x l w files' faults')) (same_function start start' same) (sym is) (sym are)
+    subst₃ (λ (x : Files) (l : List Event) (w : List ℕ). Passes R (recorded start calls written files faults) (recorded x l w files' faults'))
+    (same_function start start' same) (sym is) (sym are)
     (record {
       later = omega arith;
       past = λ moment image le at. at;
@@ -96,7 +112,8 @@ passes_unnoted R start start' calls calls' written written' files files' faults 
     })
 
 -- the count of faults may have risen beside
-pub passes_with_faults : (R : Files → Files → Type 0) (a b : DiskState) (faults : ℕ) → Passes R a b → b.faults ≤ faults → Passes R a (record b { faults = faults })
+pub passes_with_faults : (R : Files → Files → Type 0) (a b : DiskState) (faults : ℕ) → Passes R a b → b.faults ≤ faults
+    → Passes R a (record b { faults = faults })
 passes_with_faults R a b faults p le = record {
   later = p.later;
   past = p.past;
@@ -153,7 +170,8 @@ one_before old image at n pending room long each =
           (λ (until : i < at + n).
           let near : i - at < n = omega (arith, from, until) in
           let place : at + (i - at) ≡ i = omega (arith, from) in
-          overwritten_inside image at patch fits i from (omega (arith, until, size)) ∙ get_or-take n (drop at old) (i - at) 0 near ∙ get_or-drop at old (i - at) 0 ∙ ap (λ (k : ℕ). get_or old k 0) place)
+          overwritten_inside image at patch fits i from (omega (arith, until, size)) ∙ get_or-take n (drop at old) (i - at) 0 near
+          ∙ get_or-drop at old (i - at) 0 ∙ ap (λ (k : ℕ). get_or old k 0) place)
           (λ (past : at + n ≤ i). overwritten_above image at patch fits i (omega (arith, past, size)) ∙ each i free (inr past))
           (cases_lt i (at + n)))
           (cases_lt i at)),
@@ -177,15 +195,19 @@ unfolding swapped
 swapped_other files file bytes f apart = ap (λ b. cond b bytes (files f)) (apart_is f file apart)
 
 -- an image of files of which one had another image before
-before_in : (m : Moment) (file : ℕ) (image : Files) (change : List ℕ → List ℕ → Type 0) (b : List ℕ) → length b ≡ length (m.files file) → ((i : ℕ) → m.pending file i ≡ false → get_or b i 0 ≡ get_or (m.files file) i 0) → change b (image file)
+before_in : (m : Moment) (file : ℕ) (image : Files) (change : List ℕ → List ℕ → Type 0) (b : List ℕ) → length b ≡ length (m.files file)
+    → ((i : ℕ) → m.pending file i ≡ false → get_or b i 0 ≡ get_or (m.files file) i 0) → change b (image file)
     → ((f : ℕ) → f ≢ file → (length (image f) ≡ length (m.files f)) × ((i : ℕ) → m.pending f i ≡ false → get_or (image f) i 0 ≡ get_or (m.files f) i 0))
     → (before : Files) × Image m before × InFile file change before image
 before_in m file image change b long each changed others = (
   swapped image file b,
   (λ f. ⊎_elim
-      (λ (is : f ≡ file). subst (λ (k : ℕ). (length (swapped image file b k) ≡ length (m.files k)) × ((i : ℕ) → m.pending k i ≡ false → get_or (swapped image file b k) i 0 ≡ get_or (m.files k) i 0)) (sym is)
-      (subst (λ (l : List ℕ). (length l ≡ length (m.files file)) × ((i : ℕ) → m.pending file i ≡ false → get_or l i 0 ≡ get_or (m.files file) i 0)) (sym (swapped_here image file b)) (long, each)))
-      (λ apart. subst (λ (l : List ℕ). (length l ≡ length (m.files f)) × ((i : ℕ) → m.pending f i ≡ false → get_or l i 0 ≡ get_or (m.files f) i 0)) (sym (swapped_other image file b f apart)) (others f apart))
+      (λ (is : f ≡ file). subst (λ (k : ℕ). (length (swapped image file b k) ≡ length (m.files k))
+      × ((i : ℕ) → m.pending k i ≡ false → get_or (swapped image file b k) i 0 ≡ get_or (m.files k) i 0)) (sym is)
+      (subst (λ (l : List ℕ). (length l ≡ length (m.files file)) × ((i : ℕ) → m.pending file i ≡ false → get_or l i 0 ≡ get_or (m.files file) i 0))
+      (sym (swapped_here image file b)) (long, each)))
+      (λ apart. subst (λ (l : List ℕ). (length l ≡ length (m.files f)) × ((i : ℕ) → m.pending f i ≡ false → get_or l i 0 ≡ get_or (m.files f) i 0))
+      (sym (swapped_other image file b f apart)) (others f apart))
       (cases_eq f file)),
   record {
     here = subst (λ (l : List ℕ). change l (image file)) (sym (swapped_here image file b)) changed;
@@ -193,32 +215,39 @@ before_in m file image change b long each changed others = (
   },
 )
 
-pub image_written : (m : Moment) (file at : ℕ) (bytes : List ℕ) (image : Files) → at + length bytes ≤ length (m.files file) → Image (after_write file at bytes m) image
+pub image_written : (m : Moment) (file at : ℕ) (bytes : List ℕ) (image : Files) → at + length bytes ≤ length (m.files file)
+    → Image (after_write file at bytes m) image
     → (before : Files) × Image m before × TornIn file at (length bytes) before image
 image_written m file at bytes image room is =
-    let written : cond (eqb file file) (overwritten (m.files file) at bytes) (m.files file) ≡ overwritten (m.files file) at bytes = ap (λ b. cond b (overwritten (m.files file) at bytes) (m.files file)) (here file) in
+    let written : cond (eqb file file) (overwritten (m.files file) at bytes) (m.files file) ≡ overwritten (m.files file) at bytes = ap
+    (λ b. cond b (overwritten (m.files file) at bytes) (m.files file)) (here file) in
     let one = one_before (m.files file) (image file) at (length bytes) (m.pending file) room
     ((is file).0 ∙ ap (λ (l : List ℕ). length l) written ∙ length-overwritten (m.files file) at bytes room)
     (λ i free out. (is file).1 i (outside (m.pending file i) (eqb file file) at (length bytes) i free out) ∙ ap (λ (l : List ℕ). get_or l i 0) written
-    ∙ ⊎_elim (λ (lt : i < at). overwritten_below (m.files file) at bytes room i lt) (λ (le : at + length bytes ≤ i). overwritten_above (m.files file) at bytes room i le) out) in
+    ∙ ⊎_elim (λ (lt : i < at). overwritten_below (m.files file) at bytes room i lt)
+    (λ (le : at + length bytes ≤ i). overwritten_above (m.files file) at bytes room i le) out) in
     before_in m file image (Torn at (length bytes)) one.0 one.1 one.2 one.3
     (λ f apart.
     let no = apart_is f file apart in
-    let same : cond (eqb f file) (overwritten (m.files f) at bytes) (m.files f) ≡ m.files f = ap (λ b. cond b (overwritten (m.files f) at bytes) (m.files f)) no in (
+    let same : cond (eqb f file) (overwritten (m.files f) at bytes) (m.files f) ≡ m.files f = ap
+    (λ b. cond b (overwritten (m.files f) at bytes) (m.files f)) no in (
       (is f).0 ∙ ap (λ (l : List ℕ). length l) same,
       λ i free. (is f).1 i (neither (m.pending f i) (eqb f file) _ free no) ∙ ap (λ (l : List ℕ). get_or l i 0) same,
     ))
 
-pub image_grown : (m : Moment) (file len : ℕ) (image : Files) → Image (after_growth file len m) image → (before : Files) × Image m before × GrownIn file len before image
+pub image_grown : (m : Moment) (file len : ℕ) (image : Files) → Image (after_growth file len m) image → (before : Files) × Image m before
+    × GrownIn file len before image
 image_grown m file len image is =
     let old = m.files file in
     let longer : cond (eqb file file) (lengthened old len) old ≡ lengthened old len = ap (λ b. cond b (lengthened old len) old) (here file) in
-    let size : length (image file) ≡ length old + (len - length old) = (is file).0 ∙ ap (λ (l : List ℕ). length l) longer ∙ length-append old (replicate (len - length old) 0) ∙ ap (λ (k : ℕ). length old + k) (length-replicate (len - length old) 0) in
+    let size : length (image file) ≡ length old + (len - length old) = (is file).0 ∙ ap (λ (l : List ℕ). length l) longer
+    ∙ length-append old (replicate (len - length old) 0) ∙ ap (λ (k : ℕ). length old + k) (length-replicate (len - length old) 0) in
     let cut : length (take (length old) (image file)) ≡ length old = length-take-le (length old) (image file) (omega (arith, size)) in
     before_in m file image (Grown len) (take (length old) (image file)) cut
     (λ i free. ⊎_elim
     (λ (lt : i < length old).
-    get_or-take (length old) (image file) i 0 lt ∙ (is file).1 i (within (m.pending file i) (eqb file file) (length old) i free lt) ∙ ap (λ (l : List ℕ). get_or l i 0) longer
+    get_or-take (length old) (image file) i 0 lt ∙ (is file).1 i (within (m.pending file i) (eqb file file) (length old) i free lt) ∙ ap
+    (λ (l : List ℕ). get_or l i 0) longer
     ∙ get_or_append_left old (replicate (len - length old) 0) 0 i lt)
     (λ (le : length old ≤ i). get_or_past (take (length old) (image file)) i 0 (omega (arith, cut, le)) ∙ sym (get_or_past old i 0 le))
     (cases_lt i (length old)))
@@ -235,15 +264,18 @@ image_grown m file len image is =
     ))
 
 -- after a write that the moment tells, the files are those that it tells
-pub read_after_write : (m : Moment) (file at : ℕ) (bytes : List ℕ) (old new : Files) → Unchanged m.files old → WrittenIn file at bytes old new → Unchanged (after_write file at bytes m).files new
+pub read_after_write : (m : Moment) (file at : ℕ) (bytes : List ℕ) (old new : Files) → Unchanged m.files old → WrittenIn file at bytes old new
+    → Unchanged (after_write file at bytes m).files new
 read_after_write m file at bytes old new each written f = ⊎_elim
     (λ (is : f ≡ file). subst (λ (k : ℕ). new k ≡ cond (eqb k file) (overwritten (m.files k) at bytes) (m.files k)) (sym is)
-    (written.here ∙ ap (λ (l : List ℕ). overwritten l at bytes) (each file) ∙ sym (ap (λ b. cond b (overwritten (m.files file) at bytes) (m.files file)) (here file))))
+    (written.here ∙ ap (λ (l : List ℕ). overwritten l at bytes) (each file)
+    ∙ sym (ap (λ b. cond b (overwritten (m.files file) at bytes) (m.files file)) (here file))))
     (λ apart. written.elsewhere f apart ∙ each f ∙ sym (ap (λ b. cond b (overwritten (m.files f) at bytes) (m.files f)) (apart_is f file apart)))
     (cases_eq f file)
 
 -- the same after a growth, for the files as read or as synced
-pub read_after_growth : (files : Files) (file len : ℕ) (old new : Files) → Unchanged files old → LengthenedIn file len old new → Unchanged (λ f. cond (eqb f file) (lengthened (files f) len) (files f)) new
+pub read_after_growth : (files : Files) (file len : ℕ) (old new : Files) → Unchanged files old → LengthenedIn file len old new → Unchanged
+    (λ f. cond (eqb f file) (lengthened (files f) len) (files f)) new
 read_after_growth files file len old new each grown f = ⊎_elim
     (λ (is : f ≡ file). subst (λ (k : ℕ). new k ≡ cond (eqb k file) (lengthened (files k) len) (files k)) (sym is)
     (grown.here ∙ ap (λ (l : List ℕ). lengthened l len) (each file) ∙ sym (ap (λ b. cond b (lengthened (files file) len) (files file)) (here file))))

@@ -15,12 +15,14 @@ invariant_of-result c = record {
 pub returns-clause-settled : goal.returns-clause-settled
 returns-clause-settled c =
     let start = first_files c.crash_files.new.files.items in
-    settled_at_rest start start _ c.clear.new.self.written.items _ _ (ap (λ (l : List Event). replay (at_rest start) l c.clear.new.self.written.items) c.clear.ensures.calls) (λ file. sym (c.crash_files.ensures.first file))
+    settled_at_rest start start _ c.clear.new.self.written.items _ _ (ap
+    (λ (l : List Event). replay (at_rest start) l c.clear.new.self.written.items) c.clear.ensures.calls) (λ file. sym (c.crash_files.ensures.first file))
 
 pub returns-clause-image : goal.returns-clause-image
 returns-clause-image c =
     let holds = c.args.self.holds in
     let calls = c.args.self.history.calls.items in
-    subst (λ (l : List Event). Image (replay (at_rest (first_files c.args.self.files.items)) l c.args.self.history.written.items) (read_files c.crash_files.new.files.items))
+    subst (λ (l : List Event). Image (replay (at_rest (first_files c.args.self.files.items)) l c.args.self.history.written.items)
+    (read_files c.crash_files.new.files.items))
     (sym (take_all (length calls) calls (omega arith)))
     (pick_is_image _ holds.sound c.args.pick _ (λ file. c.crash_files.ensures.read file ∙ cc (holds.read file, holds.synced file)))

@@ -18,4 +18,6 @@ pub returns-clause-settled : goal.returns-clause-settled
 returns-clause-settled c =
     let files = c.in_ok-empty_copies.ensures in
     let start = first_files c.in_ok-empty_copies.field-0.items in
-    settled_at_rest start start _ c.in_ok-new.field-0.written.items _ _ (ap (λ (l : List Event). replay (at_rest start) l c.in_ok-new.field-0.written.items) c.in_ok-new.ensures.calls) (λ file. files.read file ∙ sym (files.first file))
+    settled_at_rest start start _ c.in_ok-new.field-0.written.items _ _ (ap
+    (λ (l : List Event). replay (at_rest start) l c.in_ok-new.field-0.written.items) c.in_ok-new.ensures.calls)
+    (λ file. files.read file ∙ sym (files.first file))

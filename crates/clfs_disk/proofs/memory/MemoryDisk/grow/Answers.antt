@@ -14,7 +14,8 @@ use Rattle.clfs_disk.proofs.memory.MemoryDisk.grow.Goals as goal
 
 pub returns-in-Ok-clause-grown : goal.returns-in-Ok-clause-grown
 returns-in-Ok-clause-grown c told =
-    change_in_file (λ (copies : FileCopies). copies.read.items) c.args.self.now.files.items c.args.file c.grow_to.new.self (omega (arith, c.args.self.now.holds.count))
+    change_in_file (λ (copies : FileCopies). copies.read.items) c.args.self.now.files.items c.args.file c.grow_to.new.self
+    (omega (arith, c.args.self.now.holds.count))
     (λ old new. new ≡ lengthened old c.args.len) c.index_mut.result.now c.index_mut.ensures.value c.in-Ok.ensures.read
 
 pub returns-in-Ok-clause-longer : goal.returns-in-Ok-clause-longer
@@ -47,8 +48,10 @@ returns-in-Ok-clause-time c =
     let files = c.args.self.now.files.items in
     let holds = c.args.self.now.holds in
     let m = now_of files c.args.self.now.history.calls.items c.args.self.now.history.written.items in
-    passes_noted (GrownIn c.args.file c.args.len) (first_files files) _ c.args.self.now.history.calls.items _ c.args.self.now.history.written.items _ [] (Grew c.args.file c.args.len) _ _ _
-    (change_in_no_file (λ (copies : FileCopies). copies.first.items) files c.args.file c.grow_to.new.self (omega (arith, holds.count)) c.index_mut.result.now c.index_mut.ensures.value c.in-Ok.ensures.first)
+    passes_noted (GrownIn c.args.file c.args.len) (first_files files) _ c.args.self.now.history.calls.items _ c.args.self.now.history.written.items _ []
+    (Grew c.args.file c.args.len) _ _ _
+    (change_in_no_file (λ (copies : FileCopies). copies.first.items) files c.args.file c.grow_to.new.self
+    (omega (arith, holds.count)) c.index_mut.result.now c.index_mut.ensures.value c.in-Ok.ensures.first)
     c.note.ensures.calls (ap (λ (v : Vec ℕ Global). v.items) c.note.ensures.written ∙ sym (append-nil _)) holds.bytes refl
     (λ image at. image_grown m c.args.file c.args.len image at)
 
@@ -69,13 +72,15 @@ invariant_of-self-in-Err c =
 
 pub returns-in-Err-clause-longer : goal.returns-in-Err-clause-longer
 returns-in-Err-clause-longer c = grown_unchanged c.args.file c.args.len _ _
-    (change_in_no_file (λ (copies : FileCopies). copies.read.items) c.args.self.now.files.items c.args.file c.grow_to.new.self (omega (arith, c.args.self.now.holds.count))
+    (change_in_no_file (λ (copies : FileCopies). copies.read.items) c.args.self.now.files.items c.args.file c.grow_to.new.self
+    (omega (arith, c.args.self.now.holds.count))
     c.index_mut.result.now c.index_mut.ensures.value c.in-Err.ensures.same_read)
 
 pub returns-in-Err-clause-time : goal.returns-in-Err-clause-time
 returns-in-Err-clause-time c =
     passes_unnoted (GrownIn c.args.file c.args.len) (first_files c.args.self.now.files.items) _ _ _ _ _ _ _ _ _
-    (change_in_no_file (λ (copies : FileCopies). copies.first.items) c.args.self.now.files.items c.args.file c.grow_to.new.self (omega (arith, c.args.self.now.holds.count))
+    (change_in_no_file (λ (copies : FileCopies). copies.first.items) c.args.self.now.files.items c.args.file c.grow_to.new.self
+    (omega (arith, c.args.self.now.holds.count))
     c.index_mut.result.now c.index_mut.ensures.value c.in-Err.ensures.first)
     refl refl (omega arith)
 

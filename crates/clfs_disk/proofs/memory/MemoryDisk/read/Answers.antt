@@ -13,7 +13,8 @@ invariant_of-self c =
     let holds = c.args.self.now.holds in
     record {
       holds = holds_after c.args.self.now.files.items c.args.self.now.history.calls.items c.args.self.now.history.written.items holds _ _ _ [] Read
-          refl (λ file. refl) c.note.ensures.calls (ap (λ (v : Vec ℕ Global). v.items) c.note.ensures.written ∙ sym (append-nil _)) refl holds.read holds.synced holds.sound;
+          refl (λ file. refl) c.note.ensures.calls (ap (λ (v : Vec ℕ Global). v.items) c.note.ensures.written
+          ∙ sym (append-nil _)) refl holds.read holds.synced holds.sound;
     }
 
 pub returns-clause-time : goal.returns-clause-time

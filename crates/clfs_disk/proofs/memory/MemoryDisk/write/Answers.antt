@@ -19,7 +19,8 @@ returns-then-not-admits_write-clause-time c = passes_weaker Unchanged (TornIn c.
 pub returns-clause-written : goal.returns-clause-written
 returns-clause-written c told = (
   c.if-not-admits_write.ensures.range refl,
-  change_in_file (λ (copies : FileCopies). copies.read.items) c.args.self.now.files.items c.args.file c.write_at.new.self (omega (arith, c.args.self.now.holds.count))
+  change_in_file (λ (copies : FileCopies). copies.read.items) c.args.self.now.files.items c.args.file c.write_at.new.self
+      (omega (arith, c.args.self.now.holds.count))
       (λ old new. new ≡ overwritten old c.args.at c.args.bytes.now) c.index_mut.result.now c.index_mut.ensures.value c.write_at.ensures.read,
 )
 
@@ -40,12 +41,15 @@ invariant_of-self c =
     omega (arith, c.if-not-admits_write.ensures.range refl, ap (λ (l : List ℕ). length l) (holds.read c.args.file)) in
     let bytes = λ (v : Vec ℕ Global). v.items in
     record {
-      holds = holds_after files c.args.self.now.history.calls.items c.args.self.now.history.written.items holds _ _ _ c.args.bytes.now (Wrote c.args.file c.args.at (length c.args.bytes.now))
+      holds = holds_after files c.args.self.now.history.calls.items c.args.self.now.history.written.items holds _ _ _ c.args.bytes.now
+          (Wrote c.args.file c.args.at (length c.args.bytes.now))
           (length-set files c.args.file c.write_at.new.self)
-          (change_in_no_file (λ (copies : FileCopies). copies.first.items) files c.args.file c.write_at.new.self (omega (arith, holds.count)) c.index_mut.result.now c.index_mut.ensures.value (ap bytes c.write_at.ensures.first))
+          (change_in_no_file (λ (copies : FileCopies). copies.first.items) files c.args.file c.write_at.new.self
+          (omega (arith, holds.count)) c.index_mut.result.now c.index_mut.ensures.value (ap bytes c.write_at.ensures.first))
           c.note_write.ensures.calls c.note_write.ensures.written refl
           (read_after_write m c.args.file c.args.at c.args.bytes.now (read_files files) _ holds.read written)
-          (λ file. change_in_no_file (λ (copies : FileCopies). copies.synced.items) files c.args.file c.write_at.new.self (omega (arith, holds.count)) c.index_mut.result.now c.index_mut.ensures.value
+          (λ file. change_in_no_file (λ (copies : FileCopies). copies.synced.items) files c.args.file c.write_at.new.self
+          (omega (arith, holds.count)) c.index_mut.result.now c.index_mut.ensures.value
           (ap bytes c.write_at.ensures.synced) file ∙ holds.synced file)
           (sound_after_write m holds.sound c.args.file c.args.at c.args.bytes.now room);
     }
@@ -57,9 +61,11 @@ returns-clause-time c =
     let m = now_of files c.args.self.now.history.calls.items c.args.self.now.history.written.items in
     let room : c.args.at + length c.args.bytes.now ≤ length (m.files c.args.file) =
     omega (arith, c.if-not-admits_write.ensures.range refl, ap (λ (l : List ℕ). length l) (holds.read c.args.file)) in
-    passes_noted (TornIn c.args.file c.args.at (length c.args.bytes.now)) (first_files files) _ c.args.self.now.history.calls.items _ c.args.self.now.history.written.items _ c.args.bytes.now
+    passes_noted (TornIn c.args.file c.args.at (length c.args.bytes.now))
+    (first_files files) _ c.args.self.now.history.calls.items _ c.args.self.now.history.written.items _ c.args.bytes.now
     (Wrote c.args.file c.args.at (length c.args.bytes.now)) _ _ _
-    (change_in_no_file (λ (copies : FileCopies). copies.first.items) files c.args.file c.write_at.new.self (omega (arith, holds.count)) c.index_mut.result.now c.index_mut.ensures.value
+    (change_in_no_file (λ (copies : FileCopies). copies.first.items) files c.args.file c.write_at.new.self
+    (omega (arith, holds.count)) c.index_mut.result.now c.index_mut.ensures.value
     (ap (λ (v : Vec ℕ Global). v.items) c.write_at.ensures.first))
     c.note_write.ensures.calls c.note_write.ensures.written holds.bytes refl
     (λ image at. image_written m c.args.file c.args.at c.args.bytes.now image room at)

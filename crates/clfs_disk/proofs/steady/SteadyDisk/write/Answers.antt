@@ -8,7 +8,8 @@ use Rattle.clfs_disk.proofs.steady.SteadyDisk.write.Goals as goal
 pub returns-clause-written : goal.returns-clause-written
 returns-clause-written c told =
     let lt : c.args.file < length c.args.self.now.files.items = omega (arith, c.args.self.now.count) in
-    let here = c.deref.ensures.value ∙ sym (file_at (λ (bytes : Vec ℕ Global). bytes.items) c.args.self.now.files.items c.args.file c.index.result.now lt c.index.ensures) in (
+    let here = c.deref.ensures.value ∙ sym (file_at
+    (λ (bytes : Vec ℕ Global). bytes.items) c.args.self.now.files.items c.args.file c.index.result.now lt c.index.ensures) in (
       subst (λ (l : List ℕ). c.args.at + length c.args.bytes.now ≤ length l) here (c.has_range.ensures.0 c.if-not-has_range.false),
       change_in_file (λ (bytes : Vec ℕ Global). bytes.items) c.args.self.now.files.items c.args.file c.overwrite.new.file lt
           (λ old new. new ≡ overwritten old c.args.at c.args.bytes.now) c.index_mut.result.now c.index_mut.ensures.value c.overwrite.ensures,
