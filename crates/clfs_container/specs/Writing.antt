@@ -1,0 +1,32 @@
+-- Blocks that are written behind the open blocks of a file.
+use Rattle.std.specs.Prelude.{◌≡◌, ◌≢◌, ◌⊎◌, ℕ, ◌+◌, ◌<◌, ◌≤◌, List, ◌∷◌, length, take, drop, slice_index}
+use Rattle.clfs_disk.specs.Files.{Files}
+use Rattle.clfs_container.specs.OpenBlocks.{open_gate_byte, Opens, total}
+
+-- A file has these open blocks, and then so many sectors, the first of which begins at this place with a closed gate.
+pub record IsBehind (sectors file : ℕ) (blocks : List (List ℕ)) (rest at : ℕ) (files : Files) : Type 0 where
+  pub opens : Opens sectors (files file) blocks rest
+  pub place : total blocks ≡ at
+  pub closed : slice_index (files file) at ≢ open_gate_byte
+
+-- A file has these open blocks, and then no sector or a closed gate.
+pub record HasBlocks (sectors file : ℕ) (blocks : List (List ℕ)) (rest : ℕ) (files : Files) : Type 0 where
+  pub opens : Opens sectors (files file) blocks rest
+  pub shut : (rest ≡ 0) ⊎ (slice_index (files file) (total blocks) ≢ open_gate_byte)
+
+-- These bytes stand behind the gate at a place of a file.
+pub record HasBody (file at : ℕ) (body : List ℕ) (files : Files) : Type 0 where
+  pub whole : at + 1 + length body ≤ length (files file)
+  pub is : take (length body) (drop (at + 1) (files file)) ≡ body
+
+-- The bytes behind a gate that, once it is open, begin with these blocks: behind them no sector is left, or a closed gate
+-- is among the bytes.
+pub record IsGroup (rest : ℕ) (body : List ℕ) (blocks : List (List ℕ)) (left : ℕ) : Type 0 where
+  pub opens : Opens rest (open_gate_byte ∷ body) blocks left
+  pub some : 0 < total blocks
+  pub whole : total blocks ≤ length body + 1
+  pub shut : (left ≡ 0) ⊎ ((total blocks ≤ length body) × (slice_index (open_gate_byte ∷ body) (total blocks) ≢ open_gate_byte))
+
+-- The other files hold what they held.
+abbrev pub OthersStay : ℕ → Files → Files → Type 0
+OthersStay file old new = (other : ℕ) → other ≢ file → new other ≡ old other
