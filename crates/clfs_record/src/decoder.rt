@@ -1,0 +1,195 @@
+// Reading a record from the front of bytes. The checks go from the first byte on, and the data are copied once, when all
+// else is right.
+ghost use Rattle.std.specs.Prelude.{◌≡◌, ◌+◌, ◌-◌, ◌*◌, ◌/◌, ◌^◌, ◌<◌, ◌≤◌, ◌++◌, ◌==◌, ◌||◌, not, nat_lt, if◌then◌else◌, ℕ, List, length, take, drop, position, IfOk, Ok};
+ghost use Rattle.byteorder.specs.Endian.{little_number};
+ghost use Rattle.clfs_lsn.specs.Size.{size};
+ghost use Rattle.clfs_lsn.specs.Spelling.{FitsAt, record_bytes, record_at, header_of, header_fault, filling, filling_fault, is_wrong_base, entry_of};
+ghost use Rattle.clfs_lsn.specs.declared.entry.Kind.TheVariants.{Plain, Restart};
+ghost use Rattle.clfs_lsn.specs.declared.entry.LogEntry.{LogEntry};
+ghost use Rattle.clfs_record.specs.Decoding.{Gives};
+
+use crate::refusal::RecordRefusal;
+use byteorder::{ByteOrder, LittleEndian};
+use clfs_lsn::{Bytes, Kind, LogEntry, Lsn};
+use std::alloc::{AllocError, Global};
+
+// The bytes of a header.
+const HEADER: usize = 32;
+
+/// The stream's number in a record's header.
+pub fn stream_of(bytes: &[u8]) -> u16
+    requires { 32 ≤ length bytes.now }
+    ensures { result ≡ (header_of bytes.now).stream }
+{
+    LittleEndian::read_u16(&bytes[4..])
+}
+
+/// The record that a front of the bytes spells at this LSN in a log of so many streams, and how many bytes spell it.
+/// `stream` is the number that `stream_of` reads there.
+pub fn decode(
+    alloc: Global,
+    bytes: &[u8],
+    lsn: Lsn,
+    stream: u16,
+    streams: u16,
+) -> Result<(LogEntry, usize), RecordRefusal>
+    requires length { length bytes.now < 2 ^ 32 }
+    requires stream { 32 ≤ length bytes.now → stream ≡ (header_of bytes.now).stream }
+
+    // What is read is spelled so, and is a record that the log can have there.
+    ensures found { IfOk result (λ x. (take x.1 bytes.now ≡ record_bytes x.0) × FitsAt lsn streams x.0) }
+
+    // What is spelled so is read, whatever follows it.
+    ensures only { (entry : LogEntry) (rest : List ℕ) → FitsAt lsn streams entry → bytes.now ≡ record_bytes entry ++ rest
+        → Gives result (Ok (entry, size (length entry.bytes))) }
+
+    // A refusal names the first byte that is wrong.
+    ensures exact { Gives result (record_at lsn streams bytes.now) }
+{
+    decode_at(alloc, bytes, lsn.number(), stream, streams)
+}
+
+// The same at a number.
+#[tactic(auto, unfolding(clfs_lsn::specs::Spelling::record_at))]
+fn decode_at(
+    alloc: Global,
+    bytes: &[u8],
+    lsn: u64,
+    stream: u16,
+    streams: u16,
+) -> Result<(LogEntry, usize), RecordRefusal>
+    requires length { length bytes.now < 2 ^ 32 }
+    requires stream { 32 ≤ length bytes.now → stream ≡ (header_of bytes.now).stream }
+    ensures { Gives result (record_at lsn streams bytes.now) }
+{
+    if bytes.len() < HEADER {
+        return Err(RecordRefusal::BadByte { at: 0 });
+    }
+    let len = LittleEndian::read_u32(bytes);
+    let size = size_of(len);
+    if (bytes.len() as u64) < size {
+        return Err(RecordRefusal::BadByte { at: 0 });
+    }
+    if let Some(at) = wrong_header(bytes, lsn, stream, streams) {
+        return Err(RecordRefusal::BadByte { at });
+    }
+    if let Some(at) = wrong_filling(bytes, len) {
+        return Err(RecordRefusal::BadByte { at });
+    }
+    let entry = entry_at(alloc, bytes, lsn, stream, len)?;
+    Ok((entry, size as usize))
+}
+
+// The bytes of a record with so many bytes of data.
+fn size_of(len: u32) -> u64
+    ensures { result ≡ size len }
+{
+    HEADER as u64 + (len as u64 + 7) / 8 * 8
+}
+
+// The byte at which the header is wrong first.
+fn wrong_header(bytes: &[u8], lsn: u64, stream: u16, streams: u16) -> Option<u32>
+    requires long { 32 ≤ length bytes.now }
+    requires stream { stream ≡ (header_of bytes.now).stream }
+    ensures { result ≡ header_fault lsn streams (header_of bytes.now) }
+{
+    let previous = LittleEndian::read_u64(&bytes[8..]);
+    let undo_next = LittleEndian::read_u64(&bytes[16..]);
+    let new_base = LittleEndian::read_u64(&bytes[24..]);
+    if is_no_stream(stream, streams) {
+        Some(4)
+    } else if is_no_kind(bytes[6]) {
+        Some(6)
+    } else if bytes[7] != 0 {
+        Some(7)
+    } else if lsn <= previous {
+        Some(8)
+    } else if lsn <= undo_next {
+        Some(16)
+    } else if has_wrong_base(bytes[6], lsn, new_base) {
+        Some(24)
+    } else {
+        None
+    }
+}
+
+// Whether a log of so many streams has none of this number.
+fn is_no_stream(stream: u16, streams: u16) -> bool
+    ensures { result ≡ ((stream == 0) || nat_lt streams stream) }
+{
+    stream == 0 || streams < stream
+}
+
+// Whether no kind of record has this byte.
+fn is_no_kind(byte: u8) -> bool
+    ensures { result ≡ not ((byte == 1) || (byte == 2)) }
+{
+    byte != 1 && byte != 2
+}
+
+// Whether no record of this kind at this LSN has such a base.
+fn has_wrong_base(kind: u8, lsn: u64, base: u64) -> bool
+    ensures { result ≡ is_wrong_base kind lsn base }
+{
+    if kind == 1 { base != 0 } else { lsn < base }
+}
+
+// The first byte behind the data that isn't 0.
+fn wrong_filling(bytes: &[u8], len: u32) -> Option<u32>
+    requires whole { size len ≤ length bytes.now }
+    requires length { length bytes.now < 2 ^ 32 }
+    ensures { result ≡ filling_fault len bytes.now }
+{
+    let end = HEADER + len as usize;
+    let zeros = &bytes[end..size_of(len) as usize];
+    let at = first_nonzero(zeros)?;
+    Some((end + at) as u32)
+}
+
+// The place of the first byte that isn't 0.
+fn first_nonzero(bytes: &[u8]) -> Option<usize>
+    ensures { result ≡ position (λ b. not (b == 0)) bytes.now }
+{
+    bytes.iter().position(|b| *b != 0)
+}
+
+fn kind_of(byte: u8) -> Kind
+    ensures { result ≡ (if byte == 1 then Plain else Restart) }
+{
+    if byte == 1 {
+        Kind::Plain
+    } else {
+        Kind::Restart
+    }
+}
+
+// The record of a header that is right, with its data.
+fn entry_at(
+    alloc: Global,
+    bytes: &[u8],
+    lsn: u64,
+    stream: u16,
+    len: u32,
+) -> Result<LogEntry, AllocError>
+    requires len { len ≡ (header_of bytes.now).len }
+    requires whole { 32 + len ≤ length bytes.now }
+    requires stream { stream ≡ (header_of bytes.now).stream }
+    ensures { IfOk result (λ entry. entry ≡ entry_of lsn bytes.now) }
+{
+    let data = &bytes[HEADER..HEADER + len as usize];
+    Ok(LogEntry {
+        lsn: Lsn::of_number(lsn),
+        stream,
+        kind: kind_of(bytes[6]),
+        previous: Lsn::of_number(LittleEndian::read_u64(&bytes[8..])),
+        undo_next: Lsn::of_number(LittleEndian::read_u64(&bytes[16..])),
+        new_base: Lsn::of_number(LittleEndian::read_u64(&bytes[24..])),
+        bytes: Bytes::from_vec(Vec::from_slice(alloc, data)?),
+    })
+}
+
+/// No spelling begins another's at one LSN, so what was written is read again whatever follows it.
+pub fn no_spelling_begins_another()
+    ensures { (lsn streams others : ℕ) (a b : LogEntry) (x y : List ℕ) → lsn < 2 ^ 64 → streams < 2 ^ 16 → others < 2 ^ 16
+        → FitsAt lsn streams a → FitsAt lsn others b → record_bytes a ++ x ≡ record_bytes b ++ y → (a ≡ b) × (x ≡ y) }
+{}
