@@ -1,0 +1,5 @@
+mod Buildings
+mod Frames
+mod Sealing
+mod Searches
+mod Splices

@@ -1,0 +1,19 @@
+use Rattle.std.proofs.Common.{◌≡◌, ◌+◌, ◌-◌, ◌*◌, ℕ, Option, Result, Ok, refl, sym, ◌∙◌, ap, arith}
+use Rattle.clfs_block.specs.Checks.{unless_wrong}
+use Rattle.clfs_block.specs.declared.head.BlockHead.{BlockHead}
+use Rattle.clfs_block.specs.declared.head.BlockRefusal.{BlockRefusal}
+use Rattle.clfs_block.proofs.Searches.{rest_is}
+use Rattle.clfs_block.proofs.decoder.rest.Goals as goal
+
+answer_of : BlockHead → Option ℕ → Result BlockHead BlockRefusal
+answer_of head found = unless_wrong found (Ok head)
+
+pub returns-in-Some : goal.returns-in-Some
+unfolding answer_of
+returns-in-Some c = sym (rest_is c.args.bytes.now c.args.head c.first_other_byte.result _ _ c.requires.used c.requires.some.0 refl refl c.first_other_byte.ensures
+    ∙ ap (answer_of c.args.head) c.in-Some.is)
+
+pub returns-in-None : goal.returns-in-None
+unfolding answer_of
+returns-in-None c = sym (rest_is c.args.bytes.now c.args.head c.first_other_byte.result _ _ c.requires.used c.requires.some.0 refl refl c.first_other_byte.ensures
+    ∙ ap (answer_of c.args.head) c.in-None.is)

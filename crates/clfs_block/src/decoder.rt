@@ -1,0 +1,242 @@
+// Reading a block. The checks go from the first byte on, each byte is looked at once, and the payload is filled before its
+// unused end is checked, so that a caller can judge the records first.
+ghost use Rattle.std.specs.Prelude.{◌≡◌, ◌⊎◌, ◌+◌, ◌-◌, ◌*◌, ◌/◌, ◌%◌, ◌^◌, ◌<◌, ◌≤◌, ◌++◌, ◌==◌, ◌||◌, not, nat_lt, ℕ, List, [], length, take, drop, slice_index, Some, None, IfOk, IfSome, OnOk, OnErr, Ok, Err, vec_len, vec_capacity};
+ghost use Rattle.byteorder.specs.Endian.{little_number};
+ghost use Rattle.clfs_lsn.specs.Lsn.{container_of, offset_of, lsn_number};
+ghost use Rattle.clfs_lsn.specs.Size.{sectors};
+ghost use Rattle.clfs_block.specs.Frame.{place_of, payload_of, address, address_in, used_bytes, used_payload, SpellsBlock};
+ghost use Rattle.clfs_block.specs.Checks.{head_of, left_from, is_wrong_count, is_wrong_records, header_fault, wrong_sector, first_failing, sectors_at, frame_at, rest_at, block_at};
+ghost use Rattle.clfs_block.specs.declared.head.BlockRefusal.TheVariants.{NoMemory};
+
+use crate::buffer::push_reserved;
+use crate::head::{BlockHead, BlockRefusal};
+use byteorder::{ByteOrder, LittleEndian};
+use clfs_lsn::{Bytes, Lsn, Shape};
+use std::alloc::{AllocError, Global};
+use std::mem;
+
+// The bytes of a sector.
+const SECTOR: usize = 512;
+
+// The bytes of payload of a sector.
+const PAYLOAD: usize = 504;
+
+// The gate of a block that counts.
+const OPEN: u8 = 0xA5;
+
+/// The block at the front of bytes that are to hold one at this place, all checked but its records. Its used payload, of
+/// which the first 16 bytes are the header, takes the place of what `payload` held, before the bytes behind it are checked.
+pub fn decode_block(alloc: Global, shape: &Shape, start: Lsn, bytes: &[u8], payload: &mut Bytes) -> Result<BlockHead, BlockRefusal>
+    // Where no memory is left nothing has changed; else the answer is the first check that fails, or the block.
+    ensures exact { (result ≡ Err NoMemory) ⊎ (result ≡ block_at shape.now start bytes.now) }
+
+    // The payload is filled where all up to the addresses is right, and else as it was.
+    ensures filled { (head : BlockHead) → frame_at shape.now start bytes.now ≡ Ok head → (result ≡ Err NoMemory → ⊥)
+        → payload.new ≡ payload_of head.used bytes.now }
+    ensures kept { (refusal : BlockRefusal) → frame_at shape.now start bytes.now ≡ Err refusal → payload.new ≡ payload.old }
+    ensures no_memory { result ≡ Err NoMemory → payload.new ≡ payload.old }
+{
+    let head = frame(shape, start, bytes)?;
+    fill(alloc, bytes, head, payload)?;
+    rest(bytes, head)
+}
+
+// The checks up to the sectors' addresses.
+#[tactic(auto, unfolding(crate::specs::Checks::frame_at))]
+fn frame(shape: &Shape, start: Lsn, bytes: &[u8]) -> Result<BlockHead, BlockRefusal>
+    ensures exact { result ≡ frame_at shape.now start bytes.now }
+    ensures whole { IfOk result (λ head. 512 * head.sectors ≤ length bytes.now) }
+    ensures used { IfOk result (λ head. sectors head.used ≡ head.sectors) }
+    ensures some { IfOk result (λ head. (1 ≤ head.sectors) × (head.sectors < 2 ^ 16)) }
+{
+    if bytes.is_empty() {
+        return Err(BlockRefusal::BadByte { at: 0 });
+    }
+    if bytes[0] != OPEN {
+        return Err(BlockRefusal::Closed);
+    }
+    if bytes.len() < SECTOR {
+        let at = bytes.len() as u32;
+        return Err(BlockRefusal::BadByte { at });
+    }
+    if let Some(at) = wrong_header(shape, start, bytes) {
+        return Err(BlockRefusal::BadByte { at });
+    }
+    checked_sectors(start, bytes, read_head(bytes))
+}
+
+// The numbers of the header.
+fn read_head(bytes: &[u8]) -> BlockHead
+    requires { 512 ≤ length bytes.now }
+    ensures value { result ≡ head_of bytes.now }
+    ensures small { result.sectors < 2 ^ 16 }
+{
+    BlockHead {
+        sectors: LittleEndian::read_u16(&bytes[2..]) as u32,
+        records: LittleEndian::read_u16(&bytes[4..]) as u32,
+        used: LittleEndian::read_u32(&bytes[8..]),
+    }
+}
+
+// The byte at which the header is wrong first.
+fn wrong_header(shape: &Shape, start: Lsn, bytes: &[u8]) -> Option<u32>
+    requires { 512 ≤ length bytes.now }
+    ensures { result ≡ header_fault shape.now start bytes.now }
+{
+    let head = read_head(bytes);
+    if bytes[1] != 1 {
+        Some(1)
+    } else if is_wrong_count(shape, start, head.sectors) {
+        Some(2)
+    } else if is_wrong_records(head.records) {
+        Some(4)
+    } else if LittleEndian::read_u16(&bytes[6..]) != 0 {
+        Some(6)
+    } else if sectors_of(head.used) != head.sectors {
+        Some(8)
+    } else if LittleEndian::read_u32(&bytes[12..]) != 0 {
+        Some(12)
+    } else {
+        None
+    }
+}
+
+// Whether no block at this place can have so many sectors.
+fn is_wrong_count(shape: &Shape, start: Lsn, count: u32) -> bool
+    ensures { result ≡ is_wrong_count shape.now start count }
+{
+    let left = shape.container_sectors.saturating_sub(start.offset() / SECTOR as u32);
+    count == 0 || (shape.block_sectors < count || left < count)
+}
+
+// Whether no block can have so many records.
+fn is_wrong_records(records: u32) -> bool
+    ensures { result ≡ is_wrong_records records }
+{
+    records == 0 || 511 < records
+}
+
+// The sectors that so many bytes of payload take.
+fn sectors_of(used: u32) -> u32
+    ensures { result ≡ sectors used }
+{
+    ((used as u64 + (PAYLOAD as u64 - 1)) / PAYLOAD as u64) as u32
+}
+
+// The sectors are there and have their addresses.
+#[tactic(auto, unfolding(crate::specs::Checks::sectors_at))]
+fn checked_sectors(start: Lsn, bytes: &[u8], head: BlockHead) -> Result<BlockHead, BlockRefusal>
+    requires { head.sectors < 2 ^ 16 }
+    ensures exact { result ≡ sectors_at start bytes.now head }
+    ensures head { IfOk result (λ h. h ≡ head) }
+    ensures whole { OnOk result (512 * head.sectors ≤ length bytes.now) }
+{
+    if bytes.len() < SECTOR * head.sectors as usize {
+        let at = bytes.len() as u32;
+        return Err(BlockRefusal::BadByte { at });
+    }
+    if let Some(sector) = first_wrong_sector(start, bytes, head.sectors) {
+        let at = SECTOR as u32 * sector + PAYLOAD as u32;
+        return Err(BlockRefusal::BadByte { at });
+    }
+    Ok(head)
+}
+
+// The first sector whose address is wrong.
+fn first_wrong_sector(start: Lsn, bytes: &[u8], count: u32) -> Option<u32>
+    requires count { count < 2 ^ 16 }
+    requires whole { 512 * count ≤ length bytes.now }
+    ensures exact { result ≡ wrong_sector start bytes.now count }
+    ensures few { IfSome result (λ sector. sector < count) }
+{
+    let first = start.container() as u64 * (1 << 32) + start.offset() as u64;
+    for sector in 0..count {
+        if !has_address(bytes, sector, first) {
+            return Some(sector);
+        }
+    }
+    None
+}
+
+// Whether a sector has its address, that of the first sector given.
+fn has_address(bytes: &[u8], sector: u32, first: u64) -> bool
+    requires { 512 * sector + 512 ≤ length bytes.now }
+    ensures { result ≡ (address_in bytes.now sector == first + 512 * sector) }
+{
+    let found = LittleEndian::read_u64(&bytes[SECTOR * sector as usize + PAYLOAD..]);
+    match first.checked_add(SECTOR as u64 * sector as u64) {
+        Some(address) => found == address,
+        None => false,
+    }
+}
+
+// Puts the used payload in the place of what was there.
+fn fill(alloc: Global, bytes: &[u8], head: BlockHead, payload: &mut Bytes) -> Result<(), AllocError>
+    requires whole { 512 * head.sectors ≤ length bytes.now }
+    requires used { sectors head.used ≡ head.sectors }
+    ensures ok { OnOk result (payload.new ≡ payload_of head.used bytes.now) }
+    ensures err { OnErr result (payload.new ≡ payload.old) }
+{
+    let mut out = mem::replace(payload, Bytes::new(alloc)).into_vec();
+    let filled = fill_vec(&mut out, bytes, head.used as usize);
+    *payload = Bytes::from_vec(out);
+    filled
+}
+
+fn fill_vec(out: &mut Vec<u8>, bytes: &[u8], used: usize) -> Result<(), AllocError>
+    requires { 512 * (used / 504) + used % 504 ≤ length bytes.now }
+    ensures ok { OnOk result (out.new.items ≡ payload_of used bytes.now) }
+    ensures err { OnErr result (out.new.items ≡ out.old.items) }
+{
+    out.reserve(used.saturating_sub(out.len()))?;
+    out.clear();
+    push_payload(out, bytes, used);
+    Ok(())
+}
+
+// Appends so many bytes of the payload, sector by sector.
+fn push_payload(out: &mut Vec<u8>, bytes: &[u8], used: usize)
+    requires place { 512 * (used / 504) + used % 504 ≤ length bytes.now }
+    requires none { out.old.items ≡ [] }
+    requires room { used ≤ vec_capacity out.old }
+    ensures { out.new.items ≡ payload_of used bytes.now }
+{
+    let full = used / PAYLOAD;
+    for sector in 0..full {
+        let from = SECTOR * sector;
+        push_reserved(out, &bytes[from..from + PAYLOAD]);
+    }
+    let from = SECTOR * full;
+    push_reserved(out, &bytes[from..from + used % PAYLOAD]);
+}
+
+// The payload behind the used bytes is zero.
+fn rest(bytes: &[u8], head: BlockHead) -> Result<BlockHead, BlockRefusal>
+    requires whole { 512 * head.sectors ≤ length bytes.now }
+    requires used { sectors head.used ≡ head.sectors }
+    requires some { (1 ≤ head.sectors) × (head.sectors < 2 ^ 16) }
+    ensures { result ≡ rest_at bytes.now head }
+{
+    // The used bytes end in the last sector.
+    let last = head.sectors - 1;
+    let from = SECTOR as u32 * last + (head.used - PAYLOAD as u32 * last);
+    let end = SECTOR as u32 * last + PAYLOAD as u32;
+    match first_other_byte(bytes, from, end) {
+        Some(at) => Err(BlockRefusal::BadByte { at }),
+        None => Ok(head),
+    }
+}
+
+// The first byte in a range that isn't 0.
+fn first_other_byte(bytes: &[u8], from: u32, end: u32) -> Option<u32>
+    requires range { from ≤ end }
+    requires whole { end ≤ length bytes.now }
+    ensures { result ≡ first_failing (λ at. slice_index bytes.now at == 0) from (end - from) }
+{
+    for at in from..end {
+        if bytes[at as usize] != 0 {
+            return Some(at);
+        }
+    }
+    None
+}
