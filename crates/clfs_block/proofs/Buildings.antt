@@ -1,5 +1,5 @@
 -- What a builder's fields say of what it shows.
-use Rattle.std.proofs.Common.{◌≡◌, ℕ, ◌+◌, ◌-◌, ◌≤◌, Bool, true, false, cond, List, ◌++◌, length, drop, Option, Some, None, refl, sym, ◌∙◌, ap, arith}
+use Rattle.std.proofs.Common.{◌≡◌, ℕ, ◌≤◌, Bool, true, false, cond, List, ◌++◌, length, drop, Option, Some, None, refl, ◌∙◌, ap, arith}
 use Rattle.std.proofs.Common.{length-drop}
 use Rattle.std.proofs.lemmas.List.{drop-append-le}
 use Rattle.clfs_block.specs.Frame.{payload_of, used_bytes}

@@ -1,9 +1,8 @@
 -- Where the payload of a block stands.
-use Rattle.std.proofs.Common.{◌≡◌, ◌⊎◌, inl, inr, ⊎_elim, ℕ, zero, suc, ◌+◌, ◌-◌, ◌*◌, ◌/◌, ◌%◌, ◌<◌, ◌≤◌, min, List, [], ◌++◌, map, length, get_or, take}
+use Rattle.std.proofs.Common.{◌≡◌, ⊎_elim, ℕ, ◌+◌, ◌-◌, ◌*◌, ◌%◌, ◌<◌, ◌≤◌, List, ◌++◌, length, get_or, take}
 use Rattle.std.proofs.Common.{drop, refl, sym, ◌∙◌, ap, arith}
-use Rattle.std.specs.List.{range_with_len}
 use Rattle.std.proofs.Common.{length-append, length-drop}
-use Rattle.std.proofs.lemmas.List.{ext_get_or, length-take, length-take-le, get_or-take, get_or-drop, get_or_append_left, get_or-append_right}
+use Rattle.std.proofs.lemmas.List.{ext_get_or, length-take-le, get_or-take, get_or-drop, get_or_append_left, get_or-append_right}
 use Rattle.std.proofs.lemmas.List.FromFn.{length-map-range_with_len, get_or-map-range_with_len}
 use Rattle.std.proofs.lemmas.Bool.{cases_lt}
 use Rattle.clfs_block.specs.Frame.{place_of, payload_of}
@@ -29,14 +28,14 @@ payload_more sector count block few room =
     let size : length back ≡ count = length-take-le count (drop (512 * sector) block) (omega (arith, room, length-drop (512 * sector) block)) in
     payload_is (504 * sector + count) block (front ++ back) (omega (arith, size, length-append front back, length-payload_of (504 * sector) block))
     (λ p lt. ⊎_elim
-      (λ (low : p < 504 * sector). get_or_append_left front back 0 p (omega (arith, low, length-payload_of (504 * sector) block))
-          ∙ get_or-payload_of (504 * sector) block p low)
-      (λ (high : 504 * sector ≤ p).
-          let place : 512 * sector + (p - 504 * sector) ≡ place_of p = omega (arith, high, lt, few) in
-          get_or-append_right front back (504 * sector) p 0 (length-payload_of (504 * sector) block) high
-          ∙ get_or-take count (drop (512 * sector) block) (p - 504 * sector) 0 (omega (arith, high, lt))
-          ∙ get_or-drop (512 * sector) block (p - 504 * sector) 0 ∙ ap (λ (k : ℕ). get_or block k 0) place)
-      (cases_lt p (504 * sector)))
+    (λ (low : p < 504 * sector). get_or_append_left front back 0 p (omega (arith, low, length-payload_of (504 * sector) block))
+    ∙ get_or-payload_of (504 * sector) block p low)
+    (λ (high : 504 * sector ≤ p).
+    let place : 512 * sector + (p - 504 * sector) ≡ place_of p = omega (arith, high, lt, few) in
+    get_or-append_right front back (504 * sector) p 0 (length-payload_of (504 * sector) block) high
+    ∙ get_or-take count (drop (512 * sector) block) (p - 504 * sector) 0 (omega (arith, high, lt))
+    ∙ get_or-drop (512 * sector) block (p - 504 * sector) 0 ∙ ap (λ (k : ℕ). get_or block k 0) place)
+    (cases_lt p (504 * sector)))
 
 -- bytes that are put behind a payload, in the sector of its end, go on with it
 pub payload_pushed : (used : ℕ) (buffer part now : List ℕ) → length buffer ≡ place_of used → used % 504 + length part ≤ 504
@@ -45,19 +44,19 @@ pub payload_pushed : (used : ℕ) (buffer part now : List ℕ) → length buffer
 payload_pushed used buffer part now place few agree =
     let front = payload_of used buffer in
     sym (payload_is (used + length part) now (front ++ part) (omega (arith, length-append front part, length-payload_of used buffer))
-      (λ p lt. ⊎_elim
-        (λ (low : p < used).
-            let within : place_of p < length buffer = omega (arith, low, place) in
-            get_or_append_left front part 0 p (omega (arith, low, length-payload_of used buffer)) ∙ get_or-payload_of used buffer p low
-            ∙ sym (agree (place_of p) (omega (arith, within)) ∙ get_or_append_left buffer part 0 (place_of p) within))
-        (λ (high : used ≤ p).
-            let past : length buffer ≤ place_of p = omega (arith, high, lt, few, place) in
-            let index : place_of p - length buffer ≡ p - used = omega (arith, high, lt, few, place) in
-            let within : place_of p < length buffer + length part = omega (arith, high, lt, few, place) in
-            get_or-append_right front part used p 0 (length-payload_of used buffer) high
-            ∙ sym (agree (place_of p) within ∙ get_or-append_right buffer part (length buffer) (place_of p) 0 refl past ∙ ap
-                (λ (k : ℕ). get_or part k 0) index))
-        (cases_lt p used)))
+    (λ p lt. ⊎_elim
+    (λ (low : p < used).
+    let within : place_of p < length buffer = omega (arith, low, place) in
+    get_or_append_left front part 0 p (omega (arith, low, length-payload_of used buffer)) ∙ get_or-payload_of used buffer p low
+    ∙ sym (agree (place_of p) (omega (arith, within)) ∙ get_or_append_left buffer part 0 (place_of p) within))
+    (λ (high : used ≤ p).
+    let past : length buffer ≤ place_of p = omega (arith, high, lt, few, place) in
+    let index : place_of p - length buffer ≡ p - used = omega (arith, high, lt, few, place) in
+    let within : place_of p < length buffer + length part = omega (arith, high, lt, few, place) in
+    get_or-append_right front part used p 0 (length-payload_of used buffer) high
+    ∙ sym (agree (place_of p) within ∙ get_or-append_right buffer part (length buffer) (place_of p) 0 refl past ∙ ap
+    (λ (k : ℕ). get_or part k 0) index))
+    (cases_lt p used)))
 
 -- the places of a payload and of what stands behind it
 pub place_below : (p used : ℕ) → p < used → place_of p < place_of used

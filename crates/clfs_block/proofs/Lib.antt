@@ -1,5 +1,6 @@
 mod Buildings
 mod Frames
+mod Reading
 mod Sealing
 mod Searches
 mod Splices

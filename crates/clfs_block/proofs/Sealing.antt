@@ -1,7 +1,7 @@
 -- A buffer whose payload stands at its places becomes a block once header, zeros and addresses are written.
-use Rattle.std.proofs.Common.{◌≡◌, ◌⊎◌, inl, inr, ⊎_elim, ℕ, ◌+◌, ◌-◌, ◌*◌, ◌%◌, ◌<◌, ◌≤◌, List, [], ◌∷◌, ◌++◌, length, get_or, drop, replicate}
-use Rattle.std.proofs.Common.{refl, sym, ◌∙◌, ap, subst, arith, length-append, length-drop}
-use Rattle.std.proofs.lemmas.List.{ext_get_or, get_or-drop, get_or_append_left, get_or-append_right, get_or-replicate, get_or_past, length-replicate, drop_at}
+use Rattle.std.proofs.Common.{◌≡◌, ⊎_elim, ℕ, ◌+◌, ◌-◌, ◌*◌, ◌%◌, ◌<◌, ◌≤◌, List, ◌++◌, length, get_or, drop, replicate}
+use Rattle.std.proofs.Common.{refl, sym, ◌∙◌, ap, arith, length-append, length-drop}
+use Rattle.std.proofs.lemmas.List.{get_or-drop, get_or_append_left, get_or-append_right, get_or-replicate, get_or_past, length-replicate, drop_at}
 use Rattle.std.proofs.lemmas.Bool.{cases_lt}
 use Rattle.clfs_lsn.specs.Size.{sectors}
 use Rattle.clfs_block.specs.Frame.{place_of, payload_of, address, address_in, header_bytes, used_bytes, SpellsBlock}
@@ -29,21 +29,27 @@ module _ (start records used count m : ℕ) (old headed bytes : List ℕ) (place
 
   pub used_is : payload_of used bytes ≡ header_bytes 0 count records used ++ drop 16 (payload_of used old)
   used_is = sym (payload_is used bytes (header_bytes 0 count records used ++ drop 16 (payload_of used old))
-      (omega (arith, some, length-append (header_bytes 0 count records used) (drop 16 (payload_of used old)), length-drop 16
-          (payload_of used old), length-payload_of used old))
+      (omega (
+        arith,
+        some,
+        length-append (header_bytes 0 count records used) (drop 16 (payload_of used old)),
+        length-drop 16
+            (payload_of used old),
+        length-payload_of used old,
+      ))
       (λ p lt. ⊎_elim
-        (λ (low : p < 16).
-            let here : place_of p ≡ p = omega (arith, low) in
-            get_or_append_left (header_bytes 0 count records used) (drop 16 (payload_of used old)) 0 p low ∙ sym (in_header p low)
-            ∙ sym (ap (λ (k : ℕ). get_or bytes k 0) here ∙ same p (omega (arith, low))))
-        (λ (high : 16 ≤ p).
-            let index : 16 + (p - 16) ≡ p = omega (arith, high) in
-            let within : place_of p < length old = omega (arith, place_below p used lt, place) in
-            let past : 16 ≤ place_of p = omega (arith, high) in
-            get_or-append_right (header_bytes 0 count records used) (drop 16 (payload_of used old)) 16 p 0 refl high
-            ∙ get_or-drop 16 (payload_of used old) (p - 16) 0 ∙ ap (λ (n : ℕ). get_or (payload_of used old) n 0) index ∙ get_or-payload_of used old p lt
-            ∙ sym (same (place_of p) (place_in_payload p) ∙ behind_header (place_of p) past ∙ get_or_append_left old (replicate m 0) 0 (place_of p) within))
-        (cases_lt p 16)))
+      (λ (low : p < 16).
+      let here : place_of p ≡ p = omega (arith, low) in
+      get_or_append_left (header_bytes 0 count records used) (drop 16 (payload_of used old)) 0 p low ∙ sym (in_header p low)
+      ∙ sym (ap (λ (k : ℕ). get_or bytes k 0) here ∙ same p (omega (arith, low))))
+      (λ (high : 16 ≤ p).
+      let index : 16 + (p - 16) ≡ p = omega (arith, high) in
+      let within : place_of p < length old = omega (arith, place_below p used lt, place) in
+      let past : 16 ≤ place_of p = omega (arith, high) in
+      get_or-append_right (header_bytes 0 count records used) (drop 16 (payload_of used old)) 16 p 0 refl high
+      ∙ get_or-drop 16 (payload_of used old) (p - 16) 0 ∙ ap (λ (n : ℕ). get_or (payload_of used old) n 0) index ∙ get_or-payload_of used old p lt
+      ∙ sym (same (place_of p) (place_in_payload p) ∙ behind_header (place_of p) past ∙ get_or_append_left old (replicate m 0) 0 (place_of p) within))
+      (cases_lt p 16)))
 
   zeros_are : (p : ℕ) → used ≤ p → get_or bytes (place_of p) 0 ≡ 0
   zeros_are p le =
@@ -51,9 +57,9 @@ module _ (start records used count m : ℕ) (old headed bytes : List ℕ) (place
       same (place_of p) (place_in_payload p) ∙ behind_header (place_of p) (omega (arith, le, some))
       ∙ get_or-append_right old (replicate m 0) (length old) (place_of p) 0 refl past
       ∙ ⊎_elim
-        (λ (lt : place_of p - length old < m). get_or-replicate m (place_of p - length old) 0 0 lt)
-        (λ (far : m ≤ place_of p - length old). get_or_past (replicate m 0) (place_of p - length old) 0 (omega (arith, far, length-replicate {A = ℕ} m 0)))
-        (cases_lt (place_of p - length old) m)
+      (λ (lt : place_of p - length old < m). get_or-replicate m (place_of p - length old) 0 0 lt)
+      (λ (far : m ≤ place_of p - length old). get_or_past (replicate m 0) (place_of p - length old) 0 (omega (arith, far, length-replicate {A = ℕ} m 0)))
+      (cases_lt (place_of p - length old) m)
 
   pub spells : SpellsBlock start 0 records (drop 16 (payload_of used old)) bytes
   unfolding content
@@ -73,7 +79,7 @@ module _ (start records used count m : ℕ) (old headed bytes : List ℕ) (place
   pub content_kept : (more : List ℕ) → drop 16 (payload_of used (bytes ++ more)) ≡ drop 16 (payload_of used old)
   content_kept more =
       let front : payload_of used (bytes ++ more) ≡ payload_of used bytes =
-          payload_is used bytes (payload_of used (bytes ++ more)) (length-payload_of used (bytes ++ more))
-          (λ p lt. get_or-payload_of used (bytes ++ more) p lt
-            ∙ get_or_append_left bytes more 0 (place_of p) (omega (arith, place_within p count (omega (arith, lt, count_is)), long))) in
+      payload_is used bytes (payload_of used (bytes ++ more)) (length-payload_of used (bytes ++ more))
+      (λ p lt. get_or-payload_of used (bytes ++ more) p lt
+      ∙ get_or_append_left bytes more 0 (place_of p) (omega (arith, place_within p count (omega (arith, lt, count_is)), long))) in
       ap (λ (l : List ℕ). drop 16 l) (front ∙ used_is) ∙ drop_at (header_bytes 0 count records used) (drop 16 (payload_of used old)) 16 refl

@@ -42,9 +42,9 @@ each_passes test from zero e j le lt = absurd (omega (arith, le, lt))
 each_passes test from (suc n) e j le lt =
     let parts = none_or (test from) from (first_failing test (from + 1) n) e in
     ⊎_elim
-      (λ (is : j ≡ from). ap test is ∙ parts.0)
-      (λ apart. each_passes test (from + 1) n parts.1 j (omega (arith, le, apart)) (omega (arith, lt)))
-      (cases_eq j from)
+    (λ (is : j ≡ from). ap test is ∙ parts.0)
+    (λ apart. each_passes test (from + 1) n parts.1 j (omega (arith, le, apart)) (omega (arith, lt)))
+    (cases_eq j from)
 
 -- payload bytes that stand in a row
 pub payload_in_row : (bytes : List ℕ) (p at n : ℕ) → ((j : ℕ) → j < n → place_of (p + j) ≡ at + j)

@@ -1,11 +1,11 @@
 -- The first wrong byte of bytes that are to begin with an open block.
-use Rattle.std.specs.Prelude.{◌≡◌, ◌⊎◌, ℕ, zero, suc, ◌+◌, ◌-◌, ◌*◌, ◌/◌, ◌≤◌, Bool, not, ◌||◌, ◌==◌, nat_lt, if◌then◌else◌, List, length, drop}
+use Rattle.std.specs.Prelude.{ℕ, zero, suc, ◌+◌, ◌-◌, ◌*◌, ◌/◌, ◌^◌, ◌<◌, ◌≤◌, Bool, not, ◌||◌, ◌==◌, nat_lt, if◌then◌else◌, List, length, drop}
 use Rattle.std.specs.Prelude.{slice_index, Option, Some, None, Result, Ok, Err}
 use Rattle.byteorder.specs.Endian.{little_number}
 use Rattle.clfs_lsn.specs.Lsn.{offset_of}
 use Rattle.clfs_lsn.specs.Size.{sectors}
 use Rattle.clfs_lsn.specs.declared.shape.Shape.{Shape}
-use Rattle.clfs_block.specs.Frame.{place_of, address, address_in}
+use Rattle.clfs_block.specs.Frame.{place_of, address, address_in, used_bytes}
 use Rattle.clfs_block.specs.declared.head.BlockHead.{BlockHead}
 use Rattle.clfs_block.specs.declared.head.BlockRefusal.{BlockRefusal}
 use Rattle.clfs_block.specs.declared.head.BlockRefusal.TheVariants.{Closed, BadByte}
@@ -21,6 +21,16 @@ left_from shape start = shape.container_sectors - offset_of start / 512
 -- A block has at least one sector, and at most those of the largest block and those that are left in its container.
 abbrev pub is_wrong_count : Shape → ℕ → ℕ → Bool
 is_wrong_count shape start count = (count == 0) || (nat_lt shape.block_sectors count || nat_lt (left_from shape start) count)
+
+-- So many sectors are none too many for the log, for what is left of the container, and for the header's field.
+pub record IsCount (shape : Shape) (start count : ℕ) : Type 0 where
+  pub largest : count ≤ shape.block_sectors
+  pub left : count ≤ left_from shape start
+  pub field : count < 2 ^ 16
+
+-- The header's numbers of a block with so many records, whose bytes these are.
+abbrev pub head_for : ℕ → List ℕ → BlockHead
+head_for records content = record { sectors = sectors (used_bytes content); records = records; used = used_bytes content }
 
 -- A block has 1 to 511 records.
 abbrev pub is_wrong_records : ℕ → Bool

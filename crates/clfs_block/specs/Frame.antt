@@ -1,6 +1,6 @@
 -- How a block's payload stands in its sectors: 504 bytes of payload in each sector of 512, and behind them the sector's address.
 -- The payload is a header of 16 bytes, the records, and zeros. All numbers are little-endian.
-use Rattle.std.specs.Prelude.{◌≡◌, ℕ, ◌+◌, ◌-◌, ◌*◌, ◌/◌, ◌%◌, ◌<◌, List, [], ◌∷◌, ◌++◌, map, length, drop, slice_index, replicate}
+use Rattle.std.specs.Prelude.{◌≡◌, ℕ, ◌+◌, ◌*◌, ◌/◌, ◌%◌, ◌<◌, List, [], ◌∷◌, ◌++◌, map, length, drop, slice_index}
 use Rattle.std.specs.List.{range_with_len}
 use Rattle.byteorder.specs.Endian.{little_number, little_bytes}
 use Rattle.clfs_lsn.specs.Lsn.{lsn_number, container_of, offset_of}

@@ -47,10 +47,10 @@ impl Model for BlockBuilder {
     ghost Value = { Building };
 
     ghost view = { λ a. record {
-        room = a.room;
-        records = a.records;
-        content = drop 16 (payload_of a.used a.buffer.items);
-        sealed = if a.is_sealed then Some a.buffer.items else None;
+      room = a.room;
+      records = a.records;
+      content = drop 16 (payload_of a.used a.buffer.items);
+      sealed = if a.is_sealed then Some a.buffer.items else None;
     } };
 
     ghost invariant = { λ a. IsBuilt a.buffer.items (vec_capacity a.buffer) a.used a.records a.room a.is_sealed };
@@ -252,6 +252,10 @@ fn write_addresses(buffer: &mut Vec<u8>, start: Lsn, count: u32)
 {
     let first = start.container() as u64 * (1 << 32) + start.offset() as u64;
     for sector in 0..count {
-        put_number(buffer, SECTOR * sector as usize + PAYLOAD, first + SECTOR as u64 * sector as u64);
+        put_number(
+            buffer,
+            SECTOR * sector as usize + PAYLOAD,
+            first + SECTOR as u64 * sector as u64,
+        );
     }
 }

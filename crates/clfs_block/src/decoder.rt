@@ -5,7 +5,7 @@ ghost use Rattle.byteorder.specs.Endian.{little_number};
 ghost use Rattle.clfs_lsn.specs.Lsn.{container_of, offset_of, lsn_number};
 ghost use Rattle.clfs_lsn.specs.Size.{sectors};
 ghost use Rattle.clfs_block.specs.Frame.{place_of, payload_of, address, address_in, used_bytes, used_payload, SpellsBlock};
-ghost use Rattle.clfs_block.specs.Checks.{head_of, left_from, is_wrong_count, is_wrong_records, header_fault, wrong_sector, first_failing, sectors_at, frame_at, rest_at, block_at};
+ghost use Rattle.clfs_block.specs.Checks.{head_of, left_from, is_wrong_count, is_wrong_records, header_fault, head_for, IsCount, wrong_sector, first_failing, sectors_at, frame_at, rest_at, block_at};
 ghost use Rattle.clfs_block.specs.declared.head.BlockRefusal.TheVariants.{NoMemory};
 
 use crate::buffer::push_reserved;
@@ -26,9 +26,24 @@ const OPEN: u8 = 0xA5;
 
 /// The block at the front of bytes that are to hold one at this place, all checked but its records. Its used payload, of
 /// which the first 16 bytes are the header, takes the place of what `payload` held, before the bytes behind it are checked.
-pub fn decode_block(alloc: Global, shape: &Shape, start: Lsn, bytes: &[u8], payload: &mut Bytes) -> Result<BlockHead, BlockRefusal>
+pub fn decode_block(
+    alloc: Global,
+    shape: &Shape,
+    start: Lsn,
+    bytes: &[u8],
+    payload: &mut Bytes,
+) -> Result<BlockHead, BlockRefusal>
     // Where no memory is left nothing has changed; else the answer is the first check that fails, or the block.
     ensures exact { (result ≡ Err NoMemory) ⊎ (result ≡ block_at shape.now start bytes.now) }
+
+    // What is read is spelled so, where the used bytes have a whole header.
+    ensures found { IfOk result (λ head. 16 ≤ head.used → (used_bytes (drop 16 payload.new) ≡ head.used)
+        × SpellsBlock start 165 head.records (drop 16 payload.new) (take (512 * head.sectors) bytes.now)) }
+
+    // What is spelled so is read, whatever follows it, where the block is none too large for the log and its container.
+    ensures only { (records : ℕ) (content block more : List ℕ) → SpellsBlock start 165 records content block → (1 ≤ records) × (records ≤ 511)
+        → IsCount shape.now start (sectors (used_bytes content)) → bytes.now ≡ block ++ more
+        → (result ≡ Err NoMemory) ⊎ ((result ≡ Ok (head_for records content)) × (payload.new ≡ used_payload 165 records content)) }
 
     // The payload is filled where all up to the addresses is right, and else as it was.
     ensures filled { (head : BlockHead) → frame_at shape.now start bytes.now ≡ Ok head → (result ≡ Err NoMemory → ⊥)
@@ -105,7 +120,9 @@ fn wrong_header(shape: &Shape, start: Lsn, bytes: &[u8]) -> Option<u32>
 fn is_wrong_count(shape: &Shape, start: Lsn, count: u32) -> bool
     ensures { result ≡ is_wrong_count shape.now start count }
 {
-    let left = shape.container_sectors.saturating_sub(start.offset() / SECTOR as u32);
+    let left = shape
+        .container_sectors
+        .saturating_sub(start.offset() / SECTOR as u32);
     count == 0 || (shape.block_sectors < count || left < count)
 }
 

@@ -15,3 +15,6 @@ mod head;
 pub use builder::BlockBuilder;
 pub use decoder::decode_block;
 pub use head::{BlockHead, BlockRefusal};
+
+#[cfg(test)]
+mod tests;

@@ -1,6 +1,5 @@
-use Rattle.std.proofs.Common.{◌≡◌, ◌+◌, ◌*◌, ◌<◌, ◌≤◌, ◌%◌, ◌^◌, ◌⊎◌, ⊎_elim, ℕ, List, length, get_or, ap, sym, ◌∙◌, subst, arith}
+use Rattle.std.proofs.Common.{◌≡◌, ◌+◌, ◌*◌, ◌<◌, ◌≤◌, ◌^◌, ⊎_elim, ℕ, length, sym, ◌∙◌, subst, arith}
 use Rattle.std.proofs.lemmas.Bool.{cases_lt, cases_eq}
-use Rattle.clfs_lsn.specs.Lsn.{container_of, offset_of}
 use Rattle.clfs_block.specs.Frame.{address, address_in}
 use Rattle.clfs_block.proofs.Splices.{length-spliced, spliced_below, spliced_above, number_spliced, same_address}
 use Rattle.clfs_block.proofs.builder.write_addresses.Goals as goal
@@ -28,7 +27,7 @@ loop-sector-preserved c =
       done = λ i until. ⊎_elim
           (λ (here : i ≡ s). subst (λ (j : ℕ). address_in new j ≡ address c.args.start j) (sym here) (number_spliced old at number room new put small ∙ is))
           (λ apart. same_address new old i (λ k from to. spliced_below old at number room new put k (omega (arith, until, apart, to)))
-            ∙ kept.done i (omega (arith, until, apart)))
+          ∙ kept.done i (omega (arith, until, apart)))
           (cases_eq i s);
       capacity = c.put_number.ensures.capacity ∙ kept.capacity;
     }

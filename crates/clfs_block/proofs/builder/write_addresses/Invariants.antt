@@ -1,4 +1,4 @@
-use Rattle.std.proofs.Common.{◌≡◌, ◌+◌, ◌*◌, ◌%◌, ◌<◌, ◌≤◌, ℕ, length, get_or, vec_capacity}
+use Rattle.std.proofs.Common.{◌≡◌, ◌*◌, ◌%◌, ◌<◌, ℕ, length, get_or, vec_capacity}
 use Rattle.clfs_block.specs.Frame.{address, address_in}
 use Rattle.clfs_block.proofs.builder.write_addresses.Given as goal
 

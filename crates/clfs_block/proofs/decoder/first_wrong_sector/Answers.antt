@@ -1,4 +1,4 @@
-use Rattle.std.proofs.Common.{◌≡◌, ◌+◌, ◌*◌, ℕ, Bool, true, false, eqb, sym, ◌∙◌, ap, arith}
+use Rattle.std.proofs.Common.{◌≡◌, ◌+◌, ◌*◌, ℕ, true, false, eqb, sym, ◌∙◌, ap, arith}
 use Rattle.clfs_block.specs.Frame.{address, address_in}
 use Rattle.clfs_block.proofs.Searches.{passes_on, fails_here}
 use Rattle.clfs_block.proofs.decoder.first_wrong_sector.Goals as goal
@@ -10,7 +10,7 @@ loop-sector-preserved c =
     let bytes = c.args.bytes.now in
     let is : c.container.result * 4294967296 + c.offset.result + 512 * i ≡ address start i = omega (arith, c.container.ensures.value, c.offset.ensures.value) in
     let right : eqb (address_in bytes i) (address start i) ≡ true =
-      ap (λ (n : ℕ). eqb (address_in bytes i) n) (sym is) ∙ sym c.has_address.ensures ∙ c.if-not-has_address.false in
+    ap (λ (n : ℕ). eqb (address_in bytes i) n) (sym is) ∙ sym c.has_address.ensures ∙ c.if-not-has_address.false in
     passes_on (λ k. eqb (address_in bytes k) (address start k)) i c.args.count c.loop-sector-test.true right ∙ c.loop-sector.invariant
 
 pub returns-then-not-has_address-clause-exact : goal.returns-then-not-has_address-clause-exact
@@ -20,5 +20,5 @@ returns-then-not-has_address-clause-exact c =
     let bytes = c.args.bytes.now in
     let is : c.container.result * 4294967296 + c.offset.result + 512 * i ≡ address start i = omega (arith, c.container.ensures.value, c.offset.ensures.value) in
     let wrong : eqb (address_in bytes i) (address start i) ≡ false =
-      ap (λ (n : ℕ). eqb (address_in bytes i) n) (sym is) ∙ sym c.has_address.ensures ∙ c.if-not-has_address.true in
+    ap (λ (n : ℕ). eqb (address_in bytes i) n) (sym is) ∙ sym c.has_address.ensures ∙ c.if-not-has_address.true in
     sym (fails_here (λ k. eqb (address_in bytes k) (address start k)) i c.args.count c.loop-sector-test.true wrong) ∙ c.loop-sector.invariant

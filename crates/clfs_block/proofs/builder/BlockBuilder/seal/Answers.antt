@@ -1,6 +1,6 @@
-use Rattle.std.proofs.Common.{◌≡◌, ◌+◌, ◌*◌, ◌≤◌, ◌++◌, ◌∷◌, [], ℕ, List, Some, length, drop, ap, sym, ◌∙◌, arith, subst, length-append}
+use Rattle.std.proofs.Common.{◌∷◌, [], ℕ, List, Some, length, drop, ap, sym, ◌∙◌, arith, subst, length-append}
 use Rattle.clfs_lsn.specs.Size.{sectors}
-use Rattle.clfs_block.specs.Frame.{payload_of, used_bytes, SpellsBlock}
+use Rattle.clfs_block.specs.Frame.{payload_of, SpellsBlock}
 use Rattle.clfs_block.specs.Building.{Building}
 use Rattle.clfs_block.proofs.Buildings.{content_size, same_building}
 use Rattle.clfs_block.proofs.builder.BlockBuilder.seal.Goals as goal
@@ -8,15 +8,15 @@ use Rattle.clfs_block.proofs.builder.BlockBuilder.seal.Goals as goal
 pub seal_buffer-requires-clause-container : goal.seal_buffer-requires-clause-container
 seal_buffer-requires-clause-container c =
     let used_is = content_size c.self.inside.used c.self.inside.buffer.items c.args.self.now.content c.self.invariant.header (ap
-        (λ (b : Building). b.content) c.self.view_is) in
+    (λ (b : Building). b.content) c.self.view_is) in
     omega (arith, c.requires.container, ap sectors used_is, c.sectors_of-count.ensures)
 
 pub invariant_of-self : goal.invariant_of-self
 invariant_of-self c =
     let sealed = c.seal_buffer.ensures.sealed in
     let size = content_size c.self.inside.used c.self.inside.buffer.items
-        (drop 16 (payload_of c.self.inside.used c.self.inside.buffer.items)) c.self.invariant.header
-        (λ i. drop 16 (payload_of c.self.inside.used c.self.inside.buffer.items)) in
+    (drop 16 (payload_of c.self.inside.used c.self.inside.buffer.items)) c.self.invariant.header
+    (λ i. drop 16 (payload_of c.self.inside.used c.self.inside.buffer.items)) in
     record {
       memory = omega (arith, c.self.invariant.memory, c.seal_buffer.ensures.capacity);
       largest = c.self.invariant.largest;
@@ -29,7 +29,7 @@ invariant_of-self c =
 pub returns-clause-sectors : goal.returns-clause-sectors
 returns-clause-sectors c =
     let used_is = content_size c.self.inside.used c.self.inside.buffer.items c.args.self.now.content c.self.invariant.header (ap
-        (λ (b : Building). b.content) c.self.view_is) in
+    (λ (b : Building). b.content) c.self.view_is) in
     c.sectors_of-count.ensures ∙ ap sectors (sym used_is)
 
 pub returns-clause-sealed : goal.returns-clause-sealed

@@ -1,0 +1,324 @@
+-- What is read is spelled so, and what is spelled so is read.
+use Rattle.std.proofs.Common.{◌≡◌, ℕ, ◌+◌, ◌-◌, ◌*◌, ◌/◌, ◌%◌, ◌^◌, ◌<◌, ◌≤◌, Bool, true, false, cond, eqb, ltb}
+use Rattle.std.proofs.Common.{not, ◌||◌}
+use Rattle.std.proofs.Common.{List, [], ◌∷◌, ◌++◌, length, get_or, take, drop, Option, Some, None, Result, Ok, Err, IfOk, refl, sym, ◌∙◌, ap, subst, arith}
+use Rattle.std.proofs.Common.{length-append, length-drop, take-append-drop}
+use Rattle.std.proofs.lemmas.List.{length-take-le, get_or-take, get_or-drop, get_or_append_left}
+use Rattle.std.proofs.lemmas.List.FromFn.{take-map-range_with_len}
+use Rattle.std.proofs.lemmas.Bool.{ltb-false, le-ltb, eqb-true, eq-eqb, not-false, ne_eqb}
+use Rattle.std.proofs.lemmas.Bool.Decides.{nat_tests}
+use Rattle.byteorder.specs.Endian.{little_number}
+use Rattle.clfs_lsn.specs.Size.{sectors}
+use Rattle.clfs_lsn.specs.declared.shape.Shape.{Shape}
+use Rattle.clfs_block.specs.Frame.{place_of, payload_of, address, address_in, header_bytes, used_bytes, used_payload, SpellsBlock}
+use Rattle.clfs_block.specs.Checks.{head_of, left_from, is_wrong_count, is_wrong_records, header_fault, wrong_sector, other_byte}
+use Rattle.clfs_block.specs.Checks.{unless_wrong, address_place, payload_place}
+use Rattle.clfs_block.specs.Checks.{sectors_at, frame_at, rest_at, head_for, IsCount}
+use Rattle.clfs_block.specs.declared.head.BlockHead.{BlockHead}
+use Rattle.clfs_block.specs.declared.head.BlockRefusal.{BlockRefusal}
+use Rattle.clfs_block.specs.declared.head.BlockRefusal.TheVariants.{BadByte}
+use Rattle.clfs_block.proofs.Frames.{length-payload_of, get_or-payload_of, payload_is, place_within}
+use Rattle.clfs_block.proofs.Searches.{none_fails, each_passes}
+use Rattle.clfs_block.proofs.Splices.{same_address}
+
+abbrev pub IsBytes : List ℕ → Type 0
+IsBytes bytes = (i : ℕ) → get_or bytes i 0 < 256
+
+abbrev answered : BlockHead → Result BlockHead BlockRefusal
+answered head = Ok head
+
+-- ---- what checks that hold say
+
+pass_check : (b : Bool) (at : ℕ) (rest : Option ℕ) → b ≡ false → rest ≡ None → cond b (Some at) rest ≡ None
+pass_check b at rest p q = ap (λ c. cond c (Some at) rest) p ∙ q
+
+no_fault : (b : Bool) (at : ℕ) (rest : Option ℕ) → cond b (Some at) rest ≡ None → (b ≡ false) × (rest ≡ None)
+no_fault true at rest e = absurd (cc e)
+no_fault false at rest e = (refl, e)
+
+pass_guard : (b : Bool) (refusal : BlockRefusal) (answer other : Result BlockHead BlockRefusal) → b ≡ false → answer ≡ other
+    → cond b (Err refusal) answer ≡ other
+pass_guard b refusal answer other p q = ap (λ c. cond c (Err refusal) answer) p ∙ q
+
+guard_ok : (b : Bool) (refusal : BlockRefusal) (answer : Result BlockHead BlockRefusal) (head : BlockHead) → cond b (Err refusal) answer ≡ Ok head
+    → (b ≡ false) × (answer ≡ Ok head)
+guard_ok true refusal answer head e = absurd (cc e)
+guard_ok false refusal answer head e = (refl, e)
+
+unless_ok : (wrong : Option ℕ) (answer : Result BlockHead BlockRefusal) (head : BlockHead) → unless_wrong wrong answer ≡ Ok head → (wrong ≡ None)
+    × (answer ≡ Ok head)
+unless_ok None answer head e = (refl, e)
+unless_ok (Some at) answer head e = absurd (cc e)
+
+no_address : (o : Option ℕ) → address_place o ≡ None → o ≡ None
+no_address None e = refl
+no_address (Some i) e = absurd (cc e)
+
+no_payload : (o : Option ℕ) → payload_place o ≡ None → o ≡ None
+no_payload None e = refl
+no_payload (Some i) e = absurd (cc e)
+
+equal : (a b : ℕ) → not (eqb a b) ≡ false → a ≡ b
+equal a b e = eqb-true a b (not-false (eqb a b) e)
+
+unequal_fails : (a b : ℕ) → a ≡ b → not (eqb a b) ≡ false
+unequal_fails a b e = ap not (eq-eqb a b e)
+
+pub one_head : (a b : BlockHead) → answered a ≡ answered b → a ≡ b
+one_head a b e = cc e
+
+-- ---- the header
+
+byte_behind : (bytes : List ℕ) (at k place : ℕ) → at + k ≡ place → get_or (drop at bytes) k 0 ≡ get_or bytes place 0
+byte_behind bytes at k place is = get_or-drop at bytes k 0 ∙ ap (λ (n : ℕ). get_or bytes n 0) is
+
+two_bytes : (bytes : List ℕ) (at : ℕ) → little_number 2 (drop at bytes) ≡ get_or bytes at 0 + 256 * get_or bytes (at + 1) 0
+two_bytes bytes at = omega (arith, byte_behind bytes at 0 at (omega arith), byte_behind bytes at 1 (at + 1) refl)
+
+four_bytes : (bytes : List ℕ) (at : ℕ) → little_number 4 (drop at bytes)
+    ≡ get_or bytes at 0 + 256 * (get_or bytes (at + 1) 0 + 256 * (get_or bytes (at + 2) 0 + 256 * get_or bytes (at + 3) 0))
+four_bytes bytes at = omega (
+  arith,
+  byte_behind bytes at 0 at (omega arith),
+  byte_behind bytes at 1 (at + 1) refl,
+  byte_behind bytes at 2 (at + 2) refl,
+  byte_behind bytes at 3 (at + 3) refl,
+)
+
+-- the bytes of a number of two bytes, and of four
+parts_2 : (a b : ℕ) → a < 256 → b < 256 → (a ≡ (a + 256 * b) % 256) × (b ≡ (a + 256 * b) / 256 % 256)
+parts_2 a b p q = (omega (arith, p, q), omega (arith, p, q))
+
+parts_4 : (a b c d n : ℕ) → a < 256 → b < 256 → c < 256 → d < 256 → n ≡ a + 256 * (b + 256 * (c + 256 * d))
+    → (a ≡ n % 256) × (b ≡ n / 256 % 256) × (c ≡ n / 65536 % 256) × (d ≡ n / 16777216 % 256)
+parts_4 a b c d n p q r s is = (omega (arith, p, q, r, s, is), omega (arith, p, q, r, s, is), omega (arith, p, q, r, s, is), omega (arith, p, q, r, s, is))
+
+whole_2 : (n : ℕ) → n < 2 ^ 16 → n % 256 + 256 * (n / 256 % 256) ≡ n
+whole_2 n lt = omega (arith, lt)
+
+whole_4 : (n : ℕ) → n < 2 ^ 32 → n % 256 + 256 * (n / 256 % 256 + 256 * (n / 65536 % 256 + 256 * (n / 16777216 % 256))) ≡ n
+whole_4 n lt = omega (arith, lt)
+
+-- a header that passes is spelled by its numbers
+header_is : (bytes : List ℕ) → IsBytes bytes → get_or bytes 0 0 ≡ 165 → get_or bytes 1 0 ≡ 1 → little_number 2 (drop 6 bytes) ≡ 0
+    → little_number 4 (drop 12 bytes) ≡ 0
+    → payload_of 16 bytes ≡ header_bytes 165 (head_of bytes).sectors (head_of bytes).records (head_of bytes).used
+header_is bytes fits gate version zero_2 zero_4 =
+    let b = λ (i : ℕ). get_or bytes i 0 in
+    let count = parts_2 (b 2) (b 3) (fits 2) (fits 3) in
+    let records = parts_2 (b 4) (b 5) (fits 4) (fits 5) in
+    let used = parts_4 (b 8) (b 9) (b 10) (b 11) (head_of bytes).used (fits 8) (fits 9) (fits 10) (fits 11) (four_bytes bytes 8) in
+    let n_is : (head_of bytes).sectors ≡ b 2 + 256 * b 3 = two_bytes bytes 2 in
+    let r_is : (head_of bytes).records ≡ b 4 + 256 * b 5 = two_bytes bytes 4 in
+    let e2 : b 2 ≡ (head_of bytes).sectors % 256 = count.0 ∙ ap (λ (n : ℕ). n % 256) (sym n_is) in
+    let e3 : b 3 ≡ (head_of bytes).sectors / 256 % 256 = count.1 ∙ ap (λ (n : ℕ). n / 256 % 256) (sym n_is) in
+    let e4 : b 4 ≡ (head_of bytes).records % 256 = records.0 ∙ ap (λ (n : ℕ). n % 256) (sym r_is) in
+    let e5 : b 5 ≡ (head_of bytes).records / 256 % 256 = records.1 ∙ ap (λ (n : ℕ). n / 256 % 256) (sym r_is) in
+    let e6 : b 6 ≡ 0 = omega (arith, zero_2, two_bytes bytes 6) in
+    let e7 : b 7 ≡ 0 = omega (arith, zero_2, two_bytes bytes 6) in
+    let e12 : b 12 ≡ 0 = omega (arith, zero_4, four_bytes bytes 12) in
+    let e13 : b 13 ≡ 0 = omega (arith, zero_4, four_bytes bytes 12) in
+    let e14 : b 14 ≡ 0 = omega (arith, zero_4, four_bytes bytes 12) in
+    let e15 : b 15 ≡ 0 = omega (arith, zero_4, four_bytes bytes 12) in
+    λ i. gate i ∷ version i ∷ e2 i ∷ e3 i ∷ e4 i ∷ e5 i ∷ e6 i ∷ e7 i ∷ used.0 i ∷ used.1 i ∷ used.2 i ∷ used.3 i ∷ e12 i ∷ e13 i ∷ e14 i ∷ e15 i ∷ []
+
+-- the version is 1, the zeros are zero and the used bytes take the sectors
+checks_held : (shape : Shape) (start : ℕ) (bytes : List ℕ) → header_fault shape start bytes ≡ None
+    → (get_or bytes 1 0 ≡ 1) × (little_number 2 (drop 6 bytes) ≡ 0) × (sectors (head_of bytes).used ≡ (head_of bytes).sectors)
+    × (little_number 4 (drop 12 bytes) ≡ 0)
+checks_held shape start bytes e =
+    let n = (head_of bytes).sectors in
+    let after_used : Option ℕ = cond (not (eqb (little_number 4 (drop 12 bytes)) 0)) (Some 12) None in
+    let after_zero : Option ℕ = cond (not (eqb (sectors (head_of bytes).used) n)) (Some 8) after_used in
+    let after_records : Option ℕ = cond (not (eqb (little_number 2 (drop 6 bytes)) 0)) (Some 6) after_zero in
+    let after_count : Option ℕ = cond (is_wrong_records (head_of bytes).records) (Some 4) after_records in
+    let after_version : Option ℕ = cond (is_wrong_count shape start n) (Some 2) after_count in
+    let version = no_fault (not (eqb (get_or bytes 1 0) 1)) 1 after_version e in
+    let count = no_fault (is_wrong_count shape start n) 2 after_count version.1 in
+    let records = no_fault (is_wrong_records (head_of bytes).records) 4 after_records count.1 in
+    let zero = no_fault (not (eqb (little_number 2 (drop 6 bytes)) 0)) 6 after_zero records.1 in
+    let used = no_fault (not (eqb (sectors (head_of bytes).used) n)) 8 after_used zero.1 in
+    let last = no_fault (not (eqb (little_number 4 (drop 12 bytes)) 0)) 12 None used.1 in
+    (equal _ _ version.0, equal _ _ zero.0, equal _ _ used.0, equal _ _ last.0)
+
+-- ---- what is read is spelled so
+
+module _ (shape : Shape) (start : ℕ) (bytes : List ℕ) (head : BlockHead) (fits : IsBytes bytes) (is : frame_at shape start bytes ≡ Ok head)
+    (rest_is : rest_at bytes head ≡ Ok head) (some : 16 ≤ head.used) where
+  pub spelled_by : (used_bytes (drop 16 (payload_of head.used bytes)) ≡ head.used)
+      × SpellsBlock start 165 head.records (drop 16 (payload_of head.used bytes)) (take (512 * head.sectors) bytes)
+  unfolding frame_at sectors_at
+  spelled_by =
+      let a = guard_ok _ _ _ _ is in
+      let b = guard_ok _ _ _ _ a.1 in
+      let c = guard_ok _ _ _ _ b.1 in
+      let d = unless_ok (header_fault shape start bytes) (sectors_at start bytes (head_of bytes)) head c.1 in
+      let e : (ltb (length bytes) (512 * (head_of bytes).sectors) ≡ false)
+      × (unless_wrong (address_place (wrong_sector start bytes (head_of bytes).sectors)) (answered (head_of bytes)) ≡ Ok head) =
+      guard_ok (ltb (length bytes) (512 * (head_of bytes).sectors)) (BadByte (length bytes)) _ head d.1 in
+      let f = unless_ok (address_place (wrong_sector start bytes (head_of bytes).sectors)) (answered (head_of bytes)) head e.1 in
+      let same : head_of bytes ≡ head = one_head _ _ f.1 in
+      let v = checks_held shape start bytes d.0 in
+      let count : sectors head.used ≡ head.sectors = subst (λ (h : BlockHead). sectors h.used ≡ h.sectors) same
+      v.2 in
+      let whole : 512 * head.sectors ≤ length bytes = subst (λ (h : BlockHead). 512 * h.sectors ≤ length bytes) same
+      (ltb-false (length bytes) (512 * (head_of bytes).sectors) e.0) in
+      let right : wrong_sector start bytes head.sectors ≡ None = subst
+      (λ (h : BlockHead). wrong_sector start bytes h.sectors ≡ None) same (no_address (wrong_sector start bytes (head_of bytes).sectors) f.0) in
+      let clean : other_byte bytes head.used head.sectors ≡ None = no_payload (other_byte bytes head.used head.sectors)
+      (unless_ok (payload_place (other_byte bytes head.used head.sectors)) (answered head) head rest_is).0 in
+      let header : payload_of 16 bytes ≡ header_bytes 165 head.sectors head.records head.used =
+      header_is bytes fits (equal (get_or bytes 0 0) 165 b.0) v.0 v.1
+      v.3
+      ∙ ap (λ (h : BlockHead). header_bytes 165 h.sectors h.records h.used) same in
+      facts count whole right clean header
+    where
+      facts : sectors head.used ≡ head.sectors → 512 * head.sectors ≤ length bytes → wrong_sector start bytes head.sectors ≡ None
+          → other_byte bytes head.used head.sectors ≡ None
+          → payload_of 16 bytes ≡ header_bytes 165 head.sectors head.records head.used
+          → (used_bytes (drop 16 (payload_of head.used bytes)) ≡ head.used)
+          × SpellsBlock start 165 head.records (drop 16 (payload_of head.used bytes)) (take (512 * head.sectors) bytes)
+      facts count whole right clean header =
+          let content = drop 16 (payload_of head.used bytes) in
+          let block = take (512 * head.sectors) bytes in
+          let size : used_bytes content ≡ head.used = omega (arith, some, length-drop 16 (payload_of head.used bytes), length-payload_of head.used bytes) in
+          let n : sectors (used_bytes content) ≡ head.sectors = ap sectors size ∙ count in
+          let long : length block ≡ 512 * head.sectors = length-take-le (512 * head.sectors) bytes whole in
+          let front : payload_of head.used block ≡ payload_of head.used bytes =
+          payload_is head.used bytes (payload_of head.used block) (length-payload_of head.used block)
+          (λ p lt. get_or-payload_of head.used block p lt ∙ get_or-take (512 * head.sectors) bytes (place_of p) 0
+          (place_within p head.sectors (omega (arith, lt, count)))) in
+          let split : payload_of head.used bytes ≡ header_bytes 165 head.sectors head.records head.used ++ content =
+          sym (take-append-drop 16 (payload_of head.used bytes)) ∙ ap
+          (λ (l : List ℕ). l ++ content) (take-map-range_with_len (λ p. get_or bytes (place_of p) 0) 0 head.used 16 some ∙ header) in (
+            size,
+            record {
+              whole = long ∙ ap (λ (k : ℕ). 512 * k) (sym n);
+              used = ap (λ (k : ℕ). payload_of k block) size ∙ front ∙ split
+                  ∙ ap (λ (k : ℕ). header_bytes 165 k head.records head.used ++ content) (sym n)
+                  ∙ ap (λ (k : ℕ). header_bytes 165 (sectors (used_bytes content)) head.records k ++ content) (sym size);
+              zeros = λ p past until.
+                  let within : p < 504 * head.sectors = omega (arith, until, n) in
+                  get_or-take (512 * head.sectors) bytes (place_of p) 0 (place_within p head.sectors within)
+                  ∙ eqb-true _ 0 (each_passes (λ q. eqb (get_or bytes (place_of q) 0) 0) head.used (504 * head.sectors - head.used) clean p
+                  (omega (arith, past, size)) (omega (arith, within)));
+              addresses = λ i lt.
+                  let near : i < head.sectors = omega (arith, lt, n) in
+                  same_address block bytes i (λ k from until. get_or-take (512 * head.sectors) bytes k 0 (omega (arith, until, near)))
+                  ∙ eqb-true _ _ (each_passes (λ j. eqb (address_in bytes j) (address start j)) 0 head.sectors right i (omega arith) (omega (arith, near)));
+            },
+          )
+
+-- ---- and back
+
+module _ (shape : Shape) (start records : ℕ) (content block more bytes : List ℕ) (spells : SpellsBlock start 165 records content block) (some : 1 ≤ records)
+    (few : records ≤ 511)
+    (fits : IsCount shape start (sectors (used_bytes content))) (is : bytes ≡ block ++ more) where
+  in_block : (k : ℕ) → k < 512 * sectors (used_bytes content) → get_or bytes k 0 ≡ get_or block k 0
+  in_block k lt = ap (λ (l : List ℕ). get_or l k 0) is ∙ get_or_append_left block more 0 k (omega (arith, lt, spells.whole))
+
+  long : 512 * sectors (used_bytes content) ≤ length bytes
+  long = omega (arith, ap (λ (l : List ℕ). length l) is, length-append block more, spells.whole)
+
+  pub payload_read : payload_of (used_bytes content) bytes ≡ used_payload 165 records content
+  payload_read = payload_is (used_bytes content) block (payload_of (used_bytes content) bytes) (length-payload_of (used_bytes content) bytes)
+      (λ p lt. get_or-payload_of (used_bytes content) bytes p lt ∙ in_block (place_of p) (place_within p (sectors (used_bytes content)) (omega (arith, lt))))
+      ∙ spells.used
+
+  -- a byte of the header
+  byte_is : (p : ℕ) → p < 16 → get_or bytes p 0 ≡ get_or (used_payload 165 records content) p 0
+  byte_is p lt =
+      let place : place_of p ≡ p = omega (arith, lt) in
+      sym (ap (λ (k : ℕ). get_or bytes k 0) place) ∙ sym (get_or-payload_of (used_bytes content) bytes p (omega (arith, lt))) ∙ ap
+      (λ (l : List ℕ). get_or l p 0) payload_read
+
+  head_is : head_of bytes ≡ head_for records content
+  head_is =
+      let count : (head_of bytes).sectors ≡ sectors (used_bytes content) =
+      two_bytes bytes 2 ∙ omega (arith, byte_is 2 (omega arith), byte_is 3 (omega arith), whole_2 (sectors (used_bytes content)) fits.field) in
+      let records_is : (head_of bytes).records ≡ records =
+      two_bytes bytes 4 ∙ omega (arith, byte_is 4 (omega arith), byte_is 5 (omega arith), whole_2 records (omega (arith, few))) in
+      let used : (head_of bytes).used ≡ used_bytes content =
+      four_bytes bytes 8 ∙ omega (
+        arith,
+        byte_is 8 (omega arith),
+        byte_is 9 (omega arith),
+        byte_is 10 (omega arith),
+        byte_is 11 (omega arith),
+        whole_4 (used_bytes content) (omega (arith, fits.field)),
+      ) in
+      λ i. record { sectors = count i; records = records_is i; used = used i }
+
+  count_passes : is_wrong_count shape start (sectors (used_bytes content)) ≡ false
+  count_passes = passes_count shape.block_sectors (left_from shape start) (sectors (used_bytes content)) (omega arith) fits.largest fits.left
+    where
+      passes_count : (a b k : ℕ) → 1 ≤ k → k ≤ a → k ≤ b → (eqb k 0 || (ltb a k || ltb b k)) ≡ false
+      passes_count a b k p q r = grind (arith, nat_tests)
+
+  records_pass : is_wrong_records records ≡ false
+  records_pass = passes_records records some few
+    where
+      passes_records : (k : ℕ) → 1 ≤ k → k ≤ 511 → (eqb k 0 || ltb 511 k) ≡ false
+      passes_records k p q = grind (arith, nat_tests)
+
+  header_passes : header_fault shape start bytes ≡ None
+  header_passes =
+      let count = ap (λ (h : BlockHead). is_wrong_count shape start h.sectors) head_is ∙ count_passes in
+      let right = ap (λ (h : BlockHead). is_wrong_records h.records) head_is ∙ records_pass in
+      let same : sectors (head_of bytes).used ≡ (head_of bytes).sectors = ap (λ (h : BlockHead). sectors h.used) head_is
+      ∙ sym (ap (λ (h : BlockHead). h.sectors) head_is) in
+      let zero_2 : little_number 2 (drop 6 bytes) ≡ 0 = two_bytes bytes 6 ∙ omega (arith, byte_is 6 (omega arith), byte_is 7 (omega arith)) in
+      let zero_4 : little_number 4 (drop 12 bytes) ≡ 0 =
+      four_bytes bytes 12 ∙ omega (arith, byte_is 12 (omega arith), byte_is 13 (omega arith), byte_is 14 (omega arith), byte_is 15 (omega arith)) in
+      pass_check _ 1 _ (unequal_fails _ 1 (byte_is 1 (omega arith)))
+      (pass_check _ 2 _ count
+      (pass_check _ 4 _ right
+      (pass_check _ 6 _ (unequal_fails _ 0 zero_2)
+      (pass_check _ 8 _ (unequal_fails _ _ same)
+      (pass_check _ 12 _ (unequal_fails _ 0 zero_4) refl)))))
+
+  sectors_pass : sectors_at start bytes (head_for records content) ≡ answered (head_for records content)
+  unfolding sectors_at
+  sectors_pass =
+      pass_guard _ _ _ _ (le-ltb (length bytes) (512 * sectors (used_bytes content)) long)
+      (ap (λ (o : Option ℕ). unless_wrong (address_place o) (answered (head_for records content)))
+      (none_fails (λ i. eqb (address_in bytes i) (address start i)) 0 (sectors (used_bytes content))
+      (λ i le lt. eq-eqb _ _ (same_address bytes block i (λ k from until. in_block k (omega (arith, until, lt)))
+      ∙ spells.addresses i (omega (arith, lt))))))
+
+  pub frame_read : frame_at shape start bytes ≡ answered (head_for records content)
+  unfolding frame_at
+  frame_read =
+      pass_guard _ _ _ _ (ne_eqb (length bytes) 0 (λ e. absurd (omega (arith, e, long))))
+      (pass_guard _ _ _ _ (unequal_fails _ 165 (byte_is 0 (omega arith)))
+      (pass_guard _ _ _ _ (le-ltb (length bytes) 512 (omega (arith, long)))
+      (ap (λ (o : Option ℕ). unless_wrong o (sectors_at start bytes (head_of bytes))) header_passes
+      ∙ ap (λ (h : BlockHead). sectors_at start bytes h) head_is ∙ sectors_pass)))
+
+  pub rest_read : rest_at bytes (head_for records content) ≡ answered (head_for records content)
+  rest_read = ap (λ (o : Option ℕ). unless_wrong (payload_place o) (answered (head_for records content)))
+      (none_fails (λ p. eqb (get_or bytes (place_of p) 0) 0) (used_bytes content) (504 * sectors (used_bytes content) - used_bytes content)
+      (λ p le lt.
+      let within : p < 504 * sectors (used_bytes content) = omega (arith, lt) in
+      eq-eqb _ 0 (in_block (place_of p) (place_within p (sectors (used_bytes content)) within) ∙ spells.zeros p (omega (arith, le)) within)))
+
+pub not_refused : {answer : Result BlockHead BlockRefusal} {refusal : BlockRefusal} {head : BlockHead} → answer ≡ Err refusal → answer ≡ Ok head → ⊥
+not_refused p q = cc (p, q)
+
+rest_keeps : (wrong : Option ℕ) (head other : BlockHead) → unless_wrong wrong (answered head) ≡ Ok other → other ≡ head
+rest_keeps None head other e = sym (one_head _ _ e)
+rest_keeps (Some at) head other e = absurd (cc e)
+
+-- a block that is answered is spelled so
+pub answered_is_spelled : (shape : Shape) (start : ℕ) (bytes payload : List ℕ) (head : BlockHead) (answer : Result BlockHead BlockRefusal) → IsBytes bytes
+    → frame_at shape start bytes ≡ Ok head → answer ≡ rest_at bytes head → payload ≡ payload_of head.used bytes
+    → IfOk answer (λ h. 16 ≤ h.used → (used_bytes (drop 16 payload) ≡ h.used)
+    × SpellsBlock start 165 h.records (drop 16 payload) (take (512 * h.sectors) bytes))
+answered_is_spelled shape start bytes payload head (Err refusal) fits framed is filled = tt
+answered_is_spelled shape start bytes payload head (Ok h) fits framed is filled = λ some.
+    let same : h ≡ head = rest_keeps (payload_place (other_byte bytes head.used head.sectors)) head h (sym is) in
+    let passed : rest_at bytes head ≡ Ok head = sym is ∙ ap answered same in
+    let result = spelled_by shape start bytes head fits framed passed (subst (λ (x : BlockHead). 16 ≤ x.used) same some) in
+    subst (λ (l : List ℕ). (used_bytes (drop 16 l) ≡ h.used) × SpellsBlock start 165 h.records (drop 16 l) (take (512 * h.sectors) bytes)) (sym filled)
+    (subst (λ (x : BlockHead). (used_bytes (drop 16 (payload_of head.used bytes)) ≡ x.used)
+    × SpellsBlock start 165 x.records (drop 16 (payload_of head.used bytes)) (take (512 * x.sectors) bytes)) (sym same) result)

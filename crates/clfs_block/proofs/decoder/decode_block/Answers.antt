@@ -1,0 +1,28 @@
+use Rattle.std.proofs.Common.{◌≡◌, inr, sym, ◌∙◌, ap, arith}
+use Rattle.clfs_block.specs.Frame.{payload_of}
+use Rattle.clfs_block.specs.Checks.{rest_at, head_for}
+use Rattle.clfs_block.specs.declared.head.BlockHead.{BlockHead}
+use Rattle.clfs_block.proofs.Reading.{frame_read, rest_read, payload_read, answered_is_spelled, not_refused, one_head}
+use Rattle.clfs_block.proofs.decoder.decode_block.Goals as goal
+
+pub returns-in_err-head-clause-only : goal.returns-in_err-head-clause-only
+returns-in_err-head-clause-only c records content block more spells count fits is =
+    absurd (not_refused (sym c.frame.ensures.exact ∙ c.in_err-head.was)
+    (frame_read c.args.shape.now c.args.start records content block more c.args.bytes.now spells count.0 count.1 fits is))
+
+pub returns-clause-only : goal.returns-clause-only
+returns-clause-only c records content block more spells count fits is =
+    let read = frame_read c.args.shape.now c.args.start records content block more c.args.bytes.now spells count.0 count.1 fits is in
+    let same : c.in_ok-head.head ≡ head_for records content = one_head _ _ (sym c.in_ok-head.was ∙ c.frame.ensures.exact ∙ read) in
+    inr (
+      c.rest.ensures ∙ ap (rest_at c.args.bytes.now) same
+          ∙ rest_read c.args.shape.now c.args.start records content block more c.args.bytes.now spells count.0 count.1 fits is,
+      c.in_ok-fill.ensures.ok ∙ ap (λ (h : BlockHead). payload_of h.used c.args.bytes.now) same
+          ∙ payload_read c.args.shape.now c.args.start records content block more c.args.bytes.now spells count.0 count.1 fits is,
+    )
+
+pub returns-clause-found : goal.returns-clause-found
+returns-clause-found c =
+    answered_is_spelled c.args.shape.now c.args.start c.args.bytes.now c.fill.new.payload c.in_ok-head.head c.rest.result
+    (λ i. omega (arith, c.type_inv.bytes i))
+    (sym c.frame.ensures.exact ∙ c.in_ok-head.was) c.rest.ensures c.in_ok-fill.ensures.ok
