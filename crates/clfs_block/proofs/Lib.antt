@@ -1,5 +1,6 @@
 mod Buildings
 mod Frames
+mod Gates
 mod Reading
 mod Sealing
 mod Searches

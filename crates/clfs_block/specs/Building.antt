@@ -1,5 +1,5 @@
 -- What a builder of blocks shows.
-use Rattle.std.specs.Prelude.{◌≡◌, ℕ, ◌+◌, ◌*◌, ◌≤◌, Bool, ◌&&◌, nat_le, if◌then◌else◌, List, [], ◌∷◌, ◌++◌, length, Option, Some}
+use Rattle.std.specs.Prelude.{◌≡◌, ℕ, ◌+◌, ◌*◌, ◌≤◌, Bool, ◌&&◌, nat_le, if◌then◌else◌, List, [], ◌∷◌, ◌++◌, length, drop, Option, Some}
 use Rattle.clfs_lsn.specs.Size.{size, sectors}
 use Rattle.clfs_block.specs.Frame.{place_of, used_bytes, SpellsBlock}
 
@@ -18,11 +18,13 @@ fits building len left =
     nat_le building.records 510
     && (nat_le (sectors (used_bytes building.content + size len)) building.room && nat_le (sectors (used_bytes building.content + size len)) left)
 
--- The sealed bytes are a block at this place behind a closed gate, and then a closed gate.
+-- The sealed bytes are a block at this place behind a closed gate, and then a closed gate. With the gate opened they are an
+-- open block.
 pub record SealsAt (start : ℕ) (old new : Building) : Type 0 where
   pub bytes : List ℕ
   pub sealed : new ≡ record old { sealed = Some (bytes ++ 0 ∷ []) }
   pub spelled : SpellsBlock start 0 old.records old.content bytes
+  pub opened : SpellsBlock start 165 old.records old.content (165 ∷ drop 1 bytes)
 
 -- What a builder keeps: memory for the largest block and one byte more. While it is open the bytes of the payload stand at
 -- their places, and an address has its room as soon as the sector before it is full; once sealed, whole sectors and a byte.

@@ -12,7 +12,7 @@ mod builder;
 mod decoder;
 mod head;
 
-pub use builder::BlockBuilder;
+pub use builder::{BlockBuilder, blocks_say_their_sectors};
 pub use decoder::decode_block;
 pub use head::{BlockHead, BlockRefusal};
 

@@ -8,6 +8,7 @@ use Rattle.clfs_disk.specs.Copies.{now_of, read_files, first_files}
 use Rattle.clfs_disk.specs.declared.record.Event.{Event}
 use Rattle.clfs_disk.specs.declared.copies.FileCopies.{FileCopies}
 
+-- Nothing that is read differs from what is read, so no byte outside the pending ones does.
 pub reads_as_image_of : (files : List FileCopies) (calls : List Event) (written : List ℕ)
     → Unchanged (now_of files calls written).files (read_files files)
     → Image (replay (at_rest (first_files files)) (take (length calls) calls) written) (read_files files)

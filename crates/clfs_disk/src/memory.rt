@@ -1,7 +1,8 @@
 // Files in memory with a record of their calls, so that a crash may leave all that a disk may: of what was written and
 // grown since the last sync, any bytes. The record is what makes the images of each moment so far a matter of data, and a
 // crash takes one of those of now without taking memory.
-ghost use Rattle.std.specs.Prelude.{◌≡◌, ◌+◌, ◌-◌, ◌^◌, ◌<◌, ◌≤◌, [], ℕ, true, length, min, IsTrue, IfOk, vec_len};
+ghost use Rattle.std.specs.Prelude.{◌≡◌, ◌+◌, ◌-◌, ◌^◌, ◌<◌, ◌≤◌, [], ℕ, true, length, min, IsTrue, IfOk, ◌==◌, ◌&&◌, not, nat_lt, vec_len};
+ghost use Rattle.std.specs.List.{list_any};
 ghost use Rattle.clfs_disk.specs.Files.{Files, Unchanged, picked};
 ghost use Rattle.clfs_disk.specs.State.{DiskState, Passes};
 ghost use Rattle.clfs_disk.specs.Copies.{Holds, read_files, synced_files, first_files};
@@ -76,7 +77,9 @@ impl Memory {
 
     // Whether the next call has a place in the record and isn't to fail.
     fn admits(&self) -> bool
-        ensures { result ≡ true → vec_len self.now.history.calls < self.now.history.call_room }
+        ensures exact { result ≡ (nat_lt (vec_len self.now.history.calls) self.now.history.call_room
+            && not (list_any (λ number. number == vec_len self.now.history.calls + 1) self.now.history.failing.items)) }
+        ensures room { result ≡ true → vec_len self.now.history.calls < self.now.history.call_room }
     {
         if !self.history.has_call() {
             return false;

@@ -55,7 +55,7 @@ impl Record {
 
     /// Whether the next call has a place in the record.
     pub fn has_call(&self) -> bool
-        ensures { IsTrue result ↔ (vec_len self.now.calls < self.now.call_room) }
+        ensures { result ≡ nat_lt (vec_len self.now.calls) self.now.call_room }
     {
         self.calls.len() < self.call_room
     }

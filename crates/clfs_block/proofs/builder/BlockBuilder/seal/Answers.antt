@@ -3,6 +3,7 @@ use Rattle.clfs_lsn.specs.Size.{sectors}
 use Rattle.clfs_block.specs.Frame.{payload_of, SpellsBlock}
 use Rattle.clfs_block.specs.Building.{Building}
 use Rattle.clfs_block.proofs.Buildings.{content_size, same_building}
+use Rattle.clfs_block.proofs.Gates.{regated}
 use Rattle.clfs_block.proofs.builder.BlockBuilder.seal.Goals as goal
 
 pub seal_buffer-requires-clause-container : goal.seal_buffer-requires-clause-container
@@ -37,10 +38,13 @@ returns-clause-sealed c =
     let sealed = c.seal_buffer.ensures.sealed in
     let content_is = ap (λ (b : Building). b.content) c.self.view_is in
     let records_is = ap (λ (b : Building). b.records) c.self.view_is in
+    let spelled : SpellsBlock c.args.start 0 c.args.self.now.records c.args.self.now.content sealed.0 =
+    subst (λ (l : List ℕ). SpellsBlock c.args.start 0 c.args.self.now.records l sealed.0) content_is
+    (subst (λ (r : ℕ). SpellsBlock c.args.start 0 r (drop 16 (payload_of c.self.inside.used c.self.inside.buffer.items)) sealed.0) records_is sealed.2) in
     record {
       bytes = sealed.0;
       sealed = same_building _ _ (ap (λ (b : Building). b.room) c.self.view_is) records_is
           (c.seal_buffer.ensures.payload ∙ content_is) (ap (λ (l : List ℕ). Some l) sealed.1);
-      spelled = subst (λ (l : List ℕ). SpellsBlock c.args.start 0 c.args.self.now.records l sealed.0) content_is
-          (subst (λ (r : ℕ). SpellsBlock c.args.start 0 r (drop 16 (payload_of c.self.inside.used c.self.inside.buffer.items)) sealed.0) records_is sealed.2);
+      spelled = spelled;
+      opened = regated c.args.start 0 165 c.args.self.now.records c.args.self.now.content sealed.0 spelled;
     }
