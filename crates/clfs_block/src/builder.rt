@@ -2,7 +2,7 @@
 // that sealing only writes the header, the zeros behind the records and the addresses. The gate of a sealed block is closed:
 // who writes the block opens it last, on the disk. The byte behind the block is a closed gate as well.
 ghost use Rattle.std.specs.Prelude.{◌≡◌, ◌+◌, ◌-◌, ◌*◌, ◌/◌, ◌%◌, ◌^◌, ◌<◌, ◌≤◌, ◌++◌, ◌∷◌, [], nat_le, ◌&&◌, ℕ, List, length, drop, replicate, slice_index, Some, None, IsSome, IfOk, vec_len, vec_capacity};
-ghost use Rattle.clfs_lsn.specs.Lsn.{sequence_of, offset_of, container_of};
+ghost use Rattle.clfs_lsn.specs.Lsn.{sequence_of, offset_of};
 ghost use Rattle.clfs_lsn.specs.Size.{IsShape, size, sectors};
 ghost use Rattle.clfs_block.specs.Frame.{place_of, payload_of, address, address_in, used_bytes, header_bytes, SpellsBlock};
 ghost use Rattle.clfs_block.specs.Building.{Building, fits, SealsAt};

@@ -1,11 +1,9 @@
 // Reading a block. The checks go from the first byte on, each byte is looked at once, and the payload is filled before its
 // unused end is checked, so that a caller can judge the records first.
-ghost use Rattle.std.specs.Prelude.{◌≡◌, ◌⊎◌, ◌+◌, ◌-◌, ◌*◌, ◌/◌, ◌%◌, ◌^◌, ◌<◌, ◌≤◌, ◌++◌, ◌==◌, ◌||◌, not, nat_lt, ℕ, List, [], length, take, drop, slice_index, Some, None, IfOk, IfSome, OnOk, OnErr, Ok, Err, vec_len, vec_capacity};
-ghost use Rattle.byteorder.specs.Endian.{little_number};
-ghost use Rattle.clfs_lsn.specs.Lsn.{container_of, offset_of, lsn_number};
+ghost use Rattle.std.specs.Prelude.{◌≡◌, ◌⊎◌, ◌+◌, ◌-◌, ◌*◌, ◌/◌, ◌%◌, ◌^◌, ◌<◌, ◌≤◌, ◌++◌, ◌==◌, ◌||◌, ℕ, List, [], length, take, drop, slice_index, Some, None, IfOk, IfSome, OnOk, OnErr, Ok, Err, vec_capacity};
 ghost use Rattle.clfs_lsn.specs.Size.{sectors};
-ghost use Rattle.clfs_block.specs.Frame.{place_of, payload_of, address, address_in, used_bytes, used_payload, SpellsBlock};
-ghost use Rattle.clfs_block.specs.Checks.{head_of, left_from, is_wrong_count, is_wrong_records, header_fault, head_for, IsCount, wrong_sector, first_failing, sectors_at, frame_at, rest_at, block_at};
+ghost use Rattle.clfs_block.specs.Frame.{payload_of, address, address_in, used_bytes, used_payload, SpellsBlock};
+ghost use Rattle.clfs_block.specs.Checks.{head_of, is_wrong_count, is_wrong_records, header_fault, head_for, IsCount, wrong_sector, first_failing, sectors_at, frame_at, rest_at, block_at};
 ghost use Rattle.clfs_block.specs.declared.head.BlockRefusal.TheVariants.{NoMemory};
 
 use crate::buffer::push_reserved;

@@ -7,11 +7,11 @@
 //! the file. The contracts speak of the bytes that are handed in, be they one block or several in a row.
 #![tactic(auto)]
 
-ghost use Rattle.std.specs.Prelude.{◌≡◌, ◌≢◌, ◌⊎◌, ◌+◌, ◌≤◌, ◌++◌, ℕ, List, [], ◌∷◌, length, take, drop, slice_index, OnOk, OnErr, IfOk, IsOk};
+ghost use Rattle.std.specs.Prelude.{◌≡◌, ◌+◌, ◌≤◌, ℕ, List, [], ◌∷◌, length, take, drop, slice_index, OnOk, OnErr, IfOk, IsOk};
 ghost use Rattle.clfs_disk.specs.Files.{Files, TornIn, WrittenIn, Unchanged, found_count};
-ghost use Rattle.clfs_disk.specs.State.{DiskState, TellsContents, IsSteady, IsHonest, IsSettled, MayLeave, Passes, Leaves, Rises};
-ghost use Rattle.clfs_container.specs.OpenBlocks.{open_gate_byte, Opens, Ends, AreOpen, total};
-ghost use Rattle.clfs_container.specs.Writing.{IsBehind, HasBlocks, HasBody, IsGroup, OthersStay};
+ghost use Rattle.clfs_disk.specs.State.{TellsContents, IsSteady, IsHonest, IsSettled, MayLeave, Passes, Rises};
+ghost use Rattle.clfs_container.specs.OpenBlocks.{open_gate_byte, Opens, AreOpen};
+ghost use Rattle.clfs_container.specs.Writing.{IsBehind, HasBlocks, HasBody, OthersStay, KeepsBlocks, StaysBehind, OpensInCrash, OpensGroup};
 
 use clfs_disk::{Disk, Failed, write_synced};
 
@@ -36,13 +36,8 @@ pub fn write_body<D: Disk>(disk: &mut D, file: u16, at: u32, bytes: &[u8]) -> Re
         → HasBody file at bytes.now image × (slice_index (image file) at ≡ slice_index ((D.state disk.old).files file) at)) }
 
     // Behind a closed gate no block comes or goes, at any moment of the call.
-    ensures moments { IsSettled (D.state disk.old) → (sectors : ℕ) (blocks : List (List ℕ)) (rest : ℕ)
-        → IsBehind sectors file blocks rest at (D.state disk.old).files
-        → Leaves (λ image. IsBehind sectors file blocks rest at image × OthersStay file (D.state disk.old).files image)
-        (D.state disk.old) (D.state disk.new) }
-    ensures behind { (sectors : ℕ) (blocks : List (List ℕ)) (rest : ℕ)
-        → IsBehind sectors file blocks rest at (D.state disk.old).files
-        → IsBehind sectors file blocks rest at (D.state disk.new).files × OthersStay file (D.state disk.old).files (D.state disk.new).files }
+    ensures moments { IsSettled (D.state disk.old) → KeepsBlocks file at (D.state disk.old) (D.state disk.new) }
+    ensures behind { StaysBehind file at (D.state disk.old).files (D.state disk.new).files }
 
     ensures time { Passes (TornIn file (at + 1) (length bytes.now)) (D.state disk.old) (D.state disk.new) }
     ensures cause { OnErr result (Rises (D.state disk.old).faults (D.state disk.new).faults) }
@@ -62,15 +57,8 @@ pub fn open_gate<D: Disk>(disk: &mut D, file: u16, at: u32) -> Result<(), Failed
     ensures settled { OnOk result (IsHonest (D.state disk.old) → IsSettled (D.state disk.new)) }
 
     // Over a group's body, a crash at any moment leaves the blocks of before or those with all of the group.
-    ensures moments { IsSettled (D.state disk.old) → (sectors : ℕ) (blocks : List (List ℕ)) (rest : ℕ) (body : List ℕ) (more : List (List ℕ)) (left : ℕ)
-        → IsBehind sectors file blocks rest at (D.state disk.old).files
-        → HasBody file at body (D.state disk.old).files → IsGroup rest body more left
-        → Leaves (λ image. (IsBehind sectors file blocks rest at image ⊎ HasBlocks sectors file (blocks ++ more) left image)
-        × OthersStay file (D.state disk.old).files image) (D.state disk.old) (D.state disk.new) }
-    ensures opened { OnOk result (TellsContents (D.state disk.old) → (sectors : ℕ) (blocks : List (List ℕ)) (rest : ℕ) (body : List ℕ) (more : List (List ℕ)) (left : ℕ)
-        → IsBehind sectors file blocks rest at (D.state disk.old).files
-        → HasBody file at body (D.state disk.old).files → IsGroup rest body more left
-        → HasBlocks sectors file (blocks ++ more) left (D.state disk.new).files × OthersStay file (D.state disk.old).files (D.state disk.new).files) }
+    ensures moments { IsSettled (D.state disk.old) → OpensInCrash file at (D.state disk.old) (D.state disk.new) }
+    ensures opened { OnOk result (TellsContents (D.state disk.old) → OpensGroup file at (D.state disk.old).files (D.state disk.new).files) }
 
     // Each image differs from one of before in the gate alone.
     ensures time { Passes (TornIn file at 1) (D.state disk.old) (D.state disk.new) }
@@ -88,7 +76,8 @@ pub fn close_first<D: Disk>(disk: &mut D, file: u16) -> Result<(), Failed>
     ensures written { OnOk result (TellsContents (D.state disk.old) →
         (1 ≤ length ((D.state disk.old).files file))
         × WrittenIn file 0 (0 ∷ []) (D.state disk.old).files (D.state disk.new).files) }
-    ensures none { OnOk result (TellsContents (D.state disk.old) → (sectors : ℕ) → HasBlocks sectors file [] sectors (D.state disk.new).files) }
+    ensures none { OnOk result (TellsContents (D.state disk.old) →
+        (sectors : ℕ) → HasBlocks sectors file [] sectors (D.state disk.new).files) }
     ensures settled { OnOk result (IsHonest (D.state disk.old) → IsSettled (D.state disk.new)) }
 
     ensures others { OthersStay file (D.state disk.old).files (D.state disk.new).files }
@@ -124,9 +113,12 @@ pub fn read_block<D: Disk>(
 
 /// Bytes have one list of open blocks, and the blocks that are written behind closed gates are those of it.
 pub fn open_blocks_are_one_list()
-    ensures one { (sectors : ℕ) (bytes : List ℕ) (blocks others : List (List ℕ)) → AreOpen sectors bytes blocks → AreOpen sectors bytes others → blocks ≡ others }
-    ensures behind { (sectors file : ℕ) (blocks : List (List ℕ)) (rest at : ℕ) (files : Files) → IsBehind sectors file blocks rest at files → AreOpen sectors (files file) blocks }
-    ensures written { (sectors file : ℕ) (blocks : List (List ℕ)) (rest : ℕ) (files : Files) → HasBlocks sectors file blocks rest files → AreOpen sectors (files file) blocks }
+    ensures one { (sectors : ℕ) (bytes : List ℕ) (blocks others : List (List ℕ))
+        → AreOpen sectors bytes blocks → AreOpen sectors bytes others → blocks ≡ others }
+    ensures behind { (sectors file : ℕ) (blocks : List (List ℕ)) (rest at : ℕ) (files : Files)
+        → IsBehind sectors file blocks rest at files → AreOpen sectors (files file) blocks }
+    ensures written { (sectors file : ℕ) (blocks : List (List ℕ)) (rest : ℕ) (files : Files)
+        → HasBlocks sectors file blocks rest files → AreOpen sectors (files file) blocks }
 {}
 
 #[cfg(test)]

@@ -1,7 +1,7 @@
 // The trait of a disk: what each call does to the files, to what a crash leaves, and to the count of faults. A caller joins
 // the calls by `time`, whose lemmas stand in proofs/Moments. Clauses on contents and images hold where they are told, so a
 // disk that tells neither, as a real folder, meets them by its counts alone.
-ghost use Rattle.std.specs.Prelude.{◌≡◌, ◌+◌, ◌≤◌, ℕ, length, take, drop, IfOk, OnOk, OnErr, IsOk, IsErrOf};
+ghost use Rattle.std.specs.Prelude.{◌≡◌, ◌+◌, ◌≤◌, length, take, drop, IfOk, OnOk, OnErr, IsOk, IsErrOf};
 ghost use Rattle.clfs_disk.specs.Files.{Files, found_count, TornIn, GrownIn, WrittenIn, LengthenedIn, Unchanged};
 ghost use Rattle.clfs_disk.specs.State.{DiskState, TellsContents, IsSteady, IsHonest, IsSettled, MayLeave, Passes, Rises};
 

@@ -1,7 +1,6 @@
 // A disk that stops: it passes so many calls on to another disk, and fails each one after. So what the other disk holds is
 // what a crash after that many calls found.
 ghost use Rattle.std.specs.Prelude.{◌≡◌, ◌+◌, ◌-◌, ◌^◌, ◌≤◌, ◌<◌, min, false, OnOk, OnErr};
-ghost use Rattle.clfs_disk.specs.State.{DiskState, Rises};
 
 use crate::{Disk, Failed, GrowRefusal};
 

@@ -1,10 +1,10 @@
 // Files in memory with a record of their calls, so that a crash may leave all that a disk may: of what was written and
 // grown since the last sync, any bytes. The record is what makes the images of each moment so far a matter of data, and a
 // crash takes one of those of now without taking memory.
-ghost use Rattle.std.specs.Prelude.{◌≡◌, ◌+◌, ◌-◌, ◌^◌, ◌<◌, ◌≤◌, [], ℕ, true, length, min, IsTrue, IfOk, ◌==◌, ◌&&◌, not, nat_lt, vec_len};
+ghost use Rattle.std.specs.Prelude.{◌≡◌, ◌+◌, ◌-◌, ◌<◌, ◌≤◌, [], ℕ, true, length, IfOk, ◌==◌, ◌&&◌, not, nat_lt, vec_len};
 ghost use Rattle.std.specs.List.{list_any};
 ghost use Rattle.clfs_disk.specs.Files.{Files, Unchanged, picked};
-ghost use Rattle.clfs_disk.specs.State.{DiskState, Passes};
+ghost use Rattle.clfs_disk.specs.State.{Passes};
 ghost use Rattle.clfs_disk.specs.Copies.{Holds, read_files, synced_files, first_files};
 ghost use Rattle.clfs_disk.specs.declared.copies.FileCopies.{FileCopies};
 

@@ -1,6 +1,5 @@
 // Files in memory for logs that need no crash: no call fails but a write that ends past its file's end.
-ghost use Rattle.std.specs.Prelude.{◌≡◌, ◌+◌, ◌≤◌, [], ℕ, length, IfOk};
-ghost use Rattle.clfs_disk.specs.State.{DiskState};
+ghost use Rattle.std.specs.Prelude.{◌≡◌, [], ℕ, length, IfOk};
 ghost use Rattle.clfs_disk.specs.Table.{files_of};
 
 use crate::bytes::{has_range, lengthen, make_room, overwrite, read_from};

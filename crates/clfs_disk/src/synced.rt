@@ -1,7 +1,7 @@
 // One write and one sync, the step of which every change of a log's files is made.
 ghost use Rattle.std.specs.Prelude.{◌≡◌, ◌+◌, ◌≤◌, length, OnOk, OnErr, IsOk};
 ghost use Rattle.clfs_disk.specs.Files.{TornIn, WrittenIn};
-ghost use Rattle.clfs_disk.specs.State.{DiskState, TellsContents, IsSteady, IsHonest, IsSettled, Passes, Rises};
+ghost use Rattle.clfs_disk.specs.State.{TellsContents, IsSteady, IsHonest, IsSettled, Passes, Rises};
 
 use crate::{Disk, Failed};
 

@@ -1,9 +1,8 @@
 // Reading a record from the front of bytes. The checks go from the first byte on, and the data are copied once, when all
 // else is right.
-ghost use Rattle.std.specs.Prelude.{◌≡◌, ◌+◌, ◌-◌, ◌*◌, ◌/◌, ◌^◌, ◌<◌, ◌≤◌, ◌++◌, ◌==◌, ◌||◌, not, nat_lt, if◌then◌else◌, ℕ, List, length, take, drop, position, IfOk, Ok};
-ghost use Rattle.byteorder.specs.Endian.{little_number};
+ghost use Rattle.std.specs.Prelude.{◌≡◌, ◌+◌, ◌-◌, ◌*◌, ◌/◌, ◌^◌, ◌<◌, ◌≤◌, ◌++◌, ◌==◌, ◌||◌, not, nat_lt, if◌then◌else◌, ℕ, List, length, take, position, IfOk, Ok};
 ghost use Rattle.clfs_lsn.specs.Size.{size};
-ghost use Rattle.clfs_lsn.specs.Spelling.{FitsAt, record_bytes, record_at, header_of, header_fault, filling, filling_fault, is_wrong_base, entry_of};
+ghost use Rattle.clfs_lsn.specs.Spelling.{FitsAt, record_bytes, record_at, header_of, header_fault, filling_fault, is_wrong_base, entry_of};
 ghost use Rattle.clfs_lsn.specs.declared.entry.Kind.TheVariants.{Plain, Restart};
 ghost use Rattle.clfs_lsn.specs.declared.entry.LogEntry.{LogEntry};
 ghost use Rattle.clfs_record.specs.Decoding.{Gives};

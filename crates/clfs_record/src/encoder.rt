@@ -1,6 +1,5 @@
 // Writing a record. All memory is taken before the first byte is written, so an `Err` leaves the bytes as they were.
 ghost use Rattle.std.specs.Prelude.{◌≡◌, ◌+◌, ◌*◌, ◌/◌, ◌^◌, ◌<◌, ◌≤◌, ◌++◌, length, replicate, OnOk, OnErr, vec_len, vec_capacity};
-ghost use Rattle.clfs_lsn.specs.Size.{size};
 ghost use Rattle.clfs_lsn.specs.Spelling.{FitsAt, record_bytes, header_bytes, filling, kind_byte};
 
 use byteorder::{ByteOrder, LittleEndian};
