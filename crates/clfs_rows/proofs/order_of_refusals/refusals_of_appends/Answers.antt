@@ -1,0 +1,20 @@
+use Rattle.std.proofs.Common.{refl}
+use Rattle.std.specs.Fmt.{digits}
+use Rattle.hex.specs.Hex.{decode_pairs, encode_with}
+use Rattle.clfs_model.specs.Space.{grown, has_room}
+use Rattle.clfs_model.specs.Run.{fine_outcome}
+use Rattle.clfs_model.specs.Script.{line_request}
+use Rattle.clfs_rows.proofs.order_of_refusals.refusals_of_appends.Goals as goal
+
+pub returns : goal.returns
+unfolding grown has_room fine_outcome line_request digits decode_pairs encode_with
+returns c = record {
+  area_before_data = refl;
+  data_before_sizes = refl;
+  first_size_that_is_too_long = refl;
+  sizes_before_links = refl;
+  previous_before_undo_next = refl;
+  links_before_what_is_held = refl;
+  what_is_held_before_room = refl;
+  length_before_room = refl;
+}
