@@ -28,6 +28,7 @@ broken_answers_broken told s client call happened reply t broken step = first_wh
 of_fault : (told : Bool) (s : State) (client : ℕ) (call : Call) (t : State)
     → (IsTrue (takes_memory call) × IsOutOfMemory s (replies.Refused refusals.DiskFault) t) ⊎ Goes told s client call Fault (replies.Refused refusals.DiskFault) t
     → t ≡ with_broken s
+of_fault told s client call t (inl (takes, (wants, same))) = absurd (cc)
 of_fault told s client call t (inr (allowed, (calls, (answered, broken)))) = broken
 
 -- a fault leaves the state as it was, but broken
