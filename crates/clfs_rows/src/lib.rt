@@ -9,6 +9,7 @@ mod archive;
 mod bases_and_recycling;
 mod disk_and_memory;
 mod faults;
+mod journals;
 mod lines;
 mod names_and_limits;
 mod order_of_refusals;
@@ -23,6 +24,7 @@ pub use archive::{blocks_to_archive, what_the_tail_holds, where_archiving_begins
 pub use bases_and_recycling::{containers_are_used_again, new_bases};
 pub use disk_and_memory::{calls_that_leave_the_disk_alone, calls_that_reach_the_disk};
 pub use faults::{texts_of_faults, what_a_broken_log_answers, what_a_fault_leaves};
+pub use journals::{sectors_that_an_area_holds};
 pub use lines::{clients_and_verbs, ends_of_lines, first_scripts, lines_within_limits, options_of_appends, words_of_lines};
 pub use names_and_limits::{limit_of_areas, limit_of_cursors, limit_of_streams, names_of_streams};
 pub use order_of_refusals::{one_container, refusals_of_appends, refusals_of_reads, refusals_of_restart_areas};

@@ -1,5 +1,5 @@
 // Lines of a script: which words they may have, and where a line goes wrong.
-ghost use Rattle.std.specs.Prelude.{◌≡◌, [], ◌∷◌, ◌++◌, codes, false, true, take};
+ghost use Rattle.std.specs.Prelude.{◌≡◌, [], ◌∷◌, ◌++◌, codes, false, true, map, length, take, replicate};
 ghost use Rattle.clfs_model.specs.State.{first};
 ghost use Rattle.clfs_model.specs.Accepted.{serve_limits, race_limits, is_within, accepted};
 ghost use Rattle.clfs_rows.specs.Worked.{worked, answers_to, ◌⟹◌, IsDialogue, opening};
@@ -174,6 +174,12 @@ pub fn lines_within_limits()
     ensures one_byte_before_a_line_feed { accepted (record { bytes = 5; line = 3; lines = 100 }) (codes "ab\ncd\nef\n") ≡ codes "ab" ∷ [] }
     ensures the_most_lines { accepted (record { bytes = 100; line = 3; lines = 2 }) (codes "ab\ncd\nef\n") ≡ codes "ab" ∷ codes "cd" ∷ [] }
     ensures not_a_last_line_without_its_line_feed { accepted serve_limits (take 40 (codes "1 append 1 - 0:0:0 0:0:0\n1 append 1 - 0:0:0 0:0:0\n")) ≡ codes "1 append 1 - 0:0:0 0:0:0" ∷ [] }
+    ensures one_byte_more_than_a_line_may_have { accepted serve_limits (codes "1 open a\n" ++ (replicate 131073 97 ++ codes "\n1 open b\n")) ≡ codes "1 open a" ∷ [] }
+    ensures a_longest_line_and_a_carriage_return { accepted serve_limits (codes "1 open a\n" ++ (replicate 131072 97 ++ codes "\r\n1 open b\n")) ≡ codes "1 open a" ∷ [] }
+    ensures a_longest_line { map length (accepted serve_limits (replicate 131072 97 ++ codes "\nab\n")) ≡ 131072 ∷ 2 ∷ [] }
+    ensures ten_thousand_lines { is_within race_limits (replicate 10000 10) ≡ true }
+    ensures ten_thousand_lines_and_one { is_within race_limits (replicate 10001 10) ≡ false }
+    ensures answered_of_them { length (accepted race_limits (replicate 10001 10)) ≡ 10000 }
     ensures limits_of_serve { serve_limits ≡ record { bytes = 67108864; line = 131072; lines = 67108864 } }
     ensures limits_of_race { race_limits ≡ record { bytes = 1048576; line = 131072; lines = 10000 } }
     ensures within { is_within (record { bytes = 9; line = 3; lines = 3 }) (codes "abc\nab\r\nc") ≡ true }
