@@ -1,1 +1,4 @@
 pub mod Worked
+pub mod Filled
+pub mod Reach
+pub mod OwnEntries

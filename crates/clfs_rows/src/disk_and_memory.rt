@@ -1,6 +1,7 @@
 // What reaches the disk and what takes memory, which decides what a call may be answered; and what comes of a fault.
 ghost use Rattle.std.specs.Prelude.{◌≡◌, [], ◌∷◌, ◌++◌, codes, false, true};
-ghost use Rattle.clfs_rows.specs.Worked.{reaches_disk, ◌⟹◌, opening, append_of_zeros};
+ghost use Rattle.clfs_rows.specs.Reach.{reaches_disk};
+ghost use Rattle.clfs_rows.specs.Worked.{◌⟹◌, opening, append_of_zeros};
 
 /// The calls that make a call on the disk, each after some lines: those that flush, seal the block that fills the write buffers, move
 /// to a further container, grow the log, write a base copy, or read.

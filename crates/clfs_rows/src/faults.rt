@@ -13,7 +13,8 @@ ghost use Rattle.clfs_model.specs.Step.{Step, with_broken};
 ghost use Rattle.clfs_model.specs.Run.{Run};
 ghost use Rattle.clfs_model.specs.Script.{script_requests};
 ghost use Rattle.clfs_model.specs.Text.{output_of, reply_line};
-ghost use Rattle.clfs_rows.specs.Worked.{◌⟹◌, IsDialogue, opened_log, line_takes_memory};
+ghost use Rattle.clfs_rows.specs.Worked.{◌⟹◌, IsDialogue, opened_log};
+ghost use Rattle.clfs_rows.specs.Reach.{line_takes_memory};
 
 /// A fault in an append that flushes leaves the log broken. Opened again, it has what was flushed before.
 pub fn what_a_fault_leaves()

@@ -4,7 +4,8 @@ ghost use Rattle.std.specs.List.{range_with_len};
 ghost use Rattle.clfs_model.specs.Run.{state_after};
 ghost use Rattle.clfs_model.specs.Script.{script_requests};
 ghost use Rattle.clfs_model.specs.Journals.{held_by};
-ghost use Rattle.clfs_rows.specs.Worked.{opened_log, entries_of_an_area};
+ghost use Rattle.clfs_rows.specs.OwnEntries.{entries_of_an_area};
+ghost use Rattle.clfs_rows.specs.Worked.{opened_log};
 
 /// What the area holds after each of the client's own entries, beginning with what it holds in the opening state.
 pub fn sectors_that_an_area_holds()

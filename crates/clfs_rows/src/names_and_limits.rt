@@ -1,6 +1,7 @@
 // Names of streams, and the limits of streams, areas and cursors.
 ghost use Rattle.std.specs.Prelude.{◌≡◌, [], ◌∷◌, ◌++◌, codes};
-ghost use Rattle.clfs_rows.specs.Worked.{worked, streams_of, answers_to, ◌⟹◌, IsDialogue, opening, zeros, append_of_zeros};
+ghost use Rattle.clfs_rows.specs.Filled.{streams_of};
+ghost use Rattle.clfs_rows.specs.Worked.{worked, answers_to, ◌⟹◌, IsDialogue, opening, zeros, append_of_zeros};
 
 /// A name has 1 to 32 bytes, each a letter, a digit, `_`, `-` or `.`; the first wrong byte is told, or the place behind the longest
 /// name.

@@ -2,7 +2,8 @@
 ghost use Rattle.std.specs.Prelude.{◌≡◌, [], ◌∷◌, ◌++◌, codes, Some, None};
 ghost use Rattle.clfs_lsn.specs.Lsn.{lsn_number};
 ghost use Rattle.clfs_lsn.specs.Space.{free_sectors, growth, least_containers};
-ghost use Rattle.clfs_rows.specs.Worked.{log_of, worked, many_records, ◌⟹◌, IsDialogue, opening, zeros, append_line, append_of_zeros};
+ghost use Rattle.clfs_rows.specs.Filled.{many_records};
+ghost use Rattle.clfs_rows.specs.Worked.{log_of, worked, ◌⟹◌, IsDialogue, opening, zeros, append_line, append_of_zeros};
 
 /// The first records of a log: they share a block, and the log tells its room.
 pub fn records_of_a_block()

@@ -1,0 +1,36 @@
+-- Logs that only a long script comes to.
+use Rattle.std.specs.Prelude.{ℕ, ◌+◌, ◌*◌, [], ◌∷◌, ◌++◌, map, codes}
+use Rattle.std.specs.List.{range_with_len}
+use Rattle.std.specs.Fmt.{decimal}
+use Rattle.clfs_lsn.specs.Lsn.{null_lsn, lsn_number}
+use Rattle.clfs_lsn.specs.declared.entry.LogEntry.{LogEntry}
+use Rattle.clfs_lsn.specs.declared.entry.Kind.TheVariants.{Plain}
+use Rattle.clfs_model.specs.declared.state.State.{State}
+use Rattle.clfs_rows.specs.Worked.{log_of, worked}
+
+-- a log with so many streams, named s1, s2, s3 and so on
+abbrev pub streams_of : ℕ → State
+streams_of count = record worked {
+  streams = map (λ n. record { name = codes "s" ++ decimal n; base = null_lsn }) (range_with_len 1 count);
+}
+
+-- an empty record of the first stream in the first block
+abbrev pub empty_record : ℕ → LogEntry
+empty_record sequence = record {
+  lsn = lsn_number 1 0 sequence;
+  stream = 1;
+  kind = Plain;
+  previous = null_lsn;
+  undo_next = null_lsn;
+  new_base = null_lsn;
+  bytes = [];
+}
+
+-- a log with blocks of forty sectors at most, whose open block has 510 empty records; and an area of client 1
+abbrev pub many_records : State
+many_records = record (log_of 40 80 2 4) {
+  streams = record { name = codes "a"; base = null_lsn } ∷ [];
+  records = map empty_record (range_with_len 0 510);
+  place = record { container = 1; offset = 0; used = 16 + 510 * 32; records = 510 };
+  areas = record { client = 1; number = 1; stream = 1; largest = 960; reads = 4; held = 0; cursors = [] } ∷ [];
+}
