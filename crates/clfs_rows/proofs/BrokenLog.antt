@@ -1,14 +1,16 @@
 -- What a step from a broken state is, and what a step that meets a fault leaves.
 use Rattle.std.proofs.Common.{◌≡◌, ◌⊎◌, ℕ, Bool, true, false, inl, inr, subst}
-use Rattle.std.specs.Prelude.{IsTrue, MatchBool}
+use Rattle.std.specs.Prelude.{Option, Some, None, IsTrue, MatchBool}
 use Rattle.clfs_model.specs.declared.call.Call.{Call}
 use Rattle.clfs_model.specs.declared.reply.Happened.{Happened}
 use Rattle.clfs_model.specs.declared.reply.Happened.TheVariants.{Fault}
+use Rattle.clfs_model.specs.declared.refusal.Refusal.{Refusal}
 use Rattle.clfs_model.specs.declared.refusal.Refusal.TheVariants as refusals
 use Rattle.clfs_model.specs.declared.reply.Reply.{Reply}
 use Rattle.clfs_model.specs.declared.reply.Reply.TheVariants as replies
 use Rattle.clfs_model.specs.declared.state.State.{State}
-use Rattle.clfs_model.specs.Step.{Step, Goes, IsOutOfMemory, takes_memory, with_broken}
+use Rattle.clfs_model.specs.Refusals.{refusal}
+use Rattle.clfs_model.specs.Step.{Step, Goes, IsOutOfMemory, takes_memory, calls_disk, with_broken}
 
 -- the first of two facts, where the test is true
 first_where_true : (b : Bool) (P Q : Type 0) → b ≡ true → MatchBool b P Q → P
@@ -36,3 +38,28 @@ pub fault_breaks : (told : Bool) (s : State) (client : ℕ) (call : Call) (t : S
     → Step told s client call Fault (replies.Refused refusals.DiskFault) t → t ≡ with_broken s
 unfolding Step
 fault_breaks told s client call t whole step = of_fault told s client call t (second_where_false s.broken _ _ whole step)
+
+-- a fault comes only of a call that isn't refused and that makes a call on the disk
+causes_of_fault : (told : Bool) (s : State) (client : ℕ) (call : Call) (t : State)
+    → (IsTrue (takes_memory call) × IsOutOfMemory s (replies.Refused refusals.DiskFault) t) ⊎ Goes told s client call Fault (replies.Refused refusals.DiskFault) t
+    → (refusal s client call ≡ None) × IsTrue (calls_disk s call)
+causes_of_fault told s client call t (inl (takes, (wants, same))) = absurd (cc)
+causes_of_fault told s client call t (inr (allowed, (calls, (answered, broken)))) = (allowed, calls)
+
+-- the causes of a step that meets a fault
+fault_has_causes : (told : Bool) (s : State) (client : ℕ) (call : Call) (t : State) → s.broken ≡ false
+    → Step told s client call Fault (replies.Refused refusals.DiskFault) t → (refusal s client call ≡ None) × IsTrue (calls_disk s call)
+unfolding Step
+fault_has_causes told s client call t whole step = causes_of_fault told s client call t (second_where_false s.broken _ _ whole step)
+
+-- a call that makes no call on the disk meets no fault
+pub no_fault_without_disk : (told : Bool) (s : State) (client : ℕ) (call : Call) (t : State) → s.broken ≡ false → calls_disk s call ≡ false
+    → ¬ Step told s client call Fault (replies.Refused refusals.DiskFault) t
+no_fault_without_disk told s client call t whole quiet step =
+    let reaches = (fault_has_causes told s client call t whole step).1 in absurd (cc)
+
+-- a call that is refused meets no fault
+pub no_fault_where_refused : (told : Bool) (s : State) (client : ℕ) (call : Call) (first : Refusal) (t : State) → s.broken ≡ false
+    → refusal s client call ≡ Some first → ¬ Step told s client call Fault (replies.Refused refusals.DiskFault) t
+no_fault_where_refused told s client call first t whole refused step =
+    let allowed = (fault_has_causes told s client call t whole step).0 in absurd (cc)

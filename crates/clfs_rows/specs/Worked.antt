@@ -62,3 +62,7 @@ append_of_zeros count options = append_line (codes "1") count (codes "0:0:0 0:0:
 -- the log of the rows with its stream and its area
 abbrev pub opened_log : State
 opened_log = state_after worked (script_requests (asked opening))
+
+-- the same with one record, which is flushed
+abbrev pub flushed_log : State
+flushed_log = state_after opened_log (script_requests (codes "1 append 1 aa 0:0:0 0:0:0 flush\n"))

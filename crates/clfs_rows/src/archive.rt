@@ -1,6 +1,6 @@
 // Archiving: the tail, which holds containers, and what is to be archived.
 ghost use Rattle.std.specs.Prelude.{[], ◌∷◌, ◌++◌, codes};
-ghost use Rattle.clfs_rows.specs.Worked.{worked, ◌⟹◌, IsDialogue, opening, append_of_zeros};
+ghost use Rattle.clfs_rows.specs.Worked.{log_of, worked, ◌⟹◌, IsDialogue, opening, append_of_zeros};
 
 /// With archiving on a container is used again only below the archive tail too.
 pub fn what_the_tail_holds()
@@ -106,6 +106,12 @@ pub fn blocks_to_archive()
         ∷ codes "1 advance 1 1:0:2" ⟹ codes "1 base 1:0:2"
         ∷ codes "1 extents" ⟹ codes "1 extents 1 1:0-200"
         ∷ []) }
+    ensures a_block_of_two_records { IsDialogue worked (opening
+        ++ codes "1 archive on" ⟹ codes "1 ok"
+        ∷ append_of_zeros 448 [] ⟹ codes "1 lsn 1:0:0"
+        ∷ append_of_zeros 448 (codes " flush") ⟹ codes "1 lsn 1:0:1"
+        ∷ codes "1 extents" ⟹ codes "1 extents 1 1:0-400"
+        ∷ []) }
     ensures not_what_is_open_or_waits { IsDialogue worked (opening
         ++ codes "1 archive on" ⟹ codes "1 ok"
         ∷ codes "1 append 1 a0 0:0:0 0:0:0 flush" ⟹ codes "1 lsn 1:0:0"
@@ -124,5 +130,31 @@ pub fn blocks_to_archive()
         ∷ codes "1 append 1 a0 0:0:0 0:0:0 flush" ⟹ codes "1 lsn 1:0:0"
         ∷ codes "2 append 1 b0 0:0:0 0:0:0 flush" ⟹ codes "2 lsn 1:200:0"
         ∷ codes "2 extents" ⟹ codes "2 extents 1 1:0-400"
+        ∷ []) }
+    ensures ten_containers { IsDialogue (log_of 1 2 11 4) (
+        codes "1 open a" ⟹ codes "1 stream 1"
+        ∷ codes "1 area 1 456 1" ⟹ codes "1 area 1"
+        ∷ codes "1 archive on" ⟹ codes "1 ok"
+        ∷ codes "1 append 1 - 0:0:0 0:0:0 seal" ⟹ codes "1 lsn 1:0:0"
+        ∷ codes "1 append 1 - 0:0:0 0:0:0 seal" ⟹ codes "1 lsn 1:200:0"
+        ∷ codes "1 append 1 - 0:0:0 0:0:0 seal" ⟹ codes "1 lsn 2:0:0"
+        ∷ codes "1 append 1 - 0:0:0 0:0:0 seal" ⟹ codes "1 lsn 2:200:0"
+        ∷ codes "1 append 1 - 0:0:0 0:0:0 seal" ⟹ codes "1 lsn 3:0:0"
+        ∷ codes "1 append 1 - 0:0:0 0:0:0 seal" ⟹ codes "1 lsn 3:200:0"
+        ∷ codes "1 append 1 - 0:0:0 0:0:0 seal" ⟹ codes "1 lsn 4:0:0"
+        ∷ codes "1 append 1 - 0:0:0 0:0:0 seal" ⟹ codes "1 lsn 4:200:0"
+        ∷ codes "1 append 1 - 0:0:0 0:0:0 seal" ⟹ codes "1 lsn 5:0:0"
+        ∷ codes "1 append 1 - 0:0:0 0:0:0 seal" ⟹ codes "1 lsn 5:200:0"
+        ∷ codes "1 append 1 - 0:0:0 0:0:0 seal" ⟹ codes "1 lsn 6:0:0"
+        ∷ codes "1 append 1 - 0:0:0 0:0:0 seal" ⟹ codes "1 lsn 6:200:0"
+        ∷ codes "1 append 1 - 0:0:0 0:0:0 seal" ⟹ codes "1 lsn 7:0:0"
+        ∷ codes "1 append 1 - 0:0:0 0:0:0 seal" ⟹ codes "1 lsn 7:200:0"
+        ∷ codes "1 append 1 - 0:0:0 0:0:0 seal" ⟹ codes "1 lsn 8:0:0"
+        ∷ codes "1 append 1 - 0:0:0 0:0:0 seal" ⟹ codes "1 lsn 8:200:0"
+        ∷ codes "1 append 1 - 0:0:0 0:0:0 seal" ⟹ codes "1 lsn 9:0:0"
+        ∷ codes "1 append 1 - 0:0:0 0:0:0 seal" ⟹ codes "1 lsn 9:200:0"
+        ∷ codes "1 append 1 - 0:0:0 0:0:0 flush" ⟹ codes "1 lsn a:0:0"
+        ∷ codes "1 extents" ⟹ codes "1 extents 10 1:0-400 2:0-400 3:0-400 4:0-400 5:0-400 6:0-400 7:0-400 8:0-400 9:0-400 a:0-200"
+        ∷ codes "1 info 1" ⟹ codes "1 info containers 11 free 1 size 2 sectors 3 reserved 0 base 0:0:0 last a:0:0 flushed a:200:0 restart 0:0:0 archive 1:0:0"
         ∷ []) }
 {}

@@ -173,7 +173,8 @@ pub fn lines_within_limits()
     ensures within_the_most_bytes { accepted (record { bytes = 6; line = 3; lines = 100 }) (codes "ab\ncd\nef\n") ≡ codes "ab" ∷ codes "cd" ∷ [] }
     ensures one_byte_before_a_line_feed { accepted (record { bytes = 5; line = 3; lines = 100 }) (codes "ab\ncd\nef\n") ≡ codes "ab" ∷ [] }
     ensures the_most_lines { accepted (record { bytes = 100; line = 3; lines = 2 }) (codes "ab\ncd\nef\n") ≡ codes "ab" ∷ codes "cd" ∷ [] }
-    ensures not_a_last_line_without_its_line_feed { accepted serve_limits (take 40 (codes "1 append 1 - 0:0:0 0:0:0\n1 append 1 - 0:0:0 0:0:0\n")) ≡ codes "1 append 1 - 0:0:0 0:0:0" ∷ [] }
+    ensures not_a_last_line_without_its_line_feed { accepted serve_limits (take 40 (codes "1 append 1 - 0:0:0 0:0:0\n1 append 1 - 0:0:0 0:0:0\n"))
+        ≡ codes "1 append 1 - 0:0:0 0:0:0" ∷ [] }
     ensures one_byte_more_than_a_line_may_have { accepted serve_limits (codes "1 open a\n" ++ (replicate 131073 97 ++ codes "\n1 open b\n")) ≡ codes "1 open a" ∷ [] }
     ensures a_longest_line_and_a_carriage_return { accepted serve_limits (codes "1 open a\n" ++ (replicate 131072 97 ++ codes "\r\n1 open b\n")) ≡ codes "1 open a" ∷ [] }
     ensures a_longest_line { map length (accepted serve_limits (replicate 131072 97 ++ codes "\nab\n")) ≡ 131072 ∷ 2 ∷ [] }

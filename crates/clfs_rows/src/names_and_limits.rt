@@ -122,4 +122,27 @@ pub fn limit_of_cursors()
         ∷ codes "1 next 2 2" ⟹ codes "1 refused 12 NoSuchCursor"
         ∷ codes "1 read 1 1:0:0 forward" ⟹ codes "1 cursor 1 record 1:0:0 data 0:0:0 0:0:0 0:0:0 aa"
         ∷ []) }
+    ensures sixteen_cursors { IsDialogue worked (opening
+        ++ codes "1 area 1 960 16" ⟹ codes "1 area 2"
+        ∷ codes "1 append 2 aa 0:0:0 0:0:0" ⟹ codes "1 lsn 1:0:0"
+        ∷ codes "1 read 2 1:0:0 forward" ⟹ codes "1 cursor 1 record 1:0:0 data 0:0:0 0:0:0 0:0:0 aa"
+        ∷ codes "1 read 2 1:0:0 forward" ⟹ codes "1 cursor 2 record 1:0:0 data 0:0:0 0:0:0 0:0:0 aa"
+        ∷ codes "1 read 2 1:0:0 forward" ⟹ codes "1 cursor 3 record 1:0:0 data 0:0:0 0:0:0 0:0:0 aa"
+        ∷ codes "1 read 2 1:0:0 forward" ⟹ codes "1 cursor 4 record 1:0:0 data 0:0:0 0:0:0 0:0:0 aa"
+        ∷ codes "1 read 2 1:0:0 forward" ⟹ codes "1 cursor 5 record 1:0:0 data 0:0:0 0:0:0 0:0:0 aa"
+        ∷ codes "1 read 2 1:0:0 forward" ⟹ codes "1 cursor 6 record 1:0:0 data 0:0:0 0:0:0 0:0:0 aa"
+        ∷ codes "1 read 2 1:0:0 forward" ⟹ codes "1 cursor 7 record 1:0:0 data 0:0:0 0:0:0 0:0:0 aa"
+        ∷ codes "1 read 2 1:0:0 forward" ⟹ codes "1 cursor 8 record 1:0:0 data 0:0:0 0:0:0 0:0:0 aa"
+        ∷ codes "1 read 2 1:0:0 forward" ⟹ codes "1 cursor 9 record 1:0:0 data 0:0:0 0:0:0 0:0:0 aa"
+        ∷ codes "1 read 2 1:0:0 forward" ⟹ codes "1 cursor 10 record 1:0:0 data 0:0:0 0:0:0 0:0:0 aa"
+        ∷ codes "1 read 2 1:0:0 forward" ⟹ codes "1 cursor 11 record 1:0:0 data 0:0:0 0:0:0 0:0:0 aa"
+        ∷ codes "1 read 2 1:0:0 forward" ⟹ codes "1 cursor 12 record 1:0:0 data 0:0:0 0:0:0 0:0:0 aa"
+        ∷ codes "1 read 2 1:0:0 forward" ⟹ codes "1 cursor 13 record 1:0:0 data 0:0:0 0:0:0 0:0:0 aa"
+        ∷ codes "1 read 2 1:0:0 forward" ⟹ codes "1 cursor 14 record 1:0:0 data 0:0:0 0:0:0 0:0:0 aa"
+        ∷ codes "1 read 2 1:0:0 forward" ⟹ codes "1 cursor 15 record 1:0:0 data 0:0:0 0:0:0 0:0:0 aa"
+        ∷ codes "1 read 2 1:0:0 forward" ⟹ codes "1 cursor 16 record 1:0:0 data 0:0:0 0:0:0 0:0:0 aa"
+        ∷ codes "1 read 2 1:0:0 forward" ⟹ codes "1 refused 15 CursorLimit 16"
+        ∷ codes "1 end 2 16" ⟹ codes "1 ok"
+        ∷ codes "1 read 2 1:0:0 forward" ⟹ codes "1 cursor 16 record 1:0:0 data 0:0:0 0:0:0 0:0:0 aa"
+        ∷ []) }
 {}

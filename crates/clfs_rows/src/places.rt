@@ -2,7 +2,7 @@
 ghost use Rattle.std.specs.Prelude.{◌≡◌, [], ◌∷◌, ◌++◌, codes, Some, None};
 ghost use Rattle.clfs_lsn.specs.Lsn.{lsn_number};
 ghost use Rattle.clfs_lsn.specs.Space.{free_sectors, growth, least_containers};
-ghost use Rattle.clfs_rows.specs.Filled.{many_records};
+ghost use Rattle.clfs_rows.specs.Filled.{many_records, nearly_full, last_of_all};
 ghost use Rattle.clfs_rows.specs.Worked.{log_of, worked, ◌⟹◌, IsDialogue, opening, zeros, append_line, append_of_zeros};
 
 /// The first records of a log: they share a block, and the log tells its room.
@@ -221,13 +221,13 @@ pub fn days_use()
         ∷ []) }
 {}
 
-/// The free sectors of some places, in blocks of two sectors at most and containers of eight, and the containers for them.
+/// The free sectors of some places, and how many containers give more.
 pub fn room_of_places()
-    ensures fresh { free_sectors (record { block_sectors = 2; container_sectors = 8 }) (record { container = 1; offset = 0; used = 0; records = 0 }) (lsn_number 1 0 0) 2 ≡ 14 }
-    ensures nearly_full { free_sectors (record { block_sectors = 2; container_sectors = 8 }) (record { container = 2; offset = 2048; used = 1008; records = 1 }) (lsn_number 1 0 0) 2 ≡ 1 }
-    ensures last_container_of_all { free_sectors (record { block_sectors = 2; container_sectors = 8 }) (record { container = 4294967295; offset = 0; used = 0; records = 0 }) (lsn_number 4294967295 0 0) 256 ≡ 7 }
-    ensures grows_by_the_rate { growth (record { block_sectors = 2; container_sectors = 8 }) (record { container = 2; offset = 2048; used = 1008; records = 1 }) (lsn_number 1 0 0) 2 2 6 2 ≡ Some 4 }
-    ensures grows_up_to_the_maximum { growth (record { block_sectors = 2; container_sectors = 8 }) (record { container = 2; offset = 2048; used = 1008; records = 1 }) (lsn_number 1 0 0) 2 2 3 2 ≡ None }
-    ensures three_containers_for_eight_sectors { least_containers (record { block_sectors = 2; container_sectors = 8 }) (record { container = 2; offset = 2048; used = 1008; records = 1 }) (lsn_number 1 0 0) 4 8 ≡ 3 }
-    ensures four_containers_for_nine_sectors { least_containers (record { block_sectors = 2; container_sectors = 8 }) (record { container = 2; offset = 2048; used = 1008; records = 1 }) (lsn_number 1 0 0) 4 9 ≡ 4 }
+    ensures fresh { free_sectors worked.shape worked.place (lsn_number 1 0 0) 2 ≡ 14 }
+    ensures nearly_full { free_sectors worked.shape nearly_full (lsn_number 1 0 0) 2 ≡ 1 }
+    ensures last_container_of_all { free_sectors worked.shape last_of_all (lsn_number 4294967295 0 0) 256 ≡ 7 }
+    ensures grows_by_the_rate { growth worked.shape nearly_full (lsn_number 1 0 0) 2 2 6 2 ≡ Some 4 }
+    ensures grows_up_to_the_maximum { growth worked.shape nearly_full (lsn_number 1 0 0) 2 2 3 2 ≡ None }
+    ensures three_containers_for_eight_sectors { least_containers worked.shape nearly_full (lsn_number 1 0 0) 4 8 ≡ 3 }
+    ensures four_containers_for_nine_sectors { least_containers worked.shape nearly_full (lsn_number 1 0 0) 4 9 ≡ 4 }
 {}

@@ -1,6 +1,5 @@
 // Opening the log anew: what isn't on the disk is lost.
 ghost use Rattle.std.specs.Prelude.{[], ◌∷◌, ◌++◌, codes};
-ghost use Rattle.clfs_lsn.specs.Space.{growth};
 ghost use Rattle.clfs_rows.specs.Worked.{worked, ◌⟹◌, IsDialogue, opening, zeros, append_of_zeros};
 
 /// What isn't flushed is lost, and all areas with what they hold and with their cursors. The LSNs of lost records are given again.

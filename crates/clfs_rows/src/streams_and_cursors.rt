@@ -1,5 +1,9 @@
 // Records of several streams in one log, links, and cursors over them.
-ghost use Rattle.std.specs.Prelude.{[], ◌∷◌, ◌++◌, codes};
+ghost use Rattle.std.specs.Prelude.{◌≡◌, [], ◌∷◌, ◌++◌, codes, map};
+ghost use Rattle.clfs_lsn.specs.Lsn.{lsn_number};
+ghost use Rattle.clfs_model.specs.Reading.{chain};
+ghost use Rattle.clfs_model.specs.declared.call.Mode.TheVariants.{Previous, UndoNext, Forward};
+ghost use Rattle.clfs_rows.specs.Filled.{linked_records, number_of};
 ghost use Rattle.clfs_rows.specs.Worked.{worked, ◌⟹◌, IsDialogue, opening};
 
 /// Records of two streams share a block; each stream shows its own alone.
@@ -133,4 +137,12 @@ pub fn cursors_that_go_on()
         ∷ codes "1 area 1 960 4" ⟹ codes "1 area 1"
         ∷ codes "1 read 1 1:0:0 forward" ⟹ codes "1 cursor 1 record 1:0:0 data 0:0:0 0:0:0 0:0:0 aa"
         ∷ []) }
+{}
+
+/// The LSNs of the records that reading gives from an LSN on.
+pub fn chains_of_records()
+    ensures previous { map number_of (chain linked_records 1 (lsn_number 1 0 3) Previous) ≡ lsn_number 1 0 3 ∷ lsn_number 1 0 2 ∷ lsn_number 1 0 1 ∷ lsn_number 1 0 0 ∷ [] }
+    ensures undo_next { map number_of (chain linked_records 1 (lsn_number 1 0 3) UndoNext) ≡ lsn_number 1 0 3 ∷ lsn_number 1 0 0 ∷ [] }
+    ensures forward { map number_of (chain linked_records 1 (lsn_number 1 0 1) Forward) ≡ lsn_number 1 0 1 ∷ lsn_number 1 0 2 ∷ lsn_number 1 0 3 ∷ [] }
+    ensures from_no_record { map number_of (chain linked_records 1 (lsn_number 1 0 4) Forward) ≡ [] }
 {}

@@ -6,8 +6,8 @@ use Rattle.clfs_model.specs.Run.{fine_outcome}
 use Rattle.clfs_model.specs.Script.{line_request}
 use Rattle.std.proofs.Common.{inr}
 use Rattle.clfs_model.specs.Step.{Step, ReopenStep, with_broken}
-use Rattle.clfs_rows.specs.Worked.{opened_log}
-use Rattle.clfs_rows.proofs.BrokenLog.{fault_breaks}
+use Rattle.clfs_rows.specs.Worked.{opened_log, flushed_log}
+use Rattle.clfs_rows.proofs.BrokenLog.{fault_breaks, no_fault_without_disk, no_fault_where_refused}
 use Rattle.clfs_rows.proofs.faults.what_a_fault_leaves.Goals as goal
 
 pub returns : goal.returns
@@ -15,6 +15,10 @@ unfolding Step ReopenStep grown has_room fine_outcome line_request digits decode
 returns c = record {
   fault_then_broken =
     (with_broken opened_log, (inr (refl, (refl, (refl, refl))), (with_broken opened_log, ((refl, refl), (with_broken opened_log, ((refl, refl), refl))))));
+  damage_then_broken =
+    (with_broken flushed_log, (inr (refl, (refl, (tt, refl))), (with_broken flushed_log, ((refl, refl), refl))));
   opened_again = refl;
   every_fault = fault_breaks;
+  no_fault_of_other_calls = no_fault_without_disk;
+  no_fault_of_refused_calls = no_fault_where_refused;
 }

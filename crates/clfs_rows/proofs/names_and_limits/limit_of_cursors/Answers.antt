@@ -8,4 +8,4 @@ use Rattle.clfs_rows.proofs.names_and_limits.limit_of_cursors.Goals as goal
 
 pub returns : goal.returns
 unfolding grown has_room fine_outcome line_request digits decode_pairs encode_with
-returns c = record { one_cursor = refl }
+returns c = record { one_cursor = refl; sixteen_cursors = refl }
