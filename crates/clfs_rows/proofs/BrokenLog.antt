@@ -1,6 +1,6 @@
 -- What a step from a broken state is, and what a step that meets a fault leaves.
 use Rattle.std.proofs.Common.{◌≡◌, ◌⊎◌, ℕ, Bool, true, false, inl, inr, subst}
-use Rattle.std.specs.Prelude.{Option, Some, None, IsTrue, MatchBool}
+use Rattle.std.specs.Prelude.{Some, None, IsTrue, MatchBool}
 use Rattle.clfs_model.specs.declared.call.Call.{Call}
 use Rattle.clfs_model.specs.declared.reply.Happened.{Happened}
 use Rattle.clfs_model.specs.declared.reply.Happened.TheVariants.{Fault}

@@ -1,5 +1,5 @@
 -- Logs and places that rows begin with, some of which only a long script comes to.
-use Rattle.std.specs.Prelude.{List, ℕ, ◌+◌, ◌*◌, [], ◌∷◌, ◌++◌, map, codes}
+use Rattle.std.specs.Prelude.{ℕ, ◌+◌, ◌*◌, [], ◌∷◌, ◌++◌, map, codes}
 use Rattle.std.specs.List.{range_with_len}
 use Rattle.std.specs.Fmt.{decimal}
 use Rattle.clfs_lsn.specs.Lsn.{null_lsn, lsn_number}

@@ -72,13 +72,12 @@ pub fn where_archiving_begins()
     ensures once_only { IsDialogue worked (opening
         ++ codes "1 append 1 aa 0:0:0 0:0:0 flush" ⟹ codes "1 lsn 1:0:0"
         ∷ codes "1 archive on" ⟹ codes "1 ok"
-        ∷ codes "1 append 1 bb 0:0:0 0:0:0" ⟹ codes "1 lsn 1:200:0"
-        ∷ codes "1 advance 1 1:200:0" ⟹ codes "1 base 1:200:0"
+        ∷ codes "1 tail 1:200:0" ⟹ codes "1 tail 1:200:0"
         ∷ codes "1 archive on" ⟹ codes "1 ok"
-        ∷ codes "1 info 1" ⟹ codes "1 info containers 2 free 1 size 8 sectors 12 reserved 0 base 1:200:0 last 1:200:0 flushed 1:400:0 restart 0:0:0 archive 1:0:0"
+        ∷ codes "1 info 1" ⟹ codes "1 info containers 2 free 1 size 8 sectors 13 reserved 0 base 0:0:0 last 1:0:0 flushed 1:200:0 restart 0:0:0 archive 1:200:0"
         ∷ codes "1 archive off" ⟹ codes "1 ok"
         ∷ codes "1 archive on" ⟹ codes "1 ok"
-        ∷ codes "1 info 1" ⟹ codes "1 info containers 2 free 1 size 8 sectors 12 reserved 0 base 1:200:0 last 1:200:0 flushed 1:400:0 restart 0:0:0 archive 1:200:0"
+        ∷ codes "1 info 1" ⟹ codes "1 info containers 2 free 1 size 8 sectors 13 reserved 0 base 0:0:0 last 1:0:0 flushed 1:200:0 restart 0:0:0 archive 1:0:0"
         ∷ []) }
 {}
 
@@ -110,6 +109,11 @@ pub fn blocks_to_archive()
         ++ codes "1 archive on" ⟹ codes "1 ok"
         ∷ append_of_zeros 448 [] ⟹ codes "1 lsn 1:0:0"
         ∷ append_of_zeros 448 (codes " flush") ⟹ codes "1 lsn 1:0:1"
+        ∷ codes "1 extents" ⟹ codes "1 extents 1 1:0-400"
+        ∷ []) }
+    ensures a_blocks_header_counts { IsDialogue worked (opening
+        ++ codes "1 archive on" ⟹ codes "1 ok"
+        ∷ append_of_zeros 457 (codes " flush") ⟹ codes "1 lsn 1:0:0"
         ∷ codes "1 extents" ⟹ codes "1 extents 1 1:0-400"
         ∷ []) }
     ensures not_what_is_open_or_waits { IsDialogue worked (opening

@@ -25,12 +25,22 @@ pub use bases_and_recycling::{containers_are_used_again, new_bases};
 pub use disk_and_memory::{calls_that_leave_the_disk_alone, calls_that_reach_the_disk};
 pub use faults::{texts_of_faults, what_a_broken_log_answers, what_a_fault_leaves};
 pub use journals::{entries_of_a_client, sectors_that_an_area_holds};
-pub use lines::{clients_and_verbs, ends_of_lines, first_scripts, lines_within_limits, options_of_appends, words_of_lines};
+pub use lines::{
+    clients_and_verbs, ends_of_lines, first_scripts, lines_within_limits, options_of_appends,
+    words_of_lines,
+};
 pub use names_and_limits::{limit_of_areas, limit_of_cursors, limit_of_streams, names_of_streams};
-pub use order_of_refusals::{one_container, refusals_of_appends, refusals_of_reads, refusals_of_restart_areas};
-pub use places::{days_use, largest_blocks, moves_to_the_next_container, records_in_a_block, records_of_a_block, room_of_places, sealing_and_writing};
+pub use order_of_refusals::{
+    one_container, refusals_of_appends, refusals_of_reads, refusals_of_restart_areas,
+};
+pub use places::{
+    days_use, largest_blocks, moves_to_the_next_container, records_in_a_block, records_of_a_block,
+    room_of_places, sealing_and_writing,
+};
 pub use policies_and_sizes::{automatic_growth, sizes_that_are_asked_for, values_of_policies};
 pub use reopening::{what_is_lost, what_stays};
 pub use reservations::{reserved_records, room_that_is_wanted, sectors_of_records};
 pub use restart_areas::{kinds_of_cursors, newest_first, with_a_new_base};
-pub use streams_and_cursors::{chains_of_records, cursors_that_go_on, links_between_records, two_streams};
+pub use streams_and_cursors::{
+    chains_of_records, cursors_that_go_on, links_between_records, two_streams,
+};

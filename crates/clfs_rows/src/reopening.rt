@@ -28,6 +28,15 @@ pub fn what_is_lost()
         ∷ codes "1 append 1 a3 0:0:0 0:0:0" ⟹ codes "1 lsn 1:200:0"
         ∷ codes "1 info 1" ⟹ codes "1 info containers 2 free 1 size 8 sectors 12 reserved 0 base 0:0:0 last 1:200:0 flushed 1:200:0 restart 0:0:0 archive off"
         ∷ []) }
+    ensures blocks_that_waited_count_no_more { IsDialogue worked (opening
+        ++ codes "1 append 1 a0 0:0:0 0:0:0 seal" ⟹ codes "1 lsn 1:0:0"
+        ∷ codes "1 reopen" ⟹ codes "1 flushed 1:0:0"
+        ∷ codes "1 area 1 960 4" ⟹ codes "1 area 1"
+        ∷ codes "1 append 1 a1 0:0:0 0:0:0 seal" ⟹ codes "1 lsn 1:0:0"
+        ∷ codes "1 append 1 a2 0:0:0 0:0:0 seal" ⟹ codes "1 lsn 1:200:0"
+        ∷ codes "1 append 1 a3 0:0:0 0:0:0 seal" ⟹ codes "1 lsn 1:400:0"
+        ∷ codes "1 info 1" ⟹ codes "1 info containers 2 free 1 size 8 sectors 11 reserved 0 base 0:0:0 last 1:400:0 flushed 1:0:0 restart 0:0:0 archive off"
+        ∷ []) }
     ensures of_all_clients { IsDialogue worked (opening
         ++ codes "2 area 1 960 4" ⟹ codes "2 area 1"
         ∷ codes "2 reserve 1 960" ⟹ codes "2 held 2"

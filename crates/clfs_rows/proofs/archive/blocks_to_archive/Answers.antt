@@ -12,6 +12,7 @@ returns c = record {
   whole_blocks = refl;
   below_every_base_too = refl;
   a_block_of_two_records = refl;
+  a_blocks_header_counts = refl;
   not_what_is_open_or_waits = refl;
   of_all_streams = refl;
   ten_containers = refl;

@@ -14,9 +14,9 @@ pub returns : goal.returns
 unfolding Step ReopenStep grown has_room fine_outcome line_request digits decode_pairs encode_with
 returns c = record {
   fault_then_broken =
-    (with_broken opened_log, (inr (refl, (refl, (refl, refl))), (with_broken opened_log, ((refl, refl), (with_broken opened_log, ((refl, refl), refl))))));
+      (with_broken opened_log, (inr (refl, (refl, (refl, refl))), (with_broken opened_log, ((refl, refl), (with_broken opened_log, ((refl, refl), refl))))));
   damage_then_broken =
-    (with_broken flushed_log, (inr (refl, (refl, (tt, refl))), (with_broken flushed_log, ((refl, refl), refl))));
+      (with_broken flushed_log, (inr (refl, (refl, (tt, refl))), (with_broken flushed_log, ((refl, refl), refl))));
   opened_again = refl;
   every_fault = fault_breaks;
   no_fault_of_other_calls = no_fault_without_disk;
