@@ -20,6 +20,12 @@ pub fn calls_that_reach_the_disk()
         ∷ codes "1 append 1 aa 0:0:0 0:0:0" ⟹ codes "1 lsn 1:600:0"
         ∷ [])
         (append_of_zeros 960 []) ≡ true }
+    ensures a_block_begun_and_sealed_as_the_fourth { reaches_disk (opening
+        ++ codes "1 append 1 aa 0:0:0 0:0:0 seal" ⟹ codes "1 lsn 1:0:0"
+        ∷ codes "1 append 1 aa 0:0:0 0:0:0 seal" ⟹ codes "1 lsn 1:200:0"
+        ∷ codes "1 append 1 aa 0:0:0 0:0:0" ⟹ codes "1 lsn 1:400:0"
+        ∷ [])
+        (append_of_zeros 960 (codes " seal")) ≡ true }
     ensures a_move_to_the_next_container { reaches_disk (opening
         ++ append_of_zeros 960 [] ⟹ codes "1 lsn 1:0:0"
         ∷ append_of_zeros 960 [] ⟹ codes "1 lsn 1:400:0"

@@ -1,5 +1,6 @@
 // Names of streams, and the limits of streams, areas and cursors.
-ghost use Rattle.std.specs.Prelude.{◌≡◌, [], ◌∷◌, ◌++◌, codes};
+ghost use Rattle.std.specs.Prelude.{◌≡◌, [], ◌∷◌, ◌++◌, codes, Some};
+ghost use Rattle.clfs_model.specs.Refusals.{name_fault};
 ghost use Rattle.clfs_rows.specs.Filled.{streams_of};
 ghost use Rattle.clfs_rows.specs.Worked.{worked, answers_to, ◌⟹◌, IsDialogue, opening, zeros, append_of_zeros};
 
@@ -28,6 +29,7 @@ pub fn names_of_streams()
         ∷ codes "1 open abcde:ghijklmnopqrstuvwxyz0123456" ⟹ codes "1 refused 16 NameInvalid 5"
         ∷ codes "1 open abcdefghijklmnopqrstuvwxyz01234:" ⟹ codes "1 refused 16 NameInvalid 31"
         ∷ []) }
+    ensures empty_name { name_fault [] ≡ Some 0 }
     ensures bytes_above_127 { answers_to worked (codes "1 open a" ++ 233 ∷ codes "\n") ≡ codes "1 refused 16 NameInvalid 1\n" }
     ensures opened_before { IsDialogue worked (
         codes "1 open a" ⟹ codes "1 stream 1"

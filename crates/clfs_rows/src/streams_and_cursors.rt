@@ -110,6 +110,16 @@ pub fn cursors_that_go_on()
         ∷ codes "1 next 1 1" ⟹ codes "1 refused 19 StartOfLog"
         ∷ codes "1 read 1 1:0:0 forward" ⟹ codes "1 refused 17 RecordNonexistent 1:0:0"
         ∷ []) }
+    ensures each_moves_alone { IsDialogue worked (opening
+        ++ codes "1 append 1 a0 0:0:0 0:0:0" ⟹ codes "1 lsn 1:0:0"
+        ∷ codes "1 append 1 a1 0:0:0 0:0:0" ⟹ codes "1 lsn 1:0:1"
+        ∷ codes "1 append 1 a2 0:0:0 0:0:0" ⟹ codes "1 lsn 1:0:2"
+        ∷ codes "1 read 1 1:0:0 forward" ⟹ codes "1 cursor 1 record 1:0:0 data 0:0:0 0:0:0 0:0:0 a0"
+        ∷ codes "1 read 1 1:0:0 forward" ⟹ codes "1 cursor 2 record 1:0:0 data 0:0:0 0:0:0 0:0:0 a0"
+        ∷ codes "1 next 1 1" ⟹ codes "1 record 1:0:1 data 0:0:0 0:0:0 0:0:0 a1"
+        ∷ codes "1 next 1 1" ⟹ codes "1 record 1:0:2 data 0:0:0 0:0:0 0:0:0 a2"
+        ∷ codes "1 next 1 2" ⟹ codes "1 record 1:0:1 data 0:0:0 0:0:0 0:0:0 a1"
+        ∷ []) }
     ensures restart_areas_are_records { IsDialogue worked (opening
         ++ codes "1 append 1 aa 0:0:0 0:0:0" ⟹ codes "1 lsn 1:0:0"
         ∷ codes "1 restart 1 bb -" ⟹ codes "1 lsn 1:0:1"

@@ -12,6 +12,7 @@ returns c = record {
   an_append_that_flushes = refl;
   the_fourth_sealed_block = refl;
   the_fourth_block_begun = refl;
+  a_block_begun_and_sealed_as_the_fourth = refl;
   a_move_to_the_next_container = refl;
   an_append_that_grows_the_log = refl;
   a_reservation_that_grows_the_log = refl;

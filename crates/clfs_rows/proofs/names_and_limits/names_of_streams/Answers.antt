@@ -8,4 +8,4 @@ use Rattle.clfs_rows.proofs.names_and_limits.names_of_streams.Goals as goal
 
 pub returns : goal.returns
 unfolding grown has_room fine_outcome line_request digits decode_pairs encode_with
-returns c = record { bytes_of_a_name = refl; longest_name = refl; bytes_above_127 = refl; opened_before = refl }
+returns c = record { bytes_of_a_name = refl; longest_name = refl; empty_name = refl; bytes_above_127 = refl; opened_before = refl }

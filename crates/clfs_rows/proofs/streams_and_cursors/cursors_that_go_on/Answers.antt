@@ -12,6 +12,7 @@ returns c = record {
   base_of_the_moment = refl;
   end_of_the_log_is_no_end = refl;
   a_link_at_the_base_is_followed = refl;
+  each_moves_alone = refl;
   restart_areas_are_records = refl;
   least_unused_number = refl;
 }
