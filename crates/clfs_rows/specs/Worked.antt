@@ -25,8 +25,8 @@ pub record Exchange : Type 0 where
   pub asked : List ℕ
   pub told : List ℕ
 
--- this line is answered so
 infix 70 ◌⟹◌
+-- this line is answered so
 abbrev pub ◌⟹◌ : List ℕ → List ℕ → Exchange
 asked ⟹ told = record { asked = asked; told = told }
 

@@ -29,7 +29,9 @@ pub use lines::{
     clients_and_verbs, ends_of_lines, first_scripts, lines_within_limits, options_of_appends,
     words_of_lines,
 };
-pub use names_and_limits::{limit_of_areas, limit_of_cursors, limit_of_streams, names_of_streams};
+pub use names_and_limits::{
+    arguments_of_calls, limit_of_areas, limit_of_cursors, limit_of_streams, names_of_streams,
+};
 pub use order_of_refusals::{
     one_container, refusals_of_appends, refusals_of_reads, refusals_of_restart_areas,
 };

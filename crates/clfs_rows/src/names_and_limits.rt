@@ -1,6 +1,8 @@
 // Names of streams, and the limits of streams, areas and cursors.
 ghost use Rattle.std.specs.Prelude.{◌≡◌, [], ◌∷◌, ◌++◌, codes, Some};
 ghost use Rattle.clfs_model.specs.Refusals.{name_fault};
+ghost use Rattle.clfs_model.specs.declared.call.Call.TheVariants as calls;
+ghost use Rattle.clfs_model.specs.Conditions.{IsClient, HasArguments};
 ghost use Rattle.clfs_rows.specs.Filled.{streams_of};
 ghost use Rattle.clfs_rows.specs.Worked.{worked, answers_to, ◌⟹◌, IsDialogue, opening, zeros, append_of_zeros};
 
@@ -147,4 +149,15 @@ pub fn limit_of_cursors()
         ∷ codes "1 end 2 16" ⟹ codes "1 ok"
         ∷ codes "1 read 2 1:0:0 forward" ⟹ codes "1 cursor 16 record 1:0:0 data 0:0:0 0:0:0 0:0:0 aa"
         ∷ []) }
+{}
+
+/// What a caller of the library has to give: a client from 1 to 64, and 1 to 16 cursors.
+pub fn arguments_of_calls()
+    ensures least_client { IsClient 1 }
+    ensures greatest_client { IsClient 64 }
+    ensures no_client { ¬ IsClient 0 }
+    ensures client_65 { ¬ IsClient 65 }
+    ensures sixteen_cursors { HasArguments (calls.CreateArea 1 960 16) }
+    ensures no_cursor { ¬ HasArguments (calls.CreateArea 1 960 0) }
+    ensures seventeen_cursors { ¬ HasArguments (calls.CreateArea 1 960 17) }
 {}
