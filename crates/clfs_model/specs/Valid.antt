@@ -50,9 +50,10 @@ pub record HasTables (s : State) : Type 0 where
   pub numbers : AllPairs AreDifferent s.areas
   pub areas : All (IsArea s) s.areas
 
--- a record of a stream that is there, below the frontier, whose links are null or below it
+-- a record of a stream that is there, above the null LSN and below the frontier, whose links are null or below it
 pub record IsRecord (s : State) (entry : LogEntry) : Type 0 where
   pub stream : IsSome (stream_at s entry.stream)
+  pub named : null_lsn < entry.lsn
   pub below : entry.lsn < frontier s.place
   pub previous : (entry.previous ≡ null_lsn) ⊎ (entry.previous < entry.lsn)
   pub undo_next : (entry.undo_next ≡ null_lsn) ⊎ (entry.undo_next < entry.lsn)
