@@ -1,0 +1,68 @@
+-- A call that met a disk fault or damage leaves the log broken.
+use Rattle.std.proofs.Common.{◌≡◌, ℕ, Bool, true, false, refl, ap, ◌∙◌, inl, inr, ◌⊎◌}
+use Rattle.std.specs.Prelude.{Option, Some, None, MatchOption}
+use Rattle.clfs_model.specs.declared.call.Call.{Call}
+use Rattle.clfs_model.specs.declared.refusal.Refusal.{Refusal}
+use Rattle.clfs_model.specs.declared.reply.Happened.{Happened}
+use Rattle.clfs_model.specs.declared.reply.Happened.TheVariants.{Fine, Fault, Damage}
+use Rattle.clfs_model.specs.declared.reply.Reply.{Reply}
+use Rattle.clfs_model.specs.declared.reply.Reply.TheVariants as replies
+use Rattle.clfs_model.specs.declared.state.State.{State}
+use Rattle.clfs_model.specs.Happened.{happened_of}
+use Rattle.clfs_model.specs.Refusals.{refusal}
+use Rattle.clfs_model.specs.Answers.{answer}
+use Rattle.clfs_model.specs.Step.{Step, Goes, Comes, IsReply, HasAnyContent}
+use Rattle.clfs_laws.proofs.CallRefusals.{Told, fine_of, terms_of, refusal_told}
+use Rattle.clfs_laws.proofs.FineAnswers.{answer_fine}
+use Rattle.clfs_laws.proofs.StepCases.{broken_step, whole_step}
+
+-- a reply with any content tells that the same happened
+content_fine : (answered reply : Reply) → HasAnyContent answered reply → happened_of reply ≡ happened_of answered
+content_fine (replies.Found cursor entry) reply is = ap happened_of is.1.1
+content_fine (replies.Next entry) reply is = ap happened_of is.1.1
+content_fine (replies.Stream number) reply is = ap happened_of is
+content_fine (replies.Area number) reply is = ap happened_of is
+content_fine replies.Done reply is = ap happened_of is
+content_fine (replies.Held sectors) reply is = ap happened_of is
+content_fine (replies.Sectors sectors) reply is = ap happened_of is
+content_fine (replies.Placed lsn) reply is = ap happened_of is
+content_fine (replies.Flushed lsn) reply is = ap happened_of is
+content_fine (replies.Base lsn) reply is = ap happened_of is
+content_fine (replies.Tail lsn) reply is = ap happened_of is
+content_fine (replies.Extents extents) reply is = ap happened_of is
+content_fine (replies.Containers containers) reply is = ap happened_of is
+content_fine (replies.Info info) reply is = ap happened_of is
+content_fine (replies.Refused refusal) reply is = ap happened_of is
+
+reply_fine : (told : Bool) (answered reply : Reply) → IsReply told answered reply → happened_of reply ≡ happened_of answered
+reply_fine true answered reply is = ap happened_of is
+reply_fine false answered reply is = content_fine answered reply is
+
+-- where nothing happened, the reply tells so
+fine_told : (told : Bool) (s : State) (client : ℕ) (call : Call) (reply : Reply) (t : State) (first : Option Refusal) → Told (terms_of s client call) first
+    → MatchOption first (Comes told (answer s client call) reply t) (λ r. (reply ≡ replies.Refused r) × (t ≡ s)) → happened_of reply ≡ Fine
+fine_told told s client call reply t None tells comes = reply_fine told (answer s client call).reply reply comes.0 ∙ answer_fine s client call
+fine_told told s client call reply t (Some first) tells comes = ap happened_of comes.0 ∙ fine_of (terms_of s client call) first tells
+
+-- a step tells that nothing happened, or leaves the log broken
+goes_told : (told : Bool) (s : State) (client : ℕ) (call : Call) (happened : Happened) (reply : Reply) (t : State)
+    → Goes told s client call happened reply t → (happened_of reply ≡ Fine) ⊎ (t.broken ≡ true)
+goes_told told s client call Fine reply t goes = inl (fine_told told s client call reply t (refusal s client call) (refusal_told s client call) goes)
+goes_told told s client call Fault reply t goes = inr (ap (λ (x : State). x.broken) goes.1.1.1)
+goes_told told s client call Damage reply t goes = inr (ap (λ (x : State). x.broken) goes.1.1.1)
+
+told_by : (told : Bool) (s : State) (client : ℕ) (call : Call) (happened : Happened) (reply : Reply) (t : State) (broken : Bool) → s.broken ≡ broken
+    → Step told s client call happened reply t → (happened_of reply ≡ Fine) ⊎ (t.broken ≡ true)
+told_by told s client call happened reply t true is step = inl (ap happened_of (broken_step told s client call happened reply t is step).0)
+told_by told s client call happened reply t false is step = elim (whole_step told s client call happened reply t is step) [
+  | inl want ↦ inl (ap happened_of want.1.0)
+  | inr goes ↦ goes_told told s client call happened reply t goes
+]
+
+-- where the reply doesn't tell that nothing happened, the log is broken
+pub not_fine_breaks : (told : Bool) (s : State) (client : ℕ) (call : Call) (happened : Happened) (reply : Reply) (t : State)
+    → Step told s client call happened reply t → (happened_of reply ≡ Fine → ⊥) → t.broken ≡ true
+not_fine_breaks told s client call happened reply t step not_fine = elim (told_by told s client call happened reply t s.broken refl step) [
+  | inl fine ↦ absurd (not_fine fine)
+  | inr broken ↦ broken
+]

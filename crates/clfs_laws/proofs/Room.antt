@@ -1,0 +1,93 @@
+-- When a call is refused for space, and when it can't be.
+use Rattle.std.proofs.Common.{◌≡◌, ℕ, ◌+◌, ◌≤◌, ◌<◌, Bool, true, false, refl, ap, subst, arith, inl, inr, List, [], ◌∷◌, length}
+use Rattle.std.specs.Prelude.{Option, Some, None, nat_lt, ◌&&◌, find, sum_by}
+use Rattle.std.proofs.lemmas.Bool.{cases_Bool, ltb-true, le-leb, le-ltb}
+use Rattle.std.proofs.lemmas.List.Sums.{sum_by-cons}
+use Rattle.clfs_lsn.specs.Size.{own}
+use Rattle.clfs_model.specs.declared.call.Call.{Call}
+use Rattle.clfs_model.specs.declared.call.Call.TheVariants as calls
+use Rattle.clfs_model.specs.declared.call.Draft.{Draft}
+use Rattle.clfs_model.specs.declared.refusal.Refusal.{Refusal}
+use Rattle.clfs_model.specs.declared.refusal.Refusal.TheVariants as refusals
+use Rattle.clfs_model.specs.declared.state.State.{State}
+use Rattle.clfs_model.specs.declared.state.Area.{Area}
+use Rattle.clfs_model.specs.State.{area_of, is_area}
+use Rattle.clfs_model.specs.Space.{free, reserved, grown, has_room}
+use Rattle.clfs_model.specs.Refusals.{refusal}
+use Rattle.clfs_model.specs.Valid.{IsValid}
+use Rattle.clfs_laws.specs.Needs.{needed_sectors, taken_sectors, area_number, held_of}
+use Rattle.clfs_laws.proofs.CallRefusals.{Told, HasRoom, terms_of, refusal_told}
+
+-- what it tells that a call is refused so, or isn't
+told_at : (s : State) (client : ℕ) (call : Call) (given : Option Refusal) → refusal s client call ≡ given → Told (terms_of s client call) given
+told_at s client call given is = let F : Option Refusal → Type 0 = Told (terms_of s client call) in subst F is (refusal_told s client call)
+
+pub full_told : (s : State) (client : ℕ) (call : Call) (of_free of_reserved need : ℕ) → refusal s client call ≡ Some (refusals.Full of_free of_reserved need)
+    → (needed_sectors call ≡ Some need) × ((has_room s need ≡ false) × ((of_free ≡ free (grown s need)) × (of_reserved ≡ reserved (grown s need))))
+full_told s client call of_free of_reserved need is = told_at s client call (Some (refusals.Full of_free of_reserved need)) is
+
+pub room_told : (s : State) (client : ℕ) (call : Call) (need : ℕ) → refusal s client call ≡ None → needed_sectors call ≡ Some need → has_room s need ≡ true
+room_told s client call need is needs = let F : Option ℕ → Type 0 = HasRoom s in subst F needs (told_at s client call None is)
+
+pub short_told : (s : State) (client : ℕ) (call : Call) (held need : ℕ) → refusal s client call ≡ Some (refusals.ReservationShort held need)
+    → (held ≡ held_of (area_of s client (area_number call))) × ((need ≡ taken_sectors call) × (held < need))
+short_told s client call held need is =
+    let tells = told_at s client call (Some (refusals.ReservationShort held need)) is in
+    let less : held_of (area_of s client (area_number call)) < taken_sectors call = ltb-true _ _ tells.1.1 in
+    (tells.0, (tells.1.0, omega (arith, less, tells.0, tells.1.0)))
+
+-- a test fails where its second part does
+second_fails : (a b : Bool) → b ≡ false → (a && b) ≡ false
+second_fails true b fails = fails
+second_fails false b fails = refl
+
+-- a log whose reserved sectors are free doesn't grow for nothing
+pub not_grown : (s : State) → reserved s ≤ free s → grown s 0 ≡ s
+unfolding grown
+not_grown s fits =
+    let enough : nat_lt (free s) (reserved s + 0) ≡ false = le-ltb (free s) (reserved s + 0) (omega (arith, fits)) in
+    rw (second_fails s.automatic (nat_lt (free s) (reserved s + 0)) enough) refl
+
+-- it has room for nothing
+room_for_nothing : (s : State) → reserved s ≤ free s → has_room s 0 ≡ true
+unfolding has_room
+room_for_nothing s fits = rw (not_grown s fits) (le-leb (reserved s + 0) (free s) (omega (arith, fits)))
+
+pub never_full : (s : State) (client number : ℕ) (area : Area) (draft : Draft) (of_free of_reserved need : ℕ)
+    → IsValid s → area_of s client number ≡ Some area → own (length draft.bytes) ≤ area.held
+    → refusal s client (calls.Append number draft true []) ≡ Some (refusals.Full of_free of_reserved need) → ⊥
+never_full s client number area draft of_free of_reserved need valid there held is =
+    let tells = full_told s client (calls.Append number draft true []) of_free of_reserved need is in
+    let none : need ≡ 0 = cc (tells.0) in
+    let room : has_room s 0 ≡ true = room_for_nothing s valid.space.room in
+    let lacks : has_room s 0 ≡ false = rw none at tells.1.0 in
+    cc (room, lacks)
+
+pub never_short : (s : State) (client number : ℕ) (area : Area) (draft : Draft) (of_held need : ℕ)
+    → IsValid s → area_of s client number ≡ Some area → own (length draft.bytes) ≤ area.held
+    → refusal s client (calls.Append number draft true []) ≡ Some (refusals.ReservationShort of_held need) → ⊥
+never_short s client number area draft of_held need valid there held is =
+    let tells = short_told s client (calls.Append number draft true []) of_held need is in
+    let has : held_of (area_of s client number) ≡ area.held = ap held_of there in
+    omega (arith, tells.0, tells.1.0, tells.1.1, has, held)
+
+-- what one area holds is part of what all hold
+held_below : (p : Area → Bool) (areas : List Area) (area : Area) → find p areas ≡ Some area → area.held ≤ sum_by (λ (a : Area). a.held) areas
+held_below p [] area is = absurd (cc)
+held_below p (first ∷ areas) area is = let total = sum_by-cons (λ (a : Area). a.held) first areas in elim (cases_Bool (p first)) [
+  | inl here ↦ let found = rw here at is in let same : first ≡ area = cc in omega (arith, ap (λ (a : Area). a.held) same, total)
+  | inr there ↦ let found = rw there at is in omega (arith, held_below p areas area found, total)
+]
+
+-- a record takes at least one sector
+own_some : (n : ℕ) → 1 ≤ own n
+own_some n = omega arith
+
+pub never_few : (s : State) (client number : ℕ) (area : Area) (draft : Draft) (have : ℕ)
+    → IsValid s → area_of s client number ≡ Some area → own (length draft.bytes) ≤ area.held
+    → refusal s client (calls.Append number draft true []) ≡ Some (refusals.NotEnoughContainers have) → ⊥
+never_few s client number area draft have valid there held is =
+    let tells = told_at s client (calls.Append number draft true []) (Some (refusals.NotEnoughContainers have)) is in
+    let few : s.containers < 2 = ltb-true s.containers 2 tells.1 in
+    let some : 0 < reserved s = omega (arith, held_below (is_area client number) s.areas area there, own_some (length draft.bytes), held) in
+    omega (arith, few, valid.space.two some)

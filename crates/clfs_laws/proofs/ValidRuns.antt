@@ -1,0 +1,64 @@
+-- What a valid state stays over steps and journals.
+use Rattle.std.proofs.Common.{◌≡◌, ℕ, ◌≤◌, Bool, true, false, refl, sym, subst, inl, inr, ◌⊎◌, arith, List, [], ◌∷◌, ◌++◌}
+use Rattle.std.specs.Prelude.{Option, Some, None, MatchBool}
+use Rattle.std.specs.Option.{option_map_or}
+use Rattle.clfs_lsn.specs.Size.{own}
+use Rattle.clfs_model.specs.declared.journal.Entry.{Entry}
+use Rattle.clfs_model.specs.declared.reply.Happened.{Happened}
+use Rattle.clfs_model.specs.declared.reply.Happened.TheVariants.{Fine, Fault, Damage}
+use Rattle.clfs_model.specs.declared.reply.Reply.{Reply}
+use Rattle.clfs_model.specs.declared.state.State.{State}
+use Rattle.clfs_model.specs.declared.state.Area.{Area}
+use Rattle.clfs_model.specs.State.{area_of}
+use Rattle.clfs_model.specs.Journals.{GoesOn, IsLegal, mine, held_by, held_in}
+use Rattle.clfs_model.specs.Step.{ReopenStep, IsBroken, IsOutOfMemory, Reopens, with_broken}
+use Rattle.clfs_model.specs.Valid.{IsValid}
+use Rattle.clfs_laws.proofs.HeldRuns.{held_is}
+use Rattle.clfs_laws.proofs.ValidAreas.{valid_broken}
+use Rattle.clfs_laws.proofs.ValidSteps.{valid_step}
+
+valid_as : (s t : State) → t ≡ s → IsValid s → IsValid t
+valid_as s t same valid = subst IsValid (sym same) valid
+
+reopens_valid : (told : Bool) (s : State) (happened : Happened) (reply : Reply) (t : State) → Reopens told s happened reply t → IsValid s → IsValid t
+reopens_valid told s Fine reply t is valid = is.1.0
+reopens_valid told s Fault reply t is valid = valid_as (with_broken s) t is.1 (valid_broken s true valid)
+reopens_valid told s Damage reply t is valid = valid_as (with_broken s) t is.1 (valid_broken s true valid)
+
+reopened_by : (told : Bool) (s : State) (happened : Happened) (reply : Reply) (t : State) (broken : Bool)
+    → MatchBool broken (IsBroken s reply t) (IsOutOfMemory s reply t ⊎ Reopens told s happened reply t) → IsValid s → IsValid t
+reopened_by told s happened reply t true is valid = valid_as s t is.1 valid
+reopened_by told s happened reply t false (inl want) valid = valid_as s t want.1 valid
+reopened_by told s happened reply t false (inr reopens) valid = reopens_valid told s happened reply t reopens valid
+
+-- opening anew leaves a valid state
+pub valid_reopened : (told : Bool) (s : State) (happened : Happened) (reply : Reply) (t : State) → ReopenStep told s happened reply t → IsValid s → IsValid t
+unfolding ReopenStep
+valid_reopened told s happened reply t step valid = reopened_by told s happened reply t s.broken step valid
+
+valid_through : (told : Bool) (before : List Entry) (s t : State) (entries : List Entry) → GoesOn told before s entries t → IsValid s → IsValid t
+valid_through told before s t [] goes valid = valid_as s t goes valid
+valid_through told before s t (entry ∷ entries) goes valid =
+    valid_through told (before ++ entry ∷ []) goes.0 t entries goes.1.1
+    (valid_step told s entry.client entry.call entry.happened entry.reply goes.0 valid goes.1.0.step)
+
+-- a journal leaves a valid state
+pub valid_journal : (told : Bool) (s t : State) (journal : List Entry) → IsLegal told journal s t → IsValid s → IsValid t
+valid_journal told s t journal legal valid = valid_through told [] s t journal legal valid
+
+-- an area that holds something is there
+pub record HoldsEnough (s : State) (client number n : ℕ) : Type 0 where
+  pub area : Area
+  pub there : area_of s client number ≡ Some area
+  pub enough : own n ≤ area.held
+
+holds_by : (s : State) (client number n : ℕ) (found : Option Area) → area_of s client number ≡ found → own n ≤ option_map_or (λ (area : Area). area.held) found 0
+    → HoldsEnough s client number n
+holds_by s client number n None is enough = absurd (omega (arith, enough))
+holds_by s client number n (Some found) is enough = record { area = found; there = is; enough = enough }
+
+pub holds_enough : (told : Bool) (s t : State) (journal : List Entry) (client number n : ℕ) → IsLegal told journal s t
+    → own n ≤ held_by s client (mine journal client) number → HoldsEnough t client number n
+holds_enough told s t journal client number n legal enough =
+    let same : held_in t client number ≡ held_by s client (mine journal client) number = held_is told s t journal client number legal in
+    holds_by t client number n (area_of t client number) refl (omega (arith, enough, same))

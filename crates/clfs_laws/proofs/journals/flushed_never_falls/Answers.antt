@@ -1,0 +1,8 @@
+use Rattle.clfs_laws.proofs.FlushedRises.{flushed_rises, journal_rises}
+use Rattle.clfs_laws.proofs.journals.flushed_never_falls.Goals as goal
+
+pub returns-clause-step : goal.returns-clause-step
+returns-clause-step c = flushed_rises
+
+pub returns-clause-journal : goal.returns-clause-journal
+returns-clause-journal c = λ told s t journal valid legal. journal_rises told s t journal legal valid

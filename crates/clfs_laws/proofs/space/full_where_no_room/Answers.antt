@@ -1,0 +1,8 @@
+use Rattle.clfs_laws.proofs.Room.{full_told, room_told}
+use Rattle.clfs_laws.proofs.space.full_where_no_room.Goals as goal
+
+pub returns-clause-no_room : goal.returns-clause-no_room
+returns-clause-no_room c = full_told
+
+pub returns-clause-room : goal.returns-clause-room
+returns-clause-room c = room_told

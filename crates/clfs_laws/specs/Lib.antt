@@ -1,0 +1,5 @@
+pub mod Needs
+pub mod Chains
+pub mod Rows
+pub mod Cursors
+pub mod Stable

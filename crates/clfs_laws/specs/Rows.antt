@@ -1,0 +1,58 @@
+-- What an area was made for and what it holds, and how one call of its client changes that, by the call and its reply alone.
+use Rattle.std.specs.Prelude.{ℕ, ◌+◌, ◌-◌, Bool, ◌==◌, if◌then◌else◌, List, [], ◌∷◌, length, Option, Some, None}
+use Rattle.std.specs.Option.{option_map}
+use Rattle.clfs_model.specs.declared.call.Call.{Call}
+use Rattle.clfs_model.specs.declared.call.Call.TheVariants as calls
+use Rattle.clfs_model.specs.declared.journal.Entry.{Entry}
+use Rattle.clfs_model.specs.declared.reply.Reply.{Reply}
+use Rattle.clfs_model.specs.declared.reply.Reply.TheVariants as replies
+use Rattle.clfs_model.specs.declared.state.State.{State}
+use Rattle.clfs_model.specs.declared.state.Area.{Area}
+use Rattle.clfs_model.specs.State.{area_of}
+use Rattle.clfs_model.specs.Space.{own_sum}
+use Rattle.clfs_model.specs.Put.{spent_of}
+
+-- an area without its name and its cursors
+pub record Row : Type 0 where
+  pub stream : ℕ
+  pub largest : ℕ
+  pub reads : ℕ
+  pub held : ℕ
+
+-- the row of an area
+abbrev pub row_of : Area → Row
+row_of area = record { stream = area.stream; largest = area.largest; reads = area.reads; held = area.held }
+
+-- the row of a client's area of a number, where it is there
+abbrev pub row_in : State → ℕ → ℕ → Option Row
+row_in s client number = option_map row_of (area_of s client number)
+
+-- a row that holds so many sectors
+abbrev pub with_held : ℕ → Row → Row
+with_held sectors row = record row { held = sectors }
+
+-- a row that holds so many sectors fewer, and then so many more
+abbrev pub with_changed_held : ℕ → ℕ → Row → Row
+with_changed_held fewer more row = record row { held = row.held - fewer + more }
+
+-- the row changed, where it is the one that is named
+abbrev pub changed_where : Bool → (Row → Row) → Option Row → Option Row
+changed_where named change row = if named then option_map change row else row
+
+-- the row of a number after a call of its client
+abbrev pub row_after : ℕ → Option Row → Call → Reply → Option Row
+row_after number row (calls.CreateArea stream largest reads) (replies.Area given) =
+    if given == number then Some (record { stream = stream; largest = largest; reads = reads; held = 0 }) else row
+row_after number row (calls.DeleteArea given) replies.Done = if given == number then None else row
+row_after number row (calls.Reserve given sizes) (replies.Held now) = changed_where (given == number) (with_held now) row
+row_after number row (calls.Release given sectors) (replies.Held now) = changed_where (given == number) (with_held now) row
+row_after number row (calls.Append given draft reserved sizes) (replies.Placed lsn) =
+    changed_where (given == number) (with_changed_held (spent_of reserved (length draft.bytes)) (own_sum sizes)) row
+row_after number row (calls.WriteRestart given bytes base reserved) (replies.Placed lsn) =
+    changed_where (given == number) (with_changed_held (spent_of reserved (length bytes)) 0) row
+row_after number row call reply = row
+
+-- the row of a number after some of its client's entries
+abbrev pub row_through : ℕ → Option Row → List Entry → Option Row
+row_through number row [] = row
+row_through number row (entry ∷ entries) = row_through number (row_after number row entry.call entry.reply) entries

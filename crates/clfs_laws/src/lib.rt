@@ -1,0 +1,21 @@
+//! Laws over the definitions of the log machine: what every step keeps and what follows from a run. Each law is the contract of
+//! a function that does nothing; a caller cites it for one step.
+#![tactic(auto)]
+
+mod areas;
+mod journals;
+mod reading;
+mod refusals;
+mod space;
+mod survivors;
+mod validity;
+
+pub use areas::{held_is_by_own_entries, own_entries_cover_an_append, rows_are_by_own_entries};
+pub use journals::{flushed_never_falls, fronts_are_legal, journals_join, numbers_count_up};
+pub use reading::{reading_gives_the_chain, reading_on_gives_all, restart_areas_come_newest_first};
+pub use refusals::{broken_stays, faults_break, refusals_change_nothing};
+pub use space::{
+    full_where_no_room, held_sectors_suffice, reserved_is_free, short_where_less_is_held,
+};
+pub use survivors::{quiet_calls_survive_as_the_cut, survivors_keep_what_was_flushed};
+pub use validity::{first_states_are_valid, steps_keep_a_state_valid};

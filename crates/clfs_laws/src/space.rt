@@ -1,0 +1,50 @@
+// When a call is refused for space, and when it can't be.
+ghost use Rattle.std.specs.Prelude.{◌≡◌, ◌≤◌, ◌<◌, ℕ, Bool, true, false, [], length, Some, None};
+ghost use Rattle.clfs_lsn.specs.Size.{own};
+ghost use Rattle.clfs_model.specs.declared.call.Call.{Call};
+ghost use Rattle.clfs_model.specs.declared.call.Call.TheVariants as calls;
+ghost use Rattle.clfs_model.specs.declared.call.Draft.{Draft};
+ghost use Rattle.clfs_model.specs.declared.refusal.Refusal.TheVariants as refusals;
+ghost use Rattle.clfs_model.specs.declared.state.State.{State};
+ghost use Rattle.clfs_model.specs.declared.state.Area.{Area};
+ghost use Rattle.clfs_model.specs.State.{area_of};
+ghost use Rattle.clfs_model.specs.Space.{free, reserved, grown, has_room};
+ghost use Rattle.clfs_model.specs.Refusals.{refusal};
+ghost use Rattle.clfs_model.specs.Valid.{IsValid};
+ghost use Rattle.clfs_laws.specs.Needs.{needed_sectors, taken_sectors, area_number, held_of};
+
+/// In a state that a log can be in, the free sectors are at least the reserved ones.
+pub fn reserved_is_free()
+    ensures { (s : State) → IsValid s → reserved s ≤ free s }
+{}
+
+/// A call is refused for space exactly where there is no room for what it needs, not even after growth, and the refusal tells the
+/// free, the reserved and the needed sectors.
+pub fn full_where_no_room()
+    ensures no_room { (s : State) (client : ℕ) (call : Call) (of_free of_reserved need : ℕ)
+        → refusal s client call ≡ Some (refusals.Full of_free of_reserved need)
+        → (needed_sectors call ≡ Some need) × ((has_room s need ≡ false) × ((of_free ≡ free (grown s need)) × (of_reserved ≡ reserved (grown s need)))) }
+    ensures room { (s : State) (client : ℕ) (call : Call) (need : ℕ)
+        → refusal s client call ≡ None → needed_sectors call ≡ Some need → has_room s need ≡ true }
+{}
+
+/// A call is refused for what its area holds only where that is less than the call takes, and the refusal tells both.
+pub fn short_where_less_is_held()
+    ensures { (s : State) (client : ℕ) (call : Call) (held need : ℕ)
+        → refusal s client call ≡ Some (refusals.ReservationShort held need)
+        → (held ≡ held_of (area_of s client (area_number call))) × ((need ≡ taken_sectors call) × (held < need)) }
+{}
+
+/// A reserved append without sizes, whose sectors its area holds, is refused neither for space nor for what the area holds nor for
+/// the number of containers.
+pub fn held_sectors_suffice()
+    ensures space { (s : State) (client number : ℕ) (area : Area) (draft : Draft) (of_free of_reserved need : ℕ)
+        → IsValid s → area_of s client number ≡ Some area → own (length draft.bytes) ≤ area.held
+        → refusal s client (calls.Append number draft true []) ≡ Some (refusals.Full of_free of_reserved need) → ⊥ }
+    ensures held { (s : State) (client number : ℕ) (area : Area) (draft : Draft) (of_held need : ℕ)
+        → IsValid s → area_of s client number ≡ Some area → own (length draft.bytes) ≤ area.held
+        → refusal s client (calls.Append number draft true []) ≡ Some (refusals.ReservationShort of_held need) → ⊥ }
+    ensures containers { (s : State) (client number : ℕ) (area : Area) (draft : Draft) (have : ℕ)
+        → IsValid s → area_of s client number ≡ Some area → own (length draft.bytes) ≤ area.held
+        → refusal s client (calls.Append number draft true []) ≡ Some (refusals.NotEnoughContainers have) → ⊥ }
+{}
