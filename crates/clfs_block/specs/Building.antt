@@ -16,7 +16,8 @@ pub record Building : Type 0 where
 abbrev pub fits : Building → ℕ → ℕ → Bool
 fits building len left =
     nat_le building.records 510
-    && (nat_le (sectors (used_bytes building.content + size len)) building.room && nat_le (sectors (used_bytes building.content + size len)) left)
+    && (nat_le (sectors (used_bytes building.content + size len)) building.room
+    && nat_le (sectors (used_bytes building.content + size len)) left)
 
 -- The sealed bytes are a block at this place behind a closed gate, and then a closed gate. With the gate opened they are an
 -- open block.

@@ -12,7 +12,11 @@ use Rattle.clfs_block.specs.declared.head.BlockRefusal.TheVariants.{Closed, BadB
 
 -- The numbers of a block's header.
 abbrev pub head_of : List ℕ → BlockHead
-head_of bytes = record { sectors = little_number 2 (drop 2 bytes); records = little_number 2 (drop 4 bytes); used = little_number 4 (drop 8 bytes) }
+head_of bytes = record {
+  sectors = little_number 2 (drop 2 bytes);
+  records = little_number 2 (drop 4 bytes);
+  used = little_number 4 (drop 8 bytes);
+}
 
 -- The sectors that a container has from an LSN's block on.
 abbrev pub left_from : Shape → ℕ → ℕ
@@ -93,7 +97,7 @@ frame_at shape start bytes =
 abbrev pub rest_at : List ℕ → BlockHead → Result BlockHead BlockRefusal
 rest_at bytes head = unless_wrong (payload_place (other_byte bytes head.used head.sectors)) (Ok head)
 
--- All the checks.
+-- Where all up to the addresses is right, the payload behind the used bytes is judged too.
 abbrev pub and_rest : List ℕ → Result BlockHead BlockRefusal → Result BlockHead BlockRefusal
 and_rest bytes (Ok head) = rest_at bytes head
 and_rest bytes (Err refusal) = Err refusal

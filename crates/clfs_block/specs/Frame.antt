@@ -1,5 +1,5 @@
--- How a block's payload stands in its sectors: 504 bytes of payload in each sector of 512, and behind them the sector's address.
--- The payload is a header of 16 bytes, the records, and zeros. All numbers are little-endian.
+-- How a block's payload stands in its sectors: 504 bytes of payload in each sector of 512, and behind them the sector's
+-- address. The payload is a header of 16 bytes, the records, and zeros. All numbers are little-endian.
 use Rattle.std.specs.Prelude.{◌≡◌, ℕ, ◌+◌, ◌*◌, ◌/◌, ◌%◌, ◌<◌, List, [], ◌∷◌, ◌++◌, map, length, drop, slice_index}
 use Rattle.std.specs.List.{range_with_len}
 use Rattle.byteorder.specs.Endian.{little_number, little_bytes}
@@ -25,7 +25,8 @@ address_in block sector = little_number 8 (drop (512 * sector + 504) block)
 -- The bytes of the header: gate, version 1, sectors (2 bytes), records (2), zero (2), used payload bytes (4), zero (4).
 abbrev pub header_bytes : ℕ → ℕ → ℕ → ℕ → List ℕ
 header_bytes gate count records used =
-    gate ∷ 1 ∷ [] ++ (little_bytes 2 count ++ (little_bytes 2 records ++ (little_bytes 2 0 ++ (little_bytes 4 used ++ little_bytes 4 0))))
+    gate ∷ 1 ∷ [] ++ (little_bytes 2 count ++ (little_bytes 2 records ++ (little_bytes 2 0
+    ++ (little_bytes 4 used ++ little_bytes 4 0))))
 
 -- The payload bytes of a block with these records' bytes that are used: the header's and theirs.
 abbrev pub used_bytes : List ℕ → ℕ
@@ -40,5 +41,6 @@ used_payload gate records content = header_bytes gate (sectors (used_bytes conte
 pub record SpellsBlock (start gate records : ℕ) (content block : List ℕ) : Type 0 where
   pub whole : length block ≡ 512 * sectors (used_bytes content)
   pub used : payload_of (used_bytes content) block ≡ used_payload gate records content
-  pub zeros : (p : ℕ) → used_bytes content < p + 1 → p < 504 * sectors (used_bytes content) → slice_index block (place_of p) ≡ 0
+  pub zeros : (p : ℕ) → used_bytes content < p + 1 → p < 504 * sectors (used_bytes content)
+      → slice_index block (place_of p) ≡ 0
   pub addresses : (i : ℕ) → i < sectors (used_bytes content) → address_in block i ≡ address start i

@@ -60,7 +60,8 @@ impl BlockBuilder {
     /// An empty block. All memory is taken here: the room of the largest block and of one byte more.
     pub fn new(alloc: Global, shape: &Shape) -> Result<BlockBuilder, AllocError>
         requires { IsShape shape.now }
-        ensures { IfOk result (λ built. built ≡ record { room = shape.now.block_sectors; records = 0; content = []; sealed = None }) }
+        ensures { IfOk result (λ built.
+            built ≡ record { room = shape.now.block_sectors; records = 0; content = []; sealed = None }) }
     {
         let mut buffer = Vec::with_capacity(alloc, SECTOR * shape.block_sectors as usize + 1)?;
         begin(&mut buffer);
@@ -131,7 +132,8 @@ impl BlockBuilder {
 // Whether a record with so many bytes of data joins a block of so many records and bytes.
 fn has_room(records: u32, used: usize, room: u32, len: u32, left: u32) -> bool
     requires { used ≤ 64512 }
-    ensures { result ≡ (nat_le records 510 && (nat_le (sectors (used + size len)) room && nat_le (sectors (used + size len)) left)) }
+    ensures { result ≡ (nat_le records 510
+        && (nat_le (sectors (used + size len)) room && nat_le (sectors (used + size len)) left)) }
 {
     let count = sectors_of(used as u64 + size_of(len));
     records < MAX_RECORDS && (count <= room as u64 && count <= left as u64)
@@ -262,7 +264,9 @@ fn write_addresses(buffer: &mut Vec<u8>, start: Lsn, count: u32)
 
 /// A block says in its bytes which gate it has and how many sectors, so a reader of the bytes alone knows where it ends.
 pub fn blocks_say_their_sectors()
-    ensures gate { (start gate records : ℕ) (content block : List ℕ) → SpellsBlock start gate records content block → slice_index block 0 ≡ gate }
-    ensures sectors { (start gate records : ℕ) (content block : List ℕ) → SpellsBlock start gate records content block
-        → sectors (used_bytes content) < 2 ^ 16 → slice_index block 2 + 256 * slice_index block 3 ≡ sectors (used_bytes content) }
+    ensures gate { (start gate records : ℕ) (content block : List ℕ)
+        → SpellsBlock start gate records content block → slice_index block 0 ≡ gate }
+    ensures sectors { (start gate records : ℕ) (content block : List ℕ)
+        → SpellsBlock start gate records content block → sectors (used_bytes content) < 2 ^ 16
+        → slice_index block 2 + 256 * slice_index block 3 ≡ sectors (used_bytes content) }
 {}

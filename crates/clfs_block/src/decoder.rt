@@ -39,9 +39,10 @@ pub fn decode_block(
         × SpellsBlock start 165 head.records (drop 16 payload.new) (take (512 * head.sectors) bytes.now)) }
 
     // What is spelled so is read, whatever follows it, where the block is none too large for the log and its container.
-    ensures only { (records : ℕ) (content block more : List ℕ) → SpellsBlock start 165 records content block → (1 ≤ records) × (records ≤ 511)
-        → IsCount shape.now start (sectors (used_bytes content)) → bytes.now ≡ block ++ more
-        → (result ≡ Err NoMemory) ⊎ ((result ≡ Ok (head_for records content)) × (payload.new ≡ used_payload 165 records content)) }
+    ensures only { (records : ℕ) (content block more : List ℕ) → SpellsBlock start 165 records content block
+        → (1 ≤ records) × (records ≤ 511) → IsCount shape.now start (sectors (used_bytes content)) → bytes.now ≡ block ++ more
+        → (result ≡ Err NoMemory)
+        ⊎ ((result ≡ Ok (head_for records content)) × (payload.new ≡ used_payload 165 records content)) }
 
     // The payload is filled where all up to the addresses is right, and else as it was.
     ensures filled { (head : BlockHead) → frame_at shape.now start bytes.now ≡ Ok head → (result ≡ Err NoMemory → ⊥)

@@ -7,7 +7,7 @@ ghost use Rattle.clfs_disk.specs.declared.record.Event.TheVariants.{Refused, Wro
 use std::alloc::{AllocError, Global};
 
 /// What a call did.
-#[derive(Clone, Copy, Debug, PartialEq, Eq)]
+#[derive(Clone, Copy)]
 pub enum Event {
     /// It read.
     Read,

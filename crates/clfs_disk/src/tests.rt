@@ -38,33 +38,29 @@ fn answers<D: Disk>(disk: &mut D, len: u64) -> [bool; 4] {
 }
 
 #[test]
-fn calls_fail_past_a_room_an_end_or_a_fuse(rt: HostRuntime) -> Result<(), Fail> {
-    let alloc = rt.alloc();
-    let all = [true; 4];
-    assert_eq!(rt; answers(&mut Memory::new(alloc, 4, 8, &[])?, 8), all);
+fn calls_fail_past_a_room_or_an_end(rt: HostRuntime) -> Result<(), Fail> {
+    // the room in calls and in bytes, the call that is to fail (0 for none), the file's length, and the answers
+    let table = [
+        (4, 8, 0, 8, [true, true, true, true]),
+        (3, 8, 0, 8, [true, true, true, false]),
+        (4, 7, 0, 8, [true, true, false, true]),
+        (4, 8, 2, 8, [true, false, true, true]),
+        (4, 8, 0, 7, [true, true, false, true]),
+    ];
+    for (calls, bytes, fails, len, want) in table {
+        let mut memory = Memory::new(rt.alloc(), calls, bytes, &[fails])?;
+        assert_eq!(rt; answers(&mut memory, len), want);
+    }
+    Ok(())
+}
+
+#[test]
+fn fuse_stops_a_steady_disk(rt: HostRuntime) -> Result<(), Fail> {
+    let mut fuse = Fuse::new(Steady::new(rt.alloc())?, 2);
+    assert_eq!(rt; answers(&mut fuse, 7), [true, true, false, false]);
     assert_eq!(rt;
-        answers(&mut Memory::new(alloc, 3, 8, &[])?, 8),
-        [true, true, true, false]
-    );
-    assert_eq!(rt;
-        answers(&mut Memory::new(alloc, 4, 7, &[])?, 8),
+        answers(&mut fuse.into_inner(), 7),
         [true, true, false, true]
     );
-    assert_eq!(rt;
-        answers(&mut Memory::new(alloc, 5, 8, &[1, 4])?, 8),
-        [false, false, false, false]
-    );
-    assert_eq!(rt;
-        answers(&mut Memory::new(alloc, 4, 8, &[2])?, 8),
-        [true, false, true, true]
-    );
-    assert_eq!(rt; answers(&mut Steady::new(alloc)?, 8), all);
-    assert_eq!(rt;
-        answers(&mut Steady::new(alloc)?, 7),
-        [true, true, false, true]
-    );
-    let mut fuse = Fuse::new(Steady::new(alloc)?, 2);
-    assert_eq!(rt; answers(&mut fuse, 8), [true, true, false, false]);
-    assert_eq!(rt; answers(&mut fuse.into_inner(), 8), all);
     Ok(())
 }
