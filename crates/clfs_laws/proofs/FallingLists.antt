@@ -22,7 +22,8 @@ Falls (entry ∷ entries) = AllByRecursion (λ (other : LogEntry). other.lsn < e
 abbrev pub lsns_of : List LogEntry → List ℕ
 lsns_of entries = map (λ (entry : LogEntry). entry.lsn) entries
 
-rising_rest : (first : ℕ) (lsns : List ℕ) → IsStrictlyIncreasing (first ∷ lsns) → IsStrictlyIncreasing lsns
+-- numbers that rise, without the first
+pub rising_rest : (first : ℕ) (lsns : List ℕ) → IsStrictlyIncreasing (first ∷ lsns) → IsStrictlyIncreasing lsns
 rising_rest first lsns rising k within =
     let F : ℕ → Type 0 = λ n. slice_index (first ∷ lsns) (suc k) < slice_index (first ∷ lsns) n in
     let next : suc k + 1 ≡ suc (k + 1) = omega arith in

@@ -98,5 +98,9 @@ next_by shape place n false true is within = omega (arith, frontier_sealed shape
 next_by shape place n false false is within = omega (arith, small_offset shape place is within, few_records shape place within)
 
 -- the next record isn't below the frontier
+pub next_within : (s : State) (n : ℕ) → IsShape s.shape → IsWithin s.shape s.place → frontier s.place ≤ next_lsn s n
+next_within s n shape within = next_by s.shape s.place n (joins s.shape s.place n) (begins_here s.shape s.place n) shape within
+
+-- the same of a sound state
 pub next_above : (s : State) (n : ℕ) → IsSound s → frontier s.place ≤ next_lsn s n
-next_above s n sound = next_by s.shape s.place n (joins s.shape s.place n) (begins_here s.shape s.place n) sound.ranges.shape sound.ranges.place
+next_above s n sound = next_within s n sound.ranges.shape sound.ranges.place

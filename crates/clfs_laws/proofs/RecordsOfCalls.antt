@@ -43,7 +43,7 @@ adds_one : (s t : State) (entry : LogEntry) (n : ℕ) → t.records ≡ s.record
 adds_one s t entry n same at = record { more = entry ∷ []; joined = same; placed = ((n, at), tt) }
 
 -- sealing and flushing leave the records, and so do changes of areas
-seal_records : (s : State) → (seal s).records ≡ s.records
+pub seal_records : (s : State) → (seal s).records ≡ s.records
 seal_records s = elim (cases_Bool (nat_lt 0 s.place.records)) [ inl some ↦ rw some refl | inr none ↦ rw none refl ]
 
 seal_if_records : (asked : Bool) (s : State) → (seal_if asked s).records ≡ s.records

@@ -4,8 +4,7 @@ use Rattle.std.specs.Prelude.{filter, nat_lt, All, Contains, slice_index_or}
 use Rattle.std.specs.List.{AllByRecursion}
 use Rattle.std.proofs.lemmas.Bool.{cases_Bool, lt-ltb, le-ltb, ltb-true, ltb-false}
 use Rattle.std.proofs.lemmas.List.Elements.{filter-append, All-contains_itself, Contains-append_left}
-use Rattle.clfs_lsn.specs.Size.{IsShape}
-use Rattle.clfs_lsn.specs.Place.{IsWithin, joins, begins_here, frontier}
+use Rattle.clfs_lsn.specs.Place.{frontier}
 use Rattle.clfs_lsn.specs.declared.entry.Kind.TheVariants.{Restart}
 use Rattle.clfs_lsn.specs.declared.entry.LogEntry.{LogEntry}
 use Rattle.clfs_model.specs.declared.call.Call.{Call}
@@ -19,7 +18,7 @@ use Rattle.clfs_model.specs.Survivors.{IsSurvivor}
 use Rattle.clfs_model.specs.Valid.{IsValid}
 use Rattle.clfs_laws.proofs.Among.{contains_passing}
 use Rattle.clfs_laws.proofs.FallingLists.{Rises, rises, below_lsn}
-use Rattle.clfs_laws.proofs.LsnOrder.{frontier_sealed, small_end}
+use Rattle.clfs_laws.proofs.Links.{next_within}
 use Rattle.clfs_laws.proofs.RecordsOfCalls.{step_adds}
 use Rattle.clfs_laws.proofs.ValidPlaces.{flushed_below}
 
@@ -27,23 +26,13 @@ use Rattle.clfs_laws.proofs.ValidPlaces.{flushed_below}
 flushed_within : (s : State) → IsValid s → flushed s ≤ frontier s.place
 flushed_within s valid = let low = flushed_below s valid.waiting in omega (arith, low)
 
--- the next LSN isn't below it
-next_above : (s : State) (n : ℕ) → IsShape s.shape → IsWithin s.shape s.place → frontier s.place ≤ next_lsn s n
-next_above s n shape within = let behind = frontier_sealed s.shape s.place within in elim (cases_Bool (joins s.shape s.place n)) [
-  | inl joined ↦ rw (joined, next_lsn) (omega arith)
-  | inr apart ↦ elim (cases_Bool (begins_here s.shape s.place n)) [
-    | inl here ↦ rw (apart, next_lsn) (rw here behind)
-    | inr turns ↦ rw (apart, next_lsn) (rw turns (let low = small_end s.shape s.place shape within in omega (arith, behind, low)))
-  ]
-]
-
--- so new records lie at or above the flushed LSN
+-- the next LSN isn't below the frontier, so new records lie at or above the flushed LSN
 pub new_above : (s : State) (more : List LogEntry) → IsValid s → AllByRecursion (λ (entry : LogEntry). (n : ℕ) × (entry.lsn ≡ next_lsn s n)) more
     → AllByRecursion (λ (entry : LogEntry). flushed s ≤ entry.lsn) more
 new_above s [] valid placed = tt
 new_above s (entry ∷ more) valid placed =
     let low = flushed_within s valid in
-    let high = next_above s placed.0.0 valid.ranges.shape valid.ranges.place in
+    let high = next_within s placed.0.0 valid.ranges.shape valid.ranges.place in
     (omega (arith, low, high, placed.0.1), new_above s more valid placed.1)
 
 -- records at or above an LSN

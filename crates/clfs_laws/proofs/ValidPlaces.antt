@@ -20,6 +20,8 @@ use Rattle.clfs_model.specs.Space.{free, reserved}
 use Rattle.clfs_model.specs.Flush.{block_start, first_or, flushed, seal, flush}
 use Rattle.clfs_model.specs.Reading.{record_at}
 use Rattle.clfs_model.specs.Valid.{IsValid, HasRanges, HasPolicies, IsArea, HasTables, IsRecord, HasRecords, IsWaiting, HasWaiting, HasSpace}
+use Rattle.clfs_laws.proofs.FallingLists.{rising_rest}
+use Rattle.clfs_laws.proofs.RecordsOfCalls.{seal_records}
 use Rattle.clfs_laws.proofs.LsnOrder.{small_offset, small_end, frontier_sealed, closed_end, start_below_sealed, container_of_frontier, none_of_block, first_of_block}
 
 -- a state with other records, another place and other blocks that wait
@@ -115,13 +117,6 @@ sound_moved s records place waiting sound has = record {
 behind_first : (n : ℕ) (ns : List ℕ) (k : ℕ) → slice_index (n ∷ ns) (k + 1) ≡ slice_index ns k
 behind_first n ns k = let e : k + 1 ≡ suc k = omega arith in ap (slice_index (n ∷ ns)) e
 
--- numbers that rise, without the first
-increasing_rest : (n : ℕ) (ns : List ℕ) → IsStrictlyIncreasing (n ∷ ns) → IsStrictlyIncreasing ns
-increasing_rest n ns rising k within =
-    let first = behind_first n ns k in
-    let second = behind_first n ns (k + 1) in
-    omega (arith, rising (k + 1) (omega (arith, within)), first, second)
-
 -- numbers that rise, with a smaller one in front
 increasing_cons : (n m : ℕ) (ns : List ℕ) → n < m → IsStrictlyIncreasing (m ∷ ns) → IsStrictlyIncreasing (n ∷ m ∷ ns)
 increasing_cons n m ns below rising zero within = below
@@ -137,7 +132,7 @@ pub increasing_push : (ns : List ℕ) (n : ℕ) → IsStrictlyIncreasing ns → 
 increasing_push [] n rising below = λ k within. absurd (omega (arith, within))
 increasing_push (m ∷ []) n rising below = increasing_cons m n [] below.0 (λ k within. absurd (omega (arith, within)))
 increasing_push (m ∷ o ∷ ns) n rising below =
-    increasing_cons m o (ns ++ n ∷ []) (rising 0 (omega arith)) (increasing_push (o ∷ ns) n (increasing_rest m (o ∷ ns) rising) below.1)
+    increasing_cons m o (ns ++ n ∷ []) (rising 0 (omega arith)) (increasing_push (o ∷ ns) n (rising_rest m (o ∷ ns) rising) below.1)
 
 -- records below the start of the open block's successor
 pub records_below : (s : State) → IsSound s → AllByRecursion (λ (entry : LogEntry). entry.lsn < block_start (sealed s.place)) s.records
@@ -363,6 +358,3 @@ valid_seal s valid =
     let still = restarts_still s (seal s) (flushed_seal s sound) valid.stable.restarts in
     let F : List LogEntry → Type 0 = All (λ (entry : LogEntry). entry.kind ≡ Restart → entry.lsn < flushed (seal s)) in
     valid_of (seal s) (sound_seal s sound) (subst F (sym same) still)
-  where
-    seal_records : (s : State) → (seal s).records ≡ s.records
-    seal_records s = elim (cases_Bool (nat_lt 0 s.place.records)) [ inl some ↦ rw some refl | inr none ↦ rw none refl ]
