@@ -19,11 +19,13 @@ pub fn reserved_is_free()
 {}
 
 /// A call is refused for space exactly where there is no room for what it needs, not even after growth, and the refusal tells the
-/// free, the reserved and the needed sectors.
+/// free, the reserved and the needed sectors: those of the log as it is, since growth that isn't enough doesn't come.
 pub fn full_where_no_room()
     ensures no_room { (s : State) (client : ℕ) (call : Call) (of_free of_reserved need : ℕ)
         → refusal s client call ≡ Some (refusals.Full of_free of_reserved need)
         → (needed_sectors call ≡ Some need) × ((has_room s need ≡ false) × ((of_free ≡ free (grown s need)) × (of_reserved ≡ reserved (grown s need)))) }
+    ensures numbers { (s : State) (client : ℕ) (call : Call) (of_free of_reserved need : ℕ)
+        → refusal s client call ≡ Some (refusals.Full of_free of_reserved need) → (of_free ≡ free s) × (of_reserved ≡ reserved s) }
     ensures room { (s : State) (client : ℕ) (call : Call) (need : ℕ)
         → refusal s client call ≡ None → needed_sectors call ≡ Some need → has_room s need ≡ true }
 {}

@@ -1,4 +1,4 @@
-use Rattle.clfs_laws.proofs.Room.{full_told, room_told}
+use Rattle.clfs_laws.proofs.Room.{full_told, full_as_it_is, room_told}
 use Rattle.clfs_laws.proofs.space.full_where_no_room.Goals as goal
 
 pub returns-clause-no_room : goal.returns-clause-no_room
@@ -6,3 +6,6 @@ returns-clause-no_room c = full_told
 
 pub returns-clause-room : goal.returns-clause-room
 returns-clause-room c = room_told
+
+pub returns-clause-numbers : goal.returns-clause-numbers
+returns-clause-numbers c = full_as_it_is
