@@ -50,6 +50,3 @@ mod view;
 pub use logged::{Job, Logged};
 pub use seat::TurnSeat;
 pub use turn::{Turn, TurnRefused};
-
-#[cfg(test)]
-mod tests;
