@@ -1,7 +1,6 @@
 -- A call that isn't refused isn't answered by a refusal either, unless nothing changes.
 use Rattle.std.proofs.Common.{◌≡◌, ℕ, refl}
-use Rattle.std.specs.Prelude.{Option, Some, None}
-use Rattle.std.specs.Option.{option_map_or, option_and_then}
+use Rattle.std.specs.Prelude.{Option}
 use Rattle.clfs_lsn.specs.declared.entry.LogEntry.{LogEntry}
 use Rattle.clfs_model.specs.declared.call.Call.{Call}
 use Rattle.clfs_model.specs.declared.call.Call.TheVariants as calls
@@ -11,37 +10,31 @@ use Rattle.clfs_model.specs.declared.reply.Reply.TheVariants as replies
 use Rattle.clfs_model.specs.declared.state.State.{State}
 use Rattle.clfs_model.specs.declared.state.Area.{Area}
 use Rattle.clfs_model.specs.declared.state.Cursor.{Cursor}
-use Rattle.clfs_model.specs.State.{area_of}
 use Rattle.clfs_model.specs.Live.{live_at}
-use Rattle.clfs_model.specs.Reading.{newest_restart, next_of_cursor, record_cursor, restart_cursor}
+use Rattle.clfs_model.specs.Reading.{newest_restart, record_cursor, restart_cursor}
 use Rattle.clfs_model.specs.Refusals.{stream_number}
 use Rattle.clfs_model.specs.Answers.{Outcome, outcome, answer, over_area, moved_on}
+use Rattle.clfs_laws.proofs.OutcomeCases.{of_option, of_area, of_cursor}
 
 -- an outcome whose reply is a refusal leaves the state
 abbrev pub KeepsWhereRefused : State → Outcome → Type 0
 KeepsWhereRefused s o = (refusal : Refusal) → o.reply ≡ replies.Refused refusal → o.state ≡ s
-
--- an outcome of an option is one of its cases
-of_option : {A : Type 0} (s : State) (found : Option A) (f : A → Outcome) (other : Outcome)
-    → ((x : A) → KeepsWhereRefused s (f x)) → KeepsWhereRefused s other → KeepsWhereRefused s (option_map_or f found other)
-of_option s None f other each none = none
-of_option s (Some x) f other each none = each x
 
 -- a refusal beside the same state
 refused_kept : (s : State) (given : Refusal) → KeepsWhereRefused s (outcome (replies.Refused given) s)
 refused_kept s given refusal e = refl
 
 over : (s : State) (client number : ℕ) (f : Area → Outcome) → ((area : Area) → KeepsWhereRefused s (f area)) → KeepsWhereRefused s (over_area s client number f)
-over s client number f each = of_option s (area_of s client number) f _ each (refused_kept s refusals.NoSuchArea)
+over s client number f each = of_area (KeepsWhereRefused s) s client number f each (refused_kept s refusals.NoSuchArea)
 
 moved : (s : State) (area : Area) (number : ℕ) (found : Option Cursor) → KeepsWhereRefused s (moved_on s area number found)
 moved s area number found =
-    of_option s (option_and_then (next_of_cursor s area) found) _ _ (λ (entry : LogEntry) (refusal : Refusal) e. absurd (cc)) (refused_kept s refusals.NoSuchCursor)
+    of_cursor (KeepsWhereRefused s) s area number found (λ (entry : LogEntry) (refusal : Refusal) e. absurd (cc)) (refused_kept s refusals.NoSuchCursor)
 
 -- whatever the call
 pub answer_keeps : (s : State) (client : ℕ) (call : Call) → KeepsWhereRefused s (answer s client call)
 answer_keeps s client (calls.OpenStream name) =
-    of_option s (stream_number s name) _ _ (λ (number : ℕ) (refusal : Refusal) e. refl) (λ (refusal : Refusal) e. absurd (cc))
+    of_option (KeepsWhereRefused s) (stream_number s name) _ _ (λ (number : ℕ) (refusal : Refusal) e. refl) (λ (refusal : Refusal) e. absurd (cc))
 answer_keeps s client (calls.CreateArea stream largest reads) = λ refusal e. absurd (cc)
 answer_keeps s client (calls.DeleteArea number) = λ refusal e. absurd (cc)
 answer_keeps s client (calls.Reserve number sizes) = over s client number _ (λ (area : Area) (refusal : Refusal) e. absurd (cc))
@@ -51,12 +44,12 @@ answer_keeps s client (calls.Append number draft reserved sizes) = over s client
 answer_keeps s client (calls.Flush number) = λ refusal e. absurd (cc)
 answer_keeps s client (calls.FlushTo number lsn) = λ refusal e. absurd (cc)
 answer_keeps s client (calls.Read number lsn mode) = over s client number _ (λ (area : Area).
-    of_option s (live_at s area.stream lsn) _ _ (λ (entry : LogEntry) (refusal : Refusal) e. absurd (cc)) (refused_kept s (refusals.RecordNonexistent lsn)))
+    of_option (KeepsWhereRefused s) (live_at s area.stream lsn) _ _ (λ (entry : LogEntry) (refusal : Refusal) e. absurd (cc)) (refused_kept s (refusals.RecordNonexistent lsn)))
 answer_keeps s client (calls.ReadNext number cursor) = over s client number _ (λ (area : Area). moved s area cursor (record_cursor area cursor))
 answer_keeps s client (calls.EndRead number cursor) = λ refusal e. absurd (cc)
 answer_keeps s client (calls.WriteRestart number bytes base reserved) = over s client number _ (λ (area : Area) (refusal : Refusal) e. absurd (cc))
 answer_keeps s client (calls.ReadRestart number) = over s client number _ (λ (area : Area).
-    of_option s (newest_restart s area.stream) _ _ (λ (entry : LogEntry) (refusal : Refusal) e. absurd (cc)) (refused_kept s refusals.NoRestart))
+    of_option (KeepsWhereRefused s) (newest_restart s area.stream) _ _ (λ (entry : LogEntry) (refusal : Refusal) e. absurd (cc)) (refused_kept s refusals.NoRestart))
 answer_keeps s client (calls.PreviousRestart number cursor) = over s client number _ (λ (area : Area). moved s area cursor (restart_cursor area cursor))
 answer_keeps s client (calls.Advance number lsn) = over s client number _ (λ (area : Area) (refusal : Refusal) e. absurd (cc))
 answer_keeps s client (calls.SetArchive on) = λ refusal e. absurd (cc)
