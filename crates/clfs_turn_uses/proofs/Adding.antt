@@ -4,7 +4,7 @@ use Rattle.clfs_turn.specs.Calls.{IsAdded, Called}
 use Rattle.clfs_turn.specs.Seats.{SeatState, own}
 use Rattle.clfs_turn_uses.specs.declared.diary.Note.{Note}
 use Rattle.clfs_turn_uses.specs.declared.diary.Diary.{Diary}
-use Rattle.clfs_turn_uses.specs.Notes.{note, first_notes}
+use Rattle.clfs_turn_uses.specs.Notes.{note, first_notes, HasWritten}
 
 abbrev Seat : Type 0
 Seat = SeatState Note (Unit {0})
@@ -16,9 +16,9 @@ abbrev client_of : Note → ℕ
 client_of n = n.client
 
 -- a call that added the note n to those before it
-pub one_more : (s t u : Seat) (client n : ℕ) → client ≡ s.client → own client_of t ≡ own client_of s ++ first_notes s.client n
+pub one_more : (s t u : Seat) (client n : ℕ) → client ≡ s.client → HasWritten n s t
     → Called notes_of client_of (λ _ _. Unit {0}) (λ x y. IsAdded notes_of (note client n) x y × Unit {0}) t u
-    → own client_of u ≡ own client_of s ++ first_notes s.client (n + 1)
+    → HasWritten (n + 1) s u
 one_more s t u client n is before call =
     (call.added (note client n) call.ran.0).1
     ∙ (ap (λ (z : List Note). z ++ note client n ∷ []) before

@@ -1,8 +1,10 @@
-// Two writers in threads of their own, and what they leave together.
-ghost use Rattle.std.specs.Prelude.{◌≡◌, ◌≢◌, ℕ, [], ◌∷◌, ◌++◌, IfOk, vec_len};
+// Two writers in threads of their own, and what they leave together. Where the system makes no thread, `thread::join` calls the
+// closure itself.
+ghost use Rattle.std.specs.Prelude.{◌≡◌, ◌≢◌, ℕ, [], ◌∷◌, IfOk, vec_len};
+ghost use Rattle.std.specs.Thread.{IsSync};
 ghost use Rattle.clfs_turn.specs.Lists.{mine};
-ghost use Rattle.clfs_turn.specs.Seats.{IsSameSeat, own};
-ghost use Rattle.clfs_turn_uses.specs.Notes.{first_notes};
+ghost use Rattle.clfs_turn.specs.Seats.{IsSameSeat};
+ghost use Rattle.clfs_turn_uses.specs.Notes.{first_notes, HasWritten};
 
 use crate::diary::{Diary, Note};
 use crate::writing::{Lock, Writer, write_all};
@@ -32,7 +34,21 @@ fn list_of(alloc: Global, a: Writer, b: Writer) -> Result<Vec<Writer>, AllocErro
     Ok(seats)
 }
 
-// Lets both write at once, each in a thread of its own, and joins the threads.
+// Lets a writer write in a thread of its own, and joins it.
+fn write_in_a_thread<R: Threads + Wait + Sync>(
+    rt: &R,
+    lock: &Lock,
+    seat: Writer,
+    count: u64,
+) -> (Writer, Result<(), AllocError>)
+    requires { seat.lock ≡ lock.now.lock }
+    ensures same { IsSameSeat seat result.0 }
+    ensures written { IfOk result.1 (λ _. HasWritten count seat result.0) }
+{
+    thread::join(rt, || write_all(rt, lock, seat, count), || ()).0
+}
+
+// Lets both write, each in a thread of its own, and joins both.
 fn write_both<R: Threads + Wait + Sync>(
     rt: &R,
     lock: &Lock,
@@ -42,13 +58,16 @@ fn write_both<R: Threads + Wait + Sync>(
 ) -> Result<(Writer, Writer), AllocError>
     requires { (a.lock ≡ lock.now.lock) × (b.lock ≡ lock.now.lock) }
     ensures same { IfOk result (λ p. IsSameSeat a p.0 × IsSameSeat b p.1) }
-    ensures first { IfOk result (λ p. own (λ n. n.client) p.0 ≡ own (λ n. n.client) a ++ first_notes a.client count) }
-    ensures second { IfOk result (λ p. own (λ n. n.client) p.1 ≡ own (λ n. n.client) b ++ first_notes b.client count) }
+    ensures first { IfOk result (λ p. HasWritten count a p.0) }
+    ensures second { IfOk result (λ p. HasWritten count b p.1) }
 {
     let ((a, by_a), (b, by_b)) = thread::join(
         rt,
         || write_all(rt, lock, a, count),
-        || write_all(rt, lock, b, count),
+        || -> (Writer, Result<(), AllocError>)
+            requires { IsSync R.row × (b.lock ≡ lock.now.lock) }
+            ensures { IsSameSeat b result.0 × IfOk result.1 (λ _. HasWritten count b result.0) }
+        { write_in_a_thread(rt, lock, b, count) },
     );
     by_a?;
     by_b?;

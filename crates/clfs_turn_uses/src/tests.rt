@@ -1,4 +1,4 @@
-// Two real threads write into one diary, and are joined.
+// Two real threads beside the test's own write into one diary, and each is joined.
 use crate::two_writers;
 use std::test::Fail;
 

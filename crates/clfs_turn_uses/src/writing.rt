@@ -1,8 +1,8 @@
 // What one writer does: a call for each note. Each call adds one entry to the writer's own and nobody else adds any, so after
 // the last call the writer's own entries are its notes, whatever stands between them in the diary.
-ghost use Rattle.std.specs.Prelude.{◌≡◌, ◌++◌, IfOk};
-ghost use Rattle.clfs_turn.specs.Seats.{IsSameSeat, own};
-ghost use Rattle.clfs_turn_uses.specs.Notes.{first_notes};
+ghost use Rattle.std.specs.Prelude.{◌≡◌, IfOk};
+ghost use Rattle.clfs_turn.specs.Seats.{IsSameSeat};
+ghost use Rattle.clfs_turn_uses.specs.Notes.{HasWritten};
 
 use crate::diary::{Diary, Note, Write};
 use clfs_turn::{Turn, TurnSeat};
@@ -24,7 +24,7 @@ pub fn write_all<R: Wait>(
 ) -> (Writer, Result<(), AllocError>)
     requires { seat.lock ≡ lock.now.lock }
     ensures same { IsSameSeat seat result.0 }
-    ensures written { IfOk result.1 (λ _. own (λ n. n.client) result.0 ≡ own (λ n. n.client) seat ++ first_notes seat.client count) }
+    ensures written { IfOk result.1 (λ _. HasWritten count seat result.0) }
 {
     let client = seat.client();
     for number in 0..count {
