@@ -40,7 +40,8 @@ head_for records content = record { sectors = sectors (used_bytes content); reco
 abbrev pub is_wrong_records : ℕ → Bool
 is_wrong_records records = (records == 0) || nat_lt 511 records
 
--- The first byte at which a header is wrong, behind an open gate and with a first sector that is there whole.
+-- The first byte at which a header is wrong, behind an open gate and with a first sector that is there whole: version 1, the
+-- sectors, the records, zeros at 6 and 7, sectors that are just those of the used bytes, zeros from 12 to 15.
 abbrev pub header_fault : Shape → ℕ → List ℕ → Option ℕ
 header_fault shape start bytes =
     if not (slice_index bytes 1 == 1) then Some 1

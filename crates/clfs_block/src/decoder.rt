@@ -1,4 +1,4 @@
-// Reading a block. The checks go from the first byte on, each byte is looked at once, and the payload is filled before its
+// Reading a block. The checks go from the first byte on, and the payload is filled before its
 // unused end is checked, so that a caller can judge the records first.
 ghost use Rattle.std.specs.Prelude.{◌≡◌, ◌⊎◌, ◌+◌, ◌-◌, ◌*◌, ◌/◌, ◌%◌, ◌^◌, ◌<◌, ◌≤◌, ◌++◌, ◌==◌, ◌||◌, ℕ, List, [], length, take, drop, slice_index, Some, None, IfOk, IfSome, OnOk, OnErr, Ok, Err, vec_capacity};
 ghost use Rattle.clfs_lsn.specs.Size.{sectors};

@@ -1,8 +1,8 @@
 //! Blocks: the records of a log framed in sectors, so that a reader knows where each block ends and that each of its
-//! sectors is its own.
+//! sectors has its place's address.
 //!
-//! A block is a row of sectors of 512 bytes. Each has 504 bytes of payload and then its address, so a sector that was left
-//! by another block, or by an earlier use of the container, is told from one of this block. The payload is a header of 16
+//! A block is a row of sectors of 512 bytes. Each has 504 bytes of payload and then its address, so a sector that the file held
+//! for an earlier container, or that belongs elsewhere, is told from one that belongs here. The payload is a header of 16
 //! bytes, the records and zeros. `BlockBuilder` makes blocks in memory that it takes once, in place and with a closed gate;
 //! `decode_block` checks all of a block but its records and gives their bytes in a row.
 #![tactic(auto)]

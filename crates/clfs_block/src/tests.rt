@@ -104,6 +104,7 @@ fn two_sectors_are_filled_and_checked(rt: HostRuntime) -> Result<(), Fail> {
             "{short} bytes"
         );
     }
+    assert!(rt; bytes[1016..1024] == [0, 2, 0, 0, 1, 0, 0, 0]);
     bytes[1016] = 9;
     assert!(rt; decode(alloc, &bytes).0 == Err(BlockRefusal::BadByte { at: 1016 }));
     Ok(())

@@ -14,6 +14,8 @@ pub mod LsnOrder
 pub mod RowsOfCalls
 pub mod RowRuns
 pub mod HeldRuns
+pub mod MadeAreas
+pub mod ReopenCases
 pub mod ValidAreas
 pub mod ValidSettings
 pub mod ValidAreaCalls
@@ -35,6 +37,7 @@ pub mod Among
 pub mod ChainLengths
 pub mod CursorSteps
 pub mod FineSteps
+pub mod Fullness
 pub mod FallingLists
 pub mod CursorGives
 pub mod ReadCalls

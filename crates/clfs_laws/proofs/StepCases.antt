@@ -54,7 +54,7 @@ given_refusal false (replies.Info info) given is = sym is
 given_refusal false (replies.Refused refusal) given is = sym is
 
 -- damage is told as damage
-damage_told : (given : Refusal) → IsDamaged (replies.Refused given) → happened_of_refusal given ≡ Damage
+pub damage_told : (given : Refusal) → IsDamaged (replies.Refused given) → happened_of_refusal given ≡ Damage
 damage_told (refusals.Damaged container offset at) is = refl
 damage_told _ is = absurd is
 

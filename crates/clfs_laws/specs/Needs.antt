@@ -1,5 +1,5 @@
 -- What a call needs of the log's space and takes of its area's.
-use Rattle.std.specs.Prelude.{ℕ, [], length, Option, Some, None}
+use Rattle.std.specs.Prelude.{ℕ, List, [], length, nat_lt, find, Option, Some, None}
 use Rattle.std.specs.Option.{option_map_or}
 use Rattle.clfs_model.specs.declared.call.Call.{Call}
 use Rattle.clfs_model.specs.declared.call.Call.TheVariants as calls
@@ -24,6 +24,10 @@ taken_sectors call = 0
 -- the sectors that an area holds, or 0 where there is none
 abbrev pub held_of : Option Area → ℕ
 held_of found = option_map_or (λ (area : Area). area.held) found 0
+
+-- the first of these lengths that is above the largest record of an area
+abbrev pub first_too_long : Area → List ℕ → Option ℕ
+first_too_long area lengths = find (λ len. nat_lt area.largest len) lengths
 
 -- the number of a call's area; 0 where it names none
 abbrev pub area_number : Call → ℕ

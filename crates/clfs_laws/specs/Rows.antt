@@ -1,5 +1,5 @@
 -- What an area was made for and what it holds, and how one call of its client changes that, by the call and its reply alone.
-use Rattle.std.specs.Prelude.{ℕ, ◌+◌, ◌-◌, Bool, ◌==◌, if◌then◌else◌, List, [], ◌∷◌, length, Option, Some, None}
+use Rattle.std.specs.Prelude.{◌≡◌, ℕ, ◌+◌, ◌-◌, Bool, false, ◌==◌, if◌then◌else◌, List, [], ◌∷◌, length, Option, Some, None}
 use Rattle.std.specs.Option.{option_map}
 use Rattle.clfs_model.specs.declared.call.Call.{Call}
 use Rattle.clfs_model.specs.declared.call.Call.TheVariants as calls
@@ -56,3 +56,14 @@ row_after number row call reply = row
 abbrev pub row_through : ℕ → Option Row → List Entry → Option Row
 row_through number row [] = row
 row_through number row (entry ∷ entries) = row_through number (row_after number row entry.call entry.reply) entries
+
+-- the entry of a call and its reply makes the client's area of this number, or deletes it
+abbrev pub makes_or_ends : ℕ → Call → Reply → Bool
+makes_or_ends number (calls.CreateArea stream largest reads) (replies.Area given) = given == number
+makes_or_ends number (calls.DeleteArea given) replies.Done = given == number
+makes_or_ends number call reply = false
+
+-- none of these entries makes or deletes it
+abbrev pub NoneMakesOrEnds : ℕ → List Entry → Type 0
+NoneMakesOrEnds number [] = Unit {0}
+NoneMakesOrEnds number (entry ∷ entries) = (makes_or_ends number entry.call entry.reply ≡ false) × NoneMakesOrEnds number entries

@@ -1,5 +1,5 @@
 // What refusals leave.
-ghost use Rattle.std.specs.Prelude.{◌≡◌, ℕ, Bool, true};
+ghost use Rattle.std.specs.Prelude.{◌≡◌, ℕ, Bool, true, []};
 ghost use Rattle.clfs_model.specs.declared.call.Call.{Call};
 ghost use Rattle.clfs_model.specs.declared.reply.Happened.{Happened};
 ghost use Rattle.clfs_model.specs.declared.reply.Reply.{Reply};
@@ -7,24 +7,36 @@ ghost use Rattle.clfs_model.specs.declared.reply.Reply.TheVariants as replies;
 ghost use Rattle.clfs_model.specs.declared.refusal.Refusal.{Refusal};
 ghost use Rattle.clfs_model.specs.declared.state.State.{State};
 ghost use Rattle.clfs_model.specs.Happened.{happened_of, happened_of_refusal};
-ghost use Rattle.clfs_model.specs.Step.{Step, IsBroken};
+ghost use Rattle.clfs_model.specs.Step.{Step, ReopenStep, IsBroken};
 
 /// After a refusal other than for a disk fault or damage, the log is as it was.
 pub fn refusals_change_nothing()
-    ensures { (told : Bool) (s : State) (client : ℕ) (call : Call) (happened : Happened) (refusal : Refusal) (t : State)
+    ensures calls { (told : Bool) (s : State) (client : ℕ) (call : Call) (happened : Happened) (refusal : Refusal) (t : State)
         → Step told s client call happened (replies.Refused refusal) t → happened_of_refusal refusal ≡ Happened.Fine → t ≡ s }
+    ensures reopening { (told : Bool) (s : State) (happened : Happened) (refusal : Refusal) (t : State)
+        → ReopenStep told s happened (replies.Refused refusal) t → happened_of_refusal refusal ≡ Happened.Fine → t ≡ s }
 {}
 
-/// A call that met a disk fault or damage leaves the log broken.
+/// A call that met a disk fault or damage leaves the log broken, and so does opening anew.
 pub fn faults_break()
     ensures fault { (told : Bool) (s : State) (client : ℕ) (call : Call) (happened : Happened) (reply : Reply) (t : State)
         → Step told s client call happened reply t → happened_of reply ≡ Happened.Fault → t.broken ≡ true }
     ensures damage { (told : Bool) (s : State) (client : ℕ) (call : Call) (happened : Happened) (reply : Reply) (t : State)
         → Step told s client call happened reply t → happened_of reply ≡ Happened.Damage → t.broken ≡ true }
+    ensures reopening { (told : Bool) (s : State) (happened : Happened) (reply : Reply) (t : State)
+        → ReopenStep told s happened reply t → (happened_of reply ≡ Happened.Fine → ⊥) → t.broken ≡ true }
 {}
 
-/// A broken log answers that it is broken, and stays as it is.
+/// A broken log answers each call that it is broken, and opening anew too, and stays as it is.
 pub fn broken_stays()
-    ensures { (told : Bool) (s : State) (client : ℕ) (call : Call) (happened : Happened) (reply : Reply) (t : State)
+    ensures calls { (told : Bool) (s : State) (client : ℕ) (call : Call) (happened : Happened) (reply : Reply) (t : State)
         → s.broken ≡ true → Step told s client call happened reply t → IsBroken s reply t }
+    ensures reopening { (told : Bool) (s : State) (happened : Happened) (reply : Reply) (t : State)
+        → s.broken ≡ true → ReopenStep told s happened reply t → IsBroken s reply t }
+{}
+
+/// A log that was opened anew has no areas, so it holds no sectors and no cursors.
+pub fn opening_anew_ends_areas()
+    ensures { (told : Bool) (s : State) (happened : Happened) (lsn : ℕ) (t : State)
+        → ReopenStep told s happened (replies.Flushed lsn) t → t.areas ≡ [] }
 {}

@@ -1,5 +1,6 @@
 // When a call is refused for space, and when it can't be.
-ghost use Rattle.std.specs.Prelude.{◌≡◌, ◌≤◌, ◌<◌, ℕ, Bool, true, false, [], length, Some, None};
+ghost use Rattle.std.specs.Prelude.{◌≡◌, ◌≤◌, ◌<◌, ◌==◌, ◌||◌, nat_lt, ℕ, Bool, true, false, List, [], ◌∷◌, length, Some, None};
+ghost use Rattle.clfs_lsn.specs.Lsn.{null_lsn};
 ghost use Rattle.clfs_lsn.specs.Size.{own};
 ghost use Rattle.clfs_model.specs.declared.call.Call.{Call};
 ghost use Rattle.clfs_model.specs.declared.call.Call.TheVariants as calls;
@@ -8,18 +9,20 @@ ghost use Rattle.clfs_model.specs.declared.refusal.Refusal.TheVariants as refusa
 ghost use Rattle.clfs_model.specs.declared.state.State.{State};
 ghost use Rattle.clfs_model.specs.declared.state.Area.{Area};
 ghost use Rattle.clfs_model.specs.State.{area_of};
-ghost use Rattle.clfs_model.specs.Space.{free, reserved, grown, has_room};
-ghost use Rattle.clfs_model.specs.Refusals.{refusal};
+ghost use Rattle.clfs_model.specs.Space.{own_sum, free, reserved, grown, has_room};
+ghost use Rattle.clfs_model.specs.Put.{need_of, spent_of};
+ghost use Rattle.clfs_model.specs.Refusals.{is_link, is_base, refusal};
 ghost use Rattle.clfs_model.specs.Valid.{IsValid};
-ghost use Rattle.clfs_laws.specs.Needs.{needed_sectors, taken_sectors, area_number, held_of};
+ghost use Rattle.clfs_laws.specs.Needs.{needed_sectors, taken_sectors, area_number, held_of, first_too_long};
 
 /// In a state that a log can be in, the free sectors are at least the reserved ones.
 pub fn reserved_is_free()
     ensures { (s : State) → IsValid s → reserved s ≤ free s }
 {}
 
-/// A call is refused for space exactly where there is no room for what it needs, not even after growth, and the refusal tells the
-/// free, the reserved and the needed sectors: those of the log as it is, since growth that isn't enough doesn't come.
+/// A call is refused for space exactly where there is no room for what it needs, not even after growth, and none of the tests before
+/// that refuses it. The refusal tells the free, the reserved and the needed sectors: those of the log as it is, since growth that
+/// isn't enough doesn't come.
 pub fn full_where_no_room()
     ensures no_room { (s : State) (client : ℕ) (call : Call) (of_free of_reserved need : ℕ)
         → refusal s client call ≡ Some (refusals.Full of_free of_reserved need)
@@ -28,6 +31,24 @@ pub fn full_where_no_room()
         → refusal s client call ≡ Some (refusals.Full of_free of_reserved need) → (of_free ≡ free s) × (of_reserved ≡ reserved s) }
     ensures room { (s : State) (client : ℕ) (call : Call) (need : ℕ)
         → refusal s client call ≡ None → needed_sectors call ≡ Some need → has_room s need ≡ true }
+    ensures reserve { (s : State) (client number : ℕ) (area : Area) (sizes : List ℕ)
+        → nat_lt s.containers 2 ≡ false → area_of s client number ≡ Some area → first_too_long area sizes ≡ None
+        → has_room s (own_sum sizes) ≡ false
+        → refusal s client (calls.Reserve number sizes) ≡ Some (refusals.Full (free s) (reserved s) (own_sum sizes)) }
+    ensures append { (s : State) (client number : ℕ) (area : Area) (draft : Draft) (spends : Bool) (sizes : List ℕ)
+        → nat_lt s.containers 2 ≡ false → area_of s client number ≡ Some area → first_too_long area (length draft.bytes ∷ sizes) ≡ None
+        → is_link s area.stream draft.previous ≡ true → is_link s area.stream draft.undo_next ≡ true
+        → nat_lt area.held (spent_of spends (length draft.bytes)) ≡ false
+        → has_room s (need_of spends (length draft.bytes) sizes) ≡ false
+        → refusal s client (calls.Append number draft spends sizes)
+        ≡ Some (refusals.Full (free s) (reserved s) (need_of spends (length draft.bytes) sizes)) }
+    ensures restart { (s : State) (client number : ℕ) (area : Area) (bytes : List ℕ) (base : ℕ) (spends : Bool)
+        → nat_lt s.containers 2 ≡ false → area_of s client number ≡ Some area → first_too_long area (length bytes ∷ []) ≡ None
+        → ((base == null_lsn) || is_base s area.stream base) ≡ true
+        → nat_lt area.held (spent_of spends (length bytes)) ≡ false
+        → has_room s (need_of spends (length bytes) []) ≡ false
+        → refusal s client (calls.WriteRestart number bytes base spends)
+        ≡ Some (refusals.Full (free s) (reserved s) (need_of spends (length bytes) [])) }
 {}
 
 /// A call is refused for what its area holds only where that is less than the call takes, and the refusal tells both.

@@ -30,7 +30,7 @@ free_sectors shape place hold containers =
 abbrev pub is_enough : Shape → Place → ℕ → ℕ → ℕ → Bool
 is_enough shape place hold wanted containers = nat_le wanted (free_sectors shape place hold containers)
 
--- the numbers of containers that a log grows to, in steps of the rate, rising
+-- the numbers of containers that a log grows to, in steps of the rate, rising; 256 of them, since no maximum is above 256
 abbrev pub growth_steps : ℕ → ℕ → List ℕ
 growth_steps containers rate = map (λ k. containers + k * rate) (range_with_len 1 256)
 

@@ -34,7 +34,8 @@ without_last (line ∷ next ∷ more) = line ∷ without_last (next ∷ more)
 abbrev pub ended_lines : List ℕ → List (List ℕ)
 ended_lines bytes = without_last (slice_split (λ b. b == 10) bytes)
 
--- The lines that are answered: those whose line feed stands within the most bytes and before the first line that is too long.
+-- The lines that are answered: those whose line feed stands within the most bytes and before the first line that is too long, and
+-- no more of them than the most lines.
 abbrev pub accepted : Limits → List ℕ → List (List ℕ)
 accepted limits bytes =
     take limits.lines (take_while (λ line. nat_le (length line) limits.line) (ended_lines (take limits.bytes bytes)))

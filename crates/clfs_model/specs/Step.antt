@@ -1,5 +1,5 @@
 -- One call of the log machine: what it may reply, and the state that it leaves.
-use Rattle.std.specs.Prelude.{◌≡◌, ℕ, ◌+◌, ◌⊎◌, Bool, true, false, not, ◌&&◌, ◌||◌, ◌==◌, nat_lt, nat_le, if◌then◌else◌, List, length, None, is_some, is_none, MatchBool, MatchOption, IsTrue}
+use Rattle.std.specs.Prelude.{◌≡◌, ℕ, ◌+◌, ◌⊎◌, Bool, true, false, not, ◌&&◌, ◌||◌, ◌==◌, nat_lt, nat_le, if◌then◌else◌, List, [], length, None, is_some, is_none, MatchBool, MatchOption, IsTrue}
 use Rattle.clfs_lsn.specs.Place.{joins, begins_here}
 use Rattle.clfs_lsn.specs.declared.entry.LogEntry.{LogEntry}
 use Rattle.clfs_model.specs.declared.call.Call.{Call}
@@ -135,11 +135,16 @@ Step told s client call happened reply t = MatchBool s.broken
     (IsBroken s reply t)
     ((IsTrue (takes_memory call) × IsOutOfMemory s reply t) ⊎ Goes told s client call happened reply t)
 
+-- what opening anew leaves, whatever is read: no area, nothing that isn't on the disk yet, as many write buffers as before, and a
+-- log that isn't broken
+abbrev pub IsOpenedAnew : State → State → Type 0
+IsOpenedAnew s t = (t.areas ≡ []) × ((is_pending t ≡ false) × ((t.buffers ≡ s.buffers) × (t.broken ≡ false)))
+
 -- What reading the files anew comes to. Over a disk that tells what it holds the new state is the flushed part of the old one,
--- up to records that no reply can show; over another one it is some valid state.
+-- up to records that no reply can show; over another one it is some valid state that has just been opened.
 abbrev pub IsReopened : Bool → State → Reply → State → Type 0
 IsReopened told s reply t = (reply ≡ replies.Flushed (flushed t)) × (IsValid t
-    × MatchBool told ((flushed t ≡ flushed s) × IsSame (cut s) t) (Unit {0}))
+    × MatchBool told ((flushed t ≡ flushed s) × IsSame (cut s) t) (IsOpenedAnew s t))
 
 -- opening anew, from a state that isn't broken
 abbrev pub Reopens : Bool → State → Happened → Reply → State → Type 0

@@ -44,7 +44,7 @@ fn a_record_is_written_and_read(rt: HostRuntime) -> Result<(), Fail> {
 }
 
 // The byte at which the record is refused once the byte at a place is raised by one. Ten or eleven bytes of data take the
-// same room, a restart record may have no new base, and a link is right up to the record's own LSN, 2^32.
+// same room, a restart record may have no new base, and a link is right below the record's own LSN, 2^32.
 fn wrong_byte(raised: u32) -> Option<u32> {
     match raised {
         0 | 6 | 8..=11 | 16..=19 | 32..=41 => None,

@@ -38,7 +38,7 @@ pub fn more_containers_or_a_later_hold_free_no_less()
 {}
 
 /// Growth gives a number of containers that is enough, whole steps away and at most the maximum, and
-/// the least such number. It gives none exactly where there is none.
+/// the least such number. For a rate of at least 1 and a maximum of at most 256 it gives none exactly where there is none.
 pub fn growth_is_the_least_step_that_is_enough()
     ensures some { (shape : Shape) (place : Place) (hold containers rate maximum wanted n : ℕ) →
         growth shape place hold containers rate maximum wanted ≡ Some n →

@@ -1,4 +1,5 @@
 use Rattle.clfs_laws.proofs.Room.{full_told, full_as_it_is, room_told}
+use Rattle.clfs_laws.proofs.Fullness.{full_reserve, full_append, full_restart}
 use Rattle.clfs_laws.proofs.space.full_where_no_room.Goals as goal
 
 pub returns-clause-no_room : goal.returns-clause-no_room
@@ -9,3 +10,12 @@ returns-clause-room c = room_told
 
 pub returns-clause-numbers : goal.returns-clause-numbers
 returns-clause-numbers c = full_as_it_is
+
+pub returns-clause-reserve : goal.returns-clause-reserve
+returns-clause-reserve c = full_reserve
+
+pub returns-clause-append : goal.returns-clause-append
+returns-clause-append c = full_append
+
+pub returns-clause-restart : goal.returns-clause-restart
+returns-clause-restart c = full_restart
