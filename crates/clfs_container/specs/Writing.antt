@@ -32,25 +32,27 @@ pub record IsGroup (rest : ℕ) (body : List ℕ) (blocks : List (List ℕ)) (le
 abbrev pub OthersStay : ℕ → Files → Files → Type 0
 OthersStay file old new = (other : ℕ) → other ≢ file → new other ≡ old other
 
--- At each moment from old to new a crash leaves the open blocks that lie before a closed gate, and the gate closed.
+-- At each moment from old to new a crash leaves the open blocks that lie before a closed gate, the gate closed, and the
+-- other files as they were.
 abbrev pub KeepsBlocks : ℕ → ℕ → DiskState → DiskState → Type 0
 KeepsBlocks file at old new = (sectors : ℕ) (blocks : List (List ℕ)) (rest : ℕ) → IsBehind sectors file blocks rest at old.files
     → Leaves (λ image. IsBehind sectors file blocks rest at image × OthersStay file old.files image) old new
 
--- A closed gate is closed still, behind the same open blocks.
+-- A closed gate is closed still, behind the same open blocks, and the other files are as they were.
 abbrev pub StaysBehind : ℕ → ℕ → Files → Files → Type 0
 StaysBehind file at old new = (sectors : ℕ) (blocks : List (List ℕ)) (rest : ℕ) → IsBehind sectors file blocks rest at old
     → IsBehind sectors file blocks rest at new × OthersStay file old new
 
 -- Where the bytes of a group stand behind a closed gate, a crash at each moment from old to new leaves the blocks of before,
--- or these and all of the group.
+-- or these and all of the group, and the other files as they were.
 abbrev pub OpensInCrash : ℕ → ℕ → DiskState → DiskState → Type 0
 OpensInCrash file at old new = (sectors : ℕ) (blocks : List (List ℕ)) (rest : ℕ) (body : List ℕ) (more : List (List ℕ)) (left : ℕ)
     → IsBehind sectors file blocks rest at old.files → HasBody file at body old.files → IsGroup rest body more left
     → Leaves (λ image. (IsBehind sectors file blocks rest at image ⊎ HasBlocks sectors file (blocks ++ more) left image)
     × OthersStay file old.files image) old new
 
--- Where the bytes of a group stand behind a closed gate, the file now has the blocks of before and those of the group.
+-- Where the bytes of a group stand behind a closed gate, the file now has the blocks of before and those of the group, and
+-- the other files are as they were.
 abbrev pub OpensGroup : ℕ → ℕ → Files → Files → Type 0
 OpensGroup file at old new = (sectors : ℕ) (blocks : List (List ℕ)) (rest : ℕ) (body : List ℕ) (more : List (List ℕ)) (left : ℕ)
     → IsBehind sectors file blocks rest at old → HasBody file at body old → IsGroup rest body more left

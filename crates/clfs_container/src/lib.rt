@@ -1,17 +1,18 @@
 //! Writing blocks into the file of a container, so that each crash leaves all of them or none.
 //!
-//! A block counts only where its first byte, the gate, is open. Blocks are written in two steps. `write_body` writes all
-//! bytes but the first gate, and behind them a closed gate, and syncs: whatever a crash leaves of them stands behind a gate
-//! that is closed on the disk, so nobody reads it. `open_gate` then writes that one byte and syncs: a crash leaves it as it
-//! was or open over a body that is on the disk whole. The closed gate behind stops a reader at bytes of an earlier use of
-//! the file. The contracts speak of the bytes that are handed in, be they one block or several in a row.
+//! A block counts only where its first byte, the gate, is open. Blocks are written in two steps. `write_body` writes the
+//! bytes that it is given, which are all but the first gate, with a closed gate behind them, and syncs: whatever a crash
+//! leaves of them stands behind a gate that is closed on the disk, so nobody reads it. `open_gate` then writes that one byte
+//! and syncs: a crash leaves it as it was or open over a body that is on the disk whole. The closed gate behind stops a
+//! reader at bytes of an earlier use of the file. The contracts speak of the bytes that are handed in, be they one block or
+//! several in a row.
 #![tactic(auto)]
 
 ghost use Rattle.std.specs.Prelude.{◌≡◌, ◌+◌, ◌≤◌, ℕ, List, [], ◌∷◌, length, take, drop, slice_index, OnOk, OnErr, IfOk, IsOk};
 ghost use Rattle.clfs_disk.specs.Files.{Files, TornIn, WrittenIn, Unchanged, found_count};
 ghost use Rattle.clfs_disk.specs.State.{TellsContents, IsSteady, IsHonest, IsSettled, MayLeave, Passes, Rises};
 ghost use Rattle.clfs_container.specs.OpenBlocks.{open_gate_byte, Opens, AreOpen};
-ghost use Rattle.clfs_container.specs.Writing.{IsBehind, HasBlocks, HasBody, OthersStay, KeepsBlocks, StaysBehind, OpensInCrash, OpensGroup};
+ghost use Rattle.clfs_container.specs.Writing.{IsBehind, HasBlocks, HasBody, KeepsBlocks, StaysBehind, OpensInCrash, OpensGroup};
 
 use clfs_disk::{Disk, Failed, write_synced};
 
@@ -39,6 +40,8 @@ pub fn write_body<D: Disk>(disk: &mut D, file: u16, at: u32, bytes: &[u8]) -> Re
     ensures moments { IsSettled (D.state disk.old) → KeepsBlocks file at (D.state disk.old) (D.state disk.new) }
     ensures behind { StaysBehind file at (D.state disk.old).files (D.state disk.new).files }
 
+    // Whatever the answer, the files differ from those of before, and each image from one of before, in these bytes alone.
+    ensures torn { TornIn file (at + 1) (length bytes.now) (D.state disk.old).files (D.state disk.new).files }
     ensures time { Passes (TornIn file (at + 1) (length bytes.now)) (D.state disk.old) (D.state disk.new) }
     ensures cause { OnErr result (Rises (D.state disk.old).faults (D.state disk.new).faults) }
     ensures steady { IsSteady (D.state disk.old) → at + 1 + length bytes.now ≤ length ((D.state disk.old).files file)
@@ -60,7 +63,8 @@ pub fn open_gate<D: Disk>(disk: &mut D, file: u16, at: u32) -> Result<(), Failed
     ensures moments { IsSettled (D.state disk.old) → OpensInCrash file at (D.state disk.old) (D.state disk.new) }
     ensures opened { OnOk result (TellsContents (D.state disk.old) → OpensGroup file at (D.state disk.old).files (D.state disk.new).files) }
 
-    // Each image differs from one of before in the gate alone.
+    // Whatever the answer, the files differ from those of before, and each image from one of before, in the gate alone.
+    ensures torn { TornIn file at 1 (D.state disk.old).files (D.state disk.new).files }
     ensures time { Passes (TornIn file at 1) (D.state disk.old) (D.state disk.new) }
     ensures cause { OnErr result (Rises (D.state disk.old).faults (D.state disk.new).faults) }
     ensures steady { IsSteady (D.state disk.old) → at + 1 ≤ length ((D.state disk.old).files file)
@@ -80,7 +84,8 @@ pub fn close_first<D: Disk>(disk: &mut D, file: u16) -> Result<(), Failed>
         (sectors : ℕ) → HasBlocks sectors file [] sectors (D.state disk.new).files) }
     ensures settled { OnOk result (IsHonest (D.state disk.old) → IsSettled (D.state disk.new)) }
 
-    ensures others { OthersStay file (D.state disk.old).files (D.state disk.new).files }
+    // Whatever the answer, the files differ from those of before, and each image from one of before, in the gate alone.
+    ensures torn { TornIn file 0 1 (D.state disk.old).files (D.state disk.new).files }
     ensures time { Passes (TornIn file 0 1) (D.state disk.old) (D.state disk.new) }
     ensures cause { OnErr result (Rises (D.state disk.old).faults (D.state disk.new).faults) }
     ensures steady { IsSteady (D.state disk.old) → 1 ≤ length ((D.state disk.old).files file)
@@ -111,7 +116,7 @@ pub fn read_block<D: Disk>(
     disk.read(file, at as u64, out)
 }
 
-/// Bytes have one list of open blocks, and the blocks that are written behind closed gates are those of it.
+/// Bytes have at most one list of open blocks, and the blocks that are written behind closed gates are those of it.
 pub fn open_blocks_are_one_list()
     ensures one { (sectors : ℕ) (bytes : List ℕ) (blocks others : List (List ℕ))
         → AreOpen sectors bytes blocks → AreOpen sectors bytes others → blocks ≡ others }

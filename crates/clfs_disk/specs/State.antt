@@ -9,7 +9,7 @@ pub record Nature : Type 0 where
   pub steady : Bool
 
 -- What a disk shows: what a read gives where contents are told, the moment, what a crash at each moment up to now leaves
--- where images are told, how often the disk has failed (up to the greatest u64), and its nature.
+-- where images are told, how often the disk has failed, and its nature.
 pub record DiskState : Type 1 where
   pub files : Files
   pub clock : ℕ

@@ -1,6 +1,7 @@
 // The trait of a disk: what each call does to the files, to what a crash leaves, and to the count of faults. A caller joins
-// the calls by `time`, whose lemmas stand in proofs/Moments. Clauses on contents and images hold where they are told, so a
-// disk that tells neither, as a real folder, meets them by its counts alone.
+// the calls by `time`, whose lemmas stand in proofs/Moments. What an Ok says of contents and images holds where they are
+// told. A disk that tells neither, as a real folder, shows files that never change, and meets the other clauses by its
+// count of faults alone.
 ghost use Rattle.std.specs.Prelude.{◌≡◌, ◌+◌, ◌≤◌, length, take, drop, IfOk, OnOk, OnErr, IsOk, IsErrOf};
 ghost use Rattle.clfs_disk.specs.Files.{Files, found_count, TornIn, GrownIn, WrittenIn, LengthenedIn, Unchanged};
 ghost use Rattle.clfs_disk.specs.State.{DiskState, TellsContents, IsSteady, IsHonest, IsSettled, MayLeave, Passes, Rises};
@@ -22,6 +23,9 @@ pub enum GrowRefusal {
     #[error("out of memory")]
     NoMemory,
 }
+
+// How many files a disk has.
+pub(crate) const FILES: usize = 257;
 
 /// Files 0 to 256, each a list of bytes.
 pub trait Disk {

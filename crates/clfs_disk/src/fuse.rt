@@ -1,6 +1,9 @@
-// A disk that stops: it passes so many calls on to another disk, and fails each one after. So what the other disk holds is
-// what a crash after that many calls found.
-ghost use Rattle.std.specs.Prelude.{◌≡◌, ◌+◌, ◌-◌, ◌^◌, ◌≤◌, ◌<◌, min, false, OnOk, OnErr};
+// A disk that stops: it passes so many calls on to another disk, and fails each one after. So the other disk is as that
+// many calls left it.
+ghost use Rattle.std.specs.Prelude.{◌≡◌, ◌+◌, ◌-◌, ◌^◌, ◌≤◌, ◌<◌, min, length, take, drop, false, IfOk, OnOk, OnErr, IsOk, IsErr, IsErrOf};
+ghost use Rattle.clfs_disk.specs.Files.{found_count, TornIn, GrownIn, WrittenIn, LengthenedIn, Unchanged};
+ghost use Rattle.clfs_disk.specs.State.{TellsContents, IsSteady, IsHonest, IsSettled, Passes, Rises};
+ghost use Rattle.clfs_disk.specs.Fuse.{inner_of, passes_of, fuse_shown};
 
 use crate::{Disk, Failed, GrowRefusal};
 
@@ -13,12 +16,11 @@ pub struct Fuse<D: Disk> {
 }
 
 impl<D: Disk> Fuse<D> {
-    ghost use Rattle.clfs_disk.specs.Fuse.{inner_of, passes_of};
-
     /// Passes so many calls on.
     pub fn new(disk: D, passes: u64) -> Fuse<D>
         ensures inner { inner_of result ≡ disk }
         ensures passes { passes_of result ≡ passes }
+        ensures faults { (fuse_shown D.state result).faults ≡ (D.state disk).faults }
     {
         Fuse {
             inner: disk,
@@ -58,31 +60,99 @@ fn take_pass(left: &mut u64, refused: &mut u64) -> Result<(), Failed>
 }
 
 impl<D: Disk> Disk for Fuse<D> {
-    ghost state = { λ fuse. record (D.state fuse.inner) {
-      faults = (D.state fuse.inner).faults + fuse.refused;
-      nature = record (D.state fuse.inner).nature { steady = false };
-    } };
+    ghost state = { fuse_shown D.state };
 
     ghost reads_as_image = { λ fuse honest. D.reads_as_image fuse.inner honest };
 
-    fn read(&mut self, file: u16, at: u64, out: &mut [u8]) -> Result<usize, Failed> {
+    /// Takes one of the passes. Where none is left it fails, and the other disk is as it was. Where one is left, it fails
+    /// only with the other disk.
+    fn read(&mut self, file: u16, at: u64, out: &mut [u8]) -> Result<usize, Failed>
+        requires { file ≤ 256 }
+        ensures count { IfOk result (λ n. n ≤ length out.old) }
+        ensures found { IfOk result (λ n. TellsContents (fuse_shown D.state self.old) →
+            (n ≡ found_count ((fuse_shown D.state self.old).files file) at (length out.old))
+            × (take n out.new ≡ take n (drop at ((fuse_shown D.state self.old).files file)))) }
+        ensures same { Unchanged (fuse_shown D.state self.old).files (fuse_shown D.state self.new).files }
+        ensures time { Passes Unchanged (fuse_shown D.state self.old) (fuse_shown D.state self.new) }
+        ensures cause { OnErr result (Rises (fuse_shown D.state self.old).faults (fuse_shown D.state self.new).faults) }
+        ensures steady { IsSteady (fuse_shown D.state self.old) →
+            IsOk result × ((fuse_shown D.state self.new).faults ≡ (fuse_shown D.state self.old).faults) }
+        ensures passes { passes_of self.new ≡ passes_of self.old - 1 }
+        ensures stopped { passes_of self.old ≡ 0 → IsErr result }
+        ensures same_inner { passes_of self.old ≡ 0 → inner_of self.new ≡ inner_of self.old }
+        ensures passed { 0 < passes_of self.old → OnErr result
+            (Rises (D.state (inner_of self.old)).faults (D.state (inner_of self.new)).faults) }
+    {
         take_pass(&mut self.left, &mut self.refused)?;
         self.inner.read(file, at, out)
     }
 
-    fn write(&mut self, file: u16, at: u64, bytes: &[u8]) -> Result<(), Failed> {
+    /// Takes one of the passes. Where none is left it fails, and the other disk is as it was. Where one is left, it fails
+    /// only with the other disk.
+    fn write(&mut self, file: u16, at: u64, bytes: &[u8]) -> Result<(), Failed>
+        requires { file ≤ 256 }
+        ensures written { OnOk result (TellsContents (fuse_shown D.state self.old) →
+            (at + length bytes.now ≤ length ((fuse_shown D.state self.old).files file))
+            × WrittenIn file at bytes.now (fuse_shown D.state self.old).files (fuse_shown D.state self.new).files) }
+        ensures torn { TornIn file at (length bytes.now) (fuse_shown D.state self.old).files (fuse_shown D.state self.new).files }
+        ensures time { Passes (TornIn file at (length bytes.now)) (fuse_shown D.state self.old) (fuse_shown D.state self.new) }
+        ensures cause { OnErr result (Rises (fuse_shown D.state self.old).faults (fuse_shown D.state self.new).faults) }
+        ensures steady { IsSteady (fuse_shown D.state self.old) →
+            at + length bytes.now ≤ length ((fuse_shown D.state self.old).files file)
+            → IsOk result × ((fuse_shown D.state self.new).faults ≡ (fuse_shown D.state self.old).faults) }
+        ensures passes { passes_of self.new ≡ passes_of self.old - 1 }
+        ensures stopped { passes_of self.old ≡ 0 → IsErr result }
+        ensures same_inner { passes_of self.old ≡ 0 → inner_of self.new ≡ inner_of self.old }
+        ensures passed { 0 < passes_of self.old → OnErr result
+            (Rises (D.state (inner_of self.old)).faults (D.state (inner_of self.new)).faults) }
+    {
         take_pass(&mut self.left, &mut self.refused)?;
         self.inner.write(file, at, bytes)
     }
 
-    fn grow(&mut self, file: u16, len: u64) -> Result<(), GrowRefusal> {
+    /// Takes one of the passes. Where none is left it fails, and the other disk is as it was. Where one is left, it fails
+    /// only with the other disk.
+    fn grow(&mut self, file: u16, len: u64) -> Result<(), GrowRefusal>
+        requires { file ≤ 256 }
+        ensures grown { OnOk result (TellsContents (fuse_shown D.state self.old) →
+            LengthenedIn file len (fuse_shown D.state self.old).files (fuse_shown D.state self.new).files) }
+        ensures longer { GrownIn file len (fuse_shown D.state self.old).files (fuse_shown D.state self.new).files }
+        ensures time { Passes (GrownIn file len) (fuse_shown D.state self.old) (fuse_shown D.state self.new) }
+        ensures no_memory { IsErrOf result GrowRefusal.NoMemory →
+            Unchanged (fuse_shown D.state self.old).files (fuse_shown D.state self.new).files
+            × Passes Unchanged (fuse_shown D.state self.old) (fuse_shown D.state self.new)
+            × ((fuse_shown D.state self.new).faults ≡ (fuse_shown D.state self.old).faults) }
+        ensures cause { IsErrOf result GrowRefusal.Failed →
+            Rises (fuse_shown D.state self.old).faults (fuse_shown D.state self.new).faults }
+        ensures steady { IsSteady (fuse_shown D.state self.old) → (IsErrOf result GrowRefusal.Failed → ⊥)
+            × ((fuse_shown D.state self.new).faults ≡ (fuse_shown D.state self.old).faults) }
+        ensures passes { passes_of self.new ≡ passes_of self.old - 1 }
+        ensures stopped { passes_of self.old ≡ 0 → IsErrOf result GrowRefusal.Failed }
+        ensures same_inner { passes_of self.old ≡ 0 → inner_of self.new ≡ inner_of self.old }
+        ensures passed { 0 < passes_of self.old → IsErrOf result GrowRefusal.Failed →
+            Rises (D.state (inner_of self.old)).faults (D.state (inner_of self.new)).faults }
+    {
         if take_pass(&mut self.left, &mut self.refused).is_err() {
             return Err(GrowRefusal::Failed);
         }
         self.inner.grow(file, len)
     }
 
-    fn sync(&mut self) -> Result<(), Failed> {
+    /// Takes one of the passes. Where none is left it fails, and the other disk is as it was. Where one is left, it fails
+    /// only with the other disk.
+    fn sync(&mut self) -> Result<(), Failed>
+        ensures settled { OnOk result (IsHonest (fuse_shown D.state self.old) → IsSettled (fuse_shown D.state self.new)) }
+        ensures same { Unchanged (fuse_shown D.state self.old).files (fuse_shown D.state self.new).files }
+        ensures time { Passes Unchanged (fuse_shown D.state self.old) (fuse_shown D.state self.new) }
+        ensures cause { OnErr result (Rises (fuse_shown D.state self.old).faults (fuse_shown D.state self.new).faults) }
+        ensures steady { IsSteady (fuse_shown D.state self.old) →
+            IsOk result × ((fuse_shown D.state self.new).faults ≡ (fuse_shown D.state self.old).faults) }
+        ensures passes { passes_of self.new ≡ passes_of self.old - 1 }
+        ensures stopped { passes_of self.old ≡ 0 → IsErr result }
+        ensures same_inner { passes_of self.old ≡ 0 → inner_of self.new ≡ inner_of self.old }
+        ensures passed { 0 < passes_of self.old → OnErr result
+            (Rises (D.state (inner_of self.old)).faults (D.state (inner_of self.new)).faults) }
+    {
         take_pass(&mut self.left, &mut self.refused)?;
         self.inner.sync()
     }

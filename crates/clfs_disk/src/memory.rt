@@ -1,6 +1,6 @@
-// Files in memory with a record of their calls, so that a crash may leave all that a disk may: of what was written and
-// grown since the last sync, any bytes. The record is what makes the images of each moment so far a matter of data, and a
-// crash takes one of those of now without taking memory.
+// Files in memory with a record of their calls. A crash may leave any bytes where something was written or grown since the
+// last sync, and each file at its full length. The record is what makes the images of each moment so far a matter of data,
+// and a crash takes one of those of now without taking memory.
 ghost use Rattle.std.specs.Prelude.{◌≡◌, ◌+◌, ◌-◌, ◌<◌, ◌≤◌, [], ℕ, true, length, IfOk, ◌==◌, ◌&&◌, not, nat_lt, vec_len};
 ghost use Rattle.std.specs.List.{list_any};
 ghost use Rattle.clfs_disk.specs.Files.{Files, Unchanged, picked};
@@ -9,12 +9,10 @@ ghost use Rattle.clfs_disk.specs.Copies.{Holds, read_files, synced_files, first_
 ghost use Rattle.clfs_disk.specs.declared.copies.FileCopies.{FileCopies};
 
 use crate::copies::FileCopies;
+use crate::disk::FILES;
 use crate::record::{Event, Record};
 use crate::{Disk, Failed, GrowRefusal};
 use std::alloc::{AllocError, Global};
-
-// Files 0 to 256.
-const FILES: usize = 257;
 
 /// A disk in memory that can crash. A call beyond the room of its record, in calls or in written bytes, is a fault.
 #[derive(Drop)]

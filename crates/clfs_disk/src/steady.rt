@@ -3,11 +3,9 @@ ghost use Rattle.std.specs.Prelude.{◌≡◌, [], ℕ, length, IfOk};
 ghost use Rattle.clfs_disk.specs.Table.{files_of};
 
 use crate::bytes::{has_range, lengthen, make_room, overwrite, read_from};
+use crate::disk::FILES;
 use crate::{Disk, Failed, GrowRefusal};
 use std::alloc::{AllocError, Global};
-
-// Files 0 to 256.
-const FILES: usize = 257;
 
 /// Files in memory that tell what they hold and nothing of crashes.
 #[derive(Drop)]
