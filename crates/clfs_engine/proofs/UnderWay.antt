@@ -6,7 +6,7 @@ use Rattle.clfs_model.specs.declared.reply.Happened.TheVariants.{Fine}
 use Rattle.clfs_model.specs.declared.reply.Reply.{Reply}
 use Rattle.clfs_model.specs.declared.state.State.{State}
 use Rattle.clfs_model.specs.State.{first}
-use Rattle.clfs_model.specs.Run.{Request, Answers, Run, all_fine}
+use Rattle.clfs_model.specs.Run.{Request, RequestStep, Run, all_fine}
 use Rattle.clfs_model.specs.Lines.{without_return, lines_of}
 use Rattle.clfs_model.specs.Text.{output_of, reply_line, client_of}
 use Rattle.clfs_engine.specs.TwoLines.{request_of, requests_of}
@@ -22,9 +22,9 @@ pub record IsUnderWay (input rest : List ℕ) (log : State) (out : List ℕ) : T
 
 -- a run goes on by one step
 run_more : (s : State) (requests : List Request) (replies : List Reply) (mid : State) (request : Request) (reply : Reply) (t : State)
-    → Run true s requests (all_fine requests) replies mid → Answers true mid request Fine reply t
+    → Run true s requests (all_fine requests) replies mid → RequestStep true mid request Fine reply t
     → Run true s (requests ++ request ∷ []) (all_fine (requests ++ request ∷ [])) (replies ++ reply ∷ []) t
-run_more s [] [] mid request reply t run step = (t, (subst (λ (m : State). Answers true m request Fine reply t) run step, refl))
+run_more s [] [] mid request reply t run step = (t, (subst (λ (m : State). RequestStep true m request Fine reply t) run step, refl))
 run_more s [] (y ∷ replies) mid request reply t run step = absurd run
 run_more s (x ∷ requests) [] mid request reply t run step = absurd run
 run_more s (x ∷ requests) (y ∷ replies) mid request reply t run step =

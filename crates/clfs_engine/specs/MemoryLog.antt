@@ -36,7 +36,7 @@ pub record IsOfStream (entry : LogEntry) : Type 0 where
   pub container : 2 ^ 32 ≤ entry.lsn
 
 -- what is true of every log in memory
-pub record IsSound (log : Inside) : Type 0 where
+pub record IsOneStreamLog (log : Inside) : Type 0 where
   pub place : IsWithin first_shape log.place
   pub entries : AllByRecursion IsOfStream log.entries.items
   pub few_cursors : length log.cursors.items ≤ 4

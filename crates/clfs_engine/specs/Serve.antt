@@ -5,7 +5,7 @@ use Rattle.clfs_model.specs.declared.reply.Happened.TheVariants.{Fine}
 use Rattle.clfs_model.specs.declared.reply.Reply.{Reply}
 use Rattle.clfs_model.specs.declared.state.State.{State}
 use Rattle.clfs_model.specs.State.{first}
-use Rattle.clfs_model.specs.Run.{Request, Answers, Run, all_fine}
+use Rattle.clfs_model.specs.Run.{Request, RequestStep, Run, all_fine}
 use Rattle.clfs_model.specs.Lines.{without_return}
 use Rattle.clfs_model.specs.Text.{output_of, reply_line, client_of}
 use Rattle.clfs_engine.specs.TwoLines.{request_of, requests_of}
@@ -26,7 +26,7 @@ pub record IsAnswered (input output : List ℕ) : Type 0 where
 -- one line is answered by one step, in which nothing happens
 pub record AnswersLine (old new : State) (line before after : List ℕ) : Type 0 where
   pub reply : Reply
-  pub step : Answers true old (request_of (without_return line)) Fine reply new
+  pub step : RequestStep true old (request_of (without_return line)) Fine reply new
   pub text : after ≡ before ++ reply_line (client_of (request_of (without_return line))) reply
 
 -- the line for an input that is too long

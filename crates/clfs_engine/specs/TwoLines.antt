@@ -43,8 +43,8 @@ read_target (client ∷ verb ∷ area ∷ lsn ∷ mode ∷ []) = if is_read clie
 read_target _ = None
 
 -- the call that the words of a line ask for
-abbrev pub call_of : List (List ℕ) → Option Call
-call_of words = option_map_or (λ content. option_map append_call (data_of_word content)) (append_content words)
+abbrev pub call_of_words : List (List ℕ) → Option Call
+call_of_words words = option_map_or (λ content. option_map append_call (data_of_word content)) (append_content words)
     (option_map_or (λ target. option_map read_call (lsn_of_word target)) (read_target words) None)
 
 -- the byte behind the first space of a line, or the line's length where it has none
@@ -53,7 +53,7 @@ second_word line = option_map_or (λ i. i + 1) (position (λ b. b == 32) line) (
 
 -- what a line asks for, without a carriage return at its end
 abbrev pub request_of : List ℕ → Request
-request_of line = option_map_or (asks 1) (call_of (words_of line)) (bad_line (second_word line))
+request_of line = option_map_or (asks 1) (call_of_words (words_of line)) (bad_line (second_word line))
 
 -- what the lines of a script ask for
 abbrev pub requests_of : List ℕ → List Request

@@ -10,5 +10,5 @@ abbrev pub replies_to : List ℕ → List ℕ
 replies_to script = output_of (requests_of script) (replies_of first (requests_of script))
 
 -- the line of an append of so many zero bytes
-abbrev pub append_of_zeros : ℕ → List ℕ
-append_of_zeros count = codes "1 append 1 " ++ (replicate (2 * count) 48 ++ codes " 0:0:0 0:0:0\n")
+abbrev pub zeros_line : ℕ → List ℕ
+zeros_line count = codes "1 append 1 " ++ (replicate (2 * count) 48 ++ codes " 0:0:0 0:0:0\n")

@@ -1,6 +1,6 @@
 // The answers to a script, line by line. A script is short enough that its appends can't fill the log.
 ghost use Rattle.std.specs.Prelude.{◌≡◌, ◌+◌, ◌-◌, ◌^◌, ◌<◌, ◌≤◌, length, true, IfOk, OnOk};
-ghost use Rattle.clfs_model.specs.Run.{Answers};
+ghost use Rattle.clfs_model.specs.Run.{RequestStep};
 ghost use Rattle.clfs_model.specs.Text.{client_of};
 ghost use Rattle.clfs_engine.specs.Asked.{request};
 ghost use Rattle.clfs_engine.specs.MemoryLog.{sectors_passed};
@@ -16,7 +16,7 @@ use std::alloc::{AllocError, Global};
 // The reply to a parsed line.
 fn reply_to(log: &mut MemoryLog, line: &Line) -> Reply
     requires { sectors_passed log.old.place ≤ 3276800 }
-    ensures step { Answers true log.old (request line.now) Happened.Fine result log.new }
+    ensures step { RequestStep true log.old (request line.now) Happened.Fine result log.new }
     ensures near { sectors_passed log.new.place ≤ sectors_passed log.old.place + 3 }
 {
     match line {

@@ -43,11 +43,11 @@ impl Model for MemoryLog {
 
     ghost Value = { State };
 
-    ghost use Rattle.clfs_engine.specs.MemoryLog.{state_of, IsSound};
+    ghost use Rattle.clfs_engine.specs.MemoryLog.{state_of, IsOneStreamLog};
 
     ghost view = { state_of };
 
-    ghost invariant = { IsSound };
+    ghost invariant = { IsOneStreamLog };
 }
 
 impl MemoryLog {

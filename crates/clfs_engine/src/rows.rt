@@ -1,7 +1,7 @@
 // Worked scripts, from the text of their lines to the text of their replies. The checker computes them from the definitions
 // alone; the functions do nothing.
 ghost use Rattle.std.specs.Prelude.{◌≡◌, [], ◌++◌, codes};
-ghost use Rattle.clfs_engine.specs.Worked.{replies_to, append_of_zeros};
+ghost use Rattle.clfs_engine.specs.Worked.{replies_to, zeros_line};
 
 /// Two appends, reads of a record and of none, and a line that isn't answered; then cursors up to one too many.
 pub fn appends_and_reads()
@@ -13,8 +13,8 @@ pub fn appends_and_reads()
 
 /// A record that is one byte too long, and one of the greatest length.
 pub fn lengths_of_records()
-    ensures too_long { replies_to (append_of_zeros 961) ≡ codes "1 refused 7 RecordTooLong 961 960\n" }
-    ensures longest { replies_to (append_of_zeros 960) ≡ codes "1 lsn 1:0:0\n" }
+    ensures too_long { replies_to (zeros_line 961) ≡ codes "1 refused 7 RecordTooLong 961 960\n" }
+    ensures longest { replies_to (zeros_line 960) ≡ codes "1 lsn 1:0:0\n" }
 {}
 
 /// Where lines end, and where a bad line goes wrong.

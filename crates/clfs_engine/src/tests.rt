@@ -29,7 +29,7 @@ fn check_script(
     Ok(())
 }
 
-fn append_of_zeros(alloc: Global, count: usize) -> Result<Vec<u8>, AllocError> {
+fn zeros_line(alloc: Global, count: usize) -> Result<Vec<u8>, AllocError> {
     let mut line = b"1 append 1 ".to_vec(alloc)?;
     for _ in 0..count {
         line.extend_from_slice(b"00")?;
@@ -56,14 +56,14 @@ fn scripts_and_their_replies(rt: HostRuntime) -> Result<(), Fail> {
     for (script, want) in cases {
         check_script(&rt, alloc, script, want)?;
     }
-    let too_long = append_of_zeros(alloc, 961)?;
+    let too_long = zeros_line(alloc, 961)?;
     check_script(
         &rt,
         alloc,
         &too_long,
         b"1 refused 7 RecordTooLong 961 960\n",
     )?;
-    let longest = append_of_zeros(alloc, 960)?;
+    let longest = zeros_line(alloc, 960)?;
     check_script(&rt, alloc, &longest, b"1 lsn 1:0:0\n")?;
     Ok(())
 }

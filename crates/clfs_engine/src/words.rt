@@ -6,7 +6,7 @@ ghost use Rattle.std.specs.Str.{bytes_eq};
 ghost use Rattle.std.specs.Char.{digit_value};
 ghost use Rattle.clfs_lsn.specs.Words.{is_lower_hex_digit, has_no_leading_zero, is_number_word, hex_number, lsn_of_numbers, lsn_of_pieces, lsn_of_word, data_of_word};
 ghost use Rattle.clfs_model.specs.Run.{asks};
-ghost use Rattle.clfs_engine.specs.TwoLines.{is_append, is_read, append_content, read_target, call_of, second_word, request_of};
+ghost use Rattle.clfs_engine.specs.TwoLines.{is_append, is_read, append_content, read_target, call_of_words, second_word, request_of};
 ghost use Rattle.clfs_engine.specs.Asked.{request};
 
 use clfs_lsn::{Bytes, Lsn};
@@ -181,8 +181,8 @@ fn read_target<'a>(words: &[&'a [u8]]) -> Option<&'a [u8]>
     }
 }
 
-fn call_of(alloc: Global, words: &[&[u8]]) -> Result<Option<Line>, AllocError>
-    ensures { IfOk result (λ found. option_map request found ≡ option_map (asks 1) (call_of (map (λ word. word.now) words.now))) }
+fn call_of_words(alloc: Global, words: &[&[u8]]) -> Result<Option<Line>, AllocError>
+    ensures { IfOk result (λ found. option_map request found ≡ option_map (asks 1) (call_of_words (map (λ word. word.now) words.now))) }
 {
     if let Some(content) = append_content(words) {
         return Ok(data_of_word(alloc, content)?.map(Line::Append));
@@ -215,7 +215,7 @@ pub fn parse_line(alloc: Global, line: &[u8]) -> Result<Line, AllocError>
     ensures { IfOk result (λ found. request found ≡ request_of line.now) }
 {
     let words = pieces(alloc, line, b' ')?;
-    match call_of(alloc, &words)? {
+    match call_of_words(alloc, &words)? {
         Some(found) => Ok(found),
         None => Ok(Line::Bad(second_word(line))),
     }

@@ -28,7 +28,7 @@ use Rattle.clfs_model.specs.Put.{need_of, spent_of}
 use Rattle.clfs_model.specs.Reading.{newest_restart, next_of_cursor, record_cursor, restart_cursor, cursor_of}
 use Rattle.clfs_model.specs.Policies.{outside, policy_refusal, is_installed, needed_containers}
 use Rattle.clfs_model.specs.Refusals.{refused_if, in_area, unless_two_containers, too_long, short, full, name_fault, stream_number, append_refusal, restart_refusal, invalid_base, invalid_link, too_many_cursors, read_refusal, next_refusal, end_of_kind, is_link, is_base, create_refusal, size_refusal, refusal}
-use Rattle.clfs_laws.specs.Needs.{needed_sectors, taken_sectors, area_number, held_of}
+use Rattle.clfs_laws.specs.Needs.{needed_sectors, taken_sectors, area_number, held_if_there}
 
 -- what a call needs, and what its area has for it
 pub record Terms : Type 0 where
@@ -113,7 +113,7 @@ told_last s held taken test given tells = told_if (record { state = s; held = he
 abbrev pub terms_of : State → ℕ → Call → Terms
 terms_of s client call = record {
   state = s;
-  held = held_of (area_of s client (area_number call));
+  held = held_if_there (area_of s client (area_number call));
   taken = taken_sectors call;
   need = needed_sectors call;
 }
@@ -203,15 +203,15 @@ told_open s held taken name =
 
 -- a call in an area whose other refusals need no room
 told_quiet_area : (s : State) (client number taken : ℕ) (rest : Area → Option Refusal)
-    → ((area : Area) → area_of s client number ≡ Some area → Told (quiet s (held_of (area_of s client number)) taken) (rest area))
-    → Told (quiet s (held_of (area_of s client number)) taken) (in_area s client number rest)
+    → ((area : Area) → area_of s client number ≡ Some area → Told (quiet s (held_if_there (area_of s client number)) taken) (rest area))
+    → Told (quiet s (held_if_there (area_of s client number)) taken) (in_area s client number rest)
 told_quiet_area s client number taken rest each =
-    told_in_area (quiet s (held_of (area_of s client number)) taken) s client number rest (area_of s client number) each
+    told_in_area (quiet s (held_if_there (area_of s client number)) taken) s client number rest (area_of s client number) each
 
 -- what a call's refusal tells, or that there is none
 pub refusal_told : (s : State) (client : ℕ) (call : Call) → Told (terms_of s client call) (refusal s client call)
-refusal_told s client (calls.OpenStream name) = told_open s (held_of (area_of s client 0)) 0 name
-refusal_told s client (calls.CreateArea stream largest reads) = told_create s (held_of (area_of s client 0)) 0 client stream largest
+refusal_told s client (calls.OpenStream name) = told_open s (held_if_there (area_of s client 0)) 0 name
+refusal_told s client (calls.CreateArea stream largest reads) = told_create s (held_if_there (area_of s client 0)) 0 client stream largest
 refusal_told s client (calls.DeleteArea number) = told_quiet_area s client number 0 (λ _. None) (λ (area : Area) _. tt)
 refusal_told s client (calls.Reserve number sizes) =
     let t = terms_of s client (calls.Reserve number sizes) in
@@ -221,7 +221,7 @@ refusal_told s client (calls.Reserve number sizes) =
 refusal_told s client (calls.Release number sectors) =
     let t = terms_of s client (calls.Release number sectors) in
     told_quiet_area s client number sectors (λ area. short area sectors None)
-    (λ (area : Area) is. told_short t area sectors None (ap held_of (sym is)) refl tt)
+    (λ (area : Area) is. told_short t area sectors None (ap held_if_there (sym is)) refl tt)
 refusal_told s client (calls.Align number sizes) =
     told_quiet_area s client number 0 (λ area. too_long area.largest sizes None)
     (λ (area : Area) _. told_long (terms_of s client (calls.Align number sizes)) area.largest sizes None tt)
@@ -229,44 +229,44 @@ refusal_told s client (calls.Append number draft is_reserved sizes) =
     let t = terms_of s client (calls.Append number draft is_reserved sizes) in
     let rest : Area → Option Refusal = λ area. append_refusal s area draft is_reserved sizes in
     told_two t (in_area s client number rest) (told_in_area t s client number rest (area_of s client number)
-    (λ (area : Area) is. told_append t area draft is_reserved sizes (ap held_of (sym is)) refl refl))
+    (λ (area : Area) is. told_append t area draft is_reserved sizes (ap held_if_there (sym is)) refl refl))
 refusal_told s client (calls.Flush number) = told_quiet_area s client number 0 (λ _. None) (λ (area : Area) _. tt)
 refusal_told s client (calls.FlushTo number lsn) =
     told_quiet_area s client number 0 (λ _. refused_if (nat_le (frontier s.place) lsn) (refusals.RecordNonexistent lsn) None)
-    (λ (area : Area) _. told_last s (held_of (area_of s client number)) 0 (nat_le (frontier s.place) lsn) (refusals.RecordNonexistent lsn) refl)
+    (λ (area : Area) _. told_last s (held_if_there (area_of s client number)) 0 (nat_le (frontier s.place) lsn) (refusals.RecordNonexistent lsn) refl)
 refusal_told s client (calls.Read number lsn mode) =
-    let held = held_of (area_of s client number) in
+    let held = held_if_there (area_of s client number) in
     told_quiet_area s client number 0 (λ area. read_refusal s area lsn)
     (λ (area : Area) _. told_if (quiet s held 0) (is_none (live_at s area.stream lsn)) (refusals.RecordNonexistent lsn) (too_many_cursors area) (λ _. refl)
     (told_cursors s held 0 area))
 refusal_told s client (calls.ReadNext number cursor) =
     told_quiet_area s client number 0 (λ area. next_refusal s area (record_cursor area cursor))
-    (λ (area : Area) _. told_next s (held_of (area_of s client number)) 0 area (record_cursor area cursor))
+    (λ (area : Area) _. told_next s (held_if_there (area_of s client number)) 0 area (record_cursor area cursor))
 refusal_told s client (calls.EndRead number cursor) =
     told_quiet_area s client number 0 (λ area. refused_if (is_none (cursor_of area cursor)) refusals.NoSuchCursor None)
-    (λ (area : Area) _. told_last s (held_of (area_of s client number)) 0 (is_none (cursor_of area cursor)) refusals.NoSuchCursor refl)
+    (λ (area : Area) _. told_last s (held_if_there (area_of s client number)) 0 (is_none (cursor_of area cursor)) refusals.NoSuchCursor refl)
 refusal_told s client (calls.WriteRestart number bytes base is_reserved) =
     let t = terms_of s client (calls.WriteRestart number bytes base is_reserved) in
     let rest : Area → Option Refusal = λ area. restart_refusal s area bytes base is_reserved in
     told_two t (in_area s client number rest) (told_in_area t s client number rest (area_of s client number)
-    (λ (area : Area) is. told_restart t area bytes base is_reserved (ap held_of (sym is)) refl refl))
+    (λ (area : Area) is. told_restart t area bytes base is_reserved (ap held_if_there (sym is)) refl refl))
 refusal_told s client (calls.ReadRestart number) =
-    let held = held_of (area_of s client number) in
+    let held = held_if_there (area_of s client number) in
     told_quiet_area s client number 0 (λ area. refused_if (is_none (newest_restart s area.stream)) refusals.NoRestart (too_many_cursors area))
     (λ (area : Area) _. told_if (quiet s held 0) (is_none (newest_restart s area.stream)) refusals.NoRestart (too_many_cursors area) (λ _. refl)
     (told_cursors s held 0 area))
 refusal_told s client (calls.PreviousRestart number cursor) =
     told_quiet_area s client number 0 (λ area. next_refusal s area (restart_cursor area cursor))
-    (λ (area : Area) _. told_next s (held_of (area_of s client number)) 0 area (restart_cursor area cursor))
+    (λ (area : Area) _. told_next s (held_if_there (area_of s client number)) 0 area (restart_cursor area cursor))
 refusal_told s client (calls.Advance number lsn) =
     told_quiet_area s client number 0 (λ area. invalid_base s area.stream lsn None)
     (λ (area : Area) _. told_base (terms_of s client (calls.Advance number lsn)) s area.stream lsn None tt)
 refusal_told s client (calls.SetArchive on) = tt
-refusal_told s client (calls.SetArchiveTail lsn) = told_tail s (held_of (area_of s client 0)) 0 lsn s.archive
-refusal_told s client calls.ListExtents = told_last s (held_of (area_of s client 0)) 0 (is_none s.archive) refusals.Ephemeral refl
-refusal_told s client (calls.InstallPolicy policy) = told_policy s (held_of (area_of s client 0)) 0 policy
+refusal_told s client (calls.SetArchiveTail lsn) = told_tail s (held_if_there (area_of s client 0)) 0 lsn s.archive
+refusal_told s client calls.ListExtents = told_last s (held_if_there (area_of s client 0)) 0 (is_none s.archive) refusals.Ephemeral refl
+refusal_told s client (calls.InstallPolicy policy) = told_policy s (held_if_there (area_of s client 0)) 0 policy
 refusal_told s client (calls.RemovePolicy kind) =
-    told_last s (held_of (area_of s client 0)) 0 (not (is_installed s kind)) refusals.PolicyNotInstalled refl
-refusal_told s client (calls.SetSize containers) = told_size s (held_of (area_of s client 0)) 0 containers
+    told_last s (held_if_there (area_of s client 0)) 0 (not (is_installed s kind)) refusals.PolicyNotInstalled refl
+refusal_told s client (calls.SetSize containers) = told_size s (held_if_there (area_of s client 0)) 0 containers
 refusal_told s client (calls.Info stream) =
-    told_last s (held_of (area_of s client 0)) 0 (is_none (stream_at s stream)) refusals.NoSuchStream refl
+    told_last s (held_if_there (area_of s client 0)) 0 (is_none (stream_at s stream)) refusals.NoSuchStream refl

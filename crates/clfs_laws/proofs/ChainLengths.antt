@@ -9,7 +9,7 @@ use Rattle.clfs_model.specs.declared.call.Mode.{Mode}
 use Rattle.clfs_model.specs.declared.call.Mode.TheVariants.{Previous, UndoNext, Forward}
 use Rattle.clfs_model.specs.declared.state.State.{State}
 use Rattle.clfs_model.specs.Live.{is_live, live, live_at}
-use Rattle.clfs_model.specs.Reading.{record_at, next, chain_from}
+use Rattle.clfs_model.specs.Reading.{entry_at, next, chain_from}
 use Rattle.clfs_model.specs.Valid.{IsValid, IsRecord}
 use Rattle.clfs_laws.proofs.Among.{IsAmong, IsFound, found, among_all, at_each}
 
@@ -104,7 +104,7 @@ link_down s stream last link holder entry valid is (inr below) leads =
     let at : entry.lsn ≡ link = eqb-true entry.lsn link f.passes in
     (f.among, lt-ltb entry.lsn last (omega (arith, at, below, is)))
 
-previous_down : (s : State) (stream last : ℕ) (holder : Option LogEntry) (entry : LogEntry) → IsValid s → record_at s last ≡ holder
+previous_down : (s : State) (stream last : ℕ) (holder : Option LogEntry) (entry : LogEntry) → IsValid s → entry_at s last ≡ holder
     → option_and_then (λ (e : LogEntry). live_at s stream e.previous) holder ≡ Some entry → IsAmong entry s.records × (nat_lt entry.lsn last ≡ true)
 previous_down s stream last None entry valid at leads = absurd (cc)
 previous_down s stream last (Some holder) entry valid at leads =
@@ -112,7 +112,7 @@ previous_down s stream last (Some holder) entry valid at leads =
     let record_is : IsRecord s holder = at_each (IsRecord s) s.records holder valid.records.records f.among in
     link_down s stream last holder.previous holder entry valid (eqb-true holder.lsn last f.passes) record_is.previous leads
 
-undo_down : (s : State) (stream last : ℕ) (holder : Option LogEntry) (entry : LogEntry) → IsValid s → record_at s last ≡ holder
+undo_down : (s : State) (stream last : ℕ) (holder : Option LogEntry) (entry : LogEntry) → IsValid s → entry_at s last ≡ holder
     → option_and_then (λ (e : LogEntry). live_at s stream e.undo_next) holder ≡ Some entry → IsAmong entry s.records × (nat_lt entry.lsn last ≡ true)
 undo_down s stream last None entry valid at leads = absurd (cc)
 undo_down s stream last (Some holder) entry valid at leads =
@@ -124,9 +124,9 @@ undo_down s stream last (Some holder) entry valid at leads =
 pub comes_behind : (s : State) (stream : ℕ) (mode : Mode) (last : ℕ) (entry : LogEntry) → IsValid s → next s stream mode last ≡ Some entry
     → ComesTo s mode last entry
 comes_behind s stream Previous last entry valid is =
-    let down = previous_down s stream last (record_at s last) entry valid refl is in record { among = down.0; behind = down.1 }
+    let down = previous_down s stream last (entry_at s last) entry valid refl is in record { among = down.0; behind = down.1 }
 comes_behind s stream UndoNext last entry valid is =
-    let down = undo_down s stream last (record_at s last) entry valid refl is in record { among = down.0; behind = down.1 }
+    let down = undo_down s stream last (entry_at s last) entry valid refl is in record { among = down.0; behind = down.1 }
 comes_behind s stream Forward last entry valid is =
     let f = live_is s stream (λ (e : LogEntry). nat_lt last e.lsn) entry is in record { among = f.among; behind = f.passes }
 

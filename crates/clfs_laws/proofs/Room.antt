@@ -15,7 +15,7 @@ use Rattle.clfs_model.specs.State.{area_of, is_area}
 use Rattle.clfs_model.specs.Space.{free, reserved, grown, has_room}
 use Rattle.clfs_model.specs.Refusals.{refusal}
 use Rattle.clfs_model.specs.Valid.{IsValid}
-use Rattle.clfs_laws.specs.Needs.{needed_sectors, taken_sectors, area_number, held_of}
+use Rattle.clfs_laws.specs.Needs.{needed_sectors, taken_sectors, area_number, held_if_there}
 use Rattle.clfs_laws.proofs.CallRefusals.{Told, HasRoom, terms_of, refusal_told}
 use Rattle.std.proofs.Common.{◌∙◌}
 use Rattle.std.specs.Prelude.{nat_le}
@@ -36,10 +36,10 @@ pub room_told : (s : State) (client : ℕ) (call : Call) (need : ℕ) → refusa
 room_told s client call need is needs = let F : Option ℕ → Type 0 = HasRoom s in subst F needs (told_at s client call None is)
 
 pub short_told : (s : State) (client : ℕ) (call : Call) (held need : ℕ) → refusal s client call ≡ Some (refusals.ReservationShort held need)
-    → (held ≡ held_of (area_of s client (area_number call))) × ((need ≡ taken_sectors call) × (held < need))
+    → (held ≡ held_if_there (area_of s client (area_number call))) × ((need ≡ taken_sectors call) × (held < need))
 short_told s client call held need is =
     let tells = told_at s client call (Some (refusals.ReservationShort held need)) is in
-    let less : held_of (area_of s client (area_number call)) < taken_sectors call = ltb-true _ _ tells.1.1 in
+    let less : held_if_there (area_of s client (area_number call)) < taken_sectors call = ltb-true _ _ tells.1.1 in
     (tells.0, (tells.1.0, omega (arith, less, tells.0, tells.1.0)))
 
 -- a test fails where its second part does
@@ -99,7 +99,7 @@ pub never_short : (s : State) (client number : ℕ) (area : Area) (draft : Draft
     → refusal s client (calls.Append number draft true []) ≡ Some (refusals.ReservationShort of_held need) → ⊥
 never_short s client number area draft of_held need valid there held is =
     let tells = short_told s client (calls.Append number draft true []) of_held need is in
-    let has : held_of (area_of s client number) ≡ area.held = ap held_of there in
+    let has : held_if_there (area_of s client number) ≡ area.held = ap held_if_there there in
     omega (arith, tells.0, tells.1.0, tells.1.1, has, held)
 
 -- what one area holds is part of what all hold

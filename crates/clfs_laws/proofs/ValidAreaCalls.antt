@@ -23,7 +23,7 @@ use Rattle.clfs_model.specs.Put.{with_less_held, with_more_held, hold_sizes}
 use Rattle.clfs_model.specs.Reading.{with_cursor, with_cursor_at, without_cursor, unused_cursor}
 use Rattle.clfs_model.specs.Refusals.{refused_if, too_long, refusal}
 use Rattle.clfs_model.specs.Answers.{new_area}
-use Rattle.clfs_model.specs.Valid.{IsValid, AreDifferent, IsArea}
+use Rattle.clfs_model.specs.Valid.{IsValid, AreDifferentAreas, IsArea}
 use Rattle.clfs_laws.proofs.Finding.{KeepsName}
 use Rattle.clfs_laws.proofs.NotRefused.{passed}
 use Rattle.clfs_laws.proofs.RowChanges.{area_named}
@@ -130,7 +130,7 @@ none_passes p (area ∷ areas) none = elim (cases_Bool (p area)) [
 ]
 
 -- an area that hasn't a name differs from one that has
-differs_from : (new area : Area) → is_area new.client new.number area ≡ false → AreDifferent area new
+differs_from : (new area : Area) → is_area new.client new.number area ≡ false → AreDifferentAreas area new
 differs_from new area fails = elim (cases_Bool (area.client == new.client)) [
   | inl same ↦ inr (eqb-false area.number new.number (rw same at fails))
   | inr other ↦ inl (eqb-false area.client new.client other)
@@ -142,8 +142,8 @@ valid_new_area : (s : State) (new : Area) → find (is_area new.client new.numbe
 valid_new_area s new unused nothing fits valid =
     let sum = sum_by_push (λ (area : Area). area.held) s.areas new in
     valid_areas s (s.areas ++ new ∷ []) s.broken valid (record {
-      numbers = all_pairs_push AreDifferent s.areas new valid.tables.numbers
-          (All-weaker (λ (area : Area). is_area new.client new.number area ≡ false) (λ (area : Area). AreDifferent area new) (differs_from new) s.areas
+      numbers = all_pairs_push AreDifferentAreas s.areas new valid.tables.numbers
+          (All-weaker (λ (area : Area). is_area new.client new.number area ≡ false) (λ (area : Area). AreDifferentAreas area new) (differs_from new) s.areas
           (All-from_recursion (λ (area : Area). is_area new.client new.number area ≡ false) s.areas (none_passes (is_area new.client new.number) s.areas unused)));
       each = All-push (IsArea s) s.areas new valid.tables.areas fits;
       room = omega (arith, sum, nothing, valid.space.room);
@@ -184,7 +184,7 @@ pub valid_deleted : (s : State) (p : Area → Bool) → IsValid s → IsValid (r
 valid_deleted s p valid =
     let parts = sum_by-filter_both (λ area. not (p area)) p (λ area. sym (not_twice (p area))) (λ (area : Area). area.held) s.areas in
     valid_areas s (filter (λ area. not (p area)) s.areas) s.broken valid (record {
-      numbers = AllPairs-filter AreDifferent (λ area. not (p area)) s.areas valid.tables.numbers;
+      numbers = AllPairs-filter AreDifferentAreas (λ area. not (p area)) s.areas valid.tables.numbers;
       each = All-filter (λ area. not (p area)) (IsArea s) s.areas valid.tables.areas;
       room = omega (arith, parts, valid.space.room);
       two = λ some. valid.space.two (omega (arith, parts, some));

@@ -9,7 +9,7 @@ use Rattle.clfs_model.specs.declared.state.State.{State}
 use Rattle.clfs_model.specs.declared.state.Area.{Area}
 use Rattle.clfs_model.specs.State.{change_first}
 use Rattle.clfs_model.specs.Space.{free}
-use Rattle.clfs_model.specs.Valid.{IsValid, AreDifferent, IsArea, IsRecord, IsWaiting}
+use Rattle.clfs_model.specs.Valid.{IsValid, AreDifferentAreas, IsArea, IsRecord, IsWaiting}
 use Rattle.clfs_laws.proofs.Finding.{KeepsName}
 
 -- the sectors that areas hold
@@ -18,7 +18,7 @@ held_sum areas = sum_by (λ (area : Area). area.held) areas
 
 -- the areas of a state, and what they hold
 pub record HasAreas (s : State) (areas : List Area) : Type 0 where
-  pub numbers : AllPairs AreDifferent areas
+  pub numbers : AllPairs AreDifferentAreas areas
   pub each : All (IsArea s) areas
   pub room : held_sum areas ≤ free s
   pub two : 0 < held_sum areas → 2 ≤ s.containers
@@ -95,12 +95,12 @@ change_names p change keeps (area ∷ areas) (suc k) d = elim (cases_Bool (p are
   | inr there ↦ rw there (change_names p change keeps areas k d)
 ]
 
-different_as : (a b x y : Area) → HasName x a → HasName y b → AreDifferent a b → AreDifferent x y
+different_as : (a b x y : Area) → HasName x a → HasName y b → AreDifferentAreas a b → AreDifferentAreas x y
 different_as a b x y of_x of_y (inl clients) = inl (λ same. clients (sym of_x.client ∙ same ∙ of_y.client))
 different_as a b x y of_x of_y (inr numbers) = inr (λ same. numbers (sym of_x.number ∙ same ∙ of_y.number))
 
 -- areas stay different
-pub numbers_changed : (p : Area → Bool) (change : Area → Area) → KeepsName change → (areas : List Area) → AllPairs AreDifferent areas → AllPairs AreDifferent (change_first p change areas)
+pub numbers_changed : (p : Area → Bool) (change : Area → Area) → KeepsName change → (areas : List Area) → AllPairs AreDifferentAreas areas → AllPairs AreDifferentAreas (change_first p change areas)
 numbers_changed p change keeps areas differ i j d below within =
     let same_length = change_length p change areas in
     different_as (slice_index_or areas i d) (slice_index_or areas j d) _ _ (change_names p change keeps areas i d) (change_names p change keeps areas j d)

@@ -18,7 +18,7 @@ use Rattle.clfs_model.specs.declared.state.Stream.{Stream}
 use Rattle.clfs_model.specs.Live.{hold, active, least_or, live_lsns}
 use Rattle.clfs_model.specs.Space.{free, reserved}
 use Rattle.clfs_model.specs.Flush.{block_start, first_or, flushed, seal, flush}
-use Rattle.clfs_model.specs.Reading.{record_at}
+use Rattle.clfs_model.specs.Reading.{entry_at}
 use Rattle.clfs_model.specs.Valid.{IsValid, HasRanges, HasPolicies, IsArea, HasTables, IsRecord, HasRecords, IsWaiting, HasWaiting, HasSpace}
 use Rattle.clfs_laws.proofs.FallingLists.{rising_rest}
 use Rattle.clfs_laws.proofs.RecordsOfCalls.{seal_records}
@@ -29,7 +29,7 @@ abbrev pub moved : State → List LogEntry → Place → List ℕ → State
 moved s records place waiting = record s { records = records; place = place; waiting = waiting }
 
 -- bases and the archive tail are on the disk
-pub record HasBases (s : State) : Type 0 where
+pub record HasStableBases (s : State) : Type 0 where
   pub bases : All (λ (stream : Stream). stream.base ≤ flushed s) s.streams
   pub tail : IfSome s.archive (λ tail. tail ≤ flushed s)
 
@@ -43,7 +43,7 @@ pub record IsSound (s : State) : Type 0 where
   pub policies : HasPolicies s
   pub tables : HasTables s
   pub records : HasRecords s
-  pub stable : HasBases s
+  pub stable : HasStableBases s
   pub waiting : HasWaiting s
   pub space : HasSpace s
 
@@ -79,7 +79,7 @@ restarts_still s t more restarts =
 pub record HasMoved (s t : State) : Type 0 where
   pub place : IsWithin t.shape t.place
   pub records : HasRecords t
-  pub stable : HasBases t
+  pub stable : HasStableBases t
   pub waiting : HasWaiting t
   pub active : active t ≤ s.containers
   pub room : reserved s ≤ free t
@@ -173,7 +173,7 @@ sealed_within s sound = record {
 }
 
 -- what is stable stays so where more is flushed
-pub stable_still : (s t : State) → s.streams ≡ t.streams → s.archive ≡ t.archive → flushed s ≤ flushed t → HasBases s → HasBases t
+pub stable_still : (s t : State) → s.streams ≡ t.streams → s.archive ≡ t.archive → flushed s ≤ flushed t → HasStableBases s → HasStableBases t
 stable_still s t streams archive more stable = record {
   bases =
       let F : List Stream → Type 0 = All (λ (stream : Stream). stream.base ≤ flushed t) in
@@ -263,7 +263,7 @@ first_of_more [] n m = refl
 first_of_more (o ∷ ns) n m = refl
 
 -- the first of an open block's records is at its start
-pub opened_first : (s : State) → IsSound s → 0 < s.place.records → IsSome (record_at s (block_start s.place))
+pub opened_first : (s : State) → IsSound s → 0 < s.place.records → IsSome (entry_at s (block_start s.place))
 opened_first s sound some =
     first_of_block s.place.container s.place.offset s.records (range_with_len 1 (s.place.records - 1)) (sound.records.open_block ∙ begins s.place.records some)
   where

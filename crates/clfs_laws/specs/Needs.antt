@@ -22,8 +22,8 @@ taken_sectors (calls.WriteRestart number bytes base reserved) = spent_of reserve
 taken_sectors call = 0
 
 -- the sectors that an area holds, or 0 where there is none
-abbrev pub held_of : Option Area → ℕ
-held_of found = option_map_or (λ (area : Area). area.held) found 0
+abbrev pub held_if_there : Option Area → ℕ
+held_if_there found = option_map_or (λ (area : Area). area.held) found 0
 
 -- the first of these lengths that is above the largest record of an area
 abbrev pub first_too_long : Area → List ℕ → Option ℕ

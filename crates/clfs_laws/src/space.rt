@@ -13,7 +13,7 @@ ghost use Rattle.clfs_model.specs.Space.{own_sum, free, reserved, grown, has_roo
 ghost use Rattle.clfs_model.specs.Put.{need_of, spent_of};
 ghost use Rattle.clfs_model.specs.Refusals.{is_link, is_base, refusal};
 ghost use Rattle.clfs_model.specs.Valid.{IsValid};
-ghost use Rattle.clfs_laws.specs.Needs.{needed_sectors, taken_sectors, area_number, held_of, first_too_long};
+ghost use Rattle.clfs_laws.specs.Needs.{needed_sectors, taken_sectors, area_number, held_if_there, first_too_long};
 
 /// In a state that a log can be in, the free sectors are at least the reserved ones.
 pub fn reserved_is_free()
@@ -55,7 +55,7 @@ pub fn full_where_no_room()
 pub fn short_where_less_is_held()
     ensures { (s : State) (client : ℕ) (call : Call) (held need : ℕ)
         → refusal s client call ≡ Some (refusals.ReservationShort held need)
-        → (held ≡ held_of (area_of s client (area_number call))) × ((need ≡ taken_sectors call) × (held < need)) }
+        → (held ≡ held_if_there (area_of s client (area_number call))) × ((need ≡ taken_sectors call) × (held < need)) }
 {}
 
 /// A reserved append without sizes, whose sectors its area holds, is refused neither for space nor for what the area holds nor for

@@ -1,8 +1,8 @@
 -- All that follows from one change of the rows.
 use Rattle.std.proofs.Common.{◌≡◌, ℕ, ◌+◌, ◌-◌, ◌≤◌, true, false, List, slice_set, slice_index_or, remove, refl, arith}
 use Rattle.clfs_ledger.specs.declared.row.Reservation.{Reservation}
-use Rattle.clfs_ledger.specs.Rows.{has_row, held_of, total_held, with_held, without, OthersStay}
-use Rattle.clfs_ledger.specs.Kept.{IsKept}
+use Rattle.clfs_ledger.specs.Rows.{has_row, held_of, total_held, with_held, without, OtherRowsStay}
+use Rattle.clfs_ledger.specs.Kept.{HaveTotal}
 use Rattle.clfs_ledger.proofs.HeldSectors.{
   held_of-with_held,
   total_held-with_held,
@@ -18,16 +18,16 @@ pub record Raised (old new : List Reservation) (c a sectors sum : ℕ) : Type 0 
   pub rows : new ≡ with_held old c a (held_of old c a + sectors)
   pub held : held_of new c a ≡ held_of old c a + sectors
   pub total : total_held new ≡ total_held old + sectors
-  pub others : OthersStay old new c a
-  pub kept : IsKept new (sum + sectors)
+  pub others : OtherRowsStay old new c a
+  pub kept : HaveTotal new (sum + sectors)
 
 -- what follows where it holds so many less
 pub record Lowered (old new : List Reservation) (c a sectors sum : ℕ) : Type 0 where
   pub rows : new ≡ with_held old c a (held_of old c a - sectors)
   pub held : held_of new c a + sectors ≡ held_of old c a
   pub total : total_held new + sectors ≡ total_held old
-  pub others : OthersStay old new c a
-  pub kept : IsKept new (sum - sectors)
+  pub others : OtherRowsStay old new c a
+  pub kept : HaveTotal new (sum - sectors)
 
 -- what follows where the area's row is taken away
 pub record Removed (old new : List Reservation) (c a held sum : ℕ) : Type 0 where
@@ -35,10 +35,10 @@ pub record Removed (old new : List Reservation) (c a held sum : ℕ) : Type 0 wh
   pub rows : new ≡ without old c a
   pub gone : has_row new c a ≡ false
   pub total : total_held new + held ≡ total_held old
-  pub others : OthersStay old new c a
-  pub kept : IsKept new (sum - held)
+  pub others : OtherRowsStay old new c a
+  pub kept : HaveTotal new (sum - held)
 
-raised-with_held : (rows : List Reservation) (c a sectors total : ℕ) → has_row rows c a ≡ true → IsKept rows total
+raised-with_held : (rows : List Reservation) (c a sectors total : ℕ) → has_row rows c a ≡ true → HaveTotal rows total
     → Raised rows (with_held rows c a (held_of rows c a + sectors)) c a sectors total
 raised-with_held rows c a sectors total there h =
     let n = held_of rows c a + sectors in
@@ -52,7 +52,7 @@ raised-with_held rows c a sectors total there h =
     }
 
 lowered-with_held : (rows : List Reservation) (c a sectors total : ℕ) → has_row rows c a ≡ true
-    → sectors ≤ held_of rows c a → IsKept rows total
+    → sectors ≤ held_of rows c a → HaveTotal rows total
     → Lowered rows (with_held rows c a (held_of rows c a - sectors)) c a sectors total
 lowered-with_held rows c a sectors total there enough h =
     let n = held_of rows c a - sectors in
@@ -66,21 +66,21 @@ lowered-with_held rows c a sectors total there enough h =
     }
 
 pub write_raises : (rows : List Reservation) (c a i sectors total : ℕ) (row : Reservation) → StandsAt rows c a i
-    → row ≡ slice_index_or rows i row → IsKept rows total
+    → row ≡ slice_index_or rows i row → HaveTotal rows total
     → Raised rows (slice_set rows i (record row { held = row.held + sectors })) c a sectors total
 write_raises rows c a i sectors total row at is h =
     rw (with_held-stands_at rows c a i (row.held + sectors) row at is, held_of-stands_at rows c a i row at is)
     (raised-with_held rows c a sectors total (has_row-stands_at rows c a i at) h)
 
 pub write_lowers : (rows : List Reservation) (c a i sectors total held : ℕ) (row : Reservation) → StandsAt rows c a i
-    → row ≡ slice_index_or rows i row → held ≡ held_of rows c a → sectors ≤ held → IsKept rows total
+    → row ≡ slice_index_or rows i row → held ≡ held_of rows c a → sectors ≤ held → HaveTotal rows total
     → Lowered rows (slice_set rows i (record row { held = held - sectors })) c a sectors total
 write_lowers rows c a i sectors total held row at is same enough h =
     rw (with_held-stands_at rows c a i (held - sectors) row at is, same)
     (lowered-with_held rows c a sectors total (has_row-stands_at rows c a i at) (omega (arith, same, enough)) h)
 
 pub removal_removes : (rows new : List Reservation) (c a i total : ℕ) (row : Reservation) → StandsAt rows c a i
-    → row ≡ slice_index_or rows i row → new ≡ remove rows i → IsKept rows total
+    → row ≡ slice_index_or rows i row → new ≡ remove rows i → HaveTotal rows total
     → Removed rows new c a row.held total
 removal_removes rows new c a i total row at is items h =
     rw (items, without-stands_at rows c a i at, held_of-stands_at rows c a i row at is) record {

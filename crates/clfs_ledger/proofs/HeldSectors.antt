@@ -2,7 +2,7 @@
 use Rattle.std.proofs.Common.{◌≡◌, ℕ, ◌+◌, ◌≤◌, true, false, List, [], ◌∷◌, refl, arith}
 use Rattle.std.proofs.lemmas.Bool.Decides.{nat_tests}
 use Rattle.clfs_ledger.specs.declared.row.Reservation.{Reservation}
-use Rattle.clfs_ledger.specs.Rows.{has_row, held_of, total_held, with_held, without, OthersStay}
+use Rattle.clfs_ledger.specs.Rows.{has_row, held_of, total_held, with_held, without, OtherRowsStay}
 
 -- an area without a row holds nothing
 pub held_of-absent : (rows : List Reservation) (c a : ℕ) → has_row rows c a ≡ false → held_of rows c a ≡ 0
@@ -41,10 +41,10 @@ total_held-without [] c a = refl
 total_held-without (row ∷ rows) c a = grind (arith, total_held-without rows c a)
 
 -- the other areas hold what they held
-pub others_stay-with_held : (rows : List Reservation) (c a n : ℕ) → OthersStay rows (with_held rows c a n) c a
+pub others_stay-with_held : (rows : List Reservation) (c a n : ℕ) → OtherRowsStay rows (with_held rows c a n) c a
 others_stay-with_held [] c a n x y h = refl
 others_stay-with_held (row ∷ rows) c a n x y h = grind (arith, nat_tests, others_stay-with_held rows c a n x y h)
 
-pub others_stay-without : (rows : List Reservation) (c a : ℕ) → OthersStay rows (without rows c a) c a
+pub others_stay-without : (rows : List Reservation) (c a : ℕ) → OtherRowsStay rows (without rows c a) c a
 others_stay-without [] c a x y h = refl
 others_stay-without (row ∷ rows) c a x y h = grind (arith, nat_tests, others_stay-without rows c a x y h)

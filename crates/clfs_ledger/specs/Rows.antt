@@ -33,6 +33,6 @@ without [] client area = []
 without (row ∷ rows) client area = if is_of client area row then rows else row ∷ without rows client area
 
 -- every other area holds what it held
-abbrev pub OthersStay : List Reservation → List Reservation → ℕ → ℕ → Type 0
-OthersStay old new client area =
+abbrev pub OtherRowsStay : List Reservation → List Reservation → ℕ → ℕ → Type 0
+OtherRowsStay old new client area =
     (c a : ℕ) → (c == client && a == area) ≡ false → held_of new c a ≡ held_of old c a

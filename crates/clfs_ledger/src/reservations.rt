@@ -2,7 +2,7 @@
 // areas, of 64 clients with 16 each, so a row is found by going through the rows.
 ghost use Rattle.std.specs.Prelude.{◌≡◌, ◌+◌, ◌-◌, ◌^◌, ◌<◌, ◌↔◌, [], ◌∷◌, ◌++◌, true, false};
 ghost use Rattle.std.specs.Prelude.{OnOk, OnErr, IsErr, IfErr, position};
-ghost use Rattle.clfs_ledger.specs.Rows.{is_of, has_row, held_of, total_held, with_held, without, OthersStay};
+ghost use Rattle.clfs_ledger.specs.Rows.{is_of, has_row, held_of, total_held, with_held, without, OtherRowsStay};
 
 use crate::row::Reservation;
 use std::alloc::{AllocError, Global};
@@ -30,11 +30,11 @@ impl Model for Reservations {
 
     ghost Value = { List Reservation };
 
-    ghost use Rattle.clfs_ledger.specs.Kept.{IsKept};
+    ghost use Rattle.clfs_ledger.specs.Kept.{HaveTotal};
 
     ghost view = { λ s. s.rows.items };
 
-    ghost invariant = { λ s. IsKept s.rows.items s.total };
+    ghost invariant = { λ s. HaveTotal s.rows.items s.total };
 }
 
 impl Reservations {
@@ -68,7 +68,7 @@ impl Reservations {
         ensures rows { self.new ≡ without self.old client area }
         ensures gone { has_row self.new client area ≡ false }
         ensures total { total_held self.new + result ≡ total_held self.old }
-        ensures others { OthersStay self.old self.new client area }
+        ensures others { OtherRowsStay self.old self.new client area }
     {
         let Some(place) = place_of(&self.rows, client, area) else {
             return 0;
@@ -86,7 +86,7 @@ impl Reservations {
         ensures rows { self.new ≡ with_held self.old client area (held_of self.old client area + sectors) }
         ensures held { held_of self.new client area ≡ held_of self.old client area + sectors }
         ensures total { total_held self.new ≡ total_held self.old + sectors }
-        ensures others { OthersStay self.old self.new client area }
+        ensures others { OtherRowsStay self.old self.new client area }
     {
         let place = place_of(&self.rows, client, area).unwrap();
         let row = &mut self.rows[place];
@@ -102,7 +102,7 @@ impl Reservations {
         ensures rows { OnOk result (self.new ≡ with_held self.old client area (held_of self.old client area - sectors)) }
         ensures held { OnOk result (held_of self.new client area + sectors ≡ held_of self.old client area) }
         ensures total { OnOk result (total_held self.new + sectors ≡ total_held self.old) }
-        ensures others { OthersStay self.old self.new client area }
+        ensures others { OtherRowsStay self.old self.new client area }
     {
         let Some(place) = place_of(&self.rows, client, area) else {
             if sectors == 0 {

@@ -1,3 +1,4 @@
+pub mod Limits
 pub mod Lsn
 pub mod Size
 pub mod Place

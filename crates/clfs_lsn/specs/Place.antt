@@ -1,5 +1,6 @@
 -- The place of a log: where its next record goes.
 use Rattle.std.specs.Prelude.{◌≡◌, ℕ, ◌+◌, ◌-◌, ◌*◌, ◌/◌, ◌%◌, ◌≤◌, ◌⊎◌, Bool, ◌&&◌, nat_le, if◌then◌else◌}
+use Rattle.clfs_lsn.specs.Limits.{most_block_sectors, most_container_sectors, most_block_records}
 use Rattle.clfs_lsn.specs.Lsn.{lsn_number}
 use Rattle.clfs_lsn.specs.Size.{size, sectors, own}
 use Rattle.clfs_lsn.specs.declared.place.Place.{Place}
@@ -16,7 +17,7 @@ IsClosed place = (place.used ≡ 0) × (place.records ≡ 0)
 -- a block is open, with at least one record and no more records and sectors than a block may have
 pub record IsOpen (shape : Shape) (place : Place) : Type 0 where
   pub some_records : 1 ≤ place.records
-  pub few_records : place.records ≤ 511
+  pub few_records : place.records ≤ most_block_records
   pub some_sectors : 1 ≤ sectors place.used
   pub few_sectors : sectors place.used ≤ shape.block_sectors
 
@@ -31,7 +32,7 @@ pub record IsWithin (shape : Shape) (place : Place) : Type 0 where
 -- the largest block nor more than the container has from the block's start on.
 abbrev pub joins : Shape → Place → ℕ → Bool
 joins shape place n =
-    nat_le 1 place.records && nat_le place.records 510
+    nat_le 1 place.records && nat_le place.records (most_block_records - 1)
     && nat_le (sectors (place.used + size n)) shape.block_sectors
     && nat_le (sectors (place.used + size n)) (shape.container_sectors - place.offset / 512)
 
@@ -63,6 +64,6 @@ frontier place = lsn_number place.container place.offset place.records
 -- a place whose numbers are none that a container can't have
 pub record IsSmall (place : Place) : Type 0 where
   pub offset : place.offset % 512 ≡ 0
-  pub low : place.offset ≤ 8388608
-  pub used : place.used ≤ 64512
-  pub records : place.records ≤ 511
+  pub low : place.offset ≤ 512 * most_container_sectors
+  pub used : place.used ≤ 504 * most_block_sectors
+  pub records : place.records ≤ most_block_records

@@ -2,6 +2,7 @@
 -- still needs: containers below the hold's can be used again.
 use Rattle.std.specs.Prelude.{ℕ, ◌+◌, ◌-◌, ◌*◌, ◌^◌, min, Bool, ◌&&◌, nat_le, List, map, find, Option, unwrap_or}
 use Rattle.std.specs.List.{range_with_len}
+use Rattle.clfs_lsn.specs.Limits.{most_containers}
 use Rattle.clfs_lsn.specs.Lsn.{container_of}
 use Rattle.clfs_lsn.specs.Place.{block_end}
 use Rattle.clfs_lsn.specs.declared.place.Place.{Place}
@@ -32,7 +33,7 @@ is_enough shape place hold wanted containers = nat_le wanted (free_sectors shape
 
 -- the numbers of containers that a log grows to, in steps of the rate, rising; 256 of them, since no maximum is above 256
 abbrev pub growth_steps : ℕ → ℕ → List ℕ
-growth_steps containers rate = map (λ k. containers + k * rate) (range_with_len 1 256)
+growth_steps containers rate = map (λ k. containers + k * rate) (range_with_len 1 most_containers)
 
 -- the number of containers after growth: the first step that is at most the maximum and gives the wanted sectors
 abbrev pub growth : Shape → Place → ℕ → ℕ → ℕ → ℕ → ℕ → Option ℕ

@@ -12,12 +12,13 @@ pub struct Sizes {
 
 impl Model for Sizes {
     ghost use Rattle.std.specs.Prelude.{ℕ, List, ◌≤◌, length};
+    ghost use Rattle.clfs_lsn.specs.Limits.{most_sizes};
 
     ghost Value = { List ℕ };
 
     ghost view = { λ a. a.lengths.items };
 
-    ghost invariant = { λ a. length a.lengths.items ≤ 16 };
+    ghost invariant = { λ a. length a.lengths.items ≤ most_sizes };
 }
 
 impl Sizes {

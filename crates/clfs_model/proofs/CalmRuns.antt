@@ -12,7 +12,7 @@ use Rattle.clfs_model.specs.declared.state.State.{State}
 use Rattle.clfs_model.specs.Refusals.{refusal}
 use Rattle.clfs_model.specs.Answers.{Outcome, outcome, answer}
 use Rattle.clfs_model.specs.Step.{Step}
-use Rattle.clfs_model.specs.Run.{Request, asks, reopens, bad_line, Answers, Run, all_fine, fine_outcome, replies_of, state_after, is_no_reopening}
+use Rattle.clfs_model.specs.Run.{Request, asks, reopens, bad_line, RequestStep, Run, all_fine, fine_outcome, replies_of, state_after, is_no_reopening}
 use Rattle.clfs_model.proofs.Ways.{is_broken, refused, answered}
 
 -- the outcome of a call on a log that isn't broken
@@ -41,7 +41,7 @@ unfolding fine_outcome
 fine_step s client call = step_by s client call s.broken refl
 
 -- one bad line
-bad_step : (s : State) (at : ℕ) → Answers true s (bad_line at) Fine (fine_outcome s (bad_line at)).reply (fine_outcome s (bad_line at)).state
+bad_step : (s : State) (at : ℕ) → RequestStep true s (bad_line at) Fine (fine_outcome s (bad_line at)).reply (fine_outcome s (bad_line at)).state
 unfolding fine_outcome
 bad_step s at = (refl, refl)
 

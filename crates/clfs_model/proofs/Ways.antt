@@ -1,6 +1,7 @@
 -- The ways in which the machine can step, for callers to cite.
 use Rattle.std.proofs.Common.{◌≡◌, ℕ, Bool, true, false, refl, sym, inl, inr, subst}
-use Rattle.std.specs.Prelude.{Option, Some, None, MatchOption, MatchBool}
+use Rattle.std.specs.Prelude.{Option, Some, None, MatchOption, MatchBool, nat_lt}
+use Rattle.clfs_lsn.specs.declared.entry.LogEntry.{LogEntry}
 use Rattle.clfs_model.specs.declared.call.Call.{Call}
 use Rattle.clfs_model.specs.declared.reply.Happened.{Happened}
 use Rattle.clfs_model.specs.declared.reply.Happened.TheVariants.{Fine, Fault, Damage}
@@ -11,7 +12,7 @@ use Rattle.clfs_model.specs.declared.reply.Reply.TheVariants as replies
 use Rattle.clfs_model.specs.declared.state.State.{State}
 use Rattle.clfs_model.specs.Refusals.{refusal}
 use Rattle.clfs_model.specs.Answers.{answer}
-use Rattle.clfs_model.specs.Step.{Step, IsReply, HasAnyContent, IsDamaged, takes_memory, reads_disk, calls_disk, with_broken}
+use Rattle.clfs_model.specs.Step.{Step, IsReply, IsReplyRead, IsRecordRead, IsDamaged, takes_memory, reads_disk, calls_disk, with_broken}
 
 -- the second of two facts where the test is false
 at_false : (b : Bool) (P Q : Type 0) → b ≡ false → Q → MatchBool b P Q
@@ -25,28 +26,35 @@ at_true b P Q e p = let F : Bool → Type 0 = λ c. MatchBool c P Q in subst F (
 at_option : {A : Type 0} (o p : Option A) (P : Type 0) (Q : A → Type 0) → o ≡ p → MatchOption p P Q → MatchOption o P Q
 at_option {A} o p P Q e q = let F : Option A → Type 0 = λ c. MatchOption c P Q in subst F (sym e) q
 
--- the content of a record may be the machine's own
-any_content : (reply : Reply) → HasAnyContent reply reply
-any_content (replies.Found cursor entry) = (entry, (refl, refl))
-any_content (replies.Next entry) = (entry, (refl, refl))
-any_content (replies.Stream number) = refl
-any_content (replies.Area number) = refl
-any_content replies.Done = refl
-any_content (replies.Held sectors) = refl
-any_content (replies.Sectors sectors) = refl
-any_content (replies.Placed lsn) = refl
-any_content (replies.Flushed lsn) = refl
-any_content (replies.Base lsn) = refl
-any_content (replies.Tail lsn) = refl
-any_content (replies.Extents extents) = refl
-any_content (replies.Containers containers) = refl
-any_content (replies.Info info) = refl
-any_content (replies.Refused refusal) = refl
+-- the record that is read may be the machine's own
+own_record : (stable : ℕ) (entry : LogEntry) → IsRecordRead stable entry entry
+own_record stable entry = by_place (nat_lt entry.lsn stable)
+  where
+    by_place : (below : Bool) → MatchBool below (entry.lsn ≡ entry.lsn) (entry ≡ entry)
+    by_place true = refl
+    by_place false = refl
+
+own_read : (stable : ℕ) (reply : Reply) → IsReplyRead stable reply reply
+own_read stable (replies.Found cursor entry) = (entry, (own_record stable entry, refl))
+own_read stable (replies.Next entry) = (entry, (own_record stable entry, refl))
+own_read stable (replies.Stream number) = refl
+own_read stable (replies.Area number) = refl
+own_read stable replies.Done = refl
+own_read stable (replies.Held sectors) = refl
+own_read stable (replies.Sectors sectors) = refl
+own_read stable (replies.Placed lsn) = refl
+own_read stable (replies.Flushed lsn) = refl
+own_read stable (replies.Base lsn) = refl
+own_read stable (replies.Tail lsn) = refl
+own_read stable (replies.Extents extents) = refl
+own_read stable (replies.Containers containers) = refl
+own_read stable (replies.Info info) = refl
+own_read stable (replies.Refused refusal) = refl
 
 -- the machine's own reply is its reply over every disk
-own_reply : (told : Bool) (answered reply : Reply) → reply ≡ answered → IsReply told answered reply
-own_reply true answered reply e = e
-own_reply false answered reply e = let F : Reply → Type 0 = λ r. HasAnyContent answered r in subst F (sym e) (any_content answered)
+own_reply : (told : Bool) (stable : ℕ) (answered reply : Reply) → reply ≡ answered → IsReply told stable answered reply
+own_reply true stable answered reply e = e
+own_reply false stable answered reply e = let F : Reply → Type 0 = λ r. IsReplyRead stable answered r in subst F (sym e) (own_read stable answered)
 
 -- a broken log answers that it is broken
 pub is_broken : (told : Bool) (s : State) (client : ℕ) (call : Call) (happened : Happened) → s.broken ≡ true
@@ -73,7 +81,7 @@ pub answered : (told : Bool) (s : State) (client : ℕ) (call : Call) (reply : R
     → Step told s client call Fine reply t
 unfolding Step
 answered told s client call reply t whole e r st =
-    at_false s.broken _ _ whole (inr (at_option (refusal s client call) None _ _ e (own_reply told _ reply r, st)))
+    at_false s.broken _ _ whole (inr (at_option (refusal s client call) None _ _ e (own_reply told _ _ reply r, st)))
 
 -- a call that isn't refused and that calls the disk may meet a fault
 pub faulted : (told : Bool) (s : State) (client : ℕ) (call : Call) → s.broken ≡ false → refusal s client call ≡ None → calls_disk s call ≡ true

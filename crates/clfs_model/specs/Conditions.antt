@@ -1,13 +1,13 @@
 -- The conditions of calls, which speak of their arguments alone. The types bound the rest.
 use Rattle.std.specs.Prelude.{ℕ, ◌<◌, ◌≤◌, ◌^◌, length}
+use Rattle.clfs_lsn.specs.Limits.{most_clients, most_cursors}
 use Rattle.clfs_model.specs.declared.call.Call.{Call}
 use Rattle.clfs_model.specs.declared.call.Call.TheVariants as calls
-use Rattle.clfs_model.specs.State.{most_cursors}
 
 -- a client is a number from 1 to 64
 pub record IsClient (client : ℕ) : Type 0 where
   pub least : 1 ≤ client
-  pub greatest : client ≤ 64
+  pub greatest : client ≤ most_clients
 
 -- A name and the data of a record have less than 2^32 bytes, and an area is made for 1 to 16 cursors.
 abbrev pub HasArguments : Call → Type 0

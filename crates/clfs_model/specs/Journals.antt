@@ -60,11 +60,11 @@ abbrev pub held_by : State → ℕ → List Entry → ℕ → ℕ
 held_by s client own_entries area = held_through area (held_in s client area) own_entries
 
 -- the lines of one client in order
-pub record Script : Type 0 where
+pub record ClientScript : Type 0 where
   pub client : ℕ
   pub calls : List Call
 
 -- A journal shuffles scripts: of each client it has the calls of its lines, in order and each once, and of no other client any.
-pub record IsShuffle (journal : List Entry) (scripts : List Script) : Type 0 where
-  pub each : All (λ (script : Script). map (λ (entry : Entry). entry.call) (mine journal script.client) ≡ script.calls) scripts
-  pub none_else : All (λ (entry : Entry). Contains (map (λ (script : Script). script.client) scripts) entry.client) journal
+pub record IsShuffle (journal : List Entry) (scripts : List ClientScript) : Type 0 where
+  pub each : All (λ (script : ClientScript). map (λ (entry : Entry). entry.call) (mine journal script.client) ≡ script.calls) scripts
+  pub none_else : All (λ (entry : Entry). Contains (map (λ (script : ClientScript). script.client) scripts) entry.client) journal

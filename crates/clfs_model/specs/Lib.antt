@@ -10,12 +10,13 @@ pub mod Policies
 pub mod Refusals
 pub mod Answers
 pub mod Valid
+pub mod Conditions
+pub mod Storable
 pub mod Step
 pub mod Run
 pub mod Lines
 pub mod Script
 pub mod Accepted
 pub mod Text
-pub mod Conditions
 pub mod Journals
 pub mod Survivors

@@ -1,5 +1,6 @@
 -- The four policies of a log, of each kind one at most.
 use Rattle.std.specs.Prelude.{ℕ, Bool, true, false, ◌||◌, nat_lt, max, if◌then◌else◌, Option, Some, None, is_some, unwrap_or}
+use Rattle.clfs_lsn.specs.Limits.{most_containers}
 use Rattle.clfs_lsn.specs.declared.policy.Policy.{Policy}
 use Rattle.clfs_lsn.specs.declared.policy.Policy.TheVariants as policies
 use Rattle.clfs_lsn.specs.declared.policy.PolicyKind.{PolicyKind}
@@ -7,7 +8,6 @@ use Rattle.clfs_lsn.specs.declared.policy.PolicyKind.TheVariants as kinds
 use Rattle.clfs_model.specs.declared.refusal.Refusal.{Refusal}
 use Rattle.clfs_model.specs.declared.refusal.Refusal.TheVariants as refusals
 use Rattle.clfs_model.specs.declared.state.State.{State}
-use Rattle.clfs_model.specs.State.{most_containers}
 use Rattle.clfs_model.specs.Live.{active}
 use Rattle.clfs_model.specs.Space.{containers_for_reserved}
 

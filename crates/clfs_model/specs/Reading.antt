@@ -16,14 +16,14 @@ use Rattle.clfs_model.specs.State.{least_unused}
 use Rattle.clfs_model.specs.Live.{live, live_at}
 
 -- the record at an LSN, live or not
-abbrev pub record_at : State → ℕ → Option LogEntry
-record_at s lsn = find (λ (entry : LogEntry). entry.lsn == lsn) s.records
+abbrev pub entry_at : State → ℕ → Option LogEntry
+entry_at s lsn = find (λ (entry : LogEntry). entry.lsn == lsn) s.records
 
 -- the record where reading goes next from the one at `last`: the live record that its link names, or the live one with the
 -- least LSN above it
 abbrev pub next : State → ℕ → Mode → ℕ → Option LogEntry
-next s stream Previous last = option_and_then (λ (entry : LogEntry). live_at s stream entry.previous) (record_at s last)
-next s stream UndoNext last = option_and_then (λ (entry : LogEntry). live_at s stream entry.undo_next) (record_at s last)
+next s stream Previous last = option_and_then (λ (entry : LogEntry). live_at s stream entry.previous) (entry_at s last)
+next s stream UndoNext last = option_and_then (λ (entry : LogEntry). live_at s stream entry.undo_next) (entry_at s last)
 next s stream Forward last = find (λ (entry : LogEntry). nat_lt last entry.lsn) (live s stream)
 
 -- so many records at most, from this one on, each the next of the one before

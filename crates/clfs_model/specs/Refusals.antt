@@ -3,6 +3,7 @@ use Rattle.std.specs.Prelude.{ℕ, ◌+◌, Bool, not, ◌&&◌, ◌||◌, ◌==
 use Rattle.std.specs.List.{position_or_len}
 use Rattle.std.specs.Option.{option_map_or}
 use Rattle.std.specs.Str.{bytes_eq}
+use Rattle.clfs_lsn.specs.Limits.{most_streams, longest_name, most_areas}
 use Rattle.clfs_lsn.specs.Lsn.{null_lsn}
 use Rattle.clfs_lsn.specs.Size.{longest}
 use Rattle.clfs_lsn.specs.Place.{frontier}
@@ -19,7 +20,7 @@ use Rattle.clfs_model.specs.declared.state.Stream.{Stream}
 use Rattle.clfs_model.specs.declared.state.Cursor.{Cursor}
 use Rattle.clfs_model.specs.declared.state.CursorKind.{CursorKind}
 use Rattle.clfs_model.specs.declared.state.CursorKind.TheVariants.{Records, RestartAreas}
-use Rattle.clfs_model.specs.State.{most_streams, longest_name, most_areas, stream_at, base_of, area_of, areas_of}
+use Rattle.clfs_model.specs.State.{stream_at, base_of, area_of, areas_of}
 use Rattle.clfs_model.specs.Live.{live_at, last_live, active}
 use Rattle.clfs_model.specs.Space.{free, reserved, own_sum, size_limit, grown, has_room}
 use Rattle.clfs_model.specs.Flush.{flushed}

@@ -20,17 +20,17 @@ pub data Request : Type 0 where
   bad_line : ℕ → Request
 
 -- the reply to one request, and the state that it leaves; a bad line changes nothing
-abbrev pub Answers : Bool → State → Request → Happened → Reply → State → Type 0
-Answers told s (asks client call) happened reply t = Step told s client call happened reply t
-Answers told s (reopens client) happened reply t = ReopenStep told s happened reply t
-Answers told s (bad_line at) happened reply t = (reply ≡ replies.Refused (refusals.BadLine at)) × (t ≡ s)
+abbrev pub RequestStep : Bool → State → Request → Happened → Reply → State → Type 0
+RequestStep told s (asks client call) happened reply t = Step told s client call happened reply t
+RequestStep told s (reopens client) happened reply t = ReopenStep told s happened reply t
+RequestStep told s (bad_line at) happened reply t = (reply ≡ replies.Refused (refusals.BadLine at)) × (t ≡ s)
 
 -- The machine may give these replies to these requests, one after the other, and come to the last state; each request has one
 -- thing that happened.
 abbrev pub Run : Bool → State → List Request → List Happened → List Reply → State → Type 0
 Run told s [] [] [] t = t ≡ s
 Run told s (request ∷ requests) (happened ∷ more) (reply ∷ replies) t =
-    (mid : State) × (Answers told s request happened reply mid × Run told mid requests more replies t)
+    (mid : State) × (RequestStep told s request happened reply mid × Run told mid requests more replies t)
 Run told s _ _ _ t = ⊥
 
 -- nothing happened in any of the requests

@@ -4,6 +4,7 @@
 use Rattle.std.specs.Prelude.{ℕ, zero, suc, ◌+◌, Bool, true, false, nat_le, if◌then◌else◌, List, [], ◌∷◌, length, map, find, codes, Option, Some, None, Result, Ok, Err}
 use Rattle.std.specs.Option.{option_map, option_and_then}
 use Rattle.std.specs.Str.{bytes_eq}
+use Rattle.clfs_lsn.specs.Limits.{most_clients, most_areas, most_cursors, most_sizes}
 use Rattle.clfs_lsn.specs.Lsn.{null_lsn}
 use Rattle.clfs_lsn.specs.Words.{decimal_number, lsn_of_word, data_of_word}
 use Rattle.clfs_lsn.specs.declared.policy.Policy.TheVariants as policies
@@ -73,11 +74,15 @@ number least greatest bytes = option_and_then (λ n. if nat_le least n then Some
 
 -- a client, 1 to 64
 abbrev pub client_word : List ℕ → Option ℕ
-client_word bytes = number 1 64 bytes
+client_word bytes = number 1 most_clients bytes
 
--- an area or a cursor, 1 to 16
+-- an area, 1 to 16
 abbrev pub area_word : List ℕ → Option ℕ
-area_word bytes = number 1 16 bytes
+area_word bytes = number 1 most_areas bytes
+
+-- a cursor, or how many of them an area may have, 1 to 16
+abbrev pub cursor_word : List ℕ → Option ℕ
+cursor_word bytes = number 1 most_cursors bytes
 
 -- a stream, 1 to 65535
 abbrev pub stream_word : List ℕ → Option ℕ
@@ -141,7 +146,7 @@ sizes_up_to (suc room) (word ∷ words) = do
 -- one to sixteen sizes up to the line's end
 abbrev pub sizes_at : List Word → ℕ → Result (List ℕ) ℕ
 sizes_at [] end = Err end
-sizes_at (word ∷ words) end = sizes_up_to 16 (word ∷ words)
+sizes_at (word ∷ words) end = sizes_up_to most_sizes (word ∷ words)
 
 -- one to sixteen sizes up to the line's end
 abbrev pub sizes : Rest → Result (List ℕ) ℕ
@@ -156,7 +161,7 @@ abbrev pub area_line : Rest → Result Call ℕ
 area_line rest = do
   stream ← word stream_word rest
   largest ← word long_word stream.rest
-  reads ← word area_word largest.rest
+  reads ← word cursor_word largest.rest
   ends (calls.CreateArea stream.value largest.value reads.value) reads.rest
 
 -- a verb with an area and one word more
@@ -293,11 +298,11 @@ call_line append_verb rest = append_line rest
 call_line flush_verb rest = one_word_line area_word (λ area. calls.Flush area) rest
 call_line flush_to_verb rest = two_word_line lsn_of_word (λ area lsn. calls.FlushTo area lsn) rest
 call_line read_verb rest = read_line rest
-call_line next_verb rest = two_word_line area_word (λ area cursor. calls.ReadNext area cursor) rest
-call_line end_verb rest = two_word_line area_word (λ area cursor. calls.EndRead area cursor) rest
+call_line next_verb rest = two_word_line cursor_word (λ area cursor. calls.ReadNext area cursor) rest
+call_line end_verb rest = two_word_line cursor_word (λ area cursor. calls.EndRead area cursor) rest
 call_line restart_verb rest = restart_line rest
 call_line read_restart_verb rest = one_word_line area_word (λ area. calls.ReadRestart area) rest
-call_line previous_restart_verb rest = two_word_line area_word (λ area cursor. calls.PreviousRestart area cursor) rest
+call_line previous_restart_verb rest = two_word_line cursor_word (λ area cursor. calls.PreviousRestart area cursor) rest
 call_line advance_verb rest = two_word_line lsn_of_word (λ area lsn. calls.Advance area lsn) rest
 call_line archive_verb rest = one_word_line switch_word (λ on. calls.SetArchive on) rest
 call_line tail_verb rest = one_word_line lsn_of_word (λ lsn. calls.SetArchiveTail lsn) rest
@@ -307,9 +312,20 @@ call_line unpolicy_verb rest = one_word_line kind_word (λ kind. calls.RemovePol
 call_line size_verb rest = one_word_line short_word (λ containers. calls.SetSize containers) rest
 call_line info_verb rest = one_word_line stream_word (λ stream. calls.Info stream) rest
 
--- `reopen`, which is no client's call, or a verb
-abbrev pub verb_or_reopen : List ℕ → Option (Option Verb)
-verb_or_reopen bytes = if bytes_eq bytes (codes "reopen") then Some None else option_map (λ verb. Some verb) (verb_word bytes)
+-- Which verbs a script may have: those of clients' calls, and `reopen`, which asks to open the log anew, or the former alone. Where
+-- several clients run at once none of them may open the log anew, so no form allows that word.
+pub data Language : Type 0 where
+  calls_and_reopening : Language
+  calls_alone : Language
+
+-- a client's verb
+abbrev pub call_verb : List ℕ → Option (Option Verb)
+call_verb bytes = option_map (λ verb. Some verb) (verb_word bytes)
+
+-- a word that a language allows behind the client: a verb, or none for `reopen`, which is no client's call
+abbrev pub allowed_verb : Language → List ℕ → Option (Option Verb)
+allowed_verb calls_and_reopening bytes = if bytes_eq bytes (codes "reopen") then Some None else call_verb bytes
+allowed_verb calls_alone bytes = call_verb bytes
 
 -- what a client's line asks for behind its verb
 abbrev pub request_behind : ℕ → Option Verb → Rest → Result Request ℕ
@@ -319,10 +335,10 @@ request_behind client (Some verb) rest = do
   Ok (asks client call)
 
 -- a line without its carriage return: a client, a verb, and what stands behind it
-abbrev pub client_line : Rest → Result Request ℕ
-client_line rest = do
+abbrev pub client_line : Language → Rest → Result Request ℕ
+client_line language rest = do
   client ← word client_word rest
-  verb ← word verb_or_reopen client.rest
+  verb ← word (allowed_verb language) client.rest
   request_behind client.value verb.value verb.rest
 
 -- the request, or a bad line
@@ -330,10 +346,19 @@ abbrev pub request_or_bad : Result Request ℕ → Request
 request_or_bad (Ok request) = request
 request_or_bad (Err at) = bad_line at
 
--- what a line asks for, without a carriage return at its end
-unfoldable pub line_request : List ℕ → Request
-line_request line = request_or_bad (client_line (record { words = words_from 0 (words_of line); end = length line }))
+-- what a line asks for in a language, without a carriage return at its end
+unfoldable pub request_in : Language → List ℕ → Request
+request_in language line = request_or_bad (client_line language (record { words = words_from 0 (words_of line); end = length line }))
 
--- what the lines of a script ask for
+-- what lines ask for, each with its carriage return dropped: those of a whole script, or those that are answered of one that passes
+-- a limit
+abbrev pub requests_of_lines : Language → List (List ℕ) → List Request
+requests_of_lines language lines = map (λ line. request_in language (without_return line)) lines
+
+-- what a line asks for where the log may be opened anew
+abbrev pub line_request : List ℕ → Request
+line_request line = request_in calls_and_reopening line
+
+-- what the lines of a script ask for where the log may be opened anew
 abbrev pub script_requests : List ℕ → List Request
-script_requests bytes = map (λ line. line_request (without_return line)) (lines_of bytes)
+script_requests bytes = requests_of_lines calls_and_reopening (lines_of bytes)

@@ -1,10 +1,10 @@
 -- The room of a log, and how it grows.
 use Rattle.std.specs.Prelude.{ℕ, ◌+◌, Bool, true, false, ◌&&◌, nat_lt, nat_le, List, sum_by, unwrap_or}
+use Rattle.clfs_lsn.specs.Limits.{most_containers}
 use Rattle.clfs_lsn.specs.Size.{own}
 use Rattle.clfs_lsn.specs.Space.{free_sectors, growth, least_containers}
 use Rattle.clfs_model.specs.declared.state.State.{State}
 use Rattle.clfs_model.specs.declared.state.Area.{Area}
-use Rattle.clfs_model.specs.State.{most_containers}
 use Rattle.clfs_model.specs.Live.{hold}
 
 -- the sectors that appends can surely take

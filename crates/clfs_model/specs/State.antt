@@ -9,26 +9,6 @@ use Rattle.clfs_model.specs.declared.state.State.{State}
 use Rattle.clfs_model.specs.declared.state.Stream.{Stream}
 use Rattle.clfs_model.specs.declared.state.Area.{Area}
 
--- the most containers of a log
-abbrev pub most_containers : ℕ
-most_containers = 256
-
--- the most streams of a log
-abbrev pub most_streams : ℕ
-most_streams = 128
-
--- the most bytes of a stream's name
-abbrev pub longest_name : ℕ
-longest_name = 32
-
--- the most areas of a client
-abbrev pub most_areas : ℕ
-most_areas = 16
-
--- the highest number of a cursor
-abbrev pub most_cursors : ℕ
-most_cursors = 16
-
 -- a log that has just been made: one empty container with the id 1, and nothing else
 abbrev pub fresh : Shape → ℕ → ℕ → State
 fresh shape containers buffers = record {
@@ -48,10 +28,15 @@ fresh shape containers buffers = record {
   broken = false;
 }
 
+-- a log that has just been made, by the sectors of its largest block and of a container, its containers and its write buffers
+abbrev pub log_of : ℕ → ℕ → ℕ → ℕ → State
+log_of block container containers buffers =
+    fresh (record { block_sectors = block; container_sectors = container }) containers buffers
+
 -- One stream `a` and an area of client 1 on it, in an empty log of 256 containers: where scripts begin while no log is kept on
 -- a disk.
 abbrev pub first : State
-first = record (fresh (record { block_sectors = 2; container_sectors = 16384 }) 256 4) {
+first = record (log_of 2 16384 256 4) {
   streams = record { name = codes "a"; base = null_lsn } ∷ [];
   areas = record { client = 1; number = 1; stream = 1; largest = 960; reads = 4; held = 0; cursors = [] } ∷ [];
 }

@@ -17,6 +17,7 @@ use Rattle.clfs_model.specs.Put.{need_of, made_ready}
 use Rattle.clfs_model.specs.Refusals.{refusal, stream_number}
 use Rattle.clfs_model.specs.Answers.{Outcome, answer}
 use Rattle.clfs_model.specs.Valid.{IsValid}
+use Rattle.clfs_model.specs.Storable.{IsStorable}
 
 -- the calls that want of memory may refuse
 abbrev pub takes_memory : Call → Bool
@@ -95,25 +96,30 @@ abbrev pub IsDamaged : Reply → Type 0
 IsDamaged (replies.Refused (refusals.Damaged container offset at)) = Unit {0}
 IsDamaged _ = ⊥
 
--- the machine's reply, with the content of the record that was read left free, its LSN apart
-abbrev pub HasAnyContent : Reply → Reply → Type 0
-HasAnyContent (replies.Found cursor entry) reply = (read : LogEntry) × ((read.lsn ≡ entry.lsn) × (reply ≡ replies.Found cursor read))
-HasAnyContent (replies.Next entry) reply = (read : LogEntry) × ((read.lsn ≡ entry.lsn) × (reply ≡ replies.Next read))
-HasAnyContent answered reply = reply ≡ answered
+-- A record that a reply hands out, where the disk doesn't tell what it holds. One below the flushed LSN is read from the disk, so its
+-- fields are open, its LSN apart; one at or above it isn't on the disk yet, and is given exactly.
+abbrev pub IsRecordRead : ℕ → LogEntry → LogEntry → Type 0
+IsRecordRead stable entry read = MatchBool (nat_lt entry.lsn stable) (read.lsn ≡ entry.lsn) (read ≡ entry)
 
--- A reply is the machine's; over a disk that doesn't tell what it holds, up to the content of records that were read.
-abbrev pub IsReply : Bool → Reply → Reply → Type 0
-IsReply told answered reply = MatchBool told (reply ≡ answered) (HasAnyContent answered reply)
+-- the machine's reply, the record that it hands out as it may be read
+abbrev pub IsReplyRead : ℕ → Reply → Reply → Type 0
+IsReplyRead stable (replies.Found cursor entry) reply = (read : LogEntry) × (IsRecordRead stable entry read × (reply ≡ replies.Found cursor read))
+IsReplyRead stable (replies.Next entry) reply = (read : LogEntry) × (IsRecordRead stable entry read × (reply ≡ replies.Next read))
+IsReplyRead stable answered reply = reply ≡ answered
 
--- the reply and the state that an outcome tells
-abbrev pub Comes : Bool → Outcome → Reply → State → Type 0
-Comes told outcome reply t = IsReply told outcome.reply reply × (t ≡ outcome.state)
+-- A reply is the machine's; over a disk that doesn't tell what it holds, up to what is read of a record below the flushed LSN.
+abbrev pub IsReply : Bool → ℕ → Reply → Reply → Type 0
+IsReply told stable answered reply = MatchBool told (reply ≡ answered) (IsReplyRead stable answered reply)
+
+-- the reply and the state that an outcome tells; the state is exact over every disk
+abbrev pub Comes : Bool → ℕ → Outcome → Reply → State → Type 0
+Comes told stable outcome reply t = IsReply told stable outcome.reply reply × (t ≡ outcome.state)
 
 -- A step that isn't stopped by want of memory, from a state that isn't broken. Where nothing happened, the first refusal comes,
 -- or else the answer. A fault comes only in a call that isn't refused and that calls the disk, damage only in one that reads.
 abbrev pub Goes : Bool → State → ℕ → Call → Happened → Reply → State → Type 0
 Goes told s client call Fine reply t = MatchOption (refusal s client call)
-    (Comes told (answer s client call) reply t)
+    (Comes told (flushed s) (answer s client call) reply t)
     (λ first. (reply ≡ replies.Refused first) × (t ≡ s))
 Goes told s client call Fault reply t = (refusal s client call ≡ None) × (IsTrue (calls_disk s call)
     × ((reply ≡ replies.Refused refusals.DiskFault) × (t ≡ with_broken s)))
@@ -140,11 +146,14 @@ Step told s client call happened reply t = MatchBool s.broken
 abbrev pub IsOpenedAnew : State → State → Type 0
 IsOpenedAnew s t = (t.areas ≡ []) × ((is_pending t ≡ false) × ((t.buffers ≡ s.buffers) × (t.broken ≡ false)))
 
--- What reading the files anew comes to. Over a disk that tells what it holds the new state is the flushed part of the old one,
--- up to records that no reply can show; over another one it is some valid state that has just been opened.
-abbrev pub IsReopened : Bool → State → Reply → State → Type 0
-IsReopened told s reply t = (reply ≡ replies.Flushed (flushed t)) × (IsValid t
-    × MatchBool told ((flushed t ≡ flushed s) × IsSame (cut s) t) (IsOpenedAnew s t))
+-- What reading the files anew comes to. The new state is one that files can stand for, whatever was read. Over a disk that tells what
+-- it holds it is the flushed part of the old one, up to records that no reply can show; over another one it is some such state that
+-- has just been opened.
+pub record IsReopened (told : Bool) (s : State) (reply : Reply) (t : State) : Type 0 where
+  pub flushed_part : reply ≡ replies.Flushed (flushed t)
+  pub valid : IsValid t
+  pub storable : IsStorable t
+  pub read : MatchBool told ((flushed t ≡ flushed s) × IsSame (cut s) t) (IsOpenedAnew s t)
 
 -- opening anew, from a state that isn't broken
 abbrev pub Reopens : Bool → State → Happened → Reply → State → Type 0

@@ -1,16 +1,16 @@
--- What a crash inside a call may leave of the log. The state that a log opens to after it is a survivor of the call.
+-- What a crash while a request is under way may leave of the log. The state that a log opens to after it is a survivor of the request.
 use Rattle.std.specs.Prelude.{◌≡◌, ℕ, ◌+◌, ◌<◌, ◌≤◌, ◌⊎◌, false, nat_lt, List, [], map, filter, All, Any, IsTrue}
 use Rattle.clfs_lsn.specs.Lsn.{container_of}
 use Rattle.clfs_lsn.specs.Place.{IsClosed, frontier}
 use Rattle.clfs_lsn.specs.declared.place.Place.{Place}
 use Rattle.clfs_lsn.specs.declared.entry.LogEntry.{LogEntry}
-use Rattle.clfs_model.specs.declared.call.Call.{Call}
 use Rattle.clfs_model.specs.declared.call.Call.TheVariants as calls
 use Rattle.clfs_model.specs.declared.state.State.{State}
 use Rattle.clfs_model.specs.declared.state.Stream.{Stream}
 use Rattle.clfs_model.specs.State.{base_of}
 use Rattle.clfs_model.specs.Flush.{flushed, cut}
 use Rattle.clfs_model.specs.Archive.{is_in_block, end_of_block}
+use Rattle.clfs_model.specs.Run.{Request, asks, fine_outcome}
 
 -- the names of a log's streams, in order
 abbrev pub names_of : State → List (List ℕ)
@@ -64,21 +64,26 @@ pub record HasBasesOfRestart (s s2 x : State) : Type 0 where
   pub there : (HasMore s2.records x → ⊥) → HasBases s2 x
   pub lost : HasMore s2.records x → HasBases s x
 
--- The bases that a crash leaves, by the call. A base that is advanced comes behind all that is flushed before it.
-abbrev pub HasBasesOfCall : Call → State → State → State → Type 0
-HasBasesOfCall (calls.WriteRestart area bytes base reserved) s s2 x = HasBasesOfRestart s s2 x
-HasBasesOfCall (calls.Advance area lsn) s s2 x = HasMore (cut s2).records x → HasBases s x
-HasBasesOfCall call s s2 x = Unit {0}
+-- The bases that a crash leaves, by what was asked. A base that is advanced comes behind all that is flushed before it.
+abbrev pub HasBasesOfRequest : Request → State → State → State → Type 0
+HasBasesOfRequest (asks client (calls.WriteRestart area bytes base reserved)) s s2 x = HasBasesOfRestart s s2 x
+HasBasesOfRequest (asks client (calls.Advance area lsn)) s s2 x = HasMore (cut s2).records x → HasBases s x
+HasBasesOfRequest request s s2 x = Unit {0}
 
--- The state x is left by a crash inside a call from s, s2 being the state that the call gives where nothing happens.
-pub record IsSurvivor (call : Call) (s s2 x : State) : Type 0 where
+-- The state x is left by a crash while a request is under way from s, s2 being the state that the request gives where nothing happens.
+-- A bad line asks for nothing, so s2 is s there; for opening anew s2 is the flushed part of s, and nothing else survives.
+pub record IsSurvivor (asked : Request) (s s2 x : State) : Type 0 where
   pub shape : x.shape ≡ s.shape
   pub place : IsSurvivingPlace s s2 x
   pub records : x.records ≡ records_below x.place s2.records
   pub settings : HasSettings s x ⊎ HasSettings s2 x
   pub new_settings : HasMore x.records s → HasSettings s2 x
   pub bases : (stream : ℕ) → (base_of x stream ≡ base_of s stream) ⊎ (base_of x stream ≡ base_of s2 stream)
-  pub bases_of_call : HasBasesOfCall call s s2 x
+  pub bases_of_request : HasBasesOfRequest asked s s2 x
   pub no_areas : x.areas ≡ []
   pub nothing_waits : x.waiting ≡ []
   pub whole : x.broken ≡ false
+
+-- the state x may be left by a crash while a request is under way from s
+abbrev pub Survives : Request → State → State → Type 0
+Survives asked s x = IsSurvivor asked s (fine_outcome s asked).state x

@@ -2,6 +2,7 @@
 use Rattle.std.specs.Prelude.{◌≡◌, ◌≢◌, ◌<◌, ◌≤◌, ℕ, ◌&&◌, ◌==◌, ◌⊎◌, All, AllPairs, IsSome, IfSome, List, length, map, filter}
 use Rattle.std.specs.List.{range_with_len}
 use Rattle.std.specs.List.Sorted.{IsStrictlyIncreasing}
+use Rattle.clfs_lsn.specs.Limits.{most_containers, most_write_buffers}
 use Rattle.clfs_lsn.specs.Lsn.{null_lsn, container_of, offset_of, sequence_of}
 use Rattle.clfs_lsn.specs.Size.{IsShape, longest}
 use Rattle.clfs_lsn.specs.Place.{IsWithin, frontier}
@@ -11,11 +12,11 @@ use Rattle.clfs_model.specs.declared.state.State.{State}
 use Rattle.clfs_model.specs.declared.state.Area.{Area}
 use Rattle.clfs_model.specs.declared.state.Cursor.{Cursor}
 use Rattle.clfs_model.specs.declared.state.Stream.{Stream}
-use Rattle.clfs_model.specs.State.{most_containers, stream_at}
+use Rattle.clfs_model.specs.State.{stream_at}
 use Rattle.clfs_model.specs.Live.{active}
 use Rattle.clfs_model.specs.Space.{free, reserved}
 use Rattle.clfs_model.specs.Flush.{flushed, block_start}
-use Rattle.clfs_model.specs.Reading.{record_at}
+use Rattle.clfs_model.specs.Reading.{entry_at}
 use Rattle.clfs_model.specs.Policies.{greatest_rate}
 
 -- The shape, the number of containers and the number of write buffers are in their ranges, and the place is within its container.
@@ -24,7 +25,7 @@ pub record HasRanges (s : State) : Type 0 where
   pub some_containers : 1 ≤ s.containers
   pub few_containers : s.containers ≤ most_containers
   pub some_buffers : 1 ≤ s.buffers
-  pub few_buffers : s.buffers ≤ 64
+  pub few_buffers : s.buffers ≤ most_write_buffers
   pub place : IsWithin s.shape s.place
 
 -- The installed policies are such as may be installed: the minimum is at most the maximum.
@@ -35,8 +36,8 @@ pub record HasPolicies (s : State) : Type 0 where
   pub growth : IfSome s.growth (λ rate. (1 ≤ rate) × (rate ≤ greatest_rate))
 
 -- two areas of which at least the client or the number differs
-abbrev pub AreDifferent : Area → Area → Type 0
-AreDifferent a b = (a.client ≢ b.client) ⊎ (a.number ≢ b.number)
+abbrev pub AreDifferentAreas : Area → Area → Type 0
+AreDifferentAreas a b = (a.client ≢ b.client) ⊎ (a.number ≢ b.number)
 
 -- an area on a stream that is there, with records that fit a block, and with cursors of different numbers
 pub record IsArea (s : State) (area : Area) : Type 0 where
@@ -47,7 +48,7 @@ pub record IsArea (s : State) (area : Area) : Type 0 where
 -- Streams have different names, areas of one client different numbers.
 pub record HasTables (s : State) : Type 0 where
   pub names : AllPairs (λ (a b : Stream). a.name ≢ b.name) s.streams
-  pub numbers : AllPairs AreDifferent s.areas
+  pub numbers : AllPairs AreDifferentAreas s.areas
   pub areas : All (IsArea s) s.areas
 
 -- a record of a stream that is there, above the null LSN and below the frontier, whose links are null or below it
@@ -79,7 +80,7 @@ pub record HasStable (s : State) : Type 0 where
 pub record IsWaiting (s : State) (start : ℕ) : Type 0 where
   pub container : container_of start ≡ s.place.container
   pub sequence : sequence_of start ≡ 0
-  pub first : IsSome (record_at s start)
+  pub first : IsSome (entry_at s start)
   pub below : start < block_start s.place
 
 -- Fewer blocks wait than there are write buffers, in their order.

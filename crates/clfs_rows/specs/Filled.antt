@@ -7,9 +7,10 @@ use Rattle.clfs_lsn.specs.declared.entry.LogEntry.{LogEntry}
 use Rattle.clfs_lsn.specs.declared.entry.Kind.TheVariants.{Plain}
 use Rattle.clfs_lsn.specs.declared.place.Place.{Place}
 use Rattle.clfs_model.specs.declared.state.State.{State}
+use Rattle.clfs_model.specs.State.{log_of}
 use Rattle.clfs_model.specs.Run.{state_after}
 use Rattle.clfs_model.specs.Script.{script_requests}
-use Rattle.clfs_rows.specs.Worked.{log_of, worked, opened_log}
+use Rattle.clfs_rows.specs.Worked.{worked, opened_log}
 
 -- a log with so many streams, named s1, s2, s3 and so on
 abbrev pub streams_of : ℕ → State

@@ -4,7 +4,7 @@ use Rattle.clfs_model.specs.declared.state.State.{State}
 use Rattle.clfs_model.specs.Step.{takes_memory, calls_disk}
 use Rattle.clfs_model.specs.Run.{Request, asks, reopens, bad_line, state_after}
 use Rattle.clfs_model.specs.Script.{line_request, script_requests}
-use Rattle.clfs_rows.specs.Worked.{worked, Exchange, asked}
+use Rattle.clfs_rows.specs.Worked.{worked, Exchange, script_of}
 
 -- whether a request makes a call on the disk
 abbrev pub request_reaches_disk : State → Request → Bool
@@ -14,7 +14,7 @@ request_reaches_disk s (bad_line at) = false
 
 -- whether a line makes a call on the disk, behind these other lines of the log of the rows
 abbrev pub reaches_disk : List Exchange → List ℕ → Bool
-reaches_disk before line = request_reaches_disk (state_after worked (script_requests (asked before))) (line_request line)
+reaches_disk before line = request_reaches_disk (state_after worked (script_requests (script_of before))) (line_request line)
 
 -- whether want of memory may refuse a request
 abbrev pub request_takes_memory : Request → Bool

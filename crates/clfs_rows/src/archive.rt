@@ -1,6 +1,7 @@
 // Archiving: the tail, which holds containers, and what is to be archived.
 ghost use Rattle.std.specs.Prelude.{[], ◌∷◌, ◌++◌, codes};
-ghost use Rattle.clfs_rows.specs.Worked.{log_of, worked, ◌⟹◌, IsDialogue, opening, append_of_zeros};
+ghost use Rattle.clfs_model.specs.State.{log_of};
+ghost use Rattle.clfs_rows.specs.Worked.{worked, ◌⟹◌, IsDialogue, opening, append_of_zeros};
 
 /// With archiving on a container is used again only below the archive tail too.
 pub fn what_the_tail_holds()

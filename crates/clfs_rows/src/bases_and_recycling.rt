@@ -1,6 +1,6 @@
 // The base of a stream, and how containers are freed and used again.
 ghost use Rattle.std.specs.Prelude.{[], ◌∷◌, ◌++◌, codes};
-ghost use Rattle.clfs_rows.specs.Worked.{worked, ◌⟹◌, IsDialogue, opening, append_line, append_of_zeros};
+ghost use Rattle.clfs_rows.specs.Worked.{worked, ◌⟹◌, IsDialogue, opening, line_of_append, append_of_zeros};
 
 /// A full log takes records again once all streams have left the first container.
 pub fn containers_are_used_again()
@@ -8,7 +8,7 @@ pub fn containers_are_used_again()
         ++ codes "2 open b" ⟹ codes "2 stream 2"
         ∷ codes "2 area 2 960 4" ⟹ codes "2 area 1"
         ∷ append_of_zeros 960 [] ⟹ codes "1 lsn 1:0:0"
-        ∷ append_line (codes "2") 960 (codes "0:0:0 0:0:0") [] ⟹ codes "2 lsn 1:400:0"
+        ∷ line_of_append (codes "2") 960 (codes "0:0:0 0:0:0") [] ⟹ codes "2 lsn 1:400:0"
         ∷ append_of_zeros 960 [] ⟹ codes "1 lsn 1:800:0"
         ∷ append_of_zeros 960 [] ⟹ codes "1 lsn 1:c00:0"
         ∷ append_of_zeros 960 [] ⟹ codes "1 lsn 2:0:0"

@@ -5,15 +5,15 @@ ghost use Rattle.clfs_model.specs.Run.{state_after};
 ghost use Rattle.clfs_model.specs.Script.{script_requests};
 ghost use Rattle.clfs_model.specs.Journals.{mine, held_by};
 ghost use Rattle.clfs_model.specs.declared.reply.Reply.TheVariants as replies;
-ghost use Rattle.clfs_rows.specs.OwnEntries.{entry_of, entries_of_an_area};
+ghost use Rattle.clfs_rows.specs.OwnEntries.{entry_for_line, entries_of_an_area};
 ghost use Rattle.clfs_rows.specs.Worked.{opened_log};
 
 /// The entries of one client, in their order, and none of another.
 pub fn entries_of_a_client()
     ensures all_of_them { mine entries_of_an_area 1 ≡ entries_of_an_area }
     ensures none_of_them { mine entries_of_an_area 2 ≡ [] }
-    ensures one_of_two { mine (record (entry_of 1 (codes "2 flush 1") replies.Done) { client = 2 } ∷ entry_of 1 (codes "1 flush 1") replies.Done ∷ []) 1
-        ≡ entry_of 1 (codes "1 flush 1") replies.Done ∷ [] }
+    ensures one_of_two { mine (record (entry_for_line 1 (codes "2 flush 1") replies.Done) { client = 2 } ∷ entry_for_line 1 (codes "1 flush 1") replies.Done ∷ []) 1
+        ≡ entry_for_line 1 (codes "1 flush 1") replies.Done ∷ [] }
 {}
 
 /// What the area holds after each of the client's own entries, beginning with what it holds in the opening state.

@@ -1,6 +1,7 @@
 // Which refusal comes first where a call meets several.
 ghost use Rattle.std.specs.Prelude.{[], ◌∷◌, ◌++◌, codes};
-ghost use Rattle.clfs_rows.specs.Worked.{log_of, worked, ◌⟹◌, IsDialogue, opening, zeros, append_line};
+ghost use Rattle.clfs_model.specs.State.{log_of};
+ghost use Rattle.clfs_rows.specs.Worked.{worked, ◌⟹◌, IsDialogue, opening, zeros, line_of_append};
 
 /// A log of one container takes no record and no reservation, whatever its policies; nothing else is refused for that.
 pub fn one_container()
@@ -35,7 +36,7 @@ pub fn refusals_of_appends()
         ++ (codes "1 append 5 " ++ (zeros 961 ++ codes " 1:0:0 1:0:1 reserved hold 961")) ⟹ codes "1 refused 10 NoSuchArea"
         ∷ []) }
     ensures data_before_sizes { IsDialogue worked (opening
-        ++ append_line (codes "1") 961 (codes "1:0:0 1:0:1") (codes " reserved hold 962") ⟹ codes "1 refused 7 RecordTooLong 961 960"
+        ++ line_of_append (codes "1") 961 (codes "1:0:0 1:0:1") (codes " reserved hold 962") ⟹ codes "1 refused 7 RecordTooLong 961 960"
         ∷ []) }
     ensures first_size_that_is_too_long { IsDialogue worked (opening
         ++ codes "1 append 1 aa 1:0:0 1:0:1 reserved hold 8 962 963" ⟹ codes "1 refused 7 RecordTooLong 962 960"

@@ -3,11 +3,11 @@ use Rattle.std.specs.Fmt.{digits}
 use Rattle.hex.specs.Hex.{decode_pairs, encode_with}
 use Rattle.clfs_model.specs.Space.{grown, has_room}
 use Rattle.clfs_model.specs.Run.{fine_outcome}
-use Rattle.clfs_model.specs.Script.{line_request}
+use Rattle.clfs_model.specs.Script.{request_in}
 use Rattle.clfs_rows.proofs.disk_and_memory.calls_that_reach_the_disk.Goals as goal
 
 pub returns : goal.returns
-unfolding grown has_room fine_outcome line_request digits decode_pairs encode_with
+unfolding grown has_room fine_outcome request_in digits decode_pairs encode_with
 returns c = record {
   an_append_that_flushes = refl;
   the_fourth_sealed_block = refl;

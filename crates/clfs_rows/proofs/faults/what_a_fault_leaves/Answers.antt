@@ -3,7 +3,7 @@ use Rattle.std.specs.Fmt.{digits}
 use Rattle.hex.specs.Hex.{decode_pairs, encode_with}
 use Rattle.clfs_model.specs.Space.{grown, has_room}
 use Rattle.clfs_model.specs.Run.{fine_outcome}
-use Rattle.clfs_model.specs.Script.{line_request}
+use Rattle.clfs_model.specs.Script.{request_in}
 use Rattle.std.proofs.Common.{inr}
 use Rattle.clfs_model.specs.Step.{Step, ReopenStep, with_broken}
 use Rattle.clfs_rows.specs.Worked.{opened_log, flushed_log}
@@ -11,7 +11,7 @@ use Rattle.clfs_rows.proofs.BrokenLog.{fault_breaks, no_fault_without_disk, no_f
 use Rattle.clfs_rows.proofs.faults.what_a_fault_leaves.Goals as goal
 
 pub returns : goal.returns
-unfolding Step ReopenStep grown has_room fine_outcome line_request digits decode_pairs encode_with
+unfolding Step ReopenStep grown has_room fine_outcome request_in digits decode_pairs encode_with
 returns c = record {
   fault_then_broken =
       (with_broken opened_log, (inr (refl, (refl, (refl, refl))), (with_broken opened_log, ((refl, refl), (with_broken opened_log, ((refl, refl), refl))))));
