@@ -9,39 +9,40 @@ use Rattle.clfs_model.specs.declared.reply.Reply.{Reply}
 use Rattle.clfs_model.specs.declared.reply.Reply.TheVariants as replies
 use Rattle.clfs_model.specs.declared.state.State.{State}
 use Rattle.clfs_model.specs.Happened.{happened_of}
+use Rattle.clfs_model.specs.Flush.{flushed}
 use Rattle.clfs_model.specs.Refusals.{refusal}
 use Rattle.clfs_model.specs.Answers.{answer}
-use Rattle.clfs_model.specs.Step.{Step, Goes, Comes, IsReply, HasAnyContent}
+use Rattle.clfs_model.specs.Step.{Step, Goes, Comes, IsReply, IsReplyRead}
 use Rattle.clfs_laws.proofs.CallRefusals.{Told, fine_of, terms_of, refusal_told}
 use Rattle.clfs_laws.proofs.FineAnswers.{answer_fine}
 use Rattle.clfs_laws.proofs.StepCases.{broken_step, whole_step}
 
--- a reply with any content tells that the same happened
-content_fine : (answered reply : Reply) → HasAnyContent answered reply → happened_of reply ≡ happened_of answered
-content_fine (replies.Found cursor entry) reply is = ap happened_of is.1.1
-content_fine (replies.Next entry) reply is = ap happened_of is.1.1
-content_fine (replies.Stream number) reply is = ap happened_of is
-content_fine (replies.Area number) reply is = ap happened_of is
-content_fine replies.Done reply is = ap happened_of is
-content_fine (replies.Held sectors) reply is = ap happened_of is
-content_fine (replies.Sectors sectors) reply is = ap happened_of is
-content_fine (replies.Placed lsn) reply is = ap happened_of is
-content_fine (replies.Flushed lsn) reply is = ap happened_of is
-content_fine (replies.Base lsn) reply is = ap happened_of is
-content_fine (replies.Tail lsn) reply is = ap happened_of is
-content_fine (replies.Extents extents) reply is = ap happened_of is
-content_fine (replies.Containers containers) reply is = ap happened_of is
-content_fine (replies.Info info) reply is = ap happened_of is
-content_fine (replies.Refused refusal) reply is = ap happened_of is
+-- whatever is read of a record, the reply tells that the same happened
+read_fine : (stable : ℕ) (answered reply : Reply) → IsReplyRead stable answered reply → happened_of reply ≡ happened_of answered
+read_fine stable (replies.Found cursor entry) reply is = ap happened_of is.1.1
+read_fine stable (replies.Next entry) reply is = ap happened_of is.1.1
+read_fine stable (replies.Stream number) reply is = ap happened_of is
+read_fine stable (replies.Area number) reply is = ap happened_of is
+read_fine stable replies.Done reply is = ap happened_of is
+read_fine stable (replies.Held sectors) reply is = ap happened_of is
+read_fine stable (replies.Sectors sectors) reply is = ap happened_of is
+read_fine stable (replies.Placed lsn) reply is = ap happened_of is
+read_fine stable (replies.Flushed lsn) reply is = ap happened_of is
+read_fine stable (replies.Base lsn) reply is = ap happened_of is
+read_fine stable (replies.Tail lsn) reply is = ap happened_of is
+read_fine stable (replies.Extents extents) reply is = ap happened_of is
+read_fine stable (replies.Containers containers) reply is = ap happened_of is
+read_fine stable (replies.Info info) reply is = ap happened_of is
+read_fine stable (replies.Refused refusal) reply is = ap happened_of is
 
-reply_fine : (told : Bool) (answered reply : Reply) → IsReply told answered reply → happened_of reply ≡ happened_of answered
-reply_fine true answered reply is = ap happened_of is
-reply_fine false answered reply is = content_fine answered reply is
+reply_fine : (told : Bool) (stable : ℕ) (answered reply : Reply) → IsReply told stable answered reply → happened_of reply ≡ happened_of answered
+reply_fine true stable answered reply is = ap happened_of is
+reply_fine false stable answered reply is = read_fine stable answered reply is
 
 -- where nothing happened, the reply tells so
 fine_told : (told : Bool) (s : State) (client : ℕ) (call : Call) (reply : Reply) (t : State) (first : Option Refusal) → Told (terms_of s client call) first
-    → MatchOption first (Comes told (answer s client call) reply t) (λ r. (reply ≡ replies.Refused r) × (t ≡ s)) → happened_of reply ≡ Fine
-fine_told told s client call reply t None tells comes = reply_fine told (answer s client call).reply reply comes.0 ∙ answer_fine s client call
+    → MatchOption first (Comes told (flushed s) (answer s client call) reply t) (λ r. (reply ≡ replies.Refused r) × (t ≡ s)) → happened_of reply ≡ Fine
+fine_told told s client call reply t None tells comes = reply_fine told (flushed s) (answer s client call).reply reply comes.0 ∙ answer_fine s client call
 fine_told told s client call reply t (Some first) tells comes = ap happened_of comes.0 ∙ fine_of (terms_of s client call) first tells
 
 -- a step tells that nothing happened, or leaves the log broken

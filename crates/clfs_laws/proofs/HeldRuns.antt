@@ -19,8 +19,9 @@ use Rattle.clfs_model.specs.State.{area_of}
 use Rattle.clfs_model.specs.Live.{live_at}
 use Rattle.clfs_model.specs.Reading.{next_of_cursor, record_cursor, restart_cursor, newest_restart}
 use Rattle.clfs_model.specs.Refusals.{refusal, stream_number}
+use Rattle.clfs_model.specs.Flush.{flushed}
 use Rattle.clfs_model.specs.Answers.{Outcome, outcome, answer}
-use Rattle.clfs_model.specs.Step.{Step, Goes, Comes, IsReply, HasAnyContent}
+use Rattle.clfs_model.specs.Step.{Step, Goes, Comes, IsReply, IsReplyRead}
 use Rattle.clfs_model.specs.Journals.{GoesOn, IsLegal, mine, held_in, held_after, held_through, held_by}
 use Rattle.clfs_laws.specs.Rows.{Row, row_of, row_in, row_after}
 use Rattle.clfs_laws.proofs.RowRuns.{step_rows, damage_is}
@@ -147,7 +148,7 @@ answer_by_rule s client (calls.RemovePolicy kind) = λ number. refl
 answer_by_rule s client (calls.SetSize containers) = λ number. refl
 answer_by_rule s client (calls.Info stream) = λ number. refl
 
--- the content of a record that was read changes nothing of it
+-- what is read of a record changes nothing of it
 found_by_rule : (s : State) (client : ℕ) (call : Call) (cursor : ℕ) (entry : LogEntry) → HoldsByRule s client call (replies.Found cursor entry)
 found_by_rule s client (calls.CreateArea stream largest reads) cursor entry number = refl
 found_by_rule s client (calls.DeleteArea area) cursor entry number = refl
@@ -170,32 +171,32 @@ next_by_rule s client call entry number = refl
 equal_by_rule : (s : State) (client : ℕ) (call : Call) (answered reply : Reply) → reply ≡ answered → HoldsByRule s client call answered → HoldsByRule s client call reply
 equal_by_rule s client call answered reply is rule = let F : Reply → Type 0 = HoldsByRule s client call in subst F (sym is) rule
 
-content_by_rule : (s : State) (client : ℕ) (call : Call) (answered reply : Reply) → HasAnyContent answered reply → HoldsByRule s client call answered → HoldsByRule s client call reply
-content_by_rule s client call (replies.Found cursor entry) reply is rule =
+read_by_rule : (stable : ℕ) (s : State) (client : ℕ) (call : Call) (answered reply : Reply) → IsReplyRead stable answered reply → HoldsByRule s client call answered → HoldsByRule s client call reply
+read_by_rule stable s client call (replies.Found cursor entry) reply is rule =
     equal_by_rule s client call (replies.Found cursor is.0) reply is.1.1 (found_by_rule s client call cursor is.0)
-content_by_rule s client call (replies.Next entry) reply is rule =
+read_by_rule stable s client call (replies.Next entry) reply is rule =
     equal_by_rule s client call (replies.Next is.0) reply is.1.1 (next_by_rule s client call is.0)
-content_by_rule s client call (replies.Stream n) reply is rule = equal_by_rule s client call (replies.Stream n) reply is rule
-content_by_rule s client call (replies.Area n) reply is rule = equal_by_rule s client call (replies.Area n) reply is rule
-content_by_rule s client call replies.Done reply is rule = equal_by_rule s client call replies.Done reply is rule
-content_by_rule s client call (replies.Held n) reply is rule = equal_by_rule s client call (replies.Held n) reply is rule
-content_by_rule s client call (replies.Sectors n) reply is rule = equal_by_rule s client call (replies.Sectors n) reply is rule
-content_by_rule s client call (replies.Placed lsn) reply is rule = equal_by_rule s client call (replies.Placed lsn) reply is rule
-content_by_rule s client call (replies.Flushed lsn) reply is rule = equal_by_rule s client call (replies.Flushed lsn) reply is rule
-content_by_rule s client call (replies.Base lsn) reply is rule = equal_by_rule s client call (replies.Base lsn) reply is rule
-content_by_rule s client call (replies.Tail lsn) reply is rule = equal_by_rule s client call (replies.Tail lsn) reply is rule
-content_by_rule s client call (replies.Extents extents) reply is rule = equal_by_rule s client call (replies.Extents extents) reply is rule
-content_by_rule s client call (replies.Containers n) reply is rule = equal_by_rule s client call (replies.Containers n) reply is rule
-content_by_rule s client call (replies.Info info) reply is rule = equal_by_rule s client call (replies.Info info) reply is rule
-content_by_rule s client call (replies.Refused given) reply is rule = equal_by_rule s client call (replies.Refused given) reply is rule
+read_by_rule stable s client call (replies.Stream n) reply is rule = equal_by_rule s client call (replies.Stream n) reply is rule
+read_by_rule stable s client call (replies.Area n) reply is rule = equal_by_rule s client call (replies.Area n) reply is rule
+read_by_rule stable s client call replies.Done reply is rule = equal_by_rule s client call replies.Done reply is rule
+read_by_rule stable s client call (replies.Held n) reply is rule = equal_by_rule s client call (replies.Held n) reply is rule
+read_by_rule stable s client call (replies.Sectors n) reply is rule = equal_by_rule s client call (replies.Sectors n) reply is rule
+read_by_rule stable s client call (replies.Placed lsn) reply is rule = equal_by_rule s client call (replies.Placed lsn) reply is rule
+read_by_rule stable s client call (replies.Flushed lsn) reply is rule = equal_by_rule s client call (replies.Flushed lsn) reply is rule
+read_by_rule stable s client call (replies.Base lsn) reply is rule = equal_by_rule s client call (replies.Base lsn) reply is rule
+read_by_rule stable s client call (replies.Tail lsn) reply is rule = equal_by_rule s client call (replies.Tail lsn) reply is rule
+read_by_rule stable s client call (replies.Extents extents) reply is rule = equal_by_rule s client call (replies.Extents extents) reply is rule
+read_by_rule stable s client call (replies.Containers n) reply is rule = equal_by_rule s client call (replies.Containers n) reply is rule
+read_by_rule stable s client call (replies.Info info) reply is rule = equal_by_rule s client call (replies.Info info) reply is rule
+read_by_rule stable s client call (replies.Refused given) reply is rule = equal_by_rule s client call (replies.Refused given) reply is rule
 
-reply_by_rule : (told : Bool) (s : State) (client : ℕ) (call : Call) (answered reply : Reply) → IsReply told answered reply → HoldsByRule s client call answered → HoldsByRule s client call reply
-reply_by_rule true s client call answered reply is rule = equal_by_rule s client call answered reply is rule
-reply_by_rule false s client call answered reply is rule = content_by_rule s client call answered reply is rule
+reply_by_rule : (told : Bool) (stable : ℕ) (s : State) (client : ℕ) (call : Call) (answered reply : Reply) → IsReply told stable answered reply → HoldsByRule s client call answered → HoldsByRule s client call reply
+reply_by_rule true stable s client call answered reply is rule = equal_by_rule s client call answered reply is rule
+reply_by_rule false stable s client call answered reply is rule = read_by_rule stable s client call answered reply is rule
 
 fine_by_rule : (told : Bool) (s : State) (client : ℕ) (call : Call) (reply : Reply) (t : State) (first : Option Refusal)
-    → MatchOption first (Comes told (answer s client call) reply t) (λ r. (reply ≡ replies.Refused r) × (t ≡ s)) → HoldsByRule s client call reply
-fine_by_rule told s client call reply t None comes = reply_by_rule told s client call (answer s client call).reply reply comes.0 (answer_by_rule s client call)
+    → MatchOption first (Comes told (flushed s) (answer s client call) reply t) (λ r. (reply ≡ replies.Refused r) × (t ≡ s)) → HoldsByRule s client call reply
+fine_by_rule told s client call reply t None comes = reply_by_rule told (flushed s) s client call (answer s client call).reply reply comes.0 (answer_by_rule s client call)
 fine_by_rule told s client call reply t (Some first) comes = equal_by_rule s client call (replies.Refused first) reply comes.0 (refused_by_rule s client call first)
 
 goes_by_rule : (told : Bool) (s : State) (client : ℕ) (call : Call) (happened : Happened) (reply : Reply) (t : State)

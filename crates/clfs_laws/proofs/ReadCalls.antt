@@ -22,6 +22,7 @@ use Rattle.clfs_model.specs.State.{area_of, change_area}
 use Rattle.clfs_model.specs.Live.{live, live_at, is_live}
 use Rattle.clfs_model.specs.Reading.{next, chain_from, chain, is_restart, restart_areas, restart_below}
 use Rattle.clfs_model.specs.Reading.{newest_restart, next_of_cursor, record_cursor, restart_cursor, unused_cursor, with_cursor_at}
+use Rattle.clfs_model.specs.Flush.{flushed}
 use Rattle.clfs_model.specs.Refusals.{refusal, refused_if, read_refusal, next_refusal, too_many_cursors, end_of_mode, end_of_kind}
 use Rattle.clfs_model.specs.Answers.{Outcome, outcome, answer, read_at, read_newest_restart, found_with_cursor, moved_on}
 use Rattle.clfs_model.specs.Step.{Step, Comes, IsReply}
@@ -43,23 +44,23 @@ over_area_is : (s : State) (rest : Area → Outcome) (found : Option Area) (area
 over_area_is s rest found area is = ap (λ (f : Option Area). option_map_or rest f (outcome (replies.Refused refusals.NoSuchArea) s)) is
 
 -- a refusal isn't answered by a record
-no_record : (told : Bool) (given : Refusal) (cursor : ℕ) (read : LogEntry) → IsReply told (replies.Refused given) (replies.Found cursor read) → ⊥
-no_record true given cursor read is = absurd (cc)
-no_record false given cursor read is = absurd (cc)
+no_record : (told : Bool) (stable : ℕ) (given : Refusal) (cursor : ℕ) (read : LogEntry) → IsReply told stable (replies.Refused given) (replies.Found cursor read) → ⊥
+no_record true stable given cursor read is = absurd (cc)
+no_record false stable given cursor read is = absurd (cc)
 
 -- a record that was found, and what its cursor still gives; `entries` is all that reading gives
-abbrev pub FindsFirst : Bool → State → ℕ → ℕ → ℕ → LogEntry → CursorKind → List LogEntry → Type 0
-FindsFirst told t client number cursor read kind entries = (entry : LogEntry) × (rest : List LogEntry) × (entries ≡ entry ∷ rest)
-    × IsReply told (replies.Found cursor entry) (replies.Found cursor read) × StillGives t client number cursor kind rest
+abbrev pub FindsFirst : Bool → ℕ → State → ℕ → ℕ → ℕ → LogEntry → CursorKind → List LogEntry → Type 0
+FindsFirst told stable t client number cursor read kind entries = (entry : LogEntry) × (rest : List LogEntry) × (entries ≡ entry ∷ rest)
+    × IsReply told stable (replies.Found cursor entry) (replies.Found cursor read) × StillGives t client number cursor kind rest
 
 -- where the machine finds a record, with a new cursor at it
 finds_first : (told : Bool) (s t : State) (client number : ℕ) (area : Area) (cursor : ℕ) (read : LogEntry) (kind : CursorKind)
     (entry : LogEntry) (entries rest : List LogEntry)
     → area_of s client number ≡ Some area → entries ≡ entry ∷ rest → still_to_come s area.stream kind entry.lsn ≡ rest
-    → Comes told (found_with_cursor s area kind entry) (replies.Found cursor read) t → FindsFirst told t client number cursor read kind entries
+    → Comes told (flushed s) (found_with_cursor s area kind entry) (replies.Found cursor read) t → FindsFirst told (flushed s) t client number cursor read kind entries
 finds_first told s t client number area cursor read kind entry entries rest there all to_come comes =
-    let same : cursor ≡ unused_cursor area.cursors = same_cursor told (unused_cursor area.cursors) cursor entry read comes.0 in
-    let F : ℕ → Type 0 = λ n. IsReply told (replies.Found n entry) (replies.Found cursor read) in
+    let same : cursor ≡ unused_cursor area.cursors = same_cursor told (flushed s) (unused_cursor area.cursors) cursor entry read comes.0 in
+    let F : ℕ → Type 0 = λ n. IsReply told (flushed s) (replies.Found n entry) (replies.Found cursor read) in
     let G : ℕ → Type 0 = λ n. StillGives (found_with_cursor s area kind entry).state client number n kind rest in
     let H : State → Type 0 = λ x. StillGives x client number cursor kind rest in (
       entry,
@@ -72,11 +73,11 @@ finds_first told s t client number area cursor read kind entry entries rest ther
 read_by : (told : Bool) (s t : State) (client number lsn : ℕ) (mode : Mode) (area : Area) (cursor : ℕ) (read : LogEntry) (found : Option LogEntry)
     → IsValid s
     → area_of s client number ≡ Some area → live_at s area.stream lsn ≡ found
-    → Comes told (option_map_or (found_with_cursor s area (Records mode)) found (outcome (replies.Refused (refusals.RecordNonexistent lsn)) s))
+    → Comes told (flushed s) (option_map_or (found_with_cursor s area (Records mode)) found (outcome (replies.Refused (refusals.RecordNonexistent lsn)) s))
     (replies.Found cursor read) t
-    → FindsFirst told t client number cursor read (Records mode) (chain s area.stream lsn mode)
+    → FindsFirst told (flushed s) t client number cursor read (Records mode) (chain s area.stream lsn mode)
 read_by told s t client number lsn mode area cursor read None valid there at comes =
-    absurd (no_record told (refusals.RecordNonexistent lsn) cursor read comes.0)
+    absurd (no_record told (flushed s) (refusals.RecordNonexistent lsn) cursor read comes.0)
 read_by told s t client number lsn mode area cursor read (Some entry) valid there at comes =
     let among = (live_is s area.stream (λ (e : LogEntry). e.lsn == lsn) entry at).among in
     let all : chain s area.stream lsn mode ≡ entry ∷ still_to_come s area.stream (Records mode) entry.lsn =
@@ -86,11 +87,11 @@ read_by told s t client number lsn mode area cursor read (Some entry) valid ther
 -- a read that found a record
 pub read_first : (told : Bool) (s t : State) (client number lsn : ℕ) (mode : Mode) (area : Area) (cursor : ℕ) (read : LogEntry) → IsValid s
     → area_of s client number ≡ Some area → Step told s client (calls.Read number lsn mode) Fine (replies.Found cursor read) t
-    → FindsFirst told t client number cursor read (Records mode) (chain s area.stream lsn mode)
+    → FindsFirst told (flushed s) t client number cursor read (Records mode) (chain s area.stream lsn mode)
 read_first told s t client number lsn mode area cursor read valid there step =
     let comes = (done told s t client (calls.Read number lsn mode) (replies.Found cursor read) (λ given e. absurd (cc)) step).1 in
     read_by told s t client number lsn mode area cursor read (live_at s area.stream lsn) valid there refl
-    (comes_as told (answer s client (calls.Read number lsn mode)) (read_at s area lsn mode) (replies.Found cursor read) t
+    (comes_as told (flushed s) (answer s client (calls.Read number lsn mode)) (read_at s area lsn mode) (replies.Found cursor read) t
     (over_area_is s (λ (a : Area). read_at s a lsn mode) (area_of s client number) area there) comes)
 
 -- an empty chain has no record at its LSN
@@ -129,7 +130,7 @@ next_is s area at kind same = next_by s area at.number at.last at.kind ∙ ap (�
 -- A call that reads on with a cursor: where the cursor comes to a record, the reply is that and the cursor moves there.
 abbrev pub MovesOn : Bool → State → State → Area → ℕ → Reply → LogEntry → Type 0
 MovesOn told s t area cursor reply entry =
-    IsReply told (replies.Next entry) reply × (t ≡ change_area (with_cursor_at cursor entry.lsn) area.client area.number s)
+    IsReply told (flushed s) (replies.Next entry) reply × (t ≡ change_area (with_cursor_at cursor entry.lsn) area.client area.number s)
 
 -- the outcome of that
 abbrev moved_outcome : State → Area → ℕ → LogEntry → Outcome
@@ -145,7 +146,7 @@ moves_on told s t client cursor call area at found entry reply whole step memory
     let goes : answer s client call ≡ moved_outcome s area cursor entry =
     answers ∙ ap (moved_on s area cursor) there
     ∙ ap (λ (f : Option LogEntry). option_map_or (moved_outcome s area cursor) f (outcome (replies.Refused refusals.NoSuchCursor) s)) leads in
-    comes_as told (answer s client call) (moved_outcome s area cursor entry) reply t goes (fine_answered told s t client call reply whole step memory passes)
+    comes_as told (flushed s) (answer s client call) (moved_outcome s area cursor entry) reply t goes (fine_answered told s t client call reply whole step memory passes)
 
 comes_to_end : (told : Bool) (s t : State) (client : ℕ) (call : Call) (area : Area) (at : Cursor) (found : Option Cursor) (kind : CursorKind) (reply : Reply)
     → s.broken ≡ false → Step told s client call Fine reply t → reply ≢ replies.Refused refusals.NoMemory
@@ -218,10 +219,11 @@ answered_so s client number cursor area RestartAreas there =
 -- a reading that gave a record
 pub record GivesNext (told : Bool) (s t : State) (client number cursor : ℕ) (kind : CursorKind) (entry : LogEntry) (rest : List LogEntry) (reply : Reply)
     : Type 0 where
-  pub replied : IsReply told (replies.Next entry) reply
+  pub replied : IsReply told (flushed s) (replies.Next entry) reply
   pub gives : StillGives t client number cursor kind rest
   pub valid : IsValid t
   pub whole : t.broken ≡ s.broken
+  pub stable : flushed t ≡ flushed s
 
 -- a cursor that still gives records
 gives_next : (told : Bool) (s t : State) (client number cursor : ℕ) (kind : CursorKind) (entry : LogEntry) (rest : List LogEntry) (reply : Reply)
@@ -243,12 +245,13 @@ gives_next told s t client number cursor kind entry rest reply valid whole given
       valid = subst IsValid (sym on.1) (valid_cursor s client number given.area change given.area_there
           (record { client = λ a. refl; number = λ a. refl }) (area_with_cursor_at s cursor entry.lsn given.area) refl valid);
       whole = ap (λ (x : State). x.broken) on.1;
+      stable = ap flushed on.1;
     }
 
 pub reads_next : (told : Bool) (s t : State) (client number cursor : ℕ) (kind : CursorKind) (entry : LogEntry) (rest : List LogEntry) (reply : Reply)
     → IsValid s → s.broken ≡ false → StillGives s client number cursor kind (entry ∷ rest)
     → Step told s client (read_on kind number cursor) Fine reply t → reply ≢ replies.Refused refusals.NoMemory
-    → IsReply told (replies.Next entry) reply × StillGives t client number cursor kind rest
+    → IsReply told (flushed s) (replies.Next entry) reply × StillGives t client number cursor kind rest
 reads_next told s t client number cursor kind entry rest reply valid whole given step memory =
     let next = gives_next told s t client number cursor kind entry rest reply valid whole given step memory in (next.replied, next.gives)
 
@@ -265,7 +268,7 @@ reads_end told s t client number cursor kind reply valid whole given step memory
 pub reads_all : (told : Bool) (s t : State) (client number cursor : ℕ) (kind : CursorKind) (entries : List LogEntry) (answers : List Reply) (last : Reply)
     → IsValid s → s.broken ≡ false → StillGives s client number cursor kind entries
     → Repeats told s client (read_on kind number cursor) (answers ++ last ∷ []) t → length answers ≡ length entries
-    → AllZip (λ (entry : LogEntry) (reply : Reply). IsReply told (replies.Next entry) reply) entries answers × (last ≡ replies.Refused (end_of_kind kind))
+    → AllZip (λ (entry : LogEntry) (reply : Reply). IsReply told (flushed s) (replies.Next entry) reply) entries answers × (last ≡ replies.Refused (end_of_kind kind))
 reads_all told s t client number cursor kind [] [] last valid whole given runs long =
     (tt, (reads_end told s runs.0 client number cursor kind last valid whole given runs.1 runs.2).0)
 reads_all told s t client number cursor kind [] (reply ∷ answers) last valid whole given runs long = absurd (omega (arith, long))
@@ -274,7 +277,8 @@ reads_all told s t client number cursor kind (entry ∷ entries) (reply ∷ answ
     let next = gives_next told s runs.0 client number cursor kind entry entries reply valid whole given runs.1 runs.2 in
     let shorter : length answers ≡ length entries = omega (arith, long) in
     let rest = reads_all told runs.0 t client number cursor kind entries answers last next.valid (next.whole ∙ whole) next.gives runs.3 shorter in
-    ((next.replied, rest.0), rest.1)
+    let F : ℕ → Type 0 = λ stable. AllZip (λ (e : LogEntry) (r : Reply). IsReply told stable (replies.Next e) r) entries answers in
+    ((next.replied, subst F next.stable rest.0), rest.1)
 
 -- the start of the log is what links come to
 start_is : (mode : Mode) → mode ≢ Forward → end_of_mode mode ≡ refusals.StartOfLog
@@ -292,10 +296,10 @@ reads_start told s t client number cursor mode reply valid whole links given ste
 
 restart_by : (told : Bool) (s t : State) (client number : ℕ) (area : Area) (cursor : ℕ) (read : LogEntry) (all : List LogEntry) → IsValid s
     → area_of s client number ≡ Some area → restart_areas s area.stream ≡ all
-    → Comes told (option_map_or (found_with_cursor s area RestartAreas) (slice_get all 0) (outcome (replies.Refused refusals.NoRestart) s))
+    → Comes told (flushed s) (option_map_or (found_with_cursor s area RestartAreas) (slice_get all 0) (outcome (replies.Refused refusals.NoRestart) s))
     (replies.Found cursor read) t
-    → FindsFirst told t client number cursor read RestartAreas (restart_areas s area.stream)
-restart_by told s t client number area cursor read [] valid there all comes = absurd (no_record told refusals.NoRestart cursor read comes.0)
+    → FindsFirst told (flushed s) t client number cursor read RestartAreas (restart_areas s area.stream)
+restart_by told s t client number area cursor read [] valid there all comes = absurd (no_record told (flushed s) refusals.NoRestart cursor read comes.0)
 restart_by told s t client number area cursor read (entry ∷ rest) valid there all comes =
     let falling : Falls (entry ∷ rest) = subst Falls all (restarts_fall s area.stream valid) in
     let to_come : still_to_come s area.stream RestartAreas entry.lsn ≡ rest = ap (below_lsn entry.lsn) all ∙ below_first entry rest falling in
@@ -304,11 +308,11 @@ restart_by told s t client number area cursor read (entry ∷ rest) valid there 
 -- a read of restart areas that found one
 pub restart_first : (told : Bool) (s t : State) (client number : ℕ) (area : Area) (cursor : ℕ) (read : LogEntry) → IsValid s
     → area_of s client number ≡ Some area → Step told s client (calls.ReadRestart number) Fine (replies.Found cursor read) t
-    → FindsFirst told t client number cursor read RestartAreas (restart_areas s area.stream)
+    → FindsFirst told (flushed s) t client number cursor read RestartAreas (restart_areas s area.stream)
 restart_first told s t client number area cursor read valid there step =
     let comes = (done told s t client (calls.ReadRestart number) (replies.Found cursor read) (λ given e. absurd (cc)) step).1 in
     restart_by told s t client number area cursor read (restart_areas s area.stream) valid there refl
-    (comes_as told (answer s client (calls.ReadRestart number)) (read_newest_restart s area) (replies.Found cursor read) t
+    (comes_as told (flushed s) (answer s client (calls.ReadRestart number)) (read_newest_restart s area) (replies.Found cursor read) t
     (over_area_is s (λ (a : Area). read_newest_restart s a) (area_of s client number) area there) comes)
 
 -- a read of restart areas where there is none

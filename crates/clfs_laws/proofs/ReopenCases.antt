@@ -19,7 +19,7 @@ refused_as a b e = cc
 
 keeps : (told : Bool) (s : State) (happened : Happened) (given : Refusal) (t : State) → Reopens told s happened (replies.Refused given) t
     → happened_of_refusal given ≡ Fine → t ≡ s
-keeps told s Fine given t is fine = absurd (let wrong : replies.Refused given ≡ replies.Flushed (flushed t) = is.0 in cc)
+keeps told s Fine given t is fine = absurd (let wrong : replies.Refused given ≡ replies.Flushed (flushed t) = is.flushed_part in cc)
 keeps told s Fault given t is fine =
     let same : given ≡ refusals.DiskFault = refused_as given refusals.DiskFault is.0 in
     absurd (let wrong : Fault ≡ Fine = sym (ap happened_of_refusal same) ∙ fine in cc)
@@ -40,7 +40,7 @@ reopening_keeps told s happened given t step fine = keeps_by told s happened giv
 
 breaks : (told : Bool) (s : State) (happened : Happened) (reply : Reply) (t : State) → Reopens told s happened reply t
     → (happened_of reply ≡ Fine → ⊥) → t.broken ≡ true
-breaks told s Fine reply t is not_fine = absurd (not_fine (ap happened_of is.0))
+breaks told s Fine reply t is not_fine = absurd (not_fine (ap happened_of is.flushed_part))
 breaks told s Fault reply t is not_fine = ap (λ (x : State). x.broken) is.1
 breaks told s Damage reply t is not_fine = ap (λ (x : State). x.broken) is.1
 
@@ -72,7 +72,7 @@ areas_end true s t is = ap (λ (x : State). x.areas) is.1.others
 areas_end false s t is = is.0
 
 ends : (told : Bool) (s : State) (happened : Happened) (lsn : ℕ) (t : State) → Reopens told s happened (replies.Flushed lsn) t → t.areas ≡ []
-ends told s Fine lsn t is = areas_end told s t is.1.1
+ends told s Fine lsn t is = areas_end told s t is.read
 ends told s Fault lsn t is = absurd (let wrong : replies.Flushed lsn ≡ replies.Refused refusals.DiskFault = is.0 in cc)
 ends told s Damage lsn t is = absurd is.0
 

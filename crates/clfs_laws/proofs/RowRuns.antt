@@ -14,9 +14,10 @@ use Rattle.clfs_model.specs.declared.reply.Reply.{Reply}
 use Rattle.clfs_model.specs.declared.reply.Reply.TheVariants as replies
 use Rattle.clfs_model.specs.declared.state.State.{State}
 use Rattle.clfs_model.specs.declared.state.Area.{Area}
+use Rattle.clfs_model.specs.Flush.{flushed}
 use Rattle.clfs_model.specs.Refusals.{refusal}
 use Rattle.clfs_model.specs.Answers.{answer}
-use Rattle.clfs_model.specs.Step.{Step, Goes, Comes, IsReply, HasAnyContent, IsDamaged}
+use Rattle.clfs_model.specs.Step.{Step, Goes, Comes, IsReply, IsReplyRead, IsDamaged}
 use Rattle.clfs_model.specs.Journals.{GoesOn, mine}
 use Rattle.clfs_laws.specs.Rows.{Row, row_in, row_after, row_through}
 use Rattle.clfs_laws.proofs.RowChanges.{row_among}
@@ -52,29 +53,29 @@ next_after number row (calls.Append area draft reserved sizes) entry = refl
 next_after number row (calls.WriteRestart area bytes base reserved) entry = refl
 next_after number row call entry = refl
 
--- the content of a record that was read changes no row
-content_after : (number : ℕ) (row : Option Row) (call : Call) (answered reply : Reply) → HasAnyContent answered reply → row_after number row call reply ≡ row_after number row call answered
-content_after number row call (replies.Found cursor entry) reply is =
+-- what is read of a record changes no row
+read_after : (stable : ℕ) (number : ℕ) (row : Option Row) (call : Call) (answered reply : Reply) → IsReplyRead stable answered reply → row_after number row call reply ≡ row_after number row call answered
+read_after stable number row call (replies.Found cursor entry) reply is =
     ap (λ (r : Reply). row_after number row call r) is.1.1 ∙ found_after number row call cursor is.0 ∙ sym (found_after number row call cursor entry)
-content_after number row call (replies.Next entry) reply is =
+read_after stable number row call (replies.Next entry) reply is =
     ap (λ (r : Reply). row_after number row call r) is.1.1 ∙ next_after number row call is.0 ∙ sym (next_after number row call entry)
-content_after number row call (replies.Stream n) reply is = ap (λ (r : Reply). row_after number row call r) is
-content_after number row call (replies.Area n) reply is = ap (λ (r : Reply). row_after number row call r) is
-content_after number row call replies.Done reply is = ap (λ (r : Reply). row_after number row call r) is
-content_after number row call (replies.Held n) reply is = ap (λ (r : Reply). row_after number row call r) is
-content_after number row call (replies.Sectors n) reply is = ap (λ (r : Reply). row_after number row call r) is
-content_after number row call (replies.Placed lsn) reply is = ap (λ (r : Reply). row_after number row call r) is
-content_after number row call (replies.Flushed lsn) reply is = ap (λ (r : Reply). row_after number row call r) is
-content_after number row call (replies.Base lsn) reply is = ap (λ (r : Reply). row_after number row call r) is
-content_after number row call (replies.Tail lsn) reply is = ap (λ (r : Reply). row_after number row call r) is
-content_after number row call (replies.Extents extents) reply is = ap (λ (r : Reply). row_after number row call r) is
-content_after number row call (replies.Containers n) reply is = ap (λ (r : Reply). row_after number row call r) is
-content_after number row call (replies.Info info) reply is = ap (λ (r : Reply). row_after number row call r) is
-content_after number row call (replies.Refused given) reply is = ap (λ (r : Reply). row_after number row call r) is
+read_after stable number row call (replies.Stream n) reply is = ap (λ (r : Reply). row_after number row call r) is
+read_after stable number row call (replies.Area n) reply is = ap (λ (r : Reply). row_after number row call r) is
+read_after stable number row call replies.Done reply is = ap (λ (r : Reply). row_after number row call r) is
+read_after stable number row call (replies.Held n) reply is = ap (λ (r : Reply). row_after number row call r) is
+read_after stable number row call (replies.Sectors n) reply is = ap (λ (r : Reply). row_after number row call r) is
+read_after stable number row call (replies.Placed lsn) reply is = ap (λ (r : Reply). row_after number row call r) is
+read_after stable number row call (replies.Flushed lsn) reply is = ap (λ (r : Reply). row_after number row call r) is
+read_after stable number row call (replies.Base lsn) reply is = ap (λ (r : Reply). row_after number row call r) is
+read_after stable number row call (replies.Tail lsn) reply is = ap (λ (r : Reply). row_after number row call r) is
+read_after stable number row call (replies.Extents extents) reply is = ap (λ (r : Reply). row_after number row call r) is
+read_after stable number row call (replies.Containers n) reply is = ap (λ (r : Reply). row_after number row call r) is
+read_after stable number row call (replies.Info info) reply is = ap (λ (r : Reply). row_after number row call r) is
+read_after stable number row call (replies.Refused given) reply is = ap (λ (r : Reply). row_after number row call r) is
 
-reply_after : (told : Bool) (number : ℕ) (row : Option Row) (call : Call) (answered reply : Reply) → IsReply told answered reply → row_after number row call reply ≡ row_after number row call answered
-reply_after true number row call answered reply is = ap (λ (r : Reply). row_after number row call r) is
-reply_after false number row call answered reply is = content_after number row call answered reply is
+reply_after : (told : Bool) (stable : ℕ) (number : ℕ) (row : Option Row) (call : Call) (answered reply : Reply) → IsReply told stable answered reply → row_after number row call reply ≡ row_after number row call answered
+reply_after true stable number row call answered reply is = ap (λ (r : Reply). row_after number row call r) is
+reply_after false stable number row call answered reply is = read_after stable number row call answered reply is
 
 -- a step changes the rows of its client by the call and the reply, and those of no other client
 pub record StepsRows (s : State) (client : ℕ) (call : Call) (reply : Reply) (t : State) : Type 0 where
@@ -93,18 +94,18 @@ areas_same : (s t : State) → t ≡ s → t.areas ≡ s.areas
 areas_same s t same = ap (λ (x : State). x.areas) same
 
 answered_rows : (told : Bool) (s : State) (client : ℕ) (call : Call) (reply : Reply) (t : State) → refusal s client call ≡ None
-    → Comes told (answer s client call) reply t → StepsRows s client call reply t
+    → Comes told (flushed s) (answer s client call) reply t → StepsRows s client call reply t
 answered_rows told s client call reply t none comes =
     let rows = answer_rows s client call none in
     let same : t.areas ≡ (answer s client call).state.areas = areas_same (answer s client call).state t comes.1 in
     record {
       own = λ number. ap (λ (areas : List Area). row_among areas client number) same ∙ rows.own number
-          ∙ sym (reply_after told number (row_in s client number) call (answer s client call).reply reply comes.0);
+          ∙ sym (reply_after told (flushed s) number (row_in s client number) call (answer s client call).reply reply comes.0);
       others = λ of_client number differ. ap (λ (areas : List Area). row_among areas of_client number) same ∙ rows.others of_client number differ;
     }
 
 fine_rows : (told : Bool) (s : State) (client : ℕ) (call : Call) (reply : Reply) (t : State) (first : Option Refusal) → refusal s client call ≡ first
-    → MatchOption first (Comes told (answer s client call) reply t) (λ r. (reply ≡ replies.Refused r) × (t ≡ s)) → StepsRows s client call reply t
+    → MatchOption first (Comes told (flushed s) (answer s client call) reply t) (λ r. (reply ≡ replies.Refused r) × (t ≡ s)) → StepsRows s client call reply t
 fine_rows told s client call reply t None is comes = answered_rows told s client call reply t is comes
 fine_rows told s client call reply t (Some first) is comes = refused_rows s client call reply first t comes.0 (areas_same s t comes.1)
 

@@ -10,6 +10,7 @@ use Rattle.clfs_model.specs.declared.reply.Reply.{Reply}
 use Rattle.clfs_model.specs.declared.reply.Reply.TheVariants as replies
 use Rattle.clfs_model.specs.declared.state.State.{State}
 use Rattle.clfs_model.specs.Happened.{happened_of_refusal}
+use Rattle.clfs_model.specs.Flush.{flushed}
 use Rattle.clfs_model.specs.Refusals.{refusal}
 use Rattle.clfs_model.specs.Answers.{answer}
 use Rattle.clfs_model.specs.Step.{Step, Goes, Comes, IsReply, IsBroken, IsOutOfMemory, IsDamaged, takes_memory}
@@ -35,23 +36,23 @@ unfolding Step
 whole_step told s client call happened reply t whole step = at_false s.broken _ _ whole step
 
 -- what the machine's reply is where a refusal is given
-given_refusal : (told : Bool) (answered : Reply) (given : Refusal) → IsReply told answered (replies.Refused given) → answered ≡ replies.Refused given
-given_refusal true answered given is = sym is
-given_refusal false (replies.Found cursor entry) given is = absurd (let e : replies.Refused given ≡ replies.Found cursor is.0 = is.1.1 in cc)
-given_refusal false (replies.Next entry) given is = absurd (let e : replies.Refused given ≡ replies.Next is.0 = is.1.1 in cc)
-given_refusal false (replies.Stream number) given is = sym is
-given_refusal false (replies.Area number) given is = sym is
-given_refusal false replies.Done given is = sym is
-given_refusal false (replies.Held sectors) given is = sym is
-given_refusal false (replies.Sectors sectors) given is = sym is
-given_refusal false (replies.Placed lsn) given is = sym is
-given_refusal false (replies.Flushed lsn) given is = sym is
-given_refusal false (replies.Base lsn) given is = sym is
-given_refusal false (replies.Tail lsn) given is = sym is
-given_refusal false (replies.Extents extents) given is = sym is
-given_refusal false (replies.Containers containers) given is = sym is
-given_refusal false (replies.Info info) given is = sym is
-given_refusal false (replies.Refused refusal) given is = sym is
+given_refusal : (told : Bool) (stable : ℕ) (answered : Reply) (given : Refusal) → IsReply told stable answered (replies.Refused given) → answered ≡ replies.Refused given
+given_refusal true stable answered given is = sym is
+given_refusal false stable (replies.Found cursor entry) given is = absurd (let e : replies.Refused given ≡ replies.Found cursor is.0 = is.1.1 in cc)
+given_refusal false stable (replies.Next entry) given is = absurd (let e : replies.Refused given ≡ replies.Next is.0 = is.1.1 in cc)
+given_refusal false stable (replies.Stream number) given is = sym is
+given_refusal false stable (replies.Area number) given is = sym is
+given_refusal false stable replies.Done given is = sym is
+given_refusal false stable (replies.Held sectors) given is = sym is
+given_refusal false stable (replies.Sectors sectors) given is = sym is
+given_refusal false stable (replies.Placed lsn) given is = sym is
+given_refusal false stable (replies.Flushed lsn) given is = sym is
+given_refusal false stable (replies.Base lsn) given is = sym is
+given_refusal false stable (replies.Tail lsn) given is = sym is
+given_refusal false stable (replies.Extents extents) given is = sym is
+given_refusal false stable (replies.Containers containers) given is = sym is
+given_refusal false stable (replies.Info info) given is = sym is
+given_refusal false stable (replies.Refused refusal) given is = sym is
 
 -- damage is told as damage
 pub damage_told : (given : Refusal) → IsDamaged (replies.Refused given) → happened_of_refusal given ≡ Damage
@@ -60,8 +61,8 @@ damage_told _ is = absurd is
 
 -- where nothing happened, a refusal changes nothing
 fine_keeps : (told : Bool) (s : State) (client : ℕ) (call : Call) (given : Refusal) (t : State) (first : Option Refusal)
-    → MatchOption first (Comes told (answer s client call) (replies.Refused given) t) (λ r. (replies.Refused given ≡ replies.Refused r) × (t ≡ s)) → t ≡ s
-fine_keeps told s client call given t None comes = comes.1 ∙ answer_keeps s client call given (given_refusal told (answer s client call).reply given comes.0)
+    → MatchOption first (Comes told (flushed s) (answer s client call) (replies.Refused given) t) (λ r. (replies.Refused given ≡ replies.Refused r) × (t ≡ s)) → t ≡ s
+fine_keeps told s client call given t None comes = comes.1 ∙ answer_keeps s client call given (given_refusal told (flushed s) (answer s client call).reply given comes.0)
 fine_keeps told s client call given t (Some first) comes = comes.1
 
 goes_keeps : (told : Bool) (s : State) (client : ℕ) (call : Call) (happened : Happened) (given : Refusal) (t : State)

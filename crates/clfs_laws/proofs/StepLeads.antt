@@ -8,6 +8,7 @@ use Rattle.clfs_model.specs.declared.reply.Happened.TheVariants.{Fine, Fault, Da
 use Rattle.clfs_model.specs.declared.reply.Reply.{Reply}
 use Rattle.clfs_model.specs.declared.reply.Reply.TheVariants as replies
 use Rattle.clfs_model.specs.declared.state.State.{State}
+use Rattle.clfs_model.specs.Flush.{flushed}
 use Rattle.clfs_model.specs.Refusals.{refusal}
 use Rattle.clfs_model.specs.Answers.{answer}
 use Rattle.clfs_model.specs.Step.{Step, Goes, Comes, with_broken}
@@ -25,7 +26,7 @@ at_state P s t same is = subst P (sym same) is
 
 fine_leads : (P : State → Type 0) (told : Bool) (s : State) (client : ℕ) (call : Call) (reply : Reply) (t : State) (first : Option Refusal)
     → refusal s client call ≡ first
-    → MatchOption first (Comes told (answer s client call) reply t) (λ r. (reply ≡ replies.Refused r) × (t ≡ s)) → HoldsOfEach P s client call → P t
+    → MatchOption first (Comes told (flushed s) (answer s client call) reply t) (λ r. (reply ≡ replies.Refused r) × (t ≡ s)) → HoldsOfEach P s client call → P t
 fine_leads P told s client call reply t None is comes holds = at_state P (answer s client call).state t comes.1 (holds.answered is)
 fine_leads P told s client call reply t (Some first) is comes holds = at_state P s t comes.1 holds.same
 

@@ -13,6 +13,7 @@ use Rattle.clfs_model.specs.declared.reply.Reply.{Reply}
 use Rattle.clfs_model.specs.declared.state.State.{State}
 use Rattle.clfs_model.specs.Flush.{flushed, cut}
 use Rattle.clfs_model.specs.Put.{next_lsn}
+use Rattle.clfs_model.specs.Run.{asks}
 use Rattle.clfs_model.specs.Step.{Step}
 use Rattle.clfs_model.specs.Survivors.{IsSurvivor}
 use Rattle.clfs_model.specs.Valid.{IsValid}
@@ -98,7 +99,7 @@ begins_with_more low high entries new fits rising above =
 
 -- the records of a survivor
 pub survivor_begins : (told : Bool) (s t x : State) (client : ℕ) (call : Call) (reply : Reply) → IsValid s → Step told s client call Fine reply t
-    → IsSurvivor call s t x → BeginsBelow (flushed s) (cut s).records x.records
+    → IsSurvivor (asks client call) s t x → BeginsBelow (flushed s) (cut s).records x.records
 survivor_begins told s t x client call reply valid step survives =
     let adds = step_adds told s client call Fine reply t step in
     let is : x.records ≡ below_lsn (frontier x.place) (s.records ++ adds.more) = survives.records ∙ ap (below_lsn (frontier x.place)) adds.joined in
@@ -108,7 +109,7 @@ survivor_begins told s t x client call reply valid step survives =
 
 -- a restart area is among them
 pub survivor_has_restarts : (told : Bool) (s t x : State) (client : ℕ) (call : Call) (reply : Reply) → IsValid s → Step told s client call Fine reply t
-    → IsSurvivor call s t x → All (λ (entry : LogEntry). entry.kind ≡ Restart → Contains x.records entry) s.records
+    → IsSurvivor (asks client call) s t x → All (λ (entry : LogEntry). entry.kind ≡ Restart → Contains x.records entry) s.records
 survivor_has_restarts told s t x client call reply valid step survives place default within restart =
     let entry = slice_index_or s.records place default in
     let stable : entry.lsn < flushed s = valid.stable.restarts place default within restart in

@@ -18,6 +18,7 @@ use Rattle.clfs_model.specs.declared.state.Area.{Area}
 use Rattle.clfs_model.specs.declared.state.Stream.{Stream}
 use Rattle.clfs_model.specs.State.{base_of}
 use Rattle.clfs_model.specs.Flush.{flushed, cut, IsSame}
+use Rattle.clfs_model.specs.Run.{Request, asks}
 use Rattle.clfs_model.specs.Step.{Step}
 use Rattle.clfs_model.specs.Survivors.{names_of, HasSettings, HasBases, EndsBlockOf, IsSurvivor}
 use Rattle.clfs_model.specs.Valid.{IsValid}
@@ -83,8 +84,8 @@ streams_are s x names bases =
     same_streams x.streams s.streams names (λ place. sym (base_is x place) ∙ bases (place + 1) ∙ base_is s place)
 
 -- a survivor has the settings and the bases of a call that leaves them
-settings_are : (call : Call) (s t x : State) → LeavesStable s t → IsSurvivor call s t x → HasSettings s x
-settings_are call s t x leaves survives = elim survives.settings [
+settings_are : (asked : Request) (s t x : State) → LeavesStable s t → IsSurvivor asked s t x → HasSettings s x
+settings_are asked s t x leaves survives = elim survives.settings [
   | inl old ↦ old
   | inr new ↦ record {
     names = new.names ∙ leaves.settings.names;
@@ -97,23 +98,23 @@ settings_are call s t x leaves survives = elim survives.settings [
   }
 ]
 
-bases_are : (call : Call) (s t x : State) → LeavesStable s t → IsSurvivor call s t x → HasBases s x
-bases_are call s t x leaves survives stream = elim (survives.bases stream) [
+bases_are : (asked : Request) (s t x : State) → LeavesStable s t → IsSurvivor asked s t x → HasBases s x
+bases_are asked s t x leaves survives stream = elim (survives.bases stream) [
   | inl old ↦ old
   | inr new ↦ new ∙ leaves.bases stream
 ]
 
 -- its place begins where the log was flushed
-frontier_is : (call : Call) (s t x : State) → LeavesStable s t → IsSurvivor call s t x → frontier x.place ≡ flushed s
-frontier_is call s t x leaves survives = omega (arith, survives.place.from, survives.place.to, leaves.flushed)
+frontier_is : (asked : Request) (s t x : State) → LeavesStable s t → IsSurvivor asked s t x → frontier x.place ≡ flushed s
+frontier_is asked s t x leaves survives = omega (arith, survives.place.from, survives.place.to, leaves.flushed)
 
 -- its records are those that were flushed
 records_are : (told : Bool) (s t x : State) (client : ℕ) (call : Call) (reply : Reply) → IsValid s → Step told s client call Fine reply t
-    → LeavesStable s t → IsSurvivor call s t x → x.records ≡ (cut s).records
+    → LeavesStable s t → IsSurvivor (asks client call) s t x → x.records ≡ (cut s).records
 records_are told s t x client call reply valid step leaves survives =
     let adds = step_adds told s client call Fine reply t step in
     survives.records
-    ∙ ap (λ lsn. below_lsn lsn t.records) (frontier_is call s t x leaves survives)
+    ∙ ap (λ lsn. below_lsn lsn t.records) (frontier_is (asks client call) s t x leaves survives)
     ∙ ap (below_lsn (flushed s)) adds.joined
     ∙ filter-append (λ (entry : LogEntry). nat_lt entry.lsn (flushed s)) s.records adds.more
     ∙ ap (λ (more : List LogEntry). below_lsn (flushed s) s.records ++ more) (none_below (flushed s) adds.more (new_above s adds.more valid adds.placed))
@@ -148,13 +149,13 @@ same_states a b shape containers buffers streams records place waiting areas arc
 
 -- a survivor is the flushed part, but for the number of write buffers
 pub is_cut : (told : Bool) (s t x : State) (client : ℕ) (call : Call) (reply : Reply) → IsValid s → Step told s client call Fine reply t
-    → LeavesStable s t → IsSurvivor call s t x → x.place.offset < 2 ^ 32 → record x { buffers = s.buffers } ≡ cut s
+    → LeavesStable s t → IsSurvivor (asks client call) s t x → x.place.offset < 2 ^ 32 → record x { buffers = s.buffers } ≡ cut s
 is_cut told s t x client call reply valid step leaves survives low =
-    let settings = settings_are call s t x leaves survives in
+    let settings = settings_are (asks client call) s t x leaves survives in
     same_states (record x { buffers = s.buffers }) (cut s) survives.shape settings.containers refl
-    (streams_are s x settings.names (bases_are call s t x leaves survives))
+    (streams_are s x settings.names (bases_are (asks client call) s t x leaves survives))
     (records_are told s t x client call reply valid step leaves survives)
-    (place_at x.place (flushed s) low (whole_sector s t x survives.place.end) survives.place.closed (frontier_is call s t x leaves survives))
+    (place_at x.place (flushed s) low (whole_sector s t x survives.place.end) survives.place.closed (frontier_is (asks client call) s t x leaves survives))
     survives.nothing_waits survives.no_areas settings.archive settings.maximum settings.minimum settings.growth settings.automatic survives.whole
 
 -- so no reply can show a difference
@@ -162,6 +163,6 @@ itself : (s t : State) → t ≡ s → IsSame s t
 itself s t same = let F : State → Type 0 = λ x. IsSame s x in subst F (sym same) (record { hold = refl; records = refl; others = refl })
 
 pub is_same : (told : Bool) (s t x : State) (client : ℕ) (call : Call) (reply : Reply) → IsValid s → Step told s client call Fine reply t
-    → LeavesStable s t → IsSurvivor call s t x → x.place.offset < 2 ^ 32 → IsSame (cut s) (record x { buffers = s.buffers })
+    → LeavesStable s t → IsSurvivor (asks client call) s t x → x.place.offset < 2 ^ 32 → IsSame (cut s) (record x { buffers = s.buffers })
 is_same told s t x client call reply valid step leaves survives low =
     itself (cut s) (record x { buffers = s.buffers }) (is_cut told s t x client call reply valid step leaves survives low)

@@ -21,7 +21,7 @@ valid_as : (s t : State) → t ≡ s → IsValid s → IsValid t
 valid_as s t same valid = subst IsValid (sym same) valid
 
 reopens_valid : (told : Bool) (s : State) (happened : Happened) (reply : Reply) (t : State) → Reopens told s happened reply t → IsValid s → IsValid t
-reopens_valid told s Fine reply t is valid = is.1.0
+reopens_valid told s Fine reply t is valid = is.valid
 reopens_valid told s Fault reply t is valid = valid_as (with_broken s) t is.1 (valid_broken s true valid)
 reopens_valid told s Damage reply t is valid = valid_as (with_broken s) t is.1 (valid_broken s true valid)
 

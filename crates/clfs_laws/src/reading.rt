@@ -13,6 +13,7 @@ ghost use Rattle.clfs_model.specs.declared.state.State.{State};
 ghost use Rattle.clfs_model.specs.declared.state.Area.{Area};
 ghost use Rattle.clfs_model.specs.declared.state.CursorKind.{CursorKind};
 ghost use Rattle.clfs_model.specs.declared.state.CursorKind.TheVariants.{Records, RestartAreas};
+ghost use Rattle.clfs_model.specs.Flush.{flushed};
 ghost use Rattle.clfs_model.specs.State.{area_of};
 ghost use Rattle.clfs_model.specs.Reading.{chain, restart_areas};
 ghost use Rattle.clfs_model.specs.Refusals.{end_of_kind};
@@ -27,7 +28,7 @@ pub fn reading_gives_the_chain()
     ensures first { (told : Bool) (s t : State) (client number lsn : ℕ) (mode : Mode) (area : Area) (cursor : ℕ) (read : LogEntry)
         → IsValid s → area_of s client number ≡ Some area → Step told s client (calls.Read number lsn mode) Fine (replies.Found cursor read) t
         → (entry : LogEntry) × (rest : List LogEntry) × (chain s area.stream lsn mode ≡ entry ∷ rest)
-        × IsReply told (replies.Found cursor entry) (replies.Found cursor read) × StillGives t client number cursor (Records mode) rest }
+        × IsReply told (flushed s) (replies.Found cursor entry) (replies.Found cursor read) × StillGives t client number cursor (Records mode) rest }
     ensures none { (told : Bool) (s t : State) (client number lsn : ℕ) (mode : Mode) (area : Area) (reply : Reply)
         → IsValid s → s.broken ≡ false → area_of s client number ≡ Some area → chain s area.stream lsn mode ≡ []
         → Step told s client (calls.Read number lsn mode) Fine reply t → reply ≢ replies.Refused refusals.NoMemory
@@ -35,7 +36,7 @@ pub fn reading_gives_the_chain()
     ensures next { (told : Bool) (s t : State) (client number cursor : ℕ) (mode : Mode) (entry : LogEntry) (rest : List LogEntry) (reply : Reply)
         → IsValid s → s.broken ≡ false → StillGives s client number cursor (Records mode) (entry ∷ rest)
         → Step told s client (calls.ReadNext number cursor) Fine reply t → reply ≢ replies.Refused refusals.NoMemory
-        → IsReply told (replies.Next entry) reply × StillGives t client number cursor (Records mode) rest }
+        → IsReply told (flushed s) (replies.Next entry) reply × StillGives t client number cursor (Records mode) rest }
     ensures end_of_log { (told : Bool) (s t : State) (client number cursor : ℕ) (reply : Reply)
         → IsValid s → s.broken ≡ false → StillGives s client number cursor (Records Forward) []
         → Step told s client (calls.ReadNext number cursor) Fine reply t → reply ≢ replies.Refused refusals.NoMemory
@@ -52,7 +53,7 @@ pub fn restart_areas_come_newest_first()
     ensures first { (told : Bool) (s t : State) (client number : ℕ) (area : Area) (cursor : ℕ) (read : LogEntry)
         → IsValid s → area_of s client number ≡ Some area → Step told s client (calls.ReadRestart number) Fine (replies.Found cursor read) t
         → (entry : LogEntry) × (rest : List LogEntry) × (restart_areas s area.stream ≡ entry ∷ rest)
-        × IsReply told (replies.Found cursor entry) (replies.Found cursor read) × StillGives t client number cursor RestartAreas rest }
+        × IsReply told (flushed s) (replies.Found cursor entry) (replies.Found cursor read) × StillGives t client number cursor RestartAreas rest }
     ensures none { (told : Bool) (s t : State) (client number : ℕ) (area : Area) (reply : Reply)
         → IsValid s → s.broken ≡ false → area_of s client number ≡ Some area → restart_areas s area.stream ≡ []
         → Step told s client (calls.ReadRestart number) Fine reply t → reply ≢ replies.Refused refusals.NoMemory
@@ -60,7 +61,7 @@ pub fn restart_areas_come_newest_first()
     ensures next { (told : Bool) (s t : State) (client number cursor : ℕ) (entry : LogEntry) (rest : List LogEntry) (reply : Reply)
         → IsValid s → s.broken ≡ false → StillGives s client number cursor RestartAreas (entry ∷ rest)
         → Step told s client (calls.PreviousRestart number cursor) Fine reply t → reply ≢ replies.Refused refusals.NoMemory
-        → IsReply told (replies.Next entry) reply × StillGives t client number cursor RestartAreas rest }
+        → IsReply told (flushed s) (replies.Next entry) reply × StillGives t client number cursor RestartAreas rest }
     ensures end { (told : Bool) (s t : State) (client number cursor : ℕ) (reply : Reply)
         → IsValid s → s.broken ≡ false → StillGives s client number cursor RestartAreas []
         → Step told s client (calls.PreviousRestart number cursor) Fine reply t → reply ≢ replies.Refused refusals.NoMemory
@@ -72,5 +73,5 @@ pub fn reading_on_gives_all()
     ensures { (told : Bool) (s t : State) (client number cursor : ℕ) (kind : CursorKind) (entries : List LogEntry) (answers : List Reply) (last : Reply)
         → IsValid s → s.broken ≡ false → StillGives s client number cursor kind entries
         → Repeats told s client (read_on kind number cursor) (answers ++ last ∷ []) t → length answers ≡ length entries
-        → AllZip (λ (entry : LogEntry) (reply : Reply). IsReply told (replies.Next entry) reply) entries answers × (last ≡ replies.Refused (end_of_kind kind)) }
+        → AllZip (λ (entry : LogEntry) (reply : Reply). IsReply told (flushed s) (replies.Next entry) reply) entries answers × (last ≡ replies.Refused (end_of_kind kind)) }
 {}

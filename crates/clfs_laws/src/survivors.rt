@@ -7,6 +7,7 @@ ghost use Rattle.clfs_model.specs.declared.reply.Happened.TheVariants.{Fine};
 ghost use Rattle.clfs_model.specs.declared.reply.Reply.{Reply};
 ghost use Rattle.clfs_model.specs.declared.state.State.{State};
 ghost use Rattle.clfs_model.specs.Flush.{flushed, cut, IsSame};
+ghost use Rattle.clfs_model.specs.Run.{asks};
 ghost use Rattle.clfs_model.specs.Step.{Step};
 ghost use Rattle.clfs_model.specs.Survivors.{IsSurvivor};
 ghost use Rattle.clfs_model.specs.Valid.{IsValid};
@@ -16,10 +17,10 @@ ghost use Rattle.clfs_laws.specs.Stable.{LeavesStable};
 /// or above the LSN up to which the log was flushed. So it has every restart area.
 pub fn survivors_keep_what_was_flushed()
     ensures records { (told : Bool) (s t x : State) (client : ℕ) (call : Call) (reply : Reply)
-        → IsValid s → Step told s client call Fine reply t → IsSurvivor call s t x
+        → IsValid s → Step told s client call Fine reply t → IsSurvivor (asks client call) s t x
         → (more : List LogEntry) × (x.records ≡ (cut s).records ++ more) × All (λ (entry : LogEntry). flushed s ≤ entry.lsn) more }
     ensures restart_areas { (told : Bool) (s t x : State) (client : ℕ) (call : Call) (reply : Reply)
-        → IsValid s → Step told s client call Fine reply t → IsSurvivor call s t x
+        → IsValid s → Step told s client call Fine reply t → IsSurvivor (asks client call) s t x
         → All (λ (entry : LogEntry). entry.kind ≡ Restart → Contains x.records entry) s.records }
 {}
 
@@ -28,9 +29,9 @@ pub fn survivors_keep_what_was_flushed()
 /// it is chosen when the log is opened. An offset has 32 bits.
 pub fn quiet_calls_survive_as_the_cut()
     ensures equal { (told : Bool) (s t x : State) (client : ℕ) (call : Call) (reply : Reply)
-        → IsValid s → Step told s client call Fine reply t → LeavesStable s t → IsSurvivor call s t x → x.place.offset < 2 ^ 32
+        → IsValid s → Step told s client call Fine reply t → LeavesStable s t → IsSurvivor (asks client call) s t x → x.place.offset < 2 ^ 32
         → record x { buffers = s.buffers } ≡ cut s }
     ensures same { (told : Bool) (s t x : State) (client : ℕ) (call : Call) (reply : Reply)
-        → IsValid s → Step told s client call Fine reply t → LeavesStable s t → IsSurvivor call s t x → x.place.offset < 2 ^ 32
+        → IsValid s → Step told s client call Fine reply t → LeavesStable s t → IsSurvivor (asks client call) s t x → x.place.offset < 2 ^ 32
         → IsSame (cut s) (record x { buffers = s.buffers }) }
 {}
