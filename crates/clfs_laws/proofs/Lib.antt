@@ -1,6 +1,8 @@
 pub mod Answered
 pub mod CallRefusals
-pub mod FineAnswers
+pub mod OwnAnswers
+pub mod Replies
+pub mod Quiet
 pub mod StepCases
 pub mod Faults
 pub mod Room

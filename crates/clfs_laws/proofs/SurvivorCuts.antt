@@ -139,7 +139,7 @@ state_of shape containers buffers streams records place waiting areas archive ma
   broken = broken;
 }
 
-same_states : (a b : State) → a.shape ≡ b.shape → a.containers ≡ b.containers → a.buffers ≡ b.buffers → a.streams ≡ b.streams → a.records ≡ b.records
+pub same_states : (a b : State) → a.shape ≡ b.shape → a.containers ≡ b.containers → a.buffers ≡ b.buffers → a.streams ≡ b.streams → a.records ≡ b.records
     → a.place ≡ b.place → a.waiting ≡ b.waiting → a.areas ≡ b.areas → a.archive ≡ b.archive → a.maximum ≡ b.maximum → a.minimum ≡ b.minimum
     → a.growth ≡ b.growth → a.automatic ≡ b.automatic → a.broken ≡ b.broken → a ≡ b
 same_states a b shape containers buffers streams records place waiting areas archive maximum minimum growth automatic broken =

@@ -1,3 +1,4 @@
+pub mod Refused
 pub mod Needs
 pub mod Chains
 pub mod Rows
