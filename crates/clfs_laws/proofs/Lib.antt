@@ -3,6 +3,9 @@ pub mod CallRefusals
 pub mod OwnAnswers
 pub mod Replies
 pub mod Quiet
+pub mod RunParts
+pub mod FoundRecords
+pub mod FlushedTo
 pub mod StepCases
 pub mod Faults
 pub mod Room

@@ -1,3 +1,4 @@
+pub mod Fronts
 pub mod Refused
 pub mod Needs
 pub mod Chains
