@@ -10,6 +10,7 @@
 
 mod bytes;
 mod entry;
+mod format;
 mod lsn;
 mod name;
 mod place;
@@ -19,6 +20,10 @@ mod sizes;
 
 pub use bytes::Bytes;
 pub use entry::{Kind, LogEntry};
+pub use format::{
+    BLOCK_HEADER, MOST_BLOCK_RECORDS, OPEN_GATE, RECORD_HEADER, SECTOR, SECTOR_PAYLOAD, sectors_of,
+    size_of_record,
+};
 pub use lsn::{Lsn, every_number_is_an_lsn};
 pub use name::Name;
 pub use place::{Place, frontier, place_after, sealed};
