@@ -42,6 +42,8 @@ pub mod FallingLists
 pub mod CursorGives
 pub mod ReadCalls
 pub mod OutcomeCases
+pub mod HoldRises
+pub mod HoldRuns
 pub mod StepLeads
 pub mod RecordsOfCalls
 pub mod SurvivingRecords
