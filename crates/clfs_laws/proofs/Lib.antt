@@ -44,6 +44,9 @@ pub mod ReadCalls
 pub mod OutcomeCases
 pub mod HoldRises
 pub mod HoldRuns
+pub mod SameRecords
+pub mod SameReading
+pub mod SameExtents
 pub mod StepLeads
 pub mod RecordsOfCalls
 pub mod SurvivingRecords
