@@ -47,6 +47,7 @@ pub mod HoldRuns
 pub mod SameRecords
 pub mod SameReading
 pub mod SameExtents
+pub mod AlikeRefusals
 pub mod StepLeads
 pub mod RecordsOfCalls
 pub mod SurvivingRecords
