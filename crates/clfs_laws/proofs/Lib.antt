@@ -48,6 +48,7 @@ pub mod SameRecords
 pub mod SameReading
 pub mod SameExtents
 pub mod AlikeRefusals
+pub mod AlikeAnswers
 pub mod StepLeads
 pub mod RecordsOfCalls
 pub mod SurvivingRecords
