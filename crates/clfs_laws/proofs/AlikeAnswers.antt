@@ -15,10 +15,8 @@ use Rattle.clfs_model.specs.declared.call.Call.{Call}
 use Rattle.clfs_model.specs.declared.call.Call.TheVariants as calls
 use Rattle.clfs_model.specs.declared.call.Draft.{Draft}
 use Rattle.clfs_model.specs.declared.info.LogInfo.{LogInfo}
-use Rattle.clfs_model.specs.declared.info.Extent.{Extent}
 use Rattle.clfs_model.specs.declared.refusal.Refusal.{Refusal}
 use Rattle.clfs_model.specs.declared.refusal.Refusal.TheVariants as refusals
-use Rattle.clfs_model.specs.declared.reply.Reply.{Reply}
 use Rattle.clfs_model.specs.declared.reply.Reply.TheVariants as replies
 use Rattle.clfs_model.specs.declared.state.State.{State}
 use Rattle.clfs_model.specs.declared.state.Area.{Area}
@@ -26,15 +24,14 @@ use Rattle.clfs_model.specs.declared.state.Cursor.{Cursor}
 use Rattle.clfs_model.specs.declared.state.CursorKind.{CursorKind}
 use Rattle.clfs_model.specs.declared.state.CursorKind.TheVariants.{Records, RestartAreas}
 use Rattle.clfs_model.specs.State.{base_of, area_of, set_base, change_area}
-use Rattle.clfs_model.specs.Live.{hold, active, live_at, last_live, lsn_or_null}
+use Rattle.clfs_model.specs.Live.{active, live_at, last_live, lsn_or_null}
 use Rattle.clfs_model.specs.Space.{free, reserved, own_sum, grown}
-use Rattle.clfs_model.specs.Flush.{flushed, seal, flush}
+use Rattle.clfs_model.specs.Flush.{flushed, flush}
 use Rattle.clfs_model.specs.Put.{next_lsn, put, need_of, spend_if, hold_sizes, seal_if, flush_if, plain_record, appended}
 use Rattle.clfs_model.specs.Reading.{newest_restart, next_of_cursor, record_cursor, restart_cursor, with_cursor_at}
-use Rattle.clfs_model.specs.Archive.{extents}
 use Rattle.clfs_model.specs.Policies.{with_policy, without_policy}
 use Rattle.clfs_model.specs.Refusals.{stream_number}
-use Rattle.clfs_model.specs.Answers.{Outcome, outcome, answer, over_area, opened, reserved_for, released, found_with_cursor, moved_on, restart_record, restarted, rebased, advanced, archiving, flushed_to, info_of}
+use Rattle.clfs_model.specs.Answers.{Outcome, outcome, answer, over_area, reserved_for, released, found_with_cursor, moved_on, restart_record, restarted, rebased, advanced, archiving, flushed_to, info_of}
 use Rattle.clfs_laws.proofs.AlikeRefusals.{LooksAlike, live_at_alike, last_live_alike, newest_alike, next_alike, active_alike, free_alike, grown_alike, seal_with, flush_with, ready_with}
 use Rattle.clfs_laws.proofs.RecordsOfCalls.{seal_records, flushed_to_records, spend_records, placed_record, appended_records, restarted_records, policy_records, no_policy_records, archiving_records}
 use Rattle.clfs_laws.proofs.SameRecords.{with_records}

@@ -1,11 +1,11 @@
 -- The hold never falls: no step needs again what the log didn't need before it.
 use Rattle.std.proofs.Common.{◌≡◌, ℕ, ◌-◌, ◌≤◌, Bool, true, false, refl, sym, ap, ◌∙◌, subst, inl, inr, arith, List, [], ◌∷◌, ◌++◌, length}
-use Rattle.std.specs.Prelude.{Option, Some, None, IsSome, nat_lt, not, is_none, ◌||◌, ◌==◌}
+use Rattle.std.specs.Prelude.{Option, Some, None, IsSome, nat_lt, not, ◌||◌, ◌==◌}
 use Rattle.std.specs.List.{AllByRecursion}
-use Rattle.std.specs.Option.{option_map_or, option_and_then, option_to_list}
+use Rattle.std.specs.Option.{option_map_or, option_to_list}
 use Rattle.std.proofs.lemmas.Bool.{cases_Bool, ltb-false}
 use Rattle.std.proofs.lemmas.List.Elements.{All-weaker, recursion_from_All}
-use Rattle.clfs_lsn.specs.Lsn.{null_lsn, container_of, offset_of}
+use Rattle.clfs_lsn.specs.Lsn.{null_lsn}
 use Rattle.clfs_lsn.specs.Place.{frontier, joins, begins_here}
 use Rattle.clfs_lsn.specs.declared.entry.LogEntry.{LogEntry}
 use Rattle.clfs_lsn.specs.declared.policy.Policy.{Policy}
@@ -26,12 +26,12 @@ use Rattle.clfs_model.specs.declared.state.Stream.{Stream}
 use Rattle.clfs_model.specs.declared.state.Cursor.{Cursor}
 use Rattle.clfs_model.specs.State.{stream_at, base_of, set_base, area_of}
 use Rattle.clfs_model.specs.Live.{is_live, hold, last_live, live_at}
-use Rattle.clfs_model.specs.Space.{grown, with_containers}
+use Rattle.clfs_model.specs.Space.{grown}
 use Rattle.clfs_model.specs.Flush.{seal, flush, flushed, cut}
 use Rattle.clfs_model.specs.Put.{next_lsn, put, need_of, spend_if, hold_sizes, seal_if, flush_if, plain_record, appended}
 use Rattle.clfs_model.specs.Policies.{with_policy, without_policy}
 use Rattle.clfs_model.specs.Reading.{newest_restart, record_cursor, restart_cursor}
-use Rattle.clfs_model.specs.Refusals.{refusal, in_area, refused_if, restart_refusal, is_base, invalid_base, tail_refusal, stream_number}
+use Rattle.clfs_model.specs.Refusals.{refusal, in_area, refused_if, restart_refusal, is_base, invalid_base, stream_number}
 use Rattle.clfs_model.specs.Answers.{Outcome, outcome, answer, over_area, moved_on, restart_record, restarted, rebased, archiving, advanced, flushed_to}
 use Rattle.clfs_model.specs.Step.{Step, with_broken}
 use Rattle.clfs_model.specs.Valid.{IsValid, IsRecord}
@@ -44,7 +44,7 @@ use Rattle.clfs_laws.proofs.StepLeads.{step_leads}
 use Rattle.clfs_laws.proofs.FlushedRises.{flushed_rises}
 use Rattle.clfs_laws.proofs.ValidAreaCalls.{its_area}
 use Rattle.clfs_laws.proofs.ValidAppends.{true_of_not}
-use Rattle.clfs_laws.proofs.ValidBases.{live_still, set_higher, higher_of, based_at, flush_streams, base_between}
+use Rattle.clfs_laws.proofs.ValidBases.{live_still, set_higher, higher_of, based_at, base_between}
 use Rattle.clfs_laws.proofs.ValidCuts.{flushed_block, kept_live}
 use Rattle.clfs_laws.proofs.ValidPlaces.{sound_of, flushed_below}
 use Rattle.clfs_laws.proofs.ValidPuts.{put_by}

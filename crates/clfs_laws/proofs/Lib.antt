@@ -49,6 +49,9 @@ pub mod SameReading
 pub mod SameExtents
 pub mod AlikeRefusals
 pub mod AlikeAnswers
+pub mod Equivalence
+pub mod SameSteps
+pub mod SameRuns
 pub mod StepLeads
 pub mod RecordsOfCalls
 pub mod SurvivingRecords

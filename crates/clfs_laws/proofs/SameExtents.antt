@@ -1,5 +1,5 @@
 -- The same is to be archived of states that are the same.
-use Rattle.std.proofs.Common.{◌≡◌, ℕ, ◌+◌, ◌-◌, ◌*◌, ◌≤◌, Bool, true, false, refl, sym, ap, ◌∙◌, inl, inr, arith, List, [], ◌∷◌, length, zero, suc}
+use Rattle.std.proofs.Common.{◌≡◌, ℕ, ◌+◌, ◌-◌, ◌*◌, ◌≤◌, Bool, true, refl, sym, ap, ◌∙◌, inl, inr, arith, List, [], ◌∷◌, length, zero, suc}
 use Rattle.std.specs.Prelude.{Option, Some, None, filter, nat_le, nat_lt, ◌&&◌, ◌==◌, slice_get, sum_by}
 use Rattle.std.specs.List.{AllByRecursion, range_with_len, filter_map, last_or}
 use Rattle.std.specs.Option.{option_map, option_map_or, option_to_list}
@@ -14,7 +14,7 @@ use Rattle.clfs_model.specs.Flush.{flushed, IsSame}
 use Rattle.clfs_model.specs.Archive.{is_in_block, end_of_block, archived_in, extent_in, extents_from, extents}
 use Rattle.clfs_laws.proofs.HoldOrder.{hold_below_archive}
 use Rattle.clfs_laws.proofs.LsnOrder.{both_true}
-use Rattle.clfs_laws.proofs.SameRecords.{IsSameFrom, with_records, records_from, passed_same, passes_each, from_same}
+use Rattle.clfs_laws.proofs.SameRecords.{with_records, records_from, passed_same, passes_each, from_same}
 
 -- records that are the same from a container on
 abbrev AreSameFrom : ℕ → List LogEntry → List LogEntry → Type 0

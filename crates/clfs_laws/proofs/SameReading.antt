@@ -1,5 +1,5 @@
 -- Reading goes on to the same record in states that are the same, wherever a cursor is.
-use Rattle.std.proofs.Common.{◌≡◌, ℕ, ◌≤◌, ◌<◌, Bool, true, false, refl, sym, ap, ◌∙◌, inl, inr, ◌⊎◌, arith, List, [], ◌∷◌}
+use Rattle.std.proofs.Common.{◌≡◌, ℕ, ◌≤◌, ◌<◌, Bool, true, refl, sym, ap, ◌∙◌, inl, inr, ◌⊎◌, arith, List, [], ◌∷◌}
 use Rattle.std.specs.Prelude.{Option, Some, None, filter, find, nat_le, nat_lt, ◌&&◌, ◌==◌}
 use Rattle.std.specs.List.{AllByRecursion}
 use Rattle.std.specs.Option.{option_and_then}
@@ -10,13 +10,13 @@ use Rattle.clfs_lsn.specs.declared.entry.LogEntry.{LogEntry}
 use Rattle.clfs_model.specs.declared.state.State.{State}
 use Rattle.clfs_model.specs.declared.call.Mode.{Mode}
 use Rattle.clfs_model.specs.declared.call.Mode.TheVariants.{Previous, UndoNext, Forward}
-use Rattle.clfs_model.specs.Live.{hold, is_live, live, live_at}
+use Rattle.clfs_model.specs.Live.{hold, is_live, live_at}
 use Rattle.clfs_model.specs.Flush.{IsSame}
 use Rattle.clfs_model.specs.Reading.{entry_at, next}
 use Rattle.clfs_model.specs.Valid.{IsValid, IsRecord}
 use Rattle.clfs_laws.proofs.HoldOrder.{hold_below_live}
 use Rattle.clfs_laws.proofs.LsnOrder.{both_true}
-use Rattle.clfs_laws.proofs.SameRecords.{IsSameFrom, is_from, records_from, from_same, live_of_same}
+use Rattle.clfs_laws.proofs.SameRecords.{is_from, records_from, from_same, live_of_same}
 
 -- states that are the same have the same live record at an LSN
 pub live_at_same : (s u : State) (stream lsn : ℕ) → IsSame s u → live_at u stream lsn ≡ live_at s stream lsn
