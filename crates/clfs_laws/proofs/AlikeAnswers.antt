@@ -45,7 +45,8 @@ pub record AnswersAlike (s : State) (records : List LogEntry) (o p : Outcome) : 
   pub others : p.state ≡ with_records (records ++ more) o.state
 
 -- where none joins
-leaves : (s : State) (records : List LogEntry) (o p : Outcome) → p.reply ≡ o.reply → o.state.records ≡ s.records → p.state ≡ with_records records o.state
+leaves : (s : State) (records : List LogEntry) (o p : Outcome) → p.reply ≡ o.reply → o.state.records ≡ s.records
+    → p.state ≡ with_records records o.state
     → AnswersAlike s records o p
 leaves s records o p same kept others = record {
   same_reply = same;
@@ -61,12 +62,14 @@ joins_one s records entry o p same kept others = record { same_reply = same; mor
 
 -- outcomes of an option
 both_of_option : {A : Type 0} (s : State) (records : List LogEntry) (found : Option A) (f g : A → Outcome) (o p : Outcome)
-    → ((x : A) → AnswersAlike s records (f x) (g x)) → AnswersAlike s records o p → AnswersAlike s records (option_map_or f found o) (option_map_or g found p)
+    → ((x : A) → AnswersAlike s records (f x) (g x)) → AnswersAlike s records o p
+    → AnswersAlike s records (option_map_or f found o) (option_map_or g found p)
 both_of_option s records None f g o p each none = none
 both_of_option s records (Some x) f g o p each none = each x
 
 -- outcomes over an area, which may be missing
-both_over : (s : State) (records : List LogEntry) (client number : ℕ) (f g : Area → Outcome) → ((area : Area) → AnswersAlike s records (f area) (g area))
+both_over : (s : State) (records : List LogEntry) (client number : ℕ) (f g : Area → Outcome)
+    → ((area : Area) → AnswersAlike s records (f area) (g area))
     → AnswersAlike s records (over_area s client number f) (over_area (with_records records s) client number g)
 both_over s records client number f g each =
     both_of_option s records (area_of s client number) f g (outcome (replies.Refused refusals.NoSuchArea) s)
@@ -78,7 +81,8 @@ alike_as s records o p q same alike = let F : Outcome → Type 0 = λ x. Answers
 
 -- what areas hold, sealing and flushing leave records alone
 spend_with : (area : Area) (is_reserved : Bool) (n : ℕ) (sizes : List ℕ) (s : State) (records : List LogEntry)
-    → hold_sizes area sizes (spend_if is_reserved area n (with_records records s)) ≡ with_records records (hold_sizes area sizes (spend_if is_reserved area n s))
+    → hold_sizes area sizes (spend_if is_reserved area n (with_records records s))
+    ≡ with_records records (hold_sizes area sizes (spend_if is_reserved area n s))
 spend_with area false n [] s records = refl
 spend_with area true n [] s records = refl
 spend_with area false n (size ∷ sizes) s records = refl
@@ -111,7 +115,9 @@ joined_with s records need entry alike =
     ap (λ (x : State). put x entry) (grown_alike s records need alike) ∙ put_with g records entry
     ∙ ap (λ (e : LogEntry). with_records (records ++ e ∷ []) (put g entry)) placed
 
-appended_with : (s : State) (records : List LogEntry) (area : Area) (draft : Draft) (is_reserved : Bool) (sizes : List ℕ) → LooksAlike s (with_records records s)
+-- an append and a restart area put the same record
+appended_with : (s : State) (records : List LogEntry) (area : Area) (draft : Draft) (is_reserved : Bool) (sizes : List ℕ)
+    → LooksAlike s (with_records records s)
     → appended (with_records records s) area draft is_reserved sizes
     ≡ with_records (records ++ placed_record s (plain_record area draft) ∷ []) (appended s area draft is_reserved sizes)
 appended_with s records area draft is_reserved sizes alike =
@@ -121,7 +127,8 @@ appended_with s records area draft is_reserved sizes alike =
     let all = records ++ placed_record s entry ∷ [] in
     let joined = put (grown s need) entry in
     let held = hold_sizes area sizes (spend_if is_reserved area n joined) in
-    ap (λ (x : State). flush_if draft.flush (seal_if draft.seal (hold_sizes area sizes (spend_if is_reserved area n x)))) (joined_with s records need entry alike)
+    ap (λ (x : State). flush_if draft.flush (seal_if draft.seal (hold_sizes area sizes (spend_if is_reserved area n x))))
+    (joined_with s records need entry alike)
     ∙ ap (λ (x : State). flush_if draft.flush (seal_if draft.seal x)) (spend_with area is_reserved n sizes joined all)
     ∙ ap (flush_if draft.flush) (seal_if_with draft.seal held all) ∙ flush_if_with draft.flush (seal_if draft.seal held) all
 
@@ -130,7 +137,8 @@ rebased_by : (none : Bool) (stream base : ℕ) (s : State) (records : List LogEn
 rebased_by true stream base s records is = rw is refl
 rebased_by false stream base s records is = rw is refl
 
-restarted_with : (s : State) (records : List LogEntry) (area : Area) (bytes : List ℕ) (base : ℕ) (is_reserved : Bool) → LooksAlike s (with_records records s)
+restarted_with : (s : State) (records : List LogEntry) (area : Area) (bytes : List ℕ) (base : ℕ) (is_reserved : Bool)
+    → LooksAlike s (with_records records s)
     → restarted (with_records records s) area bytes base is_reserved
     ≡ with_records (records ++ placed_record s (restart_record s area bytes base) ∷ []) (restarted s area bytes base is_reserved)
 restarted_with s records area bytes base is_reserved alike =
@@ -167,6 +175,7 @@ moved_to s area number found = option_map_or
     (λ (entry : LogEntry). outcome (replies.Next entry) (change_area (with_cursor_at number entry.lsn) area.client area.number s))
     found (outcome (replies.Refused refusals.NoSuchCursor) s)
 
+-- a cursor comes to the same record next
 next_found : (s u : State) (area : Area) (found : Option Cursor) → LooksAlike s u
     → option_and_then (next_of_cursor u area) found ≡ option_and_then (next_of_cursor s area) found
 next_found s u area None alike = refl
@@ -185,7 +194,9 @@ moved_alike s records area number found alike =
     (outcome (replies.Refused refusals.NoSuchCursor) s) (outcome (replies.Refused refusals.NoSuchCursor) w)
     (λ (entry : LogEntry). leaves s records _ _ refl refl refl) (leaves s records _ _ refl refl refl))
 
-policy_with : (s : State) (records : List LogEntry) (policy : Policy) → with_policy (with_records records s) policy ≡ with_records records (with_policy s policy)
+-- policies and archiving leave records alone
+policy_with : (s : State) (records : List LogEntry) (policy : Policy)
+    → with_policy (with_records records s) policy ≡ with_records records (with_policy s policy)
 policy_with s records (policies.Maximum value) = refl
 policy_with s records (policies.Minimum value) = refl
 policy_with s records (policies.Growth value) = refl
@@ -219,7 +230,8 @@ info_by s stream used unused last restart = record {
   archive = s.archive;
 }
 
-info_alike : (s : State) (records : List LogEntry) (stream : ℕ) → LooksAlike s (with_records records s) → info_of (with_records records s) stream ≡ info_of s stream
+info_alike : (s : State) (records : List LogEntry) (stream : ℕ) → LooksAlike s (with_records records s)
+    → info_of (with_records records s) stream ≡ info_of s stream
 info_alike s records stream alike =
     let w : State = with_records records s in
     ap (λ (used : ℕ). info_by s stream used (free w) (last_live w stream) (lsn_or_null (newest_restart w stream))) (active_alike s records alike)
@@ -231,7 +243,8 @@ info_alike s records stream alike =
 pub answers_alike : (s : State) (records : List LogEntry) (client : ℕ) (call : Call) → LooksAlike s (with_records records s)
     → AnswersAlike s records (answer s client call) (answer (with_records records s) client call)
 answers_alike s records client (calls.OpenStream name) alike =
-    both_of_option s records (stream_number s name) (λ number. outcome (replies.Stream number) s) (λ number. outcome (replies.Stream number) (with_records records s))
+    both_of_option s records (stream_number s name) (λ number. outcome (replies.Stream number) s)
+    (λ number. outcome (replies.Stream number) (with_records records s))
     (outcome (replies.Stream (length s.streams + 1)) (record s { streams = s.streams ++ record { name = name; base = null_lsn } ∷ [] }))
     (outcome (replies.Stream (length s.streams + 1)) (record s { records = records; streams = s.streams ++ record { name = name; base = null_lsn } ∷ [] }))
     (λ number. leaves s records _ _ refl refl refl) (leaves s records _ _ refl refl refl)
@@ -256,7 +269,8 @@ answers_alike s records client (calls.Append number draft is_reserved sizes) ali
 answers_alike s records client (calls.Flush number) alike =
     leaves s records _ _ (ap (λ (x : State). replies.Flushed (flushed x)) (flush_with s records)) (seal_records s) (flush_with s records)
 answers_alike s records client (calls.FlushTo number lsn) alike =
-    leaves s records _ _ (ap (λ (x : State). replies.Flushed (flushed x)) (flushed_to_with s records lsn)) (flushed_to_records s lsn) (flushed_to_with s records lsn)
+    leaves s records _ _ (ap (λ (x : State). replies.Flushed (flushed x)) (flushed_to_with s records lsn))
+    (flushed_to_records s lsn) (flushed_to_with s records lsn)
 answers_alike s records client (calls.Read number lsn mode) alike =
     both_over s records client number _ _ (λ area.
     found_alike s records area (Records mode) (live_at s area.stream lsn) (live_at (with_records records s) area.stream lsn) (refusals.RecordNonexistent lsn)
@@ -279,8 +293,10 @@ answers_alike s records client (calls.PreviousRestart number cursor) alike =
     both_over s records client number _ _ (λ area. moved_alike s records area cursor (restart_cursor area cursor) alike)
 answers_alike s records client (calls.Advance number lsn) alike =
     let w : State = with_records records s in
-    both_over s records client number (λ area. outcome (replies.Base lsn) (advanced s area.stream lsn)) (λ area. outcome (replies.Base lsn) (advanced w area.stream lsn))
-    (λ area. leaves s records _ _ refl (seal_records s) (ap (λ (x : State). record x { streams = set_base area.stream lsn x.streams }) (flush_with s records)))
+    both_over s records client number (λ area. outcome (replies.Base lsn) (advanced s area.stream lsn))
+    (λ area. outcome (replies.Base lsn) (advanced w area.stream lsn))
+    (λ area. leaves s records _ _ refl (seal_records s)
+    (ap (λ (x : State). record x { streams = set_base area.stream lsn x.streams }) (flush_with s records)))
 answers_alike s records client (calls.SetArchive on) alike = leaves s records _ _ refl (archiving_records s on) (archiving_with s records on alike)
 answers_alike s records client (calls.SetArchiveTail lsn) alike = leaves s records _ _ refl refl refl
 answers_alike s records client calls.ListExtents alike = leaves s records _ _ (ap replies.Extents alike.same_extents) refl refl

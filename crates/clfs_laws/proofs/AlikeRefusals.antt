@@ -59,7 +59,8 @@ newest_alike s u stream alike = ap (λ (entries : List LogEntry). slice_get entr
 
 -- where a cursor comes to next
 next_by_kind : (s u : State) (area : Area) (number last : ℕ) (kind : CursorKind) → LooksAlike s u
-    → next_of_cursor u area (record { number = number; kind = kind; last = last }) ≡ next_of_cursor s area (record { number = number; kind = kind; last = last })
+    → next_of_cursor u area (record { number = number; kind = kind; last = last })
+    ≡ next_of_cursor s area (record { number = number; kind = kind; last = last })
 next_by_kind s u area number last (Records mode) alike = alike.same_next area.stream mode last
 next_by_kind s u area number last RestartAreas alike =
     ap (find (λ (entry : LogEntry). nat_lt entry.lsn last)) (restart_areas_alike s u area.stream alike)
@@ -78,7 +79,8 @@ free_alike s records alike = ap (λ (h : ℕ). free_sectors s.shape s.place h s.
 grown_if_alike : (s : State) (records : List LogEntry) (test : Bool) (wanted : ℕ) → LooksAlike s (with_records records s)
     → grown_if test (with_records records s) wanted ≡ with_records records (grown_if test s wanted)
 grown_if_alike s records true wanted alike =
-    ap (λ (h : ℕ). with_records records (with_containers (unwrap_or (growth s.shape s.place h s.containers (growth_rate s) (size_limit s) wanted) s.containers) s)) alike.same_hold
+    ap (λ (h : ℕ). with_records records (with_containers (unwrap_or (growth s.shape s.place h s.containers (growth_rate s) (size_limit s) wanted) s.containers) s))
+    alike.same_hold
 grown_if_alike s records false wanted alike = refl
 
 pub grown_alike : (s : State) (records : List LogEntry) (need : ℕ) → LooksAlike s (with_records records s)
@@ -90,6 +92,7 @@ grown_alike s records need alike =
     ap (λ (f : ℕ). grown_if (s.automatic && nat_lt f wanted) w wanted) (free_alike s records alike)
     ∙ grown_if_alike s records (s.automatic && nat_lt (free s) wanted) wanted alike
 
+-- growth gives the same free and reserved sectors, so there is room for the same needs
 grown_free : (s : State) (records : List LogEntry) (need : ℕ) → LooksAlike s (with_records records s)
     → free (grown (with_records records s) need) ≡ free (grown s need)
 grown_free s records need alike =
@@ -122,13 +125,15 @@ needed_alike s records alike = ap (λ (h : ℕ). max (max 2 (unwrap_or s.minimum
 link_alike : (s : State) (records : List LogEntry) (stream link : ℕ) → LooksAlike s (with_records records s)
     → is_link (with_records records s) stream link ≡ is_link s stream link
 link_alike s records stream link alike =
-    ap (λ (found : Option LogEntry). (link == null_lsn) || nat_lt link (base_of s stream) || is_some found) (live_at_alike s (with_records records s) stream link alike)
+    ap (λ (found : Option LogEntry). (link == null_lsn) || nat_lt link (base_of s stream) || is_some found)
+    (live_at_alike s (with_records records s) stream link alike)
 
 base_alike : (s : State) (records : List LogEntry) (stream lsn : ℕ) → LooksAlike s (with_records records s)
     → is_base (with_records records s) stream lsn ≡ is_base s stream lsn
 base_alike s records stream lsn alike =
     let w : State = with_records records s in
-    ap (λ (found : Option LogEntry). is_some found || (nat_lt null_lsn (last_live w stream) && (lsn == last_live w stream + 1))) (live_at_alike s w stream lsn alike)
+    ap (λ (found : Option LogEntry). is_some found || (nat_lt null_lsn (last_live w stream) && (lsn == last_live w stream + 1)))
+    (live_at_alike s w stream lsn alike)
     ∙ ap (λ (last : ℕ). is_some (live_at s stream lsn) || (nat_lt null_lsn last && (lsn == last + 1))) (last_live_alike s w stream alike)
 
 -- the refusal of a call in an area, which may be missing
@@ -137,34 +142,43 @@ in_both : (found : Option Area) (f g : Area → Option Refusal) → ((area : Are
 in_both None f g each = refl
 in_both (Some area) f g each = each area
 
-append_alike : (s : State) (records : List LogEntry) (area : Area) (draft : Draft) (is_reserved : Bool) (sizes : List ℕ) → LooksAlike s (with_records records s)
+-- the refusals of appends, new bases, restart areas, reading on, policies and sizes
+append_alike : (s : State) (records : List LogEntry) (area : Area) (draft : Draft) (is_reserved : Bool) (sizes : List ℕ)
+    → LooksAlike s (with_records records s)
     → append_refusal (with_records records s) area draft is_reserved sizes ≡ append_refusal s area draft is_reserved sizes
 append_alike s records area draft is_reserved sizes alike =
     let w : State = with_records records s in
     let n = length draft.bytes in
     let need = need_of is_reserved n sizes in
-    let first : Bool → Option Refusal → Option Refusal = λ allowed others. too_long area.largest (n ∷ sizes) (refused_if (not allowed) (refusals.LinkInvalid draft.previous) others) in
+    let first : Bool → Option Refusal → Option Refusal = λ allowed others.
+    too_long area.largest (n ∷ sizes) (refused_if (not allowed) (refusals.LinkInvalid draft.previous) others) in
     let second : Bool → Option Refusal → Option Refusal = λ allowed others. refused_if (not allowed) (refusals.LinkInvalid draft.undo_next) others in
     let third : Option Refusal → Option Refusal = λ others. short area (spent_of is_reserved n) others in
-    ap (λ (others : Option Refusal). first (is_link w area.stream draft.previous) (second (is_link w area.stream draft.undo_next) (third others))) (full_alike s records need alike)
-    ∙ ap (λ (allowed : Bool). first (is_link w area.stream draft.previous) (second allowed (third (full s need)))) (link_alike s records area.stream draft.undo_next alike)
-    ∙ ap (λ (allowed : Bool). first allowed (second (is_link s area.stream draft.undo_next) (third (full s need)))) (link_alike s records area.stream draft.previous alike)
+    ap (λ (others : Option Refusal). first (is_link w area.stream draft.previous) (second (is_link w area.stream draft.undo_next) (third others)))
+    (full_alike s records need alike)
+    ∙ ap (λ (allowed : Bool). first (is_link w area.stream draft.previous) (second allowed (third (full s need))))
+    (link_alike s records area.stream draft.undo_next alike)
+    ∙ ap (λ (allowed : Bool). first allowed (second (is_link s area.stream draft.undo_next) (third (full s need))))
+    (link_alike s records area.stream draft.previous alike)
 
 invalid_base_alike : (s : State) (records : List LogEntry) (stream lsn : ℕ) (others : Option Refusal) → LooksAlike s (with_records records s)
     → invalid_base (with_records records s) stream lsn others ≡ invalid_base s stream lsn others
 invalid_base_alike s records stream lsn others alike =
     let w : State = with_records records s in
-    ap (λ (allowed : Bool). refused_if (not allowed) (refusals.TailInvalid lsn (base_of s stream) (last_live w stream)) others) (base_alike s records stream lsn alike)
+    ap (λ (allowed : Bool). refused_if (not allowed) (refusals.TailInvalid lsn (base_of s stream) (last_live w stream)) others)
+    (base_alike s records stream lsn alike)
     ∙ ap (λ (last : ℕ). refused_if (not (is_base s stream lsn)) (refusals.TailInvalid lsn (base_of s stream) last) others) (last_live_alike s w stream alike)
 
-restart_alike : (s : State) (records : List LogEntry) (area : Area) (bytes : List ℕ) (base : ℕ) (is_reserved : Bool) → LooksAlike s (with_records records s)
+restart_alike : (s : State) (records : List LogEntry) (area : Area) (bytes : List ℕ) (base : ℕ) (is_reserved : Bool)
+    → LooksAlike s (with_records records s)
     → restart_refusal (with_records records s) area bytes base is_reserved ≡ restart_refusal s area bytes base is_reserved
 restart_alike s records area bytes base is_reserved alike =
     let w : State = with_records records s in
     let n = length bytes in
     let need = need_of is_reserved n [] in
     let others : Option Refusal → Option Refusal = λ room. short area (spent_of is_reserved n) room in
-    ap (λ (room : Option Refusal). too_long area.largest (n ∷ []) (if base == null_lsn then others room else invalid_base w area.stream base (others room))) (full_alike s records need alike)
+    ap (λ (room : Option Refusal). too_long area.largest (n ∷ []) (if base == null_lsn then others room else invalid_base w area.stream base (others room)))
+    (full_alike s records need alike)
     ∙ ap (λ (rest : Option Refusal). too_long area.largest (n ∷ []) (if base == null_lsn then others (full s need) else rest))
     (invalid_base_alike s records area.stream base (others (full s need)) alike)
 
@@ -190,7 +204,8 @@ size_alike : (s : State) (records : List LogEntry) (asked : ℕ) → LooksAlike 
     → size_refusal (with_records records s) asked ≡ size_refusal s asked
 size_alike s records asked alike =
     let w : State = with_records records s in
-    let by : ℕ → ℕ → Option Refusal = λ used needed. refused_if (nat_lt s.containers asked && nat_lt (size_limit s) asked) (refusals.ContainerLimit (size_limit s))
+    let by : ℕ → ℕ → Option Refusal = λ used needed.
+    refused_if (nat_lt s.containers asked && nat_lt (size_limit s) asked) (refusals.ContainerLimit (size_limit s))
     (refused_if (nat_lt asked s.containers && nat_lt asked needed) (refusals.CantShrink used needed) None) in
     ap (λ (used : ℕ). by used (needed_containers w)) (active_alike s records alike) ∙ ap (by (active s)) (needed_alike s records alike)
 
@@ -261,7 +276,8 @@ ready_by_with false false s records = flush_with s records
 pub ready_with : (s : State) (records : List LogEntry) (n : ℕ) → made_ready (with_records records s) n ≡ with_records records (made_ready s n)
 ready_with s records n = ready_by_with (joins s.shape s.place n) (begins_here s.shape s.place n) s records
 
-grows_alike : (s : State) (records : List LogEntry) (need : ℕ) → LooksAlike s (with_records records s) → grows (with_records records s) need ≡ grows s need
+grows_alike : (s : State) (records : List LogEntry) (need : ℕ) → LooksAlike s (with_records records s)
+    → grows (with_records records s) need ≡ grows s need
 grows_alike s records need alike = ap (λ (g : State). nat_lt s.containers g.containers) (grown_alike s records need alike)
 
 -- and it calls the disk alike

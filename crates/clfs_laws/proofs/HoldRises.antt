@@ -53,11 +53,12 @@ use Rattle.clfs_laws.proofs.ValidSettings.{grown_is}
 use Rattle.clfs_laws.proofs.ValidSteps.{two_of, valid_step}
 use Rattle.clfs_laws.proofs.ValidStreams.{hold_flushed, stream_more}
 
--- a log whose bases and whose archive tail don't fall below the hold of another one
+-- t's bases are at or above those of s, and its archive tail at or above the hold of s
 pub record KeepsNeeds (s t : State) : Type 0 where
   pub bases : (number : ℕ) → IsSome (stream_at s number) → base_of s number ≤ base_of t number
   pub tail : AllByRecursion (λ lsn. hold s ≤ lsn) (option_to_list t.archive)
 
+-- what holds of the elements of two lists holds of those of both joined
 all_joined : {A : Type 0} (P : A → Type 0) (xs ys : List A) → AllByRecursion P xs → AllByRecursion P ys → AllByRecursion P (xs ++ ys)
 all_joined P [] ys first second = second
 all_joined P (x ∷ xs) ys first second = (first.0, all_joined P xs ys first.1 second)
@@ -101,6 +102,7 @@ still s t same =
     let kept : (number : ℕ) → IsSome (stream_at s number) → base_of s number ≤ base_of s number = λ number some. omega arith in
     record { bases = subst G (sym same) kept; tail = subst F (sym same) (hold_below_archive s) }
 
+-- sealing, flushing, growing, putting a record and changes of areas leave the needs as they are
 seal_needs : (s : State) → needs_of (seal s) ≡ needs_of s
 seal_needs s = elim (cases_Bool (nat_lt 0 s.place.records)) [ inl some ↦ rw some refl | inr none ↦ rw none refl ]
 
@@ -118,7 +120,8 @@ flushed_to_needs s lsn = elim (cases_Bool (nat_lt lsn (flushed s))) [ inl below 
 grown_needs : (s : State) (need : ℕ) → needs_of (grown s need) ≡ needs_of s
 grown_needs s need = ap needs_of (grown_is s need)
 
-spend_needs : (area : Area) (is_reserved : Bool) (n : ℕ) (sizes : List ℕ) (s : State) → needs_of (hold_sizes area sizes (spend_if is_reserved area n s)) ≡ needs_of s
+spend_needs : (area : Area) (is_reserved : Bool) (n : ℕ) (sizes : List ℕ) (s : State)
+    → needs_of (hold_sizes area sizes (spend_if is_reserved area n s)) ≡ needs_of s
 spend_needs area false n [] s = refl
 spend_needs area true n [] s = refl
 spend_needs area false n (size ∷ sizes) s = refl
@@ -132,7 +135,9 @@ put_by_needs false false s entry = seal_needs s
 put_needs : (s : State) (entry : LogEntry) → needs_of (put s entry) ≡ needs_of s
 put_needs s entry = put_by_needs (joins s.shape s.place (length entry.bytes)) (begins_here s.shape s.place (length entry.bytes)) s entry
 
-appended_needs : (s : State) (area : Area) (draft : Draft) (is_reserved : Bool) (sizes : List ℕ) → needs_of (appended s area draft is_reserved sizes) ≡ needs_of s
+-- so an append does
+appended_needs : (s : State) (area : Area) (draft : Draft) (is_reserved : Bool) (sizes : List ℕ)
+    → needs_of (appended s area draft is_reserved sizes) ≡ needs_of s
 appended_needs s area draft is_reserved sizes =
     let n = length draft.bytes in
     let need = need_of is_reserved n sizes in
@@ -141,6 +146,7 @@ appended_needs s area draft is_reserved sizes =
     flush_if_needs draft.flush (seal_if draft.seal held) ∙ seal_if_needs draft.seal held ∙ spend_needs area is_reserved n sizes joined
     ∙ put_needs (grown s need) (plain_record area draft) ∙ grown_needs s need
 
+-- and so do policies
 policy_needs : (s : State) (policy : Policy) → needs_of (with_policy s policy) ≡ needs_of s
 policy_needs s (policies.Maximum value) = refl
 policy_needs s (policies.Minimum value) = refl
@@ -173,14 +179,17 @@ given_base s t client number lsn area valid there allowed_base same =
     let between = base_between s area.stream lsn (sound_of s valid) allowed_base in
     moved_base s t area.stream lsn (its_area s client number area there valid).stream between.above same
 
-rebased_keeps : (s t : State) (client number base : ℕ) (area : Area) (none : Bool) → (base == null_lsn) ≡ none → IsValid s → area_of s client number ≡ Some area
+-- a base that a restart area carries, where it carries one
+rebased_keeps : (s t : State) (client number base : ℕ) (area : Area) (none : Bool) → (base == null_lsn) ≡ none → IsValid s
+    → area_of s client number ≡ Some area
     → ((base == null_lsn) ≡ false → is_base s area.stream base ≡ true) → needs_of t ≡ needs_of s → KeepsNeeds s (rebased area.stream base t)
 rebased_keeps s t client number base area true is valid there based same = rw is (still s t same)
 rebased_keeps s t client number base area false is valid there based same =
     rw is (given_base s (record t { streams = set_base area.stream base t.streams }) client number base area valid there (based is)
     (ap (λ (needs : List Stream × Option ℕ). (set_base area.stream base needs.0, needs.1)) same))
 
-restarted_keeps : (s : State) (client number : ℕ) (area : Area) (bytes : List ℕ) (base : ℕ) (is_reserved : Bool) → IsValid s → area_of s client number ≡ Some area
+restarted_keeps : (s : State) (client number : ℕ) (area : Area) (bytes : List ℕ) (base : ℕ) (is_reserved : Bool) → IsValid s
+    → area_of s client number ≡ Some area
     → restart_refusal s area bytes base is_reserved ≡ None → KeepsNeeds s (restarted s area bytes base is_reserved)
 restarted_keeps s client number area bytes base is_reserved valid there none =
     let n = length bytes in
@@ -191,7 +200,8 @@ restarted_keeps s client number area bytes base is_reserved valid there none =
     seal_needs spent ∙ spend_needs area is_reserved n [] joined ∙ put_needs (grown s need) (restart_record s area bytes base) ∙ grown_needs s need in
     rebased_keeps s (flush spent) client number base area (base == null_lsn) refl valid there (allowed s area bytes base is_reserved none).based same
 
-advanced_keeps : (s : State) (client number lsn : ℕ) (area : Area) → IsValid s → area_of s client number ≡ Some area → invalid_base s area.stream lsn None ≡ None
+advanced_keeps : (s : State) (client number lsn : ℕ) (area : Area) → IsValid s → area_of s client number ≡ Some area
+    → invalid_base s area.stream lsn None ≡ None
     → KeepsNeeds s (advanced s area.stream lsn)
 advanced_keeps s client number lsn area valid there none =
     let test = not (is_base s area.stream lsn) in
@@ -200,12 +210,14 @@ advanced_keeps s client number lsn area valid there none =
     (ap (λ (needs : List Stream × Option ℕ). (set_base area.stream lsn needs.0, needs.1)) (seal_needs s))
 
 -- archiving begins at the hold, or stays where it is
-archiving_by : (s : State) (archive : Option ℕ) → s.archive ≡ archive → KeepsNeeds s (record s { archive = Some (option_map_or (λ tail. tail) archive (hold s)) })
+archiving_by : (s : State) (archive : Option ℕ) → s.archive ≡ archive
+    → KeepsNeeds s (record s { archive = Some (option_map_or (λ tail. tail) archive (hold s)) })
 archiving_by s None is = record { bases = λ number some. omega arith; tail = (omega arith, tt) }
 archiving_by s (Some tail) is =
     let F : Option ℕ → Type 0 = λ found. AllByRecursion (λ lsn. hold s ≤ lsn) (option_to_list found) in
     record { bases = λ number some. omega arith; tail = subst F is (hold_below_archive s) }
 
+-- archiving that is turned on or off
 archiving_keeps : (s : State) (on : Bool) → KeepsNeeds s (archiving s on)
 archiving_keeps s true = archiving_by s s.archive refl
 archiving_keeps s false = record { bases = λ number some. omega arith; tail = tt }
@@ -216,7 +228,8 @@ neither false b fails = (refl, fails)
 
 -- a tail isn't moved down
 tail_by : (s : State) (lsn : ℕ) (archive : Option ℕ) → s.archive ≡ archive
-    → option_map_or (λ tail. refused_if (nat_lt lsn tail || nat_lt (flushed s) lsn) (refusals.ArchiveTailInvalid lsn tail (flushed s)) None) archive (Some refusals.Ephemeral) ≡ None
+    → option_map_or (λ tail. refused_if (nat_lt lsn tail || nat_lt (flushed s) lsn) (refusals.ArchiveTailInvalid lsn tail (flushed s)) None)
+    archive (Some refusals.Ephemeral) ≡ None
     → KeepsNeeds s (record s { archive = Some lsn })
 tail_by s lsn None is none = absurd (cc)
 tail_by s lsn (Some tail) is none =
@@ -247,7 +260,8 @@ moved : (s : State) (area : Area) (number : ℕ) (found : Option Cursor) → Kee
 moved s area number found = of_cursor (Keeps s) s area number found (λ (entry : LogEntry). still s _ refl) (still s s refl)
 
 -- a call in an area that isn't refused
-keeps_in : (s : State) (client number : ℕ) (refuses : Area → Option Refusal) (answers : Area → Outcome) (found : Option Area) → area_of s client number ≡ found
+keeps_in : (s : State) (client number : ℕ) (refuses : Area → Option Refusal) (answers : Area → Outcome) (found : Option Area)
+    → area_of s client number ≡ found
     → option_map_or refuses found (Some refusals.NoSuchArea) ≡ None
     → ((area : Area) → area_of s client number ≡ Some area → refuses area ≡ None → Keeps s (answers area))
     → Keeps s (option_map_or answers found (outcome (replies.Refused refusals.NoSuchArea) s))
@@ -270,7 +284,8 @@ answer_keeps_needs s client (calls.Flush number) none valid = still s _ (seal_ne
 answer_keeps_needs s client (calls.FlushTo number lsn) none valid = still s _ (flushed_to_needs s lsn)
 answer_keeps_needs s client (calls.Read number lsn mode) none valid = over s client number _ (λ (area : Area).
     of_option (Keeps s) (live_at s area.stream lsn) _ _ (λ (entry : LogEntry). still s _ refl) (still s s refl))
-answer_keeps_needs s client (calls.ReadNext number cursor) none valid = over s client number _ (λ (area : Area). moved s area cursor (record_cursor area cursor))
+answer_keeps_needs s client (calls.ReadNext number cursor) none valid =
+    over s client number _ (λ (area : Area). moved s area cursor (record_cursor area cursor))
 answer_keeps_needs s client (calls.EndRead number cursor) none valid = still s _ refl
 answer_keeps_needs s client (calls.WriteRestart number bytes base is_reserved) none valid =
     let two = two_of s (in_area s client number (λ (area : Area). restart_refusal s area bytes base is_reserved)) none in
@@ -279,7 +294,8 @@ answer_keeps_needs s client (calls.WriteRestart number bytes base is_reserved) n
     (λ area there passes. restarted_keeps s client number area bytes base is_reserved valid there passes)
 answer_keeps_needs s client (calls.ReadRestart number) none valid = over s client number _ (λ (area : Area).
     of_option (Keeps s) (newest_restart s area.stream) _ _ (λ (entry : LogEntry). still s _ refl) (still s s refl))
-answer_keeps_needs s client (calls.PreviousRestart number cursor) none valid = over s client number _ (λ (area : Area). moved s area cursor (restart_cursor area cursor))
+answer_keeps_needs s client (calls.PreviousRestart number cursor) none valid =
+    over s client number _ (λ (area : Area). moved s area cursor (restart_cursor area cursor))
 answer_keeps_needs s client (calls.Advance number lsn) none valid =
     keeps_in s client number (λ area. invalid_base s area.stream lsn None) (λ area. outcome (replies.Base lsn) (advanced s area.stream lsn))
     (area_of s client number) refl none (λ area there passes. advanced_keeps s client number lsn area valid there passes)

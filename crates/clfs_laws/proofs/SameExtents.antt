@@ -34,7 +34,9 @@ end_same at lsn records others same up =
 abbrev is_archived : ℕ → ℕ → ℕ → LogEntry → Bool
 is_archived stable tail container entry = (container_of entry.lsn == container) && nat_le tail entry.lsn && nat_lt entry.lsn stable
 
-archived_container : (stable tail container : ℕ) (entry : LogEntry) → is_archived stable tail container entry ≡ true → container_of entry.lsn ≡ container
+-- it tells the record's container
+archived_container : (stable tail container : ℕ) (entry : LogEntry) → is_archived stable tail container entry ≡ true
+    → container_of entry.lsn ≡ container
 archived_container stable tail container entry is = eqb-true (container_of entry.lsn) container (both_true _ _ (both_true _ _ is).0).0
 
 archived_all : (stable tail container : ℕ) (records : List LogEntry)
@@ -50,13 +52,16 @@ abbrev extent_by : List LogEntry → LogEntry → LogEntry → Extent
 extent_by records first last = record { container = container_of first.lsn; low = offset_of first.lsn; high = end_of_block records last.lsn }
 
 abbrev extent_of : List LogEntry → List LogEntry → Option Extent
-extent_of records archived = option_map (λ (first : LogEntry). extent_by records first (option_map_or (λ (last : LogEntry). last) (last_or None archived) first)) (slice_get archived 0)
+extent_of records archived = option_map
+    (λ (first : LogEntry). extent_by records first (option_map_or (λ (last : LogEntry). last) (last_or None archived) first)) (slice_get archived 0)
 
+-- the last of some records has what all have
 last_is : (P : LogEntry → Type 0) (first before : LogEntry) (entries : List LogEntry) → P before → AllByRecursion P entries
     → P (option_map_or (λ (last : LogEntry). last) (last_or (Some before) entries) first)
 last_is P first before [] is all = is
 last_is P first before (entry ∷ entries) is all = last_is P first entry entries all.0 all.1
 
+-- records of one container have the same extent by both
 extent_of_same : (at container : ℕ) (records others archived : List LogEntry) → AreSameFrom at records others → container_of at ≤ container
     → AllByRecursion (λ (entry : LogEntry). container_of entry.lsn ≡ container) archived → extent_of others archived ≡ extent_of records archived
 extent_of_same at container records others [] same up all = refl
@@ -78,18 +83,21 @@ extent_in_same at tail container s records same up =
     ap (extent_of records) (sym both)
     ∙ extent_of_same at container s.records records (archived_in s tail container) same up (archived_all (flushed s) tail container s.records)
 
+-- two functions that agree from a number on give the same over a range from there on
 filter_map_same : (f g : ℕ → Option Extent) (least from count : ℕ) → least ≤ from → ((n : ℕ) → least ≤ n → f n ≡ g n)
     → filter_map f (range_with_len from count) ≡ filter_map g (range_with_len from count)
 filter_map_same f g least from zero up each = refl
 filter_map_same f g least from (suc count) up each =
     rw (each from up, filter_map_same f g least (from + 1) count (omega (arith, up)) each) refl
 
+-- the extents, by whether archiving is on
 extents_by : (at : ℕ) (s : State) (records : List LogEntry) (archive : Option ℕ) → AreSameFrom at s.records records
     → ((tail : ℕ) → archive ≡ Some tail → container_of at ≤ container_of tail)
     → option_map_or (extents_from (with_records records s)) archive [] ≡ option_map_or (extents_from s) archive []
 extents_by at s records None same up = refl
 extents_by at s records (Some tail) same up =
-    filter_map_same (extent_in (with_records records s) tail) (extent_in s tail) (container_of tail) (container_of tail) (s.place.container + 1 - container_of tail) (omega arith)
+    filter_map_same (extent_in (with_records records s) tail) (extent_in s tail) (container_of tail) (container_of tail)
+    (s.place.container + 1 - container_of tail) (omega arith)
     (λ container above. extent_in_same at tail container s records same (let low = up tail refl in omega (arith, low, above)))
 
 -- the hold is at most the tail

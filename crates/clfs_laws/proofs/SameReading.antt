@@ -48,7 +48,8 @@ entry_at_same s u lsn same up =
 
 -- none of the records that pass a test lies below the container of what is at most all of them
 none_below : (at lsn : ℕ) (p : LogEntry → Bool) (records : List LogEntry) → container_of lsn < container_of at
-    → AllByRecursion (λ (entry : LogEntry). p entry ≡ true → at ≤ entry.lsn) records → find (λ (entry : LogEntry). entry.lsn == lsn) (filter p records) ≡ None
+    → AllByRecursion (λ (entry : LogEntry). p entry ≡ true → at ≤ entry.lsn) records
+    → find (λ (entry : LogEntry). entry.lsn == lsn) (filter p records) ≡ None
 none_below at lsn p [] low above = refl
 none_below at lsn p (entry ∷ entries) low above = elim (cases_Bool (p entry)) [
   | inl passes ↦ elim (cases_Bool (entry.lsn == lsn)) [
@@ -58,7 +59,9 @@ none_below at lsn p (entry ∷ entries) low above = elim (cases_Bool (p entry)) 
   | inr fails ↦ rw fails (none_below at lsn p entries low above.1)
 ]
 
-of_stream : (s : State) (stream : ℕ) (records : List LogEntry) → AllByRecursion (λ (entry : LogEntry). is_live s entry ≡ true → hold s ≤ entry.lsn) records
+-- what lies at or above the hold, of one stream
+of_stream : (s : State) (stream : ℕ) (records : List LogEntry)
+    → AllByRecursion (λ (entry : LogEntry). is_live s entry ≡ true → hold s ≤ entry.lsn) records
     → AllByRecursion (λ (entry : LogEntry). ((entry.stream == stream) && is_live s entry) ≡ true → hold s ≤ entry.lsn) records
 of_stream s stream [] above = tt
 of_stream s stream (entry ∷ entries) above = ((λ is. above.0 (both_true _ _ is).1), of_stream s stream entries above.1)
@@ -66,7 +69,8 @@ of_stream s stream (entry ∷ entries) above = ((λ is. above.0 (both_true _ _ i
 -- nothing is live below the hold's container
 not_live : (s : State) (stream lsn : ℕ) → container_of lsn < container_of (hold s) → live_at s stream lsn ≡ None
 not_live s stream lsn low =
-    none_below (hold s) lsn (λ (entry : LogEntry). (entry.stream == stream) && is_live s entry) s.records low (of_stream s stream s.records (hold_below_live s))
+    none_below (hold s) lsn (λ (entry : LogEntry). (entry.stream == stream) && is_live s entry) s.records low
+    (of_stream s stream s.records (hold_below_live s))
 
 -- a link that each record has below itself, or null
 abbrev HasLink : (LogEntry → ℕ) → LogEntry → Type 0
@@ -91,11 +95,15 @@ dead_link s link stream last (entry ∷ entries) low all = elim (cases_Bool (ent
 abbrev linked : State → (LogEntry → ℕ) → ℕ → Option LogEntry → Option LogEntry
 linked s link stream found = option_and_then (λ (entry : LogEntry). live_at s stream (link entry)) found
 
-linked_found : (s u : State) (link : LogEntry → ℕ) (stream : ℕ) (found : Option LogEntry) → IsSame s u → linked u link stream found ≡ linked s link stream found
+-- a link of the same record names the same in both
+linked_found : (s u : State) (link : LogEntry → ℕ) (stream : ℕ) (found : Option LogEntry) → IsSame s u
+    → linked u link stream found ≡ linked s link stream found
 linked_found s u link stream None same = refl
 linked_found s u link stream (Some entry) same = live_at_same s u stream (link entry) same
 
-linked_same : (s u : State) (link : LogEntry → ℕ) (stream last : ℕ) → AllByRecursion (HasLink link) s.records → AllByRecursion (HasLink link) u.records → IsSame s u
+-- and so does one of the record at an LSN, whether or not both still have that record
+linked_same : (s u : State) (link : LogEntry → ℕ) (stream last : ℕ) → AllByRecursion (HasLink link) s.records
+    → AllByRecursion (HasLink link) u.records → IsSame s u
     → linked u link stream (entry_at u last) ≡ linked s link stream (entry_at s last)
 linked_same s u link stream last all all_other same = elim (cases_Bool (nat_le (container_of (hold s)) (container_of last))) [
   | inl up ↦ ap (linked u link stream) (entry_at_same s u last same (leb-true _ _ up)) ∙ linked_found s u link stream (entry_at s last) same
@@ -114,7 +122,8 @@ undo_links s valid = recursion_from_All (HasLink (λ entry. entry.undo_next)) s.
     (All-weaker (IsRecord s) (HasLink (λ entry. entry.undo_next)) (λ entry is. is.undo_next) s.records valid.records.records)
 
 -- reading goes on to the same record
-pub next_same : (s u : State) (stream : ℕ) (mode : Mode) (last : ℕ) → IsValid s → IsValid u → IsSame s u → next u stream mode last ≡ next s stream mode last
+pub next_same : (s u : State) (stream : ℕ) (mode : Mode) (last : ℕ) → IsValid s → IsValid u → IsSame s u
+    → next u stream mode last ≡ next s stream mode last
 next_same s u stream Previous last valid valid_u same =
     linked_same s u (λ entry. entry.previous) stream last (previous_links s valid) (previous_links u valid_u) same
 next_same s u stream UndoNext last valid valid_u same =

@@ -30,7 +30,8 @@ abbrev pub PassesFrom : ℕ → (LogEntry → Bool) → List LogEntry → Type 0
 PassesFrom at p records = AllByRecursion (λ (entry : LogEntry). p entry ≡ true → container_of at ≤ container_of entry.lsn) records
 
 -- passes the same records of those above it
-pub filter_from : (at : ℕ) (p : LogEntry → Bool) (records : List LogEntry) → PassesFrom at p records → filter p (records_from at records) ≡ filter p records
+pub filter_from : (at : ℕ) (p : LogEntry → Bool) (records : List LogEntry) → PassesFrom at p records
+    → filter p (records_from at records) ≡ filter p records
 filter_from at p [] above = refl
 filter_from at p (entry ∷ entries) above = elim (cases_Bool (is_from at entry)) [
   | inl up ↦ elim (cases_Bool (p entry)) [
@@ -52,11 +53,13 @@ passed_same at p records others same above above_others =
     sym (filter_from at p records above) ∙ ap (filter p) same ∙ filter_from at p others above_others
 
 -- a test that tells a record's container
-pub passes_each : (at : ℕ) (p : LogEntry → Bool) (records : List LogEntry) → ((entry : LogEntry) → p entry ≡ true → container_of at ≤ container_of entry.lsn)
+pub passes_each : (at : ℕ) (p : LogEntry → Bool) (records : List LogEntry)
+    → ((entry : LogEntry) → p entry ≡ true → container_of at ≤ container_of entry.lsn)
     → PassesFrom at p records
 passes_each at p [] above = tt
 passes_each at p (entry ∷ entries) above = (above entry, passes_each at p entries above)
 
+-- the test of a list in two parts
 pub filter_append : {A : Type 0} (p : A → Bool) (xs ys : List A) → filter p (xs ++ ys) ≡ filter p xs ++ filter p ys
 filter_append p [] ys = refl
 filter_append p (x ∷ xs) ys = elim (cases_Bool (p x)) [
@@ -99,6 +102,7 @@ pub record IsSameFrom (at : ℕ) (s u : State) : Type 0 where
   pub up : container_of at ≤ container_of (hold s)
   pub up_other : container_of at ≤ container_of (hold u)
 
+-- they have the same live records
 live_same : (at : ℕ) (s u : State) → IsSameFrom at s u → filter (is_live s) s.records ≡ filter (is_live u) u.records
 live_same at s u is =
     let tests : is_live s ≡ is_live u = ap (λ (x : State). is_live (with_records s.records x)) (sym is.others) in
@@ -108,7 +112,7 @@ live_same at s u is =
     ∙ ap (λ (p : LogEntry → Bool). filter p (records_from at u.records)) tests
     ∙ filter_from at (is_live u) u.records (live_from u at u.records is.up_other (hold_below_live u))
 
--- they have the same hold
+-- so they have the same hold
 pub hold_from : (at : ℕ) (s u : State) → IsSameFrom at s u → hold u ≡ hold s
 hold_from at s u is =
     let lsns : live_lsns s ≡ live_lsns u = ap (map (λ (entry : LogEntry). entry.lsn)) (live_same at s u is) in
@@ -121,7 +125,7 @@ from_higher : (at higher : ℕ) (records : List LogEntry) → container_of at �
 from_higher at higher records up =
     filter_from at (is_from higher) records (passes_each at (is_from higher) records (λ entry is. let above = leb-true _ _ is in omega (arith, up, above)))
 
--- and are the same
+-- and are the same by the hold's container too
 pub same_from : (at : ℕ) (s u : State) → IsSameFrom at s u → IsSame s u
 same_from at s u is =
     let holds = hold_from at s u is in

@@ -20,7 +20,8 @@ ReopensBy broken told s happened reply t = MatchBool broken (IsBroken s reply t)
 
 -- what was read of one may be read of the other
 read_alike : (told : Bool) (s u t : State) → IsValid s → IsValid u → IsSame s u
-    → MatchBool told ((flushed t ≡ flushed s) × IsSame (cut s) t) (IsOpenedAnew s t) → MatchBool told ((flushed t ≡ flushed u) × IsSame (cut u) t) (IsOpenedAnew u t)
+    → MatchBool told ((flushed t ≡ flushed s) × IsSame (cut s) t) (IsOpenedAnew s t)
+    → MatchBool told ((flushed t ≡ flushed u) × IsSame (cut u) t) (IsOpenedAnew u t)
 read_alike true s u t valid valid_u same read =
     let same_flushed : flushed u ≡ flushed s = ap flushed same.others in
     (read.0 ∙ sym same_flushed, same_through (cut u) (cut s) t (same_turned (cut s) (cut u) (same_cut s u valid valid_u same)) read.1)
@@ -28,7 +29,8 @@ read_alike false s u t valid valid_u same read =
     let same_buffers : u.buffers ≡ s.buffers = ap (λ (x : State). x.buffers) same.others in
     (read.0, (read.1.0, (read.1.1.0 ∙ sym same_buffers, read.1.1.1)))
 
-reopened_alike : (told : Bool) (s u : State) (reply : Reply) (t : State) → IsValid s → IsValid u → IsSame s u → IsReopened told s reply t → IsReopened told u reply t
+reopened_alike : (told : Bool) (s u : State) (reply : Reply) (t : State) → IsValid s → IsValid u → IsSame s u → IsReopened told s reply t
+    → IsReopened told u reply t
 reopened_alike told s u reply t valid valid_u same is = record {
   flushed_part = is.flushed_part;
   valid = is.valid;
@@ -40,7 +42,9 @@ reopened_alike told s u reply t valid valid_u same is = record {
 same_as : (s t u : State) → t ≡ s → IsSame s u → IsSame t u
 same_as s t u is same = let F : State → Type 0 = λ x. IsSame x u in subst F (sym is) same
 
-reopens_alike : (told : Bool) (s u : State) (happened : Happened) (reply : Reply) (t : State) → IsValid s → IsValid u → IsSame s u → Reopens told s happened reply t
+-- whatever happens there
+reopens_alike : (told : Bool) (s u : State) (happened : Happened) (reply : Reply) (t : State) → IsValid s → IsValid u → IsSame s u
+    → Reopens told s happened reply t
     → (v : State) × (Reopens told u happened reply v × IsSame t v)
 reopens_alike told s u Fine reply t valid valid_u same is = (t, (reopened_alike told s u reply t valid valid_u same is, same_itself t))
 reopens_alike told s u Fault reply t valid valid_u same is =
@@ -74,6 +78,7 @@ request_alike told s u (asks client call) happened reply t valid valid_u same st
 request_alike told s u (reopens client) happened reply t valid valid_u same step = reopening_alike told s u happened reply t valid valid_u same step
 request_alike told s u (bad_line at) happened reply t valid valid_u same step = (u, ((step.0, refl), same_as s t u step.1 same))
 
+-- it leaves a valid state
 request_valid : (told : Bool) (s : State) (request : Request) (happened : Happened) (reply : Reply) (t : State) → IsValid s
     → RequestStep told s request happened reply t → IsValid t
 request_valid told s (asks client call) happened reply t valid step = valid_step told s client call happened reply t valid step

@@ -106,7 +106,8 @@ reply_as told stable other answered given reply same_stable same is =
     subst G (sym same) (subst F (sym same_stable) is)
 
 -- a call that is answered
-answered_alike : (told : Bool) (s u : State) (client : ℕ) (call : Call) (reply : Reply) (t : State) → IsValid s → IsValid u → IsSame s u → u.broken ≡ false
+answered_alike : (told : Bool) (s u : State) (client : ℕ) (call : Call) (reply : Reply) (t : State) → IsValid s → IsValid u → IsSame s u
+    → u.broken ≡ false
     → Step told s client call Fine reply t → refusal s client call ≡ None → Comes told (flushed s) (answer s client call) reply t
     → StepsAlike told u client call Fine reply t
 answered_alike told s u client call reply t valid valid_u same whole step none comes =
@@ -128,7 +129,9 @@ answered_alike told s u client call reply t valid valid_u same whole step none c
       ),
     )
 
-fine_alike : (told : Bool) (s u : State) (client : ℕ) (call : Call) (reply : Reply) (t : State) (first : Option Refusal) → IsValid s → IsValid u → IsSame s u
+-- a call where nothing happens
+fine_alike : (told : Bool) (s u : State) (client : ℕ) (call : Call) (reply : Reply) (t : State) (first : Option Refusal) → IsValid s → IsValid u
+    → IsSame s u
     → u.broken ≡ false → Step told s client call Fine reply t → refusal s client call ≡ first
     → MatchOption first (Comes told (flushed s) (answer s client call) reply t) (λ r. (reply ≡ replies.Refused r) × (t ≡ s))
     → StepsAlike told u client call Fine reply t
@@ -140,7 +143,8 @@ fine_alike told s u client call reply t (Some first) valid valid_u same whole st
     (to_whole told u client call Fine reply u whole (inr (to_option (refusal u client call) (Some first) _ _ refused (comes.0, refl))))
 
 -- a step that isn't stopped by want of memory
-goes_alike : (told : Bool) (s u : State) (client : ℕ) (call : Call) (happened : Happened) (reply : Reply) (t : State) → IsValid s → IsValid u → IsSame s u
+goes_alike : (told : Bool) (s u : State) (client : ℕ) (call : Call) (happened : Happened) (reply : Reply) (t : State) → IsValid s → IsValid u
+    → IsSame s u
     → u.broken ≡ false → Step told s client call happened reply t → Goes told s client call happened reply t
     → StepsAlike told u client call happened reply t
 goes_alike told s u client call Fine reply t valid valid_u same whole step goes =

@@ -41,7 +41,7 @@ pub fn sameness()
 {}
 
 /// The container of the hold never falls: in a step from a valid state, where a valid log is opened anew over a disk that tells what
-/// it holds, and along a legal journal. So a record in a container below the hold's is never needed again.
+/// it holds, and along a legal journal. So a record in a container below the hold's stays below it.
 pub fn the_holds_container_never_falls()
     ensures step { (told : Bool) (s : State) (client : ℕ) (call : Call) (happened : Happened) (reply : Reply) (t : State)
         → IsValid s → Step told s client call happened reply t → container_of (hold s) ≤ container_of (hold t) }
