@@ -48,6 +48,16 @@ pub mod FallingLists
 pub mod CursorGives
 pub mod ReadCalls
 pub mod OutcomeCases
+pub mod HoldRises
+pub mod HoldRuns
+pub mod SameRecords
+pub mod SameReading
+pub mod SameExtents
+pub mod AlikeRefusals
+pub mod AlikeAnswers
+pub mod Equivalence
+pub mod SameSteps
+pub mod SameRuns
 pub mod StepLeads
 pub mod RecordsOfCalls
 pub mod SurvivingRecords

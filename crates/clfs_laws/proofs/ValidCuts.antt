@@ -92,7 +92,7 @@ kept_below bound (entry ∷ entries) = elim (cases_Bool (nat_lt entry.lsn bound)
   | inr above ↦ rw above (kept_below bound entries)
 ]
 
-kept_live : (s : State) (p : LogEntry → Bool) (entries : List LogEntry) → AllByRecursion (λ (entry : LogEntry). is_live s entry ≡ true → hold s ≤ entry.lsn) entries
+pub kept_live : (s : State) (p : LogEntry → Bool) (entries : List LogEntry) → AllByRecursion (λ (entry : LogEntry). is_live s entry ≡ true → hold s ≤ entry.lsn) entries
     → AllByRecursion (λ (entry : LogEntry). is_live s entry ≡ true → hold s ≤ entry.lsn) (filter p entries)
 kept_live s p [] all = tt
 kept_live s p (entry ∷ entries) all = elim (cases_Bool (p entry)) [
