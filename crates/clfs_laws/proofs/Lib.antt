@@ -46,3 +46,6 @@ pub mod StepLeads
 pub mod RecordsOfCalls
 pub mod SurvivingRecords
 pub mod SurvivorCuts
+pub mod BlockOrder
+pub mod StorableBlocks
+pub mod StorableBases

@@ -54,7 +54,7 @@ flush_if_records : (asked : Bool) (s : State) → (flush_if asked s).records ≡
 flush_if_records true s = seal_records s
 flush_if_records false s = refl
 
-flushed_to_records : (s : State) (lsn : ℕ) → (flushed_to s lsn).records ≡ s.records
+pub flushed_to_records : (s : State) (lsn : ℕ) → (flushed_to s lsn).records ≡ s.records
 flushed_to_records s lsn = elim (cases_Bool (nat_lt lsn (flushed s))) [ inl below ↦ rw below refl | inr above ↦ rw above (seal_records s) ]
 
 spend_records : (area : Area) (is_reserved : Bool) (n : ℕ) (sizes : List ℕ) (s : State)
@@ -71,7 +71,7 @@ placed_record s entry = record entry { lsn = next_lsn s (length entry.bytes) }
 put_records : (s : State) (need : ℕ) (entry : LogEntry) → (put (grown s need) entry).records ≡ s.records ++ placed_record s entry ∷ []
 put_records s need entry = ap (λ (g : State). (put g entry).records) (grown_is s need)
 
-appended_records : (s : State) (area : Area) (draft : Draft) (is_reserved : Bool) (sizes : List ℕ)
+pub appended_records : (s : State) (area : Area) (draft : Draft) (is_reserved : Bool) (sizes : List ℕ)
     → (appended s area draft is_reserved sizes).records ≡ s.records ++ placed_record s (plain_record area draft) ∷ []
 appended_records s area draft is_reserved sizes =
     let n = length draft.bytes in
@@ -83,7 +83,7 @@ appended_records s area draft is_reserved sizes =
 rebased_records : (stream base : ℕ) (s : State) → (rebased stream base s).records ≡ s.records
 rebased_records stream base s = elim (cases_Bool (base == 0)) [ inl none ↦ rw none refl | inr some ↦ rw some refl ]
 
-restarted_records : (s : State) (area : Area) (bytes : List ℕ) (base : ℕ) (is_reserved : Bool)
+pub restarted_records : (s : State) (area : Area) (bytes : List ℕ) (base : ℕ) (is_reserved : Bool)
     → (restarted s area bytes base is_reserved).records ≡ s.records ++ placed_record s (restart_record s area bytes base) ∷ []
 restarted_records s area bytes base is_reserved =
     let n = length bytes in

@@ -99,7 +99,7 @@ valid_needing s streams archive valid has =
     }
 
 -- the base at a place of a list
-abbrev base_at : List Stream → ℕ → ℕ
+abbrev pub base_at : List Stream → ℕ → ℕ
 base_at streams k = option_map_or (λ (stream : Stream). stream.base) (slice_get streams k) null_lsn
 
 set_length : (number lsn : ℕ) (streams : List Stream) → length (set_base number lsn streams) ≡ length streams
@@ -143,7 +143,7 @@ not_first : (number : ℕ) → (number == 1) ≡ false → 1 ≤ number → (num
 not_first number other some = let differs = eqb-false number 1 other in (omega (arith, differs, some), omega (arith, differs, some))
 
 -- a base that is set to a later one
-set_higher : (number lsn : ℕ) (streams : List Stream) (k : ℕ) → 1 ≤ number → base_at streams (number - 1) ≤ lsn → base_at streams k ≤ base_at (set_base number lsn streams) k
+pub set_higher : (number lsn : ℕ) (streams : List Stream) (k : ℕ) → 1 ≤ number → base_at streams (number - 1) ≤ lsn → base_at streams k ≤ base_at (set_base number lsn streams) k
 set_higher number lsn [] k some rises = omega arith
 set_higher number lsn (stream ∷ streams) zero some rises = elim (cases_Bool (number == 1)) [
   | inl here ↦
@@ -168,14 +168,14 @@ there_of s t number kept some = elim (cases_Bool (number == 0)) [
   | inr has ↦ rw has (kept (rw has at some))
 ]
 
-higher_of : (s t : State) (number : ℕ) → base_at s.streams (number - 1) ≤ base_at t.streams (number - 1) → base_of s number ≤ base_of t number
+pub higher_of : (s t : State) (number : ℕ) → base_at s.streams (number - 1) ≤ base_at t.streams (number - 1) → base_of s number ≤ base_of t number
 higher_of s t number rises = elim (cases_Bool (number == 0)) [
   | inl none ↦ rw none (omega arith)
   | inr has ↦ rw has rises
 ]
 
 -- the base of a stream that is there
-based_at : (s : State) (number : ℕ) → IsSome (stream_at s number) → (1 ≤ number) × (base_of s number ≡ base_at s.streams (number - 1))
+pub based_at : (s : State) (number : ℕ) → IsSome (stream_at s number) → (1 ≤ number) × (base_of s number ≡ base_at s.streams (number - 1))
 based_at s number some = elim (cases_Bool (number == 0)) [
   | inl none ↦ absurd (let gone = rw none at some in cc)
   | inr has ↦ (omega (arith, eqb-false number 0 has), rw has refl)

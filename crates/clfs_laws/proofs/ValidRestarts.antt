@@ -67,7 +67,7 @@ put_by_streams true beginning s entry = refl
 put_by_streams false true s entry = flush_streams s
 put_by_streams false false s entry = flush_streams s
 
-put_streams : (s : State) (entry : LogEntry) → (put s entry).streams ≡ s.streams
+pub put_streams : (s : State) (entry : LogEntry) → (put s entry).streams ≡ s.streams
 put_streams s entry = put_by_streams (joins s.shape s.place (length entry.bytes)) (begins_here s.shape s.place (length entry.bytes)) s entry
 
 spend_streams : (is_reserved : Bool) (area : Area) (n : ℕ) (s : State) → (spend_if is_reserved area n s).streams ≡ s.streams
