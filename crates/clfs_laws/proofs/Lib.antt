@@ -49,3 +49,4 @@ pub mod SurvivorCuts
 pub mod BlockOrder
 pub mod StorableBlocks
 pub mod StorableBases
+pub mod StorableCursors

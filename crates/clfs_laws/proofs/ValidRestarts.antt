@@ -79,7 +79,7 @@ spend_place false area n s = refl
 spend_place true area n s = refl
 
 -- what holds of all holds of all in the other order
-all_turned : {A : Type 0} (P : A → Type 0) (xs : List A) → AllByRecursion P xs → AllByRecursion P (reverse xs)
+pub all_turned : {A : Type 0} (P : A → Type 0) (xs : List A) → AllByRecursion P xs → AllByRecursion P (reverse xs)
 all_turned {A} P [] all = tt
 all_turned {A} P (x ∷ xs) all =
     let F : List A → Type 0 = AllByRecursion P in
