@@ -50,3 +50,5 @@ pub mod BlockOrder
 pub mod StorableBlocks
 pub mod StorableBases
 pub mod StorableCursors
+pub mod StorableLimits
+pub mod StorableAreas
