@@ -52,3 +52,4 @@ pub mod StorableBases
 pub mod StorableCursors
 pub mod StorableLimits
 pub mod StorableAreas
+pub mod StorableSteps
