@@ -53,3 +53,5 @@ pub mod StorableCursors
 pub mod StorableLimits
 pub mod StorableAreas
 pub mod StorableSteps
+pub mod StorableCuts
+pub mod StorableRuns
