@@ -1,6 +1,6 @@
 -- The new bases of records stay where their streams' bases are, or further.
 use Rattle.std.proofs.Common.{◌≡◌, ℕ, zero, suc, ◌-◌, ◌≤◌, Bool, true, false, refl, sym, ap, ◌∙◌, subst, inl, inr, arith, List, [], ◌∷◌, ◌++◌, length}
-use Rattle.std.specs.Prelude.{Option, Some, None, All, IsSome, slice_get, nat_lt, not, ◌==◌, if◌then◌else◌}
+use Rattle.std.specs.Prelude.{Option, Some, None, All, IsSome, slice_get, not, ◌==◌, if◌then◌else◌}
 use Rattle.std.specs.Option.{option_map_or}
 use Rattle.std.proofs.lemmas.Bool.{cases_Bool, eqb-true, eqb-false}
 use Rattle.std.proofs.lemmas.List.Elements.{All-weaker, All-push}
@@ -14,7 +14,7 @@ use Rattle.clfs_model.specs.declared.state.Stream.{Stream}
 use Rattle.clfs_model.specs.State.{stream_at, base_of, area_of, set_base}
 use Rattle.clfs_model.specs.Live.{last_live}
 use Rattle.clfs_model.specs.Space.{grown}
-use Rattle.clfs_model.specs.Flush.{seal, flush}
+use Rattle.clfs_model.specs.Flush.{flush}
 use Rattle.clfs_model.specs.Put.{next_lsn, put, need_of, spend_if, hold_sizes, seal_if, flush_if, plain_record, appended}
 use Rattle.clfs_model.specs.Refusals.{is_base, invalid_base, restart_refusal}
 use Rattle.clfs_model.specs.Answers.{restart_record, restarted, rebased, advanced}

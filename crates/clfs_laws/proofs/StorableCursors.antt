@@ -1,6 +1,6 @@
 -- A cursor's last record is there, in its area's stream, and of the kind that the cursor goes over.
-use Rattle.std.proofs.Common.{◌≡◌, ℕ, zero, suc, ◌+◌, ◌<◌, ◌≤◌, Bool, true, false, refl, sym, ap, ◌∙◌, subst, inl, inr, ◌⊎◌, arith, List, [], ◌∷◌, ◌++◌, length}
-use Rattle.std.specs.Prelude.{Option, Some, None, find, filter, map, reverse, slice_get, AllPairs, ◌≢◌, nat_lt, ◌==◌, ◌&&◌, if◌then◌else◌}
+use Rattle.std.proofs.Common.{◌≡◌, ℕ, suc, ◌<◌, ◌≤◌, Bool, true, refl, sym, ap, ◌∙◌, subst, inl, inr, arith, List, [], ◌∷◌, ◌++◌}
+use Rattle.std.specs.Prelude.{Option, Some, None, find, filter, map, AllPairs, ◌≢◌, nat_lt, ◌==◌, ◌&&◌}
 use Rattle.std.specs.List.{AllByRecursion}
 use Rattle.std.specs.Option.{option_or, option_and_then}
 use Rattle.std.proofs.lemmas.Bool.{cases_Bool, eqb-true, eq-eqb, ne_eqb, and_parts}
@@ -17,7 +17,7 @@ use Rattle.clfs_model.specs.declared.state.Cursor.{Cursor}
 use Rattle.clfs_model.specs.declared.state.CursorKind.{CursorKind}
 use Rattle.clfs_model.specs.declared.state.CursorKind.TheVariants.{Records, RestartAreas}
 use Rattle.clfs_model.specs.Live.{is_live, live, live_at}
-use Rattle.clfs_model.specs.Reading.{entry_at, next, is_restart, restart_areas, newest_restart, restart_below, next_of_cursor}
+use Rattle.clfs_model.specs.Reading.{entry_at, next, is_restart, restart_areas, newest_restart, next_of_cursor}
 use Rattle.clfs_model.specs.Storable.{IsOfCursor, IsCursor}
 use Rattle.clfs_model.specs.Valid.{IsValid}
 use Rattle.clfs_laws.proofs.Among.{IsAmong, found, each_among, among_recursion}

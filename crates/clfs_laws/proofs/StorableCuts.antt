@@ -1,17 +1,16 @@
 -- Files can hold the fresh state, and the flushed part of a state that they can hold.
-use Rattle.std.proofs.Common.{◌≡◌, ℕ, ◌+◌, ◌*◌, ◌%◌, ◌<◌, ◌≤◌, Bool, true, false, refl, sym, ap, ◌∙◌, subst, inl, inr, ◌⊎◌, arith, List, [], ◌∷◌, ◌++◌, length}
-use Rattle.std.specs.Prelude.{Option, Some, None, All, IsSome, find, filter, nat_lt, ◌==◌}
+use Rattle.std.proofs.Common.{◌≡◌, ℕ, ◌%◌, ◌<◌, ◌≤◌, Bool, refl, sym, ap, ◌∙◌, subst, inl, inr, ◌⊎◌, arith, List, [], ◌∷◌, ◌++◌}
+use Rattle.std.specs.Prelude.{Option, Some, None, All, IsSome, nat_lt, ◌==◌}
 use Rattle.std.specs.List.{AllByRecursion}
 use Rattle.std.proofs.lemmas.Bool.{cases_Bool, lt-ltb, le-ltb, ltb-true, ltb-false, eqb-true}
-use Rattle.std.proofs.lemmas.List.Elements.{All-weaker, All-filter, All-from_recursion}
-use Rattle.clfs_lsn.specs.Lsn.{lsn_number, container_of, offset_of, sequence_of}
+use Rattle.std.proofs.lemmas.List.Elements.{All-filter, All-from_recursion}
+use Rattle.clfs_lsn.specs.Lsn.{container_of, offset_of, sequence_of}
 use Rattle.clfs_lsn.specs.Size.{IsShape}
 use Rattle.clfs_lsn.specs.Place.{IsWithin, IsClosed, IsOpen, sealed, frontier, block_end}
 use Rattle.clfs_lsn.specs.declared.place.Place.{Place}
 use Rattle.clfs_lsn.specs.declared.shape.Shape.{Shape}
 use Rattle.clfs_lsn.specs.declared.entry.LogEntry.{LogEntry}
 use Rattle.clfs_model.specs.declared.state.State.{State}
-use Rattle.clfs_model.specs.declared.state.Area.{Area}
 use Rattle.clfs_model.specs.declared.state.Stream.{Stream}
 use Rattle.clfs_model.specs.State.{fresh}
 use Rattle.clfs_model.specs.Flush.{block_start, first_or, flushed, cut}
@@ -22,7 +21,7 @@ use Rattle.clfs_model.specs.Valid.{IsValid, IsWaiting}
 use Rattle.clfs_laws.proofs.Among.{IsAmong, found, among_recursion}
 use Rattle.clfs_laws.proofs.BlockOrder.{laid_front, laid_rest}
 use Rattle.clfs_laws.proofs.FallingLists.{Rises, rises, below_lsn, all_below}
-use Rattle.clfs_laws.proofs.LsnOrder.{small_offset, few_records, closed_end}
+use Rattle.clfs_laws.proofs.LsnOrder.{small_offset, few_records}
 use Rattle.clfs_laws.proofs.Links as of_links
 use Rattle.clfs_laws.proofs.StorableBases.{bases_kept}
 use Rattle.clfs_laws.proofs.SurvivingRecords.{none_below}
@@ -105,9 +104,11 @@ begins_there last first low begins (inr (inl at)) =
     inr (inl (same_places (record { container = container_of first.lsn; offset = offset_of first.lsn; used = 0; records = 0 }) (sealed last)
     (omega (arith, at, low.end)) (omega (arith, at, low.end)) refl refl))
 begins_there last first low begins (inr (inr further)) =
-    inr (inr (further.0,
-    same_places (record { container = container_of first.lsn; offset = offset_of first.lsn; used = 0; records = 0 })
-    (record { container = container_of first.lsn; offset = 0; used = 0; records = 0 }) refl (omega (arith, further.1)) refl refl))
+    inr (inr (
+      further.0,
+      same_places (record { container = container_of first.lsn; offset = offset_of first.lsn; used = 0; records = 0 })
+          (record { container = container_of first.lsn; offset = 0; used = 0; records = 0 }) refl (omega (arith, further.1)) refl refl,
+    ))
 
 some_of : {A : Type 0} (found : Option A) → IsSome found → (x : A) × (found ≡ Some x)
 some_of None some = absurd (cc)

@@ -1,39 +1,28 @@
 -- Streams, areas and cursors stay within their limits.
-use Rattle.std.proofs.Common.{◌≡◌, ℕ, zero, suc, ◌+◌, ◌-◌, ◌<◌, ◌≤◌, Bool, true, false, refl, sym, ap, ◌∙◌, subst, inl, inr, arith, List, [], ◌∷◌, ◌++◌, length, length-append}
-use Rattle.std.specs.Prelude.{Option, Some, None, All, find, filter, map, not, nat_lt, nat_le, is_none, ◌==◌, ◌&&◌, unwrap_or}
-use Rattle.std.specs.List.{AllByRecursion, range_with_len}
-use Rattle.std.specs.Option.{option_map_or, option_and_then}
-use Rattle.std.proofs.lemmas.Bool.{cases_Bool, ltb-false, leb-false}
-use Rattle.std.proofs.lemmas.List.{append-nil, length-map}
-use Rattle.std.proofs.lemmas.List.Elements.{All-weaker, All-push, All-filter, All-from_recursion, recursion_from_All, filter-append}
+use Rattle.std.proofs.Common.{◌≡◌, ℕ, suc, ◌-◌, Bool, true, false, refl, sym, ap, ◌∙◌, subst, inl, inr, arith, List, [], ◌∷◌, ◌++◌, length}
+use Rattle.std.specs.Prelude.{Some, None, All, find, filter, nat_lt, ◌==◌}
+use Rattle.std.specs.List.{AllByRecursion}
+use Rattle.std.proofs.lemmas.Bool.{cases_Bool}
+use Rattle.std.proofs.lemmas.List.{append-nil}
+use Rattle.std.proofs.lemmas.List.Elements.{All-weaker, All-from_recursion, recursion_from_All}
 use Rattle.clfs_lsn.specs.Lsn.{null_lsn}
-use Rattle.clfs_lsn.specs.Size.{longest}
 use Rattle.clfs_lsn.specs.declared.entry.LogEntry.{LogEntry}
 use Rattle.clfs_model.specs.declared.call.Draft.{Draft}
-use Rattle.clfs_model.specs.declared.refusal.Refusal.{Refusal}
-use Rattle.clfs_model.specs.declared.refusal.Refusal.TheVariants as refusals
-use Rattle.clfs_model.specs.declared.reply.Reply.TheVariants as replies
 use Rattle.clfs_model.specs.declared.state.State.{State}
 use Rattle.clfs_model.specs.declared.state.Area.{Area}
 use Rattle.clfs_model.specs.declared.state.Cursor.{Cursor}
-use Rattle.clfs_model.specs.declared.state.CursorKind.{CursorKind}
 use Rattle.clfs_model.specs.declared.state.Stream.{Stream}
 use Rattle.clfs_model.specs.Conditions.{IsClient}
-use Rattle.clfs_model.specs.State.{stream_at, is_area, area_of, areas_of, change_first, change_area, set_base, least_unused}
+use Rattle.clfs_model.specs.State.{is_area, areas_of, change_first, change_area, set_base}
 use Rattle.clfs_model.specs.Space.{own_sum, with_containers, grown}
 use Rattle.clfs_model.specs.Flush.{flushed, seal, flush}
 use Rattle.clfs_model.specs.Put.{put, need_of, with_less_held, with_more_held, spend_if, hold_sizes, seal_if, flush_if, plain_record, appended}
-use Rattle.clfs_model.specs.Reading.{next_of_cursor, unused_cursor, with_cursor, with_cursor_at, without_cursor}
-use Rattle.clfs_model.specs.Refusals.{name_fault, stream_number, open_refusal, create_refusal, refused_if, too_long, too_many_cursors}
-use Rattle.clfs_model.specs.Answers.{outcome, opened, new_area, found_with_cursor, flushed_to, restart_record, restarted, rebased, advanced}
+use Rattle.clfs_model.specs.Refusals.{name_fault}
+use Rattle.clfs_model.specs.Answers.{flushed_to, restart_record, restarted, rebased, advanced}
 use Rattle.clfs_model.specs.Storable.{IsCursor, IsAreaWithinLimits, IsWithinLimits}
-use Rattle.clfs_model.specs.Valid.{IsValid, IsArea}
-use Rattle.clfs_laws.proofs.Among.{IsAmong, found}
-use Rattle.clfs_laws.proofs.NotRefused.{passed, passed_option, passed_long}
 use Rattle.clfs_laws.proofs.RecordsOfCalls.{seal_records}
 use Rattle.clfs_laws.proofs.RowSteps.{put_areas, seal_areas}
-use Rattle.clfs_laws.proofs.StorableCursors.{IsRead, cursor_at_read, cursor_kept, cursors_moved, read_on_by}
-use Rattle.clfs_laws.proofs.ValidAreaCalls.{none_of_option, its_area}
+use Rattle.clfs_laws.proofs.StorableCursors.{cursor_kept}
 use Rattle.clfs_laws.proofs.ValidBases.{set_length, flush_streams}
 use Rattle.clfs_laws.proofs.ValidRestarts.{put_streams}
 use Rattle.clfs_laws.proofs.ValidSettings.{grown_is}

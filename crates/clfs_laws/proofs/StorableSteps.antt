@@ -1,9 +1,8 @@
 -- Every step keeps a state such that files can hold it.
-use Rattle.std.proofs.Common.{◌≡◌, ℕ, ◌+◌, Bool, true, false, refl, sym, ap, ◌∙◌, subst, inl, inr, List, [], ◌∷◌, ◌++◌, length}
+use Rattle.std.proofs.Common.{◌≡◌, ℕ, ◌+◌, Bool, true, false, refl, sym, subst, inl, inr, List, [], ◌∷◌, ◌++◌, length}
 use Rattle.std.specs.Prelude.{Option, Some, None, not, is_none, nat_lt}
 use Rattle.std.specs.Option.{option_map_or}
 use Rattle.std.proofs.lemmas.Bool.{cases_Bool}
-use Rattle.std.proofs.lemmas.List.{append-nil}
 use Rattle.clfs_lsn.specs.Lsn.{null_lsn}
 use Rattle.clfs_lsn.specs.declared.entry.LogEntry.{LogEntry}
 use Rattle.clfs_lsn.specs.declared.policy.Policy.{Policy}
@@ -30,20 +29,19 @@ use Rattle.clfs_model.specs.Flush.{flushed, flush}
 use Rattle.clfs_model.specs.Put.{next_lsn, appended, hold_sizes}
 use Rattle.clfs_model.specs.Policies.{with_policy, without_policy}
 use Rattle.clfs_model.specs.Reading.{newest_restart, record_cursor, restart_cursor, with_cursor_at}
-use Rattle.clfs_model.specs.Refusals.{refusal, in_area, too_long, full, short, stream_number, open_refusal, append_refusal, restart_refusal, invalid_base, read_refusal, next_refusal, too_many_cursors, refused_if}
-use Rattle.clfs_model.specs.Answers.{Outcome, outcome, answer, opened, archiving, found_with_cursor, read_at, read_newest_restart, moved_on, reserved_for, released, advanced, restarted, flushed_to}
+use Rattle.clfs_model.specs.Refusals.{refusal, in_area, too_long, full, short, stream_number, append_refusal, restart_refusal, invalid_base, read_refusal, next_refusal, too_many_cursors, refused_if}
+use Rattle.clfs_model.specs.Answers.{Outcome, outcome, answer, archiving, found_with_cursor, read_at, read_newest_restart, moved_on, reserved_for, released, advanced, restarted, flushed_to}
 use Rattle.clfs_model.specs.Step.{Step, with_broken}
-use Rattle.clfs_model.specs.Storable.{HasBlocks, HasMovedBase, IsWithinLimits, IsStorable}
+use Rattle.clfs_model.specs.Storable.{IsWithinLimits, IsStorable}
 use Rattle.clfs_model.specs.Valid.{IsValid}
 use Rattle.clfs_laws.proofs.NotRefused.{passed}
-use Rattle.clfs_laws.proofs.OutcomeCases.{of_option}
 use Rattle.clfs_laws.proofs.RecordsOfCalls.{seal_records, flushed_to_records}
 use Rattle.clfs_laws.proofs.StepLeads.{step_leads}
 use Rattle.clfs_laws.proofs.StorableCursors.{IsRead, read_live, read_newest}
 use Rattle.clfs_laws.proofs.StorableAreas.{limits_opened, limits_created, limits_deleted, limits_found_with, limits_moved, limits_moved_back, limits_ended}
 use Rattle.clfs_laws.proofs.StorableBases.{BasesRise, bases_as, same_bases, bases_of_more, bases_appended, bases_restarted, bases_advanced}
 use Rattle.clfs_laws.proofs.StorableBlocks.{blocks_as, blocks_flush, blocks_flushed_to, blocks_appended, blocks_restarted}
-use Rattle.clfs_laws.proofs.StorableLimits.{limits_same, limits_released, limits_hold, limits_grown, limits_flush, limits_flushed_to, limits_appended, limits_restarted, limits_advanced}
+use Rattle.clfs_laws.proofs.StorableLimits.{limits_same, limits_released, limits_hold, limits_flush, limits_flushed_to, limits_appended, limits_restarted, limits_advanced}
 use Rattle.clfs_laws.proofs.ValidAreaCalls.{its_area}
 use Rattle.clfs_laws.proofs.ValidBases.{flush_streams}
 use Rattle.clfs_laws.proofs.ValidSettings.{grown_is}
