@@ -55,3 +55,4 @@ pub mod StorableAreas
 pub mod StorableSteps
 pub mod StorableCuts
 pub mod StorableRuns
+pub mod BlockSums

@@ -42,7 +42,7 @@ all_kept p P (x ∷ xs) all = elim (cases_Bool (p x)) [
   | inr fails ↦ rw fails (all_kept p P xs all.1)
 ]
 
-all_behind : {A : Type 0} (P : A → Type 0) (xs ys : List A) → AllByRecursion P xs → AllByRecursion P ys → AllByRecursion P (xs ++ ys)
+pub all_behind : {A : Type 0} (P : A → Type 0) (xs ys : List A) → AllByRecursion P xs → AllByRecursion P ys → AllByRecursion P (xs ++ ys)
 all_behind P [] ys first second = second
 all_behind P (x ∷ xs) ys first second = (first.0, all_behind P xs ys first.1 second)
 
