@@ -1,6 +1,6 @@
 -- A call without room that no other test refuses is refused for space, and one whose area holds too little for that.
 use Rattle.std.proofs.Common.{◌≡◌, ℕ, Bool, true, false, refl, ap, ◌∙◌, List, [], ◌∷◌, length}
-use Rattle.std.specs.Prelude.{Option, Some, None, not, ◌==◌, ◌||◌, if◌then◌else◌, nat_lt, find}
+use Rattle.std.specs.Prelude.{Option, Some, None, not, ◌==◌, ◌||◌, if◌then◌else◌, nat_lt}
 use Rattle.std.specs.Option.{option_map_or}
 use Rattle.clfs_lsn.specs.Lsn.{null_lsn}
 use Rattle.clfs_model.specs.declared.call.Call.TheVariants as calls

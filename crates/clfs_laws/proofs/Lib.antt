@@ -62,3 +62,13 @@ pub mod StepLeads
 pub mod RecordsOfCalls
 pub mod SurvivingRecords
 pub mod SurvivorCuts
+pub mod BlockOrder
+pub mod StorableBlocks
+pub mod StorableBases
+pub mod StorableCursors
+pub mod StorableLimits
+pub mod StorableAreas
+pub mod StorableSteps
+pub mod StorableCuts
+pub mod StorableRuns
+pub mod BlockSums

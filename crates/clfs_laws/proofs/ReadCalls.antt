@@ -124,7 +124,7 @@ next_by : (s : State) (area : Area) (number last : ℕ) (kind : CursorKind)
 next_by s area number last (Records mode) = refl
 next_by s area number last RestartAreas = refl
 
-next_is : (s : State) (area : Area) (at : Cursor) (kind : CursorKind) → at.kind ≡ kind → next_of_cursor s area at ≡ next_of_kind s area.stream kind at.last
+pub next_is : (s : State) (area : Area) (at : Cursor) (kind : CursorKind) → at.kind ≡ kind → next_of_cursor s area at ≡ next_of_kind s area.stream kind at.last
 next_is s area at kind same = next_by s area at.number at.last at.kind ∙ ap (λ (k : CursorKind). next_of_kind s area.stream k at.last) same
 
 -- A call that reads on with a cursor: where the cursor comes to a record, the reply is that and the cursor moves there.

@@ -31,7 +31,7 @@ use Rattle.clfs_laws.proofs.SurvivingRecords.{new_above, none_below}
 abbrev place_of : ℕ → ℕ → ℕ → ℕ → Place
 place_of container offset used records = record { container = container; offset = offset; used = used; records = records }
 
-same_places : (a b : Place) → a.container ≡ b.container → a.offset ≡ b.offset → a.used ≡ b.used → a.records ≡ b.records → a ≡ b
+pub same_places : (a b : Place) → a.container ≡ b.container → a.offset ≡ b.offset → a.used ≡ b.used → a.records ≡ b.records → a ≡ b
 same_places a b container offset used records =
     let same : place_of a.container a.offset a.used a.records ≡ place_of b.container b.offset b.used b.records = cc in same
 

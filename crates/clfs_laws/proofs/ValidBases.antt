@@ -99,10 +99,10 @@ valid_needing s streams archive valid has =
     }
 
 -- the base at a place of a list
-abbrev base_at : List Stream → ℕ → ℕ
+abbrev pub base_at : List Stream → ℕ → ℕ
 base_at streams k = option_map_or (λ (stream : Stream). stream.base) (slice_get streams k) null_lsn
 
-set_length : (number lsn : ℕ) (streams : List Stream) → length (set_base number lsn streams) ≡ length streams
+pub set_length : (number lsn : ℕ) (streams : List Stream) → length (set_base number lsn streams) ≡ length streams
 set_length number lsn [] = refl
 set_length number lsn (stream ∷ streams) = elim (cases_Bool (number == 1)) [
   | inl here ↦ rw here refl
@@ -242,7 +242,7 @@ of_live s stream (entry ∷ entries) all = (
   of_live s stream entries all.1,
 )
 
-passing : {A : Type 0} (p : A → Bool) (P : A → Type 0) (xs : List A) → AllByRecursion (λ x. p x ≡ true → P x) xs → AllByRecursion P (filter p xs)
+pub passing : {A : Type 0} (p : A → Bool) (P : A → Type 0) (xs : List A) → AllByRecursion (λ x. p x ≡ true → P x) xs → AllByRecursion P (filter p xs)
 passing p P [] all = tt
 passing p P (x ∷ xs) all = elim (cases_Bool (p x)) [
   | inl passes ↦ rw passes (all.0 passes, passing p P xs all.1)

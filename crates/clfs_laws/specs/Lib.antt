@@ -5,3 +5,4 @@ pub mod Chains
 pub mod Rows
 pub mod Cursors
 pub mod Stable
+pub mod Meets

@@ -10,6 +10,7 @@ mod runs;
 mod same;
 mod space;
 mod steps;
+mod storable;
 mod survivors;
 mod validity;
 
@@ -26,5 +27,6 @@ pub use steps::{
     a_flush_goes_past_its_lsn, quiet_calls_leave_the_cut, reads_find_records,
     refusals_are_the_calls_own, steps_only_add_records,
 };
+pub use storable::{first_states_are_storable, steps_keep_a_state_storable};
 pub use survivors::{quiet_calls_survive_as_the_cut, survivors_keep_what_was_flushed};
 pub use validity::{first_states_are_valid, steps_keep_a_state_valid};
