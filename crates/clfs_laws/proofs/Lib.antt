@@ -3,6 +3,7 @@ pub mod CallRefusals
 pub mod OwnAnswers
 pub mod Replies
 pub mod Quiet
+pub mod CutSteps
 pub mod RoomOfSteps
 pub mod RunParts
 pub mod FoundRecords

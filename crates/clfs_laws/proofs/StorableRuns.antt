@@ -58,7 +58,7 @@ pub record IsKept (t : State) : Type 0 where
   pub valid : IsValid t
   pub storable : IsStorable t
 
-request_keeps : (told : Bool) (s : State) (request : Request) (happened : Happened) (reply : Reply) (t : State) → RequestStep told s request happened reply t
+pub request_keeps : (told : Bool) (s : State) (request : Request) (happened : Happened) (reply : Reply) (t : State) → RequestStep told s request happened reply t
     → RequestMeets request → IsKept s → IsKept t
 request_keeps told s (asks client call) happened reply t step meets kept = record {
   valid = valid_step told s client call happened reply t kept.valid step;

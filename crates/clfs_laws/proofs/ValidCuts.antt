@@ -110,6 +110,10 @@ all_both : (s : State) (bound : ℕ) (entries : List LogEntry) → AllByRecursio
 all_both s bound [] first second = tt
 all_both s bound (entry ∷ entries) first second = (record { is = first.0; below = second.0 }, all_both s bound entries first.1 second.1)
 
+-- the flushed part is flushed up to the same LSN
+pub flushed_cut : (s : State) → IsValid s → flushed (cut s) ≡ flushed s
+flushed_cut s valid = let block = flushed_block s valid in omega (arith, block.sequence)
+
 -- the flushed part of a log
 pub valid_cut : (s : State) → IsValid s → IsValid (cut s)
 valid_cut s valid =
@@ -117,7 +121,7 @@ valid_cut s valid =
     let f : ℕ = flushed s in
     let block = flushed_block s valid in
     let low = small_offset s.shape s.place valid.ranges.shape valid.ranges.place in
-    let at : lsn_number (container_of f) (offset_of f) 0 ≡ f = omega (arith, block.sequence) in
+    let at : lsn_number (container_of f) (offset_of f) 0 ≡ f = flushed_cut s valid in
     let offset_low : offset_of f ≤ s.place.offset = omega (arith, block.container, block.below, low) in
     let end_low : s.place.offset / 512 ≤ s.shape.container_sectors = omega (arith, valid.ranges.place.end) in
     let p : LogEntry → Bool = λ entry. nat_lt entry.lsn f in

@@ -18,7 +18,7 @@ pub use areas::{held_is_by_own_entries, own_entries_cover_an_append, rows_are_by
 pub use journals::{flushed_never_falls, fronts_are_legal, journals_join, numbers_count_up};
 pub use reading::{reading_gives_the_chain, reading_on_gives_all, restart_areas_come_newest_first};
 pub use refusals::{broken_stays, faults_break, opening_anew_ends_areas, refusals_change_nothing};
-pub use runs::runs_join;
+pub use runs::{opening_anew_comes_to_the_cut, runs_join};
 pub use same::{sameness, the_holds_container_never_falls, the_same_answer_alike};
 pub use space::{
     full_where_no_room, held_sectors_suffice, reserved_is_free, short_where_less_is_held,
