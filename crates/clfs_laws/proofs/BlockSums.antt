@@ -124,12 +124,12 @@ pushed shape place before entry is short ends =
     let most : ℕ = shape.container_sectors in
     let open_block = opened shape place is.within.block is.some in
     let last : EndsWithin most (before ++ entry ∷ []) entry =
-        let F : ℕ → ℕ → Type 0 = λ c o. o + 512 * sectors (16 + paid c o (before ++ entry ∷ [])) ≤ 512 * most in
-        let G : ℕ → Type 0 = λ c. F c place.offset in
-        let H : ℕ → Type 0 = λ o. F (container_of entry.lsn) o in
-        let U : ℕ → Type 0 = λ n. place.offset + 512 * sectors n ≤ 512 * most in
-        let here : F place.container place.offset = subst U is.used (omega (arith, is.within.offset, is.within.end)) in
-        subst H (sym is.of_offset) (subst G (sym is.of_container) here) in
+    let F : ℕ → ℕ → Type 0 = λ c o. o + 512 * sectors (16 + paid c o (before ++ entry ∷ [])) ≤ 512 * most in
+    let G : ℕ → Type 0 = λ c. F c place.offset in
+    let H : ℕ → Type 0 = λ o. F (container_of entry.lsn) o in
+    let U : ℕ → Type 0 = λ n. place.offset + 512 * sectors n ≤ 512 * most in
+    let here : F place.container place.offset = subst U is.used (omega (arith, is.within.offset, is.within.end)) in
+    subst H (sym is.of_offset) (subst G (sym is.of_container) here) in
     record {
       offset = is.within.offset;
       end = is.within.end;
@@ -182,7 +182,7 @@ push_begun shape place before entry container sector has at low above within =
     let of_container : container_of entry.lsn ≡ container = omega (arith, at, low) in
     let of_offset : offset_of entry.lsn ≡ 512 * sector = omega (arith, at, low) in
     let under = weaker (λ (e : LogEntry). e.lsn < frontier place) (λ (e : LogEntry). e.lsn < lsn_number container (512 * sector) 0) before
-        (λ e less. omega (arith, less, above, at)) has.below in
+    (λ e less. omega (arith, less, above, at)) has.below in
     let f : LogEntry → ℕ = λ e. size (length e.bytes) in
     let none : paid container (512 * sector) before ≡ 0 =
     ap (sum_by f) (none_of_block container (512 * sector) before (omega arith) (omega (arith, low)) under) in

@@ -56,3 +56,5 @@ pub mod StorableSteps
 pub mod StorableCuts
 pub mod StorableRuns
 pub mod BlockSums
+pub mod StepBlocks
+pub mod Numbers

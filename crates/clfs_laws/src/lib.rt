@@ -18,6 +18,8 @@ pub use refusals::{broken_stays, faults_break, opening_anew_ends_areas, refusals
 pub use space::{
     full_where_no_room, held_sectors_suffice, reserved_is_free, short_where_less_is_held,
 };
-pub use storable::{first_states_are_storable, steps_keep_a_state_storable};
+pub use storable::{
+    first_states_are_storable, numbers_fit_their_types, steps_keep_a_state_storable,
+};
 pub use survivors::{quiet_calls_survive_as_the_cut, survivors_keep_what_was_flushed};
 pub use validity::{first_states_are_valid, steps_keep_a_state_valid};

@@ -1,5 +1,5 @@
 // What a crash inside a call can't take away, and what it can't change.
-ghost use Rattle.std.specs.Prelude.{◌≡◌, ◌≤◌, ◌<◌, ◌^◌, ℕ, Bool, List, ◌++◌, All, Contains};
+ghost use Rattle.std.specs.Prelude.{◌≡◌, ◌≤◌, ℕ, Bool, List, ◌++◌, All, Contains};
 ghost use Rattle.clfs_lsn.specs.declared.entry.Kind.TheVariants.{Restart};
 ghost use Rattle.clfs_lsn.specs.declared.entry.LogEntry.{LogEntry};
 ghost use Rattle.clfs_model.specs.declared.call.Call.{Call};
@@ -9,6 +9,7 @@ ghost use Rattle.clfs_model.specs.declared.state.State.{State};
 ghost use Rattle.clfs_model.specs.Flush.{flushed, cut, IsSame};
 ghost use Rattle.clfs_model.specs.Run.{asks};
 ghost use Rattle.clfs_model.specs.Step.{Step};
+ghost use Rattle.clfs_model.specs.Storable.{IsStorable};
 ghost use Rattle.clfs_model.specs.Survivors.{IsSurvivor};
 ghost use Rattle.clfs_model.specs.Valid.{IsValid};
 ghost use Rattle.clfs_laws.specs.Stable.{LeavesStable};
@@ -29,9 +30,9 @@ pub fn survivors_keep_what_was_flushed()
 /// it is chosen when the log is opened. An offset has 32 bits.
 pub fn quiet_calls_survive_as_the_cut()
     ensures equal { (told : Bool) (s t x : State) (client : ℕ) (call : Call) (reply : Reply)
-        → IsValid s → Step told s client call Fine reply t → LeavesStable s t → IsSurvivor (asks client call) s t x → x.place.offset < 2 ^ 32
+        → IsValid s → IsStorable s → Step told s client call Fine reply t → LeavesStable s t → IsSurvivor (asks client call) s t x
         → record x { buffers = s.buffers } ≡ cut s }
     ensures same { (told : Bool) (s t x : State) (client : ℕ) (call : Call) (reply : Reply)
-        → IsValid s → Step told s client call Fine reply t → LeavesStable s t → IsSurvivor (asks client call) s t x → x.place.offset < 2 ^ 32
+        → IsValid s → IsStorable s → Step told s client call Fine reply t → LeavesStable s t → IsSurvivor (asks client call) s t x
         → IsSame (cut s) (record x { buffers = s.buffers }) }
 {}
