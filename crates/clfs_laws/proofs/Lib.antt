@@ -58,3 +58,4 @@ pub mod StorableRuns
 pub mod BlockSums
 pub mod StepBlocks
 pub mod Numbers
+pub mod Turns
