@@ -59,3 +59,4 @@ pub mod BlockSums
 pub mod StepBlocks
 pub mod Numbers
 pub mod Turns
+pub mod CutPlaces
