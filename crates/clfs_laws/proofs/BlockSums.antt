@@ -1,7 +1,7 @@
 -- What the records of blocks that lie one behind the other come to: each block is as long as its records make it, and ends within its
 -- container.
-use Rattle.std.proofs.Common.{◌≡◌, ℕ, ◌+◌, ◌*◌, ◌/◌, ◌%◌, ◌<◌, ◌≤◌, ◌^◌, Bool, true, false, refl, sym, ap, ◌∙◌, subst, append_assoc, inl, inr, ◌⊎◌, arith, List, [], ◌∷◌, ◌++◌, length}
-use Rattle.std.specs.Prelude.{filter, sum_by, ◌==◌, ◌&&◌}
+use Rattle.std.proofs.Common.{◌≡◌, ℕ, ◌+◌, ◌*◌, ◌%◌, ◌<◌, ◌≤◌, true, false, refl, sym, ap, ◌∙◌, subst, append_assoc, inl, inr, ◌⊎◌, arith, List, [], ◌∷◌, ◌++◌, length}
+use Rattle.std.specs.Prelude.{filter, sum_by, ◌==◌}
 use Rattle.std.specs.List.{AllByRecursion}
 use Rattle.std.proofs.lemmas.Bool.{cases_Bool, eqb-true, eqb-false, and_parts}
 use Rattle.std.proofs.lemmas.List.{append-nil}
@@ -13,7 +13,7 @@ use Rattle.clfs_lsn.specs.Place.{IsWithin, IsClosed, IsOpen, begun, frontier, bl
 use Rattle.clfs_lsn.specs.declared.place.Place.{Place}
 use Rattle.clfs_lsn.specs.declared.shape.Shape.{Shape}
 use Rattle.clfs_lsn.specs.declared.entry.LogEntry.{LogEntry}
-use Rattle.clfs_model.specs.Archive.{block_payload, end_of_block}
+use Rattle.clfs_model.specs.Archive.{end_of_block}
 use Rattle.clfs_model.specs.Storable.{before_all, behind, behind_all, LiesBehind, LieInBlocks}
 use Rattle.clfs_laws.proofs.Among.{IsAmong}
 use Rattle.clfs_laws.proofs.BlockOrder.{behind_begun, behind_joined}
@@ -109,7 +109,7 @@ record IsPushed (shape : Shape) (place : Place) (before : List LogEntry) (entry 
   pub below : entry.lsn < frontier place
   pub size_fits : 16 + size (length entry.bytes) ≤ place.used
 
-among_last : (before : List LogEntry) (entry : LogEntry) → IsAmong entry (before ++ entry ∷ [])
+pub among_last : (before : List LogEntry) (entry : LogEntry) → IsAmong entry (before ++ entry ∷ [])
 among_last [] entry = inl refl
 among_last (first ∷ before) entry = inr (among_last before entry)
 

@@ -60,3 +60,4 @@ pub mod StepBlocks
 pub mod Numbers
 pub mod Turns
 pub mod CutPlaces
+pub mod CutSurvives

@@ -1,5 +1,5 @@
 -- The numbers of a state that files can hold.
-use Rattle.std.proofs.Common.{◌≡◌, ℕ, ◌+◌, ◌*◌, ◌<◌, ◌≤◌, ◌^◌, refl, sym, ap, subst, inl, inr, ◌⊎◌, arith, List, [], ◌∷◌, length}
+use Rattle.std.proofs.Common.{◌≡◌, ℕ, ◌<◌, ◌≤◌, ◌^◌, sym, ap, subst, inl, inr, ◌⊎◌, arith, length}
 use Rattle.std.specs.Prelude.{Option, Some, None, All, Any, IfSome, slice_index_or, ◌==◌}
 use Rattle.std.proofs.lemmas.Bool.{eqb-true}
 use Rattle.std.proofs.lemmas.List.Elements.{All-weaker, All-from_recursion}
@@ -12,7 +12,6 @@ use Rattle.clfs_model.specs.declared.state.State.{State}
 use Rattle.clfs_model.specs.declared.state.Area.{Area}
 use Rattle.clfs_model.specs.declared.state.Cursor.{Cursor}
 use Rattle.clfs_model.specs.declared.state.Stream.{Stream}
-use Rattle.clfs_model.specs.Archive.{end_of_block}
 use Rattle.clfs_model.specs.Flush.{flushed, cut}
 use Rattle.clfs_model.specs.Storable.{HasMovedBase, HasBlocks, IsCursor, IsAreaWithinLimits, IsStorable}
 use Rattle.clfs_model.specs.Survivors.{EndsBlockOf}

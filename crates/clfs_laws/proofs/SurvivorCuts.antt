@@ -109,7 +109,7 @@ bases_are asked s t x leaves survives stream = elim (survives.bases stream) [
 ]
 
 -- its place begins where the log was flushed
-frontier_is : (asked : Request) (s t x : State) → LeavesStable s t → IsSurvivor asked s t x → frontier x.place ≡ flushed s
+pub frontier_is : (asked : Request) (s t x : State) → LeavesStable s t → IsSurvivor asked s t x → frontier x.place ≡ flushed s
 frontier_is asked s t x leaves survives = omega (arith, survives.place.from, survives.place.to, leaves.flushed)
 
 -- its records are those that were flushed

@@ -7,7 +7,7 @@ ghost use Rattle.clfs_model.specs.declared.reply.Happened.TheVariants.{Fine};
 ghost use Rattle.clfs_model.specs.declared.reply.Reply.{Reply};
 ghost use Rattle.clfs_model.specs.declared.state.State.{State};
 ghost use Rattle.clfs_model.specs.Flush.{flushed, cut, IsSame};
-ghost use Rattle.clfs_model.specs.Run.{asks};
+ghost use Rattle.clfs_model.specs.Run.{asks, reopens, bad_line};
 ghost use Rattle.clfs_model.specs.Step.{Step};
 ghost use Rattle.clfs_model.specs.Storable.{IsStorable};
 ghost use Rattle.clfs_model.specs.Survivors.{IsSurvivor};
@@ -35,4 +35,21 @@ pub fn quiet_calls_survive_as_the_cut()
     ensures same { (told : Bool) (s t x : State) (client : ℕ) (call : Call) (reply : Reply)
         → IsValid s → IsStorable s → Step told s client call Fine reply t → LeavesStable s t → IsSurvivor (asks client call) s t x
         → IsSame (cut s) (record x { buffers = s.buffers }) }
+{}
+
+/// Nothing survives opening the log anew but the flushed part of the log, up to the number of write buffers, and that does.
+pub fn opening_anew_survives_as_the_cut()
+    ensures only { (s x : State) (client : ℕ) → IsValid s → IsStorable s → IsSurvivor (reopens client) s (cut s) x
+        → record x { buffers = s.buffers } ≡ cut s }
+    ensures itself { (s : State) (client : ℕ) → IsValid s → IsSurvivor (reopens client) s (cut s) (cut s) }
+{}
+
+/// The flushed part of a log survives each call, and so does the flushed part of the state that the call leaves; it survives a bad
+/// line too.
+pub fn the_cut_survives()
+    ensures before { (told : Bool) (s t : State) (client : ℕ) (call : Call) (reply : Reply)
+        → IsValid s → Step told s client call Fine reply t → IsSurvivor (asks client call) s t (cut s) }
+    ensures after { (told : Bool) (s t : State) (client : ℕ) (call : Call) (reply : Reply)
+        → IsValid s → IsStorable s → Step told s client call Fine reply t → IsSurvivor (asks client call) s t (cut t) }
+    ensures bad_line { (s : State) (at : ℕ) → IsValid s → IsSurvivor (bad_line at) s s (cut s) }
 {}
