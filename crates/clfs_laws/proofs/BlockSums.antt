@@ -1,7 +1,7 @@
 -- What the records of blocks that lie one behind the other come to: each block is as long as its records make it, and ends within its
 -- container.
-use Rattle.std.proofs.Common.{◌≡◌, ℕ, ◌+◌, ◌*◌, ◌/◌, ◌%◌, ◌<◌, ◌≤◌, ◌^◌, Bool, true, false, refl, sym, ap, ◌∙◌, subst, append_assoc, inl, inr, ◌⊎◌, arith, List, [], ◌∷◌, ◌++◌, length}
-use Rattle.std.specs.Prelude.{filter, sum_by, ◌==◌, ◌&&◌}
+use Rattle.std.proofs.Common.{◌≡◌, ℕ, ◌+◌, ◌*◌, ◌%◌, ◌<◌, ◌≤◌, true, false, refl, sym, ap, ◌∙◌, subst, append_assoc, inl, inr, ◌⊎◌, arith, List, [], ◌∷◌, ◌++◌, length}
+use Rattle.std.specs.Prelude.{filter, sum_by, ◌==◌}
 use Rattle.std.specs.List.{AllByRecursion}
 use Rattle.std.proofs.lemmas.Bool.{cases_Bool, eqb-true, eqb-false, and_parts}
 use Rattle.std.proofs.lemmas.List.{append-nil}
@@ -13,7 +13,7 @@ use Rattle.clfs_lsn.specs.Place.{IsWithin, IsClosed, IsOpen, begun, frontier, bl
 use Rattle.clfs_lsn.specs.declared.place.Place.{Place}
 use Rattle.clfs_lsn.specs.declared.shape.Shape.{Shape}
 use Rattle.clfs_lsn.specs.declared.entry.LogEntry.{LogEntry}
-use Rattle.clfs_model.specs.Archive.{block_payload, end_of_block}
+use Rattle.clfs_model.specs.Archive.{end_of_block}
 use Rattle.clfs_model.specs.Storable.{before_all, behind, behind_all, LiesBehind, LieInBlocks}
 use Rattle.clfs_laws.proofs.Among.{IsAmong}
 use Rattle.clfs_laws.proofs.BlockOrder.{behind_begun, behind_joined}
@@ -109,7 +109,7 @@ record IsPushed (shape : Shape) (place : Place) (before : List LogEntry) (entry 
   pub below : entry.lsn < frontier place
   pub size_fits : 16 + size (length entry.bytes) ≤ place.used
 
-among_last : (before : List LogEntry) (entry : LogEntry) → IsAmong entry (before ++ entry ∷ [])
+pub among_last : (before : List LogEntry) (entry : LogEntry) → IsAmong entry (before ++ entry ∷ [])
 among_last [] entry = inl refl
 among_last (first ∷ before) entry = inr (among_last before entry)
 
@@ -124,12 +124,12 @@ pushed shape place before entry is short ends =
     let most : ℕ = shape.container_sectors in
     let open_block = opened shape place is.within.block is.some in
     let last : EndsWithin most (before ++ entry ∷ []) entry =
-        let F : ℕ → ℕ → Type 0 = λ c o. o + 512 * sectors (16 + paid c o (before ++ entry ∷ [])) ≤ 512 * most in
-        let G : ℕ → Type 0 = λ c. F c place.offset in
-        let H : ℕ → Type 0 = λ o. F (container_of entry.lsn) o in
-        let U : ℕ → Type 0 = λ n. place.offset + 512 * sectors n ≤ 512 * most in
-        let here : F place.container place.offset = subst U is.used (omega (arith, is.within.offset, is.within.end)) in
-        subst H (sym is.of_offset) (subst G (sym is.of_container) here) in
+    let F : ℕ → ℕ → Type 0 = λ c o. o + 512 * sectors (16 + paid c o (before ++ entry ∷ [])) ≤ 512 * most in
+    let G : ℕ → Type 0 = λ c. F c place.offset in
+    let H : ℕ → Type 0 = λ o. F (container_of entry.lsn) o in
+    let U : ℕ → Type 0 = λ n. place.offset + 512 * sectors n ≤ 512 * most in
+    let here : F place.container place.offset = subst U is.used (omega (arith, is.within.offset, is.within.end)) in
+    subst H (sym is.of_offset) (subst G (sym is.of_container) here) in
     record {
       offset = is.within.offset;
       end = is.within.end;
@@ -182,7 +182,7 @@ push_begun shape place before entry container sector has at low above within =
     let of_container : container_of entry.lsn ≡ container = omega (arith, at, low) in
     let of_offset : offset_of entry.lsn ≡ 512 * sector = omega (arith, at, low) in
     let under = weaker (λ (e : LogEntry). e.lsn < frontier place) (λ (e : LogEntry). e.lsn < lsn_number container (512 * sector) 0) before
-        (λ e less. omega (arith, less, above, at)) has.below in
+    (λ e less. omega (arith, less, above, at)) has.below in
     let f : LogEntry → ℕ = λ e. size (length e.bytes) in
     let none : paid container (512 * sector) before ≡ 0 =
     ap (sum_by f) (none_of_block container (512 * sector) before (omega arith) (omega (arith, low)) under) in

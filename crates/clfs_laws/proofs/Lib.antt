@@ -73,3 +73,8 @@ pub mod StorableSteps
 pub mod StorableCuts
 pub mod StorableRuns
 pub mod BlockSums
+pub mod StepBlocks
+pub mod Numbers
+pub mod Turns
+pub mod CutPlaces
+pub mod CutSurvives

@@ -24,7 +24,7 @@ use Rattle.clfs_laws.proofs.FallingLists.{Rises, rises, below_lsn, all_below}
 use Rattle.clfs_laws.proofs.LsnOrder.{small_offset, few_records}
 use Rattle.clfs_laws.proofs.Links as of_links
 use Rattle.clfs_laws.proofs.StorableBases.{bases_kept}
-use Rattle.clfs_laws.proofs.SurvivingRecords.{none_below}
+use Rattle.clfs_laws.proofs.SurvivingRecords.{BeginsBelow, none_below}
 use Rattle.clfs_laws.proofs.SurvivorCuts.{same_places}
 use Rattle.clfs_laws.proofs.ValidCuts.{flushed_block}
 use Rattle.clfs_laws.proofs.ValidPlaces.{sound_of, opened_first}
@@ -173,19 +173,17 @@ pub cut_goes_on : (s : State) → IsValid s → HasBlocks s → GoesOnAt (behind
 cut_goes_on s valid blocks = cut_goes_by s s.waiting refl valid blocks
 
 -- of records that rise those below an LSN are the first
-pub record IsFront (front entries : List LogEntry) : Type 0 where
-  pub rest : List LogEntry
-  pub is : entries ≡ front ++ rest
-
-pub below_front : (lsn : ℕ) (entries : List LogEntry) → Rises entries → IsFront (below_lsn lsn entries) entries
-below_front lsn [] rising = record { rest = []; is = refl }
+pub below_front : (lsn : ℕ) (entries : List LogEntry) → Rises entries → BeginsBelow lsn (below_lsn lsn entries) entries
+below_front lsn [] rising = record { more = []; is = refl; above = tt }
 below_front lsn (entry ∷ entries) rising = elim (cases_Bool (nat_lt entry.lsn lsn)) [
   | inl below ↦
       let rest = below_front lsn entries rising.1 in
-      rw below (record { rest = rest.rest; is = ap (λ (es : List LogEntry). entry ∷ es) rest.is })
+      rw below (record { more = rest.more; is = ap (λ (es : List LogEntry). entry ∷ es) rest.is; above = rest.above })
   | inr above ↦
-      let none : below_lsn lsn entries ≡ [] = none_below lsn entries (above_all lsn entry entries (ltb-false entry.lsn lsn above) rising.0) in
-      rw (above, none) (record { rest = entry ∷ entries; is = refl })
+      let at_least : lsn ≤ entry.lsn = ltb-false entry.lsn lsn above in
+      let all = above_all lsn entry entries at_least rising.0 in
+      let none : below_lsn lsn entries ≡ [] = none_below lsn entries all in
+      rw (above, none) (record { more = entry ∷ entries; is = refl; above = (at_least, all) })
 ]
   where
     above_all : (lsn : ℕ) (entry : LogEntry) (entries : List LogEntry) → lsn ≤ entry.lsn → AllByRecursion (λ (other : LogEntry). entry.lsn < other.lsn) entries
@@ -204,7 +202,7 @@ storable_cut s valid storable =
     record {
       bases = bases_kept s t t.records (λ number. omega arith) (All-filter p (HasMovedBase s) s.records storable.bases);
       blocks = record {
-        laid = laid_front s.shape before_all t.records front.rest (subst L front.is storable.blocks.laid);
+        laid = laid_front s.shape before_all t.records front.more (subst L front.is storable.blocks.laid);
         place = cut_goes_on s valid storable.blocks;
         container = omega (arith, block.container, storable.blocks.container);
       };

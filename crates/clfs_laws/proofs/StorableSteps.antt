@@ -65,7 +65,7 @@ storable_areas : (s : State) (areas : List Area) → IsWithinLimits (record s { 
 storable_areas s areas limits storable = storable_with s (record s { areas = areas }) refl refl refl (same_bases s (record s { areas = areas }) refl) limits storable
 
 -- what holds in each area that is there, where the call isn't refused
-in_each : (P : State → Type 0) (s : State) (client number : ℕ) (refuses : Area → Option Refusal) (answers : Area → Outcome) (found : Option Area) → area_of s client number ≡ found
+pub in_each : (P : State → Type 0) (s : State) (client number : ℕ) (refuses : Area → Option Refusal) (answers : Area → Outcome) (found : Option Area) → area_of s client number ≡ found
     → option_map_or refuses found (Some refusals.NoSuchArea) ≡ None
     → ((area : Area) → area_of s client number ≡ Some area → refuses area ≡ None → P (answers area).state)
     → P (option_map_or answers found (outcome (replies.Refused refusals.NoSuchArea) s)).state

@@ -85,7 +85,7 @@ filter_lsns bound (entry ∷ entries) = elim (cases_Bool (nat_lt entry.lsn bound
   | inr above ↦ rw above (filter_lsns bound entries)
 ]
 
-kept_below : (bound : ℕ) (entries : List LogEntry) → AllByRecursion (λ (entry : LogEntry). entry.lsn < bound) (filter (λ (entry : LogEntry). nat_lt entry.lsn bound) entries)
+pub kept_below : (bound : ℕ) (entries : List LogEntry) → AllByRecursion (λ (entry : LogEntry). entry.lsn < bound) (filter (λ (entry : LogEntry). nat_lt entry.lsn bound) entries)
 kept_below bound [] = tt
 kept_below bound (entry ∷ entries) = elim (cases_Bool (nat_lt entry.lsn bound)) [
   | inl below ↦ rw below (ltb-true entry.lsn bound below, kept_below bound entries)

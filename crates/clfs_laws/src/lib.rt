@@ -27,6 +27,11 @@ pub use steps::{
     a_flush_goes_past_its_lsn, quiet_calls_leave_the_cut, reads_find_records,
     refusals_are_the_calls_own, steps_only_add_records,
 };
-pub use storable::{first_states_are_storable, steps_keep_a_state_storable};
-pub use survivors::{quiet_calls_survive_as_the_cut, survivors_keep_what_was_flushed};
+pub use storable::{
+    first_states_are_storable, numbers_fit_their_types, steps_keep_a_state_storable,
+};
+pub use survivors::{
+    opening_anew_survives_as_the_cut, quiet_calls_survive_as_the_cut,
+    survivors_keep_what_was_flushed, the_cut_survives,
+};
 pub use validity::{first_states_are_valid, steps_keep_a_state_valid};
