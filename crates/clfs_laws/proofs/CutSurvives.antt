@@ -108,7 +108,8 @@ cut_leaves : (s : State) → IsValid s → LeavesStable s (cut s)
 cut_leaves s valid = record { flushed = frontier_cut s valid; settings = settings_of s; bases = λ stream. refl }
 
 -- nothing else survives opening anew
-pub reopening_only : (s x : State) (client : ℕ) → IsValid s → IsStorable s → IsSurvivor (reopens client) s (cut s) x → record x { buffers = s.buffers } ≡ cut s
+pub reopening_only : (s x : State) (client : ℕ) → IsValid s → IsStorable s → IsSurvivor (reopens client) s (cut s) x
+    → record x { buffers = s.buffers } ≡ cut s
 reopening_only s x client valid storable survives =
     let leaves = cut_leaves s valid in
     let at = frontier_is (reopens client) s (cut s) x leaves survives in
@@ -188,7 +189,8 @@ all_flushed s valid at =
     let B : ℕ → Type 0 = λ n. AllByRecursion (λ (entry : LogEntry). entry.lsn < n) s.records in
     all_below (flushed s) s.records (subst B (sym at) (of_links.all_below s (sound_of s valid)))
 
-restart_after : (s : State) (client number : ℕ) (area : Area) (bytes : List ℕ) (base : ℕ) (is_reserved : Bool) → IsValid s → area_of s client number ≡ Some area
+restart_after : (s : State) (client number : ℕ) (area : Area) (bytes : List ℕ) (base : ℕ) (is_reserved : Bool) → IsValid s
+    → area_of s client number ≡ Some area
     → restart_refusal s area bytes base is_reserved ≡ None
     → HasBasesOfRestart s (restarted s area bytes base is_reserved) (cut (restarted s area bytes base is_reserved))
 restart_after s client number area bytes base is_reserved valid there none =
@@ -221,7 +223,8 @@ bases_after told s client (calls.Advance number lsn) reply t valid step = λ mor
 bases_after told s client call reply t valid step = tt
 
 -- the flushed part of what a call leaves survives the call
-pub survives_after : (told : Bool) (s t : State) (client : ℕ) (call : Call) (reply : Reply) → IsValid s → IsStorable s → Step told s client call Fine reply t
+pub survives_after : (told : Bool) (s t : State) (client : ℕ) (call : Call) (reply : Reply) → IsValid s → IsStorable s
+    → Step told s client call Fine reply t
     → IsSurvivor (asks client call) s t (cut t)
 survives_after told s t client call reply valid storable step =
     let valid_t = valid_step told s client call Fine reply t valid step in

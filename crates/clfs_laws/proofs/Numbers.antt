@@ -99,7 +99,8 @@ cursors_fit s valid storable =
     s.areas storable.limits.areas
 
 -- the place that a crash leaves has an offset that fits
-pub survivor_low : (s t x : State) → IsValid t → HasBlocks t → (x.place ≡ (cut s).place) ⊎ Any (EndsBlockOf t.records x.place) t.records → x.place.offset < 2 ^ 32
+pub survivor_low : (s t x : State) → IsValid t → HasBlocks t → (x.place ≡ (cut s).place) ⊎ Any (EndsBlockOf t.records x.place) t.records
+    → x.place.offset < 2 ^ 32
 survivor_low s t x valid blocks (inl same) = let at : x.place.offset ≡ (cut s).place.offset = ap (λ (place : Place). place.offset) same in omega (arith, at)
 survivor_low s t x valid blocks (inr ends) = by_block ends.1 (ends_fit t valid blocks ends.0 ends.1 ends.2) (subst (EndsBlockOf t.records x.place) (sym ends.3) ends.4)
   where

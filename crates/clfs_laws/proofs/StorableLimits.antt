@@ -35,7 +35,8 @@ pub record IsAlike (a b : Area) : Type 0 where
   pub stream : b.stream ≡ a.stream
   pub cursors : b.cursors ≡ a.cursors
 
-pub area_kept : (s t : State) (a b : Area) (more : List LogEntry) → t.records ≡ s.records ++ more → IsAlike a b → IsAreaWithinLimits s a → IsAreaWithinLimits t b
+pub area_kept : (s t : State) (a b : Area) (more : List LogEntry) → t.records ≡ s.records ++ more → IsAlike a b → IsAreaWithinLimits s a
+    → IsAreaWithinLimits t b
 area_kept s t a b more records alike is = record {
   client = subst IsClient (sym alike.client) is.client;
   some_number = omega (arith, is.some_number, alike.number);
@@ -52,7 +53,8 @@ pub alike_itself : (a : Area) → IsAlike a a
 alike_itself a = record { client = refl; number = refl; reads = refl; stream = refl; cursors = refl }
 
 -- a state of the same streams and areas, with more records
-pub limits_as : (s t : State) (more : List LogEntry) → t.streams ≡ s.streams → t.areas ≡ s.areas → t.records ≡ s.records ++ more → IsWithinLimits s → IsWithinLimits t
+pub limits_as : (s t : State) (more : List LogEntry) → t.streams ≡ s.streams → t.areas ≡ s.areas → t.records ≡ s.records ++ more
+    → IsWithinLimits s → IsWithinLimits t
 limits_as s t more streams areas records limits =
     let N : List Stream → Type 0 = All (λ (stream : Stream). name_fault stream.name ≡ None) in
     let A : List Area → Type 0 = All (IsAreaWithinLimits t) in
@@ -122,7 +124,8 @@ more_held : (sectors : ℕ) (area : Area) → IsAlike area (with_more_held secto
 more_held sectors area = record { client = refl; number = refl; reads = refl; stream = refl; cursors = refl }
 
 -- an area that gives up sectors
-pub limits_released : (s : State) (area : Area) (sectors : ℕ) → IsWithinLimits s → IsWithinLimits (change_area (with_less_held sectors) area.client area.number s)
+pub limits_released : (s : State) (area : Area) (sectors : ℕ) → IsWithinLimits s
+    → IsWithinLimits (change_area (with_less_held sectors) area.client area.number s)
 limits_released s area sectors limits = limits_held s (with_less_held sectors) area.client area.number (less_held sectors) limits
 
 limits_spent : (is_reserved : Bool) (area : Area) (n : ℕ) (s : State) → IsWithinLimits s → IsWithinLimits (spend_if is_reserved area n s)
@@ -162,7 +165,8 @@ limits_put : (s : State) (entry : LogEntry) → IsWithinLimits s → IsWithinLim
 limits_put s entry limits = limits_as s (put s entry) _ (put_streams s entry) (put_areas s entry) refl limits
 
 -- an append
-pub limits_appended : (s : State) (area : Area) (draft : Draft) (is_reserved : Bool) (sizes : List ℕ) → IsWithinLimits s → IsWithinLimits (appended s area draft is_reserved sizes)
+pub limits_appended : (s : State) (area : Area) (draft : Draft) (is_reserved : Bool) (sizes : List ℕ) → IsWithinLimits s
+    → IsWithinLimits (appended s area draft is_reserved sizes)
 limits_appended s area draft is_reserved sizes limits =
     let n = length draft.bytes in
     limits_flush_if draft.flush _ (limits_seal_if draft.seal _ (limits_hold area sizes _ (limits_spent is_reserved area n _
@@ -196,7 +200,8 @@ limits_rebased stream base s limits = elim (cases_Bool (base == null_lsn)) [
 ]
 
 -- a restart area
-pub limits_restarted : (s : State) (area : Area) (bytes : List ℕ) (base : ℕ) (is_reserved : Bool) → IsWithinLimits s → IsWithinLimits (restarted s area bytes base is_reserved)
+pub limits_restarted : (s : State) (area : Area) (bytes : List ℕ) (base : ℕ) (is_reserved : Bool) → IsWithinLimits s
+    → IsWithinLimits (restarted s area bytes base is_reserved)
 limits_restarted s area bytes base is_reserved limits =
     let n = length bytes in
     limits_rebased area.stream base _ (limits_flush _ (limits_spent is_reserved area n _

@@ -48,7 +48,8 @@ use Rattle.clfs_laws.proofs.ValidSettings.{grown_is}
 use Rattle.clfs_laws.proofs.ValidSteps.{two_of}
 
 -- a state of the same shape, records and place whose bases don't fall and whose areas are within their limits
-storable_with : (s t : State) → t.shape ≡ s.shape → t.records ≡ s.records → t.place ≡ s.place → BasesRise s t → IsWithinLimits t → IsStorable s → IsStorable t
+storable_with : (s t : State) → t.shape ≡ s.shape → t.records ≡ s.records → t.place ≡ s.place → BasesRise s t → IsWithinLimits t → IsStorable s
+    → IsStorable t
 storable_with s t shape records place rise limits storable = record {
   bases = bases_as s t records rise storable.bases;
   blocks = blocks_as s t shape records place storable.blocks;
@@ -56,12 +57,14 @@ storable_with s t shape records place rise limits storable = record {
 }
 
 -- the same streams and areas too
-pub storable_same : (s t : State) → t.shape ≡ s.shape → t.records ≡ s.records → t.place ≡ s.place → t.streams ≡ s.streams → t.areas ≡ s.areas → IsStorable s → IsStorable t
+pub storable_same : (s t : State) → t.shape ≡ s.shape → t.records ≡ s.records → t.place ≡ s.place → t.streams ≡ s.streams → t.areas ≡ s.areas
+    → IsStorable s → IsStorable t
 storable_same s t shape records place streams areas storable =
     storable_with s t shape records place (same_bases s t streams) (limits_same s t streams areas records storable.limits) storable
 
 -- other areas
-storable_areas : (s : State) (areas : List Area) → IsWithinLimits (record s { areas = areas }) → IsStorable s → IsStorable (record s { areas = areas })
+storable_areas : (s : State) (areas : List Area) → IsWithinLimits (record s { areas = areas }) → IsStorable s
+    → IsStorable (record s { areas = areas })
 storable_areas s areas limits storable = storable_with s (record s { areas = areas }) refl refl refl (same_bases s (record s { areas = areas }) refl) limits storable
 
 -- what holds in each area that is there, where the call isn't refused
@@ -113,7 +116,8 @@ storable_flushed_to s lsn storable = record {
 
 -- reading
 storable_found : (s : State) (client number : ℕ) (area : Area) (kind : CursorKind) (found : Option LogEntry) (otherwise : Refusal) → IsValid s
-    → area_of s client number ≡ Some area → too_many_cursors area ≡ None → ((entry : LogEntry) → found ≡ Some entry → IsRead s area.stream kind entry) → IsStorable s
+    → area_of s client number ≡ Some area → too_many_cursors area ≡ None
+    → ((entry : LogEntry) → found ≡ Some entry → IsRead s area.stream kind entry) → IsStorable s
     → IsStorable (option_map_or (found_with_cursor s area kind) found (outcome (replies.Refused otherwise) s)).state
 storable_found s client number area kind None otherwise valid there few read storable = storable
 storable_found s client number area kind (Some entry) otherwise valid there few read storable =
