@@ -65,8 +65,10 @@ joined_next : (shape : Shape) (last place : Place) (entry : LogEntry) → place.
 joined_next shape last place entry whole some few (inl same) at =
     let F : Place → Type 0 = λ p. GoesOnWith p entry (record place { used = place.used + size (length entry.bytes); records = place.records + 1 }) in
     subst F same (record { lies = inl (some, at); is = behind_joined place entry whole some (omega (arith, few)) at })
-joined_next shape last place entry whole some few (inr (inl same)) at = absurd (let none : place.records ≡ 0 = ap (λ (p : Place). p.records) same in omega (arith, none, some))
-joined_next shape last place entry whole some few (inr (inr further)) at = absurd (let none : place.records ≡ 0 = ap (λ (p : Place). p.records) further.1 in omega (arith, none, some))
+joined_next shape last place entry whole some few (inr (inl same)) at =
+    absurd (let none : place.records ≡ 0 = ap (λ (p : Place). p.records) same in omega (arith, none, some))
+joined_next shape last place entry whole some few (inr (inr further)) at =
+    absurd (let none : place.records ≡ 0 = ap (λ (p : Place). p.records) further.1 in omega (arith, none, some))
 
 -- a record that begins a block behind the open one
 begun_lies : (last place : Place) (entry : LogEntry) → 512 * block_end place ≤ 8388608 → GoesOnAt last place
@@ -117,4 +119,5 @@ next_goes_on shape last place entry is within goes at =
 pub sealed_goes_on : (shape : Shape) (last place : Place) → 1 ≤ place.records → GoesOnAt last place → GoesOnAt last (sealed place)
 sealed_goes_on shape last place some (inl same) = inr (inl (ap sealed same))
 sealed_goes_on shape last place some (inr (inl same)) = absurd (let none : place.records ≡ 0 = ap (λ (p : Place). p.records) same in omega (arith, none, some))
-sealed_goes_on shape last place some (inr (inr further)) = absurd (let none : place.records ≡ 0 = ap (λ (p : Place). p.records) further.1 in omega (arith, none, some))
+sealed_goes_on shape last place some (inr (inr further)) =
+    absurd (let none : place.records ≡ 0 = ap (λ (p : Place). p.records) further.1 in omega (arith, none, some))

@@ -199,7 +199,9 @@ push_begun shape place before entry container sector has at low above within =
       used = omega (arith, none, more);
       of_container = of_container;
       of_offset = of_offset;
-      above = weaker (λ (e : LogEntry). e.lsn < frontier place) (λ (e : LogEntry). e.lsn < frontier after) before (λ e less. omega (arith, less, above, at)) has.below;
+      above =
+          weaker (λ (e : LogEntry). e.lsn < frontier place) (λ (e : LogEntry). e.lsn < frontier after) before
+          (λ e less. omega (arith, less, above, at)) has.below;
       below = omega (arith, at);
       size_fits = omega arith;
     }) has.short has.ends)
@@ -221,7 +223,8 @@ pub paid_push : (shape : Shape) (place : Place) (before : List LogEntry) (entry 
 paid_push shape place before entry is has (inl joins) within = push_joined shape place before entry is has joins.0 joins.1 within
 paid_push shape place before entry is has (inr (inl at)) within =
     let above = sealed_above shape place before has in
-    push_begun shape place before entry place.container (block_end place) has at (omega (arith, has.end, is.largest_container)) (omega (arith, above, at)) within
+    push_begun shape place before entry place.container (block_end place) has at (omega (arith, has.end, is.largest_container))
+    (omega (arith, above, at)) within
 paid_push shape place before entry is has (inr (inr further)) within =
     push_begun shape place before entry (container_of entry.lsn) 0 has further.1 (omega arith)
     (omega (arith, further.0, further.1, has.few, has.offset, has.end, is.largest_container)) within

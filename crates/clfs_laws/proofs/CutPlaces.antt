@@ -118,7 +118,8 @@ sealed_ends s last valid has some same =
     let of_offset : (cut s).place.offset ≡ 512 * block_end last = ap (λ (p : Place). p.offset) same in
     any_among (EndsBlockOf s.records (cut s).place) s.records member.entry
     (among_all (λ (entry : LogEntry). nat_lt entry.lsn (flushed s)) s.records member.entry member.among)
-    (ends_there (cut s).place last s.records member.entry of_container (omega (arith, of_offset, has.offset)) (omega (arith, used, all)) member.of_container member.of_offset)
+    (ends_there (cut s).place last s.records member.entry of_container (omega (arith, of_offset, has.offset))
+    (omega (arith, used, all)) member.of_container member.of_offset)
 
 -- a container in which a log's place isn't at the start has a record
 has_record : (s : State) → IsValid s → HasBlocks s → 1 ≤ block_end s.place
@@ -163,7 +164,8 @@ further_ends s t valid_s valid_t blocks adds turn more start = by_turn turn.cont
         let of_t = flushed_block t valid_t in
         let container : (cut t).place.container ≡ container_of found.0.lsn + 1 = omega (arith, of_t.container, next.0, found.2) in
         let F : List LogEntry → Type 0 = λ entries. IsAmong found.0 entries in
-        any_among (EndsBlockOf t.records (cut t).place) t.records found.0 (subst F (sym adds.joined) (among_front s.records adds.more found.0 found.1)) (inr (container, start))
+        any_among (EndsBlockOf t.records (cut t).place) t.records found.0
+        (subst F (sym adds.joined) (among_front s.records adds.more found.0 found.1)) (inr (container, start))
 
 moved_ends : (s t : State) → IsValid s → IsValid t → HasBlocks s → HasBlocks t → Adds s t → IsTurn s t → flushed s < flushed t
     → Any (EndsBlockOf t.records (cut t).place) t.records

@@ -129,8 +129,10 @@ flushed_still s t valid adds =
 restart_more : (s t : State) (entry : LogEntry) → flushed s ≤ entry.lsn → t.records ≡ s.records ++ entry ∷ [] → HasMore t.records (cut s)
 restart_more s t entry above is =
     let F : List LogEntry → Type 0 = λ entries. IsAmong entry entries in
-    any_among (λ (e : LogEntry). All (λ (other : LogEntry). other.lsn ≡ e.lsn → ⊥) (cut s).records) t.records entry (subst F (sym is) (among_last s.records entry))
-    (All-weaker (λ (other : LogEntry). other.lsn < flushed s) (λ (other : LogEntry). other.lsn ≡ entry.lsn → ⊥) (λ other below same. omega (arith, below, same, above))
+    any_among (λ (e : LogEntry). All (λ (other : LogEntry). other.lsn ≡ e.lsn → ⊥) (cut s).records) t.records entry
+    (subst F (sym is) (among_last s.records entry))
+    (All-weaker (λ (other : LogEntry). other.lsn < flushed s) (λ (other : LogEntry). other.lsn ≡ entry.lsn → ⊥)
+    (λ other below same. omega (arith, below, same, above))
     (cut s).records (All-from_recursion (λ (other : LogEntry). other.lsn < flushed s) (cut s).records (kept_below (flushed s) s.records)))
 
 restart_before : (s : State) (area : Area) (bytes : List ℕ) (base : ℕ) (is_reserved : Bool) → IsValid s
@@ -139,7 +141,8 @@ restart_before s area bytes base is_reserved valid =
     let t : State = restarted s area bytes base is_reserved in
     let above : flushed s ≤ next_lsn s (length bytes) = omega (arith, flushed_below s valid.waiting, of_links.next_above s (length bytes) (sound_of s valid)) in
     record {
-      there = λ none. absurd (none (restart_more s t (placed_record s (restart_record s area bytes base)) above (restarted_records s area bytes base is_reserved)));
+      there =
+          λ none. absurd (none (restart_more s t (placed_record s (restart_record s area bytes base)) above (restarted_records s area bytes base is_reserved)));
       lost = λ more stream. refl;
     }
 

@@ -34,7 +34,8 @@ use Rattle.clfs_laws.proofs.ValidAreaCalls.{none_of_option, its_area}
 -- areas of a state with the same records
 areas_in : (s t : State) (areas : List Area) → t.records ≡ s.records → All (IsAreaWithinLimits s) areas → All (IsAreaWithinLimits t) areas
 areas_in s t areas records all =
-    All-weaker (IsAreaWithinLimits s) (IsAreaWithinLimits t) (λ area is. area_kept s t area area [] (records ∙ sym (append-nil s.records)) (alike_itself area) is) areas all
+    All-weaker (IsAreaWithinLimits s) (IsAreaWithinLimits t)
+    (λ area is. area_kept s t area area [] (records ∙ sym (append-nil s.records)) (alike_itself area) is) areas all
 
 second_false : (a b : Bool) → a ≡ true → (a && b) ≡ false → b ≡ false
 second_false true b passes fails = fails
@@ -178,7 +179,8 @@ with_new_cursor s area kind entry valid none read is =
       reads = is.reads;
       few_cursors = omega (arith, less, length-append area.cursors (new ∷ []));
       cursors = All-push (IsCursor s b) area.cursors new
-          (All-weaker (IsCursor s area) (IsCursor s b) (λ cursor has. cursor_kept s s area b [] (sym (append-nil s.records)) refl refl cursor has) area.cursors is.cursors)
+          (All-weaker (IsCursor s area) (IsCursor s b) (λ cursor has. cursor_kept s s area b []
+          (sym (append-nil s.records)) refl refl cursor has) area.cursors is.cursors)
           (cursor_at_read s b (unused_cursor area.cursors) kind entry valid range.0 (omega (arith, range.1, less)) read);
     }
 
@@ -196,7 +198,9 @@ with_moved_cursor : (s : State) (area : Area) (cursor : ℕ) (at : Cursor) (entr
 with_moved_cursor s area cursor at entry valid fits among named leads is =
     let b : Area = with_cursor_at cursor entry.lsn area in
     let moved : List Cursor = map (moved_if cursor entry.lsn) area.cursors in
-    let all = cursors_moved s area cursor at entry valid fits.cursors among named (read_on_by s area at entry leads) (recursion_from_All (IsCursor s area) area.cursors is.cursors) in
+    let all =
+    cursors_moved s area cursor at entry valid fits.cursors among named (read_on_by s area at entry leads)
+    (recursion_from_All (IsCursor s area) area.cursors is.cursors) in
     record {
       client = is.client;
       some_number = is.some_number;
@@ -257,6 +261,7 @@ limits_ended s client number cursor limits =
       some_reads = is.some_reads;
       reads = is.reads;
       few_cursors = let fewer = fewer_cursors p area.cursors in omega (arith, is.few_cursors, fewer);
-      cursors = All-weaker (IsCursor s area) (IsCursor s b) (λ c has. cursor_kept s s area b [] (sym (append-nil s.records)) refl refl c has) (filter p area.cursors)
+      cursors =
+          All-weaker (IsCursor s area) (IsCursor s b) (λ c has. cursor_kept s s area b [] (sym (append-nil s.records)) refl refl c has) (filter p area.cursors)
           (All-filter p (IsCursor s area) area.cursors is.cursors);
     }) limits

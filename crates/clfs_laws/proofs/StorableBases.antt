@@ -55,7 +55,8 @@ bases_of_more s new number = by_stream (stream_at s number) refl
   where
     by_stream : (found : Option Stream) → stream_at s number ≡ found
         → base_of s number ≤ base_of (record s { streams = s.streams ++ new ∷ [] }) number
-    by_stream None none = let null : base_of s number ≡ 0 = ap (λ (f : Option Stream). option_map_or (λ (stream : Stream). stream.base) f null_lsn) none in omega (arith, null)
+    by_stream None none =
+        let null : base_of s number ≡ 0 = ap (λ (f : Option Stream). option_map_or (λ (stream : Stream). stream.base) f null_lsn) none in omega (arith, null)
     by_stream (Some stream) some =
         let there : IsSome (stream_at s number) = subst IsSome (sym some) refl in
         let same : base_of (record s { streams = s.streams ++ new ∷ [] }) number ≡ base_of s number =
@@ -159,7 +160,8 @@ record MovesBase (s t : State) (stream base : ℕ) : Type 0 where
 moves_by : (s u : State) (stream base : ℕ) (none : Bool) → (base == null_lsn) ≡ none → u.streams ≡ s.streams → IsSome (stream_at s stream)
     → ((base == null_lsn) ≡ false → base_of s stream ≤ base)
     → MovesBase s (if none then u else record u { streams = set_base stream base u.streams }) stream base
-moves_by s u stream base true is streams there based = record { rise = same_bases s u streams; moved = let null = eqb-true base null_lsn is in omega (arith, null) }
+moves_by s u stream base true is streams there based =
+    record { rise = same_bases s u streams; moved = let null = eqb-true base null_lsn is in omega (arith, null) }
 moves_by s u stream base false is streams there based =
     let F : List Stream → Type 0 = λ xs. MovesBase s (record u { streams = set_base stream base xs }) stream base in
     let rise = bases_of_set s stream base there (based is) in
@@ -179,13 +181,16 @@ bases_restarted s client number area bytes base is_reserved valid there none all
     let sound = sound_of s valid in
     let allows = of_restarts.allowed s area bytes base is_reserved none in
     let between : (base == null_lsn) ≡ false → IsBetween s area.stream base = λ some. base_between s area.stream base sound (allows.based some) in
-    let is : MovesBase s t area.stream base = moves s _ area.stream base (flushed_streams s area bytes base is_reserved) (its_area s client number area there valid).stream (λ some. (between some).above) in
+    let is : MovesBase s t area.stream base =
+    moves s _ area.stream base (flushed_streams s area bytes base is_reserved) (its_area s client number area there valid).stream
+    (λ some. (between some).above) in
     let above = next_above s (length bytes) sound in
     let own : base ≤ next_lsn s (length bytes) = elim (cases_Bool (base == null_lsn)) [
       | inl null ↦ let nothing = eqb-true base null_lsn null in omega (arith, nothing)
       | inr some ↦ let has = between some in omega (arith, has.below, above)
     ] in
-    bases_push s t (placed_record s (restart_record s area bytes base)) (restarted_records s area bytes base is_reserved) is.rise (record { own = own; moved = is.moved }) all
+    bases_push s t (placed_record s (restart_record s area bytes base)) (restarted_records s area bytes base is_reserved) is.rise
+    (record { own = own; moved = is.moved }) all
 
 -- a base that is advanced
 pub bases_advanced : (s : State) (stream lsn : ℕ) → IsValid s → invalid_base s stream lsn None ≡ None → IsSome (stream_at s stream)

@@ -152,7 +152,8 @@ blocks_appended s client number area draft is_reserved sizes valid there none bl
     let need = need_of is_reserved (length draft.bytes) sizes in
     let u : State = grown s need in
     let valid_u : IsValid u = valid_grown s need valid in
-    let may = may_append s client number area draft is_reserved sizes u refl (grown_is s need) valid valid_u there (allowed s area draft is_reserved sizes none) in
+    let may =
+    may_append s client number area draft is_reserved sizes u refl (grown_is s need) valid valid_u there (allowed s area draft is_reserved sizes none) in
     let joined = blocks_joined u client number area (plain_record area draft) is_reserved _ valid_u may (blocks_grown s need blocks) in
     blocks_flush_if draft.flush _ (blocks_seal_if draft.seal _ (blocks_hold area sizes _ joined))
 

@@ -51,7 +51,12 @@ live_read s stream mode =
     let P : LogEntry → Type 0 = λ entry. IsAmong entry s.records in
     passing p (IsRead s stream (Records mode)) s.records
     (all_passing p P (IsRead s stream (Records mode)) s.records
-    (λ entry among passes. record { among = among; stream = eqb-true entry.stream stream (and_parts (entry.stream == stream) (is_live s entry) passes).0; kind = tt })
+    (λ entry among passes. record {
+      among = among;
+      stream = eqb-true entry.stream stream
+          (and_parts (entry.stream == stream) (is_live s entry) passes).0;
+      kind = tt;
+    })
     (each_among s.records))
 
 restart_kind : (kind : Kind) → is_restart kind ≡ true → kind ≡ Restart
@@ -76,7 +81,8 @@ found_has p P entries entry is all = among_recursion P entries entry all (found 
 
 pub read_live : (s : State) (stream lsn : ℕ) (mode : Mode) (entry : LogEntry) → live_at s stream lsn ≡ Some entry
     → IsRead s stream (Records mode) entry
-read_live s stream lsn mode entry is = found_has (λ (e : LogEntry). e.lsn == lsn) (IsRead s stream (Records mode)) (live s stream) entry is (live_read s stream mode)
+read_live s stream lsn mode entry is =
+    found_has (λ (e : LogEntry). e.lsn == lsn) (IsRead s stream (Records mode)) (live s stream) entry is (live_read s stream mode)
 
 pub read_newest : (s : State) (stream : ℕ) (entry : LogEntry) → newest_restart s stream ≡ Some entry → IsRead s stream RestartAreas entry
 read_newest s stream entry is = get_has (IsRead s stream RestartAreas) (restart_areas s stream) 0 entry is (restarts_read s stream)
@@ -91,7 +97,8 @@ read_next : (s : State) (stream : ℕ) (mode : Mode) (last : ℕ) (entry : LogEn
     → IsRead s stream (Records mode) entry
 read_next s stream Previous last entry is = linked s stream Previous (λ (e : LogEntry). e.previous) (entry_at s last) entry is
 read_next s stream UndoNext last entry is = linked s stream UndoNext (λ (e : LogEntry). e.undo_next) (entry_at s last) entry is
-read_next s stream Forward last entry is = found_has (λ (e : LogEntry). nat_lt last e.lsn) (IsRead s stream (Records Forward)) (live s stream) entry is (live_read s stream Forward)
+read_next s stream Forward last entry is =
+    found_has (λ (e : LogEntry). nat_lt last e.lsn) (IsRead s stream (Records Forward)) (live s stream) entry is (live_read s stream Forward)
 
 read_of_kind : (s : State) (stream : ℕ) (kind : CursorKind) (last : ℕ) (entry : LogEntry) → next_of_kind s stream kind last ≡ Some entry
     → IsRead s stream kind entry

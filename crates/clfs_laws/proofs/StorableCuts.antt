@@ -87,7 +87,8 @@ pub record IsLow (place : Place) : Type 0 where
   pub few : place.records ≤ 511
 
 low_within : (shape : Shape) (place : Place) → IsShape shape → IsWithin shape place → IsLow place
-low_within shape place is within = record { offset = within.offset; end = omega (arith, within.end, is.largest_container); few = few_records shape place within }
+low_within shape place is within =
+    record { offset = within.offset; end = omega (arith, within.end, is.largest_container); few = few_records shape place within }
 
 pub low_all : (shape : Shape) (place : Place) (entries : List LogEntry) → IsShape shape → IsLow place → LieInBlocks shape place entries
     → IsLow (behind_all place entries)

@@ -46,7 +46,8 @@ area_kept s t a b more records alike is = record {
   few_cursors = let count : length b.cursors ≡ length a.cursors = ap length alike.cursors in omega (arith, is.few_cursors, count, alike.reads);
   cursors =
       let F : List Cursor → Type 0 = All (IsCursor t b) in
-      subst F (sym alike.cursors) (All-weaker (IsCursor s a) (IsCursor t b) (λ cursor has. cursor_kept s t a b more records alike.reads alike.stream cursor has) a.cursors is.cursors);
+      subst F (sym alike.cursors) (All-weaker (IsCursor s a) (IsCursor t b)
+      (λ cursor has. cursor_kept s t a b more records alike.reads alike.stream cursor has) a.cursors is.cursors);
 }
 
 pub alike_itself : (a : Area) → IsAlike a a
@@ -62,9 +63,12 @@ limits_as s t more streams areas records limits =
       names = subst N (sym streams) limits.names;
       few_streams = let count : length t.streams ≡ length s.streams = ap length streams in omega (arith, limits.few_streams, count);
       few_areas = λ client.
-          let count : length (areas_of t client) ≡ length (areas_of s client) = ap (λ (xs : List Area). length (filter (λ (area : Area). area.client == client) xs)) areas in
+          let count : length (areas_of t client) ≡ length (areas_of s client) =
+          ap (λ (xs : List Area). length (filter (λ (area : Area). area.client == client) xs)) areas in
           omega (arith, limits.few_areas client, count);
-      areas = subst A (sym areas) (All-weaker (IsAreaWithinLimits s) (IsAreaWithinLimits t) (λ area is. area_kept s t area area more records (alike_itself area) is) s.areas limits.areas);
+      areas =
+          subst A (sym areas) (All-weaker (IsAreaWithinLimits s) (IsAreaWithinLimits t)
+          (λ area is. area_kept s t area area more records (alike_itself area) is) s.areas limits.areas);
     }
 
 -- with the same records
@@ -98,7 +102,9 @@ limits_found s p change client keeps limits = let t : State = record s { areas =
   names = limits.names;
   few_streams = limits.few_streams;
   few_areas = λ of. let count = few_changed of p change client s.areas in omega (arith, limits.few_areas of, count);
-  areas = All-weaker (IsAreaWithinLimits s) (IsAreaWithinLimits t) (λ area is. area_kept s t area area [] (sym (append-nil s.records)) (alike_itself area) is) t.areas
+  areas =
+      All-weaker (IsAreaWithinLimits s) (IsAreaWithinLimits t)
+      (λ area is. area_kept s t area area [] (sym (append-nil s.records)) (alike_itself area) is) t.areas
       (All-from_recursion (IsAreaWithinLimits s) t.areas (changed s.areas keeps (recursion_from_All (IsAreaWithinLimits s) s.areas limits.areas)));
 }
   where
@@ -179,7 +185,9 @@ limits_set s number lsn limits = let t : State = record s { streams = set_base n
       (names_set number s.streams (recursion_from_All (λ (stream : Stream). name_fault stream.name ≡ None) s.streams limits.names));
   few_streams = let count = set_length number lsn s.streams in omega (arith, limits.few_streams, count);
   few_areas = limits.few_areas;
-  areas = All-weaker (IsAreaWithinLimits s) (IsAreaWithinLimits t) (λ area is. area_kept s t area area [] (sym (append-nil s.records)) (alike_itself area) is) s.areas limits.areas;
+  areas =
+      All-weaker (IsAreaWithinLimits s) (IsAreaWithinLimits t)
+      (λ area is. area_kept s t area area [] (sym (append-nil s.records)) (alike_itself area) is) s.areas limits.areas;
 }
   where
     names_set : (n : ℕ) (streams : List Stream) → AllByRecursion (λ (stream : Stream). name_fault stream.name ≡ None) streams

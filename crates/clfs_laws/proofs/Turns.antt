@@ -201,7 +201,8 @@ turn_answer s client (calls.WriteRestart number bytes base is_reserved) none val
     (λ area there passes. turn_restarted s client number area bytes base is_reserved valid there passes)
 turn_answer s client (calls.ReadRestart number) none valid = over s client number _ (λ (area : Area).
     of_option (TurnsIn s) (newest_restart s area.stream) _ _ (λ (entry : LogEntry). stays s _ refl refl) (itself s))
-turn_answer s client (calls.PreviousRestart number cursor) none valid = over s client number _ (λ (area : Area). moved s area cursor (restart_cursor area cursor))
+turn_answer s client (calls.PreviousRestart number cursor) none valid =
+    over s client number _ (λ (area : Area). moved s area cursor (restart_cursor area cursor))
 turn_answer s client (calls.Advance number lsn) none valid = over s client number _ (λ (area : Area).
     turn_behind s (flush s) (advanced s area.stream lsn) refl refl (turn_flush s s (itself s)))
 turn_answer s client (calls.SetArchive on) none valid = turn_archiving s on
