@@ -18,7 +18,8 @@ behind_more place [] more = refl
 behind_more place (entry ∷ entries) more = behind_more (behind place entry) entries more
 
 -- the records of a front lie so too
-pub laid_front : (shape : Shape) (place : Place) (entries more : List LogEntry) → LieInBlocks shape place (entries ++ more) → LieInBlocks shape place entries
+pub laid_front : (shape : Shape) (place : Place) (entries more : List LogEntry) → LieInBlocks shape place (entries ++ more)
+    → LieInBlocks shape place entries
 laid_front shape place [] more laid = tt
 laid_front shape place (entry ∷ entries) more laid = (laid.0, (laid.1.0, laid_front shape (behind place entry) entries more laid.1.1))
 
@@ -42,7 +43,8 @@ pub record GoesOnWith (last : Place) (entry : LogEntry) (after : Place) : Type 0
   pub is : behind last entry ≡ after
 
 -- the place behind a record that begins a block
-pub behind_begun : (last : Place) (entry : LogEntry) (container sector : ℕ) → entry.lsn ≡ lsn_number container (512 * sector) 0 → 512 * sector ≤ 8388608
+pub behind_begun : (last : Place) (entry : LogEntry) (container sector : ℕ) → entry.lsn ≡ lsn_number container (512 * sector) 0
+    → 512 * sector ≤ 8388608
     → behind last entry ≡ begun container sector (length entry.bytes)
 behind_begun last entry container sector at low =
     let first : sequence_of entry.lsn ≡ 0 = omega (arith, at) in
@@ -63,11 +65,14 @@ joined_next : (shape : Shape) (last place : Place) (entry : LogEntry) → place.
 joined_next shape last place entry whole some few (inl same) at =
     let F : Place → Type 0 = λ p. GoesOnWith p entry (record place { used = place.used + size (length entry.bytes); records = place.records + 1 }) in
     subst F same (record { lies = inl (some, at); is = behind_joined place entry whole some (omega (arith, few)) at })
-joined_next shape last place entry whole some few (inr (inl same)) at = absurd (let none : place.records ≡ 0 = ap (λ (p : Place). p.records) same in omega (arith, none, some))
-joined_next shape last place entry whole some few (inr (inr further)) at = absurd (let none : place.records ≡ 0 = ap (λ (p : Place). p.records) further.1 in omega (arith, none, some))
+joined_next shape last place entry whole some few (inr (inl same)) at =
+    absurd (let none : place.records ≡ 0 = ap (λ (p : Place). p.records) same in omega (arith, none, some))
+joined_next shape last place entry whole some few (inr (inr further)) at =
+    absurd (let none : place.records ≡ 0 = ap (λ (p : Place). p.records) further.1 in omega (arith, none, some))
 
 -- a record that begins a block behind the open one
-begun_lies : (last place : Place) (entry : LogEntry) → 512 * block_end place ≤ 8388608 → GoesOnAt last place → entry.lsn ≡ lsn_number place.container (512 * block_end place) 0
+begun_lies : (last place : Place) (entry : LogEntry) → 512 * block_end place ≤ 8388608 → GoesOnAt last place
+    → entry.lsn ≡ lsn_number place.container (512 * block_end place) 0
     → LiesBehind last entry
 begun_lies last place entry low (inl same) at =
     let F : Place → Type 0 = λ p. entry.lsn ≡ lsn_number p.container (512 * block_end p) 0 in
@@ -114,4 +119,5 @@ next_goes_on shape last place entry is within goes at =
 pub sealed_goes_on : (shape : Shape) (last place : Place) → 1 ≤ place.records → GoesOnAt last place → GoesOnAt last (sealed place)
 sealed_goes_on shape last place some (inl same) = inr (inl (ap sealed same))
 sealed_goes_on shape last place some (inr (inl same)) = absurd (let none : place.records ≡ 0 = ap (λ (p : Place). p.records) same in omega (arith, none, some))
-sealed_goes_on shape last place some (inr (inr further)) = absurd (let none : place.records ≡ 0 = ap (λ (p : Place). p.records) further.1 in omega (arith, none, some))
+sealed_goes_on shape last place some (inr (inr further)) =
+    absurd (let none : place.records ≡ 0 = ap (λ (p : Place). p.records) further.1 in omega (arith, none, some))

@@ -47,7 +47,8 @@ pub record IsPaid (shape : Shape) (place : Place) (before : List LogEntry) : Typ
   pub short : AllByRecursion (λ (entry : LogEntry). length entry.bytes ≤ longest shape) before
   pub ends : AllByRecursion (EndsWithin shape.container_sectors before) before
 
-weaker : (P Q : LogEntry → Type 0) (entries : List LogEntry) → ((entry : LogEntry) → P entry → Q entry) → AllByRecursion P entries → AllByRecursion Q entries
+weaker : (P Q : LogEntry → Type 0) (entries : List LogEntry) → ((entry : LogEntry) → P entry → Q entry) → AllByRecursion P entries
+    → AllByRecursion Q entries
 weaker P Q [] more all = tt
 weaker P Q (entry ∷ entries) more all = (more entry all.0, weaker P Q entries more all.1)
 
@@ -74,7 +75,8 @@ paid_other container offset before entry is =
 -- the end of the open block, and of the others, with the record
 end_of_one : (most : ℕ) (place : Place) (before : List LogEntry) (entry other : LogEntry) → place.offset % 512 ≡ 0 → block_end place ≤ most
     → place.used ≡ 16 + paid place.container place.offset (before ++ entry ∷ [])
-    → container_of entry.lsn ≡ place.container → offset_of entry.lsn ≡ place.offset → EndsWithin most before other → EndsWithin most (before ++ entry ∷ []) other
+    → container_of entry.lsn ≡ place.container → offset_of entry.lsn ≡ place.offset → EndsWithin most before other
+    → EndsWithin most (before ++ entry ∷ []) other
 end_of_one most place before entry other whole end used of_container of_offset was =
     elim (cases_Bool (is_of_block (container_of other.lsn) (offset_of other.lsn) entry)) [
       | inl here ↦
@@ -118,7 +120,8 @@ opened shape place (inl closed) some = absurd (omega (arith, closed.1, some))
 opened shape place (inr is) some = is
 
 pushed : (shape : Shape) (place : Place) (before : List LogEntry) (entry : LogEntry) → IsPushed shape place before entry
-    → AllByRecursion (λ (other : LogEntry). length other.bytes ≤ longest shape) before → AllByRecursion (EndsWithin shape.container_sectors before) before
+    → AllByRecursion (λ (other : LogEntry). length other.bytes ≤ longest shape) before
+    → AllByRecursion (EndsWithin shape.container_sectors before) before
     → IsPaid shape place (before ++ entry ∷ [])
 pushed shape place before entry is short ends =
     let most : ℕ = shape.container_sectors in
@@ -144,12 +147,14 @@ pushed shape place before entry is short ends =
           (λ other was. end_of_one most place before entry other is.within.offset is.within.end is.used is.of_container is.of_offset was) ends) (last, tt);
     }
 
-of_block : (container offset : ℕ) (entry : LogEntry) → container_of entry.lsn ≡ container → offset_of entry.lsn ≡ offset → is_of_block container offset entry ≡ true
+of_block : (container offset : ℕ) (entry : LogEntry) → container_of entry.lsn ≡ container → offset_of entry.lsn ≡ offset
+    → is_of_block container offset entry ≡ true
 of_block container offset entry of_container of_offset =
     rw (equal_true (container_of entry.lsn) container of_container) (equal_true (offset_of entry.lsn) offset of_offset)
 
 -- a record that joins the open block
-push_joined : (shape : Shape) (place : Place) (before : List LogEntry) (entry : LogEntry) → IsShape shape → IsPaid shape place before → 1 ≤ place.records
+push_joined : (shape : Shape) (place : Place) (before : List LogEntry) (entry : LogEntry) → IsShape shape → IsPaid shape place before
+    → 1 ≤ place.records
     → entry.lsn ≡ frontier place → IsWithin shape (behind place entry) → IsPaid shape (behind place entry) (before ++ entry ∷ [])
 push_joined shape place before entry is has some at within =
     let n = length entry.bytes in
@@ -194,13 +199,16 @@ push_begun shape place before entry container sector has at low above within =
       used = omega (arith, none, more);
       of_container = of_container;
       of_offset = of_offset;
-      above = weaker (λ (e : LogEntry). e.lsn < frontier place) (λ (e : LogEntry). e.lsn < frontier after) before (λ e less. omega (arith, less, above, at)) has.below;
+      above =
+          weaker (λ (e : LogEntry). e.lsn < frontier place) (λ (e : LogEntry). e.lsn < frontier after) before
+          (λ e less. omega (arith, less, above, at)) has.below;
       below = omega (arith, at);
       size_fits = omega arith;
     }) has.short has.ends)
 
 -- the next block begins at or above the frontier
-sealed_above : (shape : Shape) (place : Place) (before : List LogEntry) → IsPaid shape place before → frontier place ≤ lsn_number place.container (512 * block_end place) 0
+sealed_above : (shape : Shape) (place : Place) (before : List LogEntry) → IsPaid shape place before
+    → frontier place ≤ lsn_number place.container (512 * block_end place) 0
 sealed_above shape place before has = elim (cases_Bool (place.records == 0)) [
   | inl none ↦ let empty = eqb-true place.records 0 none in omega (arith, empty, has.offset)
   | inr some ↦
@@ -209,17 +217,20 @@ sealed_above shape place before has = elim (cases_Bool (place.records == 0)) [
       omega (arith, used, has.offset, has.few)
 ]
 
-pub paid_push : (shape : Shape) (place : Place) (before : List LogEntry) (entry : LogEntry) → IsShape shape → IsPaid shape place before → LiesBehind place entry
+pub paid_push : (shape : Shape) (place : Place) (before : List LogEntry) (entry : LogEntry) → IsShape shape → IsPaid shape place before
+    → LiesBehind place entry
     → IsWithin shape (behind place entry) → IsPaid shape (behind place entry) (before ++ entry ∷ [])
 paid_push shape place before entry is has (inl joins) within = push_joined shape place before entry is has joins.0 joins.1 within
 paid_push shape place before entry is has (inr (inl at)) within =
     let above = sealed_above shape place before has in
-    push_begun shape place before entry place.container (block_end place) has at (omega (arith, has.end, is.largest_container)) (omega (arith, above, at)) within
+    push_begun shape place before entry place.container (block_end place) has at (omega (arith, has.end, is.largest_container))
+    (omega (arith, above, at)) within
 paid_push shape place before entry is has (inr (inr further)) within =
     push_begun shape place before entry (container_of entry.lsn) 0 has further.1 (omega arith)
     (omega (arith, further.0, further.1, has.few, has.offset, has.end, is.largest_container)) within
 
-pub paid_all : (shape : Shape) (place : Place) (before entries : List LogEntry) → IsShape shape → IsPaid shape place before → LieInBlocks shape place entries
+pub paid_all : (shape : Shape) (place : Place) (before entries : List LogEntry) → IsShape shape → IsPaid shape place before
+    → LieInBlocks shape place entries
     → IsPaid shape (behind_all place entries) (before ++ entries)
 paid_all shape place before [] is has laid = subst (IsPaid shape place) (sym (append-nil before)) has
 paid_all shape place before (entry ∷ entries) is has laid =
@@ -228,7 +239,8 @@ paid_all shape place before (entry ∷ entries) is has laid =
     (paid_all shape (behind place entry) (before ++ entry ∷ []) entries is first laid.1.1)
 
 -- of all records of a log
-pub paid_last : (shape : Shape) (entries : List LogEntry) → IsShape shape → LieInBlocks shape before_all entries → IsPaid shape (behind_all before_all entries) entries
+pub paid_last : (shape : Shape) (entries : List LogEntry) → IsShape shape → LieInBlocks shape before_all entries
+    → IsPaid shape (behind_all before_all entries) entries
 paid_last shape entries is laid = paid_all shape before_all [] entries is (record {
   offset = refl;
   end = omega arith;

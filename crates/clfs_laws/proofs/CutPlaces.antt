@@ -73,7 +73,8 @@ paid_front container offset bound front more above all =
     omega (arith, whole, parts, none)
 
 -- the last block of records that end at a place
-ends_there : (place last : Place) (entries : List LogEntry) (entry : LogEntry) → place.container ≡ last.container → place.offset ≡ last.offset + 512 * sectors last.used
+ends_there : (place last : Place) (entries : List LogEntry) (entry : LogEntry) → place.container ≡ last.container
+    → place.offset ≡ last.offset + 512 * sectors last.used
     → last.used ≡ 16 + paid last.container last.offset entries → container_of entry.lsn ≡ last.container → offset_of entry.lsn ≡ last.offset
     → EndsBlockOf entries place entry
 ends_there place last entries entry container offset used of_container of_offset =
@@ -95,7 +96,8 @@ front_paid s valid blocks =
     paid_last s.shape (cut s).records valid.ranges.shape (laid_front s.shape before_all (cut s).records front.more (subst L front.is blocks.laid))
 
 -- a place whose container no log has
-no_container : (s : State) (place : Place) (entries : List LogEntry) → IsValid s → entries ≡ [] → place.container ≡ (behind_all before_all entries).container
+no_container : (s : State) (place : Place) (entries : List LogEntry) → IsValid s → entries ≡ []
+    → place.container ≡ (behind_all before_all entries).container
     → place.container ≡ s.place.container → ⊥
 no_container s place entries valid none of_last of_place =
     let zero_container : (behind_all before_all entries).container ≡ 0 = ap (λ (es : List LogEntry). (behind_all before_all es).container) none in
@@ -116,10 +118,12 @@ sealed_ends s last valid has some same =
     let of_offset : (cut s).place.offset ≡ 512 * block_end last = ap (λ (p : Place). p.offset) same in
     any_among (EndsBlockOf s.records (cut s).place) s.records member.entry
     (among_all (λ (entry : LogEntry). nat_lt entry.lsn (flushed s)) s.records member.entry member.among)
-    (ends_there (cut s).place last s.records member.entry of_container (omega (arith, of_offset, has.offset)) (omega (arith, used, all)) member.of_container member.of_offset)
+    (ends_there (cut s).place last s.records member.entry of_container (omega (arith, of_offset, has.offset))
+    (omega (arith, used, all)) member.of_container member.of_offset)
 
 -- a container in which a log's place isn't at the start has a record
-has_record : (s : State) → IsValid s → HasBlocks s → 1 ≤ block_end s.place → (entry : LogEntry) × IsAmong entry s.records × (container_of entry.lsn ≡ s.place.container)
+has_record : (s : State) → IsValid s → HasBlocks s → 1 ≤ block_end s.place
+    → (entry : LogEntry) × IsAmong entry s.records × (container_of entry.lsn ≡ s.place.container)
 has_record s valid blocks some = by_place blocks.place
   where
     last : Place
@@ -160,7 +164,8 @@ further_ends s t valid_s valid_t blocks adds turn more start = by_turn turn.cont
         let of_t = flushed_block t valid_t in
         let container : (cut t).place.container ≡ container_of found.0.lsn + 1 = omega (arith, of_t.container, next.0, found.2) in
         let F : List LogEntry → Type 0 = λ entries. IsAmong found.0 entries in
-        any_among (EndsBlockOf t.records (cut t).place) t.records found.0 (subst F (sym adds.joined) (among_front s.records adds.more found.0 found.1)) (inr (container, start))
+        any_among (EndsBlockOf t.records (cut t).place) t.records found.0
+        (subst F (sym adds.joined) (among_front s.records adds.more found.0 found.1)) (inr (container, start))
 
 moved_ends : (s t : State) → IsValid s → IsValid t → HasBlocks s → HasBlocks t → Adds s t → IsTurn s t → flushed s < flushed t
     → Any (EndsBlockOf t.records (cut t).place) t.records
@@ -175,7 +180,8 @@ moved_ends s t valid_s valid_t blocks_s blocks_t adds turn more = by_place (cut_
     of_place : (cut t).place.container ≡ t.place.container
     of_place = (flushed_block t valid_t).container
 
-    by_start : (same : (cut t).place ≡ sealed last) → ((cut t).records ≡ []) ⊎ (1 ≤ last.records) → Any (EndsBlockOf t.records (cut t).place) t.records
+    by_start : (same : (cut t).place ≡ sealed last) → ((cut t).records ≡ []) ⊎ (1 ≤ last.records)
+        → Any (EndsBlockOf t.records (cut t).place) t.records
     by_start same (inl none) = absurd (no_container t (cut t).place (cut t).records valid_t none (ap (λ (p : Place). p.container) same) of_place)
     by_start same (inr some) = sealed_ends t last valid_t has some same
 

@@ -108,7 +108,8 @@ cut_leaves : (s : State) → IsValid s → LeavesStable s (cut s)
 cut_leaves s valid = record { flushed = frontier_cut s valid; settings = settings_of s; bases = λ stream. refl }
 
 -- nothing else survives opening anew
-pub reopening_only : (s x : State) (client : ℕ) → IsValid s → IsStorable s → IsSurvivor (reopens client) s (cut s) x → record x { buffers = s.buffers } ≡ cut s
+pub reopening_only : (s x : State) (client : ℕ) → IsValid s → IsStorable s → IsSurvivor (reopens client) s (cut s) x
+    → record x { buffers = s.buffers } ≡ cut s
 reopening_only s x client valid storable survives =
     let leaves = cut_leaves s valid in
     let at = frontier_is (reopens client) s (cut s) x leaves survives in
@@ -128,8 +129,10 @@ flushed_still s t valid adds =
 restart_more : (s t : State) (entry : LogEntry) → flushed s ≤ entry.lsn → t.records ≡ s.records ++ entry ∷ [] → HasMore t.records (cut s)
 restart_more s t entry above is =
     let F : List LogEntry → Type 0 = λ entries. IsAmong entry entries in
-    any_among (λ (e : LogEntry). All (λ (other : LogEntry). other.lsn ≡ e.lsn → ⊥) (cut s).records) t.records entry (subst F (sym is) (among_last s.records entry))
-    (All-weaker (λ (other : LogEntry). other.lsn < flushed s) (λ (other : LogEntry). other.lsn ≡ entry.lsn → ⊥) (λ other below same. omega (arith, below, same, above))
+    any_among (λ (e : LogEntry). All (λ (other : LogEntry). other.lsn ≡ e.lsn → ⊥) (cut s).records) t.records entry
+    (subst F (sym is) (among_last s.records entry))
+    (All-weaker (λ (other : LogEntry). other.lsn < flushed s) (λ (other : LogEntry). other.lsn ≡ entry.lsn → ⊥)
+    (λ other below same. omega (arith, below, same, above))
     (cut s).records (All-from_recursion (λ (other : LogEntry). other.lsn < flushed s) (cut s).records (kept_below (flushed s) s.records)))
 
 restart_before : (s : State) (area : Area) (bytes : List ℕ) (base : ℕ) (is_reserved : Bool) → IsValid s
@@ -138,7 +141,8 @@ restart_before s area bytes base is_reserved valid =
     let t : State = restarted s area bytes base is_reserved in
     let above : flushed s ≤ next_lsn s (length bytes) = omega (arith, flushed_below s valid.waiting, of_links.next_above s (length bytes) (sound_of s valid)) in
     record {
-      there = λ none. absurd (none (restart_more s t (placed_record s (restart_record s area bytes base)) above (restarted_records s area bytes base is_reserved)));
+      there =
+          λ none. absurd (none (restart_more s t (placed_record s (restart_record s area bytes base)) above (restarted_records s area bytes base is_reserved)));
       lost = λ more stream. refl;
     }
 
@@ -188,7 +192,8 @@ all_flushed s valid at =
     let B : ℕ → Type 0 = λ n. AllByRecursion (λ (entry : LogEntry). entry.lsn < n) s.records in
     all_below (flushed s) s.records (subst B (sym at) (of_links.all_below s (sound_of s valid)))
 
-restart_after : (s : State) (client number : ℕ) (area : Area) (bytes : List ℕ) (base : ℕ) (is_reserved : Bool) → IsValid s → area_of s client number ≡ Some area
+restart_after : (s : State) (client number : ℕ) (area : Area) (bytes : List ℕ) (base : ℕ) (is_reserved : Bool) → IsValid s
+    → area_of s client number ≡ Some area
     → restart_refusal s area bytes base is_reserved ≡ None
     → HasBasesOfRestart s (restarted s area bytes base is_reserved) (cut (restarted s area bytes base is_reserved))
 restart_after s client number area bytes base is_reserved valid there none =
@@ -221,7 +226,8 @@ bases_after told s client (calls.Advance number lsn) reply t valid step = λ mor
 bases_after told s client call reply t valid step = tt
 
 -- the flushed part of what a call leaves survives the call
-pub survives_after : (told : Bool) (s t : State) (client : ℕ) (call : Call) (reply : Reply) → IsValid s → IsStorable s → Step told s client call Fine reply t
+pub survives_after : (told : Bool) (s t : State) (client : ℕ) (call : Call) (reply : Reply) → IsValid s → IsStorable s
+    → Step told s client call Fine reply t
     → IsSurvivor (asks client call) s t (cut t)
 survives_after told s t client call reply valid storable step =
     let valid_t = valid_step told s client call Fine reply t valid step in

@@ -44,13 +44,15 @@ link_fits link lsn most low (inr below) = omega (arith, low, below)
 pub previous_fit : (s : State) → IsValid s → HasBlocks s → All (λ (entry : LogEntry). entry.previous < 2 ^ 64) s.records
 previous_fit s valid blocks =
     let low = frontier_fits s valid blocks in
-    All-weaker (IsRecord s) (λ (entry : LogEntry). entry.previous < 2 ^ 64) (λ entry is. link_fits entry.previous entry.lsn (2 ^ 64) (omega (arith, is.below, low)) is.previous)
+    All-weaker (IsRecord s) (λ (entry : LogEntry). entry.previous < 2 ^ 64)
+    (λ entry is. link_fits entry.previous entry.lsn (2 ^ 64) (omega (arith, is.below, low)) is.previous)
     s.records valid.records.records
 
 pub undo_next_fit : (s : State) → IsValid s → HasBlocks s → All (λ (entry : LogEntry). entry.undo_next < 2 ^ 64) s.records
 undo_next_fit s valid blocks =
     let low = frontier_fits s valid blocks in
-    All-weaker (IsRecord s) (λ (entry : LogEntry). entry.undo_next < 2 ^ 64) (λ entry is. link_fits entry.undo_next entry.lsn (2 ^ 64) (omega (arith, is.below, low)) is.undo_next)
+    All-weaker (IsRecord s) (λ (entry : LogEntry). entry.undo_next < 2 ^ 64)
+    (λ entry is. link_fits entry.undo_next entry.lsn (2 ^ 64) (omega (arith, is.below, low)) is.undo_next)
     s.records valid.records.records
 
 pub new_bases_fit : (s : State) → IsValid s → IsStorable s → All (λ (entry : LogEntry). entry.new_base < 2 ^ 64) s.records
@@ -71,7 +73,8 @@ ends_fit s valid blocks =
 pub bases_fit : (s : State) → IsValid s → HasBlocks s → All (λ (stream : Stream). stream.base < 2 ^ 64) s.streams
 bases_fit s valid blocks =
     let low = flushed_fits s valid blocks in
-    All-weaker (λ (stream : Stream). stream.base ≤ flushed s) (λ (stream : Stream). stream.base < 2 ^ 64) (λ stream is. omega (arith, is, low)) s.streams valid.stable.bases
+    All-weaker (λ (stream : Stream). stream.base ≤ flushed s) (λ (stream : Stream). stream.base < 2 ^ 64)
+    (λ stream is. omega (arith, is, low)) s.streams valid.stable.bases
 
 tail_by : (archive : Option ℕ) (n m : ℕ) → n < m → IfSome archive (λ tail. tail ≤ n) → IfSome archive (λ tail. tail < m)
 tail_by None n m low is = tt
@@ -95,13 +98,16 @@ cursor_fits s area cursor valid blocks is =
 pub cursors_fit : (s : State) → IsValid s → IsStorable s → All (λ (area : Area). All (λ (cursor : Cursor). cursor.last < 2 ^ 64) area.cursors) s.areas
 cursors_fit s valid storable =
     All-weaker (IsAreaWithinLimits s) (λ (area : Area). All (λ (cursor : Cursor). cursor.last < 2 ^ 64) area.cursors)
-    (λ area is. All-weaker (IsCursor s area) (λ (cursor : Cursor). cursor.last < 2 ^ 64) (λ cursor has. cursor_fits s area cursor valid storable.blocks has) area.cursors is.cursors)
+    (λ area is. All-weaker (IsCursor s area) (λ (cursor : Cursor). cursor.last < 2 ^ 64)
+    (λ cursor has. cursor_fits s area cursor valid storable.blocks has) area.cursors is.cursors)
     s.areas storable.limits.areas
 
 -- the place that a crash leaves has an offset that fits
-pub survivor_low : (s t x : State) → IsValid t → HasBlocks t → (x.place ≡ (cut s).place) ⊎ Any (EndsBlockOf t.records x.place) t.records → x.place.offset < 2 ^ 32
+pub survivor_low : (s t x : State) → IsValid t → HasBlocks t → (x.place ≡ (cut s).place) ⊎ Any (EndsBlockOf t.records x.place) t.records
+    → x.place.offset < 2 ^ 32
 survivor_low s t x valid blocks (inl same) = let at : x.place.offset ≡ (cut s).place.offset = ap (λ (place : Place). place.offset) same in omega (arith, at)
-survivor_low s t x valid blocks (inr ends) = by_block ends.1 (ends_fit t valid blocks ends.0 ends.1 ends.2) (subst (EndsBlockOf t.records x.place) (sym ends.3) ends.4)
+survivor_low s t x valid blocks (inr ends) =
+    by_block ends.1 (ends_fit t valid blocks ends.0 ends.1 ends.2) (subst (EndsBlockOf t.records x.place) (sym ends.3) ends.4)
   where
     by_block : (entry : LogEntry) → EndsWithin t.shape.container_sectors t.records (slice_index_or t.records ends.0 entry)
         → EndsBlockOf t.records x.place (slice_index_or t.records ends.0 entry) → x.place.offset < 2 ^ 32

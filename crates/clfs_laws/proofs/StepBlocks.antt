@@ -40,7 +40,8 @@ LaidIn o = HasBlocks o.state
 same : (s t : State) → t.shape ≡ s.shape → t.records ≡ s.records → t.place ≡ s.place → HasBlocks s → HasBlocks t
 same s t shape records place blocks = blocks_as s t shape records place blocks
 
-over : (s : State) (client number : ℕ) (f : Area → Outcome) → ((area : Area) → HasBlocks (f area).state) → HasBlocks s → HasBlocks (over_area s client number f).state
+over : (s : State) (client number : ℕ) (f : Area → Outcome) → ((area : Area) → HasBlocks (f area).state) → HasBlocks s
+    → HasBlocks (over_area s client number f).state
 over s client number f each blocks = of_area LaidIn s client number f each blocks
 
 moved : (s : State) (area : Area) (number : ℕ) (found : Option Cursor) → HasBlocks s → HasBlocks (moved_on s area number found).state
@@ -63,7 +64,8 @@ archived s true blocks = same s (archiving s true) refl refl refl blocks
 archived s false blocks = same s (archiving s false) refl refl refl blocks
 
 -- what a call that isn't refused leaves
-blocks_answer : (s : State) (client : ℕ) (call : Call) → refusal s client call ≡ None → IsValid s → HasBlocks s → HasBlocks (answer s client call).state
+blocks_answer : (s : State) (client : ℕ) (call : Call) → refusal s client call ≡ None → IsValid s → HasBlocks s
+    → HasBlocks (answer s client call).state
 blocks_answer s client (calls.OpenStream name) none valid blocks =
     of_option LaidIn (stream_number s name) _ _ (λ (number : ℕ). blocks) (same s _ refl refl refl blocks)
 blocks_answer s client (calls.CreateArea stream largest reads) none valid blocks = same s _ refl refl refl blocks

@@ -34,7 +34,8 @@ use Rattle.clfs_laws.proofs.ValidAreaCalls.{none_of_option, its_area}
 -- areas of a state with the same records
 areas_in : (s t : State) (areas : List Area) → t.records ≡ s.records → All (IsAreaWithinLimits s) areas → All (IsAreaWithinLimits t) areas
 areas_in s t areas records all =
-    All-weaker (IsAreaWithinLimits s) (IsAreaWithinLimits t) (λ area is. area_kept s t area area [] (records ∙ sym (append-nil s.records)) (alike_itself area) is) areas all
+    All-weaker (IsAreaWithinLimits s) (IsAreaWithinLimits t)
+    (λ area is. area_kept s t area area [] (records ∙ sym (append-nil s.records)) (alike_itself area) is) areas all
 
 second_false : (a b : Bool) → a ≡ true → (a && b) ≡ false → b ≡ false
 second_false true b passes fails = fails
@@ -71,7 +72,8 @@ in_range p start (suc count) number is = elim (cases_Bool (p start)) [
   | inr there ↦ let rest = in_range p (start + 1) count number (rw there at is) in (omega (arith, rest.0), omega (arith, rest.1))
 ]
 
-least_by : (count : ℕ) (p : ℕ → Bool) (number : Option ℕ) → find p (range_with_len 1 count) ≡ number → (1 ≤ unwrap_or number (count + 1)) × (unwrap_or number (count + 1) ≤ count + 1)
+least_by : (count : ℕ) (p : ℕ → Bool) (number : Option ℕ) → find p (range_with_len 1 count) ≡ number
+    → (1 ≤ unwrap_or number (count + 1)) × (unwrap_or number (count + 1) ≤ count + 1)
 least_by count p None is = (omega arith, omega arith)
 least_by count p (Some number) is = let range = in_range p 1 count number is in (range.0, omega (arith, range.1))
 
@@ -80,7 +82,8 @@ least_range count used = least_by count (λ number. not (used number)) (find (λ
 
 -- the areas of a client, with one more
 more_of : (client : ℕ) (areas : List Area) (new : Area) → (new.client ≡ client → length (filter (λ (area : Area). area.client == client) areas) < 16)
-    → length (filter (λ (area : Area). area.client == client) areas) ≤ 16 → length (filter (λ (area : Area). area.client == client) (areas ++ new ∷ [])) ≤ 16
+    → length (filter (λ (area : Area). area.client == client) areas) ≤ 16
+    → length (filter (λ (area : Area). area.client == client) (areas ++ new ∷ [])) ≤ 16
 more_of client areas new few all =
     let q : Area → Bool = λ area. area.client == client in
     let count : length (filter q (areas ++ new ∷ [])) ≡ length (filter q areas) + length (filter q (new ∷ [])) =
@@ -94,7 +97,8 @@ more_of client areas new few all =
     ]
 
 -- a new area
-pub limits_created : (s : State) (client stream largest reads : ℕ) → create_refusal s client stream largest ≡ None → IsClient client → 1 ≤ reads → reads ≤ 16
+pub limits_created : (s : State) (client stream largest reads : ℕ) → create_refusal s client stream largest ≡ None → IsClient client → 1 ≤ reads
+    → reads ≤ 16
     → IsWithinLimits s → IsWithinLimits (record s { areas = s.areas ++ new_area s client stream largest reads ∷ [] })
 limits_created s client stream largest reads none is some few limits =
     let new = new_area s client stream largest reads in
@@ -157,8 +161,10 @@ limits_of_area s client number area change there keeps changes limits =
     limits_found s (is_area area.client area.number) change keeps (λ other is. let same : area ≡ other = cc (is, found_so) in subst F same changes) limits
 
 -- an area with a new cursor at a record that was read
-with_new_cursor : (s : State) (area : Area) (kind : CursorKind) (entry : LogEntry) → IsValid s → too_many_cursors area ≡ None → IsRead s area.stream kind entry
-    → IsAreaWithinLimits s area → IsAreaWithinLimits s (with_cursor (record { number = unused_cursor area.cursors; kind = kind; last = entry.lsn }) area)
+with_new_cursor : (s : State) (area : Area) (kind : CursorKind) (entry : LogEntry) → IsValid s → too_many_cursors area ≡ None
+    → IsRead s area.stream kind entry
+    → IsAreaWithinLimits s area
+    → IsAreaWithinLimits s (with_cursor (record { number = unused_cursor area.cursors; kind = kind; last = entry.lsn }) area)
 with_new_cursor s area kind entry valid none read is =
     let new : Cursor = record { number = unused_cursor area.cursors; kind = kind; last = entry.lsn } in
     let b : Area = with_cursor new area in
@@ -173,23 +179,28 @@ with_new_cursor s area kind entry valid none read is =
       reads = is.reads;
       few_cursors = omega (arith, less, length-append area.cursors (new ∷ []));
       cursors = All-push (IsCursor s b) area.cursors new
-          (All-weaker (IsCursor s area) (IsCursor s b) (λ cursor has. cursor_kept s s area b [] (sym (append-nil s.records)) refl refl cursor has) area.cursors is.cursors)
+          (All-weaker (IsCursor s area) (IsCursor s b) (λ cursor has. cursor_kept s s area b []
+          (sym (append-nil s.records)) refl refl cursor has) area.cursors is.cursors)
           (cursor_at_read s b (unused_cursor area.cursors) kind entry valid range.0 (omega (arith, range.1, less)) read);
     }
 
-pub limits_found_with : (s : State) (client number : ℕ) (area : Area) (kind : CursorKind) (entry : LogEntry) → IsValid s → area_of s client number ≡ Some area
+pub limits_found_with : (s : State) (client number : ℕ) (area : Area) (kind : CursorKind) (entry : LogEntry) → IsValid s
+    → area_of s client number ≡ Some area
     → too_many_cursors area ≡ None → IsRead s area.stream kind entry → IsWithinLimits s → IsWithinLimits (found_with_cursor s area kind entry).state
 limits_found_with s client number area kind entry valid there none read limits =
     let change : Area → Area = with_cursor (record { number = unused_cursor area.cursors; kind = kind; last = entry.lsn }) in
     limits_of_area s client number area change there (λ a. refl) (with_new_cursor s area kind entry valid none read) limits
 
 -- an area whose cursor has moved to the record that it comes to
-with_moved_cursor : (s : State) (area : Area) (cursor : ℕ) (at : Cursor) (entry : LogEntry) → IsValid s → IsArea s area → IsAmong at area.cursors → at.number ≡ cursor
+with_moved_cursor : (s : State) (area : Area) (cursor : ℕ) (at : Cursor) (entry : LogEntry) → IsValid s → IsArea s area → IsAmong at area.cursors
+    → at.number ≡ cursor
     → next_of_cursor s area at ≡ Some entry → IsAreaWithinLimits s area → IsAreaWithinLimits s (with_cursor_at cursor entry.lsn area)
 with_moved_cursor s area cursor at entry valid fits among named leads is =
     let b : Area = with_cursor_at cursor entry.lsn area in
     let moved : List Cursor = map (moved_if cursor entry.lsn) area.cursors in
-    let all = cursors_moved s area cursor at entry valid fits.cursors among named (read_on_by s area at entry leads) (recursion_from_All (IsCursor s area) area.cursors is.cursors) in
+    let all =
+    cursors_moved s area cursor at entry valid fits.cursors among named (read_on_by s area at entry leads)
+    (recursion_from_All (IsCursor s area) area.cursors is.cursors) in
     record {
       client = is.client;
       some_number = is.some_number;
@@ -201,7 +212,8 @@ with_moved_cursor s area cursor at entry valid fits among named leads is =
           (All-from_recursion (IsCursor s area) moved all);
     }
 
-moved_by : (s : State) (client number cursor : ℕ) (area : Area) (at : Cursor) (entry : Option LogEntry) → IsValid s → area_of s client number ≡ Some area
+moved_by : (s : State) (client number cursor : ℕ) (area : Area) (at : Cursor) (entry : Option LogEntry) → IsValid s
+    → area_of s client number ≡ Some area
     → IsAmong at area.cursors → at.number ≡ cursor → next_of_cursor s area at ≡ entry → IsWithinLimits s
     → IsWithinLimits (option_map_or (λ (e : LogEntry). outcome (replies.Next e) (change_area (with_cursor_at cursor e.lsn) area.client area.number s)) entry
     (outcome (replies.Refused refusals.NoSuchCursor) s)).state
@@ -210,7 +222,8 @@ moved_by s client number cursor area at (Some entry) valid there among named lea
     limits_of_area s client number area (with_cursor_at cursor entry.lsn) there (λ a. refl)
     (with_moved_cursor s area cursor at entry valid (its_area s client number area there valid) among named leads) limits
 
-moved_found : (s : State) (client number cursor : ℕ) (area : Area) (p : Cursor → Bool) (at : Option Cursor) → IsValid s → area_of s client number ≡ Some area
+moved_found : (s : State) (client number cursor : ℕ) (area : Area) (p : Cursor → Bool) (at : Option Cursor) → IsValid s
+    → area_of s client number ≡ Some area
     → find p area.cursors ≡ at → ((c : Cursor) → p c ≡ true → c.number ≡ cursor) → IsWithinLimits s → IsWithinLimits (moved_on s area cursor at).state
 moved_found s client number cursor area p None valid there is named limits = limits
 moved_found s client number cursor area p (Some at) valid there is named limits =
@@ -248,6 +261,7 @@ limits_ended s client number cursor limits =
       some_reads = is.some_reads;
       reads = is.reads;
       few_cursors = let fewer = fewer_cursors p area.cursors in omega (arith, is.few_cursors, fewer);
-      cursors = All-weaker (IsCursor s area) (IsCursor s b) (λ c has. cursor_kept s s area b [] (sym (append-nil s.records)) refl refl c has) (filter p area.cursors)
+      cursors =
+          All-weaker (IsCursor s area) (IsCursor s b) (λ c has. cursor_kept s s area b [] (sym (append-nil s.records)) refl refl c has) (filter p area.cursors)
           (All-filter p (IsCursor s area) area.cursors is.cursors);
     }) limits

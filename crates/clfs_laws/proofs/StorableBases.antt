@@ -53,8 +53,10 @@ same_bases s t streams number =
 pub bases_of_more : (s : State) (new : Stream) → BasesRise s (record s { streams = s.streams ++ new ∷ [] })
 bases_of_more s new number = by_stream (stream_at s number) refl
   where
-    by_stream : (found : Option Stream) → stream_at s number ≡ found → base_of s number ≤ base_of (record s { streams = s.streams ++ new ∷ [] }) number
-    by_stream None none = let null : base_of s number ≡ 0 = ap (λ (f : Option Stream). option_map_or (λ (stream : Stream). stream.base) f null_lsn) none in omega (arith, null)
+    by_stream : (found : Option Stream) → stream_at s number ≡ found
+        → base_of s number ≤ base_of (record s { streams = s.streams ++ new ∷ [] }) number
+    by_stream None none =
+        let null : base_of s number ≡ 0 = ap (λ (f : Option Stream). option_map_or (λ (stream : Stream). stream.base) f null_lsn) none in omega (arith, null)
     by_stream (Some stream) some =
         let there : IsSome (stream_at s number) = subst IsSome (sym some) refl in
         let same : base_of (record s { streams = s.streams ++ new ∷ [] }) number ≡ base_of s number =
@@ -62,14 +64,16 @@ bases_of_more s new number = by_stream (stream_at s number) refl
         omega (arith, same)
 
 -- a base that moves on
-pub bases_of_set : (s : State) (number lsn : ℕ) → IsSome (stream_at s number) → base_of s number ≤ lsn → BasesRise s (record s { streams = set_base number lsn s.streams })
+pub bases_of_set : (s : State) (number lsn : ℕ) → IsSome (stream_at s number) → base_of s number ≤ lsn
+    → BasesRise s (record s { streams = set_base number lsn s.streams })
 bases_of_set s number lsn there rises other =
     let at = based_at s number there in
     let above : base_at s.streams (number - 1) ≤ lsn = omega (arith, rises, at.1) in
     higher_of s (record s { streams = set_base number lsn s.streams }) other (set_higher number lsn s.streams (other - 1) at.0 above)
 
 -- the base that is set
-set_at : (number lsn : ℕ) (streams : List Stream) (k : ℕ) → number ≡ suc k → IsSome (slice_get streams k) → base_at (set_base number lsn streams) k ≡ lsn
+set_at : (number lsn : ℕ) (streams : List Stream) (k : ℕ) → number ≡ suc k → IsSome (slice_get streams k)
+    → base_at (set_base number lsn streams) k ≡ lsn
 set_at number lsn [] k is some = absurd (cc)
 set_at number lsn (stream ∷ streams) zero is some = elim (cases_Bool (number == 1)) [
   | inl here ↦ rw here refl
@@ -86,7 +90,8 @@ number_there s number some = elim (cases_Bool (number == 0)) [
   | inr has ↦ rw has at some
 ]
 
-pub base_set : (s : State) (number lsn : ℕ) → IsSome (stream_at s number) → base_of (record s { streams = set_base number lsn s.streams }) number ≡ lsn
+pub base_set : (s : State) (number lsn : ℕ) → IsSome (stream_at s number)
+    → base_of (record s { streams = set_base number lsn s.streams }) number ≡ lsn
 base_set s number lsn some = elim (cases_Bool (number == 0)) [
   | inl none ↦ absurd (let gone = rw none at some in cc)
   | inr has ↦ rw has (set_at number lsn s.streams (number - 1) (let other = eqb-false number 0 has in omega (arith, other)) (number_there s number some))
@@ -112,7 +117,8 @@ flush_if_streams : (asked : Bool) (s : State) → (flush_if asked s).streams ≡
 flush_if_streams true s = flush_streams s
 flush_if_streams false s = refl
 
-pub appended_streams : (s : State) (area : Area) (draft : Draft) (is_reserved : Bool) (sizes : List ℕ) → (appended s area draft is_reserved sizes).streams ≡ s.streams
+pub appended_streams : (s : State) (area : Area) (draft : Draft) (is_reserved : Bool) (sizes : List ℕ)
+    → (appended s area draft is_reserved sizes).streams ≡ s.streams
 appended_streams s area draft is_reserved sizes =
     let n = length draft.bytes in
     let g = grown s (need_of is_reserved n sizes) in
@@ -122,7 +128,8 @@ appended_streams s area draft is_reserved sizes =
     ∙ spent_streams is_reserved area n joined ∙ of_restarts.put_streams g (plain_record area draft) ∙ grown_streams s (need_of is_reserved n sizes)
 
 -- the records with one more
-bases_push : (s t : State) (entry : LogEntry) → t.records ≡ s.records ++ entry ∷ [] → BasesRise s t → HasMovedBase t entry → All (HasMovedBase s) s.records
+bases_push : (s t : State) (entry : LogEntry) → t.records ≡ s.records ++ entry ∷ [] → BasesRise s t → HasMovedBase t entry
+    → All (HasMovedBase s) s.records
     → All (HasMovedBase t) t.records
 bases_push s t entry records rise is all =
     subst (All (HasMovedBase t)) (sym records) (All-push (HasMovedBase t) s.records entry (bases_kept s t s.records rise all) is)
@@ -151,8 +158,10 @@ record MovesBase (s t : State) (stream base : ℕ) : Type 0 where
   pub moved : base ≤ base_of t stream
 
 moves_by : (s u : State) (stream base : ℕ) (none : Bool) → (base == null_lsn) ≡ none → u.streams ≡ s.streams → IsSome (stream_at s stream)
-    → ((base == null_lsn) ≡ false → base_of s stream ≤ base) → MovesBase s (if none then u else record u { streams = set_base stream base u.streams }) stream base
-moves_by s u stream base true is streams there based = record { rise = same_bases s u streams; moved = let null = eqb-true base null_lsn is in omega (arith, null) }
+    → ((base == null_lsn) ≡ false → base_of s stream ≤ base)
+    → MovesBase s (if none then u else record u { streams = set_base stream base u.streams }) stream base
+moves_by s u stream base true is streams there based =
+    record { rise = same_bases s u streams; moved = let null = eqb-true base null_lsn is in omega (arith, null) }
 moves_by s u stream base false is streams there based =
     let F : List Stream → Type 0 = λ xs. MovesBase s (record u { streams = set_base stream base xs }) stream base in
     let rise = bases_of_set s stream base there (based is) in
@@ -172,16 +181,20 @@ bases_restarted s client number area bytes base is_reserved valid there none all
     let sound = sound_of s valid in
     let allows = of_restarts.allowed s area bytes base is_reserved none in
     let between : (base == null_lsn) ≡ false → IsBetween s area.stream base = λ some. base_between s area.stream base sound (allows.based some) in
-    let is : MovesBase s t area.stream base = moves s _ area.stream base (flushed_streams s area bytes base is_reserved) (its_area s client number area there valid).stream (λ some. (between some).above) in
+    let is : MovesBase s t area.stream base =
+    moves s _ area.stream base (flushed_streams s area bytes base is_reserved) (its_area s client number area there valid).stream
+    (λ some. (between some).above) in
     let above = next_above s (length bytes) sound in
     let own : base ≤ next_lsn s (length bytes) = elim (cases_Bool (base == null_lsn)) [
       | inl null ↦ let nothing = eqb-true base null_lsn null in omega (arith, nothing)
       | inr some ↦ let has = between some in omega (arith, has.below, above)
     ] in
-    bases_push s t (placed_record s (restart_record s area bytes base)) (restarted_records s area bytes base is_reserved) is.rise (record { own = own; moved = is.moved }) all
+    bases_push s t (placed_record s (restart_record s area bytes base)) (restarted_records s area bytes base is_reserved) is.rise
+    (record { own = own; moved = is.moved }) all
 
 -- a base that is advanced
-pub bases_advanced : (s : State) (stream lsn : ℕ) → IsValid s → invalid_base s stream lsn None ≡ None → IsSome (stream_at s stream) → All (HasMovedBase s) s.records
+pub bases_advanced : (s : State) (stream lsn : ℕ) → IsValid s → invalid_base s stream lsn None ≡ None → IsSome (stream_at s stream)
+    → All (HasMovedBase s) s.records
     → All (HasMovedBase (advanced s stream lsn)) (advanced s stream lsn).records
 bases_advanced s stream lsn valid none there all =
     let allowed = true_of_not _ (passed (not (is_base s stream lsn)) (refusals.TailInvalid lsn (base_of s stream) (last_live s stream)) None none).0 in

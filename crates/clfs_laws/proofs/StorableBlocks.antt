@@ -49,10 +49,12 @@ next_id s n sound takes beyond =
     let left : s.shape.container_sectors - block_end s.place < own n = grind (arith, nat_tests, beyond) in
     next_one s n (omega (arith, long, left)) takes.room
   where
-    next_one : (s : State) (n : ℕ) → left_sectors s.shape s.place - (s.shape.block_sectors - 1) ≡ 0 → reserved s + own n ≤ free s → s.place.container + 1 < 2 ^ 32
+    next_one : (s : State) (n : ℕ) → left_sectors s.shape s.place - (s.shape.block_sectors - 1) ≡ 0 → reserved s + own n ≤ free s
+        → s.place.container + 1 < 2 ^ 32
     next_one s n none room = grind (arith, none, room)
 
-id_by : (s : State) (n : ℕ) (joining beginning : Bool) → begins_here s.shape s.place n ≡ beginning → IsSound s → TakesRecord s n → s.place.container < 2 ^ 32
+id_by : (s : State) (n : ℕ) (joining beginning : Bool) → begins_here s.shape s.place n ≡ beginning → IsSound s → TakesRecord s n
+    → s.place.container < 2 ^ 32
     → (after_by joining beginning s.place n).1.container < 2 ^ 32
 id_by s n true beginning is sound takes low = low
 id_by s n false true is sound takes low = low
@@ -71,7 +73,8 @@ pub put_shape : (s : State) (entry : LogEntry) → (put s entry).shape ≡ s.sha
 put_shape s entry = put_by_shape (joins s.shape s.place (length entry.bytes)) (begins_here s.shape s.place (length entry.bytes)) s entry
 
 -- a record that is put lies behind the others
-blocks_put : (s : State) (entry : LogEntry) → IsSound s → TakesRecord s (length entry.bytes) → IsJoining s (placed entry (next_lsn s (length entry.bytes)))
+blocks_put : (s : State) (entry : LogEntry) → IsSound s → TakesRecord s (length entry.bytes)
+    → IsJoining s (placed entry (next_lsn s (length entry.bytes)))
     → HasBlocks s → HasBlocks (put s entry)
 blocks_put s entry sound takes joining blocks =
     let n = length entry.bytes in
@@ -143,12 +146,14 @@ blocks_joined s client number area entry is_reserved more valid may blocks =
 
 -- an append that isn't refused
 pub blocks_appended : (s : State) (client number : ℕ) (area : Area) (draft : Draft) (is_reserved : Bool) (sizes : List ℕ) → IsValid s
-    → area_of s client number ≡ Some area → append_refusal s area draft is_reserved sizes ≡ None → HasBlocks s → HasBlocks (appended s area draft is_reserved sizes)
+    → area_of s client number ≡ Some area → append_refusal s area draft is_reserved sizes ≡ None → HasBlocks s
+    → HasBlocks (appended s area draft is_reserved sizes)
 blocks_appended s client number area draft is_reserved sizes valid there none blocks =
     let need = need_of is_reserved (length draft.bytes) sizes in
     let u : State = grown s need in
     let valid_u : IsValid u = valid_grown s need valid in
-    let may = may_append s client number area draft is_reserved sizes u refl (grown_is s need) valid valid_u there (allowed s area draft is_reserved sizes none) in
+    let may =
+    may_append s client number area draft is_reserved sizes u refl (grown_is s need) valid valid_u there (allowed s area draft is_reserved sizes none) in
     let joined = blocks_joined u client number area (plain_record area draft) is_reserved _ valid_u may (blocks_grown s need blocks) in
     blocks_flush_if draft.flush _ (blocks_seal_if draft.seal _ (blocks_hold area sizes _ joined))
 

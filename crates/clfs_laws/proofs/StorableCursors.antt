@@ -51,7 +51,12 @@ live_read s stream mode =
     let P : LogEntry → Type 0 = λ entry. IsAmong entry s.records in
     passing p (IsRead s stream (Records mode)) s.records
     (all_passing p P (IsRead s stream (Records mode)) s.records
-    (λ entry among passes. record { among = among; stream = eqb-true entry.stream stream (and_parts (entry.stream == stream) (is_live s entry) passes).0; kind = tt })
+    (λ entry among passes. record {
+      among = among;
+      stream = eqb-true entry.stream stream
+          (and_parts (entry.stream == stream) (is_live s entry) passes).0;
+      kind = tt;
+    })
     (each_among s.records))
 
 restart_kind : (kind : Kind) → is_restart kind ≡ true → kind ≡ Restart
@@ -70,11 +75,14 @@ restarts_read s stream =
     (live_read s stream Forward)))
 
 -- what is found among them
-found_has : (p : LogEntry → Bool) (P : LogEntry → Type 0) (entries : List LogEntry) (entry : LogEntry) → find p entries ≡ Some entry → AllByRecursion P entries → P entry
+found_has : (p : LogEntry → Bool) (P : LogEntry → Type 0) (entries : List LogEntry) (entry : LogEntry) → find p entries ≡ Some entry
+    → AllByRecursion P entries → P entry
 found_has p P entries entry is all = among_recursion P entries entry all (found p entries entry is).among
 
-pub read_live : (s : State) (stream lsn : ℕ) (mode : Mode) (entry : LogEntry) → live_at s stream lsn ≡ Some entry → IsRead s stream (Records mode) entry
-read_live s stream lsn mode entry is = found_has (λ (e : LogEntry). e.lsn == lsn) (IsRead s stream (Records mode)) (live s stream) entry is (live_read s stream mode)
+pub read_live : (s : State) (stream lsn : ℕ) (mode : Mode) (entry : LogEntry) → live_at s stream lsn ≡ Some entry
+    → IsRead s stream (Records mode) entry
+read_live s stream lsn mode entry is =
+    found_has (λ (e : LogEntry). e.lsn == lsn) (IsRead s stream (Records mode)) (live s stream) entry is (live_read s stream mode)
 
 pub read_newest : (s : State) (stream : ℕ) (entry : LogEntry) → newest_restart s stream ≡ Some entry → IsRead s stream RestartAreas entry
 read_newest s stream entry is = get_has (IsRead s stream RestartAreas) (restart_areas s stream) 0 entry is (restarts_read s stream)
@@ -85,21 +93,26 @@ linked s stream mode link None entry is = absurd (cc)
 linked s stream mode link (Some holder) entry is = read_live s stream (link holder) mode entry is
 
 -- where a cursor comes to
-read_next : (s : State) (stream : ℕ) (mode : Mode) (last : ℕ) (entry : LogEntry) → next s stream mode last ≡ Some entry → IsRead s stream (Records mode) entry
+read_next : (s : State) (stream : ℕ) (mode : Mode) (last : ℕ) (entry : LogEntry) → next s stream mode last ≡ Some entry
+    → IsRead s stream (Records mode) entry
 read_next s stream Previous last entry is = linked s stream Previous (λ (e : LogEntry). e.previous) (entry_at s last) entry is
 read_next s stream UndoNext last entry is = linked s stream UndoNext (λ (e : LogEntry). e.undo_next) (entry_at s last) entry is
-read_next s stream Forward last entry is = found_has (λ (e : LogEntry). nat_lt last e.lsn) (IsRead s stream (Records Forward)) (live s stream) entry is (live_read s stream Forward)
+read_next s stream Forward last entry is =
+    found_has (λ (e : LogEntry). nat_lt last e.lsn) (IsRead s stream (Records Forward)) (live s stream) entry is (live_read s stream Forward)
 
-read_of_kind : (s : State) (stream : ℕ) (kind : CursorKind) (last : ℕ) (entry : LogEntry) → next_of_kind s stream kind last ≡ Some entry → IsRead s stream kind entry
+read_of_kind : (s : State) (stream : ℕ) (kind : CursorKind) (last : ℕ) (entry : LogEntry) → next_of_kind s stream kind last ≡ Some entry
+    → IsRead s stream kind entry
 read_of_kind s stream (Records mode) last entry is = read_next s stream mode last entry is
 read_of_kind s stream RestartAreas last entry is =
     found_has (λ (e : LogEntry). nat_lt e.lsn last) (IsRead s stream RestartAreas) (restart_areas s stream) entry is (restarts_read s stream)
 
-pub read_on_by : (s : State) (area : Area) (at : Cursor) (entry : LogEntry) → next_of_cursor s area at ≡ Some entry → IsRead s area.stream at.kind entry
+pub read_on_by : (s : State) (area : Area) (at : Cursor) (entry : LogEntry) → next_of_cursor s area at ≡ Some entry
+    → IsRead s area.stream at.kind entry
 read_on_by s area at entry is = read_of_kind s area.stream at.kind at.last entry (sym (next_is s area at at.kind refl) ∙ is)
 
 -- a record is found at its LSN
-finds_itself : (entries : List LogEntry) (entry : LogEntry) → Rises entries → IsAmong entry entries → find (λ (e : LogEntry). e.lsn == entry.lsn) entries ≡ Some entry
+finds_itself : (entries : List LogEntry) (entry : LogEntry) → Rises entries → IsAmong entry entries
+    → find (λ (e : LogEntry). e.lsn == entry.lsn) entries ≡ Some entry
 finds_itself [] entry rising among = absurd among
 finds_itself (first ∷ entries) entry rising (inl same) =
     rw (eq-eqb first.lsn entry.lsn (ap (λ (e : LogEntry). e.lsn) same)) (ap (λ (e : LogEntry). Some e) same)
@@ -165,7 +178,8 @@ moved_one s area n entry cursor valid is reads = elim (cases_Bool (cursor.number
 ]
 
 -- the cursor of a number moved to where it comes to
-moved_all : (s : State) (area : Area) (n : ℕ) (kind : CursorKind) (entry : LogEntry) (cursors : List Cursor) → IsValid s → IsRead s area.stream kind entry
+moved_all : (s : State) (area : Area) (n : ℕ) (kind : CursorKind) (entry : LogEntry) (cursors : List Cursor) → IsValid s
+    → IsRead s area.stream kind entry
     → AllByRecursion (λ (other : Cursor). other.number ≡ n → other.kind ≡ kind) cursors
     → AllByRecursion (IsCursor s area) cursors → AllByRecursion (IsCursor s area) (map (moved_if n entry.lsn) cursors)
 moved_all s area n kind entry [] valid is named all = tt
@@ -173,7 +187,8 @@ moved_all s area n kind entry (cursor ∷ cursors) valid is named all =
     let F : CursorKind → Type 0 = λ k. IsRead s area.stream k entry in
     (moved_one s area n entry cursor valid all.0 (λ same. subst F (sym (named.0 same)) is), moved_all s area n kind entry cursors valid is named.1 all.1)
 
-pub cursors_moved : (s : State) (area : Area) (n : ℕ) (at : Cursor) (entry : LogEntry) → IsValid s → AllPairs (λ (a b : Cursor). a.number ≢ b.number) area.cursors
+pub cursors_moved : (s : State) (area : Area) (n : ℕ) (at : Cursor) (entry : LogEntry) → IsValid s
+    → AllPairs (λ (a b : Cursor). a.number ≢ b.number) area.cursors
     → IsAmong at area.cursors → at.number ≡ n → IsRead s area.stream at.kind entry
     → AllByRecursion (IsCursor s area) area.cursors → AllByRecursion (IsCursor s area) (map (moved_if n entry.lsn) area.cursors)
 cursors_moved s area n at entry valid pairs among named is all =

@@ -87,13 +87,16 @@ pub record IsLow (place : Place) : Type 0 where
   pub few : place.records ≤ 511
 
 low_within : (shape : Shape) (place : Place) → IsShape shape → IsWithin shape place → IsLow place
-low_within shape place is within = record { offset = within.offset; end = omega (arith, within.end, is.largest_container); few = few_records shape place within }
+low_within shape place is within =
+    record { offset = within.offset; end = omega (arith, within.end, is.largest_container); few = few_records shape place within }
 
-pub low_all : (shape : Shape) (place : Place) (entries : List LogEntry) → IsShape shape → IsLow place → LieInBlocks shape place entries → IsLow (behind_all place entries)
+pub low_all : (shape : Shape) (place : Place) (entries : List LogEntry) → IsShape shape → IsLow place → LieInBlocks shape place entries
+    → IsLow (behind_all place entries)
 low_all shape place [] is low laid = low
 low_all shape place (entry ∷ entries) is low laid = low_all shape (behind place entry) entries is (low_within shape (behind place entry) is laid.1.0) laid.1.1
 
-pub low_last : (shape : Shape) (entries : List LogEntry) → IsShape shape → LieInBlocks shape before_all entries → IsLow (behind_all before_all entries)
+pub low_last : (shape : Shape) (entries : List LogEntry) → IsShape shape → LieInBlocks shape before_all entries
+    → IsLow (behind_all before_all entries)
 low_last shape entries is laid = low_all shape before_all entries is (record { offset = refl; end = omega arith; few = omega arith }) laid
 
 -- a log whose first lost record begins a block goes on there
@@ -149,7 +152,8 @@ cut_whole s valid blocks at none =
     closed_used shape place (inl closed) none = closed.0
     closed_used shape place (inr opened) none = absurd (omega (arith, opened.some_records, none))
 
-cut_goes_by : (s : State) (waiting : List ℕ) → s.waiting ≡ waiting → IsValid s → HasBlocks s → GoesOnAt (behind_all before_all (cut s).records) (cut s).place
+cut_goes_by : (s : State) (waiting : List ℕ) → s.waiting ≡ waiting → IsValid s → HasBlocks s
+    → GoesOnAt (behind_all before_all (cut s).records) (cut s).place
 cut_goes_by s [] none valid blocks =
     let is : flushed s ≡ block_start s.place = ap (first_or (block_start s.place)) none in
     let begins = (flushed_block s valid).sequence in
@@ -186,7 +190,8 @@ below_front lsn (entry ∷ entries) rising = elim (cases_Bool (nat_lt entry.lsn 
       rw (above, none) (record { more = entry ∷ entries; is = refl; above = (at_least, all) })
 ]
   where
-    above_all : (lsn : ℕ) (entry : LogEntry) (entries : List LogEntry) → lsn ≤ entry.lsn → AllByRecursion (λ (other : LogEntry). entry.lsn < other.lsn) entries
+    above_all : (lsn : ℕ) (entry : LogEntry) (entries : List LogEntry) → lsn ≤ entry.lsn
+        → AllByRecursion (λ (other : LogEntry). entry.lsn < other.lsn) entries
         → AllByRecursion (λ (other : LogEntry). lsn ≤ other.lsn) entries
     above_all lsn entry [] fits all = tt
     above_all lsn entry (other ∷ others) fits all = (omega (arith, fits, all.0), above_all lsn entry others fits all.1)

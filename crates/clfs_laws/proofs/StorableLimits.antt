@@ -35,7 +35,8 @@ pub record IsAlike (a b : Area) : Type 0 where
   pub stream : b.stream ≡ a.stream
   pub cursors : b.cursors ≡ a.cursors
 
-pub area_kept : (s t : State) (a b : Area) (more : List LogEntry) → t.records ≡ s.records ++ more → IsAlike a b → IsAreaWithinLimits s a → IsAreaWithinLimits t b
+pub area_kept : (s t : State) (a b : Area) (more : List LogEntry) → t.records ≡ s.records ++ more → IsAlike a b → IsAreaWithinLimits s a
+    → IsAreaWithinLimits t b
 area_kept s t a b more records alike is = record {
   client = subst IsClient (sym alike.client) is.client;
   some_number = omega (arith, is.some_number, alike.number);
@@ -45,14 +46,16 @@ area_kept s t a b more records alike is = record {
   few_cursors = let count : length b.cursors ≡ length a.cursors = ap length alike.cursors in omega (arith, is.few_cursors, count, alike.reads);
   cursors =
       let F : List Cursor → Type 0 = All (IsCursor t b) in
-      subst F (sym alike.cursors) (All-weaker (IsCursor s a) (IsCursor t b) (λ cursor has. cursor_kept s t a b more records alike.reads alike.stream cursor has) a.cursors is.cursors);
+      subst F (sym alike.cursors) (All-weaker (IsCursor s a) (IsCursor t b)
+      (λ cursor has. cursor_kept s t a b more records alike.reads alike.stream cursor has) a.cursors is.cursors);
 }
 
 pub alike_itself : (a : Area) → IsAlike a a
 alike_itself a = record { client = refl; number = refl; reads = refl; stream = refl; cursors = refl }
 
 -- a state of the same streams and areas, with more records
-pub limits_as : (s t : State) (more : List LogEntry) → t.streams ≡ s.streams → t.areas ≡ s.areas → t.records ≡ s.records ++ more → IsWithinLimits s → IsWithinLimits t
+pub limits_as : (s t : State) (more : List LogEntry) → t.streams ≡ s.streams → t.areas ≡ s.areas → t.records ≡ s.records ++ more
+    → IsWithinLimits s → IsWithinLimits t
 limits_as s t more streams areas records limits =
     let N : List Stream → Type 0 = All (λ (stream : Stream). name_fault stream.name ≡ None) in
     let A : List Area → Type 0 = All (IsAreaWithinLimits t) in
@@ -60,9 +63,12 @@ limits_as s t more streams areas records limits =
       names = subst N (sym streams) limits.names;
       few_streams = let count : length t.streams ≡ length s.streams = ap length streams in omega (arith, limits.few_streams, count);
       few_areas = λ client.
-          let count : length (areas_of t client) ≡ length (areas_of s client) = ap (λ (xs : List Area). length (filter (λ (area : Area). area.client == client) xs)) areas in
+          let count : length (areas_of t client) ≡ length (areas_of s client) =
+          ap (λ (xs : List Area). length (filter (λ (area : Area). area.client == client) xs)) areas in
           omega (arith, limits.few_areas client, count);
-      areas = subst A (sym areas) (All-weaker (IsAreaWithinLimits s) (IsAreaWithinLimits t) (λ area is. area_kept s t area area more records (alike_itself area) is) s.areas limits.areas);
+      areas =
+          subst A (sym areas) (All-weaker (IsAreaWithinLimits s) (IsAreaWithinLimits t)
+          (λ area is. area_kept s t area area more records (alike_itself area) is) s.areas limits.areas);
     }
 
 -- with the same records
@@ -96,7 +102,9 @@ limits_found s p change client keeps limits = let t : State = record s { areas =
   names = limits.names;
   few_streams = limits.few_streams;
   few_areas = λ of. let count = few_changed of p change client s.areas in omega (arith, limits.few_areas of, count);
-  areas = All-weaker (IsAreaWithinLimits s) (IsAreaWithinLimits t) (λ area is. area_kept s t area area [] (sym (append-nil s.records)) (alike_itself area) is) t.areas
+  areas =
+      All-weaker (IsAreaWithinLimits s) (IsAreaWithinLimits t)
+      (λ area is. area_kept s t area area [] (sym (append-nil s.records)) (alike_itself area) is) t.areas
       (All-from_recursion (IsAreaWithinLimits s) t.areas (changed s.areas keeps (recursion_from_All (IsAreaWithinLimits s) s.areas limits.areas)));
 }
   where
@@ -122,7 +130,8 @@ more_held : (sectors : ℕ) (area : Area) → IsAlike area (with_more_held secto
 more_held sectors area = record { client = refl; number = refl; reads = refl; stream = refl; cursors = refl }
 
 -- an area that gives up sectors
-pub limits_released : (s : State) (area : Area) (sectors : ℕ) → IsWithinLimits s → IsWithinLimits (change_area (with_less_held sectors) area.client area.number s)
+pub limits_released : (s : State) (area : Area) (sectors : ℕ) → IsWithinLimits s
+    → IsWithinLimits (change_area (with_less_held sectors) area.client area.number s)
 limits_released s area sectors limits = limits_held s (with_less_held sectors) area.client area.number (less_held sectors) limits
 
 limits_spent : (is_reserved : Bool) (area : Area) (n : ℕ) (s : State) → IsWithinLimits s → IsWithinLimits (spend_if is_reserved area n s)
@@ -162,7 +171,8 @@ limits_put : (s : State) (entry : LogEntry) → IsWithinLimits s → IsWithinLim
 limits_put s entry limits = limits_as s (put s entry) _ (put_streams s entry) (put_areas s entry) refl limits
 
 -- an append
-pub limits_appended : (s : State) (area : Area) (draft : Draft) (is_reserved : Bool) (sizes : List ℕ) → IsWithinLimits s → IsWithinLimits (appended s area draft is_reserved sizes)
+pub limits_appended : (s : State) (area : Area) (draft : Draft) (is_reserved : Bool) (sizes : List ℕ) → IsWithinLimits s
+    → IsWithinLimits (appended s area draft is_reserved sizes)
 limits_appended s area draft is_reserved sizes limits =
     let n = length draft.bytes in
     limits_flush_if draft.flush _ (limits_seal_if draft.seal _ (limits_hold area sizes _ (limits_spent is_reserved area n _
@@ -175,7 +185,9 @@ limits_set s number lsn limits = let t : State = record s { streams = set_base n
       (names_set number s.streams (recursion_from_All (λ (stream : Stream). name_fault stream.name ≡ None) s.streams limits.names));
   few_streams = let count = set_length number lsn s.streams in omega (arith, limits.few_streams, count);
   few_areas = limits.few_areas;
-  areas = All-weaker (IsAreaWithinLimits s) (IsAreaWithinLimits t) (λ area is. area_kept s t area area [] (sym (append-nil s.records)) (alike_itself area) is) s.areas limits.areas;
+  areas =
+      All-weaker (IsAreaWithinLimits s) (IsAreaWithinLimits t)
+      (λ area is. area_kept s t area area [] (sym (append-nil s.records)) (alike_itself area) is) s.areas limits.areas;
 }
   where
     names_set : (n : ℕ) (streams : List Stream) → AllByRecursion (λ (stream : Stream). name_fault stream.name ≡ None) streams
@@ -196,7 +208,8 @@ limits_rebased stream base s limits = elim (cases_Bool (base == null_lsn)) [
 ]
 
 -- a restart area
-pub limits_restarted : (s : State) (area : Area) (bytes : List ℕ) (base : ℕ) (is_reserved : Bool) → IsWithinLimits s → IsWithinLimits (restarted s area bytes base is_reserved)
+pub limits_restarted : (s : State) (area : Area) (bytes : List ℕ) (base : ℕ) (is_reserved : Bool) → IsWithinLimits s
+    → IsWithinLimits (restarted s area bytes base is_reserved)
 limits_restarted s area bytes base is_reserved limits =
     let n = length bytes in
     limits_rebased area.stream base _ (limits_flush _ (limits_spent is_reserved area n _

@@ -22,7 +22,8 @@ use Rattle.clfs_laws.proofs.ValidSteps.{valid_step}
 storable_as : (s t : State) → t ≡ s → IsStorable s → IsStorable t
 storable_as s t same storable = subst IsStorable (sym same) storable
 
-reopens_storable : (told : Bool) (s : State) (happened : Happened) (reply : Reply) (t : State) → Reopens told s happened reply t → IsStorable s → IsStorable t
+reopens_storable : (told : Bool) (s : State) (happened : Happened) (reply : Reply) (t : State) → Reopens told s happened reply t → IsStorable s
+    → IsStorable t
 reopens_storable told s Fine reply t is storable = is.storable
 reopens_storable told s Fault reply t is storable = storable_as (with_broken s) t is.1 (storable_same s (with_broken s) refl refl refl refl refl storable)
 reopens_storable told s Damage reply t is storable = storable_as (with_broken s) t is.1 (storable_same s (with_broken s) refl refl refl refl refl storable)
@@ -34,11 +35,13 @@ reopened_by told s happened reply t false (inl want) storable = storable_as s t 
 reopened_by told s happened reply t false (inr reopens_so) storable = reopens_storable told s happened reply t reopens_so storable
 
 -- opening anew leaves a state that files can hold
-pub storable_reopened : (told : Bool) (s : State) (happened : Happened) (reply : Reply) (t : State) → ReopenStep told s happened reply t → IsStorable s → IsStorable t
+pub storable_reopened : (told : Bool) (s : State) (happened : Happened) (reply : Reply) (t : State) → ReopenStep told s happened reply t
+    → IsStorable s → IsStorable t
 unfolding ReopenStep
 storable_reopened told s happened reply t step storable = reopened_by told s happened reply t s.broken step storable
 
-storable_through : (told : Bool) (before : List Entry) (s t : State) (entries : List Entry) → GoesOn told before s entries t → IsValid s → IsStorable s
+storable_through : (told : Bool) (before : List Entry) (s t : State) (entries : List Entry) → GoesOn told before s entries t → IsValid s
+    → IsStorable s
     → AllByRecursion (λ (entry : Entry). MeetsCondition entry.client entry.call) entries → IsStorable t
 storable_through told before s t [] goes valid storable meets = storable_as s t goes storable
 storable_through told before s t (entry ∷ entries) goes valid storable meets =
@@ -58,7 +61,8 @@ pub record IsKept (t : State) : Type 0 where
   pub valid : IsValid t
   pub storable : IsStorable t
 
-pub request_keeps : (told : Bool) (s : State) (request : Request) (happened : Happened) (reply : Reply) (t : State) → RequestStep told s request happened reply t
+pub request_keeps : (told : Bool) (s : State) (request : Request) (happened : Happened) (reply : Reply) (t : State)
+    → RequestStep told s request happened reply t
     → RequestMeets request → IsKept s → IsKept t
 request_keeps told s (asks client call) happened reply t step meets kept = record {
   valid = valid_step told s client call happened reply t kept.valid step;
@@ -70,7 +74,8 @@ request_keeps told s (reopens client) happened reply t step meets kept = record 
 }
 request_keeps told s (bad_line at) happened reply t step meets kept = subst IsKept (sym step.1) kept
 
-run_keeps : (told : Bool) (s : State) (requests : List Request) (happened : List Happened) (replies : List Reply) (t : State) → Run told s requests happened replies t
+run_keeps : (told : Bool) (s : State) (requests : List Request) (happened : List Happened) (replies : List Reply) (t : State)
+    → Run told s requests happened replies t
     → AllByRecursion RequestMeets requests → IsKept s → IsKept t
 run_keeps told s [] [] [] t run meets kept = subst IsKept (sym run) kept
 run_keeps told s [] [] (reply ∷ replies) t run meets kept = absurd run
@@ -81,7 +86,8 @@ run_keeps told s (request ∷ requests) (happened ∷ more) (reply ∷ replies) 
     run_keeps told run.0 requests more replies t run.1.1 meets.1 (request_keeps told s request happened reply run.0 run.1.0 meets.0 kept)
 
 -- and a run of requests that meet their conditions
-pub kept_run : (told : Bool) (s : State) (requests : List Request) (happened : List Happened) (replies : List Reply) (t : State) → Run told s requests happened replies t
+pub kept_run : (told : Bool) (s : State) (requests : List Request) (happened : List Happened) (replies : List Reply) (t : State)
+    → Run told s requests happened replies t
     → All RequestMeets requests → IsKept s → IsKept t
 kept_run told s requests happened replies t run meets kept =
     run_keeps told s requests happened replies t run (recursion_from_All RequestMeets requests meets) kept

@@ -48,7 +48,8 @@ use Rattle.clfs_laws.proofs.ValidSettings.{grown_is}
 use Rattle.clfs_laws.proofs.ValidSteps.{two_of}
 
 -- a state of the same shape, records and place whose bases don't fall and whose areas are within their limits
-storable_with : (s t : State) → t.shape ≡ s.shape → t.records ≡ s.records → t.place ≡ s.place → BasesRise s t → IsWithinLimits t → IsStorable s → IsStorable t
+storable_with : (s t : State) → t.shape ≡ s.shape → t.records ≡ s.records → t.place ≡ s.place → BasesRise s t → IsWithinLimits t → IsStorable s
+    → IsStorable t
 storable_with s t shape records place rise limits storable = record {
   bases = bases_as s t records rise storable.bases;
   blocks = blocks_as s t shape records place storable.blocks;
@@ -56,16 +57,20 @@ storable_with s t shape records place rise limits storable = record {
 }
 
 -- the same streams and areas too
-pub storable_same : (s t : State) → t.shape ≡ s.shape → t.records ≡ s.records → t.place ≡ s.place → t.streams ≡ s.streams → t.areas ≡ s.areas → IsStorable s → IsStorable t
+pub storable_same : (s t : State) → t.shape ≡ s.shape → t.records ≡ s.records → t.place ≡ s.place → t.streams ≡ s.streams → t.areas ≡ s.areas
+    → IsStorable s → IsStorable t
 storable_same s t shape records place streams areas storable =
     storable_with s t shape records place (same_bases s t streams) (limits_same s t streams areas records storable.limits) storable
 
 -- other areas
-storable_areas : (s : State) (areas : List Area) → IsWithinLimits (record s { areas = areas }) → IsStorable s → IsStorable (record s { areas = areas })
-storable_areas s areas limits storable = storable_with s (record s { areas = areas }) refl refl refl (same_bases s (record s { areas = areas }) refl) limits storable
+storable_areas : (s : State) (areas : List Area) → IsWithinLimits (record s { areas = areas }) → IsStorable s
+    → IsStorable (record s { areas = areas })
+storable_areas s areas limits storable =
+    storable_with s (record s { areas = areas }) refl refl refl (same_bases s (record s { areas = areas }) refl) limits storable
 
 -- what holds in each area that is there, where the call isn't refused
-pub in_each : (P : State → Type 0) (s : State) (client number : ℕ) (refuses : Area → Option Refusal) (answers : Area → Outcome) (found : Option Area) → area_of s client number ≡ found
+pub in_each : (P : State → Type 0) (s : State) (client number : ℕ) (refuses : Area → Option Refusal) (answers : Area → Outcome) (found : Option Area)
+    → area_of s client number ≡ found
     → option_map_or refuses found (Some refusals.NoSuchArea) ≡ None
     → ((area : Area) → area_of s client number ≡ Some area → refuses area ≡ None → P (answers area).state)
     → P (option_map_or answers found (outcome (replies.Refused refusals.NoSuchArea) s)).state
@@ -85,12 +90,14 @@ opened_by s name None limits storable =
 -- sectors that are reserved
 hold_keeps : (area : Area) (sizes : List ℕ) (s : State) → IsStorable s → IsStorable (hold_sizes area sizes s)
 hold_keeps area [] s storable = storable
-hold_keeps area (size ∷ sizes) s storable = storable_areas s (hold_sizes area (size ∷ sizes) s).areas (limits_hold area (size ∷ sizes) s storable.limits) storable
+hold_keeps area (size ∷ sizes) s storable =
+    storable_areas s (hold_sizes area (size ∷ sizes) s).areas (limits_hold area (size ∷ sizes) s storable.limits) storable
 
 storable_reserved : (s : State) (area : Area) (sizes : List ℕ) → IsStorable s → IsStorable (reserved_for s area sizes).state
 storable_reserved s area sizes storable =
     let need = own_sum sizes in
-    let g : IsStorable (grown s need) = subst IsStorable (sym (grown_is s need)) (storable_same s (with_containers (grown s need).containers s) refl refl refl refl refl storable) in
+    let g : IsStorable (grown s need) =
+    subst IsStorable (sym (grown_is s need)) (storable_same s (with_containers (grown s need).containers s) refl refl refl refl refl storable) in
     hold_keeps area sizes (grown s need) g
 
 -- a flush
@@ -113,11 +120,13 @@ storable_flushed_to s lsn storable = record {
 
 -- reading
 storable_found : (s : State) (client number : ℕ) (area : Area) (kind : CursorKind) (found : Option LogEntry) (otherwise : Refusal) → IsValid s
-    → area_of s client number ≡ Some area → too_many_cursors area ≡ None → ((entry : LogEntry) → found ≡ Some entry → IsRead s area.stream kind entry) → IsStorable s
+    → area_of s client number ≡ Some area → too_many_cursors area ≡ None
+    → ((entry : LogEntry) → found ≡ Some entry → IsRead s area.stream kind entry) → IsStorable s
     → IsStorable (option_map_or (found_with_cursor s area kind) found (outcome (replies.Refused otherwise) s)).state
 storable_found s client number area kind None otherwise valid there few read storable = storable
 storable_found s client number area kind (Some entry) otherwise valid there few read storable =
-    storable_areas s (found_with_cursor s area kind entry).state.areas (limits_found_with s client number area kind entry valid there few (read entry refl) storable.limits) storable
+    storable_areas s (found_with_cursor s area kind entry).state.areas
+    (limits_found_with s client number area kind entry valid there few (read entry refl) storable.limits) storable
 
 -- a cursor that moves, or is at its end
 moved_areas : (s : State) (area : Area) (cursor : ℕ) (found : Option LogEntry)
@@ -157,7 +166,8 @@ storable_answer s client (calls.DeleteArea number) none meets valid storable =
     storable_areas s _ (limits_deleted s (λ (area : Area). not (is_area client number area)) storable.limits) storable
 storable_answer s client (calls.Reserve number sizes) none meets valid storable =
     let two = two_of s (in_area s client number (λ (area : Area). too_long area.largest sizes (full s (own_sum sizes)))) none in
-    in_each IsStorable s client number (λ area. too_long area.largest sizes (full s (own_sum sizes))) (λ area. reserved_for s area sizes) (area_of s client number) refl two.1
+    in_each IsStorable s client number (λ area. too_long area.largest sizes (full s (own_sum sizes))) (λ area. reserved_for s area sizes)
+    (area_of s client number) refl two.1
     (λ area there passes. storable_reserved s area sizes storable)
 storable_answer s client (calls.Release number sectors) none meets valid storable =
     in_each IsStorable s client number (λ area. short area sectors None) (λ area. released s area sectors) (area_of s client number) refl none
@@ -180,7 +190,8 @@ storable_answer s client (calls.Read number lsn mode) none meets valid storable 
     (passed (is_none (live_at s area.stream lsn)) (refusals.RecordNonexistent lsn) (too_many_cursors area) passes).1
     (λ entry is. read_live s area.stream lsn mode entry is) storable)
 storable_answer s client (calls.ReadNext number cursor) none meets valid storable =
-    in_each IsStorable s client number (λ area. next_refusal s area (record_cursor area cursor)) (λ area. moved_on s area cursor (record_cursor area cursor)) (area_of s client number) refl none
+    in_each IsStorable s client number (λ area. next_refusal s area (record_cursor area cursor))
+    (λ area. moved_on s area cursor (record_cursor area cursor)) (area_of s client number) refl none
     (λ area there passes. moved_areas s area cursor _ (limits_moved s client number cursor area valid there storable.limits) storable)
 storable_answer s client (calls.EndRead number cursor) none meets valid storable =
     storable_areas s _ (limits_ended s client number cursor storable.limits) storable
@@ -194,23 +205,27 @@ storable_answer s client (calls.WriteRestart number bytes base is_reserved) none
       limits = limits_restarted s area bytes base is_reserved storable.limits;
     })
 storable_answer s client (calls.ReadRestart number) none meets valid storable =
-    in_each IsStorable s client number (λ area. refused_if (is_none (newest_restart s area.stream)) refusals.NoRestart (too_many_cursors area)) (λ area. read_newest_restart s area)
+    in_each IsStorable s client number (λ area. refused_if (is_none (newest_restart s area.stream)) refusals.NoRestart (too_many_cursors area))
+    (λ area. read_newest_restart s area)
     (area_of s client number) refl none
     (λ area there passes. storable_found s client number area RestartAreas (newest_restart s area.stream) refusals.NoRestart valid there
     (passed (is_none (newest_restart s area.stream)) refusals.NoRestart (too_many_cursors area) passes).1
     (λ entry is. read_newest s area.stream entry is) storable)
 storable_answer s client (calls.PreviousRestart number cursor) none meets valid storable =
-    in_each IsStorable s client number (λ area. next_refusal s area (restart_cursor area cursor)) (λ area. moved_on s area cursor (restart_cursor area cursor)) (area_of s client number) refl none
+    in_each IsStorable s client number (λ area. next_refusal s area (restart_cursor area cursor))
+    (λ area. moved_on s area cursor (restart_cursor area cursor)) (area_of s client number) refl none
     (λ area there passes. moved_areas s area cursor _ (limits_moved_back s client number cursor area valid there storable.limits) storable)
 storable_answer s client (calls.Advance number lsn) none meets valid storable =
-    in_each IsStorable s client number (λ area. invalid_base s area.stream lsn None) (λ area. outcome (replies.Base lsn) (advanced s area.stream lsn)) (area_of s client number) refl none
+    in_each IsStorable s client number (λ area. invalid_base s area.stream lsn None)
+    (λ area. outcome (replies.Base lsn) (advanced s area.stream lsn)) (area_of s client number) refl none
     (λ area there passes. record {
       bases = bases_advanced s area.stream lsn valid passes (its_area s client number area there valid).stream storable.bases;
       blocks = blocks_as (flush s) (advanced s area.stream lsn) refl refl refl (blocks_flush s storable.blocks);
       limits = limits_advanced s area.stream lsn storable.limits;
     })
 storable_answer s client (calls.SetArchive on) none meets valid storable = storable_archiving s on storable
-storable_answer s client (calls.SetArchiveTail lsn) none meets valid storable = storable_same s (record s { archive = Some lsn }) refl refl refl refl refl storable
+storable_answer s client (calls.SetArchiveTail lsn) none meets valid storable =
+    storable_same s (record s { archive = Some lsn }) refl refl refl refl refl storable
 storable_answer s client calls.ListExtents none meets valid storable = storable
 storable_answer s client (calls.InstallPolicy policy) none meets valid storable = storable_installed s policy storable
 storable_answer s client (calls.RemovePolicy kind) none meets valid storable = storable_removed s kind storable

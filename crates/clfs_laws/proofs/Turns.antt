@@ -119,7 +119,8 @@ turn_joined s need entry is short =
     turn_before s (grown s need) (put (grown s need) entry) (ap (λ (x : State). x.shape) (grown_is s need)) (ap (λ (x : State). x.place) (grown_is s need))
     (turn_put (grown s need) entry (subst F (sym (grown_is s need)) is) (subst G (sym (grown_is s need)) short))
 
-turn_appended : (s : State) (client number : ℕ) (area : Area) (draft : Draft) (is_reserved : Bool) (sizes : List ℕ) → IsValid s → area_of s client number ≡ Some area
+turn_appended : (s : State) (client number : ℕ) (area : Area) (draft : Draft) (is_reserved : Bool) (sizes : List ℕ) → IsValid s
+    → area_of s client number ≡ Some area
     → append_refusal s area draft is_reserved sizes ≡ None → IsTurn s (appended s area draft is_reserved sizes)
 turn_appended s client number area draft is_reserved sizes valid there none =
     let n = length draft.bytes in
@@ -128,7 +129,8 @@ turn_appended s client number area draft is_reserved sizes valid there none =
     turn_flush_if s _ draft.flush (turn_seal_if s _ draft.seal (turn_hold s _ area sizes (turn_spend s _ is_reserved area n
     (turn_joined s (need_of is_reserved n sizes) (plain_record area draft) valid.ranges.shape (omega (arith, short, fits))))))
 
-turn_restarted : (s : State) (client number : ℕ) (area : Area) (bytes : List ℕ) (base : ℕ) (is_reserved : Bool) → IsValid s → area_of s client number ≡ Some area
+turn_restarted : (s : State) (client number : ℕ) (area : Area) (bytes : List ℕ) (base : ℕ) (is_reserved : Bool) → IsValid s
+    → area_of s client number ≡ Some area
     → restart_refusal s area bytes base is_reserved ≡ None → IsTurn s (restarted s area bytes base is_reserved)
 turn_restarted s client number area bytes base is_reserved valid there none =
     let n = length bytes in
@@ -199,7 +201,8 @@ turn_answer s client (calls.WriteRestart number bytes base is_reserved) none val
     (λ area there passes. turn_restarted s client number area bytes base is_reserved valid there passes)
 turn_answer s client (calls.ReadRestart number) none valid = over s client number _ (λ (area : Area).
     of_option (TurnsIn s) (newest_restart s area.stream) _ _ (λ (entry : LogEntry). stays s _ refl refl) (itself s))
-turn_answer s client (calls.PreviousRestart number cursor) none valid = over s client number _ (λ (area : Area). moved s area cursor (restart_cursor area cursor))
+turn_answer s client (calls.PreviousRestart number cursor) none valid =
+    over s client number _ (λ (area : Area). moved s area cursor (restart_cursor area cursor))
 turn_answer s client (calls.Advance number lsn) none valid = over s client number _ (λ (area : Area).
     turn_behind s (flush s) (advanced s area.stream lsn) refl refl (turn_flush s s (itself s)))
 turn_answer s client (calls.SetArchive on) none valid = turn_archiving s on
