@@ -106,7 +106,6 @@ pub record IsSameFrom (at : ℕ) (s u : State) : Type 0 where
 live_same : (at : ℕ) (s u : State) → IsSameFrom at s u → filter (is_live s) s.records ≡ filter (is_live u) u.records
 live_same at s u is =
     let tests : is_live s ≡ is_live u = ap (λ (x : State). is_live (with_records s.records x)) (sym is.others) in
-    let F : (LogEntry → Bool) → List LogEntry = λ p. filter p u.records in
     let above = live_from s at s.records is.up (hold_below_live s) in
     sym (filter_from at (is_live s) s.records above) ∙ ap (filter (is_live s)) is.records
     ∙ ap (λ (p : LogEntry → Bool). filter p (records_from at u.records)) tests
