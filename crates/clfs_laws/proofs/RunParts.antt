@@ -19,7 +19,15 @@ run_joined told s mid t (request ∷ front) rest (h ∷ hs) of_rest (reply ∷ r
 pub run_parted : (told : Bool) (s t : State) (front rest : List Request) (happened : List Happened) (replies : List Reply)
     → Run told s (front ++ rest) happened replies t → RunsBy told s front rest happened replies t
 run_parted told s t [] rest happened replies run = record {
-  mid = s; of_front = []; of_rest = happened; to_front = []; to_rest = replies; happened_is = refl; replies_are = refl; first = refl; second = run;
+  mid = s;
+  of_front = [];
+  of_rest = happened;
+  to_front = [];
+  to_rest = replies;
+  happened_is = refl;
+  replies_are = refl;
+  first = refl;
+  second = run;
 }
 run_parted told s t (request ∷ front) rest [] replies run = absurd run
 run_parted told s t (request ∷ front) rest (h ∷ hs) [] run = absurd run
