@@ -1,6 +1,6 @@
 //! Log sequence numbers, sizes and places of records, and the plain types of the log.
 //!
-//! Everything else stands on this crate, so it keeps nothing and calls nothing: numbers go in and numbers come out. `Lsn`
+//! Most other crates stand on this one. It keeps no log and calls no disk: it has numbers, and bytes that it is given. `Lsn`
 //! names a record by its container, its block's offset and its position in the block. `Shape` says how large blocks and
 //! containers are, `Place` where the next record goes, and `place_after` is the one rule for it: the log appends by it, and
 //! whoever reads a log again finds each record at the LSN that the rule gave. The specs hold besides the calls' own
