@@ -1,1 +1,4 @@
 pub mod BrokenLog
+pub mod Decisions
+pub mod SameStates
+pub mod SurvivorTests

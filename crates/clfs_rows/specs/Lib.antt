@@ -2,3 +2,4 @@ pub mod Worked
 pub mod Filled
 pub mod Reach
 pub mod OwnEntries
+pub mod Crashes

@@ -7,6 +7,7 @@
 
 mod archive;
 mod bases_and_recycling;
+mod crashes;
 mod disk_and_memory;
 mod faults;
 mod journals;
@@ -22,6 +23,11 @@ mod streams_and_cursors;
 
 pub use archive::{blocks_to_archive, what_the_tail_holds, where_archiving_begins};
 pub use bases_and_recycling::{containers_are_used_again, new_bases};
+pub use crashes::{
+    bases_that_a_crash_leaves, blocks_that_a_crash_leaves, lines_that_flush_nothing,
+    places_that_a_crash_leaves, records_that_a_crash_leaves, settings_that_a_crash_leaves,
+    what_else_a_crash_leaves,
+};
 pub use disk_and_memory::{calls_that_leave_the_disk_alone, calls_that_reach_the_disk};
 pub use faults::{texts_of_faults, what_a_broken_log_answers, what_a_fault_leaves};
 pub use journals::{entries_of_a_client, sectors_that_an_area_holds};
