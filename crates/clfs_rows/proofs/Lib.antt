@@ -2,3 +2,6 @@ pub mod BrokenLog
 pub mod Decisions
 pub mod SameStates
 pub mod SurvivorTests
+pub mod ValidTests
+pub mod StorableTests
+pub mod SameTests

@@ -3,3 +3,4 @@ pub mod Filled
 pub mod Reach
 pub mod OwnEntries
 pub mod Crashes
+pub mod Compared

@@ -13,13 +13,16 @@ mod faults;
 mod journals;
 mod lines;
 mod names_and_limits;
+mod opening_anew;
 mod order_of_refusals;
 mod places;
 mod policies_and_sizes;
 mod reopening;
 mod reservations;
 mod restart_areas;
+mod sameness;
 mod streams_and_cursors;
+mod valid_states;
 
 pub use archive::{blocks_to_archive, what_the_tail_holds, where_archiving_begins};
 pub use bases_and_recycling::{containers_are_used_again, new_bases};
@@ -38,6 +41,7 @@ pub use lines::{
 pub use names_and_limits::{
     arguments_of_calls, limit_of_areas, limit_of_cursors, limit_of_streams, names_of_streams,
 };
+pub use opening_anew::{what_a_disk_gives_back, what_another_disk_gives_back, what_stops_opening_anew};
 pub use order_of_refusals::{
     one_container, refusals_of_appends, refusals_of_reads, refusals_of_restart_areas,
 };
@@ -49,6 +53,8 @@ pub use policies_and_sizes::{automatic_growth, sizes_that_are_asked_for, values_
 pub use reopening::{what_is_lost, what_stays};
 pub use reservations::{reserved_records, room_that_is_wanted, sectors_of_records};
 pub use restart_areas::{kinds_of_cursors, newest_first, with_a_new_base};
+pub use sameness::{records_that_are_compared, what_else_is_compared};
 pub use streams_and_cursors::{
     chains_of_records, cursors_that_go_on, links_between_records, two_streams,
 };
+pub use valid_states::states_that_a_log_can_be_in;
