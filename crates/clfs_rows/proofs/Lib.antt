@@ -5,3 +5,4 @@ pub mod SurvivorTests
 pub mod ValidTests
 pub mod StorableTests
 pub mod SameTests
+pub mod ReplyTests

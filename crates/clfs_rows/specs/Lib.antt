@@ -4,3 +4,4 @@ pub mod Reach
 pub mod OwnEntries
 pub mod Crashes
 pub mod Compared
+pub mod ReadAnew

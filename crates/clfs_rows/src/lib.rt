@@ -22,6 +22,7 @@ mod reservations;
 mod restart_areas;
 mod sameness;
 mod streams_and_cursors;
+mod untold_replies;
 mod valid_states;
 
 pub use archive::{blocks_to_archive, what_the_tail_holds, where_archiving_begins};
@@ -56,5 +57,8 @@ pub use restart_areas::{kinds_of_cursors, newest_first, with_a_new_base};
 pub use sameness::{records_that_are_compared, what_else_is_compared};
 pub use streams_and_cursors::{
     chains_of_records, cursors_that_go_on, links_between_records, two_streams,
+};
+pub use untold_replies::{
+    records_that_are_read_from_it, what_a_disk_that_tells_gives, what_is_given_as_it_is,
 };
 pub use valid_states::states_that_a_log_can_be_in;
