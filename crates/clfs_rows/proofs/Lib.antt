@@ -6,3 +6,5 @@ pub mod ValidTests
 pub mod StorableTests
 pub mod SameTests
 pub mod ReplyTests
+pub mod Shuffled
+pub mod OneEntry

@@ -5,3 +5,4 @@ pub mod OwnEntries
 pub mod Crashes
 pub mod Compared
 pub mod ReadAnew
+pub mod Interleaved

@@ -11,6 +11,7 @@ mod crashes;
 mod disk_and_memory;
 mod faults;
 mod journals;
+mod legal_journals;
 mod lines;
 mod names_and_limits;
 mod opening_anew;
@@ -21,6 +22,7 @@ mod reopening;
 mod reservations;
 mod restart_areas;
 mod sameness;
+mod shuffles;
 mod streams_and_cursors;
 mod untold_replies;
 mod valid_states;
@@ -35,6 +37,7 @@ pub use crashes::{
 pub use disk_and_memory::{calls_that_leave_the_disk_alone, calls_that_reach_the_disk};
 pub use faults::{texts_of_faults, what_a_broken_log_answers, what_a_fault_leaves};
 pub use journals::{entries_of_a_client, sectors_that_an_area_holds};
+pub use legal_journals::{journals_that_are_legal, journals_that_are_not_legal};
 pub use lines::{
     clients_and_verbs, ends_of_lines, first_scripts, lines_within_limits, options_of_appends,
     words_of_lines,
@@ -55,6 +58,7 @@ pub use reopening::{what_is_lost, what_stays};
 pub use reservations::{reserved_records, room_that_is_wanted, sectors_of_records};
 pub use restart_areas::{kinds_of_cursors, newest_first, with_a_new_base};
 pub use sameness::{records_that_are_compared, what_else_is_compared};
+pub use shuffles::{journals_that_do_not_shuffle, journals_that_shuffle};
 pub use streams_and_cursors::{
     chains_of_records, cursors_that_go_on, links_between_records, two_streams,
 };
