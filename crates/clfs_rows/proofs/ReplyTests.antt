@@ -54,8 +54,8 @@ steps told s client call reply t tested = like (step_of_cases told s client call
     (matches s.broken (both (tested.is (replies.Refused refusals.Broken)) (same_state t s))
     (either (both (alike (takes_memory call) true) (both (tested.is (replies.Refused refusals.NoMemory)) (same_state t s)))
     (matches_option (refusal s client call)
-        (both (comes told (flushed s) (answer s client call).reply reply tested) (same_state t (answer s client call).state))
-        (λ first. both (tested.is (replies.Refused first)) (same_state t s)))))
+    (both (comes told (flushed s) (answer s client call).reply reply tested) (same_state t (answer s client call).state))
+    (λ first. both (tested.is (replies.Refused first)) (same_state t s)))))
 
 pub same_found : (a b : ℕ) (x y : LogEntry) → (a ≡ b) × (x ≡ y) → replies.Found a x ≡ replies.Found b y
 same_found a b x y same = cc

@@ -54,7 +54,7 @@ ReopenedParts told s lsn t = (replies.Flushed lsn ≡ replies.Flushed (flushed t
     × MatchBool told ((flushed t ≡ flushed s) × IsSame (cut s) t) (IsOpenedAnew s t)))
 
 pub reopened_of_parts : (told : Bool) (s : State) (lsn : ℕ) (t : State) → ReopenedParts told s lsn t → IsReopened told s (replies.Flushed lsn) t
-reopened_of_parts told s lsn t p = record { flushed_part = p.0; valid = p.1.0; storable = p.1.1.0; read = p.1.1.1; }
+reopened_of_parts told s lsn t p = record { flushed_part = p.0; valid = p.1.0; storable = p.1.1.0; read = p.1.1.1 }
 
 pub parts_of_reopened : (told : Bool) (s : State) (lsn : ℕ) (t : State) → IsReopened told s (replies.Flushed lsn) t → ReopenedParts told s lsn t
 parts_of_reopened told s lsn t h = (h.flushed_part, (h.valid, (h.storable, h.read)))

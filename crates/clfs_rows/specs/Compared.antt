@@ -10,7 +10,6 @@ use Rattle.clfs_model.specs.Run.{state_after}
 use Rattle.clfs_model.specs.Script.{script_requests}
 use Rattle.clfs_rows.specs.Worked.{opened_log}
 
-
 -- Eight blocks of a record each fill the first container, and the first block of the second one has three records. All are flushed, and
 -- the second of these three is the base, so the hold lies in the second container. The place is at 2:200:0.
 abbrev pub two_containers : State

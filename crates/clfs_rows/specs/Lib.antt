@@ -6,3 +6,4 @@ pub mod Crashes
 pub mod Compared
 pub mod ReadAnew
 pub mod Interleaved
+pub mod Arranged

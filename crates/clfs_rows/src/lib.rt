@@ -23,6 +23,7 @@ mod reservations;
 mod restart_areas;
 mod sameness;
 mod shuffles;
+mod storable_states;
 mod streams_and_cursors;
 mod untold_replies;
 mod valid_states;
@@ -45,7 +46,9 @@ pub use lines::{
 pub use names_and_limits::{
     arguments_of_calls, limit_of_areas, limit_of_cursors, limit_of_streams, names_of_streams,
 };
-pub use opening_anew::{what_a_disk_gives_back, what_another_disk_gives_back, what_stops_opening_anew};
+pub use opening_anew::{
+    what_a_disk_gives_back, what_another_disk_gives_back, what_stops_opening_anew,
+};
 pub use order_of_refusals::{
     one_container, refusals_of_appends, refusals_of_reads, refusals_of_restart_areas,
 };
@@ -59,10 +62,17 @@ pub use reservations::{reserved_records, room_that_is_wanted, sectors_of_records
 pub use restart_areas::{kinds_of_cursors, newest_first, with_a_new_base};
 pub use sameness::{records_that_are_compared, what_else_is_compared};
 pub use shuffles::{journals_that_do_not_shuffle, journals_that_shuffle};
+pub use storable_states::{
+    bases_that_files_hold, blocks_that_files_hold, cursors_within_limits, places_that_files_hold,
+    streams_and_areas_within_limits,
+};
 pub use streams_and_cursors::{
     chains_of_records, cursors_that_go_on, links_between_records, two_streams,
 };
 pub use untold_replies::{
     records_that_are_read_from_it, what_a_disk_that_tells_gives, what_is_given_as_it_is,
 };
-pub use valid_states::states_that_a_log_can_be_in;
+pub use valid_states::{
+    blocks_that_wait, numbers_in_their_ranges, policies_in_their_ranges, records_of_a_log,
+    space_of_a_log, states_that_a_log_can_be_in, tables_of_a_log, what_is_stable,
+};

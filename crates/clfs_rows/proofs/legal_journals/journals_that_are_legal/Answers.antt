@@ -18,16 +18,42 @@ pub returns : goal.returns
 unfolding Step ReopenStep grown has_room fine_outcome request_in digits decode_pairs encode_with
 returns c = record {
   none = refl;
-  of_two_clients =
-      (behind_first, (record { step = inr (refl, refl); no_want = λ e. absurd (cc); number = refl },
-      (behind_second, (record { step = inr (refl, refl); no_want = λ e. absurd (cc); number = refl },
-      (behind_third, (record { step = inr (refl, refl); no_want = λ e. absurd (cc); number = refl }, refl))))));
-  a_fault =
-      (behind_first, (record { step = inr (refl, refl); no_want = λ e. absurd (cc); number = refl },
-      (with_broken behind_first, (record { step = inr (refl, (refl, (refl, refl))); no_want = λ e. absurd (cc); number = refl },
-      (with_broken behind_first, (record { step = (refl, refl); no_want = λ e. absurd (cc); number = refl }, refl))))));
-  over_a_disk_that_does_not_tell =
-      (behind_read, (record { 
-      step = yes (may_reply false read_log (codes "1 read 1 1:200:0 forward") (replies.Found 3 (with_other_data second_record)) behind_read
-          (found 3 (with_other_data second_record))) refl; no_want = λ e. absurd (cc); number = refl }, refl));
+  of_two_clients = (
+    behind_first,
+    (
+      record { step = inr (refl, refl); no_want = λ e. absurd (cc); number = refl },
+      (
+        behind_second,
+        (
+          record { step = inr (refl, refl); no_want = λ e. absurd (cc); number = refl },
+          (behind_third, (record { step = inr (refl, refl); no_want = λ e. absurd (cc); number = refl }, refl)),
+        ),
+      ),
+    ),
+  );
+  a_fault = (
+    behind_first,
+    (
+      record { step = inr (refl, refl); no_want = λ e. absurd (cc); number = refl },
+      (
+        with_broken behind_first,
+        (
+          record { step = inr (refl, (refl, (refl, refl))); no_want = λ e. absurd (cc); number = refl },
+          (with_broken behind_first, (record { step = (refl, refl); no_want = λ e. absurd (cc); number = refl }, refl)),
+        ),
+      ),
+    ),
+  );
+  over_a_disk_that_does_not_tell = (
+    behind_read,
+    (
+      record {
+        step = yes (may_reply false read_log (codes "1 read 1 1:200:0 forward") (replies.Found 3 (with_other_data second_record)) behind_read
+            (found 3 (with_other_data second_record))) refl;
+        no_want = λ e. absurd (cc);
+        number = refl;
+      },
+      refl,
+    ),
+  );
 }
