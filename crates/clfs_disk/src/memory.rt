@@ -98,10 +98,7 @@ impl Memory {
         ensures range { result ≡ true → at + count ≤ length ((shown self.now).files file) }
         ensures exact { IsTrue result ↔ AdmitsWrite file at count self.now }
     {
-        if !self.admits() {
-            return false;
-        }
-        if !self.history.has_bytes(count) {
+        if !self.admits() || !self.history.has_bytes(count) {
             return false;
         }
         self.files[file as usize].has_bytes(at, count)
@@ -190,13 +187,14 @@ impl Disk for Memory {
         ensures bytes { bytes_of self.new ≡ bytes_of self.old }
         ensures plan { plan_of self.new ≡ plan_of self.old }
     {
-        if !self.admits() {
-            return Err(self.refuse());
+        if self.admits() {
+            let count = self.files[file as usize].read_at(at, out);
+            self.history.note(Event::Read);
+            self.calls = self.calls.saturating_add(1);
+            Ok(count)
+        } else {
+            Err(self.refuse())
         }
-        let count = self.files[file as usize].read_at(at, out);
-        self.history.note(Event::Read);
-        self.calls = self.calls.saturating_add(1);
-        Ok(count)
     }
 
     /// Writes, exactly where the call is admitted, its bytes have room in the record, and the file has the range. A write that
@@ -253,7 +251,8 @@ impl Disk for Memory {
         ensures bytes { bytes_of self.new ≡ bytes_of self.old }
         ensures plan { plan_of self.new ≡ plan_of self.old }
     {
-        if !self.admits() {
+        let admitted = self.admits();
+        if !admitted {
             let _ = self.refuse();
             return Err(GrowRefusal::Failed);
         }
