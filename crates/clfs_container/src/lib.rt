@@ -138,4 +138,6 @@ pub fn open_blocks_are_one_list()
 {}
 
 #[cfg(test)]
+mod disk_tests;
+#[cfg(test)]
 mod tests;

@@ -1,6 +1,7 @@
+// The disks, as a crate above sees them. They are tried here, so that their own crate isn't proved once more for its tests.
 ghost use Rattle.std.specs.Prelude.{◌≤◌};
 
-use crate::{Disk, Fuse, Memory, Steady, write_synced};
+use clfs_disk::{Disk, Fuse, Memory, Steady, write_synced};
 use std::alloc::Global;
 use std::test::Fail;
 
