@@ -58,6 +58,7 @@ none_more entries s all more =
     let among : IsAmong more.1 s.records = subst F more.3 (all more.0 more.1 more.2) in
     at_each (λ (other : LogEntry). other.lsn ≡ more.1.lsn → ⊥) s.records more.1 more.4 among refl
 
+-- all elements of a list are among it
 its_own : (entries : List LogEntry) → All (λ (entry : LogEntry). IsAmong entry entries) entries
 its_own entries = All-from_recursion (λ (entry : LogEntry). IsAmong entry entries) entries (each_among entries)
 
@@ -104,6 +105,7 @@ reopening_survives s client valid = survives_as (reopens client) s (cut s) valid
 pub bad_line_survives : (s : State) (at : ℕ) → IsValid s → IsSurvivor (bad_line at) s s (cut s)
 bad_line_survives s at valid = survives_as (bad_line at) s s valid (omega arith) refl tt
 
+-- the flushed part leaves what is stable as it is
 cut_leaves : (s : State) → IsValid s → LeavesStable s (cut s)
 cut_leaves s valid = record { flushed = frontier_cut s valid; settings = settings_of s; bases = λ stream. refl }
 
@@ -135,6 +137,7 @@ restart_more s t entry above is =
     (λ other below same. omega (arith, below, same, above))
     (cut s).records (All-from_recursion (λ (other : LogEntry). other.lsn < flushed s) (cut s).records (kept_below (flushed s) s.records)))
 
+-- so it is lost where the flushed part of before is left
 restart_before : (s : State) (area : Area) (bytes : List ℕ) (base : ℕ) (is_reserved : Bool) → IsValid s
     → HasBasesOfRestart s (restarted s area bytes base is_reserved) (cut s)
 restart_before s area bytes base is_reserved valid =
@@ -177,9 +180,11 @@ flush_closed s = elim (cases_Bool (nat_lt 0 s.place.records)) [
   | inr none ↦ rw none (omega (arith, ltb-false 0 s.place.records none))
 ]
 
+-- a log with no open block and nothing waiting has flushed everything
 flushed_at : (s : State) → s.waiting ≡ [] → s.place.records ≡ 0 → flushed s ≡ frontier s.place
 flushed_at s none closed = ap (first_or (block_start s.place)) none ∙ omega (arith, closed)
 
+-- so has one that was flushed, with a new base or without
 flushed_rebased : (stream base : ℕ) (s : State) → flushed (rebased stream base (flush s)) ≡ frontier (rebased stream base (flush s)).place
 flushed_rebased stream base s = elim (cases_Bool (base == null_lsn)) [
   | inl none ↦ rw none (flushed_at (flush s) refl (flush_closed s))
@@ -192,6 +197,7 @@ all_flushed s valid at =
     let B : ℕ → Type 0 = λ n. AllByRecursion (λ (entry : LogEntry). entry.lsn < n) s.records in
     all_below (flushed s) s.records (subst B (sym at) (of_links.all_below s (sound_of s valid)))
 
+-- so a restart area is there where the flushed part of after is left
 restart_after : (s : State) (client number : ℕ) (area : Area) (bytes : List ℕ) (base : ℕ) (is_reserved : Bool) → IsValid s
     → area_of s client number ≡ Some area
     → restart_refusal s area bytes base is_reserved ≡ None

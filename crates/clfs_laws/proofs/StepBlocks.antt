@@ -40,25 +40,30 @@ LaidIn o = HasBlocks o.state
 same : (s t : State) → t.shape ≡ s.shape → t.records ≡ s.records → t.place ≡ s.place → HasBlocks s → HasBlocks t
 same s t shape records place blocks = blocks_as s t shape records place blocks
 
+-- over an area, which may be missing
 over : (s : State) (client number : ℕ) (f : Area → Outcome) → ((area : Area) → HasBlocks (f area).state) → HasBlocks s
     → HasBlocks (over_area s client number f).state
 over s client number f each blocks = of_area LaidIn s client number f each blocks
 
+-- over a cursor, which may be missing or at its end
 moved : (s : State) (area : Area) (number : ℕ) (found : Option Cursor) → HasBlocks s → HasBlocks (moved_on s area number found).state
 moved s area number found blocks = of_cursor LaidIn s area number found (λ (entry : LogEntry). same s _ refl refl refl blocks) blocks
 
+-- a policy that is installed
 installed : (s : State) (policy : Policy) → HasBlocks s → HasBlocks (with_policy s policy)
 installed s (policies.Maximum value) blocks = same s (record s { maximum = Some value }) refl refl refl blocks
 installed s (policies.Minimum value) blocks = same s (record s { minimum = Some value }) refl refl refl blocks
 installed s (policies.Growth value) blocks = same s (record s { growth = Some value }) refl refl refl blocks
 installed s policies.Automatic blocks = same s (record s { automatic = true }) refl refl refl blocks
 
+-- a policy that is removed
 removed : (s : State) (kind : PolicyKind) → HasBlocks s → HasBlocks (without_policy s kind)
 removed s kinds.Maximum blocks = same s (record s { maximum = None }) refl refl refl blocks
 removed s kinds.Minimum blocks = same s (record s { minimum = None }) refl refl refl blocks
 removed s kinds.Growth blocks = same s (record s { growth = None }) refl refl refl blocks
 removed s kinds.Automatic blocks = same s (record s { automatic = false }) refl refl refl blocks
 
+-- archiving that is turned on or off
 archived : (s : State) (on : Bool) → HasBlocks s → HasBlocks (archiving s on)
 archived s true blocks = same s (archiving s true) refl refl refl blocks
 archived s false blocks = same s (archiving s false) refl refl refl blocks

@@ -53,6 +53,7 @@ next_id s n sound takes beyond =
         → s.place.container + 1 < 2 ^ 32
     next_one s n none room = grind (arith, none, room)
 
+-- the container of the place behind a record has an id
 id_by : (s : State) (n : ℕ) (joining beginning : Bool) → begins_here s.shape s.place n ≡ beginning → IsSound s → TakesRecord s n
     → s.place.container < 2 ^ 32
     → (after_by joining beginning s.place n).1.container < 2 ^ 32

@@ -19,15 +19,18 @@ use Rattle.clfs_laws.proofs.StorableSteps.{storable_same, storable_step}
 use Rattle.clfs_laws.proofs.ValidRuns.{valid_reopened}
 use Rattle.clfs_laws.proofs.ValidSteps.{valid_step}
 
+-- another name for the state
 storable_as : (s t : State) → t ≡ s → IsStorable s → IsStorable t
 storable_as s t same storable = subst IsStorable (sym same) storable
 
+-- opening anew, by what happened
 reopens_storable : (told : Bool) (s : State) (happened : Happened) (reply : Reply) (t : State) → Reopens told s happened reply t → IsStorable s
     → IsStorable t
 reopens_storable told s Fine reply t is storable = is.storable
 reopens_storable told s Fault reply t is storable = storable_as (with_broken s) t is.1 (storable_same s (with_broken s) refl refl refl refl refl storable)
 reopens_storable told s Damage reply t is storable = storable_as (with_broken s) t is.1 (storable_same s (with_broken s) refl refl refl refl refl storable)
 
+-- by whether the log is broken
 reopened_by : (told : Bool) (s : State) (happened : Happened) (reply : Reply) (t : State) (broken : Bool)
     → MatchBool broken (IsBroken s reply t) (IsOutOfMemory s reply t ⊎ Reopens told s happened reply t) → IsStorable s → IsStorable t
 reopened_by told s happened reply t true is storable = storable_as s t is.1 storable
@@ -40,6 +43,7 @@ pub storable_reopened : (told : Bool) (s : State) (happened : Happened) (reply :
 unfolding ReopenStep
 storable_reopened told s happened reply t step storable = reopened_by told s happened reply t s.broken step storable
 
+-- entries one after the other
 storable_through : (told : Bool) (before : List Entry) (s t : State) (entries : List Entry) → GoesOn told before s entries t → IsValid s
     → IsStorable s
     → AllByRecursion (λ (entry : Entry). MeetsCondition entry.client entry.call) entries → IsStorable t
@@ -74,6 +78,7 @@ request_keeps told s (reopens client) happened reply t step meets kept = record 
 }
 request_keeps told s (bad_line at) happened reply t step meets kept = subst IsKept (sym step.1) kept
 
+-- requests one after the other
 run_keeps : (told : Bool) (s : State) (requests : List Request) (happened : List Happened) (replies : List Reply) (t : State)
     → Run told s requests happened replies t
     → AllByRecursion RequestMeets requests → IsKept s → IsKept t
