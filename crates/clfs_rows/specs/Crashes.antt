@@ -76,6 +76,10 @@ growing_append = codes "1 append 1 aa 0:0:0 0:0:0 flush hold 960 960 960 960 960
 abbrev pub rebasing_log : State
 rebasing_log = state_after flushed_log (script_requests (codes "1 append 1 a1 0:0:0 0:0:0 seal\n"))
 
+-- the same log, all flushed, with a second stream and with its first one's base at 1:0:0
+abbrev pub two_streams_log : State
+two_streams_log = state_after rebasing_log (script_requests (codes "1 advance 1 1:0:0\n1 open b\n"))
+
 -- a restart area that moves the base to the record that waits
 abbrev pub restart : List ℕ
 restart = codes "1 restart 1 bb 1:200:0"

@@ -23,8 +23,10 @@ returns c = record {
   not_within_a_block = no (is_survivor_of_line waiting_log long_append (left_of long_log 5 1 2048)) refl;
   not_above_what_is_flushed = no (is_survivor_of_line waiting_log (codes "1 append 1 a4 0:0:0 0:0:0") (left_of waiting_log 4 1 1536)) refl;
   not_in_a_container_above_it = no (is_survivor_of_line waiting_log long_append (left_of long_log 5 2 0)) refl;
-  no_bytes_in_a_block = no (is_survivor_of_line waiting_log long_append (record (left_of long_log 4 1 1536) { place = record (closed_at 1 1536) { used = 16 } })) refl;
-  no_records_in_a_block = no (is_survivor_of_line waiting_log long_append (record (left_of long_log 5 1 1536) { place = record (closed_at 1 1536) { records = 1 } })) refl;
+  no_bytes_in_a_block = no (is_survivor_of_line waiting_log long_append
+      (record (left_of long_log 4 1 1536) { place = record (closed_at 1 1536) { used = 16 } })) refl;
+  no_records_in_a_block = no (is_survivor_of_line waiting_log long_append
+      (record (left_of long_log 5 1 1536) { place = record (closed_at 1 1536) { records = 1 } })) refl;
   where_no_block_ends = yes (is_survivor_of_line opened_log (codes "1 append 1 aa 0:0:0 0:0:0 flush") (left_of opened_log 0 1 0)) refl;
   flushed_behind_a_turn = refl;
   before_the_open_block = yes (is_survivor_of_line turning_log long_append (left_of turned_log 3 1 3072)) refl;

@@ -24,10 +24,12 @@ returns c = record {
   not_with_another_minimum = no (is_survivor_of_line flushed_log (codes "1 open b") (record (cut flushed_log) { minimum = Some 2 })) refl;
   not_with_another_growth = no (is_survivor_of_line flushed_log (codes "1 open b") (record (cut flushed_log) { growth = Some 1 })) refl;
   not_with_growth_by_itself = no (is_survivor_of_line flushed_log (codes "1 open b") (record (cut flushed_log) { automatic = true })) refl;
-  not_some_of_each = no (is_survivor (line_request (codes "1 open b")) flushed_log (record (state_behind flushed_log (codes "1 open b")) { containers = 3 }) (record (cut flushed_log) { containers = 3 })) refl;
+  not_some_of_each = no (is_survivor (line_request (codes "1 open b")) flushed_log
+      (record (state_behind flushed_log (codes "1 open b")) { containers = 3 }) (record (cut flushed_log) { containers = 3 })) refl;
   three_containers = refl;
   neither_grown_nor_appended = yes (is_survivor_of_line growing_log growing_append (cut growing_log)) refl;
   grown_without_the_record = yes (is_survivor_of_line growing_log growing_append (record (cut growing_log) { containers = 3 })) refl;
   grown_with_the_record = yes (is_survivor_of_line growing_log growing_append (cut (state_behind growing_log growing_append))) refl;
-  not_the_record_without_growth = no (is_survivor_of_line growing_log growing_append (record (cut (state_behind growing_log growing_append)) { containers = 2 })) refl;
+  not_the_record_without_growth = no (is_survivor_of_line growing_log growing_append
+      (record (cut (state_behind growing_log growing_append)) { containers = 2 })) refl;
 }
