@@ -51,10 +51,11 @@ long_append = append_of_zeros 960 (codes " flush")
 abbrev pub long_log : State
 long_log = state_behind waiting_log long_append
 
--- Three blocks of two sectors are flushed, and the one of a sector behind them, at 1:c00:0, is open. One sector is left behind it.
+-- A block of one sector and two of two sectors are flushed, and the next one of two sectors, at 1:a00:0, is open. One sector is left
+-- behind it.
 abbrev pub turning_log : State
-turning_log = state_after opened_log (script_requests (append_of_zeros 960 (codes "\n") ++ (append_of_zeros 960 (codes "\n")
-    ++ (append_of_zeros 960 (codes " flush\n") ++ codes "1 append 1 aa 0:0:0 0:0:0\n"))))
+turning_log = state_after opened_log (script_requests (codes "1 append 1 aa 0:0:0 0:0:0 seal\n" ++ (append_of_zeros 960 (codes "\n")
+    ++ (append_of_zeros 960 (codes " flush\n") ++ append_of_zeros 960 (codes "\n")))))
 
 -- the log once the record of two sectors has turned to the next container: it is at 2:0:0, and flushed is 2:400:0
 abbrev pub turned_log : State

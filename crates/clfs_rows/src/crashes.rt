@@ -30,12 +30,12 @@ pub fn places_that_a_crash_leaves()
         (record (left_of long_log 5 1 1536) { place = record (closed_at 1 1536) { records = 1 } }) }
     ensures where_no_block_ends { SurvivesLine opened_log (codes "1 append 1 aa 0:0:0 0:0:0 flush") (left_of opened_log 0 1 0) }
     ensures flushed_behind_a_turn { flushed turned_log ≡ lsn_number 2 1024 0 }
-    ensures before_the_open_block { SurvivesLine turning_log long_append (left_of turned_log 3 1 3072) }
+    ensures before_the_open_block { SurvivesLine turning_log long_append (left_of turned_log 3 1 2560) }
     ensures behind_the_open_block { SurvivesLine turning_log long_append (left_of turned_log 4 1 3584) }
     ensures in_the_next_container { SurvivesLine turning_log long_append (left_of turned_log 4 2 0) }
     ensures behind_the_record_in_it { SurvivesLine turning_log long_append (left_of turned_log 5 2 1024) }
     ensures not_at_the_containers_end { ¬ SurvivesLine turning_log long_append (left_of turned_log 4 1 4096) }
-    ensures not_at_another_containers_end_of_a_block { ¬ SurvivesLine turning_log long_append (left_of turned_log 5 2 3072) }
+    ensures not_at_another_containers_end_of_a_block { ¬ SurvivesLine turning_log long_append (left_of turned_log 5 2 512) }
     ensures not_in_the_container_after_the_next { ¬ IsSurvivor (line_request (codes "1 flush 1")) turning_log skipping_log (left_of turning_log 4 3 0) }
     ensures in_the_next_of_a_log_that_skips_one { IsSurvivor (line_request (codes "1 flush 1")) turning_log skipping_log (left_of turning_log 4 2 0) }
 {}

@@ -8,7 +8,7 @@ use Rattle.clfs_model.specs.Run.{fine_outcome}
 use Rattle.clfs_model.specs.Script.{request_in}
 use Rattle.clfs_rows.specs.Crashes.{advance, advanced_log, left_of, rebasing_log, restart, restarted_log, two_streams_log, with_base, with_streams_of}
 use Rattle.std.specs.Prelude.{codes}
-use Rattle.clfs_rows.proofs.Decisions.{yes, no}
+use Rattle.clfs_rows.proofs.Decisions.{no, yes}
 use Rattle.clfs_rows.proofs.SurvivorTests.{is_survivor_of_line}
 use Rattle.clfs_rows.proofs.crashes.bases_that_a_crash_leaves.Goals as goal
 

@@ -8,7 +8,7 @@ use Rattle.clfs_model.specs.Script.{line_request, request_in}
 use Rattle.clfs_rows.specs.Crashes.{growing_append, growing_log, state_behind}
 use Rattle.clfs_rows.specs.Worked.{flushed_log}
 use Rattle.std.specs.Prelude.{Some, codes, true}
-use Rattle.clfs_rows.proofs.Decisions.{yes, no}
+use Rattle.clfs_rows.proofs.Decisions.{no, yes}
 use Rattle.clfs_rows.proofs.SurvivorTests.{is_survivor_of_line, is_survivor}
 use Rattle.clfs_rows.proofs.crashes.settings_that_a_crash_leaves.Goals as goal
 

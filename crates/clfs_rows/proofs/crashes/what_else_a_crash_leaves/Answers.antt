@@ -6,7 +6,7 @@ use Rattle.clfs_model.specs.Run.{fine_outcome}
 use Rattle.clfs_model.specs.Script.{request_in}
 use Rattle.clfs_model.specs.Step.{with_broken}
 use Rattle.clfs_rows.specs.Crashes.{left_of, long_append, long_log, waiting_log}
-use Rattle.clfs_rows.proofs.Decisions.{yes, no}
+use Rattle.clfs_rows.proofs.Decisions.{no, yes}
 use Rattle.clfs_rows.proofs.SurvivorTests.{is_survivor_of_line}
 use Rattle.clfs_rows.proofs.crashes.what_else_a_crash_leaves.Goals as goal
 
