@@ -2,31 +2,87 @@
 //!
 //! Everything that matters is `clfs_engine::run`, which is proved over any source and sink. Here the two standard streams
 //! become a source and a sink, and the words behind the folder become the command. A word that isn't text, or no folder, is
-//! no command.
+//! no command. `--help` and `--version` are words in the folder's place; they are answered here. Why a run ended without its work
+//! done is said on standard error where standard output doesn't say it.
 #![tactic(auto)]
 
 mod standard;
 
-use clfs_engine::{NO_MEMORY, run};
+use clfs_engine::{DONE, NO_MEMORY, SINK_FAULT, SOURCE_FAULT, run};
 use standard::{ReaderSource, WriterSink};
 use std::alloc::AllocError;
 use std::process::ExitCode;
 use std::rt::Env;
 use std::{env, io};
 
-// The words behind the program's name and the folder.
-fn command_words<R: Env + AllocGlobal>(rt: &R) -> Result<Vec<String>, AllocError> {
+/// What `--help` prints: the commands that are built, one line each.
+const HELP: &str = "\
+usage: clfs FOLDER COMMAND ..
+       clfs --help
+       clfs --version
+
+A log manager: several clients share one log, and each sees its own stream of records.
+
+Commands:
+  serve   answers the lines of a script on standard input, one reply a line (docs/SCRIPT.md)
+";
+
+/// What `--version` prints.
+const VERSION: &str = "clfs 0.1\n";
+
+// All words of the command line; none where one of them isn't text.
+fn all_words<R: Env + AllocGlobal>(rt: &R) -> Result<Vec<String>, AllocError> {
     let Ok(words) = env::args(rt) else {
         return Ok(Vec::new(rt.alloc()));
     };
-    words.skip(2).collect(rt.alloc())
+    words.collect(rt.alloc())
+}
+
+// The words behind the program's name and the folder.
+fn command_words(words: &[String]) -> &[String] {
+    words.split_at(words.len().min(2)).1
+}
+
+// The text that a word in the folder's place asks for, where it is alone.
+fn own_text(words: &[String]) -> Option<&'static str> {
+    match words {
+        [_, word] if word.as_str() == "--help" => Some(HELP),
+        [_, word] if word.as_str() == "--version" => Some(VERSION),
+        _ => None,
+    }
+}
+
+// Why a run with this status did less than it was asked for, where standard output doesn't say it.
+fn cause(status: u8) -> Option<&'static str> {
+    match status {
+        SOURCE_FAULT => Some("clfs: standard input can't be read"),
+        SINK_FAULT => Some("clfs: standard output can't be written"),
+        NO_MEMORY => Some("clfs: out of memory"),
+        _ => None,
+    }
+}
+
+// The status of a run over standard input and output.
+fn status(rt: &HostRuntime) -> u8 {
+    let Ok(words) = all_words(rt) else {
+        return NO_MEMORY;
+    };
+    if let Some(text) = own_text(&words) {
+        return match rt.print(text) {
+            Ok(()) => DONE,
+            Err(_) => SINK_FAULT,
+        };
+    }
+    let mut source = ReaderSource::new(rt.reader());
+    let mut sink = WriterSink::new(io::writer(rt));
+    run(rt.alloc(), command_words(&words), &mut source, &mut sink)
 }
 
 fn main(rt: HostRuntime) -> ExitCode {
-    let mut source = ReaderSource::new(rt.reader());
-    let mut sink = WriterSink::new(io::writer(&rt));
-    let Ok(words) = command_words(&rt) else {
-        return ExitCode::from(NO_MEMORY);
-    };
-    ExitCode::from(run(rt.alloc(), &words, &mut source, &mut sink))
+    let status = status(&rt);
+    if let Some(line) = cause(status) {
+        // Where this can't be said either, the status still tells it.
+        let _said = rt.eprintln(line);
+    }
+    ExitCode::from(status)
 }

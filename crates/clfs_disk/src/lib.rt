@@ -21,6 +21,3 @@ pub use fuse::Fuse;
 pub use memory::Memory;
 pub use steady::Steady;
 pub use synced::write_synced;
-
-#[cfg(test)]
-mod tests;

@@ -15,7 +15,7 @@ use Rattle.clfs_model.specs.declared.state.Cursor.{Cursor}
 use Rattle.clfs_model.specs.Space.{grown, has_room}
 use Rattle.clfs_model.specs.Put.{put, made_ready}
 use Rattle.clfs_model.specs.Step.{Step}
-use Rattle.clfs_model.proofs.Ways.{answered}
+use Rattle.clfs_model.specs.Ways.{GoesTheseWays}
 use Rattle.clfs_engine.specs.TwoLines.{append_call}
 use Rattle.clfs_engine.specs.MemoryLog.{IsOfStream, sectors_passed, state_with, first_shape, waiting_after, entry_without_links}
 use Rattle.clfs_engine.proofs.Room.{room, not_grown}
@@ -51,27 +51,27 @@ put_is records place waiting cursors bytes =
     = ready_is records place waiting cursors n ∙ ap (λ (w : List ℕ). state_with records (made_ready s n).place w cursors) (waiting_is records place waiting cursors n) in
     ap (λ (t : State). record t { records = records ++ entry_without_links after.0 bytes ∷ []; place = after.1 }) (sym ready)
 
-append_step : (records : List LogEntry) (place : Place) (waiting : List ℕ) (cursors : List Cursor) (bytes : List ℕ) → length bytes ≤ 960
+append_step : GoesTheseWays → (records : List LogEntry) (place : Place) (waiting : List ℕ) (cursors : List Cursor) (bytes : List ℕ) → length bytes ≤ 960
     → IsWithin first_shape place → sectors_passed place ≤ 3276800 → AllByRecursion IsOfStream records
     → Step true (state_with records place waiting cursors) 1 (append_call bytes) Fine (replies.Placed (place_after first_shape place (length bytes)).0)
     (state_with (records ++ entry_without_links (place_after first_shape place (length bytes)).0 bytes ∷ []) (place_after first_shape place (length bytes)).1
     (waiting_after place (place_after first_shape place (length bytes)).1 waiting) cursors)
-append_step records place waiting cursors bytes short within near all =
+append_step ways records place waiting cursors bytes short within near all =
     let n = length bytes in
     let s : State = state_with records place waiting cursors in
     let fits : nat_lt 960 n ≡ false = le-ltb 960 n short in
     let roomy : has_room s (own n + 0) ≡ true = room records place waiting cursors n short within near all in
     let same : grown s (own n + 0) ≡ s = not_grown records place waiting cursors (own n + 0) in
-    answered true s 1 (append_call bytes) (replies.Placed (place_after first_shape place n).0) _ refl (rw (fits, roomy) refl) refl
+    ways.answered true s 1 (append_call bytes) (replies.Placed (place_after first_shape place n).0) _ refl (rw (fits, roomy) refl) refl
     (put_is records place waiting cursors bytes ∙ ap (λ (t : State). put t (entry_without_links 0 bytes)) (sym same))
 
 -- the same, up to equations for what the append leaves
-pub append_step_to : (records records' : List LogEntry) (place place' : Place) (waiting waiting' : List ℕ) (cursors : List Cursor) (bytes : List ℕ) (lsn : ℕ)
+pub append_step_to : GoesTheseWays → (records records' : List LogEntry) (place place' : Place) (waiting waiting' : List ℕ) (cursors : List Cursor) (bytes : List ℕ) (lsn : ℕ)
     → length bytes ≤ 960 → IsWithin first_shape place → sectors_passed place ≤ 3276800 → AllByRecursion IsOfStream records
     → (lsn, place') ≡ place_after first_shape place (length bytes) → records' ≡ records ++ entry_without_links lsn bytes ∷ [] → waiting' ≡ waiting_after place place' waiting
     → Step true (state_with records place waiting cursors) 1 (append_call bytes) Fine (replies.Placed lsn) (state_with records' place' waiting' cursors)
-append_step_to records records' place place' waiting waiting' cursors bytes lsn short within near all at_place more ready =
+append_step_to ways records records' place place' waiting waiting' cursors bytes lsn short within near all at_place more ready =
     let G : ℕ × Place → Type 0 = λ p. (r : List LogEntry) (w : List ℕ) → r ≡ records ++ entry_without_links p.0 bytes ∷ [] → w ≡ waiting_after place p.1 waiting
     → Step true (state_with records place waiting cursors) 1 (append_call bytes) Fine (replies.Placed p.0) (state_with r p.1 w cursors) in
-    let base : G (place_after first_shape place (length bytes)) = λ r w er ew. rw (er, ew) (append_step records place waiting cursors bytes short within near all) in
+    let base : G (place_after first_shape place (length bytes)) = λ r w er ew. rw (er, ew) (append_step ways records place waiting cursors bytes short within near all) in
     subst G (sym at_place) base records' waiting' more ready

@@ -14,7 +14,7 @@ use Rattle.clfs_model.specs.declared.state.CursorKind.TheVariants.{Records}
 use Rattle.clfs_model.specs.Live.{is_live, live_at}
 use Rattle.clfs_model.specs.Reading.{unused_cursor}
 use Rattle.clfs_model.specs.Step.{Step}
-use Rattle.clfs_model.proofs.Ways.{answered, refused}
+use Rattle.clfs_model.specs.Ways.{GoesTheseWays}
 use Rattle.clfs_engine.specs.TwoLines.{read_call}
 use Rattle.clfs_engine.specs.MemoryLog.{IsOfStream, state_with}
 
@@ -34,28 +34,28 @@ live_at_is records place waiting cursors lsn h =
     ap (λ (r : List LogEntry). find (λ (e : LogEntry). e.lsn == lsn) r) (live_all records place waiting cursors records h)
 
 -- no record has the LSN
-pub nonexistent_step : (records : List LogEntry) (place : Place) (waiting : List ℕ) (cursors : List Cursor) (lsn : ℕ)
+pub nonexistent_step : GoesTheseWays → (records : List LogEntry) (place : Place) (waiting : List ℕ) (cursors : List Cursor) (lsn : ℕ)
     → live_at (state_with records place waiting cursors) 1 lsn ≡ None
     → Step true (state_with records place waiting cursors) 1 (read_call lsn) Fine (replies.Refused (refusals.RecordNonexistent lsn)) (state_with records place waiting cursors)
-nonexistent_step records place waiting cursors lsn none =
-    refused true (state_with records place waiting cursors) 1 (read_call lsn) _ refl (rw none refl)
+nonexistent_step ways records place waiting cursors lsn none =
+    ways.refused true (state_with records place waiting cursors) 1 (read_call lsn) _ refl (rw none refl)
 
 -- the area has as many cursors as it can
-pub cursor_limit_step : (records : List LogEntry) (place : Place) (waiting : List ℕ) (cursors : List Cursor) (lsn : ℕ) (e : LogEntry)
+pub cursor_limit_step : GoesTheseWays → (records : List LogEntry) (place : Place) (waiting : List ℕ) (cursors : List Cursor) (lsn : ℕ) (e : LogEntry)
     → live_at (state_with records place waiting cursors) 1 lsn ≡ Some e → 4 ≤ length cursors
     → Step true (state_with records place waiting cursors) 1 (read_call lsn) Fine (replies.Refused (refusals.CursorLimit (length cursors))) (state_with records place waiting cursors)
-cursor_limit_step records place waiting cursors lsn e some many =
+cursor_limit_step ways records place waiting cursors lsn e some many =
     let t : nat_le 4 (length cursors) ≡ true = le-leb 4 (length cursors) many in
-    refused true (state_with records place waiting cursors) 1 (read_call lsn) _ refl (rw (some, t) refl)
+    ways.refused true (state_with records place waiting cursors) 1 (read_call lsn) _ refl (rw (some, t) refl)
 
 -- the record is found, and there is a new cursor at it
-pub found_step : (records : List LogEntry) (place : Place) (waiting : List ℕ) (cursors : List Cursor) (lsn : ℕ) (e : LogEntry)
+pub found_step : GoesTheseWays → (records : List LogEntry) (place : Place) (waiting : List ℕ) (cursors : List Cursor) (lsn : ℕ) (e : LogEntry)
     → live_at (state_with records place waiting cursors) 1 lsn ≡ Some e → e.lsn ≡ lsn → length cursors < 4
     → Step true (state_with records place waiting cursors) 1 (read_call lsn) Fine (replies.Found (unused_cursor cursors) e)
     (state_with records place waiting (cursors ++ record { number = unused_cursor cursors; kind = Records Forward; last = lsn } ∷ []))
-found_step records place waiting cursors lsn e some at few =
+found_step ways records place waiting cursors lsn e some at few =
     let t : nat_le 4 (length cursors) ≡ false = lt-leb 4 (length cursors) few in
-    answered true (state_with records place waiting cursors) 1 (read_call lsn) _ _ refl (rw (some, t) refl) (rw some refl) (rw (some, at) refl)
+    ways.answered true (state_with records place waiting cursors) 1 (read_call lsn) _ _ refl (rw (some, t) refl) (rw some refl) (rw (some, at) refl)
 
 -- the record that is found at an LSN has it
 pub found_lsn : (lsn : ℕ) (records : List LogEntry) (e : LogEntry) → find (λ (r : LogEntry). r.lsn == lsn) records ≡ Some e → e.lsn ≡ lsn

@@ -1,6 +1,7 @@
 -- What the program answers, and how it ends.
 use Rattle.std.specs.Prelude.{◌≡◌, ℕ, ◌<◌, ◌≤◌, ◌⊎◌, true, List, [], ◌∷◌, ◌++◌, length, codes, Option, IfSome}
 use Rattle.std.specs.Io.KnownBytes.{Appends}
+use Rattle.clfs_ports.specs.Cause.{Rises}
 use Rattle.clfs_model.specs.declared.reply.Happened.TheVariants.{Fine}
 use Rattle.clfs_model.specs.declared.reply.Reply.{Reply}
 use Rattle.clfs_model.specs.declared.state.State.{State}
@@ -67,6 +68,36 @@ pub record IsCutShort (left left_after written written_after : Option (List ℕ)
 -- the statuses of serving: done, a source fault, a sink fault, no memory, too long an input
 abbrev pub IsServeStatus : ℕ → Type 0
 IsServeStatus status = (status ≡ 0) ⊎ ((status ≡ 2) ⊎ ((status ≡ 3) ⊎ ((status ≡ 5) ⊎ (status ≡ 7))))
+
+-- How serving ends: what each status says of the bytes that the source has left, before and after, of those that the sink has taken,
+-- and of the two counts of faults.
+pub record EndsServing (status : ℕ) (left left_after written written_after : Option (List ℕ)) (source source_after sink sink_after : ℕ) : Type 0 where
+  -- there is no other status
+  pub statuses : IsServeStatus status
+  -- the sink's new bytes are the replies of a run of the log machine over the lines of all that the source gave
+  pub done : status ≡ 0 → IsServed left left_after written written_after
+  -- the source failed in this call, and nothing was written
+  pub source_fault : status ≡ 2 → Rises source source_after
+  pub source_fault_silence : status ≡ 2 → Appends written written_after []
+  -- the sink failed in this call, and what was written is a front of what was to be written
+  pub sink_fault : status ≡ 3 → Rises sink sink_after
+  pub sink_fault_front : status ≡ 3 → IsCutShort left left_after written written_after
+  -- memory ran out, and nothing was written
+  pub no_memory_silence : status ≡ 5 → Appends written written_after []
+  -- more bytes came than a script may have, and just the line that says so was written
+  pub too_long : status ≡ 7 → IsTooLong left
+  pub too_long_line : status ≡ 7 → Appends written written_after too_long_text
+  -- the counts of faults never fall
+  pub source_count : source ≤ source_after
+  pub sink_count : sink ≤ sink_after
+
+-- How a run ends whose words are no command: the line that says so was written, or the sink failed and took a front of it.
+pub record EndsByUsage (status : ℕ) (written written_after : Option (List ℕ)) (sink sink_after : ℕ) : Type 0 where
+  pub statuses : (status ≡ 1) ⊎ (status ≡ 3)
+  pub line : status ≡ 1 → Appends written written_after usage_text
+  pub sink_fault : status ≡ 3 → Rises sink sink_after
+  pub sink_fault_front : status ≡ 3 → AppendsFront written written_after usage_text
+  pub sink_count : sink ≤ sink_after
 
 -- the one word `serve`
 abbrev pub IsServeCommand : List (List ℕ) → Type 0

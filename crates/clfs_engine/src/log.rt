@@ -9,7 +9,7 @@ ghost use Rattle.clfs_engine.specs.MemoryLog.{waiting_after, entry_without_links
 ghost use Rattle.clfs_engine.specs.Replies.{placed, found};
 
 use clfs_lsn::{Bytes, Kind, LogEntry, Lsn, Place, Shape, place_after};
-use clfs_model::{Cursor, CursorKind, Happened, Mode, Refusal};
+use clfs_model::{Cursor, CursorKind, Happened, Mode, Refusal, ways_of_a_step};
 use std::alloc::{AllocError, Global};
 use std::marker::Model;
 
@@ -75,6 +75,7 @@ impl MemoryLog {
         ensures step { Step true self.old 1 (append_call bytes.now) Happened.Fine (placed result) self.new }
         ensures near { sectors_passed self.new.place ≤ sectors_passed self.old.place + 3 }
     {
+        ways_of_a_step();
         let _opened = &self.entries;
         let Ok(len) = u32::try_from(bytes.len()) else {
             return Err(Refusal::NoMemory);
@@ -96,6 +97,7 @@ impl MemoryLog {
         ensures step { Step true self.old 1 (read_call lsn) Happened.Fine (found result) self.new }
         ensures same { self.new.place ≡ self.old.place }
     {
+        ways_of_a_step();
         let Some(entry) = entry_at(&self.entries, lsn) else {
             return Err(Refusal::RecordNonexistent { lsn });
         };

@@ -4,7 +4,7 @@ ghost use Rattle.std.specs.String.{string_bytes};
 ghost use Rattle.std.specs.Io.KnownBytes.{Appends};
 ghost use Rattle.clfs_ports.specs.Cause.{Rises, HasCause};
 ghost use Rattle.clfs_engine.specs.Ends.{AppendsFront};
-ghost use Rattle.clfs_engine.specs.Serve.{IsServeCommand, IsServed, IsCutShort, IsTooLong, too_long_text, usage_text};
+ghost use Rattle.clfs_engine.specs.Serve.{IsServeCommand, EndsServing, EndsByUsage};
 
 use crate::answering::answers;
 use crate::input::{InputError, read_all};
@@ -48,24 +48,8 @@ fn printed<K: Sink>(sink: &mut K, text: &[u8], status: u8) -> u8
 /// Answers the script that the source gives, one reply for each line, and says how it ended. A script has at most 1,048,576
 /// bytes. Nothing is written before the whole script was read.
 pub fn serve<S: Source, K: Sink>(alloc: Global, source: &mut S, sink: &mut K) -> u8
-    ensures status { (result ≡ DONE) ⊎ ((result ≡ SOURCE_FAULT) ⊎ ((result ≡ SINK_FAULT) ⊎ ((result ≡ NO_MEMORY) ⊎ (result ≡ INPUT_TOO_LONG)))) }
-
-    // The sink's new bytes are the replies of a run of the log machine over the lines of all that the source gave.
-    ensures done { result ≡ DONE → IsServed (S.left source.old) (S.left source.new) (K.written sink.old) (K.written sink.new) }
-
-    ensures source_fault { result ≡ SOURCE_FAULT → Rises (S.faults source.old) (S.faults source.new) }
-    ensures source_fault_silence { result ≡ SOURCE_FAULT → Appends (K.written sink.old) (K.written sink.new) [] }
-
-    ensures sink_fault { result ≡ SINK_FAULT → Rises (K.faults sink.old) (K.faults sink.new) }
-    ensures sink_fault_front { result ≡ SINK_FAULT → IsCutShort (S.left source.old) (S.left source.new) (K.written sink.old) (K.written sink.new) }
-
-    ensures no_memory_silence { result ≡ NO_MEMORY → Appends (K.written sink.old) (K.written sink.new) [] }
-
-    ensures too_long { result ≡ INPUT_TOO_LONG → IsTooLong (S.left source.old) }
-    ensures too_long_line { result ≡ INPUT_TOO_LONG → Appends (K.written sink.old) (K.written sink.new) too_long_text }
-
-    ensures source_count { S.faults source.old ≤ S.faults source.new }
-    ensures sink_count { K.faults sink.old ≤ K.faults sink.new }
+    ensures { EndsServing result (S.left source.old) (S.left source.new) (K.written sink.old) (K.written sink.new)
+        (S.faults source.old) (S.faults source.new) (K.faults sink.old) (K.faults sink.new) }
 {
     match read_all(alloc, source) {
         Ok(input) => match answers(alloc, &input) {
@@ -87,30 +71,12 @@ fn is_serve(words: &[String]) -> bool
 
 /// Runs the command that the words name, and answers the status. The only command so far is the one word `serve`.
 pub fn run<S: Source, K: Sink>(alloc: Global, words: &[String], source: &mut S, sink: &mut K) -> u8
-    ensures status { (result ≡ DONE) ⊎ ((result ≡ USAGE) ⊎ ((result ≡ SOURCE_FAULT) ⊎ ((result ≡ SINK_FAULT) ⊎ ((result ≡ NO_MEMORY) ⊎ (result ≡ INPUT_TOO_LONG))))) }
-
-    // Words that are no command come to this status exactly, unless the sink fails.
-    ensures usage { result ≡ USAGE → IsServeCommand (map string_bytes words.now) → ⊥ }
-    ensures command { result ≢ USAGE → result ≢ SINK_FAULT → IsServeCommand (map string_bytes words.now) }
-    ensures usage_line { result ≡ USAGE → Appends (K.written sink.old) (K.written sink.new) usage_text }
-
-    // The sink's new bytes are the replies of a run of the log machine over the lines of all that the source gave.
-    ensures done { result ≡ DONE → IsServed (S.left source.old) (S.left source.new) (K.written sink.old) (K.written sink.new) }
-
-    ensures source_fault { result ≡ SOURCE_FAULT → Rises (S.faults source.old) (S.faults source.new) }
-    ensures source_fault_silence { result ≡ SOURCE_FAULT → Appends (K.written sink.old) (K.written sink.new) [] }
-
-    ensures sink_fault { result ≡ SINK_FAULT → Rises (K.faults sink.old) (K.faults sink.new) }
-    ensures sink_fault_front { result ≡ SINK_FAULT → IsServeCommand (map string_bytes words.now) → IsCutShort (S.left source.old) (S.left source.new) (K.written sink.old) (K.written sink.new) }
-    ensures sink_fault_usage { result ≡ SINK_FAULT → (IsServeCommand (map string_bytes words.now) → ⊥) → AppendsFront (K.written sink.old) (K.written sink.new) usage_text }
-
-    ensures no_memory_silence { result ≡ NO_MEMORY → Appends (K.written sink.old) (K.written sink.new) [] }
-
-    ensures too_long { result ≡ INPUT_TOO_LONG → IsTooLong (S.left source.old) }
-    ensures too_long_line { result ≡ INPUT_TOO_LONG → Appends (K.written sink.old) (K.written sink.new) too_long_text }
-
-    ensures source_count { S.faults source.old ≤ S.faults source.new }
-    ensures sink_count { K.faults sink.old ≤ K.faults sink.new }
+    ensures serves { IsServeCommand (map string_bytes words.now) → EndsServing result (S.left source.old) (S.left source.new)
+        (K.written sink.old) (K.written sink.new) (S.faults source.old) (S.faults source.new) (K.faults sink.old) (K.faults sink.new) }
+    ensures usage { (IsServeCommand (map string_bytes words.now) → ⊥) → EndsByUsage result (K.written sink.old) (K.written sink.new)
+        (K.faults sink.old) (K.faults sink.new) }
+    // The source isn't read then.
+    ensures unread { (IsServeCommand (map string_bytes words.now) → ⊥) → source.new ≡ source.old }
 {
     if is_serve(words) {
         serve(alloc, source, sink)

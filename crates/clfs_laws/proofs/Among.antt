@@ -37,7 +37,7 @@ among_all p (y ∷ ys) x is = elim (cases_Bool (p y)) [
 ]
 
 -- what is so of all is so of each
-among_recursion : {X : Type 0} (P : X → Type 0) (xs : List X) (x : X) → AllByRecursion P xs → IsAmong x xs → P x
+pub among_recursion : {X : Type 0} (P : X → Type 0) (xs : List X) (x : X) → AllByRecursion P xs → IsAmong x xs → P x
 among_recursion P [] x all is = absurd is
 among_recursion P (y ∷ ys) x all (inl same) = subst P same all.0
 among_recursion P (y ∷ ys) x all (inr rest) = among_recursion P ys x all.1 rest
@@ -55,7 +55,7 @@ among_passing p (y ∷ ys) x passes (inr rest) = elim (cases_Bool (p y)) [
 ]
 
 -- the same by the places in the list
-each_among : {X : Type 0} (xs : List X) → AllByRecursion (λ x. IsAmong x xs) xs
+pub each_among : {X : Type 0} (xs : List X) → AllByRecursion (λ x. IsAmong x xs) xs
 each_among [] = tt
 each_among (x ∷ xs) = (inl refl, further x xs xs (each_among xs))
   where

@@ -13,13 +13,11 @@ use Rattle.clfs_model.specs.declared.call.Draft.{Draft}
 use Rattle.clfs_model.specs.declared.call.Mode.TheVariants.{Previous, UndoNext, Forward}
 use Rattle.clfs_model.specs.declared.refusal.Refusal.{Refusal}
 use Rattle.clfs_model.specs.declared.refusal.Refusal.TheVariants as refusals
-use Rattle.clfs_model.specs.declared.reply.Happened.TheVariants.{Fine}
 use Rattle.clfs_model.specs.declared.state.State.{State}
 use Rattle.clfs_model.specs.declared.state.Area.{Area}
 use Rattle.clfs_model.specs.declared.state.Cursor.{Cursor}
 use Rattle.clfs_model.specs.declared.state.CursorKind.{CursorKind}
 use Rattle.clfs_model.specs.declared.state.CursorKind.TheVariants.{Records, RestartAreas}
-use Rattle.clfs_model.specs.Happened.{happened_of_refusal}
 use Rattle.clfs_model.specs.State.{area_of, areas_of, base_of, stream_at}
 use Rattle.clfs_model.specs.Live.{live_at, last_live, active}
 use Rattle.clfs_model.specs.Space.{own_sum, free, reserved, grown, has_room, size_limit}
@@ -28,6 +26,7 @@ use Rattle.clfs_model.specs.Put.{need_of, spent_of}
 use Rattle.clfs_model.specs.Reading.{newest_restart, next_of_cursor, record_cursor, restart_cursor, cursor_of}
 use Rattle.clfs_model.specs.Policies.{outside, policy_refusal, is_installed, needed_containers}
 use Rattle.clfs_model.specs.Refusals.{refused_if, in_area, unless_two_containers, too_long, short, full, name_fault, stream_number, append_refusal, restart_refusal, invalid_base, invalid_link, too_many_cursors, read_refusal, next_refusal, end_of_kind, is_link, is_base, create_refusal, size_refusal, refusal}
+use Rattle.clfs_laws.specs.Refused.{is_of_call}
 use Rattle.clfs_laws.specs.Needs.{needed_sectors, taken_sectors, area_number, held_if_there}
 
 -- what a call needs, and what its area has for it
@@ -42,27 +41,27 @@ abbrev pub HasRoom : State → Option ℕ → Type 0
 HasRoom s None = Unit {0}
 HasRoom s (Some need) = has_room s need ≡ true
 
--- What a refusal tells: none is for a disk fault or damage; one for space tells that there is no room, one for what the area holds
--- that this is too little, and one for the number of containers that there are fewer than two.
+-- What a refusal tells: each stands in the call's list; one for space tells that there is no room, one for what the area holds that
+-- this is too little, and one for the number of containers that there are fewer than two.
 abbrev pub Tells : Terms → Refusal → Type 0
 Tells t (refusals.Full of_free of_reserved of_need) =
     (t.need ≡ Some of_need) × ((has_room t.state of_need ≡ false)
     × ((of_free ≡ free (grown t.state of_need)) × (of_reserved ≡ reserved (grown t.state of_need))))
 Tells t (refusals.ReservationShort of_held of_need) = (of_held ≡ t.held) × ((of_need ≡ t.taken) × (nat_lt t.held t.taken ≡ true))
 Tells t (refusals.NotEnoughContainers have) = (have ≡ t.state.containers) × (nat_lt t.state.containers 2 ≡ true)
-Tells t given = happened_of_refusal given ≡ Fine
+Tells t given = is_of_call given ≡ true
 
 -- what it tells that there is no refusal, or this one
 abbrev pub Told : Terms → Option Refusal → Type 0
 Told t None = HasRoom t.state t.need
 Told t (Some given) = Tells t given
 
--- whatever a refusal tells, it isn't for a disk fault or damage
-pub fine_of : (t : Terms) (given : Refusal) → Tells t given → happened_of_refusal given ≡ Fine
-fine_of t (refusals.Full of_free of_reserved of_need) tells = refl
-fine_of t (refusals.ReservationShort of_held of_need) tells = refl
-fine_of t (refusals.NotEnoughContainers have) tells = refl
-fine_of t given tells = tells
+-- whatever a refusal tells, it stands in a call's list
+pub own_of : (t : Terms) (given : Refusal) → Tells t given → is_of_call given ≡ true
+own_of t (refusals.Full of_free of_reserved of_need) tells = refl
+own_of t (refusals.ReservationShort of_held of_need) tells = refl
+own_of t (refusals.NotEnoughContainers have) tells = refl
+own_of t given tells = tells
 
 told_if : (t : Terms) (test : Bool) (given : Refusal) (others : Option Refusal) → (test ≡ true → Tells t given) → Told t others → Told t (refused_if test given others)
 told_if t true given others tells rest = tells refl

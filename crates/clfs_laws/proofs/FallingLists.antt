@@ -89,7 +89,7 @@ reverse_falls (entry ∷ entries) rising =
 abbrev pub below_lsn : ℕ → List LogEntry → List LogEntry
 below_lsn lsn entries = filter (λ (entry : LogEntry). nat_lt entry.lsn lsn) entries
 
-all_below : (lsn : ℕ) (entries : List LogEntry) → AllByRecursion (λ (entry : LogEntry). entry.lsn < lsn) entries → below_lsn lsn entries ≡ entries
+pub all_below : (lsn : ℕ) (entries : List LogEntry) → AllByRecursion (λ (entry : LogEntry). entry.lsn < lsn) entries → below_lsn lsn entries ≡ entries
 all_below lsn [] all = refl
 all_below lsn (entry ∷ entries) all = rw (lt-ltb entry.lsn lsn all.0) (ap (λ (rest : List LogEntry). entry ∷ rest) (all_below lsn entries all.1))
 

@@ -3,19 +3,31 @@ use Rattle.std.proofs.Common.{◌≡◌, ℕ, Bool, true, false, refl, ap, ◌�
 use Rattle.std.specs.Prelude.{Option, Some, None, MatchOption}
 use Rattle.clfs_model.specs.declared.call.Call.{Call}
 use Rattle.clfs_model.specs.declared.refusal.Refusal.{Refusal}
+use Rattle.clfs_model.specs.declared.refusal.Refusal.TheVariants as refusals
 use Rattle.clfs_model.specs.declared.reply.Happened.{Happened}
 use Rattle.clfs_model.specs.declared.reply.Happened.TheVariants.{Fine, Fault, Damage}
 use Rattle.clfs_model.specs.declared.reply.Reply.{Reply}
 use Rattle.clfs_model.specs.declared.reply.Reply.TheVariants as replies
 use Rattle.clfs_model.specs.declared.state.State.{State}
-use Rattle.clfs_model.specs.Happened.{happened_of}
+use Rattle.clfs_model.specs.Happened.{happened_of, happened_of_refusal}
 use Rattle.clfs_model.specs.Flush.{flushed}
 use Rattle.clfs_model.specs.Refusals.{refusal}
 use Rattle.clfs_model.specs.Answers.{answer}
 use Rattle.clfs_model.specs.Step.{Step, Goes, Comes, IsReply, IsReplyRead}
-use Rattle.clfs_laws.proofs.CallRefusals.{Told, fine_of, terms_of, refusal_told}
-use Rattle.clfs_laws.proofs.FineAnswers.{answer_fine}
+use Rattle.clfs_laws.proofs.CallRefusals.{Told, own_of, terms_of, refusal_told}
+use Rattle.clfs_laws.specs.Refused.{is_of_call, is_own_reply}
+use Rattle.clfs_laws.proofs.OwnAnswers.{answer_own}
 use Rattle.clfs_laws.proofs.StepCases.{broken_step, whole_step}
+
+-- nothing happened where a call was refused by its own list, or answered
+pub fine_refusal : (given : Refusal) → is_of_call given ≡ true → happened_of_refusal given ≡ Fine
+fine_refusal refusals.DiskFault own = absurd (cc)
+fine_refusal (refusals.Damaged container offset at) own = absurd (cc)
+fine_refusal _ own = refl
+
+fine_reply : (reply : Reply) → is_own_reply reply ≡ true → happened_of reply ≡ Fine
+fine_reply (replies.Refused given) own = fine_refusal given own
+fine_reply _ own = refl
 
 -- whatever is read of a record, the reply tells that the same happened
 read_fine : (stable : ℕ) (answered reply : Reply) → IsReplyRead stable answered reply → happened_of reply ≡ happened_of answered
@@ -42,8 +54,8 @@ reply_fine false stable answered reply is = read_fine stable answered reply is
 -- where nothing happened, the reply tells so
 fine_told : (told : Bool) (s : State) (client : ℕ) (call : Call) (reply : Reply) (t : State) (first : Option Refusal) → Told (terms_of s client call) first
     → MatchOption first (Comes told (flushed s) (answer s client call) reply t) (λ r. (reply ≡ replies.Refused r) × (t ≡ s)) → happened_of reply ≡ Fine
-fine_told told s client call reply t None tells comes = reply_fine told (flushed s) (answer s client call).reply reply comes.0 ∙ answer_fine s client call
-fine_told told s client call reply t (Some first) tells comes = ap happened_of comes.0 ∙ fine_of (terms_of s client call) first tells
+fine_told told s client call reply t None tells comes = reply_fine told (flushed s) (answer s client call).reply reply comes.0 ∙ fine_reply (answer s client call).reply (answer_own s client call)
+fine_told told s client call reply t (Some first) tells comes = ap happened_of comes.0 ∙ fine_refusal first (own_of (terms_of s client call) first tells)
 
 -- a step tells that nothing happened, or leaves the log broken
 goes_told : (told : Bool) (s : State) (client : ℕ) (call : Call) (happened : Happened) (reply : Reply) (t : State)

@@ -1,6 +1,6 @@
--- A call without room that no other test refuses is refused for space.
+-- A call without room that no other test refuses is refused for space, and one whose area holds too little for that.
 use Rattle.std.proofs.Common.{◌≡◌, ℕ, Bool, true, false, refl, ap, ◌∙◌, List, [], ◌∷◌, length}
-use Rattle.std.specs.Prelude.{Option, Some, None, not, ◌==◌, ◌||◌, if◌then◌else◌, nat_lt, find}
+use Rattle.std.specs.Prelude.{Option, Some, None, not, ◌==◌, ◌||◌, if◌then◌else◌, nat_lt}
 use Rattle.std.specs.Option.{option_map_or}
 use Rattle.clfs_lsn.specs.Lsn.{null_lsn}
 use Rattle.clfs_model.specs.declared.call.Call.TheVariants as calls
@@ -59,10 +59,30 @@ full_reserve s client number area sizes two there fits lacks =
     in_the_area s client number area (λ (a : Area). too_long a.largest sizes (full s (own_sum sizes))) two there
     ∙ (passes_long area sizes (full s (own_sum sizes)) fits ∙ full_comes s (own_sum sizes) lacks)
 
-passes_short : (s : State) (area : Area) (taken need : ℕ) → nat_lt area.held taken ≡ false → has_room s need ≡ false
+-- an area that holds enough leaves it to the room, and one that holds too little is refused
+enough_held : (s : State) (area : Area) (taken need : ℕ) → nat_lt area.held taken ≡ false → has_room s need ≡ false
     → short area taken (full s need) ≡ Some (refusals.Full (free s) (reserved s) need)
-passes_short s area taken need enough lacks =
+enough_held s area taken need enough lacks =
     passes (nat_lt area.held taken) (refusals.ReservationShort area.held taken) (full s need) enough ∙ full_comes s need lacks
+
+too_little_held : (area : Area) (taken : ℕ) (others : Option Refusal) → nat_lt area.held taken ≡ true
+    → short area taken others ≡ Some (refusals.ReservationShort area.held taken)
+too_little_held area taken others less = rw less refl
+
+-- an append that passes the tests before what the area holds
+to_held_append : (s : State) (client number : ℕ) (area : Area) (draft : Draft) (spends : Bool) (sizes : List ℕ)
+    → nat_lt s.containers 2 ≡ false → area_of s client number ≡ Some area → first_too_long area (length draft.bytes ∷ sizes) ≡ None
+    → is_link s area.stream draft.previous ≡ true → is_link s area.stream draft.undo_next ≡ true
+    → refusal s client (calls.Append number draft spends sizes)
+    ≡ short area (spent_of spends (length draft.bytes)) (full s (need_of spends (length draft.bytes) sizes))
+to_held_append s client number area draft spends sizes two there fits previous undo_next =
+    let n = length draft.bytes in
+    let holds = short area (spent_of spends n) (full s (need_of spends n sizes)) in
+    let second = invalid_link s area.stream draft.undo_next holds in
+    in_the_area s client number area (λ (a : Area). append_refusal s a draft spends sizes) two there
+    ∙ (passes_long area (n ∷ sizes) (invalid_link s area.stream draft.previous second) fits
+    ∙ (passes_not (is_link s area.stream draft.previous) (refusals.LinkInvalid draft.previous) second previous
+    ∙ passes_not (is_link s area.stream draft.undo_next) (refusals.LinkInvalid draft.undo_next) holds undo_next))
 
 pub full_append : (s : State) (client number : ℕ) (area : Area) (draft : Draft) (spends : Bool) (sizes : List ℕ)
     → nat_lt s.containers 2 ≡ false → area_of s client number ≡ Some area → first_too_long area (length draft.bytes ∷ sizes) ≡ None
@@ -72,20 +92,36 @@ pub full_append : (s : State) (client number : ℕ) (area : Area) (draft : Draft
     → refusal s client (calls.Append number draft spends sizes)
     ≡ Some (refusals.Full (free s) (reserved s) (need_of spends (length draft.bytes) sizes))
 full_append s client number area draft spends sizes two there fits previous undo_next enough lacks =
-    let n = length draft.bytes in
-    let holds = short area (spent_of spends n) (full s (need_of spends n sizes)) in
-    let second = invalid_link s area.stream draft.undo_next holds in
-    in_the_area s client number area (λ (a : Area). append_refusal s a draft spends sizes) two there
-    ∙ (passes_long area (n ∷ sizes) (invalid_link s area.stream draft.previous second) fits
-    ∙ (passes_not (is_link s area.stream draft.previous) (refusals.LinkInvalid draft.previous) second previous
-    ∙ (passes_not (is_link s area.stream draft.undo_next) (refusals.LinkInvalid draft.undo_next) holds undo_next
-    ∙ passes_short s area (spent_of spends n) (need_of spends n sizes) enough lacks)))
+    to_held_append s client number area draft spends sizes two there fits previous undo_next
+    ∙ enough_held s area (spent_of spends (length draft.bytes)) (need_of spends (length draft.bytes) sizes) enough lacks
+
+pub short_append : (s : State) (client number : ℕ) (area : Area) (draft : Draft) (spends : Bool) (sizes : List ℕ)
+    → nat_lt s.containers 2 ≡ false → area_of s client number ≡ Some area → first_too_long area (length draft.bytes ∷ sizes) ≡ None
+    → is_link s area.stream draft.previous ≡ true → is_link s area.stream draft.undo_next ≡ true
+    → nat_lt area.held (spent_of spends (length draft.bytes)) ≡ true
+    → refusal s client (calls.Append number draft spends sizes) ≡ Some (refusals.ReservationShort area.held (spent_of spends (length draft.bytes)))
+short_append s client number area draft spends sizes two there fits previous undo_next less =
+    to_held_append s client number area draft spends sizes two there fits previous undo_next
+    ∙ too_little_held area (spent_of spends (length draft.bytes)) (full s (need_of spends (length draft.bytes) sizes)) less
 
 passes_base : (null : Bool) (s : State) (stream base : ℕ) (others : Option Refusal) → (null || is_base s stream base) ≡ true
     → (if null then others else invalid_base s stream base others) ≡ others
 passes_base true s stream base others good = refl
 passes_base false s stream base others good =
     passes_not (is_base s stream base) (refusals.TailInvalid base (base_of s stream) (last_live s stream)) others good
+
+-- a restart area that passes the tests before what the area holds
+to_held_restart : (s : State) (client number : ℕ) (area : Area) (bytes : List ℕ) (base : ℕ) (spends : Bool)
+    → nat_lt s.containers 2 ≡ false → area_of s client number ≡ Some area → first_too_long area (length bytes ∷ []) ≡ None
+    → ((base == null_lsn) || is_base s area.stream base) ≡ true
+    → refusal s client (calls.WriteRestart number bytes base spends)
+    ≡ short area (spent_of spends (length bytes)) (full s (need_of spends (length bytes) []))
+to_held_restart s client number area bytes base spends two there fits good =
+    let n = length bytes in
+    let others = short area (spent_of spends n) (full s (need_of spends n [])) in
+    in_the_area s client number area (λ (a : Area). restart_refusal s a bytes base spends) two there
+    ∙ (passes_long area (n ∷ []) (if base == null_lsn then others else invalid_base s area.stream base others) fits
+    ∙ passes_base (base == null_lsn) s area.stream base others good)
 
 pub full_restart : (s : State) (client number : ℕ) (area : Area) (bytes : List ℕ) (base : ℕ) (spends : Bool)
     → nat_lt s.containers 2 ≡ false → area_of s client number ≡ Some area → first_too_long area (length bytes ∷ []) ≡ None
@@ -94,8 +130,19 @@ pub full_restart : (s : State) (client number : ℕ) (area : Area) (bytes : List
     → has_room s (need_of spends (length bytes) []) ≡ false
     → refusal s client (calls.WriteRestart number bytes base spends) ≡ Some (refusals.Full (free s) (reserved s) (need_of spends (length bytes) []))
 full_restart s client number area bytes base spends two there fits good enough lacks =
-    let n = length bytes in
-    let others = short area (spent_of spends n) (full s (need_of spends n [])) in
-    in_the_area s client number area (λ (a : Area). restart_refusal s a bytes base spends) two there
-    ∙ (passes_long area (n ∷ []) (if base == null_lsn then others else invalid_base s area.stream base others) fits
-    ∙ (passes_base (base == null_lsn) s area.stream base others good ∙ passes_short s area (spent_of spends n) (need_of spends n []) enough lacks))
+    to_held_restart s client number area bytes base spends two there fits good
+    ∙ enough_held s area (spent_of spends (length bytes)) (need_of spends (length bytes) []) enough lacks
+
+pub short_restart : (s : State) (client number : ℕ) (area : Area) (bytes : List ℕ) (base : ℕ) (spends : Bool)
+    → nat_lt s.containers 2 ≡ false → area_of s client number ≡ Some area → first_too_long area (length bytes ∷ []) ≡ None
+    → ((base == null_lsn) || is_base s area.stream base) ≡ true
+    → nat_lt area.held (spent_of spends (length bytes)) ≡ true
+    → refusal s client (calls.WriteRestart number bytes base spends) ≡ Some (refusals.ReservationShort area.held (spent_of spends (length bytes)))
+short_restart s client number area bytes base spends two there fits good less =
+    to_held_restart s client number area bytes base spends two there fits good
+    ∙ too_little_held area (spent_of spends (length bytes)) (full s (need_of spends (length bytes) [])) less
+
+pub short_release : (s : State) (client number : ℕ) (area : Area) (sectors : ℕ) → area_of s client number ≡ Some area → nat_lt area.held sectors ≡ true
+    → refusal s client (calls.Release number sectors) ≡ Some (refusals.ReservationShort area.held sectors)
+short_release s client number area sectors there less =
+    passes_area (area_of s client number) area (λ (a : Area). short a sectors None) there ∙ too_little_held area sectors None less

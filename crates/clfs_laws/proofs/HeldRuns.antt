@@ -23,13 +23,13 @@ use Rattle.clfs_model.specs.Flush.{flushed}
 use Rattle.clfs_model.specs.Answers.{Outcome, outcome, answer}
 use Rattle.clfs_model.specs.Step.{Step, Goes, Comes, IsReply, IsReplyRead}
 use Rattle.clfs_model.specs.Journals.{GoesOn, IsLegal, mine, held_in, held_after, held_through, held_by}
-use Rattle.clfs_laws.specs.Rows.{Row, row_of, row_in, row_after}
+use Rattle.clfs_laws.specs.Rows.{AreaRow, row_of, row_in, row_after}
 use Rattle.clfs_laws.proofs.RowRuns.{step_rows, damage_is}
 use Rattle.clfs_laws.proofs.StepCases.{broken_step, whole_step}
 
 -- what a row holds, or 0 where there is none
-abbrev pub held_row : Option Row → ℕ
-held_row row = option_map_or (λ (r : Row). r.held) row 0
+abbrev pub held_row : Option AreaRow → ℕ
+held_row row = option_map_or (λ (r : AreaRow). r.held) row 0
 
 -- what an area holds is what its row holds
 held_in_is : (found : Option Area) → option_map_or (λ (area : Area). area.held) found 0 ≡ held_row (option_map row_of found)
@@ -62,21 +62,21 @@ at_area given number F here there = elim (cases_Bool (given == number)) [
 ]
 
 held_by_rule : (s : State) (client given now : ℕ) (area : Area) → area_of s client given ≡ Some area → (number : ℕ)
-    → held_row (if given == number then option_map (λ (row : Row). record row { held = now }) (row_in s client number) else row_in s client number)
+    → held_row (if given == number then option_map (λ (row : AreaRow). record row { held = now }) (row_in s client number) else row_in s client number)
     ≡ (if given == number then now else held_row (row_in s client number))
 held_by_rule s client given now area is number =
-    at_area given number (λ n b. held_row (if b then option_map (λ (row : Row). record row { held = now }) (row_in s client n) else row_in s client n) ≡ (if b then now else held_row (row_in s client n)))
-    (ap (λ (row : Option Row). held_row (option_map (λ (r : Row). record r { held = now }) row)) (row_there s client given area is)) (λ _. refl)
+    at_area given number (λ n b. held_row (if b then option_map (λ (row : AreaRow). record row { held = now }) (row_in s client n) else row_in s client n) ≡ (if b then now else held_row (row_in s client n)))
+    (ap (λ (row : Option AreaRow). held_row (option_map (λ (r : AreaRow). record r { held = now }) row)) (row_there s client given area is)) (λ _. refl)
 
 placed_by_rule : (s : State) (client given fewer more : ℕ) (area : Area) → area_of s client given ≡ Some area → (number : ℕ)
-    → held_row (if given == number then option_map (λ (row : Row). record row { held = row.held - fewer + more }) (row_in s client number) else row_in s client number)
+    → held_row (if given == number then option_map (λ (row : AreaRow). record row { held = row.held - fewer + more }) (row_in s client number) else row_in s client number)
     ≡ (if given == number then held_row (row_in s client number) - fewer + more else held_row (row_in s client number))
 placed_by_rule s client given fewer more area is number =
-    at_area given number (λ n b. held_row (if b then option_map (λ (row : Row). record row { held = row.held - fewer + more }) (row_in s client n) else row_in s client n)
+    at_area given number (λ n b. held_row (if b then option_map (λ (row : AreaRow). record row { held = row.held - fewer + more }) (row_in s client n) else row_in s client n)
     ≡ (if b then held_row (row_in s client n) - fewer + more else held_row (row_in s client n)))
     (let there = row_there s client given area is in
-    ap (λ (row : Option Row). held_row (option_map (λ (r : Row). record r { held = r.held - fewer + more }) row)) there
-    ∙ sym (ap (λ (row : Option Row). held_row row - fewer + more) there)) (λ _. refl)
+    ap (λ (row : Option AreaRow). held_row (option_map (λ (r : AreaRow). record r { held = r.held - fewer + more }) row)) there
+    ∙ sym (ap (λ (row : Option AreaRow). held_row row - fewer + more) there)) (λ _. refl)
 
 -- an outcome of a call in an area
 in_area_by_rule : (s : State) (client given : ℕ) (call : Call) (rest : Area → Outcome) (found : Option Area) → area_of s client given ≡ found
@@ -93,7 +93,7 @@ option_by_rule s client call (Some x) f other each none = each x
 
 -- a restart area lowers what is held by what it spends
 restart_by_rule : (s : State) (client given fewer : ℕ) (area : Area) → area_of s client given ≡ Some area → (number : ℕ)
-    → held_row (if given == number then option_map (λ (row : Row). record row { held = row.held - fewer + 0 }) (row_in s client number) else row_in s client number)
+    → held_row (if given == number then option_map (λ (row : AreaRow). record row { held = row.held - fewer + 0 }) (row_in s client number) else row_in s client number)
     ≡ (if given == number then held_row (row_in s client number) - fewer else held_row (row_in s client number))
 restart_by_rule s client given fewer area is number =
     placed_by_rule s client given fewer 0 area is number ∙ without_zero (given == number) (held_row (row_in s client number)) fewer
@@ -232,7 +232,7 @@ held_through_entries told before s t (entry ∷ entries) client number goes =
       | inr differ ↦
           let differs : entry.client ≡ client → ⊥ = eqb-false entry.client client differ in
           let other : (client == entry.client) ≡ false = ne_eqb client entry.client (λ e. differs (sym e)) in
-          rw differ (rest ∙ ap (λ (row : Option Row). held_through number (held_row row) (mine entries client)) (rows.others client number other))
+          rw differ (rest ∙ ap (λ (row : Option AreaRow). held_through number (held_row row) (mine entries client)) (rows.others client number other))
     ]
 
 -- what an area holds is computed from the opening state and its client's own entries

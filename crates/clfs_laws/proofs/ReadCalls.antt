@@ -35,11 +35,11 @@ use Rattle.clfs_laws.proofs.ValidAreaCalls.{valid_cursor, area_with_cursor_at}
 use Rattle.clfs_laws.proofs.FineSteps.{fine_refused, fine_answered, done, comes_as, same_cursor}
 
 -- what a call in an area is refused for, and what it answers, where the area is there
-in_area_is : (rest : Area → Option Refusal) (found : Option Area) (area : Area) → found ≡ Some area
+pub in_area_is : (rest : Area → Option Refusal) (found : Option Area) (area : Area) → found ≡ Some area
     → option_map_or rest found (Some refusals.NoSuchArea) ≡ rest area
 in_area_is rest found area is = ap (λ (f : Option Area). option_map_or rest f (Some refusals.NoSuchArea)) is
 
-over_area_is : (s : State) (rest : Area → Outcome) (found : Option Area) (area : Area) → found ≡ Some area
+pub over_area_is : (s : State) (rest : Area → Outcome) (found : Option Area) (area : Area) → found ≡ Some area
     → option_map_or rest found (outcome (replies.Refused refusals.NoSuchArea) s) ≡ rest area
 over_area_is s rest found area is = ap (λ (f : Option Area). option_map_or rest f (outcome (replies.Refused refusals.NoSuchArea) s)) is
 
@@ -124,7 +124,7 @@ next_by : (s : State) (area : Area) (number last : ℕ) (kind : CursorKind)
 next_by s area number last (Records mode) = refl
 next_by s area number last RestartAreas = refl
 
-next_is : (s : State) (area : Area) (at : Cursor) (kind : CursorKind) → at.kind ≡ kind → next_of_cursor s area at ≡ next_of_kind s area.stream kind at.last
+pub next_is : (s : State) (area : Area) (at : Cursor) (kind : CursorKind) → at.kind ≡ kind → next_of_cursor s area at ≡ next_of_kind s area.stream kind at.last
 next_is s area at kind same = next_by s area at.number at.last at.kind ∙ ap (λ (k : CursorKind). next_of_kind s area.stream k at.last) same
 
 -- A call that reads on with a cursor: where the cursor comes to a record, the reply is that and the cursor moves there.

@@ -54,10 +54,10 @@ flush_if_records : (asked : Bool) (s : State) → (flush_if asked s).records ≡
 flush_if_records true s = seal_records s
 flush_if_records false s = refl
 
-flushed_to_records : (s : State) (lsn : ℕ) → (flushed_to s lsn).records ≡ s.records
+pub flushed_to_records : (s : State) (lsn : ℕ) → (flushed_to s lsn).records ≡ s.records
 flushed_to_records s lsn = elim (cases_Bool (nat_lt lsn (flushed s))) [ inl below ↦ rw below refl | inr above ↦ rw above (seal_records s) ]
 
-spend_records : (area : Area) (is_reserved : Bool) (n : ℕ) (sizes : List ℕ) (s : State)
+pub spend_records : (area : Area) (is_reserved : Bool) (n : ℕ) (sizes : List ℕ) (s : State)
     → (hold_sizes area sizes (spend_if is_reserved area n s)).records ≡ s.records
 spend_records area false n [] s = refl
 spend_records area true n [] s = refl
@@ -71,7 +71,7 @@ placed_record s entry = record entry { lsn = next_lsn s (length entry.bytes) }
 put_records : (s : State) (need : ℕ) (entry : LogEntry) → (put (grown s need) entry).records ≡ s.records ++ placed_record s entry ∷ []
 put_records s need entry = ap (λ (g : State). (put g entry).records) (grown_is s need)
 
-appended_records : (s : State) (area : Area) (draft : Draft) (is_reserved : Bool) (sizes : List ℕ)
+pub appended_records : (s : State) (area : Area) (draft : Draft) (is_reserved : Bool) (sizes : List ℕ)
     → (appended s area draft is_reserved sizes).records ≡ s.records ++ placed_record s (plain_record area draft) ∷ []
 appended_records s area draft is_reserved sizes =
     let n = length draft.bytes in
@@ -83,7 +83,7 @@ appended_records s area draft is_reserved sizes =
 rebased_records : (stream base : ℕ) (s : State) → (rebased stream base s).records ≡ s.records
 rebased_records stream base s = elim (cases_Bool (base == 0)) [ inl none ↦ rw none refl | inr some ↦ rw some refl ]
 
-restarted_records : (s : State) (area : Area) (bytes : List ℕ) (base : ℕ) (is_reserved : Bool)
+pub restarted_records : (s : State) (area : Area) (bytes : List ℕ) (base : ℕ) (is_reserved : Bool)
     → (restarted s area bytes base is_reserved).records ≡ s.records ++ placed_record s (restart_record s area bytes base) ∷ []
 restarted_records s area bytes base is_reserved =
     let n = length bytes in
@@ -92,19 +92,19 @@ restarted_records s area bytes base is_reserved =
     rebased_records area.stream base (flush spent) ∙ seal_records spent ∙ spend_records area is_reserved n [] joined
     ∙ put_records s (need_of is_reserved n []) (restart_record s area bytes base)
 
-policy_records : (s : State) (policy : Policy) → (with_policy s policy).records ≡ s.records
+pub policy_records : (s : State) (policy : Policy) → (with_policy s policy).records ≡ s.records
 policy_records s (policies.Maximum value) = refl
 policy_records s (policies.Minimum value) = refl
 policy_records s (policies.Growth value) = refl
 policy_records s policies.Automatic = refl
 
-no_policy_records : (s : State) (kind : PolicyKind) → (without_policy s kind).records ≡ s.records
+pub no_policy_records : (s : State) (kind : PolicyKind) → (without_policy s kind).records ≡ s.records
 no_policy_records s kinds.Maximum = refl
 no_policy_records s kinds.Minimum = refl
 no_policy_records s kinds.Growth = refl
 no_policy_records s kinds.Automatic = refl
 
-archiving_records : (s : State) (on : Bool) → (archiving s on).records ≡ s.records
+pub archiving_records : (s : State) (on : Bool) → (archiving s on).records ≡ s.records
 archiving_records s true = refl
 archiving_records s false = refl
 

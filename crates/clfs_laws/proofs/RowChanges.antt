@@ -5,11 +5,11 @@ use Rattle.std.specs.Option.{option_map}
 use Rattle.std.proofs.lemmas.Bool.{cases_Bool, eqb-true, eqb-false, ne_eqb}
 use Rattle.clfs_model.specs.declared.state.Area.{Area}
 use Rattle.clfs_model.specs.State.{is_area, change_first}
-use Rattle.clfs_laws.specs.Rows.{Row, row_of, changed_where}
+use Rattle.clfs_laws.specs.Rows.{AreaRow, row_of, changed_where}
 use Rattle.clfs_laws.proofs.Finding.{KeepsName, find_changed, find_other, found_passes}
 
 -- the row of a number among areas
-abbrev pub row_among : List Area → ℕ → ℕ → Option Row
+abbrev pub row_among : List Area → ℕ → ℕ → Option AreaRow
 row_among areas client number = option_map row_of (find (is_area client number) areas)
 
 -- names that differ in the client or in the number
@@ -41,17 +41,17 @@ other_client client number of_client of_number differ area is =
     rw fails refl
 
 -- a change of an area that keeps its name and changes its row so
-pub record Changes (change : Area → Area) (on_row : Row → Row) : Type 0 where
+pub record Changes (change : Area → Area) (on_row : AreaRow → AreaRow) : Type 0 where
   pub name : KeepsName change
   pub row : (area : Area) → row_of (change area) ≡ on_row (row_of area)
 
-map_twice : (change : Area → Area) (on_row : Row → Row) → Changes change on_row → (found : Option Area)
+map_twice : (change : Area → Area) (on_row : AreaRow → AreaRow) → Changes change on_row → (found : Option Area)
     → option_map row_of (option_map change found) ≡ option_map on_row (option_map row_of found)
 map_twice change on_row changes None = refl
-map_twice change on_row changes (Some area) = ap (λ (r : Row). Some r) (changes.row area)
+map_twice change on_row changes (Some area) = ap (λ (r : AreaRow). Some r) (changes.row area)
 
 -- the rows of the client after the change of one of its areas
-pub own_row : (change : Area → Area) (on_row : Row → Row) → Changes change on_row → (areas : List Area) (client number other : ℕ)
+pub own_row : (change : Area → Area) (on_row : AreaRow → AreaRow) → Changes change on_row → (areas : List Area) (client number other : ℕ)
     → row_among (change_first (is_area client number) change areas) client other ≡ changed_where (number == other) on_row (row_among areas client other)
 own_row change on_row changes areas client number other = elim (cases_Bool (number == other)) [
   | inl same ↦

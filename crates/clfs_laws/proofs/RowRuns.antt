@@ -19,13 +19,13 @@ use Rattle.clfs_model.specs.Refusals.{refusal}
 use Rattle.clfs_model.specs.Answers.{answer}
 use Rattle.clfs_model.specs.Step.{Step, Goes, Comes, IsReply, IsReplyRead, IsDamaged}
 use Rattle.clfs_model.specs.Journals.{GoesOn, mine}
-use Rattle.clfs_laws.specs.Rows.{Row, row_in, row_after, row_through}
+use Rattle.clfs_laws.specs.Rows.{AreaRow, row_in, row_after, row_through}
 use Rattle.clfs_laws.proofs.RowChanges.{row_among}
 use Rattle.clfs_laws.proofs.RowsOfCalls.{answer_rows}
 use Rattle.clfs_laws.proofs.StepCases.{broken_step, whole_step}
 
 -- the replies that change no row, whatever the call
-refused_after : (number : ℕ) (row : Option Row) (call : Call) (given : Refusal) → row_after number row call (replies.Refused given) ≡ row
+refused_after : (number : ℕ) (row : Option AreaRow) (call : Call) (given : Refusal) → row_after number row call (replies.Refused given) ≡ row
 refused_after number row (calls.OpenStream name) given = refl
 refused_after number row (calls.CreateArea stream largest reads) given = refl
 refused_after number row (calls.DeleteArea area) given = refl
@@ -35,7 +35,7 @@ refused_after number row (calls.Append area draft reserved sizes) given = refl
 refused_after number row (calls.WriteRestart area bytes base reserved) given = refl
 refused_after number row call given = refl
 
-found_after : (number : ℕ) (row : Option Row) (call : Call) (cursor : ℕ) (entry : LogEntry) → row_after number row call (replies.Found cursor entry) ≡ row
+found_after : (number : ℕ) (row : Option AreaRow) (call : Call) (cursor : ℕ) (entry : LogEntry) → row_after number row call (replies.Found cursor entry) ≡ row
 found_after number row (calls.CreateArea stream largest reads) cursor entry = refl
 found_after number row (calls.DeleteArea area) cursor entry = refl
 found_after number row (calls.Reserve area sizes) cursor entry = refl
@@ -44,7 +44,7 @@ found_after number row (calls.Append area draft reserved sizes) cursor entry = r
 found_after number row (calls.WriteRestart area bytes base reserved) cursor entry = refl
 found_after number row call cursor entry = refl
 
-next_after : (number : ℕ) (row : Option Row) (call : Call) (entry : LogEntry) → row_after number row call (replies.Next entry) ≡ row
+next_after : (number : ℕ) (row : Option AreaRow) (call : Call) (entry : LogEntry) → row_after number row call (replies.Next entry) ≡ row
 next_after number row (calls.CreateArea stream largest reads) entry = refl
 next_after number row (calls.DeleteArea area) entry = refl
 next_after number row (calls.Reserve area sizes) entry = refl
@@ -54,7 +54,7 @@ next_after number row (calls.WriteRestart area bytes base reserved) entry = refl
 next_after number row call entry = refl
 
 -- what is read of a record changes no row
-read_after : (stable : ℕ) (number : ℕ) (row : Option Row) (call : Call) (answered reply : Reply) → IsReplyRead stable answered reply → row_after number row call reply ≡ row_after number row call answered
+read_after : (stable : ℕ) (number : ℕ) (row : Option AreaRow) (call : Call) (answered reply : Reply) → IsReplyRead stable answered reply → row_after number row call reply ≡ row_after number row call answered
 read_after stable number row call (replies.Found cursor entry) reply is =
     ap (λ (r : Reply). row_after number row call r) is.1.1 ∙ found_after number row call cursor is.0 ∙ sym (found_after number row call cursor entry)
 read_after stable number row call (replies.Next entry) reply is =
@@ -73,7 +73,7 @@ read_after stable number row call (replies.Containers n) reply is = ap (λ (r : 
 read_after stable number row call (replies.Info info) reply is = ap (λ (r : Reply). row_after number row call r) is
 read_after stable number row call (replies.Refused given) reply is = ap (λ (r : Reply). row_after number row call r) is
 
-reply_after : (told : Bool) (stable : ℕ) (number : ℕ) (row : Option Row) (call : Call) (answered reply : Reply) → IsReply told stable answered reply → row_after number row call reply ≡ row_after number row call answered
+reply_after : (told : Bool) (stable : ℕ) (number : ℕ) (row : Option AreaRow) (call : Call) (answered reply : Reply) → IsReply told stable answered reply → row_after number row call reply ≡ row_after number row call answered
 reply_after true stable number row call answered reply is = ap (λ (r : Reply). row_after number row call r) is
 reply_after false stable number row call answered reply is = read_after stable number row call answered reply is
 
@@ -146,9 +146,9 @@ rows_through told before s t (entry ∷ entries) client number goes =
           let is : entry.client ≡ client = eqb-true entry.client client same in
           let F : ℕ → Type 0 = λ c. row_in goes.0 c number ≡ row_after number (row_in s c number) entry.call entry.reply in
           let own : row_in goes.0 client number ≡ row_after number (row_in s client number) entry.call entry.reply = subst F is (step.own number) in
-          rw same (rest ∙ ap (λ (row : Option Row). row_through number row (mine entries client)) own)
+          rw same (rest ∙ ap (λ (row : Option AreaRow). row_through number row (mine entries client)) own)
       | inr differ ↦
           let differs : entry.client ≡ client → ⊥ = eqb-false entry.client client differ in
           let other : (client == entry.client) ≡ false = ne_eqb client entry.client (λ e. differs (sym e)) in
-          rw differ (rest ∙ ap (λ (row : Option Row). row_through number row (mine entries client)) (step.others client number other))
+          rw differ (rest ∙ ap (λ (row : Option AreaRow). row_through number row (mine entries client)) (step.others client number other))
     ]

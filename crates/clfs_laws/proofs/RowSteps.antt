@@ -16,7 +16,7 @@ use Rattle.clfs_model.specs.Space.{own_sum, grown, grown_if}
 use Rattle.clfs_model.specs.Flush.{seal, flush}
 use Rattle.clfs_model.specs.Put.{put, spend_if, hold_sizes, seal_if, flush_if, spent_of, with_less_held, with_more_held}
 use Rattle.clfs_model.specs.Answers.{Outcome, outcome}
-use Rattle.clfs_laws.specs.Rows.{Row, row_of, row_after, changed_where, with_changed_held}
+use Rattle.clfs_laws.specs.Rows.{AreaRow, row_of, row_after, changed_where, with_changed_held}
 use Rattle.clfs_laws.proofs.RowChanges.{row_among, area_named, Changes, own_row, others_row}
 
 -- an outcome that changes the rows of the client by the reply alone, and those of no other client
@@ -26,14 +26,14 @@ pub record ChangesRows (s : State) (client : ℕ) (call : Call) (o : Outcome) : 
 
 -- no area changes
 pub rows_kept : (s : State) (client : ℕ) (call : Call) (o : Outcome) → o.state.areas ≡ s.areas
-    → ((number : ℕ) (row : Option Row) → row_after number row call o.reply ≡ row) → ChangesRows s client call o
+    → ((number : ℕ) (row : Option AreaRow) → row_after number row call o.reply ≡ row) → ChangesRows s client call o
 rows_kept s client call o same kept = record {
   own = λ number. ap (λ (areas : List Area). row_among areas client number) same ∙ sym (kept number (row_among s.areas client number));
   others = λ of_client number differ. ap (λ (areas : List Area). row_among areas of_client number) same;
 }
 
 -- one area of the client changes
-pub row_changed : (s : State) (client number : ℕ) (call : Call) (o : Outcome) (change : Area → Area) (on_row : Row → Row) → Changes change on_row
+pub row_changed : (s : State) (client number : ℕ) (call : Call) (o : Outcome) (change : Area → Area) (on_row : AreaRow → AreaRow) → Changes change on_row
     → o.state.areas ≡ change_first (is_area client number) change s.areas
     → ((other : ℕ) → row_after other (row_among s.areas client other) call o.reply ≡ changed_where (number == other) on_row (row_among s.areas client other))
     → ChangesRows s client call o
@@ -47,16 +47,16 @@ row_changed s client number call o change on_row changes same after = record {
 -- one area of the client changes, but not its row
 pub cursor_changed : (s : State) (client number : ℕ) (call : Call) (o : Outcome) (change : Area → Area) → Changes change (λ row. row)
     → o.state.areas ≡ change_first (is_area client number) change s.areas
-    → ((other : ℕ) (row : Option Row) → row_after other row call o.reply ≡ row) → ChangesRows s client call o
+    → ((other : ℕ) (row : Option AreaRow) → row_after other row call o.reply ≡ row) → ChangesRows s client call o
 cursor_changed s client number call o change changes same kept =
     row_changed s client number call o change (λ row. row) changes same
     (λ other. kept other (row_among s.areas client other) ∙ unchanged (number == other) (row_among s.areas client other))
   where
-    of_row : (row : Option Row) → row ≡ option_map (λ r. r) row
+    of_row : (row : Option AreaRow) → row ≡ option_map (λ r. r) row
     of_row None = refl
     of_row (Some row) = refl
 
-    unchanged : (named : Bool) (row : Option Row) → row ≡ changed_where named (λ r. r) row
+    unchanged : (named : Bool) (row : Option AreaRow) → row ≡ changed_where named (λ r. r) row
     unchanged true row = of_row row
     unchanged false row = refl
 
@@ -146,13 +146,13 @@ spent_areas area true n (size ∷ sizes) s =
     change_twice (is_area area.client area.number) (with_less_held (own n)) (with_more_held (own_sum (size ∷ sizes))) (λ a. refl) s.areas
 
 -- a call in an area that isn't there leaves all as it is, and is refused
-no_area : (s : State) (client : ℕ) (call : Call) → ((number : ℕ) (row : Option Row) → row_after number row call (replies.Refused refusals.NoSuchArea) ≡ row)
+no_area : (s : State) (client : ℕ) (call : Call) → ((number : ℕ) (row : Option AreaRow) → row_after number row call (replies.Refused refusals.NoSuchArea) ≡ row)
     → ChangesRows s client call (outcome (replies.Refused refusals.NoSuchArea) s)
 no_area s client call kept = rows_kept s client call (outcome (replies.Refused refusals.NoSuchArea) s) refl kept
 
 -- a call in an area
 pub in_the_area : (s : State) (client number : ℕ) (call : Call) (rest : Area → Outcome) (found : Option Area) → area_of s client number ≡ found
-    → ((given : ℕ) (row : Option Row) → row_after given row call (replies.Refused refusals.NoSuchArea) ≡ row)
+    → ((given : ℕ) (row : Option AreaRow) → row_after given row call (replies.Refused refusals.NoSuchArea) ≡ row)
     → ((area : Area) → area_of s client number ≡ Some area → ChangesRows s client call (rest area))
     → ChangesRows s client call (option_map_or rest found (outcome (replies.Refused refusals.NoSuchArea) s))
 in_the_area s client number call rest None is kept each = no_area s client call kept

@@ -28,7 +28,7 @@ use Rattle.clfs_model.specs.Reading.{next_of_cursor, record_cursor, restart_curs
 use Rattle.clfs_model.specs.Policies.{with_policy, without_policy}
 use Rattle.clfs_model.specs.Refusals.{stream_number, refusal}
 use Rattle.clfs_model.specs.Answers.{Outcome, outcome, answer, found_with_cursor, restarted, restart_record, rebased, archiving, flushed_to, new_area}
-use Rattle.clfs_laws.specs.Rows.{Row, row_of, row_after, changed_where, with_held, with_changed_held}
+use Rattle.clfs_laws.specs.Rows.{AreaRow, row_of, row_after, changed_where, with_held, with_changed_held}
 use Rattle.clfs_laws.proofs.Finding.{find_behind, find_not_behind, find_gone, find_not_gone}
 use Rattle.clfs_laws.proofs.RowChanges.{row_among, Changes, other_number, other_client}
 use Rattle.clfs_laws.proofs.RowSteps.{ChangesRows, rows_kept, row_changed, cursor_changed, seal_areas, seal_if_areas, flush_if_areas, grown_areas, joined_areas, with_spent, spent_changes, spent_areas, in_the_area, named_change, cursors_change}
@@ -85,7 +85,7 @@ row_behind areas area client number of_client unused =
 
 -- a new area of a number that no area of the client has
 created_rows : (s : State) (client : ℕ) (call : Call) (area : Area) (o : Outcome) → area.client ≡ client → find (is_area client area.number) s.areas ≡ None
-    → o.state.areas ≡ s.areas ++ area ∷ [] → ((number : ℕ) (row : Option Row) → row_after number row call o.reply ≡ (if area.number == number then Some (row_of area) else row))
+    → o.state.areas ≡ s.areas ++ area ∷ [] → ((number : ℕ) (row : Option AreaRow) → row_after number row call o.reply ≡ (if area.number == number then Some (row_of area) else row))
     → ChangesRows s client call o
 created_rows s client call area o of_client unused areas after = record {
   own = λ number. ap (λ (all : List Area). row_among all client number) areas
@@ -112,7 +112,7 @@ deleted_rows s client given = record {
 
 -- a record that is found with a new cursor at it
 found_rows : (s : State) (client given : ℕ) (call : Call) (area : Area) (kind : CursorKind) (entry : LogEntry) → area_of s client given ≡ Some area
-    → ((number : ℕ) (row : Option Row) → row_after number row call (replies.Found (unused_cursor area.cursors) entry) ≡ row)
+    → ((number : ℕ) (row : Option AreaRow) → row_after number row call (replies.Found (unused_cursor area.cursors) entry) ≡ row)
     → ChangesRows s client call (found_with_cursor s area kind entry)
 found_rows s client given call area kind entry is kept =
     let cursor : Cursor = record { number = unused_cursor area.cursors; kind = kind; last = entry.lsn } in
@@ -121,16 +121,16 @@ found_rows s client given call area kind entry is kept =
 
 -- a record that is found, or a refusal
 found_or_rows : (s : State) (client given : ℕ) (call : Call) (area : Area) (kind : CursorKind) (found : Option LogEntry) (refusal : Refusal) → area_of s client given ≡ Some area
-    → ((number : ℕ) (row : Option Row) (entry : LogEntry) → row_after number row call (replies.Found (unused_cursor area.cursors) entry) ≡ row)
-    → ((number : ℕ) (row : Option Row) → row_after number row call (replies.Refused refusal) ≡ row)
+    → ((number : ℕ) (row : Option AreaRow) (entry : LogEntry) → row_after number row call (replies.Found (unused_cursor area.cursors) entry) ≡ row)
+    → ((number : ℕ) (row : Option AreaRow) → row_after number row call (replies.Refused refusal) ≡ row)
     → ChangesRows s client call (option_map_or (found_with_cursor s area kind) found (outcome (replies.Refused refusal) s))
 found_or_rows s client given call area kind None refusal is kept refused = rows_kept s client call _ refl refused
 found_or_rows s client given call area kind (Some entry) refusal is kept refused = found_rows s client given call area kind entry is (λ number row. kept number row entry)
 
 -- a cursor that moves on, or a refusal
 moved_rows : (s : State) (client given cursor : ℕ) (call : Call) (area : Area) (found : Option LogEntry) → area_of s client given ≡ Some area
-    → ((number : ℕ) (row : Option Row) (entry : LogEntry) → row_after number row call (replies.Next entry) ≡ row)
-    → ((number : ℕ) (row : Option Row) → row_after number row call (replies.Refused refusals.NoSuchCursor) ≡ row)
+    → ((number : ℕ) (row : Option AreaRow) (entry : LogEntry) → row_after number row call (replies.Next entry) ≡ row)
+    → ((number : ℕ) (row : Option AreaRow) → row_after number row call (replies.Refused refusals.NoSuchCursor) ≡ row)
     → ChangesRows s client call (option_map_or
     (λ (entry : LogEntry). outcome (replies.Next entry) (change_area (with_cursor_at cursor entry.lsn) area.client area.number s)) found (outcome (replies.Refused refusals.NoSuchCursor) s))
 moved_rows s client given cursor call area None is kept refused = rows_kept s client call _ refl refused

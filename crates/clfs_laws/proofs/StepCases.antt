@@ -36,7 +36,7 @@ unfolding Step
 whole_step told s client call happened reply t whole step = at_false s.broken _ _ whole step
 
 -- what the machine's reply is where a refusal is given
-given_refusal : (told : Bool) (stable : ℕ) (answered : Reply) (given : Refusal) → IsReply told stable answered (replies.Refused given) → answered ≡ replies.Refused given
+pub given_refusal : (told : Bool) (stable : ℕ) (answered : Reply) (given : Refusal) → IsReply told stable answered (replies.Refused given) → answered ≡ replies.Refused given
 given_refusal true stable answered given is = sym is
 given_refusal false stable (replies.Found cursor entry) given is = absurd (let e : replies.Refused given ≡ replies.Found cursor is.0 = is.1.1 in cc)
 given_refusal false stable (replies.Next entry) given is = absurd (let e : replies.Refused given ≡ replies.Next is.0 = is.1.1 in cc)

@@ -20,18 +20,22 @@ use Rattle.clfs_model.specs.State.{base_of}
 use Rattle.clfs_model.specs.Flush.{flushed, cut, IsSame}
 use Rattle.clfs_model.specs.Run.{Request, asks}
 use Rattle.clfs_model.specs.Step.{Step}
+use Rattle.clfs_model.specs.Storable.{IsStorable}
 use Rattle.clfs_model.specs.Survivors.{names_of, HasSettings, HasBases, EndsBlockOf, IsSurvivor}
 use Rattle.clfs_model.specs.Valid.{IsValid}
 use Rattle.clfs_laws.specs.Stable.{LeavesStable}
 use Rattle.clfs_laws.proofs.FallingLists.{below_lsn}
+use Rattle.clfs_laws.proofs.Numbers.{survivor_low}
 use Rattle.clfs_laws.proofs.RecordsOfCalls.{step_adds}
+use Rattle.clfs_laws.proofs.StepBlocks.{blocks_step}
 use Rattle.clfs_laws.proofs.SurvivingRecords.{new_above, none_below}
+use Rattle.clfs_laws.proofs.ValidSteps.{valid_step}
 
 -- a place without an open block, at the start of a sector, is told by its frontier
 abbrev place_of : ℕ → ℕ → ℕ → ℕ → Place
 place_of container offset used records = record { container = container; offset = offset; used = used; records = records }
 
-same_places : (a b : Place) → a.container ≡ b.container → a.offset ≡ b.offset → a.used ≡ b.used → a.records ≡ b.records → a ≡ b
+pub same_places : (a b : Place) → a.container ≡ b.container → a.offset ≡ b.offset → a.used ≡ b.used → a.records ≡ b.records → a ≡ b
 same_places a b container offset used records =
     let same : place_of a.container a.offset a.used a.records ≡ place_of b.container b.offset b.used b.records = cc in same
 
@@ -105,7 +109,7 @@ bases_are asked s t x leaves survives stream = elim (survives.bases stream) [
 ]
 
 -- its place begins where the log was flushed
-frontier_is : (asked : Request) (s t x : State) → LeavesStable s t → IsSurvivor asked s t x → frontier x.place ≡ flushed s
+pub frontier_is : (asked : Request) (s t x : State) → LeavesStable s t → IsSurvivor asked s t x → frontier x.place ≡ flushed s
 frontier_is asked s t x leaves survives = omega (arith, survives.place.from, survives.place.to, leaves.flushed)
 
 -- its records are those that were flushed
@@ -139,7 +143,7 @@ state_of shape containers buffers streams records place waiting areas archive ma
   broken = broken;
 }
 
-same_states : (a b : State) → a.shape ≡ b.shape → a.containers ≡ b.containers → a.buffers ≡ b.buffers → a.streams ≡ b.streams → a.records ≡ b.records
+pub same_states : (a b : State) → a.shape ≡ b.shape → a.containers ≡ b.containers → a.buffers ≡ b.buffers → a.streams ≡ b.streams → a.records ≡ b.records
     → a.place ≡ b.place → a.waiting ≡ b.waiting → a.areas ≡ b.areas → a.archive ≡ b.archive → a.maximum ≡ b.maximum → a.minimum ≡ b.minimum
     → a.growth ≡ b.growth → a.automatic ≡ b.automatic → a.broken ≡ b.broken → a ≡ b
 same_states a b shape containers buffers streams records place waiting areas archive maximum minimum growth automatic broken =
@@ -147,22 +151,28 @@ same_states a b shape containers buffers streams records place waiting areas arc
     ≡ state_of b.shape b.containers b.buffers b.streams b.records b.place b.waiting b.areas b.archive b.maximum b.minimum b.growth b.automatic b.broken = cc in
     same
 
--- a survivor is the flushed part, but for the number of write buffers
-pub is_cut : (told : Bool) (s t x : State) (client : ℕ) (call : Call) (reply : Reply) → IsValid s → Step told s client call Fine reply t
-    → LeavesStable s t → IsSurvivor (asks client call) s t x → x.place.offset < 2 ^ 32 → record x { buffers = s.buffers } ≡ cut s
-is_cut told s t x client call reply valid step leaves survives low =
-    let settings = settings_are (asks client call) s t x leaves survives in
+-- a survivor with the flushed records is the flushed part, but for the number of write buffers
+pub is_cut_by : (asked : Request) (s t x : State) → LeavesStable s t → IsSurvivor asked s t x → x.records ≡ (cut s).records → x.place.offset < 2 ^ 32
+    → record x { buffers = s.buffers } ≡ cut s
+is_cut_by asked s t x leaves survives records low =
+    let settings = settings_are asked s t x leaves survives in
     same_states (record x { buffers = s.buffers }) (cut s) survives.shape settings.containers refl
-    (streams_are s x settings.names (bases_are (asks client call) s t x leaves survives))
-    (records_are told s t x client call reply valid step leaves survives)
-    (place_at x.place (flushed s) low (whole_sector s t x survives.place.end) survives.place.closed (frontier_is (asks client call) s t x leaves survives))
+    (streams_are s x settings.names (bases_are asked s t x leaves survives)) records
+    (place_at x.place (flushed s) low (whole_sector s t x survives.place.end) survives.place.closed (frontier_is asked s t x leaves survives))
     survives.nothing_waits survives.no_areas settings.archive settings.maximum settings.minimum settings.growth settings.automatic survives.whole
+
+-- so is one of a call
+pub is_cut : (told : Bool) (s t x : State) (client : ℕ) (call : Call) (reply : Reply) → IsValid s → IsStorable s → Step told s client call Fine reply t
+    → LeavesStable s t → IsSurvivor (asks client call) s t x → record x { buffers = s.buffers } ≡ cut s
+is_cut told s t x client call reply valid storable step leaves survives =
+    is_cut_by (asks client call) s t x leaves survives (records_are told s t x client call reply valid step leaves survives)
+    (survivor_low s t x (valid_step told s client call Fine reply t valid step) (blocks_step told s client call Fine reply t valid storable.blocks step) survives.place.end)
 
 -- so no reply can show a difference
 itself : (s t : State) → t ≡ s → IsSame s t
 itself s t same = let F : State → Type 0 = λ x. IsSame s x in subst F (sym same) (record { hold = refl; records = refl; others = refl })
 
-pub is_same : (told : Bool) (s t x : State) (client : ℕ) (call : Call) (reply : Reply) → IsValid s → Step told s client call Fine reply t
-    → LeavesStable s t → IsSurvivor (asks client call) s t x → x.place.offset < 2 ^ 32 → IsSame (cut s) (record x { buffers = s.buffers })
-is_same told s t x client call reply valid step leaves survives low =
-    itself (cut s) (record x { buffers = s.buffers }) (is_cut told s t x client call reply valid step leaves survives low)
+pub is_same : (told : Bool) (s t x : State) (client : ℕ) (call : Call) (reply : Reply) → IsValid s → IsStorable s → Step told s client call Fine reply t
+    → LeavesStable s t → IsSurvivor (asks client call) s t x → IsSame (cut s) (record x { buffers = s.buffers })
+is_same told s t x client call reply valid storable step leaves survives =
+    itself (cut s) (record x { buffers = s.buffers }) (is_cut told s t x client call reply valid storable step leaves survives)

@@ -33,7 +33,7 @@ pub record HasNeeds (s t : State) : Type 0 where
   pub tail : IfSome t.archive (λ tail. tail ≤ flushed s)
   pub later : AllByRecursion (λ lsn. hold s ≤ lsn) (option_to_list t.archive)
 
-live_still : (s t : State) (entries : List LogEntry) → ((number : ℕ) → IsSome (stream_at s number) → base_of s number ≤ base_of t number)
+pub live_still : (s t : State) (entries : List LogEntry) → ((number : ℕ) → IsSome (stream_at s number) → base_of s number ≤ base_of t number)
     → AllByRecursion (λ (entry : LogEntry). IsSome (stream_at s entry.stream)) entries
     → AllByRecursion (λ (entry : LogEntry). is_live s entry ≡ true → hold s ≤ entry.lsn) entries
     → AllByRecursion (λ (entry : LogEntry). is_live t entry ≡ true → hold s ≤ entry.lsn) entries
@@ -99,10 +99,10 @@ valid_needing s streams archive valid has =
     }
 
 -- the base at a place of a list
-abbrev base_at : List Stream → ℕ → ℕ
+abbrev pub base_at : List Stream → ℕ → ℕ
 base_at streams k = option_map_or (λ (stream : Stream). stream.base) (slice_get streams k) null_lsn
 
-set_length : (number lsn : ℕ) (streams : List Stream) → length (set_base number lsn streams) ≡ length streams
+pub set_length : (number lsn : ℕ) (streams : List Stream) → length (set_base number lsn streams) ≡ length streams
 set_length number lsn [] = refl
 set_length number lsn (stream ∷ streams) = elim (cases_Bool (number == 1)) [
   | inl here ↦ rw here refl
@@ -143,7 +143,7 @@ not_first : (number : ℕ) → (number == 1) ≡ false → 1 ≤ number → (num
 not_first number other some = let differs = eqb-false number 1 other in (omega (arith, differs, some), omega (arith, differs, some))
 
 -- a base that is set to a later one
-set_higher : (number lsn : ℕ) (streams : List Stream) (k : ℕ) → 1 ≤ number → base_at streams (number - 1) ≤ lsn → base_at streams k ≤ base_at (set_base number lsn streams) k
+pub set_higher : (number lsn : ℕ) (streams : List Stream) (k : ℕ) → 1 ≤ number → base_at streams (number - 1) ≤ lsn → base_at streams k ≤ base_at (set_base number lsn streams) k
 set_higher number lsn [] k some rises = omega arith
 set_higher number lsn (stream ∷ streams) zero some rises = elim (cases_Bool (number == 1)) [
   | inl here ↦
@@ -168,14 +168,14 @@ there_of s t number kept some = elim (cases_Bool (number == 0)) [
   | inr has ↦ rw has (kept (rw has at some))
 ]
 
-higher_of : (s t : State) (number : ℕ) → base_at s.streams (number - 1) ≤ base_at t.streams (number - 1) → base_of s number ≤ base_of t number
+pub higher_of : (s t : State) (number : ℕ) → base_at s.streams (number - 1) ≤ base_at t.streams (number - 1) → base_of s number ≤ base_of t number
 higher_of s t number rises = elim (cases_Bool (number == 0)) [
   | inl none ↦ rw none (omega arith)
   | inr has ↦ rw has rises
 ]
 
 -- the base of a stream that is there
-based_at : (s : State) (number : ℕ) → IsSome (stream_at s number) → (1 ≤ number) × (base_of s number ≡ base_at s.streams (number - 1))
+pub based_at : (s : State) (number : ℕ) → IsSome (stream_at s number) → (1 ≤ number) × (base_of s number ≡ base_at s.streams (number - 1))
 based_at s number some = elim (cases_Bool (number == 0)) [
   | inl none ↦ absurd (let gone = rw none at some in cc)
   | inr has ↦ (omega (arith, eqb-false number 0 has), rw has refl)
@@ -242,7 +242,7 @@ of_live s stream (entry ∷ entries) all = (
   of_live s stream entries all.1,
 )
 
-passing : {A : Type 0} (p : A → Bool) (P : A → Type 0) (xs : List A) → AllByRecursion (λ x. p x ≡ true → P x) xs → AllByRecursion P (filter p xs)
+pub passing : {A : Type 0} (p : A → Bool) (P : A → Type 0) (xs : List A) → AllByRecursion (λ x. p x ≡ true → P x) xs → AllByRecursion P (filter p xs)
 passing p P [] all = tt
 passing p P (x ∷ xs) all = elim (cases_Bool (p x)) [
   | inl passes ↦ rw passes (all.0 passes, passing p P xs all.1)

@@ -85,14 +85,14 @@ filter_lsns bound (entry ∷ entries) = elim (cases_Bool (nat_lt entry.lsn bound
   | inr above ↦ rw above (filter_lsns bound entries)
 ]
 
-kept_below : (bound : ℕ) (entries : List LogEntry) → AllByRecursion (λ (entry : LogEntry). entry.lsn < bound) (filter (λ (entry : LogEntry). nat_lt entry.lsn bound) entries)
+pub kept_below : (bound : ℕ) (entries : List LogEntry) → AllByRecursion (λ (entry : LogEntry). entry.lsn < bound) (filter (λ (entry : LogEntry). nat_lt entry.lsn bound) entries)
 kept_below bound [] = tt
 kept_below bound (entry ∷ entries) = elim (cases_Bool (nat_lt entry.lsn bound)) [
   | inl below ↦ rw below (ltb-true entry.lsn bound below, kept_below bound entries)
   | inr above ↦ rw above (kept_below bound entries)
 ]
 
-kept_live : (s : State) (p : LogEntry → Bool) (entries : List LogEntry) → AllByRecursion (λ (entry : LogEntry). is_live s entry ≡ true → hold s ≤ entry.lsn) entries
+pub kept_live : (s : State) (p : LogEntry → Bool) (entries : List LogEntry) → AllByRecursion (λ (entry : LogEntry). is_live s entry ≡ true → hold s ≤ entry.lsn) entries
     → AllByRecursion (λ (entry : LogEntry). is_live s entry ≡ true → hold s ≤ entry.lsn) (filter p entries)
 kept_live s p [] all = tt
 kept_live s p (entry ∷ entries) all = elim (cases_Bool (p entry)) [
@@ -110,6 +110,10 @@ all_both : (s : State) (bound : ℕ) (entries : List LogEntry) → AllByRecursio
 all_both s bound [] first second = tt
 all_both s bound (entry ∷ entries) first second = (record { is = first.0; below = second.0 }, all_both s bound entries first.1 second.1)
 
+-- the flushed part is flushed up to the same LSN
+pub flushed_cut : (s : State) → IsValid s → flushed (cut s) ≡ flushed s
+flushed_cut s valid = let block = flushed_block s valid in omega (arith, block.sequence)
+
 -- the flushed part of a log
 pub valid_cut : (s : State) → IsValid s → IsValid (cut s)
 valid_cut s valid =
@@ -117,7 +121,7 @@ valid_cut s valid =
     let f : ℕ = flushed s in
     let block = flushed_block s valid in
     let low = small_offset s.shape s.place valid.ranges.shape valid.ranges.place in
-    let at : lsn_number (container_of f) (offset_of f) 0 ≡ f = omega (arith, block.sequence) in
+    let at : lsn_number (container_of f) (offset_of f) 0 ≡ f = flushed_cut s valid in
     let offset_low : offset_of f ≤ s.place.offset = omega (arith, block.container, block.below, low) in
     let end_low : s.place.offset / 512 ≤ s.shape.container_sectors = omega (arith, valid.ranges.place.end) in
     let p : LogEntry → Bool = λ entry. nat_lt entry.lsn f in

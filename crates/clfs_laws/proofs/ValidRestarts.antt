@@ -42,7 +42,7 @@ all_kept p P (x ∷ xs) all = elim (cases_Bool (p x)) [
   | inr fails ↦ rw fails (all_kept p P xs all.1)
 ]
 
-all_behind : {A : Type 0} (P : A → Type 0) (xs ys : List A) → AllByRecursion P xs → AllByRecursion P ys → AllByRecursion P (xs ++ ys)
+pub all_behind : {A : Type 0} (P : A → Type 0) (xs ys : List A) → AllByRecursion P xs → AllByRecursion P ys → AllByRecursion P (xs ++ ys)
 all_behind P [] ys first second = second
 all_behind P (x ∷ xs) ys first second = (first.0, all_behind P xs ys first.1 second)
 
@@ -67,7 +67,7 @@ put_by_streams true beginning s entry = refl
 put_by_streams false true s entry = flush_streams s
 put_by_streams false false s entry = flush_streams s
 
-put_streams : (s : State) (entry : LogEntry) → (put s entry).streams ≡ s.streams
+pub put_streams : (s : State) (entry : LogEntry) → (put s entry).streams ≡ s.streams
 put_streams s entry = put_by_streams (joins s.shape s.place (length entry.bytes)) (begins_here s.shape s.place (length entry.bytes)) s entry
 
 spend_streams : (is_reserved : Bool) (area : Area) (n : ℕ) (s : State) → (spend_if is_reserved area n s).streams ≡ s.streams
@@ -79,7 +79,7 @@ spend_place false area n s = refl
 spend_place true area n s = refl
 
 -- what holds of all holds of all in the other order
-all_turned : {A : Type 0} (P : A → Type 0) (xs : List A) → AllByRecursion P xs → AllByRecursion P (reverse xs)
+pub all_turned : {A : Type 0} (P : A → Type 0) (xs : List A) → AllByRecursion P xs → AllByRecursion P (reverse xs)
 all_turned {A} P [] all = tt
 all_turned {A} P (x ∷ xs) all =
     let F : List A → Type 0 = AllByRecursion P in

@@ -46,7 +46,7 @@ get_more (stream ∷ streams) more zero some = refl
 get_more (stream ∷ streams) more (suc k) some = get_more streams more k some
 
 -- a stream that is there stays as it is when one is added
-stream_more : (s : State) (new : Stream) (number : ℕ) → IsSome (stream_at s number) → stream_at (record s { streams = s.streams ++ new ∷ [] }) number ≡ stream_at s number
+pub stream_more : (s : State) (new : Stream) (number : ℕ) → IsSome (stream_at s number) → stream_at (record s { streams = s.streams ++ new ∷ [] }) number ≡ stream_at s number
 stream_more s new number some = elim (cases_Bool (number == 0)) [
   | inl none ↦ absurd (let gone = rw none at some in cc)
   | inr has ↦ rw has (get_more s.streams (new ∷ []) (number - 1) (rw has at some))

@@ -1,8 +1,10 @@
 -- What a call needs of the log's space and takes of its area's.
-use Rattle.std.specs.Prelude.{ℕ, List, [], length, nat_lt, find, Option, Some, None}
+use Rattle.std.specs.Prelude.{ℕ, Bool, true, false, List, [], length, nat_lt, find, Option, Some, None}
 use Rattle.std.specs.Option.{option_map_or}
 use Rattle.clfs_model.specs.declared.call.Call.{Call}
 use Rattle.clfs_model.specs.declared.call.Call.TheVariants as calls
+use Rattle.clfs_model.specs.declared.refusal.Refusal.{Refusal}
+use Rattle.clfs_model.specs.declared.refusal.Refusal.TheVariants as refusals
 use Rattle.clfs_model.specs.declared.state.Area.{Area}
 use Rattle.clfs_model.specs.Space.{own_sum}
 use Rattle.clfs_model.specs.Put.{need_of, spent_of}
@@ -46,3 +48,10 @@ area_number (calls.ReadRestart number) = number
 area_number (calls.PreviousRestart number cursor) = number
 area_number (calls.Advance number lsn) = number
 area_number call = 0
+
+-- a refusal for want of sectors, of held sectors or of containers
+abbrev pub is_for_room : Refusal → Bool
+is_for_room (refusals.Full free reserved need) = true
+is_for_room (refusals.ReservationShort held need) = true
+is_for_room (refusals.NotEnoughContainers have) = true
+is_for_room _ = false

@@ -13,34 +13,35 @@ use Rattle.clfs_model.specs.Space.{own_sum}
 use Rattle.clfs_model.specs.Put.{spent_of}
 
 -- an area without its name and its cursors
-pub record Row : Type 0 where
+pub record AreaRow : Type 0 where
   pub stream : ℕ
   pub largest : ℕ
   pub reads : ℕ
   pub held : ℕ
 
 -- the row of an area
-abbrev pub row_of : Area → Row
+abbrev pub row_of : Area → AreaRow
 row_of area = record { stream = area.stream; largest = area.largest; reads = area.reads; held = area.held }
 
 -- the row of a client's area of a number, where it is there
-abbrev pub row_in : State → ℕ → ℕ → Option Row
+abbrev pub row_in : State → ℕ → ℕ → Option AreaRow
 row_in s client number = option_map row_of (area_of s client number)
 
 -- a row that holds so many sectors
-abbrev pub with_held : ℕ → Row → Row
+abbrev pub with_held : ℕ → AreaRow → AreaRow
 with_held sectors row = record row { held = sectors }
 
 -- a row that holds so many sectors fewer, and then so many more
-abbrev pub with_changed_held : ℕ → ℕ → Row → Row
+abbrev pub with_changed_held : ℕ → ℕ → AreaRow → AreaRow
 with_changed_held fewer more row = record row { held = row.held - fewer + more }
 
 -- the row changed, where it is the one that is named
-abbrev pub changed_where : Bool → (Row → Row) → Option Row → Option Row
+abbrev pub changed_where : Bool → (AreaRow → AreaRow) → Option AreaRow → Option AreaRow
 changed_where named change row = if named then option_map change row else row
 
--- the row of a number after a call of its client
-abbrev pub row_after : ℕ → Option Row → Call → Reply → Option Row
+-- The row of a number after a call of its client. The held sectors are also counted by themselves, by `held_after`, for a caller who
+-- asks for nothing else; in a legal journal both give what the area holds, which the laws on own entries say of each.
+abbrev pub row_after : ℕ → Option AreaRow → Call → Reply → Option AreaRow
 row_after number row (calls.CreateArea stream largest reads) (replies.Area given) =
     if given == number then Some (record { stream = stream; largest = largest; reads = reads; held = 0 }) else row
 row_after number row (calls.DeleteArea given) replies.Done = if given == number then None else row
@@ -53,7 +54,7 @@ row_after number row (calls.WriteRestart given bytes base reserved) (replies.Pla
 row_after number row call reply = row
 
 -- the row of a number after some of its client's entries
-abbrev pub row_through : ℕ → Option Row → List Entry → Option Row
+abbrev pub row_through : ℕ → Option AreaRow → List Entry → Option AreaRow
 row_through number row [] = row
 row_through number row (entry ∷ entries) = row_through number (row_after number row entry.call entry.reply) entries
 

@@ -1,17 +1,21 @@
 // What a client's areas hold, and what they were made for, by the client's own entries in a legal journal, whatever others do.
-ghost use Rattle.std.specs.Prelude.{◌≡◌, ◌≤◌, ℕ, Bool, true, List, [], ◌∷◌, ◌++◌, length, Some, IsSome};
+ghost use Rattle.std.specs.Prelude.{◌≡◌, ◌≤◌, ℕ, Bool, true, false, List, [], ◌∷◌, ◌++◌, length, Some, IsSome};
 ghost use Rattle.clfs_lsn.specs.Size.{own};
 ghost use Rattle.clfs_model.specs.declared.call.Call.TheVariants as calls;
 ghost use Rattle.clfs_model.specs.declared.call.Draft.{Draft};
 ghost use Rattle.clfs_model.specs.declared.journal.Entry.{Entry};
+ghost use Rattle.clfs_model.specs.declared.refusal.Refusal.{Refusal};
 ghost use Rattle.clfs_model.specs.declared.refusal.Refusal.TheVariants as refusals;
+ghost use Rattle.clfs_model.specs.declared.reply.Happened.{Happened};
 ghost use Rattle.clfs_model.specs.declared.reply.Reply.TheVariants as replies;
 ghost use Rattle.clfs_model.specs.declared.state.State.{State};
 ghost use Rattle.clfs_model.specs.declared.state.Area.{Area};
 ghost use Rattle.clfs_model.specs.State.{area_of};
 ghost use Rattle.clfs_model.specs.Refusals.{refusal};
 ghost use Rattle.clfs_model.specs.Journals.{IsLegal, mine, held_in, held_by};
+ghost use Rattle.clfs_model.specs.Step.{Step};
 ghost use Rattle.clfs_model.specs.Valid.{IsValid};
+ghost use Rattle.clfs_laws.specs.Needs.{is_for_room};
 ghost use Rattle.clfs_laws.specs.Rows.{row_in, row_through, NoneMakesOrEnds};
 
 /// The sectors that a client's area holds are those that the opening state and the client's own entries give.
@@ -46,4 +50,7 @@ pub fn own_entries_cover_an_append()
     ensures containers { (told : Bool) (s t : State) (journal : List Entry) (client number : ℕ) (draft : Draft) (have : ℕ)
         → IsValid s → IsLegal told journal s t → own (length draft.bytes) ≤ held_by s client (mine journal client) number
         → refusal t client (calls.Append number draft true []) ≡ Some (refusals.NotEnoughContainers have) → ⊥ }
+    ensures step { (told : Bool) (s t u : State) (journal : List Entry) (client number : ℕ) (draft : Draft) (happened : Happened) (given : Refusal)
+        → IsValid s → IsLegal told journal s t → own (length draft.bytes) ≤ held_by s client (mine journal client) number
+        → Step told t client (calls.Append number draft true []) happened (replies.Refused given) u → is_for_room given ≡ false }
 {}

@@ -5,15 +5,19 @@ ghost use Rattle.clfs_lsn.specs.Size.{own};
 ghost use Rattle.clfs_model.specs.declared.call.Call.{Call};
 ghost use Rattle.clfs_model.specs.declared.call.Call.TheVariants as calls;
 ghost use Rattle.clfs_model.specs.declared.call.Draft.{Draft};
+ghost use Rattle.clfs_model.specs.declared.refusal.Refusal.{Refusal};
 ghost use Rattle.clfs_model.specs.declared.refusal.Refusal.TheVariants as refusals;
+ghost use Rattle.clfs_model.specs.declared.reply.Happened.{Happened};
+ghost use Rattle.clfs_model.specs.declared.reply.Reply.TheVariants as replies;
 ghost use Rattle.clfs_model.specs.declared.state.State.{State};
 ghost use Rattle.clfs_model.specs.declared.state.Area.{Area};
 ghost use Rattle.clfs_model.specs.State.{area_of};
 ghost use Rattle.clfs_model.specs.Space.{own_sum, free, reserved, grown, has_room};
 ghost use Rattle.clfs_model.specs.Put.{need_of, spent_of};
 ghost use Rattle.clfs_model.specs.Refusals.{is_link, is_base, refusal};
+ghost use Rattle.clfs_model.specs.Step.{Step};
 ghost use Rattle.clfs_model.specs.Valid.{IsValid};
-ghost use Rattle.clfs_laws.specs.Needs.{needed_sectors, taken_sectors, area_number, held_if_there, first_too_long};
+ghost use Rattle.clfs_laws.specs.Needs.{needed_sectors, taken_sectors, area_number, held_if_there, first_too_long, is_for_room};
 
 /// In a state that a log can be in, the free sectors are at least the reserved ones.
 pub fn reserved_is_free()
@@ -29,6 +33,9 @@ pub fn full_where_no_room()
         → (needed_sectors call ≡ Some need) × ((has_room s need ≡ false) × ((of_free ≡ free (grown s need)) × (of_reserved ≡ reserved (grown s need)))) }
     ensures numbers { (s : State) (client : ℕ) (call : Call) (of_free of_reserved need : ℕ)
         → refusal s client call ≡ Some (refusals.Full of_free of_reserved need) → (of_free ≡ free s) × (of_reserved ≡ reserved s) }
+    ensures step { (told : Bool) (s : State) (client : ℕ) (call : Call) (happened : Happened) (of_free of_reserved need : ℕ) (t : State)
+        → Step told s client call happened (replies.Refused (refusals.Full of_free of_reserved need)) t
+        → (needed_sectors call ≡ Some need) × ((has_room s need ≡ false) × ((of_free ≡ free s) × (of_reserved ≡ reserved s))) }
     ensures room { (s : State) (client : ℕ) (call : Call) (need : ℕ)
         → refusal s client call ≡ None → needed_sectors call ≡ Some need → has_room s need ≡ true }
     ensures reserve { (s : State) (client number : ℕ) (area : Area) (sizes : List ℕ)
@@ -51,11 +58,30 @@ pub fn full_where_no_room()
         ≡ Some (refusals.Full (free s) (reserved s) (need_of spends (length bytes) [])) }
 {}
 
-/// A call is refused for what its area holds only where that is less than the call takes, and the refusal tells both.
+/// A call is refused for what its area holds exactly where that is less than the call takes and none of the tests before that refuses
+/// it, and the refusal tells both.
 pub fn short_where_less_is_held()
-    ensures { (s : State) (client : ℕ) (call : Call) (held need : ℕ)
+    ensures tells { (s : State) (client : ℕ) (call : Call) (held need : ℕ)
         → refusal s client call ≡ Some (refusals.ReservationShort held need)
         → (held ≡ held_if_there (area_of s client (area_number call))) × ((need ≡ taken_sectors call) × (held < need)) }
+    ensures step { (told : Bool) (s : State) (client : ℕ) (call : Call) (happened : Happened) (held need : ℕ) (t : State)
+        → Step told s client call happened (replies.Refused (refusals.ReservationShort held need)) t
+        → (held ≡ held_if_there (area_of s client (area_number call))) × ((need ≡ taken_sectors call) × (held < need)) }
+    ensures release { (s : State) (client number : ℕ) (area : Area) (sectors : ℕ)
+        → area_of s client number ≡ Some area → nat_lt area.held sectors ≡ true
+        → refusal s client (calls.Release number sectors) ≡ Some (refusals.ReservationShort area.held sectors) }
+    ensures append { (s : State) (client number : ℕ) (area : Area) (draft : Draft) (spends : Bool) (sizes : List ℕ)
+        → nat_lt s.containers 2 ≡ false → area_of s client number ≡ Some area → first_too_long area (length draft.bytes ∷ sizes) ≡ None
+        → is_link s area.stream draft.previous ≡ true → is_link s area.stream draft.undo_next ≡ true
+        → nat_lt area.held (spent_of spends (length draft.bytes)) ≡ true
+        → refusal s client (calls.Append number draft spends sizes)
+        ≡ Some (refusals.ReservationShort area.held (spent_of spends (length draft.bytes))) }
+    ensures restart { (s : State) (client number : ℕ) (area : Area) (bytes : List ℕ) (base : ℕ) (spends : Bool)
+        → nat_lt s.containers 2 ≡ false → area_of s client number ≡ Some area → first_too_long area (length bytes ∷ []) ≡ None
+        → ((base == null_lsn) || is_base s area.stream base) ≡ true
+        → nat_lt area.held (spent_of spends (length bytes)) ≡ true
+        → refusal s client (calls.WriteRestart number bytes base spends)
+        ≡ Some (refusals.ReservationShort area.held (spent_of spends (length bytes))) }
 {}
 
 /// A reserved append without sizes, whose sectors its area holds, is refused neither for space nor for what the area holds nor for
@@ -70,4 +96,7 @@ pub fn held_sectors_suffice()
     ensures containers { (s : State) (client number : ℕ) (area : Area) (draft : Draft) (have : ℕ)
         → IsValid s → area_of s client number ≡ Some area → own (length draft.bytes) ≤ area.held
         → refusal s client (calls.Append number draft true []) ≡ Some (refusals.NotEnoughContainers have) → ⊥ }
+    ensures step { (told : Bool) (s : State) (client number : ℕ) (area : Area) (draft : Draft) (happened : Happened) (given : Refusal) (t : State)
+        → IsValid s → area_of s client number ≡ Some area → own (length draft.bytes) ≤ area.held
+        → Step told s client (calls.Append number draft true []) happened (replies.Refused given) t → is_for_room given ≡ false }
 {}

@@ -1,4 +1,5 @@
 pub mod Limits
+pub mod Format
 pub mod Lsn
 pub mod Size
 pub mod Place

@@ -3,6 +3,7 @@
 use Rattle.std.specs.Prelude.{◌≡◌, ℕ, ◌+◌, ◌-◌, ◌^◌, ◌<◌, ◌≤◌, Bool, not, ◌||◌, ◌==◌, nat_lt, nat_le, if◌then◌else◌, List, [], ◌∷◌, ◌++◌, length, take, drop, slice_index, replicate, position, Option, Some, None, Result, Ok, Err}
 use Rattle.std.specs.Option.{option_map}
 use Rattle.byteorder.specs.Endian.{little_bytes, little_number}
+use Rattle.clfs_lsn.specs.Format.{record_header}
 use Rattle.clfs_lsn.specs.Size.{size}
 use Rattle.clfs_lsn.specs.declared.entry.LogEntry.{LogEntry}
 use Rattle.clfs_lsn.specs.declared.entry.Kind.{Kind}
@@ -15,7 +16,7 @@ kind_byte Restart = 2
 
 -- the zeros behind n bytes of data
 abbrev pub filling : ℕ → ℕ
-filling n = size n - (32 + n)
+filling n = size n - (record_header + n)
 
 -- the header: length (4 bytes), stream (2), kind (1), a zero, previous, undo-next and new base (8 each)
 abbrev pub header_bytes : LogEntry → List ℕ
@@ -82,7 +83,7 @@ header_fault lsn streams h =
 
 -- the first byte behind the data that isn't 0, counted from the record's first byte
 abbrev pub filling_fault : ℕ → List ℕ → Option ℕ
-filling_fault len bytes = option_map (λ at. 32 + len + at) (position (λ b. not (b == 0)) (take (filling len) (drop (32 + len) bytes)))
+filling_fault len bytes = option_map (λ at. record_header + len + at) (position (λ b. not (b == 0)) (take (filling len) (drop (record_header + len) bytes)))
 
 -- the record that a header and the bytes behind it stand for
 abbrev pub entry_of : ℕ → List ℕ → LogEntry
@@ -93,7 +94,7 @@ entry_of lsn bytes = let h = header_of bytes in record {
   previous = h.previous;
   undo_next = h.undo_next;
   new_base = h.new_base;
-  bytes = take h.len (drop 32 bytes);
+  bytes = take h.len (drop record_header bytes);
 }
 
 -- a check's wrong byte, or what comes where the check holds
@@ -106,6 +107,6 @@ unless_fault (Some at) read = Err at
 unfoldable pub record_at : ℕ → ℕ → List ℕ → Result (LogEntry × ℕ) ℕ
 record_at lsn streams bytes =
     let len = (header_of bytes).len in
-    if nat_lt (length bytes) 32 then Err 0
+    if nat_lt (length bytes) record_header then Err 0
     else if nat_lt (length bytes) (size len) then Err 0
     else unless_fault (header_fault lsn streams (header_of bytes)) (unless_fault (filling_fault len bytes) (Ok (entry_of lsn bytes, size len)))

@@ -7,6 +7,7 @@ use Rattle.std.specs.Result.{result_ok}
 use Rattle.std.specs.Str.{bytes_eq}
 use Rattle.std.specs.Str.Parse.{digits_value}
 use Rattle.hex.specs.Hex.{decode_of, encode_lower}
+use Rattle.clfs_lsn.specs.Format.{sector_bytes}
 use Rattle.clfs_lsn.specs.Lsn.{lsn_number, container_of, offset_of, sequence_of}
 
 -- lower-case hexadecimal digits without leading zeros
@@ -53,7 +54,7 @@ hex_number word = number_of_word is_lower_hex_digit 16 (2 ^ 32 - 1) word
 -- the LSN of a container, an offset and a sequence, where the last two can be those of an LSN
 abbrev pub lsn_of_parts : ℕ → ℕ → ℕ → Option ℕ
 lsn_of_parts container offset sequence =
-    if (offset % 512 == 0) && nat_le sequence 511 then Some (lsn_number container offset sequence) else None
+    if (offset % sector_bytes == 0) && nat_le sequence (sector_bytes - 1) then Some (lsn_number container offset sequence) else None
 
 -- the same of three numbers each of which may be missing
 abbrev pub lsn_of_numbers : Option ℕ → Option ℕ → Option ℕ → Option ℕ

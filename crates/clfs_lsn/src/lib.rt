@@ -1,6 +1,6 @@
 //! Log sequence numbers, sizes and places of records, and the plain types of the log.
 //!
-//! Everything else stands on this crate, so it keeps nothing and calls nothing: numbers go in and numbers come out. `Lsn`
+//! Most other crates stand on this one. It keeps no log and calls no disk: it has numbers, and bytes that it is given. `Lsn`
 //! names a record by its container, its block's offset and its position in the block. `Shape` says how large blocks and
 //! containers are, `Place` where the next record goes, and `place_after` is the one rule for it: the log appends by it, and
 //! whoever reads a log again finds each record at the LSN that the rule gave. The specs hold besides the calls' own
@@ -10,6 +10,7 @@
 
 mod bytes;
 mod entry;
+mod format;
 mod lsn;
 mod name;
 mod place;
@@ -19,6 +20,10 @@ mod sizes;
 
 pub use bytes::Bytes;
 pub use entry::{Kind, LogEntry};
+pub use format::{
+    BLOCK_HEADER, MOST_BLOCK_RECORDS, OPEN_GATE, RECORD_HEADER, SECTOR, SECTOR_PAYLOAD, sectors_of,
+    size_of_record,
+};
 pub use lsn::{Lsn, every_number_is_an_lsn};
 pub use name::Name;
 pub use place::{Place, frontier, place_after, sealed};

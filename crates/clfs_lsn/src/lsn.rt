@@ -3,6 +3,7 @@ ghost use Rattle.std.specs.Prelude.{◌≡◌, ◌+◌, ◌^◌, ◌<◌, ◌≤
 ghost use Rattle.clfs_lsn.specs.Lsn.{AreLsnParts, lsn_number, null_lsn, container_of, offset_of, sequence_of};
 ghost use Rattle.clfs_lsn.specs.Words.{lsn_text};
 
+use crate::format::SECTOR;
 use std::fmt;
 use std::marker::Model;
 
@@ -35,12 +36,21 @@ impl Lsn {
     pub fn create(container: u32, offset: u32, sequence: u32) -> Option<Lsn>
         ensures { SomeIff result (AreLsnParts offset sequence) (lsn_number container offset sequence) }
     {
-        if offset % 512 != 0 || sequence > 511 {
+        if offset % SECTOR != 0 || sequence >= SECTOR {
             return None;
         }
-        Some(Lsn {
-            number: container as u64 * (1 << 32) + offset as u64 + sequence as u64,
-        })
+        Some(Lsn::from_parts(container, offset, sequence))
+    }
+
+    /// The LSN of parts that don't run into each other. For those of an LSN it is the one that `create` gives; a caller who has made
+    /// them needs no test.
+    pub fn from_parts(container: u32, offset: u32, sequence: u32) -> Lsn
+        requires { offset + sequence < 2 ^ 32 }
+        ensures { result ≡ lsn_number container offset sequence }
+    {
+        Lsn {
+            number: ((container as u64) << 32) + offset as u64 + sequence as u64,
+        }
     }
 
     /// The LSN of a number.
@@ -71,7 +81,7 @@ impl Lsn {
         ensures created { (c o s : ℕ) → o < 2 ^ 32 → AreLsnParts o s → self ≡ lsn_number c o s → result ≡ o }
     {
         let low = self.number % (1 << 32);
-        (low / 512 * 512) as u32
+        (low - low % SECTOR as u64) as u32
     }
 
     /// The record's position in its block, from 0.
@@ -79,7 +89,7 @@ impl Lsn {
         ensures value { result ≡ sequence_of self }
         ensures created { (c o s : ℕ) → o < 2 ^ 32 → AreLsnParts o s → self ≡ lsn_number c o s → result ≡ s }
     {
-        (self.number % 512) as u32
+        (self.number % SECTOR as u64) as u32
     }
 
     /// The next number. None where there is no higher number of 64 bits.

@@ -1,18 +1,15 @@
 // Where the next record goes. A record joins the open block while that has room; else it begins a block behind it, or at the
 // start of the next container. So a block's records have the sequences 0, 1, 2 .. at one offset, and no block spans containers.
 ghost use Rattle.std.specs.Prelude.{◌≡◌, ◌+◌, ◌-◌, ◌*◌, ◌^◌, ◌<◌, ◌≤◌, false};
+ghost use Rattle.clfs_lsn.specs.Format.{sector_bytes, sector_payload};
+ghost use Rattle.clfs_lsn.specs.Limits.{most_block_sectors, most_container_sectors};
 ghost use Rattle.clfs_lsn.specs.Lsn.{lsn_number};
 ghost use Rattle.clfs_lsn.specs.Size.{IsShape, size, sectors, longest};
 ghost use Rattle.clfs_lsn.specs.Place.{IsWithin, IsSmall, joins, begins_here, begun, block_end, place_after, sealed, frontier};
 
+use crate::format::{BLOCK_HEADER, MOST_BLOCK_RECORDS, SECTOR, sectors_of, size_of_record};
 use crate::lsn::Lsn;
-use crate::shape::{BLOCK_HEADER, Shape, own, sectors_of, size_of_record};
-
-/// The bytes of a sector.
-const SECTOR: u32 = 512;
-
-/// The most records of a block.
-const MAX_RECORDS: u32 = 511;
+use crate::shape::{Shape, own};
 
 /// Where the next record goes.
 #[derive(Clone, Copy, Debug, PartialEq, Eq)]
@@ -39,7 +36,7 @@ pub fn place_after(shape: &Shape, place: &Place, len: u32) -> (Lsn, Place)
     let used = place.used + size_of_record(len) as u32;
     let sector = place.offset / SECTOR;
     if place.records >= 1
-        && place.records < MAX_RECORDS
+        && place.records < MOST_BLOCK_RECORDS
         && sectors_of(used as u64) as u32 <= shape.block_sectors
         && sectors_of(used as u64) as u32 <= shape.container_sectors - sector
     {
@@ -49,7 +46,10 @@ pub fn place_after(shape: &Shape, place: &Place, len: u32) -> (Lsn, Place)
             used,
             records: place.records + 1,
         };
-        return (lsn_at(place.container, place.offset, place.records), after);
+        return (
+            Lsn::from_parts(place.container, place.offset, place.records),
+            after,
+        );
     }
     let end = sector + sectors_of(place.used as u64) as u32;
     if own(len) <= shape.container_sectors - end {
@@ -61,9 +61,9 @@ pub fn place_after(shape: &Shape, place: &Place, len: u32) -> (Lsn, Place)
 
 // The LSN of the first record of a block, and the place after it.
 fn begun_at(container: u32, sector: u32, len: u32) -> (Lsn, Place)
-    requires sector { sector ≤ 16384 }
-    requires len { len ≤ 64512 }
-    ensures { result ≡ (lsn_number container (512 * sector) 0, begun container sector len) }
+    requires sector { sector ≤ most_container_sectors }
+    requires len { len ≤ sector_payload * most_block_sectors }
+    ensures { result ≡ (lsn_number container (sector_bytes * sector) 0, begun container sector len) }
 {
     let place = Place {
         container,
@@ -71,15 +71,7 @@ fn begun_at(container: u32, sector: u32, len: u32) -> (Lsn, Place)
         used: BLOCK_HEADER + size_of_record(len) as u32,
         records: 1,
     };
-    (lsn_at(container, SECTOR * sector, 0), place)
-}
-
-// The LSN of these parts, which are those of one.
-fn lsn_at(container: u32, offset: u32, sequence: u32) -> Lsn
-    requires { offset + sequence < 2 ^ 32 }
-    ensures { result ≡ lsn_number container offset sequence }
-{
-    Lsn::of_number(container as u64 * (1 << 32) + offset as u64 + sequence as u64)
+    (Lsn::from_parts(container, SECTOR * sector, 0), place)
 }
 
 /// The place once its block takes no more records.
@@ -101,5 +93,5 @@ pub fn frontier(place: &Place) -> Lsn
     requires { IsSmall place.now }
     ensures { result ≡ frontier place.now }
 {
-    lsn_at(place.container, place.offset, place.records)
+    Lsn::from_parts(place.container, place.offset, place.records)
 }

@@ -15,3 +15,50 @@ fn sizes_of_records_and_the_text_of_an_lsn(rt: HostRuntime) -> Result<(), Fail> 
     assert_eq!(rt; lsn.to_string(rt.alloc())?.as_str(), "3:400:5");
     Ok(())
 }
+
+#[test]
+fn parts_that_are_no_lsn(rt: HostRuntime) -> Result<(), Fail> {
+    for (offset, sequence) in [(1, 0), (256, 0), (511, 0), (0, 512), (512, 512)] {
+        assert!(rt;
+            Lsn::create(1, offset, sequence).is_none(),
+            "{offset} {sequence}"
+        );
+    }
+    let last = Lsn::create(u32::MAX, 0xffff_fe00, 511).ok_or("the highest LSN")?;
+    assert!(rt; last == Lsn::of_number(u64::MAX));
+    assert!(rt; last.next().is_none());
+    Ok(())
+}
+
+#[test]
+fn places_of_records(rt: HostRuntime) -> Result<(), Fail> {
+    let shape = Shape {
+        block_sectors: 2,
+        container_sectors: 8,
+    };
+    let mut place = Place {
+        container: 1,
+        offset: 0,
+        used: 0,
+        records: 0,
+    };
+    // The last of these doesn't fit into the one sector that is left of the container.
+    for (len, want) in [
+        (1, "1:0:0"),
+        (1, "1:0:1"),
+        (960, "1:200:0"),
+        (960, "1:600:0"),
+        (960, "1:a00:0"),
+        (960, "2:0:0"),
+    ] {
+        let (lsn, after) = place_after(&shape, &place, len);
+        assert_eq!(rt; lsn.to_string(rt.alloc())?.as_str(), want);
+        place = after;
+    }
+    let behind = sealed(&place);
+    assert_eq!(rt;
+        frontier(&behind).to_string(rt.alloc())?.as_str(),
+        "2:400:0"
+    );
+    Ok(())
+}

@@ -2,6 +2,7 @@
 use Rattle.std.specs.Prelude.{ℕ, ◌+◌, ◌-◌, ◌*◌, Bool, ◌&&◌, ◌==◌, nat_lt, nat_le, List, [], filter, length, sum_by, Option, None, slice_get}
 use Rattle.std.specs.List.{range_with_len, filter_map, last_or}
 use Rattle.std.specs.Option.{option_map_or, option_map}
+use Rattle.clfs_lsn.specs.Format.{sector_bytes, block_header}
 use Rattle.clfs_lsn.specs.Lsn.{container_of, offset_of}
 use Rattle.clfs_lsn.specs.Size.{size, sectors}
 use Rattle.clfs_lsn.specs.declared.entry.LogEntry.{LogEntry}
@@ -16,11 +17,11 @@ is_in_block lsn other = (container_of lsn == container_of other) && (offset_of l
 -- the bytes of payload of a record's block: its header, and the sizes of its records
 abbrev pub block_payload : List LogEntry → ℕ → ℕ
 block_payload records lsn =
-    16 + sum_by (λ (entry : LogEntry). size (length entry.bytes)) (filter (λ (entry : LogEntry). is_in_block entry.lsn lsn) records)
+    block_header + sum_by (λ (entry : LogEntry). size (length entry.bytes)) (filter (λ (entry : LogEntry). is_in_block entry.lsn lsn) records)
 
 -- the offset behind a record's block
 abbrev pub end_of_block : List LogEntry → ℕ → ℕ
-end_of_block records lsn = offset_of lsn + 512 * sectors (block_payload records lsn)
+end_of_block records lsn = offset_of lsn + sector_bytes * sectors (block_payload records lsn)
 
 -- the records at or above the tail in flushed blocks of a container
 abbrev pub archived_in : State → ℕ → ℕ → List LogEntry

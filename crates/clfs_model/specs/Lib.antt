@@ -13,6 +13,7 @@ pub mod Valid
 pub mod Conditions
 pub mod Storable
 pub mod Step
+pub mod Ways
 pub mod Run
 pub mod Lines
 pub mod Script

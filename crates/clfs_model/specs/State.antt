@@ -9,7 +9,8 @@ use Rattle.clfs_model.specs.declared.state.State.{State}
 use Rattle.clfs_model.specs.declared.state.Stream.{Stream}
 use Rattle.clfs_model.specs.declared.state.Area.{Area}
 
--- a log that has just been made: one empty container with the id 1, and nothing else
+-- A log that has just been made: its place is the first byte of the container with the id 1, and of its other containers none is in use
+-- yet. It has no streams, records, areas or policies, and archiving is off.
 abbrev pub fresh : Shape → ℕ → ℕ → State
 fresh shape containers buffers = record {
   shape = shape;

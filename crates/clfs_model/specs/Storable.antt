@@ -1,6 +1,7 @@
 -- The states whose flushed part the files of a log can hold, and everything in which fits its type. A state that is reached is valid
 -- and such a state too: the one says what the machine's answers rest on, the other what writing, opening and printing rest on.
 use Rattle.std.specs.Prelude.{◌≡◌, ℕ, ◌*◌, ◌/◌, ◌+◌, ◌<◌, ◌≤◌, ◌^◌, ◌==◌, ◌⊎◌, if◌then◌else◌, All, List, [], ◌∷◌, length, Some, None}
+use Rattle.clfs_lsn.specs.Format.{sector_bytes}
 use Rattle.clfs_lsn.specs.Limits.{most_streams, most_areas, most_cursors}
 use Rattle.clfs_lsn.specs.Lsn.{lsn_number, container_of, offset_of, sequence_of}
 use Rattle.clfs_lsn.specs.Size.{size}
@@ -35,7 +36,7 @@ before_all = record { container = 0; offset = 0; used = 0; records = 0 }
 abbrev pub behind : Place → LogEntry → Place
 behind place entry =
     if sequence_of entry.lsn == 0
-    then begun (container_of entry.lsn) (offset_of entry.lsn / 512) (length entry.bytes)
+    then begun (container_of entry.lsn) (offset_of entry.lsn / sector_bytes) (length entry.bytes)
     else record place { used = place.used + size (length entry.bytes); records = place.records + 1 }
 
 -- the place behind all these records
@@ -47,7 +48,7 @@ behind_all place (entry ∷ entries) = behind_all (behind place entry) entries
 abbrev pub LiesBehind : Place → LogEntry → Type 0
 LiesBehind place entry =
     ((1 ≤ place.records) × (entry.lsn ≡ frontier place))
-    ⊎ ((entry.lsn ≡ lsn_number place.container (512 * block_end place) 0)
+    ⊎ ((entry.lsn ≡ lsn_number place.container (sector_bytes * block_end place) 0)
     ⊎ ((place.container < container_of entry.lsn) × (entry.lsn ≡ lsn_number (container_of entry.lsn) 0 0)))
 
 -- The records lie one behind the other, and each block is within its container, no longer than a block may be and as long as its

@@ -2,8 +2,8 @@
 //!
 //! A reader who wants to know what the log promises reads `specs/` in the order of `specs/Lib.antt`, without a proof. The
 //! definitions keep one list of all records and filter it; the crates above keep blocks, files, indexes and totals, and
-//! prove that what they answer is what the machine answers. `State` is the type that contracts speak of: nothing here makes
-//! a value of it.
+//! prove that what they answer is what the machine answers. `State` is the type that contracts speak of: no function here
+//! makes a value of it.
 #![tactic(auto)]
 
 mod call;
@@ -17,7 +17,7 @@ mod state;
 pub use call::{Call, Draft, Mode};
 pub use info::{Extent, Extents, LogInfo};
 pub use journal::{Entry, Journal};
-pub use laws::calm_replies_are_a_run;
+pub use laws::{calm_replies_are_a_run, ways_of_a_step};
 pub use refusal::Refusal;
 pub use reply::{Happened, Reply};
 pub use state::{Area, Cursor, CursorKind, State, Stream};

@@ -1,4 +1,5 @@
-// The state of the log machine, as contracts see it. No value of it is made: the manager keeps indexes and totals instead.
+// The state of the log machine, as contracts see it. A program that keeps a log needn't make a value of it: it may keep indexes and
+// totals, and say which state they stand for.
 
 use crate::call::Mode;
 use clfs_lsn::{LogEntry, Lsn, Name, Place, Shape};

@@ -1,4 +1,4 @@
-// What reaches the disk and what takes memory, which decides what a call may be answered; and what comes of a fault.
+// Which calls reach the disk, so that a fault may come of them.
 ghost use Rattle.std.specs.Prelude.{◌≡◌, [], ◌∷◌, ◌++◌, codes, false, true};
 ghost use Rattle.clfs_rows.specs.Reach.{reaches_disk};
 ghost use Rattle.clfs_rows.specs.Worked.{◌⟹◌, opening, append_of_zeros};

@@ -3,6 +3,7 @@ use Rattle.std.proofs.Common.{sym, subst, refl}
 use Rattle.std.specs.Prelude.{length}
 use Rattle.clfs_model.specs.declared.state.Area.{Area}
 use Rattle.clfs_laws.proofs.Room.{never_full, never_short, never_few}
+use Rattle.clfs_laws.proofs.RoomOfSteps.{covered_step}
 use Rattle.clfs_laws.proofs.ValidRuns.{valid_journal, holds_enough}
 use Rattle.clfs_laws.proofs.areas.own_entries_cover_an_append.Goals as goal
 
@@ -26,3 +27,8 @@ pub returns-clause-containers : goal.returns-clause-containers
 returns-clause-containers c = λ told s t journal client number draft have valid legal enough refused.
     let has = holds_enough told s t journal client number (length draft.bytes) legal enough in
     never_few t client number has.area draft have (valid_journal told s t journal legal valid) has.there has.enough refused
+
+pub returns-clause-step : goal.returns-clause-step
+returns-clause-step c = λ told s t u journal client number draft happened given valid legal enough step.
+    let has = holds_enough told s t journal client number (length draft.bytes) legal enough in
+    covered_step told t client number has.area draft happened given u (valid_journal told s t journal legal valid) has.there has.enough step

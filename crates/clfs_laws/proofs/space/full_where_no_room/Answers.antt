@@ -1,5 +1,6 @@
 use Rattle.clfs_laws.proofs.Room.{full_told, full_as_it_is, room_told}
 use Rattle.clfs_laws.proofs.Fullness.{full_reserve, full_append, full_restart}
+use Rattle.clfs_laws.proofs.RoomOfSteps.{full_step}
 use Rattle.clfs_laws.proofs.space.full_where_no_room.Goals as goal
 
 pub returns-clause-no_room : goal.returns-clause-no_room
@@ -19,3 +20,6 @@ returns-clause-append c = full_append
 
 pub returns-clause-restart : goal.returns-clause-restart
 returns-clause-restart c = full_restart
+
+pub returns-clause-step : goal.returns-clause-step
+returns-clause-step c = full_step

@@ -9,7 +9,6 @@ use Rattle.clfs_model.specs.declared.state.CursorKind.TheVariants.{Records}
 use Rattle.clfs_model.specs.Live.{live_at}
 use Rattle.clfs_model.specs.Reading.{unused_cursor}
 use Rattle.clfs_model.specs.Step.{Step}
-use Rattle.clfs_model.proofs.Ways.{no_memory}
 use Rattle.clfs_engine.specs.TwoLines.{read_call}
 use Rattle.clfs_engine.specs.MemoryLog.{state_with}
 use Rattle.clfs_engine.proofs.ReadSteps.{live_at_is, nonexistent_step, cursor_limit_step, found_step, found_lsn}
@@ -18,7 +17,7 @@ use Rattle.clfs_engine.proofs.log.MemoryLog.read.Goals as goal
 pub returns-in_default-clause-step : goal.returns-in_default-clause-step
 returns-in_default-clause-step c =
     let i = c.self.inside in
-    rw (← c.self.view_is) (nonexistent_step i.entries.items i.place i.waiting.items i.cursors.items c.args.lsn
+    rw (← c.self.view_is) (nonexistent_step c.ways_of_a_step.ensures i.entries.items i.place i.waiting.items i.cursors.items c.args.lsn
     (live_at_is i.entries.items i.place i.waiting.items i.cursors.items c.args.lsn c.self.invariant.entries
     ∙ rw c.deref.ensures.value at (sym c.in_default.ensures)))
 
@@ -27,7 +26,7 @@ returns-then-len-ge-READS-clause-step c =
     let i = c.self.inside in
     let count : c.len-then-len-ge-READS.result ≡ length i.cursors.items = omega arith in
     let full : 4 ≤ length i.cursors.items = omega arith in
-    rw (← c.self.view_is, count) (cursor_limit_step i.entries.items i.place i.waiting.items i.cursors.items c.args.lsn c.in-Some.entry.now
+    rw (← c.self.view_is, count) (cursor_limit_step c.ways_of_a_step.ensures i.entries.items i.place i.waiting.items i.cursors.items c.args.lsn c.in-Some.entry.now
     (live_at_is i.entries.items i.place i.waiting.items i.cursors.items c.args.lsn c.self.invariant.entries
     ∙ rw c.deref.ensures.value at (sym c.in-Some.ensures)) full)
 
@@ -42,7 +41,7 @@ returns-clause-step c =
     rw (c.in_ok-push.ensures.items, number) refl in
     let step : Step true c.args.self.now 1 (read_call c.args.lsn) Fine (replies.Found (unused_cursor i.cursors.items) entry)
     (state_with i.entries.items i.place i.waiting.items (i.cursors.items ++ record { number = unused_cursor i.cursors.items; kind = Records Forward; last = c.args.lsn } ∷ [])) =
-    rw (← c.self.view_is) (found_step i.entries.items i.place i.waiting.items i.cursors.items c.args.lsn entry
+    rw (← c.self.view_is) (found_step c.ways_of_a_step.ensures i.entries.items i.place i.waiting.items i.cursors.items c.args.lsn entry
     (live_at_is i.entries.items i.place i.waiting.items i.cursors.items c.args.lsn c.self.invariant.entries ∙ there)
     (found_lsn c.args.lsn i.entries.items entry there) room) in
     rw (more, number, c.in_ok-entry.ensures) step
@@ -50,9 +49,9 @@ returns-clause-step c =
 pub returns-in_err-entry-clause-step : goal.returns-in_err-entry-clause-step
 returns-in_err-entry-clause-step c =
     let p = err_from_is_err_and c.from_residual.result c.from_residual.ensures.1 in
-    rw (p.1, p.2, ← c.self.view_is) (no_memory _ _ 1 (read_call c.args.lsn) Fine refl refl)
+    rw (p.1, p.2, ← c.self.view_is) (c.ways_of_a_step.ensures.no_memory _ _ 1 (read_call c.args.lsn) Fine refl refl)
 
 pub returns-in_err-push-clause-step : goal.returns-in_err-push-clause-step
 returns-in_err-push-clause-step c =
     let p = err_from_is_err_and c.from_residual-in_err-push.result c.from_residual-in_err-push.ensures.1 in
-    rw (p.1, p.2, c.in_err-push.ensures.items, ← c.self.view_is) (no_memory _ _ 1 (read_call c.args.lsn) Fine refl refl)
+    rw (p.1, p.2, c.in_err-push.ensures.items, ← c.self.view_is) (c.ways_of_a_step.ensures.no_memory _ _ 1 (read_call c.args.lsn) Fine refl refl)
