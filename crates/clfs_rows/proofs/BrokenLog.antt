@@ -28,7 +28,8 @@ broken_answers_broken told s client call happened reply t broken step = first_wh
 
 -- a step that is answered with a fault is no want of memory
 of_fault : (told : Bool) (s : State) (client : ℕ) (call : Call) (t : State)
-    → (IsTrue (takes_memory call) × IsOutOfMemory s (replies.Refused refusals.DiskFault) t) ⊎ Goes told s client call Fault (replies.Refused refusals.DiskFault) t
+    → (IsTrue (takes_memory call) × IsOutOfMemory s (replies.Refused refusals.DiskFault) t) ⊎ Goes told s client call Fault
+    (replies.Refused refusals.DiskFault) t
     → t ≡ with_broken s
 of_fault told s client call t (inl (takes, (wants, same))) = absurd (cc)
 of_fault told s client call t (inr (allowed, (calls, (answered, broken)))) = broken
@@ -41,7 +42,8 @@ fault_breaks told s client call t whole step = of_fault told s client call t (se
 
 -- a fault comes only of a call that isn't refused and that makes a call on the disk
 causes_of_fault : (told : Bool) (s : State) (client : ℕ) (call : Call) (t : State)
-    → (IsTrue (takes_memory call) × IsOutOfMemory s (replies.Refused refusals.DiskFault) t) ⊎ Goes told s client call Fault (replies.Refused refusals.DiskFault) t
+    → (IsTrue (takes_memory call) × IsOutOfMemory s (replies.Refused refusals.DiskFault) t) ⊎ Goes told s client call Fault
+    (replies.Refused refusals.DiskFault) t
     → (refusal s client call ≡ None) × IsTrue (calls_disk s call)
 causes_of_fault told s client call t (inl (takes, (wants, same))) = absurd (cc)
 causes_of_fault told s client call t (inr (allowed, (calls, (answered, broken)))) = (allowed, calls)
@@ -77,7 +79,8 @@ of_opening_fault told s t (inl (wants, same)) = absurd (cc)
 of_opening_fault told s t (inr (answered, broken)) = broken
 
 -- a fault in opening anew leaves the log broken
-pub opening_fault_breaks : (told : Bool) (s t : State) → s.broken ≡ false → ReopenStep told s Fault (replies.Refused refusals.DiskFault) t → t ≡ with_broken s
+pub opening_fault_breaks : (told : Bool) (s t : State) → s.broken ≡ false → ReopenStep told s Fault (replies.Refused refusals.DiskFault) t → t
+    ≡ with_broken s
 unfolding ReopenStep
 opening_fault_breaks told s t whole step = of_opening_fault told s t (second_where_false s.broken _ _ whole step)
 

@@ -29,7 +29,8 @@ pub record Tested (reply : Reply) : Type 0 where
 abbrev record_read : (stable : ℕ) (entry read : LogEntry) → Decision (IsRecordRead stable entry read)
 record_read stable entry read = matches (nat_lt entry.lsn stable) (equal read.lsn entry.lsn) (same_entry read entry)
 
-abbrev matches_option : {X : Type 0} {P : Type 0} {Q : X → Type 0} → (found : Option X) → Decision P → ((x : X) → Decision (Q x)) → Decision (MatchOption found P Q)
+abbrev matches_option : {X : Type 0} {P : Type 0} {Q : X → Type 0} → (found : Option X) → Decision P → ((x : X) → Decision (Q x)) → Decision
+    (MatchOption found P Q)
 matches_option None p q = p
 matches_option (Some x) p q = q x
 
@@ -40,16 +41,19 @@ abbrev Cases : Bool → State → ℕ → Call → Reply → State → Type 0
 Cases told s client call reply t = MatchBool s.broken (IsBroken s reply t)
     ((IsTrue (takes_memory call) × IsOutOfMemory s reply t) ⊎ Goes told s client call Fine reply t)
 
-pub step_of_cases : (told : Bool) (s : State) (client : ℕ) (call : Call) (reply : Reply) (t : State) → Cases told s client call reply t → Step told s client call Fine reply t
+pub step_of_cases : (told : Bool) (s : State) (client : ℕ) (call : Call) (reply : Reply) (t : State) → Cases told s client call reply t
+    → Step told s client call Fine reply t
 unfolding Step
 step_of_cases told s client call reply t cases = cases
 
-pub cases_of_step : (told : Bool) (s : State) (client : ℕ) (call : Call) (reply : Reply) (t : State) → Step told s client call Fine reply t → Cases told s client call reply t
+pub cases_of_step : (told : Bool) (s : State) (client : ℕ) (call : Call) (reply : Reply) (t : State) → Step told s client call Fine reply t
+    → Cases told s client call reply t
 unfolding Step
 cases_of_step told s client call reply t step = step
 
 -- a call that may be answered with this reply, and may leave this state, where nothing happens
-abbrev pub steps : (told : Bool) (s : State) (client : ℕ) (call : Call) (reply : Reply) (t : State) → Tested reply → Decision (Step told s client call Fine reply t)
+abbrev pub steps : (told : Bool) (s : State) (client : ℕ) (call : Call) (reply : Reply) (t : State) → Tested reply → Decision
+    (Step told s client call Fine reply t)
 steps told s client call reply t tested = like (step_of_cases told s client call reply t) (cases_of_step told s client call reply t)
     (matches s.broken (both (tested.is (replies.Refused refusals.Broken)) (same_state t s))
     (either (both (alike (takes_memory call) true) (both (tested.is (replies.Refused refusals.NoMemory)) (same_state t s)))
@@ -68,7 +72,8 @@ abbrev is_that_found : ℕ → LogEntry → Reply → Bool
 is_that_found cursor entry (replies.Found other given) = (both (equal cursor other) (same_entry entry given)).0
 is_that_found cursor entry _ = false
 
-pub found_decides : (cursor : ℕ) (entry : LogEntry) (answered : Reply) → Decides (is_that_found cursor entry answered) (replies.Found cursor entry ≡ answered)
+pub found_decides : (cursor : ℕ) (entry : LogEntry) (answered : Reply) → Decides (is_that_found cursor entry answered)
+    (replies.Found cursor entry ≡ answered)
 found_decides cursor entry (replies.Found other given) =
     (like (same_found cursor other entry given) (of_same_found cursor other entry given) (both (equal cursor other) (same_entry entry given))).1
 found_decides cursor entry _ = (λ e. wrong e, λ e. absurd (cc))
@@ -122,7 +127,8 @@ may_be_found cursor entry stable _ = false
 pub reading_found_decides : (cursor : ℕ) (entry : LogEntry) (stable : ℕ) (answered : Reply)
     → Decides (may_be_found cursor entry stable answered) (IsReplyRead stable answered (replies.Found cursor entry))
 reading_found_decides cursor entry stable (replies.Found other given) =
-    (like (read_found stable cursor other entry given) (of_read_found stable cursor other entry given) (both (record_read stable given entry) (equal cursor other))).1
+    (like (read_found stable cursor other entry given) (of_read_found stable cursor other entry given)
+    (both (record_read stable given entry) (equal cursor other))).1
 reading_found_decides cursor entry stable (replies.Next given) = (λ e. wrong e, λ read. absurd (cc))
 reading_found_decides cursor entry stable _ = (λ e. wrong e, λ e. absurd (cc))
 
@@ -133,12 +139,14 @@ may_be_next entry stable _ = false
 
 pub reading_next_decides : (entry : LogEntry) (stable : ℕ) (answered : Reply)
     → Decides (may_be_next entry stable answered) (IsReplyRead stable answered (replies.Next entry))
-reading_next_decides entry stable (replies.Next given) = (like (read_next stable entry given) (of_read_next stable entry given) (record_read stable given entry)).1
+reading_next_decides entry stable (replies.Next given) = (like (read_next stable entry given) (of_read_next stable entry given)
+    (record_read stable given entry)).1
 reading_next_decides entry stable (replies.Found other given) = (λ e. wrong e, λ read. absurd (cc))
 reading_next_decides entry stable _ = (λ e. wrong e, λ e. absurd (cc))
 
 -- whether a reply may be read as this LSN of a new record
-pub reading_placed_decides : (lsn stable : ℕ) (answered : Reply) → Decides (is_that_placed lsn answered) (IsReplyRead stable answered (replies.Placed lsn))
+pub reading_placed_decides : (lsn stable : ℕ) (answered : Reply) → Decides (is_that_placed lsn answered)
+    (IsReplyRead stable answered (replies.Placed lsn))
 reading_placed_decides lsn stable (replies.Placed given) = placed_decides lsn (replies.Placed given)
 reading_placed_decides lsn stable (replies.Found other given) = (λ e. wrong e, λ read. absurd (cc))
 reading_placed_decides lsn stable (replies.Next given) = (λ e. wrong e, λ read. absurd (cc))

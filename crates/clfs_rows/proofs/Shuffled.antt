@@ -14,7 +14,8 @@ HasCalls journal script = map (λ (entry : Entry). entry.call) (mine journal scr
 abbrev pub HasScript : List ClientScript → Entry → Type 0
 HasScript scripts entry = Contains (map (λ (script : ClientScript). script.client) scripts) entry.client
 
-pub shuffles : (journal : List Entry) (scripts : List ClientScript) → AllByRecursion (HasCalls journal) scripts → AllByRecursion (HasScript scripts) journal
+pub shuffles : (journal : List Entry) (scripts : List ClientScript) → AllByRecursion (HasCalls journal) scripts → AllByRecursion
+    (HasScript scripts) journal
     → IsShuffle journal scripts
 shuffles journal scripts each none_else = record {
   each = All-from_recursion (HasCalls journal) scripts each;
@@ -23,4 +24,5 @@ shuffles journal scripts each none_else = record {
 
 -- the only client that has a script
 pub is_the_only : (only client : ℕ) → Contains (only ∷ []) client → client ≡ only
-is_the_only only client has = All-contains (λ other. other ≡ only) (only ∷ []) client (All-cons (λ other. other ≡ only) only [] refl (All-nil (λ other. other ≡ only))) has
+is_the_only only client has = All-contains (λ other. other ≡ only) (only ∷ []) client
+    (All-cons (λ other. other ≡ only) only [] refl (All-nil (λ other. other ≡ only))) has

@@ -144,7 +144,9 @@ is_client client = like (is_client_of_parts client) (parts_of_is_client client)
     (at_most client most_clients))
 
 abbrev IsAreaWithinLimitsParts : State → Area → Type 0
-IsAreaWithinLimitsParts s area = (IsClient area.client) × ((1 ≤ area.number) × ((area.number ≤ most_areas) × ((1 ≤ area.reads) × ((area.reads ≤ most_cursors) × ((length area.cursors ≤ area.reads) × (All (IsCursor s area) area.cursors))))))
+IsAreaWithinLimitsParts s area = (IsClient area.client) × ((1 ≤ area.number) ×
+    ((area.number ≤ most_areas) × ((1 ≤ area.reads) × ((area.reads ≤ most_cursors) ×
+    ((length area.cursors ≤ area.reads) × (All (IsCursor s area) area.cursors))))))
 
 pub is_area_within_limits_of_parts : (s : State) (area : Area) → IsAreaWithinLimitsParts s area → IsAreaWithinLimits s area
 is_area_within_limits_of_parts s area p = record {
@@ -178,7 +180,8 @@ of_client client areas = filter (λ (area : Area). area.client == client) areas
 abbrev FewWith : List Area → Area → Type 0
 FewWith all area = length (of_client area.client all) ≤ most_areas
 
-few_or_none : (all areas : List Area) (client : ℕ) → All (FewWith all) areas → (length (of_client client all) ≤ most_areas) ⊎ (of_client client areas ≡ [])
+few_or_none : (all areas : List Area) (client : ℕ) → All (FewWith all) areas → (length (of_client client all) ≤ most_areas) ⊎
+    (of_client client areas ≡ [])
 few_or_none all [] client few = inr refl
 few_or_none all (area ∷ areas) client few = by_client (area.client == client) refl (few_or_none all areas client (All-tail (FewWith all) area areas few))
   where
@@ -190,7 +193,8 @@ few_or_none all (area ∷ areas) client few = by_client (area.client == client) 
         inl (subst F same (All-head (FewWith all) area areas few))
     by_client false e rest = rw e rest
 
-few_where_none : (areas : List Area) (client : ℕ) → (length (of_client client areas) ≤ most_areas) ⊎ (of_client client areas ≡ []) → length (of_client client areas) ≤ most_areas
+few_where_none : (areas : List Area) (client : ℕ) → (length (of_client client areas) ≤ most_areas) ⊎ (of_client client areas ≡ []) → length
+    (of_client client areas) ≤ most_areas
 few_where_none areas client (inl few) = few
 few_where_none areas client (inr none) = rw none (omega arith)
 
@@ -204,7 +208,8 @@ abbrev pub few_areas : (s : State) → Decision ((client : ℕ) → length (area
 few_areas s = like (few_of_each s) (few_of_those s) (each (λ (area : Area). at_most (length (of_client area.client s.areas)) most_areas) s.areas)
 
 abbrev IsWithinLimitsParts : State → Type 0
-IsWithinLimitsParts s = (All (λ (stream : Stream). name_fault stream.name ≡ None) s.streams) × ((length s.streams ≤ most_streams) × (((client : ℕ) → length (areas_of s client) ≤ most_areas) × (All (IsAreaWithinLimits s) s.areas)))
+IsWithinLimitsParts s = (All (λ (stream : Stream). name_fault stream.name ≡ None) s.streams) ×
+    ((length s.streams ≤ most_streams) × (((client : ℕ) → length (areas_of s client) ≤ most_areas) × (All (IsAreaWithinLimits s) s.areas)))
 
 pub is_within_limits_of_parts : (s : State) → IsWithinLimitsParts s → IsWithinLimits s
 is_within_limits_of_parts s p = record {

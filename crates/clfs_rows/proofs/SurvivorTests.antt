@@ -42,7 +42,8 @@ has_bases s x = each_number (λ stream. equal (base_of x stream) (base_of s stre
 pub past_both : (s s2 x : State) (stream : ℕ) → bound_of s x ≤ stream → (base_of x stream ≡ base_of s stream) ⊎ (base_of x stream ≡ base_of s2 stream)
 past_both s s2 x stream over = inl (past_bases s x stream over)
 
-abbrev pub has_old_or_new_bases : (s s2 x : State) → Decision ((stream : ℕ) → (base_of x stream ≡ base_of s stream) ⊎ (base_of x stream ≡ base_of s2 stream))
+abbrev pub has_old_or_new_bases : (s s2 x : State) → Decision ((stream : ℕ) → (base_of x stream ≡ base_of s stream) ⊎
+    (base_of x stream ≡ base_of s2 stream))
 has_old_or_new_bases s s2 x = each_number
     (λ stream. either (equal (base_of x stream) (base_of s stream)) (equal (base_of x stream) (base_of s2 stream))) (bound_of s x) (past_both s s2 x)
 

@@ -26,7 +26,8 @@ use Rattle.clfs_rows.proofs.Decisions.{Decision, like, both, either, implies, re
 use Rattle.clfs_rows.proofs.SameStates.{same_numbers, same_kinds}
 
 abbrev IsShapeParts : Shape → Type 0
-IsShapeParts shape = (1 ≤ shape.block_sectors) × ((shape.block_sectors ≤ most_block_sectors) × ((2 * shape.block_sectors ≤ shape.container_sectors) × (shape.container_sectors ≤ most_container_sectors)))
+IsShapeParts shape = (1 ≤ shape.block_sectors) × ((shape.block_sectors ≤ most_block_sectors) ×
+    ((2 * shape.block_sectors ≤ shape.container_sectors) × (shape.container_sectors ≤ most_container_sectors)))
 
 pub is_shape_of_parts : (shape : Shape) → IsShapeParts shape → IsShape shape
 is_shape_of_parts shape p = record {
@@ -47,7 +48,8 @@ is_shape shape = like (is_shape_of_parts shape) (parts_of_is_shape shape)
     (at_most shape.container_sectors most_container_sectors))))
 
 abbrev IsOpenParts : Shape → Place → Type 0
-IsOpenParts shape place = (1 ≤ place.records) × ((place.records ≤ most_block_records) × ((1 ≤ sectors place.used) × (sectors place.used ≤ shape.block_sectors)))
+IsOpenParts shape place = (1 ≤ place.records) × ((place.records ≤ most_block_records) ×
+    ((1 ≤ sectors place.used) × (sectors place.used ≤ shape.block_sectors)))
 
 pub is_open_of_parts : (shape : Shape) (place : Place) → IsOpenParts shape place → IsOpen shape place
 is_open_of_parts shape place p = record {
@@ -68,7 +70,8 @@ is_open shape place = like (is_open_of_parts shape place) (parts_of_is_open shap
     (at_most (sectors place.used) shape.block_sectors))))
 
 abbrev IsWithinParts : Shape → Place → Type 0
-IsWithinParts shape place = (1 ≤ place.container) × ((place.offset % 512 ≡ 0) × ((block_end place ≤ shape.container_sectors) × (IsClosed place ⊎ IsOpen shape place)))
+IsWithinParts shape place = (1 ≤ place.container) × ((place.offset % 512 ≡ 0) ×
+    ((block_end place ≤ shape.container_sectors) × (IsClosed place ⊎ IsOpen shape place)))
 
 pub is_within_of_parts : (shape : Shape) (place : Place) → IsWithinParts shape place → IsWithin shape place
 is_within_of_parts shape place p = record {
@@ -89,7 +92,8 @@ is_within shape place = like (is_within_of_parts shape place) (parts_of_is_withi
     (either (both (equal place.used 0) (equal place.records 0)) (is_open shape place)))))
 
 abbrev HasRangesParts : State → Type 0
-HasRangesParts s = (IsShape s.shape) × ((1 ≤ s.containers) × ((s.containers ≤ most_containers) × ((1 ≤ s.buffers) × ((s.buffers ≤ most_write_buffers) × (IsWithin s.shape s.place)))))
+HasRangesParts s = (IsShape s.shape) × ((1 ≤ s.containers) × ((s.containers ≤ most_containers) ×
+    ((1 ≤ s.buffers) × ((s.buffers ≤ most_write_buffers) × (IsWithin s.shape s.place)))))
 
 pub has_ranges_of_parts : (s : State) → HasRangesParts s → HasRanges s
 has_ranges_of_parts s p = record {
@@ -114,7 +118,9 @@ has_ranges s = like (has_ranges_of_parts s) (parts_of_has_ranges s)
     (is_within s.shape s.place))))))
 
 abbrev HasPoliciesParts : State → Type 0
-HasPoliciesParts s = (IfSome s.maximum (λ most. (2 ≤ most) × (most ≤ most_containers))) × ((IfSome s.minimum (λ least. (2 ≤ least) × (least ≤ most_containers))) × ((IfSome s.maximum (λ most. IfSome s.minimum (λ least. least ≤ most))) × (IfSome s.growth (λ rate. (1 ≤ rate) × (rate ≤ greatest_rate)))))
+HasPoliciesParts s = (IfSome s.maximum (λ most. (2 ≤ most) × (most ≤ most_containers))) ×
+    ((IfSome s.minimum (λ least. (2 ≤ least) × (least ≤ most_containers))) ×
+    ((IfSome s.maximum (λ most. IfSome s.minimum (λ least. least ≤ most))) × (IfSome s.growth (λ rate. (1 ≤ rate) × (rate ≤ greatest_rate)))))
 
 pub has_policies_of_parts : (s : State) → HasPoliciesParts s → HasPolicies s
 has_policies_of_parts s p = record {
@@ -135,7 +141,8 @@ has_policies s = like (has_policies_of_parts s) (parts_of_has_policies s)
     (where_some (λ rate. both (at_most 1 rate) (at_most rate greatest_rate)) s.growth))))
 
 abbrev IsAreaOfParts : State → Area → Type 0
-IsAreaOfParts s area = (IsSome (stream_at s area.stream)) × ((area.largest ≤ longest s.shape) × (AllPairs (λ (a b : Cursor). a.number ≢ b.number) area.cursors))
+IsAreaOfParts s area = (IsSome (stream_at s area.stream)) × ((area.largest ≤ longest s.shape) ×
+    (AllPairs (λ (a b : Cursor). a.number ≢ b.number) area.cursors))
 
 pub is_area_of_of_parts : (s : State) (area : Area) → IsAreaOfParts s area → IsArea s area
 is_area_of_of_parts s area p = record {
@@ -173,7 +180,9 @@ has_tables s = like (has_tables_of_parts s) (parts_of_has_tables s)
     (each (is_area_of s) s.areas)))
 
 abbrev IsRecordParts : State → LogEntry → Type 0
-IsRecordParts s entry = (IsSome (stream_at s entry.stream)) × ((null_lsn < entry.lsn) × ((entry.lsn < frontier s.place) × (((entry.previous ≡ null_lsn) ⊎ (entry.previous < entry.lsn)) × ((entry.undo_next ≡ null_lsn) ⊎ (entry.undo_next < entry.lsn)))))
+IsRecordParts s entry = (IsSome (stream_at s entry.stream)) × ((null_lsn < entry.lsn) ×
+    ((entry.lsn < frontier s.place) × (((entry.previous ≡ null_lsn) ⊎ (entry.previous < entry.lsn)) ×
+    ((entry.undo_next ≡ null_lsn) ⊎ (entry.undo_next < entry.lsn)))))
 
 pub is_record_of_parts : (s : State) (entry : LogEntry) → IsRecordParts s entry → IsRecord s entry
 is_record_of_parts s entry p = record {
@@ -202,10 +211,12 @@ pub of_rising : (xs : List ℕ) → IsStrictlyIncreasing xs → (k : ℕ) → k 
 of_rising xs rising k within next = rising k next
 
 abbrev pub rises : (xs : List ℕ) → Decision (IsStrictlyIncreasing xs)
-rises xs = like (rising_of xs) (of_rising xs) (each_below (λ k. implies (less (k + 1) (length xs)) (less (slice_index xs k) (slice_index xs (k + 1)))) (length xs))
+rises xs = like (rising_of xs) (of_rising xs) (each_below (λ k. implies (less (k + 1) (length xs)) (less (slice_index xs k) (slice_index xs (k + 1))))
+    (length xs))
 
 abbrev HasRecordsParts : State → Type 0
-HasRecordsParts s = (IsStrictlyIncreasing (map (λ (entry : LogEntry). entry.lsn) s.records)) × ((All (IsRecord s) s.records) × (open_sequences s ≡ range_with_len 0 s.place.records))
+HasRecordsParts s = (IsStrictlyIncreasing (map (λ (entry : LogEntry). entry.lsn) s.records)) ×
+    ((All (IsRecord s) s.records) × (open_sequences s ≡ range_with_len 0 s.place.records))
 
 pub has_records_of_parts : (s : State) → HasRecordsParts s → HasRecords s
 has_records_of_parts s p = record {
@@ -224,7 +235,8 @@ has_records s = like (has_records_of_parts s) (parts_of_has_records s)
     (same_numbers (open_sequences s) (range_with_len 0 s.place.records))))
 
 abbrev HasStableParts : State → Type 0
-HasStableParts s = (All (λ (stream : Stream). stream.base ≤ flushed s) s.streams) × ((All (λ (entry : LogEntry). entry.kind ≡ Restart → entry.lsn < flushed s) s.records) × (IfSome s.archive (λ tail. tail ≤ flushed s)))
+HasStableParts s = (All (λ (stream : Stream). stream.base ≤ flushed s) s.streams) ×
+    ((All (λ (entry : LogEntry). entry.kind ≡ Restart → entry.lsn < flushed s) s.records) × (IfSome s.archive (λ tail. tail ≤ flushed s)))
 
 pub has_stable_of_parts : (s : State) → HasStableParts s → HasStable s
 has_stable_of_parts s p = record {
@@ -243,7 +255,8 @@ has_stable s = like (has_stable_of_parts s) (parts_of_has_stable s)
     (where_some (λ tail. at_most tail (flushed s)) s.archive)))
 
 abbrev IsWaitingParts : State → ℕ → Type 0
-IsWaitingParts s start = (container_of start ≡ s.place.container) × ((sequence_of start ≡ 0) × ((IsSome (entry_at s start)) × (start < block_start s.place)))
+IsWaitingParts s start = (container_of start ≡ s.place.container) × ((sequence_of start ≡ 0) ×
+    ((IsSome (entry_at s start)) × (start < block_start s.place)))
 
 pub is_waiting_of_parts : (s : State) (start : ℕ) → IsWaitingParts s start → IsWaiting s start
 is_waiting_of_parts s start p = record {

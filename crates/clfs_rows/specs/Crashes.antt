@@ -51,10 +51,11 @@ long_append = append_of_zeros 960 (codes " flush")
 abbrev pub long_log : State
 long_log = state_behind waiting_log long_append
 
--- Three blocks of two sectors are flushed, and the one of a sector behind them, at 1:c00:0, is open. One sector is left behind it.
+-- A block of one sector and two of two sectors are flushed, and the next one of two sectors, at 1:a00:0, is open. One sector is left
+-- behind it.
 abbrev pub turning_log : State
-turning_log = state_after opened_log (script_requests (append_of_zeros 960 (codes "\n") ++ (append_of_zeros 960 (codes "\n")
-    ++ (append_of_zeros 960 (codes " flush\n") ++ codes "1 append 1 aa 0:0:0 0:0:0\n"))))
+turning_log = state_after opened_log (script_requests (codes "1 append 1 aa 0:0:0 0:0:0 seal\n" ++ (append_of_zeros 960 (codes "\n")
+    ++ (append_of_zeros 960 (codes " flush\n") ++ append_of_zeros 960 (codes "\n")))))
 
 -- the log once the record of two sectors has turned to the next container: it is at 2:0:0, and flushed is 2:400:0
 abbrev pub turned_log : State
@@ -75,6 +76,10 @@ growing_append = codes "1 append 1 aa 0:0:0 0:0:0 flush hold 960 960 960 960 960
 -- One record is flushed, at 1:0:0, and another one waits, at 1:200:0.
 abbrev pub rebasing_log : State
 rebasing_log = state_after flushed_log (script_requests (codes "1 append 1 a1 0:0:0 0:0:0 seal\n"))
+
+-- the same log, all flushed, with a second stream and with its first one's base at 1:0:0
+abbrev pub two_streams_log : State
+two_streams_log = state_after rebasing_log (script_requests (codes "1 advance 1 1:0:0\n1 open b\n"))
 
 -- a restart area that moves the base to the record that waits
 abbrev pub restart : List ℕ

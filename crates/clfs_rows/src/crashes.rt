@@ -10,7 +10,7 @@ ghost use Rattle.clfs_model.specs.Script.{line_request};
 ghost use Rattle.clfs_model.specs.Survivors.{SplitsNoBlock, EndsBlockOf, IsSurvivor};
 ghost use Rattle.clfs_rows.specs.Filled.{empty_record};
 ghost use Rattle.clfs_rows.specs.Worked.{opened_log, flushed_log};
-ghost use Rattle.clfs_rows.specs.Crashes.{closed_at, left_of, with_streams_of, with_base, with_other_data, state_behind, SurvivesLine, waiting_log, long_append, long_log, turning_log, turned_log, skipping_log, growing_log, growing_append, rebasing_log, restart, restarted_log, advance, advanced_log};
+ghost use Rattle.clfs_rows.specs.Crashes.{closed_at, left_of, with_streams_of, with_base, with_other_data, state_behind, SurvivesLine, waiting_log, long_append, long_log, turning_log, turned_log, skipping_log, growing_log, growing_append, rebasing_log, two_streams_log, restart, restarted_log, advance, advanced_log};
 
 /// The log goes on where it was flushed, or at the end of one of the blocks that are flushed then, or in the container behind one. An
 /// append that flushes begins at 1:400:0, which is flushed, and leaves 1:a00:0. Another one, behind a container's end, leaves 2:400:0.
@@ -24,16 +24,18 @@ pub fn places_that_a_crash_leaves()
     ensures not_within_a_block { ¬ SurvivesLine waiting_log long_append (left_of long_log 5 1 2048) }
     ensures not_above_what_is_flushed { ¬ SurvivesLine waiting_log (codes "1 append 1 a4 0:0:0 0:0:0") (left_of waiting_log 4 1 1536) }
     ensures not_in_a_container_above_it { ¬ SurvivesLine waiting_log long_append (left_of long_log 5 2 0) }
-    ensures no_bytes_in_a_block { ¬ SurvivesLine waiting_log long_append (record (left_of long_log 4 1 1536) { place = record (closed_at 1 1536) { used = 16 } }) }
-    ensures no_records_in_a_block { ¬ SurvivesLine waiting_log long_append (record (left_of long_log 5 1 1536) { place = record (closed_at 1 1536) { records = 1 } }) }
+    ensures no_bytes_in_a_block { ¬ SurvivesLine waiting_log long_append
+        (record (left_of long_log 4 1 1536) { place = record (closed_at 1 1536) { used = 16 } }) }
+    ensures no_records_in_a_block { ¬ SurvivesLine waiting_log long_append
+        (record (left_of long_log 5 1 1536) { place = record (closed_at 1 1536) { records = 1 } }) }
     ensures where_no_block_ends { SurvivesLine opened_log (codes "1 append 1 aa 0:0:0 0:0:0 flush") (left_of opened_log 0 1 0) }
     ensures flushed_behind_a_turn { flushed turned_log ≡ lsn_number 2 1024 0 }
-    ensures before_the_open_block { SurvivesLine turning_log long_append (left_of turned_log 3 1 3072) }
+    ensures before_the_open_block { SurvivesLine turning_log long_append (left_of turned_log 3 1 2560) }
     ensures behind_the_open_block { SurvivesLine turning_log long_append (left_of turned_log 4 1 3584) }
     ensures in_the_next_container { SurvivesLine turning_log long_append (left_of turned_log 4 2 0) }
     ensures behind_the_record_in_it { SurvivesLine turning_log long_append (left_of turned_log 5 2 1024) }
     ensures not_at_the_containers_end { ¬ SurvivesLine turning_log long_append (left_of turned_log 4 1 4096) }
-    ensures not_at_another_containers_end_of_a_block { ¬ SurvivesLine turning_log long_append (left_of turned_log 5 2 3072) }
+    ensures not_at_another_containers_end_of_a_block { ¬ SurvivesLine turning_log long_append (left_of turned_log 5 2 512) }
     ensures not_in_the_container_after_the_next { ¬ IsSurvivor (line_request (codes "1 flush 1")) turning_log skipping_log (left_of turning_log 4 3 0) }
     ensures in_the_next_of_a_log_that_skips_one { IsSurvivor (line_request (codes "1 flush 1")) turning_log skipping_log (left_of turning_log 4 2 0) }
 {}
@@ -57,7 +59,8 @@ pub fn records_that_a_crash_leaves()
     ensures not_one_fewer { ¬ SurvivesLine waiting_log long_append (left_of long_log 3 1 1536) }
     ensures not_one_more { ¬ SurvivesLine waiting_log long_append (left_of long_log 5 1 1536) }
     ensures not_without_the_first { ¬ SurvivesLine waiting_log long_append (record (left_of long_log 4 1 1536) { records = drop 1 waiting_log.records }) }
-    ensures not_with_other_data { ¬ SurvivesLine waiting_log long_append (record (left_of long_log 4 1 1536) { records = map with_other_data waiting_log.records }) }
+    ensures not_with_other_data { ¬ SurvivesLine waiting_log long_append
+        (record (left_of long_log 4 1 1536) { records = map with_other_data waiting_log.records }) }
 {}
 
 /// Streams, the number of containers, archiving and the policies are all those from before or all those from behind, and the latter
@@ -72,13 +75,15 @@ pub fn settings_that_a_crash_leaves()
     ensures not_with_another_minimum { ¬ SurvivesLine flushed_log (codes "1 open b") (record (cut flushed_log) { minimum = Some 2 }) }
     ensures not_with_another_growth { ¬ SurvivesLine flushed_log (codes "1 open b") (record (cut flushed_log) { growth = Some 1 }) }
     ensures not_with_growth_by_itself { ¬ SurvivesLine flushed_log (codes "1 open b") (record (cut flushed_log) { automatic = true }) }
-    ensures not_some_of_each { ¬ IsSurvivor (line_request (codes "1 open b")) flushed_log (record (state_behind flushed_log (codes "1 open b")) { containers = 3 })
+    ensures not_some_of_each { ¬ IsSurvivor (line_request (codes "1 open b")) flushed_log
+        (record (state_behind flushed_log (codes "1 open b")) { containers = 3 })
         (record (cut flushed_log) { containers = 3 }) }
     ensures three_containers { (state_behind growing_log growing_append).containers ≡ 3 }
     ensures neither_grown_nor_appended { SurvivesLine growing_log growing_append (cut growing_log) }
     ensures grown_without_the_record { SurvivesLine growing_log growing_append (record (cut growing_log) { containers = 3 }) }
     ensures grown_with_the_record { SurvivesLine growing_log growing_append (cut (state_behind growing_log growing_append)) }
-    ensures not_the_record_without_growth { ¬ SurvivesLine growing_log growing_append (record (cut (state_behind growing_log growing_append)) { containers = 2 }) }
+    ensures not_the_record_without_growth { ¬ SurvivesLine growing_log growing_append
+        (record (cut (state_behind growing_log growing_append)) { containers = 2 }) }
 {}
 
 /// A base is the old one or the new one. A restart area's is the new one exactly where the restart area survives. One that is advanced
@@ -95,6 +100,7 @@ pub fn bases_that_a_crash_leaves()
     ensures not_advanced_without_all { SurvivesLine rebasing_log advance (cut rebasing_log) }
     ensures never_advanced_without_all { ¬ SurvivesLine rebasing_log advance (with_streams_of advanced_log (cut rebasing_log)) }
     ensures no_third_base_of_an_advance { ¬ SurvivesLine rebasing_log advance (with_base (lsn_number 1 0 0) (cut advanced_log)) }
+    ensures no_other_base_of_another_stream { ¬ SurvivesLine two_streams_log (codes "1 flush 1") (with_base (lsn_number 1 0 0) (cut two_streams_log)) }
     ensures no_third_base_of_a_flush { ¬ SurvivesLine rebasing_log (codes "1 flush 1") (with_base (lsn_number 1 0 0) (cut advanced_log)) }
 {}
 
@@ -102,8 +108,10 @@ pub fn bases_that_a_crash_leaves()
 /// buffers is free.
 pub fn what_else_a_crash_leaves()
     ensures other_buffers { SurvivesLine waiting_log long_append (record (left_of long_log 5 1 2560) { buffers = 1 }) }
-    ensures no_other_blocks { ¬ SurvivesLine waiting_log long_append (record (left_of long_log 5 1 2560) { shape = record { block_sectors = 3; container_sectors = 8 } }) }
-    ensures no_other_container_sizes { ¬ SurvivesLine waiting_log long_append (record (left_of long_log 5 1 2560) { shape = record { block_sectors = 2; container_sectors = 9 } }) }
+    ensures no_other_blocks { ¬ SurvivesLine waiting_log long_append
+        (record (left_of long_log 5 1 2560) { shape = record { block_sectors = 3; container_sectors = 8 } }) }
+    ensures no_other_container_sizes { ¬ SurvivesLine waiting_log long_append
+        (record (left_of long_log 5 1 2560) { shape = record { block_sectors = 2; container_sectors = 9 } }) }
     ensures no_areas { ¬ SurvivesLine waiting_log long_append (record (left_of long_log 5 1 2560) { areas = waiting_log.areas }) }
     ensures nothing_that_waits { ¬ SurvivesLine waiting_log long_append (record (left_of long_log 5 1 2560) { waiting = waiting_log.waiting }) }
     ensures not_broken { ¬ SurvivesLine waiting_log long_append (with_broken (left_of long_log 5 1 2560)) }

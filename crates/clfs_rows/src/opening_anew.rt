@@ -22,7 +22,8 @@ pub fn what_a_disk_gives_back()
     ensures with_other_records_there { OpensTo true unflushed_log (lsn_number 2 512 0) (with_one_changed with_other_data 3 (cut unflushed_log)) }
     ensures not_one_more { ¬ OpensTo true unflushed_log (lsn_number 2 512 1) (cut unflushed_log) }
     ensures not_another_place { ¬ OpensTo true unflushed_log (lsn_number 3 0 0) (record (cut unflushed_log) { place = closed_at 3 0 }) }
-    ensures not_another_lsn_than_the_logs { ¬ OpensTo true (record two_containers { waiting = lsn_number 2 512 1 ∷ [] }) (lsn_number 2 512 0) (cut two_containers) }
+    ensures not_another_lsn_than_the_logs { ¬ OpensTo true (record two_containers { waiting = lsn_number 2 512 1 ∷ [] }) (lsn_number 2 512 0)
+        (cut two_containers) }
     ensures not_with_another_record { ¬ OpensTo true unflushed_log (lsn_number 2 512 0) (with_one_changed with_other_data 8 (cut unflushed_log)) }
     ensures not_without_a_record { ¬ OpensTo true unflushed_log (lsn_number 2 512 0) (without_one 9 (cut unflushed_log)) }
     ensures not_with_an_area { ¬ OpensTo true unflushed_log (lsn_number 2 512 0) (record (cut unflushed_log) { areas = unflushed_log.areas }) }
@@ -39,8 +40,10 @@ pub fn what_another_disk_gives_back()
     ensures not_one_more { ¬ OpensTo false unflushed_log (lsn_number 1 0 1) (cut opened_log) }
     ensures not_with_an_area { ¬ OpensTo false unflushed_log (lsn_number 1 0 0) opened_log }
     ensures not_with_other_buffers { ¬ OpensTo false unflushed_log (lsn_number 1 0 0) (record (cut opened_log) { buffers = 3 }) }
-    ensures not_with_an_open_block { ¬ OpensTo false unflushed_log (lsn_number 1 0 0) (record (state_behind opened_log (codes "1 append 1 aa 0:0:0 0:0:0")) { areas = [] }) }
-    ensures not_with_a_block_that_waits { ¬ OpensTo false unflushed_log (lsn_number 1 0 0) (record (state_behind opened_log (codes "1 append 1 aa 0:0:0 0:0:0 seal")) { areas = [] }) }
+    ensures not_with_an_open_block { ¬ OpensTo false unflushed_log (lsn_number 1 0 0)
+        (record (state_behind opened_log (codes "1 append 1 aa 0:0:0 0:0:0")) { areas = [] }) }
+    ensures not_with_a_block_that_waits { ¬ OpensTo false unflushed_log (lsn_number 1 0 0)
+        (record (state_behind opened_log (codes "1 append 1 aa 0:0:0 0:0:0 seal")) { areas = [] }) }
     ensures not_broken { ¬ OpensTo false unflushed_log (lsn_number 1 0 0) (with_broken (cut opened_log)) }
     ensures not_what_no_log_is_like { ¬ OpensTo false unflushed_log (lsn_number 2 512 0) (with_one_changed with_link_to_itself 3 (cut unflushed_log)) }
     ensures not_with_a_gap_between_blocks { ¬ OpensTo false unflushed_log (lsn_number 2 512 0) (without_one 3 (cut unflushed_log)) }
@@ -49,7 +52,8 @@ pub fn what_another_disk_gives_back()
 /// A fault and damage leave the log broken. Want of memory leaves it as it was, and a log that is broken isn't opened anew.
 pub fn what_stops_opening_anew()
     ensures a_fault { ReopenStep true unflushed_log Fault (replies.Refused refusals.DiskFault) (with_broken unflushed_log) }
-    ensures every_fault { (told : Bool) (s t : State) → s.broken ≡ false → ReopenStep told s Fault (replies.Refused refusals.DiskFault) t → t ≡ with_broken s }
+    ensures every_fault { (told : Bool) (s t : State) → s.broken ≡ false → ReopenStep told s Fault (replies.Refused refusals.DiskFault) t → t
+        ≡ with_broken s }
     ensures damage { ReopenStep true unflushed_log Damage (replies.Refused (refusals.Damaged 1 0 1016)) (with_broken unflushed_log) }
     ensures every_damage { (told : Bool) (s : State) (container offset at : ℕ) (t : State) → s.broken ≡ false
         → ReopenStep told s Damage (replies.Refused (refusals.Damaged container offset at)) t → t ≡ with_broken s }

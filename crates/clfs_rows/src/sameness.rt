@@ -1,5 +1,5 @@
 // When two states are the same but for what no reply can show.
-ghost use Rattle.std.specs.Prelude.{◌≡◌, [], ◌∷◌, Some, true};
+ghost use Rattle.std.specs.Prelude.{◌≡◌, [], ◌∷◌, Some, true, codes};
 ghost use Rattle.clfs_lsn.specs.Lsn.{lsn_number};
 ghost use Rattle.clfs_model.specs.Live.{hold};
 ghost use Rattle.clfs_model.specs.Flush.{IsSame};
@@ -33,7 +33,7 @@ pub fn what_else_is_compared()
     ensures containers { ¬ IsSame two_containers (record two_containers { containers = 3 }) }
     ensures write_buffers { ¬ IsSame two_containers (record two_containers { buffers = 3 }) }
     ensures bases { ¬ IsSame two_containers (with_base (lsn_number 2 0 0) two_containers) }
-    ensures streams { ¬ IsSame two_containers (record two_containers { streams = [] }) }
+    ensures names { ¬ IsSame two_containers (record two_containers { streams = record { name = codes "b"; base = lsn_number 2 0 1 } ∷ [] }) }
     ensures container_of_the_place { ¬ IsSame two_containers (record two_containers { place = closed_at 3 512 }) }
     ensures offset_of_the_place { ¬ IsSame two_containers (record two_containers { place = closed_at 2 1024 }) }
     ensures blocks_that_wait { ¬ IsSame two_containers (record two_containers { waiting = lsn_number 2 0 0 ∷ [] }) }

@@ -15,9 +15,11 @@ ghost use Rattle.clfs_rows.specs.Arranged.{arranged_log, with_new_base, with_byt
 pub fn bases_that_files_hold()
     ensures a_restart_area { IsStorable arranged_log }
     ensures a_base_further_on { IsStorable (with_base (lsn_number 2 0 2) arranged_log) }
-    ensures a_restart_area_at_its_own_base { IsStorable (with_base (lsn_number 2 512 0) (with_one_changed (with_new_base (lsn_number 2 512 0)) 11 arranged_log)) }
+    ensures a_restart_area_at_its_own_base { IsStorable (with_base (lsn_number 2 512 0)
+        (with_one_changed (with_new_base (lsn_number 2 512 0)) 11 arranged_log)) }
     ensures no_base_of_a_plain_record { ¬ IsStorable (with_one_changed (with_new_base (lsn_number 2 0 1)) 12 arranged_log) }
-    ensures no_base_above_its_own_lsn { ¬ IsStorable (with_base (lsn_number 2 1024 0) (with_one_changed (with_new_base (lsn_number 2 512 1)) 11 arranged_log)) }
+    ensures no_base_above_its_own_lsn { ¬ IsStorable (with_base (lsn_number 2 1024 0)
+        (with_one_changed (with_new_base (lsn_number 2 512 1)) 11 arranged_log)) }
     ensures no_stream_below_the_new_base { ¬ IsStorable (with_base (lsn_number 2 0 0) arranged_log) }
 {}
 
@@ -75,12 +77,14 @@ pub fn cursors_within_limits()
     ensures the_most_reads { IsStorable (with_areas (record an_area { reads = 16 } ∷ []) worked) }
     ensures no_area_for_0_cursors { ¬ IsStorable (with_areas (record an_area { reads = 0 } ∷ []) worked) }
     ensures no_area_for_17_cursors { ¬ IsStorable (with_areas (record an_area { reads = 17 } ∷ []) worked) }
-    ensures two_cursors { IsStorable (with_cursors (cursor_at 2 (Records Forward) (lsn_number 1 0 0) ∷ cursor_at 1 RestartAreas (lsn_number 2 512 0) ∷ []) arranged_log) }
+    ensures two_cursors { IsStorable (with_cursors (cursor_at 2 (Records Forward) (lsn_number 1 0 0) ∷ cursor_at 1 RestartAreas (lsn_number 2 512 0)
+        ∷ []) arranged_log) }
     ensures no_three_cursors_of_two { ¬ IsStorable (with_cursors (replicate 3 (cursor_at 1 (Records Forward) (lsn_number 1 0 0))) arranged_log) }
     ensures no_cursor_0 { ¬ IsStorable (with_cursors (cursor_at 0 (Records Forward) (lsn_number 1 0 0) ∷ []) arranged_log) }
     ensures no_cursor_3_of_two { ¬ IsStorable (with_cursors (cursor_at 3 (Records Forward) (lsn_number 1 0 0) ∷ []) arranged_log) }
     ensures no_cursor_without_a_record { ¬ IsStorable (with_cursors (cursor_at 1 (Records Forward) (lsn_number 1 0 1) ∷ []) arranged_log) }
-    ensures no_cursor_at_another_streams_record { ¬ IsStorable (with_areas (record an_area { stream = 2; cursors = cursor_at 1 (Records Forward) (lsn_number 1 0 0) ∷ [] } ∷ []) arranged_log) }
+    ensures no_cursor_at_another_streams_record { ¬ IsStorable (with_areas
+        (record an_area { stream = 2; cursors = cursor_at 1 (Records Forward) (lsn_number 1 0 0) ∷ [] } ∷ []) arranged_log) }
     ensures a_cursor_over_records_at_a_restart_area { IsStorable (with_cursors (cursor_at 1 (Records Forward) (lsn_number 2 512 0) ∷ []) arranged_log) }
     ensures no_cursor_over_restart_areas_at_a_plain_record { ¬ IsStorable (with_cursors (cursor_at 1 RestartAreas (lsn_number 1 0 0) ∷ []) arranged_log) }
 {}

@@ -37,8 +37,10 @@ pub fn what_is_given_as_it_is()
     ensures reading_on { MayComeTo false read_log (codes "1 next 1 2") third_record }
     ensures none_with_other_data_in_reading_on { ¬ MayComeTo false read_log (codes "1 next 1 2") (with_other_data third_record) }
     ensures no_record_where_there_is_none { ¬ MayReply false read_log (codes "1 read 1 1:600:0 forward") (replies.Found 3 second_record) read_log }
-    ensures the_lsn_of_a_new_record { MayReply false read_log (codes "1 append 1 dd 0:0:0 0:0:0") (replies.Placed (lsn_number 1 1024 1)) (state_behind read_log (codes "1 append 1 dd 0:0:0 0:0:0")) }
-    ensures no_other_lsn_of_a_new_record { ¬ MayReply false read_log (codes "1 append 1 dd 0:0:0 0:0:0") (replies.Placed (lsn_number 1 1024 2)) (state_behind read_log (codes "1 append 1 dd 0:0:0 0:0:0")) }
+    ensures the_lsn_of_a_new_record { MayReply false read_log (codes "1 append 1 dd 0:0:0 0:0:0") (replies.Placed (lsn_number 1 1024 1))
+        (state_behind read_log (codes "1 append 1 dd 0:0:0 0:0:0")) }
+    ensures no_other_lsn_of_a_new_record { ¬ MayReply false read_log (codes "1 append 1 dd 0:0:0 0:0:0") (replies.Placed (lsn_number 1 1024 2))
+        (state_behind read_log (codes "1 append 1 dd 0:0:0 0:0:0")) }
 {}
 
 /// Over a disk that tells what it holds nothing is open.

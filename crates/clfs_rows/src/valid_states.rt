@@ -52,13 +52,17 @@ pub fn policies_in_their_ranges()
 /// Streams have different names, areas of one client different numbers, and cursors of one area too. An area is on a stream that is
 /// there, with records that fit a block.
 pub fn tables_of_a_log()
-    ensures different_names { ¬ IsValid (record worked { streams = record { name = codes "a"; base = null_lsn } ∷ record { name = codes "a"; base = null_lsn } ∷ [] }) }
+    ensures different_names { ¬ IsValid (record worked {
+      streams = record { name = codes "a"; base = null_lsn } ∷ record
+          { name = codes "a"; base = null_lsn } ∷ [];
+    }) }
     ensures different_numbers_of_areas { ¬ IsValid (with_areas (an_area ∷ an_area ∷ []) opened_log) }
     ensures areas_of_different_clients { IsValid (with_areas (an_area ∷ record an_area { client = 2 } ∷ []) opened_log) }
     ensures areas_of_one_client { IsValid (with_areas (an_area ∷ record an_area { number = 2 } ∷ []) opened_log) }
     ensures an_areas_stream { ¬ IsValid (with_areas (record an_area { stream = 2 } ∷ []) opened_log) }
     ensures an_areas_largest_record { ¬ IsValid (with_areas (record an_area { largest = 961 } ∷ []) opened_log) }
-    ensures different_numbers_of_cursors { ¬ IsValid (with_cursors (cursor_at 1 (Records Forward) (lsn_number 1 0 0) ∷ cursor_at 1 (Records Forward) (lsn_number 1 0 0) ∷ []) arranged_log) }
+    ensures different_numbers_of_cursors { ¬ IsValid (with_cursors (cursor_at 1 (Records Forward) (lsn_number 1 0 0) ∷ cursor_at 1 (Records Forward)
+        (lsn_number 1 0 0) ∷ []) arranged_log) }
 {}
 
 /// LSNs rise from above null to below the place, links point down, and the open block has the records that the place says.

@@ -6,9 +6,9 @@ use Rattle.clfs_lsn.specs.Lsn.{lsn_number}
 use Rattle.clfs_model.specs.Flush.{cut}
 use Rattle.clfs_model.specs.Run.{fine_outcome}
 use Rattle.clfs_model.specs.Script.{request_in}
-use Rattle.clfs_rows.specs.Crashes.{advance, advanced_log, left_of, rebasing_log, restart, restarted_log, with_base, with_streams_of}
+use Rattle.clfs_rows.specs.Crashes.{advance, advanced_log, left_of, rebasing_log, restart, restarted_log, two_streams_log, with_base, with_streams_of}
 use Rattle.std.specs.Prelude.{codes}
-use Rattle.clfs_rows.proofs.Decisions.{yes, no}
+use Rattle.clfs_rows.proofs.Decisions.{no, yes}
 use Rattle.clfs_rows.proofs.SurvivorTests.{is_survivor_of_line}
 use Rattle.clfs_rows.proofs.crashes.bases_that_a_crash_leaves.Goals as goal
 
@@ -26,5 +26,7 @@ returns c = record {
   not_advanced_without_all = yes (is_survivor_of_line rebasing_log advance (cut rebasing_log)) refl;
   never_advanced_without_all = no (is_survivor_of_line rebasing_log advance (with_streams_of advanced_log (cut rebasing_log))) refl;
   no_third_base_of_an_advance = no (is_survivor_of_line rebasing_log advance (with_base (lsn_number 1 0 0) (cut advanced_log))) refl;
+  no_other_base_of_another_stream = no (is_survivor_of_line two_streams_log (codes "1 flush 1")
+      (with_base (lsn_number 1 0 0) (cut two_streams_log))) refl;
   no_third_base_of_a_flush = no (is_survivor_of_line rebasing_log (codes "1 flush 1") (with_base (lsn_number 1 0 0) (cut advanced_log))) refl;
 }

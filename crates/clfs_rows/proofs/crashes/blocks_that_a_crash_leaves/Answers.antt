@@ -7,7 +7,7 @@ use Rattle.clfs_model.specs.Script.{request_in}
 use Rattle.clfs_rows.specs.Crashes.{closed_at, waiting_log}
 use Rattle.clfs_rows.specs.Filled.{empty_record}
 use Rattle.std.specs.Prelude.{map, ◌∷◌, []}
-use Rattle.clfs_rows.proofs.Decisions.{yes, no}
+use Rattle.clfs_rows.proofs.Decisions.{no, yes}
 use Rattle.clfs_rows.proofs.SurvivorTests.{splits_no_block, ends_block}
 use Rattle.clfs_rows.proofs.crashes.blocks_that_a_crash_leaves.Goals as goal
 

@@ -8,7 +8,7 @@ use Rattle.clfs_model.specs.Script.{request_in}
 use Rattle.clfs_model.specs.Step.{with_broken}
 use Rattle.clfs_rows.specs.Crashes.{left_of, waiting_log}
 use Rattle.std.specs.Prelude.{codes}
-use Rattle.clfs_rows.proofs.Decisions.{yes, no}
+use Rattle.clfs_rows.proofs.Decisions.{no, yes}
 use Rattle.clfs_rows.proofs.SurvivorTests.{is_survivor_of_line}
 use Rattle.clfs_rows.proofs.crashes.lines_that_flush_nothing.Goals as goal
 

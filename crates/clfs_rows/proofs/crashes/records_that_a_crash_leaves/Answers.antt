@@ -15,6 +15,8 @@ unfolding grown has_room fine_outcome request_in digits decode_pairs encode_with
 returns c = record {
   not_one_fewer = no (is_survivor_of_line waiting_log long_append (left_of long_log 3 1 1536)) refl;
   not_one_more = no (is_survivor_of_line waiting_log long_append (left_of long_log 5 1 1536)) refl;
-  not_without_the_first = no (is_survivor_of_line waiting_log long_append (record (left_of long_log 4 1 1536) { records = drop 1 waiting_log.records })) refl;
-  not_with_other_data = no (is_survivor_of_line waiting_log long_append (record (left_of long_log 4 1 1536) { records = map with_other_data waiting_log.records })) refl;
+  not_without_the_first = no (is_survivor_of_line waiting_log long_append
+      (record (left_of long_log 4 1 1536) { records = drop 1 waiting_log.records })) refl;
+  not_with_other_data = no (is_survivor_of_line waiting_log long_append
+      (record (left_of long_log 4 1 1536) { records = map with_other_data waiting_log.records })) refl;
 }

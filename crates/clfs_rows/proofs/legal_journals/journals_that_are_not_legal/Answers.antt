@@ -35,6 +35,7 @@ returns c = record {
       (step_of_entry true opened_log first_entry opened_log legal);
   another_last_state_without_entries = λ legal. no (same_state behind_first opened_log) refl legal;
   over_a_disk_that_tells = λ legal.
-      no (may_reply true read_log (codes "1 read 1 1:200:0 forward") (replies.Found 3 (with_other_data second_record)) behind_read (found 3 (with_other_data second_record))) refl
+      no (may_reply true read_log (codes "1 read 1 1:200:0 forward") (replies.Found 3 (with_other_data second_record)) behind_read
+      (found 3 (with_other_data second_record))) refl
       (step_of_entry true read_log (read_entry (with_other_data second_record)) behind_read legal);
 }

@@ -22,7 +22,8 @@ returns c = record {
   with_other_records_there = yes (reopens_up_to true unflushed_log (lsn_number 2 512 0) (with_one_changed with_other_data 3 (cut unflushed_log))) refl;
   not_one_more = no (reopens_up_to true unflushed_log (lsn_number 2 512 1) (cut unflushed_log)) refl;
   not_another_place = no (reopens_up_to true unflushed_log (lsn_number 3 0 0) (record (cut unflushed_log) { place = closed_at 3 0 })) refl;
-  not_another_lsn_than_the_logs = no (reopens_up_to true (record two_containers { waiting = lsn_number 2 512 1 ∷ [] }) (lsn_number 2 512 0) (cut two_containers)) refl;
+  not_another_lsn_than_the_logs = no (reopens_up_to true (record two_containers { waiting = lsn_number 2 512 1 ∷ [] }) (lsn_number 2 512 0)
+      (cut two_containers)) refl;
   not_with_another_record = no (reopens_up_to true unflushed_log (lsn_number 2 512 0) (with_one_changed with_other_data 8 (cut unflushed_log))) refl;
   not_without_a_record = no (reopens_up_to true unflushed_log (lsn_number 2 512 0) (without_one 9 (cut unflushed_log))) refl;
   not_with_an_area = no (reopens_up_to true unflushed_log (lsn_number 2 512 0) (record (cut unflushed_log) { areas = unflushed_log.areas })) refl;

@@ -23,8 +23,10 @@ returns c = record {
   not_one_more = no (reopens_up_to false unflushed_log (lsn_number 1 0 1) (cut opened_log)) refl;
   not_with_an_area = no (reopens_up_to false unflushed_log (lsn_number 1 0 0) opened_log) refl;
   not_with_other_buffers = no (reopens_up_to false unflushed_log (lsn_number 1 0 0) (record (cut opened_log) { buffers = 3 })) refl;
-  not_with_an_open_block = no (reopens_up_to false unflushed_log (lsn_number 1 0 0) (record (state_behind opened_log (codes "1 append 1 aa 0:0:0 0:0:0")) { areas = [] })) refl;
-  not_with_a_block_that_waits = no (reopens_up_to false unflushed_log (lsn_number 1 0 0) (record (state_behind opened_log (codes "1 append 1 aa 0:0:0 0:0:0 seal")) { areas = [] })) refl;
+  not_with_an_open_block = no (reopens_up_to false unflushed_log (lsn_number 1 0 0)
+      (record (state_behind opened_log (codes "1 append 1 aa 0:0:0 0:0:0")) { areas = [] })) refl;
+  not_with_a_block_that_waits = no (reopens_up_to false unflushed_log (lsn_number 1 0 0)
+      (record (state_behind opened_log (codes "1 append 1 aa 0:0:0 0:0:0 seal")) { areas = [] })) refl;
   not_broken = no (reopens_up_to false unflushed_log (lsn_number 1 0 0) (with_broken (cut opened_log))) refl;
   not_what_no_log_is_like = no (reopens_up_to false unflushed_log (lsn_number 2 512 0) (with_one_changed with_link_to_itself 3 (cut unflushed_log))) refl;
   not_with_a_gap_between_blocks = no (reopens_up_to false unflushed_log (lsn_number 2 512 0) (without_one 3 (cut unflushed_log))) refl;

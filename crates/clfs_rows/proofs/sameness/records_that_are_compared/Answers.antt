@@ -27,5 +27,6 @@ returns c = record {
   not_without_one_below_the_hold = no (is_same two_containers (without_one 8 two_containers)) refl;
   not_without_the_last = no (is_same two_containers (without_one 10 two_containers)) refl;
   not_with_the_hold_in_another_container = no (is_same (with_base 0 two_containers) (without_first 8 (with_base 0 two_containers))) refl;
-  not_where_the_tail_holds_the_first_container = no (is_same (record two_containers { archive = Some (lsn_number 1 512 0) }) (record (without_first 8 two_containers) { archive = Some (lsn_number 1 512 0) })) refl;
+  not_where_the_tail_holds_the_first_container = no (is_same (record two_containers { archive = Some (lsn_number 1 512 0) })
+      (record (without_first 8 two_containers) { archive = Some (lsn_number 1 512 0) })) refl;
 }

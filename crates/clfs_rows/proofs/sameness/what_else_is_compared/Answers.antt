@@ -8,7 +8,7 @@ use Rattle.clfs_model.specs.Script.{request_in}
 use Rattle.clfs_model.specs.Step.{with_broken}
 use Rattle.clfs_rows.specs.Compared.{two_containers}
 use Rattle.clfs_rows.specs.Crashes.{closed_at, with_base}
-use Rattle.std.specs.Prelude.{Some, true, ◌∷◌, []}
+use Rattle.std.specs.Prelude.{Some, codes, true, ◌∷◌, []}
 use Rattle.clfs_rows.proofs.Decisions.{no}
 use Rattle.clfs_rows.proofs.SameTests.{is_same}
 use Rattle.clfs_rows.proofs.sameness.what_else_is_compared.Goals as goal
@@ -21,7 +21,7 @@ returns c = record {
   containers = no (is_same two_containers (record two_containers { containers = 3 })) refl;
   write_buffers = no (is_same two_containers (record two_containers { buffers = 3 })) refl;
   bases = no (is_same two_containers (with_base (lsn_number 2 0 0) two_containers)) refl;
-  streams = no (is_same two_containers (record two_containers { streams = [] })) refl;
+  names = no (is_same two_containers (record two_containers { streams = record { name = codes "b"; base = lsn_number 2 0 1 } ∷ [] })) refl;
   container_of_the_place = no (is_same two_containers (record two_containers { place = closed_at 3 512 })) refl;
   offset_of_the_place = no (is_same two_containers (record two_containers { place = closed_at 2 1024 })) refl;
   blocks_that_wait = no (is_same two_containers (record two_containers { waiting = lsn_number 2 0 0 ∷ [] })) refl;

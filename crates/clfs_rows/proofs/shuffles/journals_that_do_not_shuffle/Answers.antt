@@ -12,7 +12,8 @@ returns c = record {
   a_call_twice = λ shuffle. let calls = shuffle.each 0 (script 0 []) (omega arith) in absurd (cc);
   calls_out_of_order = λ shuffle. let calls = shuffle.each 0 (script 0 []) (omega arith) in absurd (cc);
   a_call_by_the_other_client = λ shuffle. let calls = shuffle.each 0 (script 0 []) (omega arith) in absurd (cc);
-  a_client_without_a_script = λ shuffle. let same = is_the_only 1 2 (shuffle.none_else 1 (entry_for 0 calls.ListExtents) (omega arith)) in absurd (omega (arith, same));
+  a_client_without_a_script = λ shuffle. let same = is_the_only 1 2 (shuffle.none_else 1 (entry_for 0 calls.ListExtents) (omega arith)) in absurd
+      (omega (arith, same));
   entries_of_scripts_without_lines = λ shuffle. let calls = shuffle.each 0 (script 0 []) (omega arith) in absurd (cc);
   lines_without_entries = λ shuffle. let calls = shuffle.each 0 (script 0 []) (omega arith) in absurd (cc);
 }

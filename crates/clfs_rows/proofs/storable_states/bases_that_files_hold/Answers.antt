@@ -17,8 +17,10 @@ unfolding grown has_room fine_outcome request_in digits decode_pairs encode_with
 returns c = record {
   a_restart_area = yes (is_storable arranged_log) refl;
   a_base_further_on = yes (is_storable (with_base (lsn_number 2 0 2) arranged_log)) refl;
-  a_restart_area_at_its_own_base = yes (is_storable (with_base (lsn_number 2 512 0) (with_one_changed (with_new_base (lsn_number 2 512 0)) 11 arranged_log))) refl;
+  a_restart_area_at_its_own_base = yes (is_storable (with_base (lsn_number 2 512 0)
+      (with_one_changed (with_new_base (lsn_number 2 512 0)) 11 arranged_log))) refl;
   no_base_of_a_plain_record = no (is_storable (with_one_changed (with_new_base (lsn_number 2 0 1)) 12 arranged_log)) refl;
-  no_base_above_its_own_lsn = no (is_storable (with_base (lsn_number 2 1024 0) (with_one_changed (with_new_base (lsn_number 2 512 1)) 11 arranged_log))) refl;
+  no_base_above_its_own_lsn = no (is_storable (with_base (lsn_number 2 1024 0)
+      (with_one_changed (with_new_base (lsn_number 2 512 1)) 11 arranged_log))) refl;
   no_stream_below_the_new_base = no (is_storable (with_base (lsn_number 2 0 0) arranged_log)) refl;
 }

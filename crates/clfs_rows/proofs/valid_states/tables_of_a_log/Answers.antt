@@ -17,11 +17,15 @@ use Rattle.clfs_rows.proofs.valid_states.tables_of_a_log.Goals as goal
 pub returns : goal.returns
 unfolding grown has_room fine_outcome request_in digits decode_pairs encode_with
 returns c = record {
-  different_names = no (is_valid (record worked { streams = record { name = codes "a"; base = null_lsn } ∷ record { name = codes "a"; base = null_lsn } ∷ [] })) refl;
+  different_names = no (is_valid (record worked {
+    streams = record { name = codes "a"; base = null_lsn } ∷ record
+        { name = codes "a"; base = null_lsn } ∷ [];
+  })) refl;
   different_numbers_of_areas = no (is_valid (with_areas (an_area ∷ an_area ∷ []) opened_log)) refl;
   areas_of_different_clients = yes (is_valid (with_areas (an_area ∷ record an_area { client = 2 } ∷ []) opened_log)) refl;
   areas_of_one_client = yes (is_valid (with_areas (an_area ∷ record an_area { number = 2 } ∷ []) opened_log)) refl;
   an_areas_stream = no (is_valid (with_areas (record an_area { stream = 2 } ∷ []) opened_log)) refl;
   an_areas_largest_record = no (is_valid (with_areas (record an_area { largest = 961 } ∷ []) opened_log)) refl;
-  different_numbers_of_cursors = no (is_valid (with_cursors (cursor_at 1 (Records Forward) (lsn_number 1 0 0) ∷ cursor_at 1 (Records Forward) (lsn_number 1 0 0) ∷ []) arranged_log)) refl;
+  different_numbers_of_cursors = no (is_valid (with_cursors (cursor_at 1 (Records Forward) (lsn_number 1 0 0) ∷ cursor_at 1 (Records Forward)
+      (lsn_number 1 0 0) ∷ []) arranged_log)) refl;
 }
