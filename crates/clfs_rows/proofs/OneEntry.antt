@@ -1,5 +1,5 @@
 -- A journal of one entry.
-use Rattle.std.proofs.Common.{◌≡◌, ℕ, Bool, sym, subst, List, [], ◌∷◌}
+use Rattle.std.proofs.Common.{Bool, sym, subst, [], ◌∷◌}
 use Rattle.clfs_model.specs.declared.journal.Entry.{Entry}
 use Rattle.clfs_model.specs.declared.state.State.{State}
 use Rattle.clfs_model.specs.Step.{Step}

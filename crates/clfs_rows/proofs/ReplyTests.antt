@@ -4,7 +4,6 @@ use Rattle.std.specs.Bool.{Decides}
 use Rattle.std.specs.Prelude.{◌==◌, nat_lt, Option, Some, None, IsTrue, MatchBool, MatchOption}
 use Rattle.clfs_lsn.specs.declared.entry.LogEntry.{LogEntry}
 use Rattle.clfs_model.specs.declared.call.Call.{Call}
-use Rattle.clfs_model.specs.declared.refusal.Refusal.{Refusal}
 use Rattle.clfs_model.specs.declared.refusal.Refusal.TheVariants as refusals
 use Rattle.clfs_model.specs.declared.reply.Happened.TheVariants.{Fine}
 use Rattle.clfs_model.specs.declared.reply.Reply.{Reply}
@@ -16,8 +15,8 @@ use Rattle.clfs_model.specs.Answers.{answer}
 use Rattle.clfs_model.specs.Script.{line_request}
 use Rattle.clfs_rows.specs.OwnEntries.{call_asked}
 use Rattle.clfs_rows.specs.ReadAnew.{MayReply}
-use Rattle.clfs_model.specs.Step.{Step, Goes, Comes, IsReply, IsReplyRead, IsRecordRead, IsBroken, IsOutOfMemory, takes_memory}
-use Rattle.clfs_rows.proofs.Decisions.{Decision, like, never, both, either, equal, alike, wrong}
+use Rattle.clfs_model.specs.Step.{Step, Goes, IsReply, IsReplyRead, IsRecordRead, IsBroken, IsOutOfMemory, takes_memory}
+use Rattle.clfs_rows.proofs.Decisions.{Decision, like, both, either, equal, alike, wrong}
 use Rattle.clfs_rows.proofs.SameStates.{same_entry, same_state}
 use Rattle.clfs_rows.proofs.SameTests.{matches}
 

@@ -1,6 +1,6 @@
 -- Shuffles, by their clients' calls and by the clients of their entries.
 use Rattle.std.proofs.Common.{◌≡◌, ℕ, refl, List, [], ◌∷◌}
-use Rattle.std.specs.Prelude.{All, Contains, map}
+use Rattle.std.specs.Prelude.{Contains, map}
 use Rattle.std.specs.List.{AllByRecursion}
 use Rattle.std.proofs.lemmas.List.Elements.{All-from_recursion, All-nil, All-cons, All-contains}
 use Rattle.clfs_model.specs.declared.journal.Entry.{Entry}

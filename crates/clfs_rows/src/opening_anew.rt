@@ -25,7 +25,7 @@ pub fn what_a_disk_gives_back()
     ensures not_another_lsn_than_the_logs { ¬ OpensTo true (record two_containers { waiting = lsn_number 2 512 1 ∷ [] }) (lsn_number 2 512 0)
         (cut two_containers) }
     ensures not_with_another_record { ¬ OpensTo true unflushed_log (lsn_number 2 512 0) (with_one_changed with_other_data 8 (cut unflushed_log)) }
-    ensures not_without_a_record { ¬ OpensTo true unflushed_log (lsn_number 2 512 0) (without_one 9 (cut unflushed_log)) }
+    ensures not_without_a_record { ¬ OpensTo true unflushed_log (lsn_number 2 512 0) (without_one 10 (cut unflushed_log)) }
     ensures not_with_an_area { ¬ OpensTo true unflushed_log (lsn_number 2 512 0) (record (cut unflushed_log) { areas = unflushed_log.areas }) }
     ensures not_with_other_buffers { ¬ OpensTo true unflushed_log (lsn_number 2 512 0) (record (cut unflushed_log) { buffers = 3 }) }
     ensures not_what_no_log_is_like { ¬ OpensTo true unflushed_log (lsn_number 2 512 0) (with_one_changed with_link_to_itself 3 (cut unflushed_log)) }

@@ -25,7 +25,7 @@ returns c = record {
   not_another_lsn_than_the_logs = no (reopens_up_to true (record two_containers { waiting = lsn_number 2 512 1 ∷ [] }) (lsn_number 2 512 0)
       (cut two_containers)) refl;
   not_with_another_record = no (reopens_up_to true unflushed_log (lsn_number 2 512 0) (with_one_changed with_other_data 8 (cut unflushed_log))) refl;
-  not_without_a_record = no (reopens_up_to true unflushed_log (lsn_number 2 512 0) (without_one 9 (cut unflushed_log))) refl;
+  not_without_a_record = no (reopens_up_to true unflushed_log (lsn_number 2 512 0) (without_one 10 (cut unflushed_log))) refl;
   not_with_an_area = no (reopens_up_to true unflushed_log (lsn_number 2 512 0) (record (cut unflushed_log) { areas = unflushed_log.areas })) refl;
   not_with_other_buffers = no (reopens_up_to true unflushed_log (lsn_number 2 512 0) (record (cut unflushed_log) { buffers = 3 })) refl;
   not_what_no_log_is_like = no (reopens_up_to true unflushed_log (lsn_number 2 512 0) (with_one_changed with_link_to_itself 3 (cut unflushed_log))) refl;

@@ -1,4 +1,4 @@
-use Rattle.std.proofs.Common.{refl, arith}
+use Rattle.std.proofs.Common.{arith}
 use Rattle.clfs_rows.specs.Interleaved.{script, entry_for}
 use Rattle.std.specs.Prelude.{[]}
 use Rattle.clfs_model.specs.declared.call.Call.TheVariants as calls
