@@ -26,6 +26,7 @@ use Rattle.clfs_model.specs.Step.{Step}
 use Rattle.clfs_model.specs.Storable.{IsStorable}
 use Rattle.clfs_model.specs.Survivors.{HasSettings, HasMore, HasBasesOfRestart, HasBasesOfRequest, IsSurvivor}
 use Rattle.clfs_model.specs.Valid.{IsValid}
+use Rattle.clfs_space.specs.SpaceLaws.{HasSpaceLaws}
 use Rattle.clfs_laws.specs.Stable.{LeavesStable}
 use Rattle.clfs_laws.proofs.Among.{IsAmong, each_among, at_each}
 use Rattle.clfs_laws.proofs.BlockSums.{among_last}
@@ -167,10 +168,10 @@ bases_before told s client (calls.Advance number lsn) reply t valid step = λ mo
 bases_before told s client call reply t valid step = tt
 
 -- the flushed part of a log survives a call
-pub survives_before : (told : Bool) (s t : State) (client : ℕ) (call : Call) (reply : Reply) → IsValid s → Step told s client call Fine reply t
+pub survives_before : HasSpaceLaws → (told : Bool) (s t : State) (client : ℕ) (call : Call) (reply : Reply) → IsValid s → Step told s client call Fine reply t
     → IsSurvivor (asks client call) s t (cut s)
-survives_before told s t client call reply valid step =
-    survives_as (asks client call) s t valid (flushed_rises told s client call Fine reply t valid step)
+survives_before space told s t client call reply valid step =
+    survives_as (asks client call) s t valid ((flushed_rises space) told s client call Fine reply t valid step)
     (flushed_still s t valid (step_adds told s client call Fine reply t step)) (bases_before told s client call reply t valid step)
 
 -- a log that was flushed, whatever base it moved then
@@ -198,15 +199,15 @@ all_flushed s valid at =
     all_below (flushed s) s.records (subst B (sym at) (of_links.all_below s (sound_of s valid)))
 
 -- so a restart area is there where the flushed part of after is left
-restart_after : (s : State) (client number : ℕ) (area : Area) (bytes : List ℕ) (base : ℕ) (is_reserved : Bool) → IsValid s
+restart_after : HasSpaceLaws → (s : State) (client number : ℕ) (area : Area) (bytes : List ℕ) (base : ℕ) (is_reserved : Bool) → IsValid s
     → area_of s client number ≡ Some area
     → restart_refusal s area bytes base is_reserved ≡ None
     → HasBasesOfRestart s (restarted s area bytes base is_reserved) (cut (restarted s area bytes base is_reserved))
-restart_after s client number area bytes base is_reserved valid there none =
+restart_after space s client number area bytes base is_reserved valid there none =
     let t : State = restarted s area bytes base is_reserved in
     let n = length bytes in
     let joined = put (grown s (need_of is_reserved n [])) (restart_record s area bytes base) in
-    let all = all_flushed t (valid_restarted s client number area bytes base is_reserved valid there none)
+    let all = all_flushed t ((valid_restarted space) s client number area bytes base is_reserved valid there none)
     (flushed_rebased area.stream base (spend_if is_reserved area n joined)) in
     let F : List LogEntry → Type 0 = λ entries. All (λ (entry : LogEntry). IsAmong entry entries) t.records in
     record {
@@ -215,9 +216,9 @@ restart_after s client number area bytes base is_reserved valid there none =
     }
 
 -- the bases of what a call flushed are the new ones
-bases_after : (told : Bool) (s : State) (client : ℕ) (call : Call) (reply : Reply) (t : State) → IsValid s → Step told s client call Fine reply t
+bases_after : HasSpaceLaws → (told : Bool) (s : State) (client : ℕ) (call : Call) (reply : Reply) (t : State) → IsValid s → Step told s client call Fine reply t
     → HasBasesOfRequest (asks client call) s t (cut t)
-bases_after told s client (calls.WriteRestart number bytes base is_reserved) reply t valid step =
+bases_after space told s client (calls.WriteRestart number bytes base is_reserved) reply t valid step =
     let P : State → Type 0 = λ x. HasBasesOfRestart s x (cut x) in
     step_leads P told s client (calls.WriteRestart number bytes base is_reserved) Fine reply t step (record {
       same = record { there = λ none stream. refl; lost = λ more stream. refl };
@@ -226,21 +227,21 @@ bases_after told s client (calls.WriteRestart number bytes base is_reserved) rep
           let two = two_of s (in_area s client number (λ (area : Area). restart_refusal s area bytes base is_reserved)) none in
           in_each P s client number (λ area. restart_refusal s area bytes base is_reserved)
           (λ area. outcome (replies.Placed (next_lsn s (length bytes))) (restarted s area bytes base is_reserved)) (area_of s client number) refl two.1
-          (λ area there passes. restart_after s client number area bytes base is_reserved valid there passes);
+          (λ area there passes. (restart_after space) s client number area bytes base is_reserved valid there passes);
     })
-bases_after told s client (calls.Advance number lsn) reply t valid step = λ more. absurd (none_more (cut t).records (cut t) (its_own (cut t).records) more)
-bases_after told s client call reply t valid step = tt
+bases_after space told s client (calls.Advance number lsn) reply t valid step = λ more. absurd (none_more (cut t).records (cut t) (its_own (cut t).records) more)
+bases_after space told s client call reply t valid step = tt
 
 -- the flushed part of what a call leaves survives the call
-pub survives_after : (told : Bool) (s t : State) (client : ℕ) (call : Call) (reply : Reply) → IsValid s → IsStorable s
+pub survives_after : HasSpaceLaws → (told : Bool) (s t : State) (client : ℕ) (call : Call) (reply : Reply) → IsValid s → IsStorable s
     → Step told s client call Fine reply t
     → IsSurvivor (asks client call) s t (cut t)
-survives_after told s t client call reply valid storable step =
-    let valid_t = valid_step told s client call Fine reply t valid step in
-    let blocks_t = blocks_step told s client call Fine reply t valid storable.blocks step in
+survives_after space told s t client call reply valid storable step =
+    let valid_t = (valid_step space) told s client call Fine reply t valid step in
+    let blocks_t = (blocks_step space) told s client call Fine reply t valid storable.blocks step in
     let adds = step_adds told s client call Fine reply t step in
     let turn = turn_step told s client call Fine reply t valid step in
-    let rises = flushed_rises told s client call Fine reply t valid step in
+    let rises = (flushed_rises space) told s client call Fine reply t valid step in
     let at = frontier_cut t valid_t in
     let block = flushed_block t valid_t in
     record {
@@ -256,7 +257,7 @@ survives_after told s t client call reply valid storable step =
       settings = inr (settings_of t);
       new_settings = λ more. settings_of t;
       bases = λ stream. inr refl;
-      bases_of_request = bases_after told s client call reply t valid step;
+      bases_of_request = (bases_after space) told s client call reply t valid step;
       no_areas = refl;
       nothing_waits = refl;
       whole = refl;

@@ -32,7 +32,7 @@ use Rattle.clfs_model.specs.Refusals.{refusal, in_area, stream_number, append_re
 use Rattle.clfs_model.specs.Answers.{Outcome, outcome, answer, over_area, moved_on, archiving, advanced, restart_record, restarted, rebased, flushed_to}
 use Rattle.clfs_model.specs.Step.{Step, with_broken}
 use Rattle.clfs_model.specs.Valid.{IsValid}
-use Rattle.clfs_space.proofs.Sectors.{own-le-block}
+use Rattle.clfs_laws.proofs.OwnSectors.{own_fits}
 use Rattle.clfs_laws.proofs.OutcomeCases.{of_option, of_area, of_cursor}
 use Rattle.clfs_laws.proofs.StepLeads.{step_leads}
 use Rattle.clfs_laws.proofs.StorableBlocks.{seal_shape, put_shape}
@@ -101,7 +101,7 @@ turn_by : (s : State) (n : ℕ) (joining beginning : Bool) → begins_here s.sha
 turn_by s n true beginning fits is short = inl refl
 turn_by s n false true fits is short = inl refl
 turn_by s n false false fits is short =
-    let long = own-le-block s.shape.block_sectors n is.some_sectors short in
+    let long = own_fits s.shape.block_sectors n is.some_sectors short in
     let left : s.shape.container_sectors - block_end s.place < own n = grind (arith, nat_tests, fits) in
     inr (refl, omega (arith, long, left, is.two_blocks, is.some_sectors))
 
