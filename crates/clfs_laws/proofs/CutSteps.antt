@@ -89,10 +89,10 @@ fine_through space calm s [] kept meets = refl
 fine_through space calm s (request ∷ requests) kept meets =
     let first = fine_request calm s request kept.valid kept.storable in
     let t : State = (fine_outcome s request).state in
-    (t, (first, (fine_through space) calm t requests ((request_keeps space) true s request Fine (fine_outcome s request).reply t first meets.0 kept) meets.1))
+    (t, (first, fine_through space calm t requests (request_keeps space true s request Fine (fine_outcome s request).reply t first meets.0 kept) meets.1))
 
 -- a list of requests
 pub fine_run : HasSpaceLaws → AreCalm → (s : State) (requests : List Request) → IsValid s → IsStorable s → All RequestMeets requests
     → Run true s requests (all_fine requests) (replies_of s requests) (state_after s requests)
 fine_run space calm s requests valid storable meets =
-    (fine_through space) calm s requests (record { valid = valid; storable = storable }) (recursion_from_All RequestMeets requests meets)
+    fine_through space calm s requests (record { valid = valid; storable = storable }) (recursion_from_All RequestMeets requests meets)

@@ -171,7 +171,7 @@ bases_before told s client call reply t valid step = tt
 pub survives_before : HasSpaceLaws → (told : Bool) (s t : State) (client : ℕ) (call : Call) (reply : Reply) → IsValid s → Step told s client call Fine reply t
     → IsSurvivor (asks client call) s t (cut s)
 survives_before space told s t client call reply valid step =
-    survives_as (asks client call) s t valid ((flushed_rises space) told s client call Fine reply t valid step)
+    survives_as (asks client call) s t valid (flushed_rises space told s client call Fine reply t valid step)
     (flushed_still s t valid (step_adds told s client call Fine reply t step)) (bases_before told s client call reply t valid step)
 
 -- a log that was flushed, whatever base it moved then
@@ -207,7 +207,7 @@ restart_after space s client number area bytes base is_reserved valid there none
     let t : State = restarted s area bytes base is_reserved in
     let n = length bytes in
     let joined = put (grown s (need_of is_reserved n [])) (restart_record s area bytes base) in
-    let all = all_flushed t ((valid_restarted space) s client number area bytes base is_reserved valid there none)
+    let all = all_flushed t (valid_restarted space s client number area bytes base is_reserved valid there none)
     (flushed_rebased area.stream base (spend_if is_reserved area n joined)) in
     let F : List LogEntry → Type 0 = λ entries. All (λ (entry : LogEntry). IsAmong entry entries) t.records in
     record {
@@ -227,7 +227,7 @@ bases_after space told s client (calls.WriteRestart number bytes base is_reserve
           let two = two_of s (in_area s client number (λ (area : Area). restart_refusal s area bytes base is_reserved)) none in
           in_each P s client number (λ area. restart_refusal s area bytes base is_reserved)
           (λ area. outcome (replies.Placed (next_lsn s (length bytes))) (restarted s area bytes base is_reserved)) (area_of s client number) refl two.1
-          (λ area there passes. (restart_after space) s client number area bytes base is_reserved valid there passes);
+          (λ area there passes. restart_after space s client number area bytes base is_reserved valid there passes);
     })
 bases_after space told s client (calls.Advance number lsn) reply t valid step = λ more. absurd (none_more (cut t).records (cut t) (its_own (cut t).records) more)
 bases_after space told s client call reply t valid step = tt
@@ -237,11 +237,11 @@ pub survives_after : HasSpaceLaws → (told : Bool) (s t : State) (client : ℕ)
     → Step told s client call Fine reply t
     → IsSurvivor (asks client call) s t (cut t)
 survives_after space told s t client call reply valid storable step =
-    let valid_t = (valid_step space) told s client call Fine reply t valid step in
-    let blocks_t = (blocks_step space) told s client call Fine reply t valid storable.blocks step in
+    let valid_t = valid_step space told s client call Fine reply t valid step in
+    let blocks_t = blocks_step space told s client call Fine reply t valid storable.blocks step in
     let adds = step_adds told s client call Fine reply t step in
     let turn = turn_step told s client call Fine reply t valid step in
-    let rises = (flushed_rises space) told s client call Fine reply t valid step in
+    let rises = flushed_rises space told s client call Fine reply t valid step in
     let at = frontier_cut t valid_t in
     let block = flushed_block t valid_t in
     record {
@@ -257,7 +257,7 @@ survives_after space told s t client call reply valid storable step =
       settings = inr (settings_of t);
       new_settings = λ more. settings_of t;
       bases = λ stream. inr refl;
-      bases_of_request = (bases_after space) told s client call reply t valid step;
+      bases_of_request = bases_after space told s client call reply t valid step;
       no_areas = refl;
       nothing_waits = refl;
       whole = refl;

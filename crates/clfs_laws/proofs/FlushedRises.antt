@@ -65,7 +65,7 @@ flushed_joined space s client number area entry is_reserved more valid may =
     let v : State = spend_if is_reserved area n s in
     let has = some.1.0 in
     let takes : TakesRecord v n = record { short = has.short; room = omega (arith, has.room) } in
-    let is = (sound_put space) v entry (sound_of v has.valid) takes has.joining in
+    let is = sound_put space v entry (sound_of v has.valid) takes has.joining in
     let after : flushed (put v entry) ≡ flushed (spend_if is_reserved area n (put s entry)) = ap flushed (spend_first is_reserved area n s entry) in
     omega (arith, flushed_spend is_reserved area n s, is.more, after)
 
@@ -83,11 +83,11 @@ rises_appended space s client number area draft is_reserved sizes valid two ther
     let n = length draft.bytes in
     let need = need_of is_reserved n sizes in
     let u : State = grown s need in
-    let valid_u : IsValid u = (valid_grown space) s need valid in
+    let valid_u : IsValid u = valid_grown space s need valid in
     let entry = plain_record area draft in
     let may = may_append s client number area draft is_reserved sizes u refl (grown_is s need) valid valid_u there (allowed s area draft is_reserved sizes none) in
-    let joined = (valid_joined space) u client number area entry is_reserved sizes valid_u (omega (arith, two, (grown_no_fewer space) s need)) may refl in
-    let put_rises = (flushed_joined space) u client number area entry is_reserved (own_sum sizes) valid_u may in
+    let joined = valid_joined space u client number area entry is_reserved sizes valid_u (omega (arith, two, grown_no_fewer space s need)) may refl in
+    let put_rises = flushed_joined space u client number area entry is_reserved (own_sum sizes) valid_u may in
     let j : State = hold_sizes area sizes (spend_if is_reserved area n (put u entry)) in
     let held = flushed_hold area sizes (spend_if is_reserved area n (put u entry)) in
     let k : State = seal_if draft.seal j in
@@ -104,12 +104,12 @@ rises_restarted space s client number area bytes base is_reserved valid there no
     let n = length bytes in
     let need = need_of is_reserved n [] in
     let u : State = grown s need in
-    let valid_u : IsValid u = (valid_grown space) s need valid in
+    let valid_u : IsValid u = valid_grown space s need valid in
     let entry = restart_record s area bytes base in
     let may = may_restart s client number area bytes base is_reserved u refl (grown_is s need) valid valid_u there (restart_allowed s area bytes base is_reserved none) in
     let j : State = spend_if is_reserved area n (put u entry) in
-    let joined = (restart_joined space) u client number area entry is_reserved valid_u may in
-    let put_rises = (flushed_joined space) u client number area entry is_reserved (own_sum []) valid_u may in
+    let joined = restart_joined space u client number area entry is_reserved valid_u may in
+    let put_rises = flushed_joined space u client number area entry is_reserved (own_sum []) valid_u may in
     omega (arith, flushed_grown s need, put_rises, flushed_flush j joined.sound, flushed_rebased area.stream base (flush j))
 
 -- a call in an area
@@ -177,7 +177,7 @@ rises_answer space s client (calls.Append number draft is_reserved sizes) none v
     let two = two_of s (in_area s client number (λ (area : Area). append_refusal s area draft is_reserved sizes)) none in
     rises_in s client number (λ area. append_refusal s area draft is_reserved sizes)
     (λ area. outcome (replies.Placed (next_lsn s (length draft.bytes))) (appended s area draft is_reserved sizes)) (area_of s client number) refl two.1
-    (λ area there passes. (rises_appended space) s client number area draft is_reserved sizes valid two.0 there passes)
+    (λ area there passes. rises_appended space s client number area draft is_reserved sizes valid two.0 there passes)
 rises_answer space s client (calls.Flush number) none valid = flushed_flush s (sound_of s valid)
 rises_answer space s client (calls.FlushTo number lsn) none valid = rises_flushed_to s lsn valid
 rises_answer space s client (calls.Read number lsn mode) none valid =
@@ -191,7 +191,7 @@ rises_answer space s client (calls.WriteRestart number bytes base is_reserved) n
     let two = two_of s (in_area s client number (λ (area : Area). restart_refusal s area bytes base is_reserved)) none in
     rises_in s client number (λ area. restart_refusal s area bytes base is_reserved)
     (λ area. outcome (replies.Placed (next_lsn s (length bytes))) (restarted s area bytes base is_reserved)) (area_of s client number) refl two.1
-    (λ area there passes. (rises_restarted space) s client number area bytes base is_reserved valid there passes)
+    (λ area there passes. rises_restarted space s client number area bytes base is_reserved valid there passes)
 rises_answer space s client (calls.ReadRestart number) none valid =
     rises_in s client number (λ area. refused_if (is_none (newest_restart s area.stream)) refusals.NoRestart (too_many_cursors area)) (λ area. read_newest_restart s area)
     (area_of s client number) refl none
@@ -216,18 +216,18 @@ pub flushed_rises : HasSpaceLaws → (told : Bool) (s : State) (client : ℕ) (c
 flushed_rises space told s client call happened reply t valid step =
     let P : State → Type 0 = λ x. flushed s ≤ flushed x in
     step_leads P told s client call happened reply t step
-    (record { same = omega arith; broken = omega arith; answered = λ none. (rises_answer space) s client call none valid })
+    (record { same = omega arith; broken = omega arith; answered = λ none. rises_answer space s client call none valid })
 
 rises_through : HasSpaceLaws → (told : Bool) (before : List Entry) (s t : State) (entries : List Entry) → GoesOn told before s entries t → IsValid s → flushed s ≤ flushed t
 rises_through space told before s t [] goes valid = same_rises (flushed s) (flushed t) (ap flushed goes)
 rises_through space told before s t (entry ∷ entries) goes valid =
     let step = goes.1.0.step in
     let mid : State = goes.0 in
-    let valid_mid = (valid_step space) told s entry.client entry.call entry.happened entry.reply mid valid step in
-    let first = (flushed_rises space) told s entry.client entry.call entry.happened entry.reply mid valid step in
-    let rest = (rises_through space) told (before ++ entry ∷ []) mid t entries goes.1.1 valid_mid in
+    let valid_mid = valid_step space told s entry.client entry.call entry.happened entry.reply mid valid step in
+    let first = flushed_rises space told s entry.client entry.call entry.happened entry.reply mid valid step in
+    let rest = rises_through space told (before ++ entry ∷ []) mid t entries goes.1.1 valid_mid in
     omega (arith, first, rest)
 
 -- along a legal journal
 pub journal_rises : HasSpaceLaws → (told : Bool) (s t : State) (journal : List Entry) → IsLegal told journal s t → IsValid s → flushed s ≤ flushed t
-journal_rises space told s t journal legal valid = (rises_through space) told [] s t journal legal valid
+journal_rises space told s t journal legal valid = rises_through space told [] s t journal legal valid

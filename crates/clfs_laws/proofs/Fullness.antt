@@ -43,7 +43,7 @@ refused_full s need false lacks = refl
 
 full_comes : HasSpaceLaws → (s : State) (need : ℕ) → has_room s need ≡ false → full s need ≡ Some (refusals.Full (free s) (reserved s) need)
 full_comes space s need lacks =
-    refused_full s need (has_room s need) lacks ∙ ap (λ (z : State). Some (refusals.Full (free z) (reserved z) need)) ((as_it_is space) s need lacks)
+    refused_full s need (has_room s need) lacks ∙ ap (λ (z : State). Some (refusals.Full (free z) (reserved z) need)) (as_it_is space s need lacks)
 
 -- behind the tests that all three calls begin with
 in_the_area : (s : State) (client number : ℕ) (area : Area) (rest : Area → Option Refusal) → nat_lt s.containers 2 ≡ false → area_of s client number ≡ Some area
@@ -58,13 +58,13 @@ pub full_reserve : HasSpaceLaws → (s : State) (client number : ℕ) (area : Ar
     → refusal s client (calls.Reserve number sizes) ≡ Some (refusals.Full (free s) (reserved s) (own_sum sizes))
 full_reserve space s client number area sizes two there fits lacks =
     in_the_area s client number area (λ (a : Area). too_long a.largest sizes (full s (own_sum sizes))) two there
-    ∙ (passes_long area sizes (full s (own_sum sizes)) fits ∙ (full_comes space) s (own_sum sizes) lacks)
+    ∙ (passes_long area sizes (full s (own_sum sizes)) fits ∙ full_comes space s (own_sum sizes) lacks)
 
 -- an area that holds enough leaves it to the room, and one that holds too little is refused
 enough_held : HasSpaceLaws → (s : State) (area : Area) (taken need : ℕ) → nat_lt area.held taken ≡ false → has_room s need ≡ false
     → short area taken (full s need) ≡ Some (refusals.Full (free s) (reserved s) need)
 enough_held space s area taken need enough lacks =
-    passes (nat_lt area.held taken) (refusals.ReservationShort area.held taken) (full s need) enough ∙ (full_comes space) s need lacks
+    passes (nat_lt area.held taken) (refusals.ReservationShort area.held taken) (full s need) enough ∙ full_comes space s need lacks
 
 too_little_held : (area : Area) (taken : ℕ) (others : Option Refusal) → nat_lt area.held taken ≡ true
     → short area taken others ≡ Some (refusals.ReservationShort area.held taken)
@@ -94,7 +94,7 @@ pub full_append : HasSpaceLaws → (s : State) (client number : ℕ) (area : Are
     ≡ Some (refusals.Full (free s) (reserved s) (need_of spends (length draft.bytes) sizes))
 full_append space s client number area draft spends sizes two there fits previous undo_next enough lacks =
     to_held_append s client number area draft spends sizes two there fits previous undo_next
-    ∙ (enough_held space) s area (spent_of spends (length draft.bytes)) (need_of spends (length draft.bytes) sizes) enough lacks
+    ∙ enough_held space s area (spent_of spends (length draft.bytes)) (need_of spends (length draft.bytes) sizes) enough lacks
 
 pub short_append : (s : State) (client number : ℕ) (area : Area) (draft : Draft) (spends : Bool) (sizes : List ℕ)
     → nat_lt s.containers 2 ≡ false → area_of s client number ≡ Some area → first_too_long area (length draft.bytes ∷ sizes) ≡ None
@@ -132,7 +132,7 @@ pub full_restart : HasSpaceLaws → (s : State) (client number : ℕ) (area : Ar
     → refusal s client (calls.WriteRestart number bytes base spends) ≡ Some (refusals.Full (free s) (reserved s) (need_of spends (length bytes) []))
 full_restart space s client number area bytes base spends two there fits good enough lacks =
     to_held_restart s client number area bytes base spends two there fits good
-    ∙ (enough_held space) s area (spent_of spends (length bytes)) (need_of spends (length bytes) []) enough lacks
+    ∙ enough_held space s area (spent_of spends (length bytes)) (need_of spends (length bytes) []) enough lacks
 
 pub short_restart : (s : State) (client number : ℕ) (area : Area) (bytes : List ℕ) (base : ℕ) (spends : Bool)
     → nat_lt s.containers 2 ≡ false → area_of s client number ≡ Some area → first_too_long area (length bytes ∷ []) ≡ None

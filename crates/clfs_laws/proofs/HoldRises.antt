@@ -317,7 +317,7 @@ hold_rises space told s client call happened reply t valid step =
       broken = still s (with_broken s) refl;
       answered = λ none. answer_keeps_needs s client call none valid;
     }) in
-    hold_kept s t valid ((valid_step space) told s client call happened reply t valid step) ((flushed_rises space) told s client call happened reply t valid step)
+    hold_kept s t valid (valid_step space told s client call happened reply t valid step) (flushed_rises space told s client call happened reply t valid step)
     (step_adds told s client call happened reply t step) keeps
 
 -- the flushed part of a log needs nothing that the log didn't

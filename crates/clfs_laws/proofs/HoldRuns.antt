@@ -24,7 +24,7 @@ higher_container a b more = omega (arith, more)
 pub container_rises : HasSpaceLaws → (told : Bool) (s : State) (client : ℕ) (call : Call) (happened : Happened) (reply : Reply) (t : State)
     → IsValid s → Step told s client call happened reply t → container_of (hold s) ≤ container_of (hold t)
 container_rises space told s client call happened reply t valid step =
-    higher_container (hold s) (hold t) ((hold_rises space) told s client call happened reply t valid step)
+    higher_container (hold s) (hold t) (hold_rises space told s client call happened reply t valid step)
 
 -- a state whose hold is that of another one
 same_container : (s t : State) → hold t ≡ hold s → container_of (hold s) ≤ container_of (hold t)
@@ -56,12 +56,12 @@ rises_through space told before s t [] goes valid = let same : hold t ≡ hold s
 rises_through space told before s t (entry ∷ entries) goes valid =
     let step = goes.1.0.step in
     let mid : State = goes.0 in
-    let first = (hold_rises space) told s entry.client entry.call entry.happened entry.reply mid valid step in
-    let rest = (rises_through space) told (before ++ entry ∷ []) mid t entries goes.1.1
-    ((valid_step space) told s entry.client entry.call entry.happened entry.reply mid valid step) in
+    let first = hold_rises space told s entry.client entry.call entry.happened entry.reply mid valid step in
+    let rest = rises_through space told (before ++ entry ∷ []) mid t entries goes.1.1
+    (valid_step space told s entry.client entry.call entry.happened entry.reply mid valid step) in
     omega (arith, first, rest)
 
 -- along a legal journal
 pub journal_container_rises : HasSpaceLaws → (told : Bool) (s t : State) (journal : List Entry) → IsValid s → IsLegal told journal s t
     → container_of (hold s) ≤ container_of (hold t)
-journal_container_rises space told s t journal valid legal = higher_container (hold s) (hold t) ((rises_through space) told [] s t journal legal valid)
+journal_container_rises space told s t journal valid legal = higher_container (hold s) (hold t) (rises_through space told [] s t journal legal valid)

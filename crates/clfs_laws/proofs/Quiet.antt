@@ -55,7 +55,7 @@ either false b fails = (refl, fails)
 pub ungrown : HasSpaceLaws → (s : State) (need : ℕ) → grows s need ≡ false → grown s need ≡ s
 ungrown space s need fails =
     let no_more : (grown s need).containers ≤ s.containers = ltb-false s.containers (grown s need).containers fails in
-    let no_fewer = (grown_no_fewer space) s need in
+    let no_fewer = grown_no_fewer space s need in
     let same : (grown s need).containers ≡ s.containers = omega (arith, no_more, no_fewer) in
     grown_is s need ∙ ap (λ n. with_containers n s) same
 
@@ -192,7 +192,7 @@ quiet_appended space s area draft is_reserved sizes valid quiet =
     let held : State = hold_sizes area sizes (spend_if is_reserved area n joined) in
     let seals : (draft.seal && fills_buffers held) ≡ false = ap (λ b. draft.seal && b) (held_fills area is_reserved n sizes joined) ∙ second.1 in
     let as_it_is : appended s area draft is_reserved sizes ≡ seal_if draft.seal held =
-    rw first.1 (ap (λ (g : State). seal_if draft.seal (hold_sizes area sizes (spend_if is_reserved area n (put g entry)))) ((ungrown space) s need third.0)) in
+    rw first.1 (ap (λ (g : State). seal_if draft.seal (hold_sizes area sizes (spend_if is_reserved area n (put g entry)))) (ungrown space s need third.0)) in
     ap cut as_it_is ∙ quiet_seal_if draft.seal held seals ∙ quiet_held area is_reserved n sizes joined ∙ quiet_put s entry valid third.1
 
 -- an outcome that leaves the flushed part
@@ -208,7 +208,7 @@ quiet_opened s name (Some number) is there = rw is refl
 
 quiet_reserved : HasSpaceLaws → (s : State) (area : Area) (sizes : List ℕ) → grows s (own_sum sizes) ≡ false → LeavesCut s (reserved_for s area sizes)
 quiet_reserved space s area sizes quiet =
-    quiet_held area false 0 sizes (grown s (own_sum sizes)) ∙ ap cut ((ungrown space) s (own_sum sizes) quiet)
+    quiet_held area false 0 sizes (grown s (own_sum sizes)) ∙ ap cut (ungrown space s (own_sum sizes) quiet)
 
 quiet_flushed_to : (s : State) (lsn : ℕ) → (nat_le (flushed s) lsn && is_pending s) ≡ false → cut (flushed_to s lsn) ≡ cut s
 quiet_flushed_to s lsn quiet = elim (cases_Bool (nat_lt lsn (flushed s))) [
@@ -234,11 +234,11 @@ quiet_answer : HasSpaceLaws → (s : State) (client : ℕ) (call : Call) → IsV
 quiet_answer space s client (calls.OpenStream name) valid quiet = quiet_opened s name (stream_number s name) refl quiet
 quiet_answer space s client (calls.CreateArea stream largest reads) valid quiet = refl
 quiet_answer space s client (calls.DeleteArea number) valid quiet = refl
-quiet_answer space s client (calls.Reserve number sizes) valid quiet = over s client number _ (λ (area : Area). (quiet_reserved space) s area sizes quiet)
+quiet_answer space s client (calls.Reserve number sizes) valid quiet = over s client number _ (λ (area : Area). quiet_reserved space s area sizes quiet)
 quiet_answer space s client (calls.Release number sectors) valid quiet = over s client number _ (λ (area : Area). refl)
 quiet_answer space s client (calls.Align number sizes) valid quiet = refl
 quiet_answer space s client (calls.Append number draft is_reserved sizes) valid quiet =
-    over s client number _ (λ (area : Area). (quiet_appended space) s area draft is_reserved sizes valid quiet)
+    over s client number _ (λ (area : Area). quiet_appended space s area draft is_reserved sizes valid quiet)
 quiet_answer space s client (calls.Flush number) valid quiet = quiet_flush s quiet
 quiet_answer space s client (calls.FlushTo number lsn) valid quiet = quiet_flushed_to s lsn quiet
 quiet_answer space s client (calls.Read number lsn mode) valid quiet = absurd (cc)
@@ -262,4 +262,4 @@ pub quiet_step : HasSpaceLaws → (told : Bool) (s : State) (client : ℕ) (call
     → IsValid s → calls_disk s call ≡ false → Step told s client call happened reply t → cut t ≡ cut s
 quiet_step space told s client call happened reply t valid quiet step =
     let P : State → Type 0 = λ x. cut x ≡ cut s in
-    step_leads P told s client call happened reply t step (record { same = refl; broken = refl; answered = λ none. (quiet_answer space) s client call valid quiet })
+    step_leads P told s client call happened reply t step (record { same = refl; broken = refl; answered = λ none. quiet_answer space s client call valid quiet })

@@ -64,19 +64,19 @@ grown_by space s wanted (Some n) is lacks =
     absurd (cc (enough, lacks))
 
 grown_if_by : HasSpaceLaws → (s : State) (test : Bool) (wanted : ℕ) → nat_le wanted (free (grown_if test s wanted)) ≡ false → grown_if test s wanted ≡ s
-grown_if_by space s true wanted lacks = (grown_by space) s wanted (growth s.shape s.place (hold s) s.containers (growth_rate s) (size_limit s) wanted) refl lacks
+grown_if_by space s true wanted lacks = grown_by space s wanted (growth s.shape s.place (hold s) s.containers (growth_rate s) (size_limit s) wanted) refl lacks
 grown_if_by space s false wanted lacks = refl
 
 -- a log without room for a call hasn't grown for it
 pub as_it_is : HasSpaceLaws → (s : State) (need : ℕ) → has_room s need ≡ false → grown s need ≡ s
 unfolding grown has_room
-as_it_is space s need lacks = (grown_if_by space) s _ (reserved s + need) lacks
+as_it_is space s need lacks = grown_if_by space s _ (reserved s + need) lacks
 
 pub full_as_it_is : HasSpaceLaws → (s : State) (client : ℕ) (call : Call) (of_free of_reserved need : ℕ) → refusal s client call ≡ Some (refusals.Full of_free of_reserved need)
     → (of_free ≡ free s) × (of_reserved ≡ reserved s)
 full_as_it_is space s client call of_free of_reserved need is =
     let tells = full_told s client call of_free of_reserved need is in
-    let same = (as_it_is space) s need tells.1.0 in
+    let same = as_it_is space s need tells.1.0 in
     (tells.1.1.0 ∙ ap free same, tells.1.1.1 ∙ ap reserved same)
 
 -- it has room for nothing

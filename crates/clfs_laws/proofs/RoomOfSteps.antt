@@ -30,7 +30,7 @@ pub full_step : HasSpaceLaws → (told : Bool) (s : State) (client : ℕ) (call 
 full_step space told s client call happened of_free of_reserved need t step =
     let is = first_refusal told s client call happened (refusals.Full of_free of_reserved need) t refl step in
     let tells = full_told s client call of_free of_reserved need is in
-    let numbers = (full_as_it_is space) s client call of_free of_reserved need is in
+    let numbers = full_as_it_is space s client call of_free of_reserved need is in
     (tells.0, (tells.1.0, numbers))
 
 -- one that is refused for what its area holds took more

@@ -75,14 +75,14 @@ reopening_alike told s u happened reply t valid valid_u same step =
 request_alike : HasSpaceLaws → (told : Bool) (s u : State) (request : Request) (happened : Happened) (reply : Reply) (t : State)
     → IsValid s → IsValid u → IsSame s u → RequestStep told s request happened reply t
     → (v : State) × (RequestStep told u request happened reply v × IsSame t v)
-request_alike space told s u (asks client call) happened reply t valid valid_u same step = (steps_alike space) told s u client call happened reply t valid valid_u same step
+request_alike space told s u (asks client call) happened reply t valid valid_u same step = steps_alike space told s u client call happened reply t valid valid_u same step
 request_alike space told s u (reopens client) happened reply t valid valid_u same step = reopening_alike told s u happened reply t valid valid_u same step
 request_alike space told s u (bad_line at) happened reply t valid valid_u same step = (u, ((step.0, refl), same_as s t u step.1 same))
 
 -- it leaves a valid state
 request_valid : HasSpaceLaws → (told : Bool) (s : State) (request : Request) (happened : Happened) (reply : Reply) (t : State) → IsValid s
     → RequestStep told s request happened reply t → IsValid t
-request_valid space told s (asks client call) happened reply t valid step = (valid_step space) told s client call happened reply t valid step
+request_valid space told s (asks client call) happened reply t valid step = valid_step space told s client call happened reply t valid step
 request_valid space told s (reopens client) happened reply t valid step = valid_reopened told s happened reply t step valid
 request_valid space told s (bad_line at) happened reply t valid step = subst IsValid (sym step.1) valid
 
@@ -92,8 +92,8 @@ pub runs_alike : HasSpaceLaws → (told : Bool) (s u : State) (requests : List R
 runs_alike space told s u [] [] [] t valid valid_u same run = (u, (refl, same_as s t u run same))
 runs_alike space told s u (request ∷ requests) (first ∷ happened) (reply ∷ given) t valid valid_u same run =
     let mid : State = run.0 in
-    let other = (request_alike space) told s u request first reply mid valid valid_u same run.1.0 in
-    let rest = (runs_alike space) told mid other.0 requests happened given t ((request_valid space) told s request first reply mid valid run.1.0)
-    ((request_valid space) told u request first reply other.0 valid_u other.1.0) other.1.1 run.1.1 in
+    let other = request_alike space told s u request first reply mid valid valid_u same run.1.0 in
+    let rest = runs_alike space told mid other.0 requests happened given t (request_valid space told s request first reply mid valid run.1.0)
+    (request_valid space told u request first reply other.0 valid_u other.1.0) other.1.1 run.1.1 in
     (rest.0, ((other.0, (other.1.0, rest.1.0)), rest.1.1))
 runs_alike space told s u _ _ _ t valid valid_u same run = absurd run

@@ -125,8 +125,8 @@ answered_alike space told s u client call reply t valid valid_u same whole step 
       v,
       (
         other,
-        same_onward s u t v alike.more same joined others ((container_rises space) told s client call Fine reply t valid step)
-            ((container_rises space) told u client call Fine reply v valid_u other),
+        same_onward s u t v alike.more same joined others (container_rises space told s client call Fine reply t valid step)
+            (container_rises space told u client call Fine reply v valid_u other),
       ),
     )
 
@@ -137,7 +137,7 @@ fine_alike : HasSpaceLaws → (told : Bool) (s u : State) (client : ℕ) (call :
     → MatchOption first (Comes told (flushed s) (answer s client call) reply t) (λ r. (reply ≡ replies.Refused r) × (t ≡ s))
     → StepsAlike told u client call Fine reply t
 fine_alike space told s u client call reply t None valid valid_u same whole step is comes =
-    (answered_alike space) told s u client call reply t valid valid_u same whole step is comes
+    answered_alike space told s u client call reply t valid valid_u same whole step is comes
 fine_alike space told s u client call reply t (Some first) valid valid_u same whole step is comes =
     let refused : refusal u client call ≡ Some first = sym (refusal_same s u client call valid valid_u same) ∙ is in
     stays told s u client call Fine reply t same comes.1
@@ -149,7 +149,7 @@ goes_alike : HasSpaceLaws → (told : Bool) (s u : State) (client : ℕ) (call :
     → u.broken ≡ false → Step told s client call happened reply t → Goes told s client call happened reply t
     → StepsAlike told u client call happened reply t
 goes_alike space told s u client call Fine reply t valid valid_u same whole step goes =
-    (fine_alike space) told s u client call reply t (refusal s client call) valid valid_u same whole step refl goes
+    fine_alike space told s u client call reply t (refusal s client call) valid valid_u same whole step refl goes
 goes_alike space told s u client call Fault reply t valid valid_u same whole step goes =
     let passes : refusal u client call ≡ None = sym (refusal_same s u client call valid valid_u same) ∙ goes.0 in
     let F : Bool → Type 0 = λ calls. IsTrue calls in
@@ -172,7 +172,7 @@ steps_by space told s u client call happened reply t false is valid valid_u same
     elim (whole_step told s client call happened reply t is step) [
       | inl want ↦ stays told s u client call happened reply t same want.1.1
           (to_whole told u client call happened reply u other (inl (want.0, (want.1.0, refl))))
-      | inr goes ↦ (goes_alike space) told s u client call happened reply t valid valid_u same other step goes
+      | inr goes ↦ goes_alike space told s u client call happened reply t valid valid_u same other step goes
     ]
 
 -- each step of one is a step of the other
@@ -180,4 +180,4 @@ pub steps_alike : HasSpaceLaws → (told : Bool) (s u : State) (client : ℕ) (c
     → IsValid s → IsValid u → IsSame s u → Step told s client call happened reply t
     → (v : State) × (Step told u client call happened reply v × IsSame t v)
 steps_alike space told s u client call happened reply t valid valid_u same step =
-    (steps_by space) told s u client call happened reply t s.broken refl valid valid_u same step
+    steps_by space told s u client call happened reply t s.broken refl valid valid_u same step

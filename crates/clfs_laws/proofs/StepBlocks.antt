@@ -84,7 +84,7 @@ blocks_answer space s client (calls.Append number draft is_reserved sizes) none 
     let two = two_of s (in_area s client number (λ (area : Area). append_refusal s area draft is_reserved sizes)) none in
     in_each HasBlocks s client number (λ area. append_refusal s area draft is_reserved sizes)
     (λ area. outcome (replies.Placed (next_lsn s (length draft.bytes))) (appended s area draft is_reserved sizes)) (area_of s client number) refl two.1
-    (λ area there passes. (blocks_appended space) s client number area draft is_reserved sizes valid there passes blocks)
+    (λ area there passes. blocks_appended space s client number area draft is_reserved sizes valid there passes blocks)
 blocks_answer space s client (calls.Flush number) none valid blocks = blocks_flush s blocks
 blocks_answer space s client (calls.FlushTo number lsn) none valid blocks = blocks_flushed_to s lsn blocks
 blocks_answer space s client (calls.Read number lsn mode) none valid blocks = over s client number _ (λ (area : Area).
@@ -96,7 +96,7 @@ blocks_answer space s client (calls.WriteRestart number bytes base is_reserved) 
     let two = two_of s (in_area s client number (λ (area : Area). restart_refusal s area bytes base is_reserved)) none in
     in_each HasBlocks s client number (λ area. restart_refusal s area bytes base is_reserved)
     (λ area. outcome (replies.Placed (next_lsn s (length bytes))) (restarted s area bytes base is_reserved)) (area_of s client number) refl two.1
-    (λ area there passes. (blocks_restarted space) s client number area bytes base is_reserved valid there passes blocks)
+    (λ area there passes. blocks_restarted space s client number area bytes base is_reserved valid there passes blocks)
 blocks_answer space s client (calls.ReadRestart number) none valid blocks = over s client number _ (λ (area : Area).
     of_option LaidIn (newest_restart s area.stream) _ _ (λ (entry : LogEntry). same s _ refl refl refl blocks) blocks) blocks
 blocks_answer space s client (calls.PreviousRestart number cursor) none valid blocks =
@@ -118,5 +118,5 @@ blocks_step space told s client call happened reply t valid blocks step =
     step_leads HasBlocks told s client call happened reply t step (record {
       same = blocks;
       broken = same s (with_broken s) refl refl refl blocks;
-      answered = λ none. (blocks_answer space) s client call none valid blocks;
+      answered = λ none. blocks_answer space s client call none valid blocks;
     })

@@ -82,7 +82,7 @@ blocks_put space s entry sound takes joining blocks =
     let n = length entry.bytes in
     let t : State = put s entry in
     let e : LogEntry = placed entry (next_lsn s n) in
-    let is = (sound_put space) s entry sound takes joining in
+    let is = sound_put space s entry sound takes joining in
     let last : Place = behind_all before_all s.records in
     let on = next_goes_on s.shape last s.place e sound.ranges.shape sound.ranges.place blocks.place refl in
     let shape : t.shape ≡ s.shape = put_shape s entry in
@@ -144,7 +144,7 @@ blocks_joined space s client number area entry is_reserved more valid may blocks
     let has = some.1.0 in
     let takes : TakesRecord v n = record { short = has.short; room = omega (arith, has.room) } in
     subst HasBlocks (spend_first is_reserved area n s entry)
-    ((blocks_put space) v entry (sound_of v has.valid) takes has.joining (blocks_spent is_reserved area n s blocks))
+    (blocks_put space v entry (sound_of v has.valid) takes has.joining (blocks_spent is_reserved area n s blocks))
 
 -- an append that isn't refused
 pub blocks_appended : HasSpaceLaws → (s : State) (client number : ℕ) (area : Area) (draft : Draft) (is_reserved : Bool) (sizes : List ℕ) → IsValid s
@@ -153,10 +153,10 @@ pub blocks_appended : HasSpaceLaws → (s : State) (client number : ℕ) (area :
 blocks_appended space s client number area draft is_reserved sizes valid there none blocks =
     let need = need_of is_reserved (length draft.bytes) sizes in
     let u : State = grown s need in
-    let valid_u : IsValid u = (valid_grown space) s need valid in
+    let valid_u : IsValid u = valid_grown space s need valid in
     let may =
     may_append s client number area draft is_reserved sizes u refl (grown_is s need) valid valid_u there (allowed s area draft is_reserved sizes none) in
-    let joined = (blocks_joined space) u client number area (plain_record area draft) is_reserved _ valid_u may (blocks_grown s need blocks) in
+    let joined = blocks_joined space u client number area (plain_record area draft) is_reserved _ valid_u may (blocks_grown s need blocks) in
     blocks_flush_if draft.flush _ (blocks_seal_if draft.seal _ (blocks_hold area sizes _ joined))
 
 -- a new base
@@ -173,8 +173,8 @@ pub blocks_restarted : HasSpaceLaws → (s : State) (client number : ℕ) (area 
 blocks_restarted space s client number area bytes base is_reserved valid there none blocks =
     let need = need_of is_reserved (length bytes) [] in
     let u : State = grown s need in
-    let valid_u : IsValid u = (valid_grown space) s need valid in
+    let valid_u : IsValid u = valid_grown space s need valid in
     let may = of_restarts.may_restart s client number area bytes base is_reserved u refl (grown_is s need) valid valid_u there
     (of_restarts.allowed s area bytes base is_reserved none) in
-    let joined = (blocks_joined space) u client number area (restart_record s area bytes base) is_reserved _ valid_u may (blocks_grown s need blocks) in
+    let joined = blocks_joined space u client number area (restart_record s area bytes base) is_reserved _ valid_u may (blocks_grown s need blocks) in
     blocks_rebased area.stream base _ (blocks_flush _ joined)

@@ -51,15 +51,15 @@ storable_through : HasSpaceLaws → (told : Bool) (before : List Entry) (s t : S
 storable_through space told before s t [] goes valid storable meets = storable_as s t goes storable
 storable_through space told before s t (entry ∷ entries) goes valid storable meets =
     let step = goes.1.0.step in
-    (storable_through space) told (before ++ entry ∷ []) goes.0 t entries goes.1.1
-    ((valid_step space) told s entry.client entry.call entry.happened entry.reply goes.0 valid step)
-    ((storable_step space) told s entry.client entry.call entry.happened entry.reply goes.0 valid storable meets.0 step) meets.1
+    storable_through space told (before ++ entry ∷ []) goes.0 t entries goes.1.1
+    (valid_step space told s entry.client entry.call entry.happened entry.reply goes.0 valid step)
+    (storable_step space told s entry.client entry.call entry.happened entry.reply goes.0 valid storable meets.0 step) meets.1
 
 -- so does a journal whose calls meet their conditions
 pub storable_journal : HasSpaceLaws → (told : Bool) (s t : State) (journal : List Entry) → IsLegal told journal s t → IsValid s → IsStorable s
     → All (λ (entry : Entry). MeetsCondition entry.client entry.call) journal → IsStorable t
 storable_journal space told s t journal legal valid storable meets =
-    (storable_through space) told [] s t journal legal valid storable (recursion_from_All (λ (entry : Entry). MeetsCondition entry.client entry.call) journal meets)
+    storable_through space told [] s t journal legal valid storable (recursion_from_All (λ (entry : Entry). MeetsCondition entry.client entry.call) journal meets)
 
 -- what one request leaves
 pub record IsKept (t : State) : Type 0 where
@@ -70,8 +70,8 @@ pub request_keeps : HasSpaceLaws → (told : Bool) (s : State) (request : Reques
     → RequestStep told s request happened reply t
     → RequestMeets request → IsKept s → IsKept t
 request_keeps space told s (asks client call) happened reply t step meets kept = record {
-  valid = (valid_step space) told s client call happened reply t kept.valid step;
-  storable = (storable_step space) told s client call happened reply t kept.valid kept.storable meets step;
+  valid = valid_step space told s client call happened reply t kept.valid step;
+  storable = storable_step space told s client call happened reply t kept.valid kept.storable meets step;
 }
 request_keeps space told s (reopens client) happened reply t step meets kept = record {
   valid = valid_reopened told s happened reply t step kept.valid;
@@ -89,11 +89,11 @@ run_keeps space told s [] (happened ∷ more) replies t run meets kept = absurd 
 run_keeps space told s (request ∷ requests) [] replies t run meets kept = absurd run
 run_keeps space told s (request ∷ requests) (happened ∷ more) [] t run meets kept = absurd run
 run_keeps space told s (request ∷ requests) (happened ∷ more) (reply ∷ replies) t run meets kept =
-    (run_keeps space) told run.0 requests more replies t run.1.1 meets.1 ((request_keeps space) told s request happened reply run.0 run.1.0 meets.0 kept)
+    run_keeps space told run.0 requests more replies t run.1.1 meets.1 (request_keeps space told s request happened reply run.0 run.1.0 meets.0 kept)
 
 -- and a run of requests that meet their conditions
 pub kept_run : HasSpaceLaws → (told : Bool) (s : State) (requests : List Request) (happened : List Happened) (replies : List Reply) (t : State)
     → Run told s requests happened replies t
     → All RequestMeets requests → IsKept s → IsKept t
 kept_run space told s requests happened replies t run meets kept =
-    (run_keeps space) told s requests happened replies t run (recursion_from_All RequestMeets requests meets) kept
+    run_keeps space told s requests happened replies t run (recursion_from_All RequestMeets requests meets) kept

@@ -180,7 +180,7 @@ storable_answer space s client (calls.Append number draft is_reserved sizes) non
     (λ area. outcome (replies.Placed (next_lsn s (length draft.bytes))) (appended s area draft is_reserved sizes)) (area_of s client number) refl two.1
     (λ area there passes. record {
       bases = bases_appended s area draft is_reserved sizes storable.bases;
-      blocks = (blocks_appended space) s client number area draft is_reserved sizes valid there passes storable.blocks;
+      blocks = blocks_appended space s client number area draft is_reserved sizes valid there passes storable.blocks;
       limits = limits_appended s area draft is_reserved sizes storable.limits;
     })
 storable_answer space s client (calls.Flush number) none meets valid storable = storable_flush s storable
@@ -202,7 +202,7 @@ storable_answer space s client (calls.WriteRestart number bytes base is_reserved
     (λ area. outcome (replies.Placed (next_lsn s (length bytes))) (restarted s area bytes base is_reserved)) (area_of s client number) refl two.1
     (λ area there passes. record {
       bases = bases_restarted s client number area bytes base is_reserved valid there passes storable.bases;
-      blocks = (blocks_restarted space) s client number area bytes base is_reserved valid there passes storable.blocks;
+      blocks = blocks_restarted space s client number area bytes base is_reserved valid there passes storable.blocks;
       limits = limits_restarted s area bytes base is_reserved storable.limits;
     })
 storable_answer space s client (calls.ReadRestart number) none meets valid storable =
@@ -240,5 +240,5 @@ storable_step space told s client call happened reply t valid storable meets ste
     step_leads IsStorable told s client call happened reply t step (record {
       same = storable;
       broken = storable_same s (with_broken s) refl refl refl refl refl storable;
-      answered = λ none. (storable_answer space) s client call none meets valid storable;
+      answered = λ none. storable_answer space s client call none meets valid storable;
     })

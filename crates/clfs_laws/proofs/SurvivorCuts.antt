@@ -167,7 +167,7 @@ pub is_cut : HasSpaceLaws → (told : Bool) (s t x : State) (client : ℕ) (call
     → LeavesStable s t → IsSurvivor (asks client call) s t x → record x { buffers = s.buffers } ≡ cut s
 is_cut space told s t x client call reply valid storable step leaves survives =
     is_cut_by (asks client call) s t x leaves survives (records_are told s t x client call reply valid step leaves survives)
-    (survivor_low s t x ((valid_step space) told s client call Fine reply t valid step) ((blocks_step space) told s client call Fine reply t valid storable.blocks step) survives.place.end)
+    (survivor_low s t x (valid_step space told s client call Fine reply t valid step) (blocks_step space told s client call Fine reply t valid storable.blocks step) survives.place.end)
 
 -- so no reply can show a difference
 itself : (s t : State) → t ≡ s → IsSame s t
@@ -176,4 +176,4 @@ itself s t same = let F : State → Type 0 = λ x. IsSame s x in subst F (sym sa
 pub is_same : HasSpaceLaws → (told : Bool) (s t x : State) (client : ℕ) (call : Call) (reply : Reply) → IsValid s → IsStorable s → Step told s client call Fine reply t
     → LeavesStable s t → IsSurvivor (asks client call) s t x → IsSame (cut s) (record x { buffers = s.buffers })
 is_same space told s t x client call reply valid storable step leaves survives =
-    itself (cut s) (record x { buffers = s.buffers }) ((is_cut space) told s t x client call reply valid storable step leaves survives)
+    itself (cut s) (record x { buffers = s.buffers }) (is_cut space told s t x client call reply valid storable step leaves survives)

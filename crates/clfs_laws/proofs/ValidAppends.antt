@@ -37,7 +37,7 @@ valid_put : HasSpaceLaws → (s : State) (entry : LogEntry) → IsValid s → Ta
     → entry.kind ≡ Plain → IsValid (put s entry)
 valid_put space s entry valid takes joining plain =
     let t = put s entry in
-    let is = (sound_put space) s entry (sound_of s valid) takes joining in
+    let is = sound_put space s entry (sound_of s valid) takes joining in
     valid_of t is.sound (All-push (λ (e : LogEntry). e.kind ≡ Restart → e.lsn < flushed t) s.records (placed entry (next_lsn s (length entry.bytes)))
     (restarts_still s t is.more valid.stable.restarts) (λ restart. absurd (cc (plain, restart))))
 
@@ -138,8 +138,8 @@ valid_joined space s client number area entry is_reserved sizes valid two may pl
     let has = some.1.0 in
     let t : State = put v entry in
     let takes : TakesRecord v n = record { short = has.short; room = omega (arith, has.room) } in
-    let is = (sound_put space) v entry (sound_of v has.valid) takes has.joining in
-    let valid_t = (valid_put space) v entry has.valid takes has.joining plain in
+    let is = sound_put space v entry (sound_of v has.valid) takes has.joining in
+    let valid_t = valid_put space v entry has.valid takes has.joining plain in
     let same = put_areas v entry in
     let sum : reserved t ≡ reserved v = ap held_sum same in
     let there : area_of t client number ≡ Some after = ap (λ (areas : List Area). find (is_area client number) areas) same ∙ has.area_there in
@@ -242,7 +242,7 @@ pub valid_appended : HasSpaceLaws → (s : State) (client number : ℕ) (area : 
 valid_appended space s client number area draft is_reserved sizes valid two there none =
     let need = need_of is_reserved (length draft.bytes) sizes in
     let u : State = grown s need in
-    let valid_u : IsValid u = (valid_grown space) s need valid in
+    let valid_u : IsValid u = valid_grown space s need valid in
     let may = may_append s client number area draft is_reserved sizes u refl (grown_is s need) valid valid_u there (allowed s area draft is_reserved sizes none) in
-    let joined = (valid_joined space) u client number area (plain_record area draft) is_reserved sizes valid_u (omega (arith, two, (grown_no_fewer space) s need)) may refl in
+    let joined = valid_joined space u client number area (plain_record area draft) is_reserved sizes valid_u (omega (arith, two, grown_no_fewer space s need)) may refl in
     valid_flush_if draft.flush _ (valid_seal_if draft.seal _ joined)

@@ -253,7 +253,7 @@ valid_reserved space s client number sizes area is room two valid =
     let there : area_of g client number ≡ Some area = ap (λ (areas : List Area). find (is_area client number) areas) same ∙ is in
     let sum : reserved g ≡ reserved s = ap held_sum same in
     let enough : reserved s + need ≤ free g = room_is s need room in
-    valid_sizes g client number sizes area there (omega (arith, enough, sum)) (omega (arith, two, (grown_no_fewer space) s need)) ((valid_grown space) s need valid)
+    valid_sizes g client number sizes area there (omega (arith, enough, sum)) (omega (arith, two, grown_no_fewer space s need)) (valid_grown space s need valid)
 
 -- a cursor of an area
 pub valid_cursor : (s : State) (client number : ℕ) (area : Area) (change : Area → Area) → area_of s client number ≡ Some area → KeepsName change

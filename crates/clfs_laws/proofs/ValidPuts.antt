@@ -251,12 +251,12 @@ put_by joining beginning s entry = record (if joining then s else if beginning t
 sound_put_by : HasSpaceLaws → (s : State) (entry : LogEntry) (joining beginning : Bool) → joins s.shape s.place (length entry.bytes) ≡ joining
     → begins_here s.shape s.place (length entry.bytes) ≡ beginning → IsSound s → TakesRecord s (length entry.bytes)
     → IsJoining s (placed entry (after_by joining beginning s.place (length entry.bytes)).0) → IsPut s (put_by joining beginning s entry) (length entry.bytes)
-sound_put_by space s entry true beginning fits here sound takes joining = (put_joined space) s entry sound takes fits joining
-sound_put_by space s entry false true apart here sound takes joining = (put_here space) s entry sound takes apart here joining
-sound_put_by space s entry false false apart beyond sound takes joining = (put_next space) s entry sound takes apart beyond joining
+sound_put_by space s entry true beginning fits here sound takes joining = put_joined space s entry sound takes fits joining
+sound_put_by space s entry false true apart here sound takes joining = put_here space s entry sound takes apart here joining
+sound_put_by space s entry false false apart beyond sound takes joining = put_next space s entry sound takes apart beyond joining
 
 -- in each case
 pub sound_put : HasSpaceLaws → (s : State) (entry : LogEntry) → IsSound s → TakesRecord s (length entry.bytes) → IsJoining s (placed entry (next_lsn s (length entry.bytes)))
     → IsPut s (put s entry) (length entry.bytes)
 sound_put space s entry sound takes joining =
-    (sound_put_by space) s entry (joins s.shape s.place (length entry.bytes)) (begins_here s.shape s.place (length entry.bytes)) refl refl sound takes joining
+    sound_put_by space s entry (joins s.shape s.place (length entry.bytes)) (begins_here s.shape s.place (length entry.bytes)) refl refl sound takes joining

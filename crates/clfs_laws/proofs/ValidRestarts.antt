@@ -182,7 +182,7 @@ restart_joined space s client number area entry is_reserved valid may =
     let v : State = spend_if is_reserved area n s in
     let has = some.1.0 in
     let takes : TakesRecord v n = record { short = has.short; room = omega (arith, has.room) } in
-    let is = (sound_put space) v entry (sound_of v has.valid) takes has.joining in
+    let is = sound_put space v entry (sound_of v has.valid) takes has.joining in
     let place : (spend_if is_reserved area n (put s entry)).place ≡ (put s entry).place = spend_place is_reserved area n (put s entry) in
     let same : frontier (spend_if is_reserved area n (put s entry)).place ≡ frontier (put s entry).place = ap frontier place in
     record {
@@ -204,11 +204,11 @@ valid_restarted space s client number area bytes base is_reserved valid there no
     let n = length bytes in
     let need = need_of is_reserved n [] in
     let u : State = grown s need in
-    let valid_u : IsValid u = (valid_grown space) s need valid in
+    let valid_u : IsValid u = valid_grown space s need valid in
     let allows = allowed s area bytes base is_reserved none in
     let entry = restart_record s area bytes base in
     let may = may_restart s client number area bytes base is_reserved u refl (grown_is s need) valid valid_u there allows in
-    let joined = (restart_joined space) u client number area entry is_reserved valid_u may in
+    let joined = restart_joined space u client number area entry is_reserved valid_u may in
     let j : State = spend_if is_reserved area n (put u entry) in
     let above = frontier_flushed j joined.sound in
     let same : frontier u.place ≡ frontier s.place = ap (λ (x : State). frontier x.place) (grown_is s need) in

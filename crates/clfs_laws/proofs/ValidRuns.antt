@@ -40,12 +40,12 @@ valid_reopened told s happened reply t step valid = reopened_by told s happened 
 valid_through : HasSpaceLaws → (told : Bool) (before : List Entry) (s t : State) (entries : List Entry) → GoesOn told before s entries t → IsValid s → IsValid t
 valid_through space told before s t [] goes valid = valid_as s t goes valid
 valid_through space told before s t (entry ∷ entries) goes valid =
-    (valid_through space) told (before ++ entry ∷ []) goes.0 t entries goes.1.1
-    ((valid_step space) told s entry.client entry.call entry.happened entry.reply goes.0 valid goes.1.0.step)
+    valid_through space told (before ++ entry ∷ []) goes.0 t entries goes.1.1
+    (valid_step space told s entry.client entry.call entry.happened entry.reply goes.0 valid goes.1.0.step)
 
 -- a journal leaves a valid state
 pub valid_journal : HasSpaceLaws → (told : Bool) (s t : State) (journal : List Entry) → IsLegal told journal s t → IsValid s → IsValid t
-valid_journal space told s t journal legal valid = (valid_through space) told [] s t journal legal valid
+valid_journal space told s t journal legal valid = valid_through space told [] s t journal legal valid
 
 -- an area that holds something is there
 pub record HoldsEnough (s : State) (client number n : ℕ) : Type 0 where

@@ -86,13 +86,13 @@ grown_more space s wanted (Some n) valid is =
     valid_more s n valid (omega (arith, step.whole_steps.2)) (omega (arith, step.at_most, limit_few s s.maximum valid.policies.maximum))
 
 grown_by : HasSpaceLaws → (s : State) (test : Bool) (wanted : ℕ) → IsValid s → IsValid (grown_if test s wanted)
-grown_by space s true wanted valid = (grown_more space) s wanted (growth s.shape s.place (hold s) s.containers (growth_rate s) (size_limit s) wanted) valid refl
+grown_by space s true wanted valid = grown_more space s wanted (growth s.shape s.place (hold s) s.containers (growth_rate s) (size_limit s) wanted) valid refl
 grown_by space s false wanted valid = valid
 
 -- a log that grows stays valid
 pub valid_grown : HasSpaceLaws → (s : State) (need : ℕ) → IsValid s → IsValid (grown s need)
 unfolding grown
-valid_grown space s need valid = (grown_by space) s _ (reserved s + need) valid
+valid_grown space s need valid = grown_by space s _ (reserved s + need) valid
 
 -- a valid state with other policies, such as may be installed
 pub valid_policies : (s : State) (maximum minimum growth_policy : Option ℕ) (automatic : Bool) → IsValid s
@@ -245,13 +245,13 @@ more_by space s wanted (Some n) is =
     let step = space.growth s.shape s.place (hold s) s.containers (growth_rate s) (size_limit s) wanted n is in omega (arith, step.whole_steps.2)
 
 more_if : HasSpaceLaws → (s : State) (test : Bool) (wanted : ℕ) → s.containers ≤ (grown_if test s wanted).containers
-more_if space s true wanted = (more_by space) s wanted (growth s.shape s.place (hold s) s.containers (growth_rate s) (size_limit s) wanted) refl
+more_if space s true wanted = more_by space s wanted (growth s.shape s.place (hold s) s.containers (growth_rate s) (size_limit s) wanted) refl
 more_if space s false wanted = omega arith
 
 -- a log that grows has no fewer containers
 pub grown_no_fewer : HasSpaceLaws → (s : State) (need : ℕ) → s.containers ≤ (grown s need).containers
 unfolding grown
-grown_no_fewer space s need = (more_if space) s _ (reserved s + need)
+grown_no_fewer space s need = more_if space s _ (reserved s + need)
 
 only_containers : (s : State) (test : Bool) (wanted : ℕ) → grown_if test s wanted ≡ with_containers (grown_if test s wanted).containers s
 only_containers s true wanted = refl

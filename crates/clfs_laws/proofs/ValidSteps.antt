@@ -92,7 +92,7 @@ valid_reserving : HasSpaceLaws → (s : State) (client number : ℕ) (sizes : Li
 valid_reserving space s client number sizes area two there none valid =
     let need = own_sum sizes in
     let room = passed (not (has_room s need)) (refusals.Full (free (grown s need)) (reserved (grown s need)) need) None (passed_long area.largest sizes (full s need) none) in
-    (valid_reserved space) s client number sizes area there (true_of_not _ room.0) two valid
+    valid_reserved space s client number sizes area there (true_of_not _ room.0) two valid
 
 -- what a call that isn't refused leaves
 pub valid_answer : HasSpaceLaws → (s : State) (client : ℕ) (call : Call) → refusal s client call ≡ None → IsValid s → IsValid (answer s client call).state
@@ -102,7 +102,7 @@ valid_answer space s client (calls.DeleteArea number) none valid = valid_deleted
 valid_answer space s client (calls.Reserve number sizes) none valid =
     let two = two_of s (in_area s client number (λ (area : Area). too_long area.largest sizes (full s (own_sum sizes)))) none in
     valid_in s client number (λ area. too_long area.largest sizes (full s (own_sum sizes))) (λ area. reserved_for s area sizes) (area_of s client number) refl two.1
-    (λ area there passes. (valid_reserving space) s client number sizes area two.0 there passes valid)
+    (λ area there passes. valid_reserving space s client number sizes area two.0 there passes valid)
 valid_answer space s client (calls.Release number sectors) none valid =
     valid_in s client number (λ area. short area sectors None) (λ area. released s area sectors) (area_of s client number) refl none
     (λ area there passes. valid_released s client number sectors area there valid)
@@ -111,7 +111,7 @@ valid_answer space s client (calls.Append number draft is_reserved sizes) none v
     let two = two_of s (in_area s client number (λ (area : Area). append_refusal s area draft is_reserved sizes)) none in
     valid_in s client number (λ area. append_refusal s area draft is_reserved sizes)
     (λ area. outcome (replies.Placed (next_lsn s (length draft.bytes))) (appended s area draft is_reserved sizes)) (area_of s client number) refl two.1
-    (λ area there passes. (valid_appended space) s client number area draft is_reserved sizes valid two.0 there passes)
+    (λ area there passes. valid_appended space s client number area draft is_reserved sizes valid two.0 there passes)
 valid_answer space s client (calls.Flush number) none valid = valid_flush s (sound_of s valid)
 valid_answer space s client (calls.FlushTo number lsn) none valid = valid_flushed_to s lsn valid
 valid_answer space s client (calls.Read number lsn mode) none valid =
@@ -126,7 +126,7 @@ valid_answer space s client (calls.WriteRestart number bytes base is_reserved) n
     let two = two_of s (in_area s client number (λ (area : Area). restart_refusal s area bytes base is_reserved)) none in
     valid_in s client number (λ area. restart_refusal s area bytes base is_reserved)
     (λ area. outcome (replies.Placed (next_lsn s (length bytes))) (restarted s area bytes base is_reserved)) (area_of s client number) refl two.1
-    (λ area there passes. (valid_restarted space) s client number area bytes base is_reserved valid there passes)
+    (λ area there passes. valid_restarted space s client number area bytes base is_reserved valid there passes)
 valid_answer space s client (calls.ReadRestart number) none valid =
     valid_in s client number (λ area. refused_if (is_none (newest_restart s area.stream)) refusals.NoRestart (too_many_cursors area)) (λ area. read_newest_restart s area)
     (area_of s client number) refl none
@@ -142,7 +142,7 @@ valid_answer space s client (calls.SetArchiveTail lsn) none valid = valid_tail s
 valid_answer space s client calls.ListExtents none valid = valid
 valid_answer space s client (calls.InstallPolicy policy) none valid = valid_installed s policy valid none
 valid_answer space s client (calls.RemovePolicy kind) none valid = valid_removed s kind valid
-valid_answer space s client (calls.SetSize containers) none valid = (valid_sized space) s containers valid none
+valid_answer space s client (calls.SetSize containers) none valid = valid_sized space s containers valid none
 valid_answer space s client (calls.Info stream) none valid = valid
 
 -- what every step leaves
@@ -150,4 +150,4 @@ pub valid_step : HasSpaceLaws → (told : Bool) (s : State) (client : ℕ) (call
     → IsValid s → Step told s client call happened reply t → IsValid t
 valid_step space told s client call happened reply t valid step =
     step_leads IsValid told s client call happened reply t step
-    (record { same = valid; broken = valid_broken s true valid; answered = λ none. (valid_answer space) s client call none valid })
+    (record { same = valid; broken = valid_broken s true valid; answered = λ none. valid_answer space s client call none valid })
