@@ -187,14 +187,14 @@ impl Disk for Memory {
         ensures bytes { bytes_of self.new ≡ bytes_of self.old }
         ensures plan { plan_of self.new ≡ plan_of self.old }
     {
-        if self.admits() {
-            let count = self.files[file as usize].read_at(at, out);
-            self.history.note(Event::Read);
-            self.calls = self.calls.saturating_add(1);
-            Ok(count)
-        } else {
-            Err(self.refuse())
+        let may_read = self.admits();
+        if !may_read {
+            return Err(self.refuse());
         }
+        let count = self.files[file as usize].read_at(at, out);
+        self.history.note(Event::Read);
+        self.calls = self.calls.saturating_add(1);
+        Ok(count)
     }
 
     /// Writes, exactly where the call is admitted, its bytes have room in the record, and the file has the range. A write that
@@ -251,8 +251,8 @@ impl Disk for Memory {
         ensures bytes { bytes_of self.new ≡ bytes_of self.old }
         ensures plan { plan_of self.new ≡ plan_of self.old }
     {
-        let admitted = self.admits();
-        if !admitted {
+        let may_grow = self.admits();
+        if !may_grow {
             let _ = self.refuse();
             return Err(GrowRefusal::Failed);
         }

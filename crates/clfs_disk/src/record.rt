@@ -1,6 +1,6 @@
 // The record of a disk in memory: each call that it did, with the bytes of the writes, in room that was taken at first. So
 // a call that is recorded never wants memory.
-ghost use Rattle.std.specs.Prelude.{◌≡◌, ◌+◌, ◌<◌, ◌≤◌, ◌++◌, ◌↔◌, [], ◌∷◌, length, IsTrue, IfOk, Contains, nat_lt, if◌then◌else◌, vec_len, vec_capacity};
+ghost use Rattle.std.specs.Prelude.{◌≡◌, ◌+◌, ◌<◌, ◌≤◌, ◌++◌, ◌↔◌, [], ◌∷◌, true, length, IsTrue, IfOk, Contains, nat_lt, if◌then◌else◌, vec_len, vec_capacity};
 ghost use Rattle.clfs_disk.specs.declared.record.Event.TheVariants.{Refused, Wrote};
 
 use std::alloc::{AllocError, Global};
@@ -54,7 +54,8 @@ impl Record {
 
     /// Whether the next call has a place in the record.
     pub fn has_call(&self) -> bool
-        ensures { result ≡ nat_lt (vec_len self.now.calls) self.now.call_room }
+        ensures exact { result ≡ nat_lt (vec_len self.now.calls) self.now.call_room }
+        ensures room { result ≡ true → vec_len self.now.calls < self.now.call_room }
     {
         self.calls.len() < self.call_room
     }

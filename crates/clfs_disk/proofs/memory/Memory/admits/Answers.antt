@@ -11,7 +11,7 @@ negated false is = ((λ no holds. absurd (cc (is.1 holds))), λ fails. refl)
 pub returns-clause-exact : goal.returns-clause-exact
 returns-clause-exact c =
     let disk = c.args.self.now in
-    let place : vec_len disk.history.calls < disk.history.call_room = ltb-true _ _ (sym c.has_call.ensures ∙ c.if-not-has_call.false) in
+    let place : vec_len disk.history.calls < disk.history.call_room = ltb-true _ _ (sym c.has_call.ensures.exact ∙ c.if-not-has_call.false) in
     let number : vec_len disk.history.calls + 1 ≡ disk.calls + 1 = omega (arith, disk.counted, place) in
     let listed = subst (λ (n : ℕ). (IsTrue c.fails_next.result → Contains disk.history.failing.items n)
     × (Contains disk.history.failing.items n → IsTrue c.fails_next.result)) number c.fails_next.ensures in

@@ -19,7 +19,7 @@ invariant_of-self c =
           ∙ sym (append-nil _)) refl holds.read holds.synced holds.sound;
     }
 
-pub returns-then-admits-clause-time : goal.returns-then-admits-clause-time
-returns-then-admits-clause-time c = passes_noted Unchanged _ _ c.args.self.now.history.calls.items _ c.args.self.now.history.written.items _ [] Read _ _ _ _ _
+pub returns-clause-time : goal.returns-clause-time
+returns-clause-time c = passes_noted Unchanged _ _ c.args.self.now.history.calls.items _ c.args.self.now.history.written.items _ [] Read _ _ _ _ _
     (λ file. refl) c.note.ensures.calls (ap (λ (v : Vec ℕ Global). v.items) c.note.ensures.written ∙ sym (append-nil _)) c.args.self.now.holds.bytes refl
     (λ image at. image_same (now_of c.args.self.now.files.items c.args.self.now.history.calls.items c.args.self.now.history.written.items) image at)
