@@ -9,7 +9,7 @@ ghost use Rattle.clfs_rows.specs.Worked.{worked, opened_log};
 ghost use Rattle.clfs_rows.specs.Filled.{empty_record};
 ghost use Rattle.clfs_rows.specs.Crashes.{closed_at, with_base, waiting_log, long_log};
 ghost use Rattle.clfs_rows.specs.Compared.{two_containers, with_one_changed, with_link_to_itself};
-ghost use Rattle.clfs_rows.specs.Arranged.{arranged_log, an_area, with_areas, with_cursors, cursor_at, with_place, with_records, empty_restart, open_log};
+ghost use Rattle.clfs_rows.specs.Arranged.{arranged_log, an_area, with_areas, with_cursors, cursor_at, with_place, with_records, empty_restart, open_log, block_of};
 
 /// A log is in one behind all these lines.
 pub fn states_that_a_log_can_be_in()
@@ -34,6 +34,9 @@ pub fn numbers_in_their_ranges()
     ensures whole_sectors { ¬ IsValid (with_place (closed_at 1 100) worked) }
     ensures within_the_container { ¬ IsValid (with_place (closed_at 1 4608) worked) }
     ensures no_bytes_without_records { ¬ IsValid (with_place (record (closed_at 1 0) { used = 16 }) worked) }
+    ensures no_records_without_bytes { ¬ IsValid (with_place (record (closed_at 1 0) { records = 1 }) open_log) }
+    ensures the_most_records_of_a_block { IsValid (block_of 511) }
+    ensures no_more_records_of_a_block { ¬ IsValid (block_of 512) }
     ensures a_block_that_is_no_longer_than_it_may_be { ¬ IsValid (with_place (record (closed_at 1 0) { used = 1016; records = 1 }) open_log) }
 {}
 
