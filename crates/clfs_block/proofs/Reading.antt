@@ -1,5 +1,5 @@
 -- What is read is spelled so, and what is spelled so is read.
-use Rattle.std.proofs.Common.{◌≡◌, ℕ, ◌+◌, ◌-◌, ◌*◌, ◌/◌, ◌%◌, ◌^◌, ◌<◌, ◌≤◌, Bool, true, false, cond, eqb, ltb}
+use Rattle.std.proofs.Common.{◌≡◌, ℕ, ◌+◌, ◌-◌, ◌*◌, ◌/◌, ◌%◌, ◌^◌, ◌<◌, ◌≤◌, false, cond, eqb, ltb}
 use Rattle.std.proofs.Common.{not, ◌||◌}
 use Rattle.std.proofs.Common.{List, [], ◌∷◌, ◌++◌, length, get_or, take, drop, Option, Some, None, Result, Ok, Err, IfOk, refl, sym, ◌∙◌, ap, subst, arith}
 use Rattle.std.proofs.Common.{length-append, length-drop, take-append-drop}
@@ -10,9 +10,10 @@ use Rattle.std.proofs.lemmas.Bool.Decides.{nat_tests}
 use Rattle.byteorder.specs.Endian.{little_number}
 use Rattle.clfs_lsn.specs.Size.{sectors}
 use Rattle.clfs_lsn.specs.declared.shape.Shape.{Shape}
-use Rattle.clfs_block.specs.Frame.{place_of, payload_of, address, address_in, header_bytes, used_bytes, used_payload, AreBytes, SpellsBlock}
-use Rattle.clfs_block.specs.Checks.{head_of, left_from, is_wrong_count, is_wrong_records, header_fault, wrong_sector, other_byte}
-use Rattle.clfs_block.specs.Checks.{unless_wrong, address_place, payload_place}
+use Rattle.clfs_block.specs.Frame.{place_of, payload_of, address, address_in, head_bytes, used_bytes, used_payload, AreBytes, SpellsBlock}
+use Rattle.clfs_block.specs.Checks.{head_of, left_from, is_wrong_count, is_wrong_records, head_fault, wrong_sector, other_byte}
+use Rattle.clfs_block.specs.Checks.{address_place, payload_place}
+use Rattle.clfs_lsn.specs.Checks.{unless_wrong, unless_ok, no_fault, pass_check, guard_ok, pass_guard}
 use Rattle.clfs_block.specs.Checks.{sectors_at, frame_at, rest_at, head_for, IsCount, IsFramed, IsWrongBehind}
 use Rattle.clfs_block.specs.declared.head.BlockHead.{BlockHead}
 use Rattle.clfs_block.specs.declared.head.BlockRefusal.{BlockRefusal}
@@ -25,27 +26,6 @@ abbrev answered : BlockHead → Result BlockHead BlockRefusal
 answered head = Ok head
 
 -- ---- what checks that hold say
-
-pass_check : (b : Bool) (at : ℕ) (rest : Option ℕ) → b ≡ false → rest ≡ None → cond b (Some at) rest ≡ None
-pass_check b at rest p q = ap (λ c. cond c (Some at) rest) p ∙ q
-
-no_fault : (b : Bool) (at : ℕ) (rest : Option ℕ) → cond b (Some at) rest ≡ None → (b ≡ false) × (rest ≡ None)
-no_fault true at rest e = absurd (cc e)
-no_fault false at rest e = (refl, e)
-
-pass_guard : (b : Bool) (refusal : BlockRefusal) (answer other : Result BlockHead BlockRefusal) → b ≡ false → answer ≡ other
-    → cond b (Err refusal) answer ≡ other
-pass_guard b refusal answer other p q = ap (λ c. cond c (Err refusal) answer) p ∙ q
-
-guard_ok : (b : Bool) (refusal : BlockRefusal) (answer : Result BlockHead BlockRefusal) (head : BlockHead) → cond b (Err refusal) answer ≡ Ok head
-    → (b ≡ false) × (answer ≡ Ok head)
-guard_ok true refusal answer head e = absurd (cc e)
-guard_ok false refusal answer head e = (refl, e)
-
-unless_ok : (wrong : Option ℕ) (answer : Result BlockHead BlockRefusal) (head : BlockHead) → unless_wrong wrong answer ≡ Ok head → (wrong ≡ None)
-    × (answer ≡ Ok head)
-unless_ok None answer head e = (refl, e)
-unless_ok (Some at) answer head e = absurd (cc e)
 
 no_address : (o : Option ℕ) → address_place o ≡ None → o ≡ None
 no_address None e = refl
@@ -99,7 +79,7 @@ whole_4 n lt = omega (arith, lt)
 -- a header that passes is spelled by its numbers
 header_is : (bytes : List ℕ) → AreBytes bytes → get_or bytes 0 0 ≡ 165 → get_or bytes 1 0 ≡ 1 → little_number 2 (drop 6 bytes) ≡ 0
     → little_number 4 (drop 12 bytes) ≡ 0
-    → payload_of 16 bytes ≡ header_bytes 165 (head_of bytes).sectors (head_of bytes).records (head_of bytes).used
+    → payload_of 16 bytes ≡ head_bytes 165 (head_of bytes).sectors (head_of bytes).records (head_of bytes).used
 header_is bytes fits gate version zero_2 zero_4 =
     let b = λ (i : ℕ). get_or bytes i 0 in
     let count = parts_2 (b 2) (b 3) (fits 2) (fits 3) in
@@ -140,7 +120,7 @@ record HeaderHolds (shape : Shape) (start : ℕ) (bytes : List ℕ) : Type 0 whe
   used : sectors (head_of bytes).used ≡ (head_of bytes).sectors
   zero_4 : little_number 4 (drop 12 bytes) ≡ 0
 
-checks_held : (shape : Shape) (start : ℕ) (bytes : List ℕ) → header_fault shape start bytes ≡ None → HeaderHolds shape start bytes
+checks_held : (shape : Shape) (start : ℕ) (bytes : List ℕ) → head_fault shape start bytes ≡ None → HeaderHolds shape start bytes
 checks_held shape start bytes e =
     let n = (head_of bytes).sectors in
     let after_used : Option ℕ = cond (not (eqb (little_number 4 (drop 12 bytes)) 0)) (Some 12) None in
@@ -192,11 +172,11 @@ module _ (shape : Shape) (start : ℕ) (bytes : List ℕ) (head : BlockHead) (fi
       let a = guard_ok _ _ _ _ is in
       let b = guard_ok _ _ _ _ a.1 in
       let c = guard_ok _ _ _ _ b.1 in
-      let d = unless_ok (header_fault shape start bytes) (sectors_at start bytes (head_of bytes)) head c.1 in
+      let d = unless_ok BadByte (head_fault shape start bytes) (sectors_at start bytes (head_of bytes)) head c.1 in
       let e : (ltb (length bytes) (512 * (head_of bytes).sectors) ≡ false)
-      × (unless_wrong (address_place (wrong_sector start bytes (head_of bytes).sectors)) (answered (head_of bytes)) ≡ Ok head) =
+      × (unless_wrong BadByte (address_place (wrong_sector start bytes (head_of bytes).sectors)) (answered (head_of bytes)) ≡ Ok head) =
       guard_ok (ltb (length bytes) (512 * (head_of bytes).sectors)) (BadByte (length bytes)) _ head d.1 in
-      let f = unless_ok (address_place (wrong_sector start bytes (head_of bytes).sectors)) (answered (head_of bytes)) head e.1 in
+      let f = unless_ok BadByte (address_place (wrong_sector start bytes (head_of bytes).sectors)) (answered (head_of bytes)) head e.1 in
       subst (λ (h : BlockHead). IsFramed shape start bytes h (payload_of h.used bytes)) (one_head _ _ f.1)
       (by_numbers (equal (get_or bytes 0 0) 165 b.0) (checks_held shape start bytes d.0)
       (ltb-false (length bytes) (512 * (head_of bytes).sectors) e.0)
@@ -208,7 +188,7 @@ module _ (shape : Shape) (start : ℕ) (bytes : List ℕ) (head : BlockHead) (fi
     spelled_by =
         let count : sectors head.used ≡ head.sectors = head_is_framed.used in
         let clean : other_byte bytes head.used head.sectors ≡ None = no_payload (other_byte bytes head.used head.sectors)
-        (unless_ok (payload_place (other_byte bytes head.used head.sectors)) (answered head) head rest_is).0 in
+        (unless_ok BadByte (payload_place (other_byte bytes head.used head.sectors)) (answered head) head rest_is).0 in
         let content = drop 16 (payload_of head.used bytes) in
         let block = take (512 * head.sectors) bytes in
         let size : used_bytes content ≡ head.used = omega (arith, some, length-drop 16 (payload_of head.used bytes), length-payload_of head.used bytes) in
@@ -218,14 +198,14 @@ module _ (shape : Shape) (start : ℕ) (bytes : List ℕ) (head : BlockHead) (fi
         payload_is head.used bytes (payload_of head.used block) (length-payload_of head.used block)
         (λ p lt. get_or-payload_of head.used block p lt ∙ get_or-take (512 * head.sectors) bytes (place_of p) 0
         (place_within p head.sectors (omega (arith, lt, count)))) in
-        let split : payload_of head.used bytes ≡ header_bytes 165 head.sectors head.records head.used ++ content =
+        let split : payload_of head.used bytes ≡ head_bytes 165 head.sectors head.records head.used ++ content =
         sym (take-append-drop 16 (payload_of head.used bytes)) ∙ ap (λ (l : List ℕ). l ++ content) (head_is_framed.header some) in (
           size,
           record {
             whole = long ∙ ap (λ (k : ℕ). 512 * k) (sym n);
             used = ap (λ (k : ℕ). payload_of k block) size ∙ front ∙ split
-                ∙ ap (λ (k : ℕ). header_bytes 165 k head.records head.used ++ content) (sym n)
-                ∙ ap (λ (k : ℕ). header_bytes 165 (sectors (used_bytes content)) head.records k ++ content) (sym size);
+                ∙ ap (λ (k : ℕ). head_bytes 165 k head.records head.used ++ content) (sym n)
+                ∙ ap (λ (k : ℕ). head_bytes 165 (sectors (used_bytes content)) head.records k ++ content) (sym size);
             zeros = λ p past until.
                 let within : p < 504 * head.sectors = omega (arith, until, n) in
                 get_or-take (512 * head.sectors) bytes (place_of p) 0 (place_within p head.sectors within)
@@ -290,7 +270,7 @@ module _ (shape : Shape) (start records : ℕ) (content block more bytes : List 
       passes_records : (k : ℕ) → 1 ≤ k → k ≤ 511 → (eqb k 0 || ltb 511 k) ≡ false
       passes_records k p q = grind (arith, nat_tests)
 
-  header_passes : header_fault shape start bytes ≡ None
+  header_passes : head_fault shape start bytes ≡ None
   header_passes =
       let count = ap (λ (h : BlockHead). is_wrong_count shape start h.sectors) head_is ∙ count_passes in
       let right = ap (λ (h : BlockHead). is_wrong_records h.records) head_is ∙ records_pass in
@@ -310,7 +290,7 @@ module _ (shape : Shape) (start records : ℕ) (content block more bytes : List 
   unfolding sectors_at
   sectors_pass =
       pass_guard _ _ _ _ (le-ltb (length bytes) (512 * sectors (used_bytes content)) long)
-      (ap (λ (o : Option ℕ). unless_wrong (address_place o) (answered (head_for records content)))
+      (ap (λ (o : Option ℕ). unless_wrong BadByte (address_place o) (answered (head_for records content)))
       (none_fails (λ i. eqb (address_in bytes i) (address start i)) 0 (sectors (used_bytes content))
       (λ i le lt. eq-eqb _ _ (same_address bytes block i (λ k from until. in_block k (omega (arith, until, lt)))
       ∙ spells.addresses i (omega (arith, lt))))))
@@ -321,11 +301,11 @@ module _ (shape : Shape) (start records : ℕ) (content block more bytes : List 
       pass_guard _ _ _ _ (ne_eqb (length bytes) 0 (λ e. absurd (omega (arith, e, long))))
       (pass_guard _ _ _ _ (unequal_fails _ 165 (byte_is 0 (omega arith)))
       (pass_guard _ _ _ _ (le-ltb (length bytes) 512 (omega (arith, long)))
-      (ap (λ (o : Option ℕ). unless_wrong o (sectors_at start bytes (head_of bytes))) header_passes
+      (ap (λ (o : Option ℕ). unless_wrong BadByte o (sectors_at start bytes (head_of bytes))) header_passes
       ∙ ap (λ (h : BlockHead). sectors_at start bytes h) head_is ∙ sectors_pass)))
 
   pub rest_read : rest_at bytes (head_for records content) ≡ answered (head_for records content)
-  rest_read = ap (λ (o : Option ℕ). unless_wrong (payload_place o) (answered (head_for records content)))
+  rest_read = ap (λ (o : Option ℕ). unless_wrong BadByte (payload_place o) (answered (head_for records content)))
       (none_fails (λ p. eqb (get_or bytes (place_of p) 0) 0) (used_bytes content) (504 * sectors (used_bytes content) - used_bytes content)
       (λ p le lt.
       let within : p < 504 * sectors (used_bytes content) = omega (arith, lt) in
@@ -334,7 +314,7 @@ module _ (shape : Shape) (start records : ℕ) (content block more bytes : List 
 pub not_refused : {answer : Result BlockHead BlockRefusal} {refusal : BlockRefusal} {head : BlockHead} → answer ≡ Err refusal → answer ≡ Ok head → ⊥
 not_refused p q = cc (p, q)
 
-rest_keeps : (wrong : Option ℕ) (head other : BlockHead) → unless_wrong wrong (answered head) ≡ Ok other → other ≡ head
+rest_keeps : (wrong : Option ℕ) (head other : BlockHead) → unless_wrong BadByte wrong (answered head) ≡ Ok other → other ≡ head
 rest_keeps None head other e = sym (one_head _ _ e)
 rest_keeps (Some at) head other e = absurd (cc e)
 
@@ -366,7 +346,7 @@ answered_is_framed shape start bytes payload head (Ok h) fits is rest filled =
     let same : head ≡ h = sym (rest_keeps (payload_place (other_byte bytes head.used head.sectors)) head h (sym rest)) in
     subst (λ (x : BlockHead). IsFramed shape start bytes x payload) same (is_framed shape start bytes payload head fits is filled)
 
-unless_bad : (wrong : Option ℕ) (head : BlockHead) (at : ℕ) → unless_wrong wrong (answered head) ≡ Err (BadByte at) → wrong ≡ Some at
+unless_bad : (wrong : Option ℕ) (head : BlockHead) (at : ℕ) → unless_wrong BadByte wrong (answered head) ≡ Err (BadByte at) → wrong ≡ Some at
 unless_bad None head at e = absurd (cc e)
 unless_bad (Some k) head at e = cc e
 
@@ -380,7 +360,7 @@ wrong_is_behind shape start bytes payload head answer at fits is rest filled wro
   other = unless_bad (payload_place (other_byte bytes head.used head.sectors)) head at (sym rest ∙ wrong);
 }
 
-unless_open : (wrong : Option ℕ) (head : BlockHead) → unless_wrong wrong (answered head) ≡ Err Closed → ⊥
+unless_open : (wrong : Option ℕ) (head : BlockHead) → unless_wrong BadByte wrong (answered head) ≡ Err Closed → ⊥
 unless_open None head e = cc e
 unless_open (Some k) head e = cc e
 

@@ -31,7 +31,7 @@ begins_same left bytes image block long each first =
     let same : block_sectors image ≡ block_sectors bytes = omega (arith, two, three) in (
       same,
       record {
-        open_gate = each 0 (omega (arith, size, first.some)) ∙ first.open_gate;
+        gate = each 0 (omega (arith, size, first.some)) ∙ first.gate;
         some = omega (arith, same, first.some);
         fits = omega (arith, same, first.fits);
         whole = omega (arith, same, size, long);
@@ -233,7 +233,7 @@ none_whole sectors (block ∷ blocks) some (rest, opens, ends) = absurd (omega (
 
 no_block : (left : ℕ) (bytes block : List ℕ) → Ends left bytes → BeginsWith left bytes block → ⊥
 no_block left bytes block (inl none) b = absurd (omega (arith, none, b.some, b.fits))
-no_block left bytes block (inr (inl shut)) b = shut b.open_gate
+no_block left bytes block (inr (inl shut)) b = shut b.gate
 no_block left bytes block (inr (inr (inl none))) b = absurd (omega (arith, none, b.some))
 no_block left bytes block (inr (inr (inr (inl past)))) b = absurd (omega (arith, past, b.fits))
 no_block left bytes block (inr (inr (inr (inr short)))) b = absurd (omega (arith, short, b.whole))

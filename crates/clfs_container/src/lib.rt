@@ -9,17 +9,16 @@
 #![tactic(auto)]
 
 ghost use Rattle.std.specs.Prelude.{◌≡◌, ◌+◌, ◌<◌, ◌≤◌, ℕ, List, [], ◌∷◌, length, take, drop, slice_index, OnOk, OnErr, IfOk, IsOk};
+ghost use Rattle.clfs_lsn.specs.Format.{open_gate};
 ghost use Rattle.clfs_disk.specs.Files.{Files, TornIn, WrittenIn, Unchanged, found_count};
 ghost use Rattle.clfs_disk.specs.State.{TellsContents, IsSteady, IsHonest, IsSettled, MayLeave, Passes, Rises, raised};
-ghost use Rattle.clfs_container.specs.OpenBlocks.{open_gate_byte, AreOpen, AreWhole};
+ghost use Rattle.clfs_container.specs.OpenBlocks.{AreOpen, AreWhole};
 ghost use Rattle.clfs_container.specs.Writing.{IsBehind, HasBlocks, HasBody, KeepsBlocks, StaysBehind, OpensInCrash, OpensGroup};
 
 use clfs_disk::{Disk, Failed, write_synced};
+use clfs_lsn::OPEN_GATE;
 
-// The gate of a block that counts.
-const OPEN: u8 = 0xA5;
-
-// One of the values of a gate that doesn't.
+// One of the values of a closed gate.
 const CLOSED: u8 = 0;
 
 /// Writes what stands behind the gate at byte `at`, and syncs it, by two calls of the disk. The gate itself stays as it is.
@@ -58,7 +57,7 @@ pub fn open_gate<D: Disk>(disk: &mut D, file: u16, at: u32) -> Result<(), Failed
 
     ensures written { OnOk result (TellsContents (D.state disk.old) →
         (at + 1 ≤ length ((D.state disk.old).files file))
-        × WrittenIn file at (open_gate_byte ∷ []) (D.state disk.old).files (D.state disk.new).files) }
+        × WrittenIn file at (open_gate ∷ []) (D.state disk.old).files (D.state disk.new).files) }
     ensures settled { OnOk result (IsHonest (D.state disk.old) → IsSettled (D.state disk.new)) }
 
     // Over a group's body, a crash at any moment leaves the blocks of before or those with all of the group.
@@ -74,7 +73,7 @@ pub fn open_gate<D: Disk>(disk: &mut D, file: u16, at: u32) -> Result<(), Failed
     ensures steady { IsSteady (D.state disk.old) → at + 1 ≤ length ((D.state disk.old).files file)
         → IsOk result × ((D.state disk.new).faults ≡ (D.state disk.old).faults) }
 {
-    write_synced(disk, file, at as u64, &[OPEN])
+    write_synced(disk, file, at as u64, &[OPEN_GATE])
 }
 
 /// Closes the first gate of a file, and syncs it, by two calls of the disk, so that the file has no open blocks.

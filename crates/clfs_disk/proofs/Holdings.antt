@@ -7,13 +7,13 @@ use Rattle.std.proofs.lemmas.Bool.Decides.{nat_tests}
 use Rattle.std.proofs.lemmas.Bool.{cases_eq, cases_lt, or_parts, lt-ltb, le-ltb}
 use Rattle.clfs_disk.specs.Files.{Files, Unchanged, lengthened, picked, picked_byte}
 use Rattle.clfs_disk.specs.State.{IsSettled, Passes, raised}
-use Rattle.clfs_disk.specs.Record.{Moment, at_rest, after, after_write, after_growth, byte_count, total, replay, Image, recorded}
+use Rattle.clfs_disk.specs.Record.{Moment, at_rest, after, after_write, after_growth, byte_count, bytes_written, replay, Image, recorded}
 use Rattle.clfs_disk.specs.Copies.{read_files, synced_files, first_files, now_of, IsSound, Holds}
 use Rattle.clfs_disk.specs.declared.record.Event.{Event}
 use Rattle.clfs_disk.specs.declared.record.Event.TheVariants.{Refused, Synced}
 use Rattle.clfs_disk.specs.declared.copies.FileCopies.{FileCopies}
 use Rattle.clfs_disk.proofs.Places.{length-overwritten, overwritten_below, overwritten_above}
-use Rattle.clfs_disk.proofs.Replays.{replay_push, total_push, passes_noted, passes_unnoted, passes_with_faults, image_same, image_at_rest}
+use Rattle.clfs_disk.proofs.Replays.{replay_push, bytes_written_push, passes_noted, passes_unnoted, passes_with_faults, image_same, image_at_rest}
 
 same_number : (f file : ℕ) → f ≡ file → eqb f file ≡ true
 same_number f file is = grind (arith, nat_tests)
@@ -151,7 +151,7 @@ module _ (files : List FileCopies) (calls : List Event) (written : List ℕ) (h 
     unfolding now
     holds_after read synced sound = record {
       count = count ∙ h.count;
-      bytes = ap total is ∙ total_push calls event ∙ omega (arith, h.bytes, wrote, ap (λ (l : List ℕ). length l) are, length-append written new);
+      bytes = ap bytes_written is ∙ bytes_written_push calls event ∙ omega (arith, h.bytes, wrote, ap (λ (l : List ℕ). length l) are, length-append written new);
       read = λ file. read file ∙ ap (λ (m : Moment). m.files file) (sym then_is);
       synced = λ file. synced file ∙ ap (λ (m : Moment). m.synced file) (sym then_is);
       sound = subst IsSound (sym then_is) sound;
@@ -169,7 +169,7 @@ module _ (files : List FileCopies) (calls : List Event) (written : List ℕ) (h 
       (λ (w : List ℕ). replay (at_rest (first_files files)) calls w) are in
       record {
         count = count ∙ h.count;
-        bytes = ap total is ∙ h.bytes ∙ sym (ap (λ (l : List ℕ). length l) are);
+        bytes = ap bytes_written is ∙ h.bytes ∙ sym (ap (λ (l : List ℕ). length l) are);
         read = λ file. read file ∙ h.read file ∙ ap (λ (m : Moment). m.files file) (sym same);
         synced = λ file. synced file ∙ h.synced file ∙ ap (λ (m : Moment). m.synced file) (sym same);
         sound = subst IsSound (sym same) h.sound;
@@ -182,7 +182,7 @@ holds_fresh files calls written count none no_bytes read synced =
     let rest : now_of files calls written ≡ at_rest (first_files files) = ap (λ (l : List Event). replay (at_rest (first_files files)) l written) none in
     record {
       count = count;
-      bytes = ap total none ∙ sym (ap (λ (l : List ℕ). length l) no_bytes);
+      bytes = ap bytes_written none ∙ sym (ap (λ (l : List ℕ). length l) no_bytes);
       read = λ file. read file ∙ ap (λ (m : Moment). m.files file) (sym rest);
       synced = λ file. synced file ∙ ap (λ (m : Moment). m.synced file) (sym rest);
       sound = subst IsSound (sym rest) (sound_at_rest (first_files files));
@@ -210,7 +210,7 @@ holds_refused files calls written h calls' written' false is are =
     holds_same files calls written h files calls' written' refl (λ file. refl) (λ file. refl) (λ file. refl) is are
 
 pub passes_refused : (start : Files) (calls calls' : List Event) (written written' : List ℕ) (files : Files) (made made' faults faults' : ℕ) (noted : Bool)
-    → calls' ≡ cond noted (calls ++ Refused ∷ []) calls → written' ≡ written → total calls ≡ length written → faults ≤ faults'
+    → calls' ≡ cond noted (calls ++ Refused ∷ []) calls → written' ≡ written → bytes_written calls ≡ length written → faults ≤ faults'
     → Passes Unchanged (recorded start calls written files made faults) (recorded start calls' written' files made' faults')
 passes_refused start calls calls' written written' files made made' faults faults' true is are p le =
     passes_with_faults Unchanged (recorded start calls written files made faults) (recorded start calls' written' files made' faults) faults'

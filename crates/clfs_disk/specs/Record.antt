@@ -47,9 +47,9 @@ byte_count (Grew file len) = 0
 byte_count Synced = 0
 
 -- How many bytes calls wrote.
-abbrev pub total : List Event → ℕ
-total [] = 0
-total (event ∷ events) = byte_count event + total events
+abbrev pub bytes_written : List Event → ℕ
+bytes_written [] = 0
+bytes_written (event ∷ events) = byte_count event + bytes_written events
 
 -- The moment after calls, the first call first. The bytes of their writes stand one after another.
 abbrev pub replay : Moment → List Event → List ℕ → Moment

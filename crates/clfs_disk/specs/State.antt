@@ -1,5 +1,5 @@
 -- What a disk shows at one time, and how a call changes it.
-use Rattle.std.specs.Prelude.{◌≡◌, ℕ, ◌+◌, ◌-◌, ◌^◌, ◌<◌, ◌≤◌, min, Bool, IsTrue}
+use Rattle.std.specs.Prelude.{◌≡◌, ℕ, ◌+◌, ◌-◌, ◌^◌, ◌<◌, ◌≤◌, min, Bool, IsTrue, []}
 use Rattle.clfs_disk.specs.Files.{Files, Unchanged}
 
 -- What a disk is by its making, which no call changes.
@@ -29,6 +29,12 @@ IsSteady disk = IsTrue disk.nature.steady
 -- The disk tells its contents and its images, and so both are as the calls say.
 abbrev pub IsHonest : DiskState → Type 0
 IsHonest disk = TellsContents disk × IsTrue disk.nature.tells_images
+
+-- A disk at first: its files are empty, and no call was made of it.
+pub record IsFirst (disk : DiskState) : Type 0 where
+  pub empty : (file : ℕ) → disk.files file ≡ []
+  pub calls : disk.calls ≡ 0
+  pub faults : disk.faults ≡ 0
 
 -- A crash now leaves this.
 abbrev pub MayLeave : DiskState → Files → Type 0

@@ -3,7 +3,7 @@
 // and a crash takes one of those of now without taking memory.
 ghost use Rattle.std.specs.Prelude.{◌≡◌, ◌+◌, ◌<◌, ◌≤◌, ◌↔◌, [], ℕ, true, min, length, take, drop, IsTrue, IfOk, OnOk, OnErr, IsOk, IsErrOf, vec_len};
 ghost use Rattle.clfs_disk.specs.Files.{Files, Unchanged, TornIn, GrownIn, WrittenIn, LengthenedIn, found_count, picked};
-ghost use Rattle.clfs_disk.specs.State.{TellsContents, IsSteady, IsHonest, IsSettled, Passes, Rises, raised};
+ghost use Rattle.clfs_disk.specs.State.{TellsContents, IsFirst, IsSteady, IsHonest, IsSettled, Passes, Rises, raised};
 ghost use Rattle.clfs_disk.specs.Copies.{Holds, read_files, synced_files, first_files};
 ghost use Rattle.clfs_disk.specs.declared.copies.FileCopies.{FileCopies};
 
@@ -34,11 +34,9 @@ impl Memory {
     /// Empty files and a record with room for so many calls and so many written bytes. The calls with the numbers `fails`,
     /// counted from 1, are to fail.
     pub fn new(alloc: Global, calls: u32, bytes: u64, fails: &[u64]) -> Result<Memory, AllocError>
-        ensures empty { IfOk result (λ disk. (file : ℕ) → (shown disk).files file ≡ []) }
+        ensures first { IfOk result (λ disk. IsFirst (shown disk)) }
         ensures settled { IfOk result (λ disk. IsSettled (shown disk)) }
-        ensures faults { IfOk result (λ disk. (shown disk).faults ≡ 0) }
         ensures synced { IfOk result (λ disk. (file : ℕ) → synced_of disk file ≡ []) }
-        ensures calls { IfOk result (λ disk. (shown disk).calls ≡ 0) }
         ensures bytes { IfOk result (λ disk. bytes_of disk ≡ 0) }
         ensures plan { IfOk result (λ disk. plan_of disk ≡ record { call_room = calls; byte_room = bytes; failing = fails.now }) }
     {

@@ -1,5 +1,6 @@
 // Files in memory for logs that need no crash: no call fails but a write that ends past its file's end.
 ghost use Rattle.std.specs.Prelude.{◌≡◌, [], ℕ, length, IfOk};
+ghost use Rattle.clfs_disk.specs.State.{IsFirst};
 ghost use Rattle.clfs_disk.specs.Table.{files_of};
 
 use crate::bytes::{has_range, lengthen, make_room, overwrite, read_from};
@@ -21,9 +22,7 @@ impl Steady {
 
     /// Empty files. Each grows in the memory of its own growth.
     pub fn new(alloc: Global) -> Result<Steady, AllocError>
-        ensures empty { IfOk result (λ disk. (file : ℕ) → (steady_shown disk).files file ≡ []) }
-        ensures calls { IfOk result (λ disk. (steady_shown disk).calls ≡ 0) }
-        ensures faults { IfOk result (λ disk. (steady_shown disk).faults ≡ 0) }
+        ensures { IfOk result (λ disk. IsFirst (steady_shown disk)) }
     {
         Ok(Steady {
             files: empty_files(alloc)?,
@@ -46,17 +45,9 @@ fn empty_files(alloc: Global) -> Result<Vec<Vec<u8>>, AllocError>
 }
 
 impl Disk for Steady {
-    ghost use Rattle.std.specs.Prelude.{ℕ, true, false};
-    ghost use Rattle.clfs_disk.specs.Table.{files_of};
+    ghost use Rattle.clfs_disk.specs.Steady.{steady_shown};
 
-    ghost state = { λ disk. record {
-      files = files_of disk.files.items;
-      clock = 0;
-      image_at = λ moment image. Unit {0};
-      calls = disk.calls;
-      faults = disk.faults;
-      nature = record { tells_contents = true; tells_images = false; steady = true };
-    } };
+    ghost state = { steady_shown };
 
     ghost reads_as_image = { λ disk honest. tt };
 

@@ -5,4 +5,5 @@ pub mod Size
 pub mod Place
 pub mod Space
 pub mod Words
+pub mod Checks
 pub mod Spelling

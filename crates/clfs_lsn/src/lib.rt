@@ -15,6 +15,7 @@ mod lsn;
 mod name;
 mod place;
 mod policy;
+mod room;
 mod shape;
 mod sizes;
 
@@ -28,6 +29,7 @@ pub use lsn::{Lsn, every_number_is_an_lsn};
 pub use name::Name;
 pub use place::{Place, frontier, place_after, sealed};
 pub use policy::{Policy, PolicyKind};
+pub use room::{push_reserved, push_zeros};
 pub use shape::{Shape, longest, own};
 pub use sizes::Sizes;
 

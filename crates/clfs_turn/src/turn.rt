@@ -2,7 +2,7 @@
 ghost use Rattle.std.specs.Prelude.{◌≡◌, ℕ, ◌^◌, ◌<◌, [], true, false, length, map, All, IsOk, IfOk, IfErr};
 ghost use mathlib.Core.List.{IsPrefix};
 ghost use Rattle.clfs_turn.specs.Calls.{Called, IsLawful};
-ghost use Rattle.clfs_turn.specs.Lists.{is_in, are_distinct, mine, longer};
+ghost use Rattle.clfs_turn.specs.Lists.{is_in, are_distinct, entries_of, longer};
 ghost use Rattle.clfs_turn.specs.Seats.{own, IsNewSeat, IsSameSeat, HasSeen};
 
 use crate::closing::gather;
@@ -145,7 +145,7 @@ impl<V: Logged<E, O>, E, O> Turn<V, E, O> {
         requires lock { All (λ s. s.lock ≡ self.lock) seats.items }
         requires all { (c : ℕ) → is_in c self.clients ≡ true → is_in c (map (λ s. s.client) seats.items) ≡ true }
         ensures seats { All (λ s. HasSeen V.client_of (V.entries result) s) seats.items }
-        ensures others { (c : ℕ) → is_in c self.clients ≡ false → mine V.client_of c (V.entries result) ≡ [] }
+        ensures others { (c : ℕ) → is_in c self.clients ≡ false → entries_of V.client_of c (V.entries result) ≡ [] }
         ensures lawful { V.reached self.opening result }
     {
         let Turn { table } = self;
