@@ -6,3 +6,4 @@ pub mod Place
 pub mod Space
 pub mod Words
 pub mod Spelling
+pub mod Head
