@@ -1,4 +1,6 @@
-// A record with all that the log keeps of it.
+// A record with all that the log keeps of it, and its head, which is all of it but its data.
+ghost use Rattle.std.specs.Prelude.{◌≡◌, ◌^◌, ◌<◌, length};
+ghost use Rattle.clfs_lsn.specs.Head.{head_of};
 
 use crate::bytes::Bytes;
 use crate::lsn::Lsn;
@@ -29,4 +31,40 @@ pub struct LogEntry {
     pub new_base: Lsn,
     /// The client's data.
     pub bytes: Bytes,
+}
+
+/// All of a record but its data, of which it has the length. It is what the tables of the log keep, so that they stay small
+/// whatever clients append.
+#[derive(Clone, Copy, Debug, PartialEq, Eq)]
+pub struct Head {
+    /// Where it lies: its container, its block's offset and its position in the block.
+    pub lsn: Lsn,
+    /// The number of its stream, from 1.
+    pub stream: u16,
+    /// What it is.
+    pub kind: Kind,
+    /// The record before it, as the client that appended it has it, or null.
+    pub previous: Lsn,
+    /// The record that undoing goes on with, as that client has it, or null.
+    pub undo_next: Lsn,
+    /// The base of its stream from it on, in a restart area; else null.
+    pub new_base: Lsn,
+    /// The bytes of its data.
+    pub len: u32,
+}
+
+/// The head of a record.
+pub fn head_of(entry: &LogEntry) -> Head
+    requires { length entry.now.bytes < 2 ^ 32 }
+    ensures { result ≡ head_of entry.now }
+{
+    Head {
+        lsn: entry.lsn,
+        stream: entry.stream,
+        kind: entry.kind,
+        previous: entry.previous,
+        undo_next: entry.undo_next,
+        new_base: entry.new_base,
+        len: entry.bytes.len() as u32,
+    }
 }

@@ -20,7 +20,7 @@ mod shape;
 mod sizes;
 
 pub use bytes::Bytes;
-pub use entry::{Kind, LogEntry};
+pub use entry::{Head, Kind, LogEntry, head_of};
 pub use format::{
     BLOCK_HEADER, MOST_BLOCK_RECORDS, OPEN_GATE, RECORD_HEADER, SECTOR, SECTOR_PAYLOAD, sectors_of,
     size_of_record,

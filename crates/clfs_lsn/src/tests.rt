@@ -76,3 +76,21 @@ fn places_of_records(rt: HostRuntime) -> Result<(), Fail> {
     );
     Ok(())
 }
+
+#[test]
+fn a_head_has_all_but_the_data(rt: HostRuntime) -> Result<(), Fail> {
+    let lsn = Lsn::of_number(1 << 32);
+    let entry = LogEntry {
+        lsn,
+        stream: 3,
+        kind: Kind::Restart,
+        previous: Lsn::null(),
+        undo_next: Lsn::null(),
+        new_base: lsn,
+        bytes: Bytes::from_vec(Vec::from_slice(rt.alloc(), b"area")?),
+    };
+    let head = head_of(&entry);
+    assert_eq!(rt; (head.lsn, head.new_base), (lsn, lsn));
+    assert_eq!(rt; (head.stream, head.kind, head.len), (3, Kind::Restart, 4));
+    Ok(())
+}

@@ -1,2 +1,3 @@
 pub mod Ways
 pub mod CalmRuns
+pub mod Heads

@@ -6,6 +6,7 @@ pub mod Flush
 pub mod Put
 pub mod Reading
 pub mod Archive
+pub mod Heads
 pub mod Policies
 pub mod Refusals
 pub mod Answers
