@@ -11,6 +11,7 @@
 mod bytes;
 mod entry;
 mod format;
+mod limits;
 mod lsn;
 mod name;
 mod place;
@@ -25,6 +26,7 @@ pub use format::{
     BLOCK_HEADER, MOST_BLOCK_RECORDS, OPEN_GATE, RECORD_HEADER, SECTOR, SECTOR_PAYLOAD, sectors_of,
     size_of_record,
 };
+pub use limits::{FEWEST_CONTAINERS, GREATEST_GROWTH, MOST_CONTAINERS};
 pub use lsn::{Lsn, every_number_is_an_lsn};
 pub use name::Name;
 pub use place::{Place, frontier, place_after, sealed};

@@ -3,7 +3,7 @@ use Rattle.std.proofs.Common.{◌≡◌, ◌⊎◌, ℕ, ◌+◌, ◌*◌, ◌%�
 use Rattle.std.specs.Prelude.{◌≢◌, All, AllPairs, IsSome, IfSome, map, slice_index}
 use Rattle.std.specs.List.{range_with_len}
 use Rattle.std.specs.List.Sorted.{IsStrictlyIncreasing}
-use Rattle.clfs_lsn.specs.Limits.{most_block_sectors, most_container_sectors, most_block_records, most_containers, most_write_buffers}
+use Rattle.clfs_lsn.specs.Limits.{most_block_sectors, most_container_sectors, most_block_records, most_containers, most_write_buffers, greatest_rate}
 use Rattle.clfs_lsn.specs.Lsn.{null_lsn, container_of, sequence_of}
 use Rattle.clfs_lsn.specs.Size.{IsShape, longest, sectors}
 use Rattle.clfs_lsn.specs.Place.{IsWithin, IsClosed, IsOpen, block_end, frontier}
@@ -20,7 +20,6 @@ use Rattle.clfs_model.specs.Live.{active}
 use Rattle.clfs_model.specs.Space.{free, reserved}
 use Rattle.clfs_model.specs.Flush.{flushed, block_start}
 use Rattle.clfs_model.specs.Reading.{entry_at}
-use Rattle.clfs_model.specs.Policies.{greatest_rate}
 use Rattle.clfs_model.specs.Valid.{HasRanges, HasPolicies, AreDifferentAreas, IsArea, HasTables, IsRecord, open_sequences, HasRecords, HasStable, IsWaiting, HasWaiting, HasSpace, IsValid}
 use Rattle.clfs_rows.proofs.Decisions.{Decision, like, both, either, implies, refuted, equal, less, at_most, each, each_two, each_below, is_there, where_some}
 use Rattle.clfs_rows.proofs.SameStates.{same_numbers, same_kinds}
