@@ -44,13 +44,15 @@ second_entry = entry_of 2 1 (codes "2 open b") (replies.Stream 2)
 abbrev pub third_entry : Entry
 third_entry = entry_of 1 2 (codes "1 flush 1") (replies.Flushed (lsn_number 1 512 0))
 
--- the states behind these entries
+-- the state behind the first of these entries
 abbrev pub behind_first : State
 behind_first = state_behind opened_log (codes "1 append 1 aa 0:0:0 0:0:0")
 
+-- behind the second
 abbrev pub behind_second : State
 behind_second = state_behind behind_first (codes "2 open b")
 
+-- behind the third
 abbrev pub behind_third : State
 behind_third = state_behind behind_second (codes "1 flush 1")
 
