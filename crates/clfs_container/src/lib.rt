@@ -15,7 +15,7 @@ ghost use Rattle.clfs_disk.specs.State.{TellsContents, IsSteady, IsHonest, IsSet
 ghost use Rattle.clfs_container.specs.OpenBlocks.{AreOpen, AreWhole};
 ghost use Rattle.clfs_container.specs.Writing.{IsBehind, HasBlocks, HasBody, KeepsBlocks, StaysBehind, OpensInCrash, OpensGroup};
 
-use clfs_disk::{Disk, Failed, write_synced};
+use clfs_disk::{Disk, Failed, overwritten_bytes_stand_in_place, write_synced};
 use clfs_lsn::OPEN_GATE;
 
 // One of the values of a closed gate.
@@ -48,6 +48,7 @@ pub fn write_body<D: Disk>(disk: &mut D, file: u16, at: u32, bytes: &[u8]) -> Re
     ensures steady { IsSteady (D.state disk.old) → at + 1 + length bytes.now ≤ length ((D.state disk.old).files file)
         → IsOk result × ((D.state disk.new).faults ≡ (D.state disk.old).faults) }
 {
+    overwritten_bytes_stand_in_place();
     write_synced(disk, file, at as u64 + 1, bytes)
 }
 
@@ -73,6 +74,7 @@ pub fn open_gate<D: Disk>(disk: &mut D, file: u16, at: u32) -> Result<(), Failed
     ensures steady { IsSteady (D.state disk.old) → at + 1 ≤ length ((D.state disk.old).files file)
         → IsOk result × ((D.state disk.new).faults ≡ (D.state disk.old).faults) }
 {
+    overwritten_bytes_stand_in_place();
     write_synced(disk, file, at as u64, &[OPEN_GATE])
 }
 
@@ -96,6 +98,7 @@ pub fn close_first<D: Disk>(disk: &mut D, file: u16) -> Result<(), Failed>
     ensures steady { IsSteady (D.state disk.old) → 1 ≤ length ((D.state disk.old).files file)
         → IsOk result × ((D.state disk.new).faults ≡ (D.state disk.old).faults) }
 {
+    overwritten_bytes_stand_in_place();
     write_synced(disk, file, 0, &[CLOSED])
 }
 

@@ -1,4 +1,5 @@
 pub mod Files
+pub mod Overwriting
 pub mod State
 pub mod Table
 pub mod Record

@@ -1,7 +1,7 @@
 // One write and one sync, the step of which every change of a log's files is made.
 ghost use Rattle.std.specs.Prelude.{◌≡◌, ◌+◌, ◌≤◌, length, OnOk, OnErr, IsOk};
-ghost use Rattle.clfs_disk.specs.Files.{TornIn, WrittenIn};
-ghost use Rattle.clfs_disk.specs.State.{TellsContents, IsSteady, IsHonest, IsSettled, Passes, Rises, raised};
+ghost use Rattle.clfs_disk.specs.Files.{Files, TornIn, WrittenIn};
+ghost use Rattle.clfs_disk.specs.State.{TellsContents, IsSteady, IsHonest, IsSettled, MayLeave, Passes, Leaves, Rises, raised};
 
 use crate::{Disk, Failed};
 
@@ -12,6 +12,12 @@ pub fn write_synced<D: Disk>(disk: &mut D, file: u16, at: u64, bytes: &[u8]) -> 
         (at + length bytes.now ≤ length ((D.state disk.old).files file))
         × WrittenIn file at bytes.now (D.state disk.old).files (D.state disk.new).files) }
     ensures settled { OnOk result (IsHonest (D.state disk.old) → IsSettled (D.state disk.new)) }
+    // Every image now has the bytes in their place.
+    ensures images { OnOk result (IsHonest (D.state disk.old) → (image : Files) → MayLeave (D.state disk.new) image
+        → WrittenIn file at bytes.now (D.state disk.old).files image) }
+    // Where nothing was pending, a crash at any moment of the call leaves what was there, but for bytes in the range.
+    ensures moments { IsSettled (D.state disk.old)
+        → Leaves (TornIn file at (length bytes.now) (D.state disk.old).files) (D.state disk.old) (D.state disk.new) }
     ensures torn { TornIn file at (length bytes.now) (D.state disk.old).files (D.state disk.new).files }
     ensures time { Passes (TornIn file at (length bytes.now)) (D.state disk.old) (D.state disk.new) }
     ensures calls { OnOk result ((D.state disk.new).calls ≡ raised 2 (D.state disk.old).calls) }
