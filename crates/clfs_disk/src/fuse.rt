@@ -4,7 +4,7 @@ ghost use Rattle.std.specs.Prelude.{◌≡◌, ◌+◌, ◌-◌, ◌^◌, ◌≤
 ghost use Rattle.clfs_disk.specs.Files.{found_count, TornIn, GrownIn, WrittenIn, LengthenedIn, Unchanged};
 ghost use Rattle.clfs_disk.specs.State.{TellsContents, IsSteady, IsHonest, IsSettled, Passes, Rises, raised};
 ghost use Rattle.clfs_disk.specs.Calls.{Reads, Writes, Grows, Syncs};
-ghost use Rattle.clfs_disk.specs.Fuse.{inner_of, passes_of, fuse_shown};
+ghost use Rattle.clfs_disk.specs.Fuse.{inner_of, passes_of, fuse_shown, TakesPass};
 
 use crate::{Disk, Failed, GrowRefusal};
 
@@ -71,13 +71,7 @@ impl<D: Disk> Disk for Fuse<D> {
     fn read(&mut self, file: u16, at: u64, out: &mut [u8]) -> Result<usize, Failed>
         requires { file ≤ 256 }
         ensures call { Reads file at out.old out.new result (fuse_shown D.state self.old) (fuse_shown D.state self.new) }
-        ensures passes { passes_of self.new ≡ passes_of self.old - 1 }
-        ensures stopped { passes_of self.old ≡ 0 → IsErr result }
-        ensures same_inner { passes_of self.old ≡ 0 → inner_of self.new ≡ inner_of self.old }
-        ensures inner_calls { 0 < passes_of self.old →
-            (D.state (inner_of self.new)).calls ≡ raised 1 (D.state (inner_of self.old)).calls }
-        ensures passed { 0 < passes_of self.old → OnErr result
-            (Rises (D.state (inner_of self.old)).faults (D.state (inner_of self.new)).faults) }
+        ensures pass { TakesPass D.state result self.old self.new }
     {
         take_pass(&mut self.left, &mut self.refused)?;
         self.inner.read(file, at, out)
@@ -88,13 +82,7 @@ impl<D: Disk> Disk for Fuse<D> {
     fn write(&mut self, file: u16, at: u64, bytes: &[u8]) -> Result<(), Failed>
         requires { file ≤ 256 }
         ensures call { Writes file at bytes.now result (fuse_shown D.state self.old) (fuse_shown D.state self.new) }
-        ensures passes { passes_of self.new ≡ passes_of self.old - 1 }
-        ensures stopped { passes_of self.old ≡ 0 → IsErr result }
-        ensures same_inner { passes_of self.old ≡ 0 → inner_of self.new ≡ inner_of self.old }
-        ensures inner_calls { 0 < passes_of self.old →
-            (D.state (inner_of self.new)).calls ≡ raised 1 (D.state (inner_of self.old)).calls }
-        ensures passed { 0 < passes_of self.old → OnErr result
-            (Rises (D.state (inner_of self.old)).faults (D.state (inner_of self.new)).faults) }
+        ensures pass { TakesPass D.state result self.old self.new }
     {
         take_pass(&mut self.left, &mut self.refused)?;
         self.inner.write(file, at, bytes)
@@ -123,13 +111,7 @@ impl<D: Disk> Disk for Fuse<D> {
     /// one call of the other disk, and fails only with it.
     fn sync(&mut self) -> Result<(), Failed>
         ensures call { Syncs result (fuse_shown D.state self.old) (fuse_shown D.state self.new) }
-        ensures passes { passes_of self.new ≡ passes_of self.old - 1 }
-        ensures stopped { passes_of self.old ≡ 0 → IsErr result }
-        ensures same_inner { passes_of self.old ≡ 0 → inner_of self.new ≡ inner_of self.old }
-        ensures inner_calls { 0 < passes_of self.old →
-            (D.state (inner_of self.new)).calls ≡ raised 1 (D.state (inner_of self.old)).calls }
-        ensures passed { 0 < passes_of self.old → OnErr result
-            (Rises (D.state (inner_of self.old)).faults (D.state (inner_of self.new)).faults) }
+        ensures pass { TakesPass D.state result self.old self.new }
     {
         take_pass(&mut self.left, &mut self.refused)?;
         self.inner.sync()

@@ -27,15 +27,15 @@ returns-then-admits-clause-call c =
     let here = sym (file_at (λ (copies : FileCopies). copies.read.items) c.args.self.now.files.items c.args.file c.index.result.now lt c.index.ensures) in
     let n = c.read_at-count.result in
     record {
-  count = search rules;
-  found = λ told. subst
-      (λ (l : List ℕ). (n ≡ found_count l c.args.at (length c.args.out.now)) × (take n c.read_at-count.new.out ≡ take n (drop c.args.at l)))
-      here (c.read_at-count.ensures.count, c.read_at-count.ensures.bytes);
-  same = search rules;
-  time = passes_noted Unchanged _ _ c.args.self.now.history.calls.items _ c.args.self.now.history.written.items _ [] Read _ _ _ _ _
-      (λ file. refl) c.note.ensures.calls (ap (λ (v : Vec ℕ Global). v.items) c.note.ensures.written ∙ sym (append-nil _)) c.args.self.now.holds.bytes refl
-      (λ image at. image_same (now_of c.args.self.now.files.items c.args.self.now.history.calls.items c.args.self.now.history.written.items) image at);
-  calls = search rules;
-  cause = search rules;
-  steady = search rules;
-}
+      count = search rules;
+      found = λ told. subst
+          (λ (l : List ℕ). (n ≡ found_count l c.args.at (length c.args.out.now)) × (take n c.read_at-count.new.out ≡ take n (drop c.args.at l)))
+          here (c.read_at-count.ensures.count, c.read_at-count.ensures.bytes);
+      same = search rules;
+      time = passes_noted Unchanged _ _ c.args.self.now.history.calls.items _ c.args.self.now.history.written.items _ [] Read _ _ _ _ _
+          (λ file. refl) c.note.ensures.calls (ap (λ (v : Vec ℕ Global). v.items) c.note.ensures.written ∙ sym (append-nil _)) c.args.self.now.holds.bytes refl
+          (λ image at. image_same (now_of c.args.self.now.files.items c.args.self.now.history.calls.items c.args.self.now.history.written.items) image at);
+      calls = search rules;
+      cause = search rules;
+      steady = search rules;
+    }
