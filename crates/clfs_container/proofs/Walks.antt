@@ -5,7 +5,7 @@ use Rattle.std.proofs.lemmas.List.{length-take, length-take-le, get_or-take, get
 use Rattle.std.specs.Prelude.{Result, Ok, Err, OnOk}
 use Rattle.std.proofs.lemmas.Bool.{cases_eq}
 use Rattle.clfs_disk.specs.Files.{Files, TornIn, WrittenIn}
-use Rattle.clfs_disk.proofs.Places.{length-overwritten, overwritten_below, overwritten_inside, overwritten_above, part_overwritten}
+use Rattle.clfs_disk.specs.Overwriting.{StandsInPlace}
 use Rattle.clfs_container.specs.OpenBlocks.{block_sectors, BeginsWith, Opens, Ends, EndsCleanly, total, AreOpen, AreWhole}
 use Rattle.clfs_container.specs.Writing.{IsBehind, HasBlocks, HasBody, IsGroup, OthersStay}
 
@@ -91,17 +91,17 @@ body_byte file at body files has i from until =
     ∙ get_or-drop (at + 1) (files file) (i - (at + 1)) 0 ∙ ap (λ (k : ℕ). get_or (files file) k 0) place)
 
 -- bytes that were written behind a gate
-pub body_written : (file at : ℕ) (body : List ℕ) (old new : Files) → at + 1 + length body ≤ length (old file) → WrittenIn file (at + 1) body old new
+pub body_written : StandsInPlace → (file at : ℕ) (body : List ℕ) (old new : Files) → at + 1 + length body ≤ length (old file) → WrittenIn file (at + 1) body old new
     → HasBody file at body new
-body_written file at body old new room written = record {
-  whole = omega (arith, room, ap (λ (l : List ℕ). length l) written.here, length-overwritten (old file) (at + 1) body room);
-  is = ap (λ (l : List ℕ). take (length body) (drop (at + 1) l)) written.here ∙ part_overwritten (old file) (at + 1) body room;
+body_written stands file at body old new room written = record {
+  whole = omega (arith, room, ap (λ (l : List ℕ). length l) written.here, stands.size (old file) (at + 1) body room);
+  is = ap (λ (l : List ℕ). take (length body) (drop (at + 1) l)) written.here ∙ stands.part (old file) (at + 1) body room;
 }
 
-pub gate_kept : (file at : ℕ) (body : List ℕ) (old new : Files) → at + 1 + length body ≤ length (old file) → WrittenIn file (at + 1) body old new
+pub gate_kept : StandsInPlace → (file at : ℕ) (body : List ℕ) (old new : Files) → at + 1 + length body ≤ length (old file) → WrittenIn file (at + 1) body old new
     → get_or (new file) at 0 ≡ get_or (old file) at 0
-gate_kept file at body old new room written =
-    ap (λ (l : List ℕ). get_or l at 0) written.here ∙ overwritten_below (old file) (at + 1) body room at (omega arith)
+gate_kept stands file at body old new room written =
+    ap (λ (l : List ℕ). get_or l at 0) written.here ∙ stands.below (old file) (at + 1) body room at (omega arith)
 
 module _ (sectors file : ℕ) (blocks : List (List ℕ)) (rest at : ℕ) (old : Files) (behind : IsBehind sectors file blocks rest at old) where
   within : at ≤ length (old file)
@@ -176,25 +176,25 @@ module _ (sectors file : ℕ) (blocks : List (List ℕ)) (rest at : ℕ) (old : 
     )
 
     -- the gate is written
-    pub gate_written : (new : Files) → at + 1 ≤ length (old file) → WrittenIn file at (165 ∷ []) old new
+    pub gate_written : StandsInPlace → (new : Files) → at + 1 ≤ length (old file) → WrittenIn file at (165 ∷ []) old new
         → HasBlocks sectors file (blocks ++ more) left new × OthersStay file old new
-    gate_written new room written =
-        let long : length (new file) ≡ length (old file) = ap length written.here ∙ length-overwritten (old file) at (165 ∷ []) room in
+    gate_written stands new room written =
+        let long : length (new file) ≡ length (old file) = ap length written.here ∙ stands.size (old file) at (165 ∷ []) room in
         let none : at - at ≡ 0 = omega arith in (
           opened new long
-              (λ i lt. ap (λ (l : List ℕ). get_or l i 0) written.here ∙ overwritten_below (old file) at (165 ∷ []) room i lt)
-              (ap (λ (l : List ℕ). get_or l at 0) written.here ∙ overwritten_inside (old file) at (165 ∷ []) room at (omega arith) (omega arith)
+              (λ i lt. ap (λ (l : List ℕ). get_or l i 0) written.here ∙ stands.below (old file) at (165 ∷ []) room i lt)
+              (ap (λ (l : List ℕ). get_or l at 0) written.here ∙ stands.inside (old file) at (165 ∷ []) room at (omega arith) (omega arith)
               ∙ ap (λ (k : ℕ). get_or (165 ∷ []) k 0) none)
-              (λ i from. ap (λ (l : List ℕ). get_or l i 0) written.here ∙ overwritten_above (old file) at (165 ∷ []) room i from),
+              (λ i from. ap (λ (l : List ℕ). get_or l i 0) written.here ∙ stands.above (old file) at (165 ∷ []) room i from),
           written.elsewhere,
         )
 
 -- a closed first gate
-pub none_open : (sectors file : ℕ) (old new : Files) → 1 ≤ length (old file) → WrittenIn file 0 (0 ∷ []) old new → HasBlocks sectors file [] sectors new
-none_open sectors file old new room written =
+pub none_open : StandsInPlace → (sectors file : ℕ) (old new : Files) → 1 ≤ length (old file) → WrittenIn file 0 (0 ∷ []) old new → HasBlocks sectors file [] sectors new
+none_open stands sectors file old new room written =
     let gate : get_or (new file) 0 0 ≡ 0 =
-    ap (λ (l : List ℕ). get_or l 0 0) written.here ∙ overwritten_inside (old file) 0 (0 ∷ []) room 0 (omega arith) (omega arith) in
-    let size : length (new file) ≡ length (old file) = ap length written.here ∙ length-overwritten (old file) 0 (0 ∷ []) room in
+    ap (λ (l : List ℕ). get_or l 0 0) written.here ∙ stands.inside (old file) 0 (0 ∷ []) room 0 (omega arith) (omega arith) in
+    let size : length (new file) ≡ length (old file) = ap length written.here ∙ stands.size (old file) 0 (0 ∷ []) room in
     record { opens = refl; shut = inr (omega (arith, size, room), λ is. absurd (omega (arith, gate, is))) }
 
 closed_ends : (left : ℕ) (bytes : List ℕ) (at : ℕ) → at < length bytes → get_or bytes at 0 ≢ 165 → EndsCleanly left (drop at bytes)

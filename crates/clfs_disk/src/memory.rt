@@ -4,6 +4,7 @@
 ghost use Rattle.std.specs.Prelude.{◌≡◌, ◌+◌, ◌<◌, ◌≤◌, ◌↔◌, [], ℕ, true, min, length, take, drop, IsTrue, IfOk, OnOk, OnErr, IsOk, IsErrOf, vec_len};
 ghost use Rattle.clfs_disk.specs.Files.{Files, Unchanged, TornIn, GrownIn, WrittenIn, LengthenedIn, found_count, picked};
 ghost use Rattle.clfs_disk.specs.State.{TellsContents, IsFirst, IsSteady, IsHonest, IsSettled, Passes, Rises, raised};
+ghost use Rattle.clfs_disk.specs.Calls.{Reads, Writes, Grows, Syncs};
 ghost use Rattle.clfs_disk.specs.Copies.{Holds, read_files, synced_files, first_files};
 ghost use Rattle.clfs_disk.specs.declared.copies.FileCopies.{FileCopies};
 
@@ -170,15 +171,7 @@ impl Disk for Memory {
     /// Reads, exactly where the call is admitted.
     fn read(&mut self, file: u16, at: u64, out: &mut [u8]) -> Result<usize, Failed>
         requires { file ≤ 256 }
-        ensures count { IfOk result (λ n. n ≤ length out.old) }
-        ensures found { IfOk result (λ n. TellsContents (shown self.old) →
-            (n ≡ found_count ((shown self.old).files file) at (length out.old))
-            × (take n out.new ≡ take n (drop at ((shown self.old).files file)))) }
-        ensures same { Unchanged (shown self.old).files (shown self.new).files }
-        ensures time { Passes Unchanged (shown self.old) (shown self.new) }
-        ensures calls { (shown self.new).calls ≡ raised 1 (shown self.old).calls }
-        ensures cause { OnErr result (Rises (shown self.old).faults (shown self.new).faults) }
-        ensures steady { IsSteady (shown self.old) → IsOk result × ((shown self.new).faults ≡ (shown self.old).faults) }
+        ensures call { Reads file at out.old out.new result (shown self.old) (shown self.new) }
         ensures exact { IsOk result ↔ Admits self.old }
         ensures fine { OnOk result ((shown self.new).faults ≡ (shown self.old).faults) }
         ensures synced { Unchanged (synced_of self.old) (synced_of self.new) }
@@ -199,15 +192,7 @@ impl Disk for Memory {
     /// fails changes no byte.
     fn write(&mut self, file: u16, at: u64, bytes: &[u8]) -> Result<(), Failed>
         requires { file ≤ 256 }
-        ensures written { OnOk result (TellsContents (shown self.old) →
-            (at + length bytes.now ≤ length ((shown self.old).files file))
-            × WrittenIn file at bytes.now (shown self.old).files (shown self.new).files) }
-        ensures torn { TornIn file at (length bytes.now) (shown self.old).files (shown self.new).files }
-        ensures time { Passes (TornIn file at (length bytes.now)) (shown self.old) (shown self.new) }
-        ensures calls { (shown self.new).calls ≡ raised 1 (shown self.old).calls }
-        ensures cause { OnErr result (Rises (shown self.old).faults (shown self.new).faults) }
-        ensures steady { IsSteady (shown self.old) → at + length bytes.now ≤ length ((shown self.old).files file)
-            → IsOk result × ((shown self.new).faults ≡ (shown self.old).faults) }
+        ensures call { Writes file at bytes.now result (shown self.old) (shown self.new) }
         ensures exact { IsOk result ↔ AdmitsWrite file at (length bytes.now) self.old }
         ensures fine { OnOk result ((shown self.new).faults ≡ (shown self.old).faults) }
         ensures refused { OnErr result (Unchanged (shown self.old).files (shown self.new).files) }
@@ -228,18 +213,7 @@ impl Disk for Memory {
     /// Fails exactly where the call isn't admitted, and then changes no file. A growth that wants memory is no call.
     fn grow(&mut self, file: u16, len: u64) -> Result<(), GrowRefusal>
         requires { file ≤ 256 }
-        ensures grown { OnOk result (TellsContents (shown self.old) →
-            LengthenedIn file len (shown self.old).files (shown self.new).files) }
-        ensures longer { GrownIn file len (shown self.old).files (shown self.new).files }
-        ensures time { Passes (GrownIn file len) (shown self.old) (shown self.new) }
-        ensures no_memory { IsErrOf result GrowRefusal.NoMemory → Unchanged (shown self.old).files (shown self.new).files
-            × Passes Unchanged (shown self.old) (shown self.new) × ((shown self.new).faults ≡ (shown self.old).faults) }
-        ensures calls { (IsErrOf result GrowRefusal.NoMemory → ⊥) → (shown self.new).calls ≡ raised 1 (shown self.old).calls }
-        ensures calls_at_most { (shown self.new).calls ≤ raised 1 (shown self.old).calls }
-        ensures cause { IsErrOf result GrowRefusal.Failed → Rises (shown self.old).faults (shown self.new).faults }
-        ensures steady { IsSteady (shown self.old) → (IsErrOf result GrowRefusal.Failed → ⊥)
-            × ((shown self.new).faults ≡ (shown self.old).faults) }
-        ensures long { IsSteady (shown self.old) → OnOk result (len ≤ length ((shown self.new).files file)) }
+        ensures call { Grows file len result (shown self.old) (shown self.new) }
         ensures exact { IsErrOf result GrowRefusal.Failed ↔ (Admits self.old → ⊥) }
         ensures fine { OnOk result ((shown self.new).faults ≡ (shown self.old).faults) }
         ensures refused { OnErr result (Unchanged (shown self.old).files (shown self.new).files) }
@@ -266,12 +240,7 @@ impl Disk for Memory {
 
     /// Syncs, exactly where the call is admitted.
     fn sync(&mut self) -> Result<(), Failed>
-        ensures settled { OnOk result (IsHonest (shown self.old) → IsSettled (shown self.new)) }
-        ensures same { Unchanged (shown self.old).files (shown self.new).files }
-        ensures time { Passes Unchanged (shown self.old) (shown self.new) }
-        ensures calls { (shown self.new).calls ≡ raised 1 (shown self.old).calls }
-        ensures cause { OnErr result (Rises (shown self.old).faults (shown self.new).faults) }
-        ensures steady { IsSteady (shown self.old) → IsOk result × ((shown self.new).faults ≡ (shown self.old).faults) }
+        ensures call { Syncs result (shown self.old) (shown self.new) }
         ensures exact { IsOk result ↔ Admits self.old }
         ensures fine { OnOk result ((shown self.new).faults ≡ (shown self.old).faults) }
         ensures synced { OnOk result (Unchanged (shown self.old).files (synced_of self.new)) }

@@ -1,7 +1,6 @@
 use Rattle.std.proofs.Common.{◌≡◌, ◌∙◌, ◌+◌, ◌<◌, ℕ, Bool, true, false, not, IsTrue, Contains, refl, sym, subst, arith}
 use Rattle.std.specs.Prelude.{vec_len}
 use Rattle.std.proofs.lemmas.Bool.{ltb-true}
-use Rattle.clfs_disk.specs.Memory.{Admits}
 use Rattle.clfs_disk.proofs.memory.Memory.admits.Goals as goal
 
 negated : {P : Type 0} (b : Bool) → (IsTrue b → P) × (P → IsTrue b) → (IsTrue (not b) → P → ⊥) × ((P → ⊥) → IsTrue (not b))
