@@ -8,7 +8,7 @@ use itoa::Buffer;
 use std::alloc::AllocError;
 
 /// Adds a number in decimal digits at the end.
-pub fn push_decimal(number: u32, out: &mut Bytes) -> Result<(), AllocError>
+pub fn push_decimal(number: u64, out: &mut Bytes) -> Result<(), AllocError>
     ensures ok { OnOk result (out.new ≡ out.old ++ decimal number) }
     ensures err { OnErr result (out.new ≡ out.old) }
 {
