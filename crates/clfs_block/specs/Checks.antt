@@ -1,11 +1,11 @@
 -- The first wrong byte of bytes that are to begin with an open block.
-use Rattle.std.specs.Prelude.{ℕ, zero, suc, ◌+◌, ◌-◌, ◌*◌, ◌/◌, ◌^◌, ◌<◌, ◌≤◌, Bool, not, ◌||◌, ◌==◌, nat_lt, if◌then◌else◌, List, length, drop}
+use Rattle.std.specs.Prelude.{◌≡◌, ℕ, zero, suc, ◌+◌, ◌-◌, ◌*◌, ◌/◌, ◌^◌, ◌<◌, ◌≤◌, Bool, not, ◌||◌, ◌==◌, nat_lt, if◌then◌else◌, List, length, take, drop}
 use Rattle.std.specs.Prelude.{slice_index, Option, Some, None, Result, Ok, Err}
 use Rattle.byteorder.specs.Endian.{little_number}
 use Rattle.clfs_lsn.specs.Lsn.{offset_of}
 use Rattle.clfs_lsn.specs.Size.{sectors}
 use Rattle.clfs_lsn.specs.declared.shape.Shape.{Shape}
-use Rattle.clfs_block.specs.Frame.{place_of, address, address_in, used_bytes}
+use Rattle.clfs_block.specs.Frame.{place_of, payload_of, header_bytes, address, address_in, used_bytes}
 use Rattle.clfs_block.specs.declared.head.BlockHead.{BlockHead}
 use Rattle.clfs_block.specs.declared.head.BlockRefusal.{BlockRefusal}
 use Rattle.clfs_block.specs.declared.head.BlockRefusal.TheVariants.{Closed, BadByte}
@@ -106,3 +106,24 @@ and_rest bytes (Err refusal) = Err refusal
 -- The block at the front of bytes, or why there is none.
 abbrev pub block_at : Shape → ℕ → List ℕ → Result BlockHead BlockRefusal
 block_at shape start bytes = and_rest bytes (frame_at shape start bytes)
+
+-- What is known of a block's head whose checks up to the addresses hold, and of its used payload: where all of the header is
+-- used, its first bytes are the header's.
+pub record IsFramed (shape : Shape) (start : ℕ) (bytes : List ℕ) (head : BlockHead) (payload : List ℕ) : Type 0 where
+  pub gate : slice_index bytes 0 ≡ 165
+  pub numbers : head ≡ head_of bytes
+  pub some : 1 ≤ head.sectors
+  pub count : IsCount shape start head.sectors
+  pub records : (1 ≤ head.records) × (head.records ≤ 511)
+  pub used : sectors head.used ≡ head.sectors
+  pub whole : 512 * head.sectors ≤ length bytes
+  pub addresses : (i : ℕ) → i < head.sectors → address_in bytes i ≡ address start i
+  pub filled : payload ≡ payload_of head.used bytes
+  pub long : length payload ≡ head.used
+  pub header : 16 ≤ head.used → take 16 payload ≡ header_bytes 165 head.sectors head.records head.used
+
+-- A head whose checks up to the addresses hold has its payload here, and this is the first other byte behind it.
+pub record IsWrongBehind (shape : Shape) (start : ℕ) (bytes payload : List ℕ) (at : ℕ) : Type 0 where
+  pub head : BlockHead
+  pub framed : IsFramed shape start bytes head payload
+  pub other : payload_place (other_byte bytes head.used head.sectors) ≡ Some at

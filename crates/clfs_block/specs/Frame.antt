@@ -22,6 +22,10 @@ address start sector = lsn_number (container_of start) (offset_of start + 512 * 
 abbrev pub address_in : List ℕ → ℕ → ℕ
 address_in block sector = little_number 8 (drop (512 * sector + 504) block)
 
+-- Each is a byte.
+abbrev pub AreBytes : List ℕ → Type 0
+AreBytes list = (i : ℕ) → slice_index list i < 256
+
 -- The bytes of the header: gate, version 1, sectors (2 bytes), records (2), zero (2), used payload bytes (4), zero (4).
 abbrev pub header_bytes : ℕ → ℕ → ℕ → ℕ → List ℕ
 header_bytes gate count records used =

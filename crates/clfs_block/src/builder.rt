@@ -261,12 +261,3 @@ fn write_addresses(buffer: &mut Vec<u8>, start: Lsn, count: u32)
         );
     }
 }
-
-/// A block says in its bytes which gate it has and how many sectors, so a reader of the bytes alone knows where it ends.
-pub fn blocks_say_their_sectors()
-    ensures gate { (start gate records : ℕ) (content block : List ℕ)
-        → SpellsBlock start gate records content block → slice_index block 0 ≡ gate }
-    ensures sectors { (start gate records : ℕ) (content block : List ℕ)
-        → SpellsBlock start gate records content block → sectors (used_bytes content) < 2 ^ 16
-        → slice_index block 2 + 256 * slice_index block 3 ≡ sectors (used_bytes content) }
-{}

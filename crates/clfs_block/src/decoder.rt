@@ -3,8 +3,8 @@
 ghost use Rattle.std.specs.Prelude.{◌≡◌, ◌⊎◌, ◌+◌, ◌-◌, ◌*◌, ◌/◌, ◌%◌, ◌^◌, ◌<◌, ◌≤◌, ◌++◌, ◌==◌, ◌||◌, ℕ, List, [], length, take, drop, slice_index, Some, None, IfOk, IfSome, OnOk, OnErr, Ok, Err, vec_capacity};
 ghost use Rattle.clfs_lsn.specs.Size.{sectors};
 ghost use Rattle.clfs_block.specs.Frame.{payload_of, address, address_in, used_bytes, used_payload, SpellsBlock};
-ghost use Rattle.clfs_block.specs.Checks.{head_of, is_wrong_count, is_wrong_records, header_fault, head_for, IsCount, wrong_sector, first_failing, sectors_at, frame_at, rest_at, block_at};
-ghost use Rattle.clfs_block.specs.declared.head.BlockRefusal.TheVariants.{NoMemory};
+ghost use Rattle.clfs_block.specs.Checks.{head_of, is_wrong_count, is_wrong_records, header_fault, head_for, IsCount, wrong_sector, first_failing, sectors_at, frame_at, rest_at, block_at, IsFramed, IsWrongBehind};
+ghost use Rattle.clfs_block.specs.declared.head.BlockRefusal.TheVariants.{NoMemory, BadByte, Closed};
 
 use crate::buffer::push_reserved;
 use crate::head::{BlockHead, BlockRefusal};
@@ -44,9 +44,16 @@ pub fn decode_block(
         → (result ≡ Err NoMemory)
         ⊎ ((result ≡ Ok (head_for records content)) × (payload.new ≡ used_payload 165 records content)) }
 
-    // The payload is filled where all up to the addresses is right, and else as it was.
+    // The head of a block is right, its sectors are there, and its used payload begins with the header.
+    ensures framed { IfOk result (λ head. IsFramed shape.now start bytes.now head payload.new) }
+
+    // The payload is filled where all up to the addresses is right, and else as it was. So where it isn't as it was, what is
+    // wrong is a byte behind the used ones, and its records can be judged.
     ensures filled { (head : BlockHead) → frame_at shape.now start bytes.now ≡ Ok head → (result ≡ Err NoMemory → ⊥)
-        → payload.new ≡ payload_of head.used bytes.now }
+        → IsFramed shape.now start bytes.now head payload.new }
+    ensures wrong { (at : ℕ) → result ≡ Err (BadByte at) → (payload.new ≡ payload.old)
+        ⊎ IsWrongBehind shape.now start bytes.now payload.new at }
+    ensures closed { result ≡ Err Closed → payload.new ≡ payload.old }
     ensures kept { (refusal : BlockRefusal) → frame_at shape.now start bytes.now ≡ Err refusal → payload.new ≡ payload.old }
     ensures no_memory { result ≡ Err NoMemory → payload.new ≡ payload.old }
 {

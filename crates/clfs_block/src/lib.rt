@@ -11,10 +11,12 @@ mod buffer;
 mod builder;
 mod decoder;
 mod head;
+mod laws;
 
-pub use builder::{BlockBuilder, blocks_say_their_sectors};
+pub use builder::BlockBuilder;
 pub use decoder::decode_block;
 pub use head::{BlockHead, BlockRefusal};
+pub use laws::{blocks_have_one_spelling, blocks_say_their_sectors};
 
 #[cfg(test)]
 mod tests;

@@ -6,7 +6,7 @@ use Rattle.std.specs.Prelude.{Result, Ok, Err, OnOk}
 use Rattle.std.proofs.lemmas.Bool.{cases_eq}
 use Rattle.clfs_disk.specs.Files.{Files, TornIn, WrittenIn}
 use Rattle.clfs_disk.proofs.Places.{length-overwritten, overwritten_below, overwritten_inside, overwritten_above, part_overwritten}
-use Rattle.clfs_container.specs.OpenBlocks.{block_sectors, BeginsWith, Opens, Ends, total, AreOpen}
+use Rattle.clfs_container.specs.OpenBlocks.{block_sectors, BeginsWith, Opens, Ends, EndsCleanly, total, AreOpen, AreWhole}
 use Rattle.clfs_container.specs.Writing.{IsBehind, HasBlocks, HasBody, IsGroup, OthersStay}
 
 pub on_ok_both : {T E P Q R : Type 0} (r : Result T E) → (P → Q → R) → OnOk r P → OnOk r Q → OnOk r R
@@ -114,6 +114,7 @@ module _ (sectors file : ℕ) (blocks : List (List ℕ)) (rest at : ℕ) (old : 
     opens = opens_same sectors (old file) (new file) blocks rest (omega (arith, long, behind.place, within))
         (λ i lt. each i (omega (arith, lt, behind.place))) behind.opens;
     place = behind.place;
+    there = omega (arith, behind.there, long);
     closed = closed;
   }
 
@@ -153,12 +154,15 @@ module _ (sectors file : ℕ) (blocks : List (List ℕ)) (rest at : ℕ) (old : 
             (λ i lt. spelled i (omega (arith, lt, group.whole))) group.opens
 
         shut : (left ≡ 0) ⊎ ((total more ≤ length body) × (get_or (165 ∷ body) (total more) 0 ≢ 165))
-            → (left ≡ 0) ⊎ (get_or (new file) (total (blocks ++ more)) 0 ≢ 165)
+            → (left ≡ 0) ⊎ ((total (blocks ++ more) < length (new file)) × (get_or (new file) (total (blocks ++ more)) 0 ≢ 165))
         shut (inl full) = inl full
         shut (inr closed) =
             let place : at + total more ≡ total (blocks ++ more) = omega (arith, total-append blocks more, behind.place) in
-            inr (λ is. closed.1 (sym (spelled (total more) (omega (arith, closed.0))) ∙ get_or-drop at (new file) (total more) 0
-            ∙ ap (λ (k : ℕ). get_or (new file) k 0) place ∙ is))
+            inr (
+              omega (arith, place, closed.0, has.whole, long),
+              λ is. closed.1 (sym (spelled (total more) (omega (arith, closed.0))) ∙ get_or-drop at (new file) (total more) 0
+                  ∙ ap (λ (k : ℕ). get_or (new file) k 0) place ∙ is),
+            )
 
     -- the gate is torn over the whole body
     pub gate_torn : (new : Files) → TornIn file at 1 old new
@@ -190,23 +194,42 @@ pub none_open : (sectors file : ℕ) (old new : Files) → 1 ≤ length (old fil
 none_open sectors file old new room written =
     let gate : get_or (new file) 0 0 ≡ 0 =
     ap (λ (l : List ℕ). get_or l 0 0) written.here ∙ overwritten_inside (old file) 0 (0 ∷ []) room 0 (omega arith) (omega arith) in
-    record { opens = refl; shut = inr (λ is. absurd (omega (arith, gate, is))) }
+    let size : length (new file) ≡ length (old file) = ap length written.here ∙ length-overwritten (old file) 0 (0 ∷ []) room in
+    record { opens = refl; shut = inr (omega (arith, size, room), λ is. absurd (omega (arith, gate, is))) }
 
-closed_ends : (left : ℕ) (bytes : List ℕ) (at : ℕ) → get_or bytes at 0 ≢ 165 → Ends left (drop at bytes)
-closed_ends left bytes at closed = inr (inl (λ is. closed (sym (gate_at bytes at) ∙ is)))
+closed_ends : (left : ℕ) (bytes : List ℕ) (at : ℕ) → at < length bytes → get_or bytes at 0 ≢ 165 → EndsCleanly left (drop at bytes)
+closed_ends left bytes at there closed = inr (omega (arith, length-drop at bytes, there), λ is. closed (sym (gate_at bytes at) ∙ is))
 
-pub behind_are_open : (sectors file : ℕ) (blocks : List (List ℕ)) (rest at : ℕ) (files : Files) → IsBehind sectors file blocks rest at files
-    → AreOpen sectors (files file) blocks
-behind_are_open sectors file blocks rest at files behind =
-    (rest, behind.opens, closed_ends rest (files file) (total blocks) (subst (λ (k : ℕ). get_or (files file) k 0 ≢ 165) (sym behind.place) behind.closed))
+pub behind_are_whole : (sectors file : ℕ) (blocks : List (List ℕ)) (rest at : ℕ) (files : Files) → IsBehind sectors file blocks rest at files
+    → AreWhole sectors (files file) blocks
+behind_are_whole sectors file blocks rest at files behind = (
+  rest,
+  behind.opens,
+  closed_ends rest (files file) (total blocks) (omega (arith, behind.there, behind.place))
+      (subst (λ (k : ℕ). get_or (files file) k 0 ≢ 165) (sym behind.place) behind.closed),
+)
 
-pub written_are_open : (sectors file : ℕ) (blocks : List (List ℕ)) (rest : ℕ) (files : Files) → HasBlocks sectors file blocks rest files
-    → AreOpen sectors (files file) blocks
-written_are_open sectors file blocks rest files has = (rest, has.opens, ends has.shut)
+pub written_are_whole : (sectors file : ℕ) (blocks : List (List ℕ)) (rest : ℕ) (files : Files) → HasBlocks sectors file blocks rest files
+    → AreWhole sectors (files file) blocks
+written_are_whole sectors file blocks rest files has = (rest, has.opens, ends has.shut)
   where
-    ends : (rest ≡ 0) ⊎ (get_or (files file) (total blocks) 0 ≢ 165) → Ends rest (drop (total blocks) (files file))
+    ends : (rest ≡ 0) ⊎ ((total blocks < length (files file)) × (get_or (files file) (total blocks) 0 ≢ 165))
+        → EndsCleanly rest (drop (total blocks) (files file))
     ends (inl full) = inl full
-    ends (inr closed) = closed_ends rest (files file) (total blocks) closed
+    ends (inr closed) = closed_ends rest (files file) (total blocks) closed.0 closed.1
+
+clean_ends : (left : ℕ) (bytes : List ℕ) → EndsCleanly left bytes → Ends left bytes
+clean_ends left bytes (inl full) = inl full
+clean_ends left bytes (inr closed) = inr (inl closed.1)
+
+pub whole_are_open : (sectors : ℕ) (bytes : List ℕ) (blocks : List (List ℕ)) → AreWhole sectors bytes blocks → AreOpen sectors bytes blocks
+whole_are_open sectors bytes blocks whole = (whole.0, whole.1, clean_ends whole.0 (drop (total blocks) bytes) whole.2)
+
+-- where nothing is, no gate is
+pub none_whole : (sectors : ℕ) (blocks : List (List ℕ)) → 0 < sectors → AreWhole sectors [] blocks → ⊥
+none_whole sectors [] some (rest, opens, inl full) = absurd (omega (arith, some, opens, full))
+none_whole sectors [] some (rest, opens, inr closed) = absurd (omega (arith, closed.0))
+none_whole sectors (block ∷ blocks) some (rest, opens, ends) = absurd (omega (arith, opens.0.some, opens.0.whole))
 
 no_block : (left : ℕ) (bytes block : List ℕ) → Ends left bytes → BeginsWith left bytes block → ⊥
 no_block left bytes block (inl none) b = absurd (omega (arith, none, b.some, b.fits))

@@ -38,3 +38,11 @@ total (block ∷ blocks) = length block + total blocks
 -- These are the open blocks of a container of so many sectors, and no more follow.
 abbrev pub AreOpen : ℕ → List ℕ → List (List ℕ) → Type 0
 AreOpen sectors bytes blocks = (rest : ℕ) × Opens sectors bytes blocks rest × Ends rest (drop (total blocks) bytes)
+
+-- No block was to begin here: no sector is left, or a gate is there and closed. A gate that isn't there is no closed one.
+abbrev pub EndsCleanly : ℕ → List ℕ → Type 0
+EndsCleanly left bytes = (left ≡ 0) ⊎ ((0 < length bytes) × (slice_index bytes 0 ≢ open_gate_byte))
+
+-- These are the open blocks of a container of so many sectors, and the list ends cleanly: nothing behind them is damage.
+abbrev pub AreWhole : ℕ → List ℕ → List (List ℕ) → Type 0
+AreWhole sectors bytes blocks = (rest : ℕ) × Opens sectors bytes blocks rest × EndsCleanly rest (drop (total blocks) bytes)

@@ -4,16 +4,18 @@ use Rattle.clfs_disk.specs.Files.{Files}
 use Rattle.clfs_disk.specs.State.{DiskState, Leaves}
 use Rattle.clfs_container.specs.OpenBlocks.{open_gate_byte, Opens, total}
 
--- A file has these open blocks, and then so many sectors, the first of which begins at this place with a closed gate.
+-- A file has these open blocks, and then so many sectors, the first of which begins at this place with a gate that is there
+-- and closed.
 pub record IsBehind (sectors file : ℕ) (blocks : List (List ℕ)) (rest at : ℕ) (files : Files) : Type 0 where
   pub opens : Opens sectors (files file) blocks rest
   pub place : total blocks ≡ at
+  pub there : at < length (files file)
   pub closed : slice_index (files file) at ≢ open_gate_byte
 
--- A file has these open blocks, and then no sector or a closed gate.
+-- A file has these open blocks, and then no sector or a gate that is there and closed.
 pub record HasBlocks (sectors file : ℕ) (blocks : List (List ℕ)) (rest : ℕ) (files : Files) : Type 0 where
   pub opens : Opens sectors (files file) blocks rest
-  pub shut : (rest ≡ 0) ⊎ (slice_index (files file) (total blocks) ≢ open_gate_byte)
+  pub shut : (rest ≡ 0) ⊎ ((total blocks < length (files file)) × (slice_index (files file) (total blocks) ≢ open_gate_byte))
 
 -- These bytes stand behind the gate at a place of a file.
 pub record HasBody (file at : ℕ) (body : List ℕ) (files : Files) : Type 0 where

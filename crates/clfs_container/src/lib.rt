@@ -8,10 +8,10 @@
 //! several in a row.
 #![tactic(auto)]
 
-ghost use Rattle.std.specs.Prelude.{◌≡◌, ◌+◌, ◌≤◌, ℕ, List, [], ◌∷◌, length, take, drop, slice_index, OnOk, OnErr, IfOk, IsOk};
+ghost use Rattle.std.specs.Prelude.{◌≡◌, ◌+◌, ◌<◌, ◌≤◌, ℕ, List, [], ◌∷◌, length, take, drop, slice_index, OnOk, OnErr, IfOk, IsOk};
 ghost use Rattle.clfs_disk.specs.Files.{Files, TornIn, WrittenIn, Unchanged, found_count};
-ghost use Rattle.clfs_disk.specs.State.{TellsContents, IsSteady, IsHonest, IsSettled, MayLeave, Passes, Rises};
-ghost use Rattle.clfs_container.specs.OpenBlocks.{open_gate_byte, Opens, AreOpen};
+ghost use Rattle.clfs_disk.specs.State.{TellsContents, IsSteady, IsHonest, IsSettled, MayLeave, Passes, Rises, raised};
+ghost use Rattle.clfs_container.specs.OpenBlocks.{open_gate_byte, AreOpen, AreWhole};
 ghost use Rattle.clfs_container.specs.Writing.{IsBehind, HasBlocks, HasBody, KeepsBlocks, StaysBehind, OpensInCrash, OpensGroup};
 
 use clfs_disk::{Disk, Failed, write_synced};
@@ -22,7 +22,7 @@ const OPEN: u8 = 0xA5;
 // One of the values of a gate that doesn't.
 const CLOSED: u8 = 0;
 
-/// Writes what stands behind the gate at byte `at`, and syncs it. The gate itself stays as it is.
+/// Writes what stands behind the gate at byte `at`, and syncs it, by two calls of the disk. The gate itself stays as it is.
 pub fn write_body<D: Disk>(disk: &mut D, file: u16, at: u32, bytes: &[u8]) -> Result<(), Failed>
     requires { file ≤ 256 }
 
@@ -43,6 +43,8 @@ pub fn write_body<D: Disk>(disk: &mut D, file: u16, at: u32, bytes: &[u8]) -> Re
     // Whatever the answer, the files differ from those of before, and each image from one of before, in these bytes alone.
     ensures torn { TornIn file (at + 1) (length bytes.now) (D.state disk.old).files (D.state disk.new).files }
     ensures time { Passes (TornIn file (at + 1) (length bytes.now)) (D.state disk.old) (D.state disk.new) }
+    ensures calls { OnOk result ((D.state disk.new).calls ≡ raised 2 (D.state disk.old).calls) }
+    ensures calls_at_most { (D.state disk.new).calls ≤ raised 2 (D.state disk.old).calls }
     ensures cause { OnErr result (Rises (D.state disk.old).faults (D.state disk.new).faults) }
     ensures steady { IsSteady (D.state disk.old) → at + 1 + length bytes.now ≤ length ((D.state disk.old).files file)
         → IsOk result × ((D.state disk.new).faults ≡ (D.state disk.old).faults) }
@@ -50,7 +52,7 @@ pub fn write_body<D: Disk>(disk: &mut D, file: u16, at: u32, bytes: &[u8]) -> Re
     write_synced(disk, file, at as u64 + 1, bytes)
 }
 
-/// Opens the gate at byte `at`, and syncs it.
+/// Opens the gate at byte `at`, and syncs it, by two calls of the disk.
 pub fn open_gate<D: Disk>(disk: &mut D, file: u16, at: u32) -> Result<(), Failed>
     requires { file ≤ 256 }
 
@@ -66,6 +68,8 @@ pub fn open_gate<D: Disk>(disk: &mut D, file: u16, at: u32) -> Result<(), Failed
     // Whatever the answer, the files differ from those of before, and each image from one of before, in the gate alone.
     ensures torn { TornIn file at 1 (D.state disk.old).files (D.state disk.new).files }
     ensures time { Passes (TornIn file at 1) (D.state disk.old) (D.state disk.new) }
+    ensures calls { OnOk result ((D.state disk.new).calls ≡ raised 2 (D.state disk.old).calls) }
+    ensures calls_at_most { (D.state disk.new).calls ≤ raised 2 (D.state disk.old).calls }
     ensures cause { OnErr result (Rises (D.state disk.old).faults (D.state disk.new).faults) }
     ensures steady { IsSteady (D.state disk.old) → at + 1 ≤ length ((D.state disk.old).files file)
         → IsOk result × ((D.state disk.new).faults ≡ (D.state disk.old).faults) }
@@ -73,7 +77,7 @@ pub fn open_gate<D: Disk>(disk: &mut D, file: u16, at: u32) -> Result<(), Failed
     write_synced(disk, file, at as u64, &[OPEN])
 }
 
-/// Closes the first gate of a file, and syncs it, so that the file has no open blocks.
+/// Closes the first gate of a file, and syncs it, by two calls of the disk, so that the file has no open blocks.
 pub fn close_first<D: Disk>(disk: &mut D, file: u16) -> Result<(), Failed>
     requires { file ≤ 256 }
 
@@ -87,6 +91,8 @@ pub fn close_first<D: Disk>(disk: &mut D, file: u16) -> Result<(), Failed>
     // Whatever the answer, the files differ from those of before, and each image from one of before, in the gate alone.
     ensures torn { TornIn file 0 1 (D.state disk.old).files (D.state disk.new).files }
     ensures time { Passes (TornIn file 0 1) (D.state disk.old) (D.state disk.new) }
+    ensures calls { OnOk result ((D.state disk.new).calls ≡ raised 2 (D.state disk.old).calls) }
+    ensures calls_at_most { (D.state disk.new).calls ≤ raised 2 (D.state disk.old).calls }
     ensures cause { OnErr result (Rises (D.state disk.old).faults (D.state disk.new).faults) }
     ensures steady { IsSteady (D.state disk.old) → 1 ≤ length ((D.state disk.old).files file)
         → IsOk result × ((D.state disk.new).faults ≡ (D.state disk.old).faults) }
@@ -94,7 +100,7 @@ pub fn close_first<D: Disk>(disk: &mut D, file: u16) -> Result<(), Failed>
     write_synced(disk, file, 0, &[CLOSED])
 }
 
-/// Gives the bytes that are there from byte `at` on, all that `out` has room for, and answers how many.
+/// Gives the bytes that are there from byte `at` on, all that `out` has room for, and answers how many, by one call of the disk.
 pub fn read_block<D: Disk>(
     disk: &mut D,
     file: u16,
@@ -110,20 +116,25 @@ pub fn read_block<D: Disk>(
 
     ensures same { Unchanged (D.state disk.old).files (D.state disk.new).files }
     ensures time { Passes Unchanged (D.state disk.old) (D.state disk.new) }
+    ensures calls { (D.state disk.new).calls ≡ raised 1 (D.state disk.old).calls }
     ensures cause { OnErr result (Rises (D.state disk.old).faults (D.state disk.new).faults) }
     ensures steady { IsSteady (D.state disk.old) → IsOk result × ((D.state disk.new).faults ≡ (D.state disk.old).faults) }
 {
     disk.read(file, at as u64, out)
 }
 
-/// Bytes have at most one list of open blocks, and the blocks that are written behind closed gates are those of it.
+/// Bytes have at most one list of open blocks, and the blocks that are written behind closed gates are those of it. A list that
+/// ends cleanly is one of these, and what is written keeps the list so. A file without bytes has none for a container that has
+/// sectors: the gate of its first block isn't there.
 pub fn open_blocks_are_one_list()
     ensures one { (sectors : ℕ) (bytes : List ℕ) (blocks others : List (List ℕ))
         → AreOpen sectors bytes blocks → AreOpen sectors bytes others → blocks ≡ others }
     ensures behind { (sectors file : ℕ) (blocks : List (List ℕ)) (rest at : ℕ) (files : Files)
-        → IsBehind sectors file blocks rest at files → AreOpen sectors (files file) blocks }
+        → IsBehind sectors file blocks rest at files → AreWhole sectors (files file) blocks }
     ensures written { (sectors file : ℕ) (blocks : List (List ℕ)) (rest : ℕ) (files : Files)
-        → HasBlocks sectors file blocks rest files → AreOpen sectors (files file) blocks }
+        → HasBlocks sectors file blocks rest files → AreWhole sectors (files file) blocks }
+    ensures whole { (sectors : ℕ) (bytes : List ℕ) (blocks : List (List ℕ)) → AreWhole sectors bytes blocks → AreOpen sectors bytes blocks }
+    ensures empty { (sectors : ℕ) (blocks : List (List ℕ)) → 0 < sectors → AreWhole sectors [] blocks → ⊥ }
 {}
 
 #[cfg(test)]

@@ -60,11 +60,11 @@ module _ (start : Files) (calls : List Event) (written new : List ℕ) (event : 
       ∙ replay_push (at_rest start) calls written new event p q
 
   -- a call that is noted: what a crash may leave comes from what it might by a change
-  passes_push : (R : Files → Files → Type 0) (files files' : Files) (faults : ℕ)
+  passes_push : (R : Files → Files → Type 0) (files files' : Files) (made made' faults : ℕ)
       → ((image : Files) → Image (after event new (replay (at_rest start) calls written)) image → (before : Files)
       × Image (replay (at_rest start) calls written) before × R before image)
-      → Passes R (recorded start calls written files faults) (recorded start (calls ++ event ∷ []) (written ++ new) files' faults)
-  passes_push R files files' faults changed = record {
+      → Passes R (recorded start calls written files made faults) (recorded start (calls ++ event ∷ []) (written ++ new) files' made' faults)
+  passes_push R files files' made made' faults changed = record {
     later = omega (arith, length_push calls event);
     past = λ moment image le at. subst (λ (m : Moment). Image m image) (earlier moment le) at;
     kept = λ moment image le at. subst (λ (m : Moment). Image m image) (sym (earlier moment le)) at;
@@ -84,23 +84,23 @@ same_function old new same = λ i. λ file. (sym (same file)) i
 
 -- the same where the record and the first files are known by equations
 pub passes_noted : (R : Files → Files → Type 0) (start start' : Files) (calls calls' : List Event) (written written' new : List ℕ) (event : Event)
-    (files files' : Files) (faults : ℕ)
+    (files files' : Files) (made made' faults : ℕ)
     → Unchanged start start' → calls' ≡ calls ++ event ∷ [] → written' ≡ written ++ new → total calls ≡ length written → byte_count event ≡ length new
     → ((image : Files) → Image (after event new (replay (at_rest start) calls written)) image → (before : Files)
     × Image (replay (at_rest start) calls written) before × R before image)
-    → Passes R (recorded start calls written files faults) (recorded start' calls' written' files' faults)
-passes_noted R start start' calls calls' written written' new event files files' faults same is are p q changed =
-    subst₃ (λ (x : Files) (l : List Event) (w : List ℕ). Passes R (recorded start calls written files faults) (recorded x l w files' faults))
+    → Passes R (recorded start calls written files made faults) (recorded start' calls' written' files' made' faults)
+passes_noted R start start' calls calls' written written' new event files files' made made' faults same is are p q changed =
+    subst₃ (λ (x : Files) (l : List Event) (w : List ℕ). Passes R (recorded start calls written files made faults) (recorded x l w files' made' faults))
     (same_function start start' same) (sym is) (sym are)
-    (passes_push start calls written new event p q R files files' faults changed)
+    (passes_push start calls written new event p q R files files' made made' faults changed)
 
 -- a call that isn't noted
 pub passes_unnoted : (R : Files → Files → Type 0) (start start' : Files) (calls calls' : List Event) (written written' : List ℕ) (files files' : Files)
-    (faults faults' : ℕ)
+    (made made' faults faults' : ℕ)
     → Unchanged start start' → calls' ≡ calls → written' ≡ written → faults ≤ faults'
-    → Passes R (recorded start calls written files faults) (recorded start' calls' written' files' faults')
-passes_unnoted R start start' calls calls' written written' files files' faults faults' same is are le =
-    subst₃ (λ (x : Files) (l : List Event) (w : List ℕ). Passes R (recorded start calls written files faults) (recorded x l w files' faults'))
+    → Passes R (recorded start calls written files made faults) (recorded start' calls' written' files' made' faults')
+passes_unnoted R start start' calls calls' written written' files files' made made' faults faults' same is are le =
+    subst₃ (λ (x : Files) (l : List Event) (w : List ℕ). Passes R (recorded start calls written files made faults) (recorded x l w files' made' faults'))
     (same_function start start' same) (sym is) (sym are)
     (record {
       later = omega arith;

@@ -1,10 +1,10 @@
-// The trait of a disk: what each call does to the files, to what a crash leaves, and to the count of faults. A caller joins
-// the calls by `time`, whose lemmas stand in proofs/Moments. What an Ok says of contents and images holds where they are
+// The trait of a disk: what each call does to the files, to what a crash leaves, and to the counts of calls and of faults. A
+// caller joins the calls by `time`, whose lemmas stand in proofs/Moments. What an Ok says of contents and images holds where they are
 // told. A disk that tells neither, as a real folder, shows files that never change, and meets the other clauses by its
-// count of faults alone.
+// counts alone.
 ghost use Rattle.std.specs.Prelude.{◌≡◌, ◌+◌, ◌≤◌, length, take, drop, IfOk, OnOk, OnErr, IsOk, IsErrOf};
 ghost use Rattle.clfs_disk.specs.Files.{Files, found_count, TornIn, GrownIn, WrittenIn, LengthenedIn, Unchanged};
-ghost use Rattle.clfs_disk.specs.State.{DiskState, TellsContents, IsSteady, IsHonest, IsSettled, MayLeave, Passes, Rises};
+ghost use Rattle.clfs_disk.specs.State.{DiskState, TellsContents, IsSteady, IsHonest, IsSettled, MayLeave, Passes, Rises, raised};
 
 use thiserror::Error;
 
@@ -41,6 +41,7 @@ pub trait Disk {
             × (take n out.new ≡ take n (drop at ((state self.old).files file)))) }
         ensures same { Unchanged (state self.old).files (state self.new).files }
         ensures time { Passes Unchanged (state self.old) (state self.new) }
+        ensures calls { (state self.new).calls ≡ raised 1 (state self.old).calls }
         ensures cause { OnErr result (Rises (state self.old).faults (state self.new).faults) }
         ensures steady { IsSteady (state self.old) → IsOk result × ((state self.new).faults ≡ (state self.old).faults) };
 
@@ -53,6 +54,7 @@ pub trait Disk {
             × WrittenIn file at bytes.now (state self.old).files (state self.new).files) }
         ensures torn { TornIn file at (length bytes.now) (state self.old).files (state self.new).files }
         ensures time { Passes (TornIn file at (length bytes.now)) (state self.old) (state self.new) }
+        ensures calls { (state self.new).calls ≡ raised 1 (state self.old).calls }
         ensures cause { OnErr result (Rises (state self.old).faults (state self.new).faults) }
         ensures steady { IsSteady (state self.old) → at + length bytes.now ≤ length ((state self.old).files file)
             → IsOk result × ((state self.new).faults ≡ (state self.old).faults) };
@@ -67,15 +69,21 @@ pub trait Disk {
         ensures time { Passes (GrownIn file len) (state self.old) (state self.new) }
         ensures no_memory { IsErrOf result GrowRefusal.NoMemory → Unchanged (state self.old).files (state self.new).files
             × Passes Unchanged (state self.old) (state self.new) × ((state self.new).faults ≡ (state self.old).faults) }
+        // A growth that wants memory may count as a call or not.
+        ensures calls { (IsErrOf result GrowRefusal.NoMemory → ⊥) → (state self.new).calls ≡ raised 1 (state self.old).calls }
+        ensures calls_at_most { (state self.new).calls ≤ raised 1 (state self.old).calls }
         ensures cause { IsErrOf result GrowRefusal.Failed → Rises (state self.old).faults (state self.new).faults }
         ensures steady { IsSteady (state self.old) → (IsErrOf result GrowRefusal.Failed → ⊥)
-            × ((state self.new).faults ≡ (state self.old).faults) };
+            × ((state self.new).faults ≡ (state self.old).faults) }
+        // A steady disk's file is so long after an Ok, whether its contents are told or not.
+        ensures long { IsSteady (state self.old) → OnOk result (len ≤ length ((state self.new).files file)) };
 
     /// Makes all that was written and grown, in all files, outlast a crash.
     fn sync(&mut self) -> Result<(), Failed>
         ensures settled { OnOk result (IsHonest (state self.old) → IsSettled (state self.new)) }
         ensures same { Unchanged (state self.old).files (state self.new).files }
         ensures time { Passes Unchanged (state self.old) (state self.new) }
+        ensures calls { (state self.new).calls ≡ raised 1 (state self.old).calls }
         ensures cause { OnErr result (Rises (state self.old).faults (state self.new).faults) }
         ensures steady { IsSteady (state self.old) → IsOk result × ((state self.new).faults ≡ (state self.old).faults) };
 

@@ -1,7 +1,6 @@
 // The record of a disk in memory: each call that it did, with the bytes of the writes, in room that was taken at first. So
 // a call that is recorded never wants memory.
-ghost use Rattle.std.specs.Prelude.{◌≡◌, ◌+◌, ◌<◌, ◌≤◌, ◌++◌, ◌↔◌, [], ◌∷◌, length, IsTrue, IfOk, ◌==◌, nat_lt, if◌then◌else◌, vec_len, vec_capacity};
-ghost use Rattle.std.specs.List.{list_any};
+ghost use Rattle.std.specs.Prelude.{◌≡◌, ◌+◌, ◌<◌, ◌≤◌, ◌++◌, ◌↔◌, [], ◌∷◌, length, IsTrue, IfOk, Contains, nat_lt, if◌then◌else◌, vec_len, vec_capacity};
 ghost use Rattle.clfs_disk.specs.declared.record.Event.TheVariants.{Refused, Wrote};
 
 use std::alloc::{AllocError, Global};
@@ -70,7 +69,7 @@ impl Record {
     /// Whether the next call is one of those that are to fail. They are numbered from 1.
     pub fn fails_next(&self) -> bool
         requires { vec_len self.now.calls < self.now.call_room }
-        ensures { result ≡ list_any (λ number. number == vec_len self.now.calls + 1) self.now.failing.items }
+        ensures { IsTrue result ↔ Contains self.now.failing.items (vec_len self.now.calls + 1) }
     {
         let number = self.calls.len() as u64 + 1;
         self.failing.contains(&number)

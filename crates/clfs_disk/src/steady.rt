@@ -11,6 +11,7 @@ use std::alloc::{AllocError, Global};
 #[derive(Drop)]
 pub struct Steady {
     files: Vec<Vec<u8>>,
+    calls: u64,
     faults: u64,
     ghost count: { length files.items ≡ 257 },
 }
@@ -21,10 +22,12 @@ impl Steady {
     /// Empty files. Each grows in the memory of its own growth.
     pub fn new(alloc: Global) -> Result<Steady, AllocError>
         ensures empty { IfOk result (λ disk. (file : ℕ) → (steady_shown disk).files file ≡ []) }
+        ensures calls { IfOk result (λ disk. (steady_shown disk).calls ≡ 0) }
         ensures faults { IfOk result (λ disk. (steady_shown disk).faults ≡ 0) }
     {
         Ok(Steady {
             files: empty_files(alloc)?,
+            calls: 0,
             faults: 0,
         })
     }
@@ -50,6 +53,7 @@ impl Disk for Steady {
       files = files_of disk.files.items;
       clock = 0;
       image_at = λ moment image. Unit {0};
+      calls = disk.calls;
       faults = disk.faults;
       nature = record { tells_contents = true; tells_images = false; steady = true };
     } };
@@ -57,10 +61,12 @@ impl Disk for Steady {
     ghost reads_as_image = { λ disk honest. tt };
 
     fn read(&mut self, file: u16, at: u64, out: &mut [u8]) -> Result<usize, Failed> {
+        self.calls = self.calls.saturating_add(1);
         Ok(read_from(&self.files[file as usize], at, out))
     }
 
     fn write(&mut self, file: u16, at: u64, bytes: &[u8]) -> Result<(), Failed> {
+        self.calls = self.calls.saturating_add(1);
         if !has_range(&self.files[file as usize], at, bytes.len()) {
             self.faults = self.faults.saturating_add(1);
             return Err(Failed);
@@ -70,6 +76,7 @@ impl Disk for Steady {
     }
 
     fn grow(&mut self, file: u16, len: u64) -> Result<(), GrowRefusal> {
+        self.calls = self.calls.saturating_add(1);
         let bytes = &mut self.files[file as usize];
         if make_room(bytes, len).is_err() {
             return Err(GrowRefusal::NoMemory);
@@ -79,6 +86,7 @@ impl Disk for Steady {
     }
 
     fn sync(&mut self) -> Result<(), Failed> {
+        self.calls = self.calls.saturating_add(1);
         Ok(())
     }
 }

@@ -8,7 +8,7 @@ use Rattle.clfs_disk.specs.declared.record.Event.TheVariants.{Wrote}
 use Rattle.clfs_disk.proofs.Moments.{passes_weaker, torn_unchanged}
 use Rattle.clfs_disk.proofs.Places.{torn_in_written}
 use Rattle.clfs_disk.proofs.Tables.{change_in_file, change_in_no_file}
-use Rattle.clfs_disk.proofs.Holdings.{holds_after, sound_after_write}
+use Rattle.clfs_disk.proofs.Holdings.{holds_after, counted_after, sound_after_write}
 use Rattle.clfs_disk.proofs.Replays.{passes_noted, read_after_write, image_written}
 use Rattle.clfs_disk.proofs.memory.MemoryDisk.write.Goals as goal
 
@@ -41,6 +41,8 @@ invariant_of-self c =
     omega (arith, c.if-not-admits_write.ensures.range refl, ap (λ (l : List ℕ). length l) (holds.read c.args.file)) in
     let bytes = λ (v : Vec ℕ Global). v.items in
     record {
+      counted = counted_after _ _ (Wrote c.args.file c.args.at (length c.args.bytes.now)) _ _ _ _ c.args.self.now.counted (omega arith) (omega arith)
+          c.note_write.ensures.calls c.saturating_add-self.ensures c.note_write.ensures.call_room;
       holds = holds_after files c.args.self.now.history.calls.items c.args.self.now.history.written.items holds _ _ _ c.args.bytes.now
           (Wrote c.args.file c.args.at (length c.args.bytes.now))
           (length-set files c.args.file c.write_at.new.self)
@@ -63,9 +65,15 @@ returns-clause-time c =
     omega (arith, c.if-not-admits_write.ensures.range refl, ap (λ (l : List ℕ). length l) (holds.read c.args.file)) in
     passes_noted (TornIn c.args.file c.args.at (length c.args.bytes.now))
     (first_files files) _ c.args.self.now.history.calls.items _ c.args.self.now.history.written.items _ c.args.bytes.now
-    (Wrote c.args.file c.args.at (length c.args.bytes.now)) _ _ _
+    (Wrote c.args.file c.args.at (length c.args.bytes.now)) _ _ _ _ _
     (change_in_no_file (λ (copies : FileCopies). copies.first.items) files c.args.file c.write_at.new.self
     (omega (arith, holds.count)) c.index_mut.result.now c.index_mut.ensures.value
     (ap (λ (v : Vec ℕ Global). v.items) c.write_at.ensures.first))
     c.note_write.ensures.calls c.note_write.ensures.written holds.bytes refl
     (λ image at. image_written m c.args.file c.args.at c.args.bytes.now image room at)
+
+pub returns-clause-synced : goal.returns-clause-synced
+returns-clause-synced c =
+    change_in_no_file (λ (copies : FileCopies). copies.synced.items) c.args.self.now.files.items c.args.file c.write_at.new.self
+    (omega (arith, c.args.self.now.holds.count)) c.index_mut.result.now c.index_mut.ensures.value
+    (ap (λ (v : Vec ℕ Global). v.items) c.write_at.ensures.synced)
