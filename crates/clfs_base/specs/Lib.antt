@@ -1,0 +1,5 @@
+pub mod Layout
+pub mod Spelling
+pub mod Checks
+pub mod Slots
+pub mod Vector

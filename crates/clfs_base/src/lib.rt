@@ -1,0 +1,11 @@
+//! The base file of a log.
+#![tactic(auto)]
+
+mod image;
+mod layout;
+mod refusal;
+mod rows;
+
+pub use image::{BaseImage, Files, Row, Rows};
+pub use refusal::{BaseRefusal, NewestRefusal};
+pub use rows::{first_copy_of_a_small_log, slots_of_a_base_file};
