@@ -65,12 +65,12 @@ numbers_of bytes = record {
 }
 
 -- a field that has a number from the least to the most
-abbrev pub field : ℕ → ℕ → ℕ → ℕ → ℕ → Field
-field at width number least most = record { at = at; width = width; number = number; least = least; most = most; may_be_zero = false }
+abbrev pub required : ℕ → ℕ → ℕ → ℕ → ℕ → Field
+required at width number least most = record { at = at; width = width; number = number; least = least; most = most; may_be_zero = false }
 
 -- a field that may be 0 besides, where what it says isn't there
 abbrev pub optional : ℕ → ℕ → ℕ → ℕ → ℕ → Field
-optional at width number least most = record (field at width number least most) { may_be_zero = true }
+optional at width number least most = record (required at width number least most) { may_be_zero = true }
 
 -- The containers that may be listed: no more than the log has, and none with an id above the greatest.
 abbrev pub most_listed : ℕ → ℕ → ℕ
@@ -87,20 +87,20 @@ most_tail archiving = if archiving == 0 then 0 else 2 ^ 64 - 1
 -- The table: each field's place and width, the number that is in it, and the least and the greatest that it may have.
 abbrev pub fields : Layout → Numbers → List Field
 fields layout n =
-    field 1 1 n.version layout.version layout.version
-    ∷ field 2 1 n.turn 0 2
-    ∷ field 3 1 n.zero 0 0
-    ∷ field 4 4 n.block_sectors 1 most_block_sectors
-    ∷ field 8 4 n.container_sectors (2 * n.block_sectors) most_container_sectors
-    ∷ field 12 2 n.containers 1 most_containers
-    ∷ field 14 2 n.files_made n.containers most_containers
-    ∷ field 16 4 n.first 1 (2 ^ 32 - 1)
-    ∷ field 20 2 n.listed 1 (most_listed n.containers n.first)
-    ∷ field 22 2 n.streams 0 layout.most_streams
-    ∷ field 24 1 n.archiving 0 1
-    ∷ field 25 1 n.automatic 0 1
+    required 1 1 n.version layout.version layout.version
+    ∷ required 2 1 n.turn 0 2
+    ∷ required 3 1 n.zero 0 0
+    ∷ required 4 4 n.block_sectors 1 most_block_sectors
+    ∷ required 8 4 n.container_sectors (2 * n.block_sectors) most_container_sectors
+    ∷ required 12 2 n.containers 1 most_containers
+    ∷ required 14 2 n.files_made n.containers most_containers
+    ∷ required 16 4 n.first 1 (2 ^ 32 - 1)
+    ∷ required 20 2 n.listed 1 (most_listed n.containers n.first)
+    ∷ required 22 2 n.streams 0 layout.most_streams
+    ∷ required 24 1 n.archiving 0 1
+    ∷ required 25 1 n.automatic 0 1
     ∷ optional 26 2 n.maximum 2 most_containers
     ∷ optional 28 2 n.minimum 2 (most_minimum n.maximum)
-    ∷ field 30 2 n.growth 0 (most_containers - 2)
-    ∷ field 32 8 n.tail 0 (most_tail n.archiving)
+    ∷ required 30 2 n.growth 0 (most_containers - 2)
+    ∷ required 32 8 n.tail 0 (most_tail n.archiving)
     ∷ []

@@ -3,3 +3,4 @@ pub mod Spelling
 pub mod Checks
 pub mod Slots
 pub mod Vector
+pub mod Decoding

@@ -1,5 +1,25 @@
 // Where each field of a base copy stands in its slot, and which numbers it may have: the table that both writing and reading follow.
 // What differs between versions of the copies is in `Layout`.
+ghost use Rattle.std.specs.Prelude.{◌≡◌, ◌+◌, ◌*◌, ◌^◌, ◌<◌, ◌||◌};
+ghost use Rattle.clfs_base.specs.Layout.{version_one, file_place, row_bytes, row_place, required, optional, most_listed, most_minimum, most_tail, fields};
+ghost use Rattle.clfs_base.specs.Spelling.{flag, numbers_for};
+
+use crate::image::BaseImage;
+
+/// The bytes of a slot.
+pub const SLOT: u32 = 16384;
+
+/// The first byte behind the fields.
+pub const FIELDS_END: u32 = 40;
+
+/// The first byte of the listed containers' file numbers.
+pub const FILES_AT: u32 = 64;
+
+/// The first byte of the rows of the streams.
+pub const ROWS_AT: u32 = 576;
+
+// The most containers of a log.
+const MOST_CONTAINERS: u64 = 256;
 
 /// A version of the base copies.
 #[derive(Clone, Copy, Debug)]
@@ -71,4 +91,104 @@ pub struct Field {
     pub most: u64,
     /// It may be 0 besides.
     pub may_be_zero: bool,
+}
+
+// A field that has a number from the least to the most.
+fn required(at: u32, width: u32, number: u64, least: u64, most: u64) -> Field
+    ensures { result ≡ required at width number least most }
+{
+    Field {
+        at,
+        width,
+        number,
+        least,
+        most,
+        may_be_zero: false,
+    }
+}
+
+// A field that may be 0 besides.
+fn optional(at: u32, width: u32, number: u64, least: u64, most: u64) -> Field
+    ensures { result ≡ optional at width number least most }
+{
+    Field {
+        at,
+        width,
+        number,
+        least,
+        most,
+        may_be_zero: true,
+    }
+}
+
+// The most containers that can be listed.
+fn most_listed(containers: u16, first: u32) -> u64
+    ensures { result ≡ most_listed containers first }
+{
+    (containers as u64).min((1 << 32) - first as u64)
+}
+
+// The greatest minimum.
+fn most_minimum(maximum: u16) -> u64
+    ensures { result ≡ most_minimum maximum }
+{
+    if maximum == 0 {
+        MOST_CONTAINERS
+    } else {
+        maximum as u64
+    }
+}
+
+// The greatest archive tail.
+fn most_tail(archiving: u8) -> u64
+    ensures { result ≡ most_tail archiving }
+{
+    if archiving == 0 { 0 } else { u64::MAX }
+}
+
+/// The table of the fields, with these numbers in them.
+pub fn fields(layout: &Layout, n: &Numbers) -> [Field; 16]
+    ensures { result ≡ fields layout.now n.now }
+{
+    let version = layout.version as u64;
+    let containers = n.containers as u64;
+    [
+        required(1, 1, n.version as u64, version, version),
+        required(2, 1, n.turn as u64, 0, 2),
+        required(3, 1, n.zero as u64, 0, 0),
+        required(4, 4, n.block_sectors as u64, 1, 128),
+        required(8, 4, n.container_sectors as u64, 2 * n.block_sectors as u64, 16384),
+        required(12, 2, containers, 1, MOST_CONTAINERS),
+        required(14, 2, n.files_made as u64, containers, MOST_CONTAINERS),
+        required(16, 4, n.first as u64, 1, u32::MAX as u64),
+        required(20, 2, n.listed as u64, 1, most_listed(n.containers, n.first)),
+        required(22, 2, n.streams as u64, 0, layout.most_streams as u64),
+        required(24, 1, n.archiving as u64, 0, 1),
+        required(25, 1, n.automatic as u64, 0, 1),
+        optional(26, 2, n.maximum as u64, 2, MOST_CONTAINERS),
+        optional(28, 2, n.minimum as u64, 2, most_minimum(n.maximum)),
+        required(30, 2, n.growth as u64, 0, MOST_CONTAINERS - 2),
+        required(32, 8, n.tail, 0, most_tail(n.archiving)),
+    ]
+}
+
+/// The place of the file number of the listed container so many after the first.
+pub fn file_place(i: u16) -> u32
+    ensures { result ≡ file_place i }
+{
+    FILES_AT + 2 * i as u32
+}
+
+/// The bytes of a row.
+pub fn row_bytes(layout: &Layout) -> u32
+    ensures { result ≡ row_bytes layout.now }
+{
+    16 + layout.longest_name as u32
+}
+
+/// The place of the row so many after the first.
+pub fn row_place(layout: &Layout, i: u16) -> u32
+    ensures { result ≡ row_place layout.now i }
+{
+    ROWS_AT + row_bytes(layout) * i as u32
 }

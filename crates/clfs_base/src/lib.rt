@@ -1,11 +1,14 @@
 //! The base file of a log.
 #![tactic(auto)]
 
+mod decoder;
 mod image;
 mod layout;
+mod reading;
 mod refusal;
 mod rows;
 
+pub use decoder::decode;
 pub use image::{BaseImage, Files, Row, Rows};
 pub use refusal::{BaseRefusal, NewestRefusal};
 pub use rows::{first_copy_of_a_small_log, slots_of_a_base_file};
