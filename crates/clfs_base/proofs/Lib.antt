@@ -1,2 +1,4 @@
 pub mod Searches
 pub mod Chains
+pub mod Filling
+pub mod Tables

@@ -102,13 +102,13 @@ field_bytes f = little_bytes f.width f.number
 abbrev pub number_bytes : ℕ → List ℕ
 number_bytes number = little_bytes 2 number
 
--- a row: the length of its name, seven zeros, its base, and its name filled up with zeros
-abbrev pub spelled_row : Layout → Row → List ℕ
-spelled_row layout row = length row.name ∷ replicate 7 0 ++ (little_bytes 8 row.base ++ filled layout.longest_name row.name)
+-- a row with so much room for the name: the name's length, seven zeros, the base, and the name filled up with zeros
+abbrev pub spelled_row : ℕ → Row → List ℕ
+spelled_row room row = length row.name ∷ replicate 7 0 ++ (little_bytes 8 row.base ++ filled room row.name)
 
 -- Bytes 1 to 16,383 of a slot: the fields, the file numbers and the rows, each filled up with zeros.
 abbrev pub spelled : Layout → BaseImage → List ℕ
 spelled layout image =
     filled (files_at - 1) (flat_map field_bytes (fields layout (numbers_for layout image)))
     ++ (filled (rows_at - files_at) (flat_map number_bytes image.files)
-    ++ filled (slot_bytes - rows_at) (flat_map (spelled_row layout) image.streams))
+    ++ filled (slot_bytes - rows_at) (flat_map (spelled_row layout.longest_name) image.streams))

@@ -2,6 +2,7 @@
 #![tactic(auto)]
 
 mod decoder;
+mod encoder;
 mod image;
 mod layout;
 mod reading;
@@ -9,6 +10,7 @@ mod refusal;
 mod rows;
 
 pub use decoder::decode;
+pub use encoder::encode;
 pub use image::{BaseImage, Files, Row, Rows};
 pub use refusal::{BaseRefusal, NewestRefusal};
 pub use rows::{first_copy_of_a_small_log, slots_of_a_base_file};
