@@ -5,3 +5,4 @@ pub mod Tables
 pub mod Places
 pub mod Ranges
 pub mod Spelled
+pub mod Taken

@@ -1,5 +1,6 @@
 -- What the table's checks say of the numbers in the fields.
-use Rattle.std.proofs.Common.{◌≡◌, ◌⊎◌, inl, inr, ℕ, ◌+◌, ◌-◌, ◌*◌, ◌^◌, ◌≤◌, ◌<◌, min, Bool, true, false, not, ◌||◌, ◌&&◌, eqb, leb, ltb, cond, List, [], ◌∷◌, length, find, Option, Some, None, refl, sym, ◌∙◌, ap, arith}
+use Rattle.std.proofs.Common.{◌≡◌, ◌≢◌, ◌⊎◌, inl, inr, ℕ, ◌+◌, ◌-◌, ◌*◌, ◌^◌, ◌≤◌, ◌<◌, min, Bool, true, false, not, ◌||◌, ◌&&◌, eqb, leb, ltb, cond, List, [], ◌∷◌, length, find, Option, Some, None, refl, sym, ◌∙◌, ap, arith}
+use Rattle.std.proofs.lemmas.Bool.{cases_eq}
 use Rattle.std.proofs.lemmas.Bool.Decides.{nat_tests}
 use Rattle.std.specs.Option.{option_map}
 use Rattle.clfs_lsn.specs.Limits.{most_block_sectors, most_container_sectors, most_containers}
@@ -91,3 +92,50 @@ all_pass bytes (f ∷ fs) none =
         → (b ≡ false) × (option_map (λ (g : Field). g.at) rest ≡ None)
     passed true rest e = absurd (cc e)
     passed false rest e = (refl, e)
+
+policy_is : (size at width number least most : ℕ) → (ltb size (at + width) || not ((true && eqb number 0) || (leb least number && leb number most))) ≡ false
+    → IsPolicy least most number
+policy_is size at width number least most e = elim (cases_eq number 0) [
+  | inl none ↦ inl none
+  | inr some ↦ inr (low some, high some)
+]
+  where
+    low : number ≢ 0 → least ≤ number
+    low some = grind (arith, nat_tests)
+    high : number ≢ 0 → number ≤ most
+    high some = grind (arith, nat_tests)
+
+-- numbers that pass are in their ranges, in bytes that are there
+pub pass_right : (layout : Layout) (n : Numbers) (bytes : List ℕ) → AllPass bytes (fields layout n) → IsRight layout n × (40 ≤ length bytes)
+unfolding AllPass
+pass_right layout n bytes (p1, (p2, (p3, (p4, (p8, (p12, (p14, (p16, (p20, (p22, (p24, (p25, (p26, (p28, (p30, (p32, last)))))))))))))))) =
+    let size = length bytes in
+    let version = range_is size 1 1 n.version layout.version layout.version p1 in
+    let tail = range_is size 32 8 n.tail 0 (most_tail n.archiving) p32 in
+    let block = range_is size 4 4 n.block_sectors 1 most_block_sectors p4 in
+    let container = range_is size 8 4 n.container_sectors (2 * n.block_sectors) most_container_sectors p8 in
+    let containers = range_is size 12 2 n.containers 1 most_containers p12 in
+    let made = range_is size 14 2 n.files_made n.containers most_containers p14 in
+    let first = range_is size 16 4 n.first 1 (2 ^ 32 - 1) p16 in
+    let listed = range_is size 20 2 n.listed 1 (most_listed n.containers n.first) p20 in
+    (
+      record {
+        version = omega (arith, version.1, version.2);
+        turn = (range_is size 2 1 n.turn 0 2 p2).2;
+        zero_is = omega (arith, (range_is size 3 1 n.zero 0 0 p3).2);
+        block = (block.1, block.2);
+        container = (container.1, container.2);
+        containers = (containers.1, containers.2);
+        files_made = (made.1, made.2);
+        first = (first.1, first.2);
+        listed = (listed.1, listed.2);
+        streams = (range_is size 22 2 n.streams 0 layout.most_streams p22).2;
+        archiving = (range_is size 24 1 n.archiving 0 1 p24).2;
+        automatic = (range_is size 25 1 n.automatic 0 1 p25).2;
+        maximum = policy_is size 26 2 n.maximum 2 most_containers p26;
+        minimum = policy_is size 28 2 n.minimum 2 (most_minimum n.maximum) p28;
+        growth = (range_is size 30 2 n.growth 0 (most_containers - 2) p30).2;
+        tail = tail.2;
+      },
+      omega (arith, tail.0),
+    )
