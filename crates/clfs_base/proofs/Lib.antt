@@ -6,3 +6,4 @@ pub mod Places
 pub mod Ranges
 pub mod Spelled
 pub mod Taken
+pub mod Copies

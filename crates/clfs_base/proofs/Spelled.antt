@@ -302,3 +302,17 @@ spelled_is_read layout image gate rest bytes l i is =
           ∙ ap (λ (r : List Row). image_with n image.files r) rows_are
           ∙ (λ k. record image { archiving = flag_read image.archiving k; automatic = flag_read image.automatic k });
     }
+
+pub length-spelled : (layout : Layout) (image : BaseImage) → IsLayout layout → IsImage layout image → length (spelled layout image) ≡ 16383
+length-spelled layout image l i =
+    let numbers : List ℕ = flat_map number_bytes image.files in
+    let rows : List ℕ = flat_map (spelled_row layout.longest_name) image.streams in
+    let files_size : length numbers ≡ 2 * length image.files = length-all_pieces number_bytes 2 0 image.files (λ k lt. refl) in
+    let rows_size : length rows ≡ (16 + layout.longest_name) * length image.streams =
+    length-all_pieces (spelled_row layout.longest_name) (16 + layout.longest_name) (record { name = []; base = 0 }) image.streams
+    (λ k lt. length-row layout.longest_name (row_in image.streams k) (i.rows.named k lt).few) in
+    let rows_most : (16 + layout.longest_name) * length image.streams ≤ (16 + layout.longest_name) * layout.most_streams =
+    mul-le-mul_left (16 + layout.longest_name) i.few_streams in
+    let middle = length-filled 512 numbers (omega (arith, files_size, i.few_listed, i.containers_made, i.few_made)) in
+    let back = length-filled 15808 rows (omega (arith, rows_size, rows_most, l.rows)) in
+    omega (arith, length-append (filled 512 numbers) (filled 15808 rows), middle, back)

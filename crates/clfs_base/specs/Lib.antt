@@ -4,3 +4,4 @@ pub mod Checks
 pub mod Slots
 pub mod Vector
 pub mod Decoding
+pub mod Writing

@@ -8,9 +8,11 @@ mod layout;
 mod reading;
 mod refusal;
 mod rows;
+mod slots;
 
 pub use decoder::decode;
 pub use encoder::encode;
 pub use image::{BaseImage, Files, Row, Rows};
 pub use refusal::{BaseRefusal, NewestRefusal};
 pub use rows::{first_copy_of_a_small_log, slots_of_a_base_file};
+pub use slots::{close_older, open_slot, write_body};
