@@ -299,7 +299,7 @@ both_used base b = used_is base
     whole : (a b : ℕ) → used_by true true false false a b ≡ newer_slot a b
     whole a b = refl
 
-read_ok : (fault : Option ℕ) (value image : BaseImage) → unless_wrong fault value ≡ Ok image → (fault ≡ None) × (value ≡ image)
+pub read_ok : (fault : Option ℕ) (value image : BaseImage) → unless_wrong fault value ≡ Ok image → (fault ≡ None) × (value ≡ image)
 read_ok None value image e = (refl, cc e)
 read_ok (Some at) value image e = absurd (cc e)
 

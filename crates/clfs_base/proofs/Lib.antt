@@ -7,3 +7,4 @@ pub mod Ranges
 pub mod Spelled
 pub mod Taken
 pub mod Copies
+pub mod Images

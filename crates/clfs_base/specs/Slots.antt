@@ -2,6 +2,7 @@
 use Rattle.std.specs.Prelude.{◌==◌, ℕ, ◌+◌, ◌*◌, ◌%◌, Bool, ◌&&◌, ◌||◌, nat_lt, if◌then◌else◌, List, length, take, drop, slice_index, Result, Ok, Err}
 use Rattle.clfs_lsn.specs.Format.{open_gate}
 use Rattle.clfs_base.specs.declared.image.BaseImage.{BaseImage}
+use Rattle.clfs_base.specs.declared.newest.Front.{Front}
 use Rattle.clfs_base.specs.declared.refusal.NewestRefusal.{NewestRefusal}
 use Rattle.clfs_base.specs.declared.refusal.NewestRefusal.TheVariants.{NoBase, BadByte}
 use Rattle.clfs_base.specs.Layout.{slot_bytes, version_one}
@@ -32,16 +33,28 @@ abbrev pub newer_slot : ℕ → ℕ → Result ℕ NewestRefusal
 newer_slot first second =
     if first == second then Err (BadByte 1 2) else if second == (first + 1) % 3 then Ok 1 else Ok 0
 
+-- what decides on a slot: its gate and its turn
+abbrev pub front_of : List ℕ → ℕ → Front
+front_of base slot = record {
+  is_open = is_open_slot base slot;
+  is_wrong_turn = is_wrong_turn base slot;
+  turn = turn_of base slot;
+}
+
 -- The slot that counts: the open one, or of two open ones that with the newer turn, where both are turns.
-abbrev pub used_slot : List ℕ → Result ℕ NewestRefusal
-used_slot base =
-    if is_open_slot base 0 && is_open_slot base 1
-    then (if is_wrong_turn base 0 then Err (BadByte 0 2)
-    else if is_wrong_turn base 1 then Err (BadByte 1 2)
-    else newer_slot (turn_of base 0) (turn_of base 1))
-    else if is_open_slot base 0 then Ok 0
-    else if is_open_slot base 1 then Ok 1
+abbrev pub slot_by : Front → Front → Result ℕ NewestRefusal
+slot_by first second =
+    if first.is_open && second.is_open
+    then (if first.is_wrong_turn then Err (BadByte 0 2)
+      else if second.is_wrong_turn then Err (BadByte 1 2)
+      else newer_slot first.turn second.turn)
+    else if first.is_open then Ok 0
+    else if second.is_open then Ok 1
     else Err NoBase
+
+-- the slot of a base file that counts
+abbrev pub used_slot : List ℕ → Result ℕ NewestRefusal
+used_slot base = slot_by (front_of base 0) (front_of base 1)
 
 -- the slot with its image, or its first wrong byte
 abbrev pub copy_in : ℕ → Result BaseImage ℕ → Result (ℕ × BaseImage) NewestRefusal

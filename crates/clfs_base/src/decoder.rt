@@ -1,6 +1,7 @@
 // Reading a base copy from the bytes of its slot. The checks go from byte 1 on; memory is taken as the tables are read.
-ghost use Rattle.std.specs.Prelude.{◌≡◌, ◌+◌, ◌^◌, ◌<◌, ◌==◌, ◌&&◌, ◌||◌, not, nat_le, List, [], ◌∷◌, ◌++◌, IfOk, OnOk, Ok, Some, length, drop, take};
+ghost use Rattle.std.specs.Prelude.{◌≡◌, ◌+◌, ◌-◌, ◌^◌, ◌<◌, ◌==◌, ◌&&◌, ◌||◌, not, nat_le, ℕ, List, [], ◌∷◌, ◌++◌, IfOk, OnOk, Ok, Some, None, length, drop, take};
 ghost use Rattle.std.specs.List.{list_all, list_any};
+ghost use Rattle.clfs_base.specs.declared.image.BaseImage.{BaseImage};
 ghost use Rattle.clfs_base.specs.Layout.{version_one, row_place, row_bytes, file_place, number_at, numbers_of, slot_bytes};
 ghost use Rattle.clfs_base.specs.Spelling.{is_name_byte, IsImage, spelled};
 ghost use Rattle.clfs_base.specs.Checks.{other_byte, is_wrong_field, wrong_field, is_no_file, is_wrong_file, wrong_file, files_in, is_wrong_length, is_no_name, is_wrong_name, is_taken, row_fault, wrong_row, rows_of, name_in, slot_fault, image_with, image_of};
@@ -17,6 +18,14 @@ use std::alloc::{AllocError, Global};
 
 /// The base copy that the bytes of a slot spell. The gate isn't judged.
 pub fn decode(alloc: Global, bytes: &[u8]) -> Result<BaseImage, BaseRefusal>
+    // What is read is spelled so, and is an image that a log can have.
+    ensures found { IfOk result (λ image. IsImage version_one image
+        × (take (slot_bytes - 1) (drop 1 bytes.now) ≡ spelled version_one image)) }
+
+    // What is spelled so behind any gate is read, whatever follows it.
+    ensures only { (image : BaseImage) (gate : ℕ) (rest : List ℕ) → IsImage version_one image
+        → bytes.now ≡ gate ∷ (spelled version_one image ++ rest) → Gives result None image }
+
     // A refusal names the first byte that is wrong.
     ensures exact { Gives result (slot_fault version_one bytes.now) (image_of version_one bytes.now) }
 {

@@ -1,4 +1,4 @@
-// The slots of the base file on a disk: which copy is the newest, and the three parts of writing a newer one.
+// The three parts of writing a newer base copy into the slot beside the newest one.
 ghost use Rattle.std.specs.Prelude.{◌≡◌, ◌+◌, ◌-◌, ◌*◌, ◌≤◌, ◌<◌, ℕ, [], ◌∷◌, true, false, length, OnOk, OnErr, IfOk, IsOk};
 ghost use Rattle.clfs_disk.specs.Files.{TornIn, WrittenIn, Unchanged};
 ghost use Rattle.clfs_disk.specs.State.{TellsContents, IsSteady, IsHonest, IsSettled, Passes, Leaves, Rises, raised};
@@ -14,8 +14,8 @@ use clfs_lsn::OPEN_GATE;
 // One of the values of a closed gate.
 const CLOSED: u8 = 0;
 
-// A slot's first byte in the base file.
-fn slot_place(slot: u32) -> u64
+/// A slot's first byte in the base file.
+pub fn slot_place(slot: u32) -> u64
     ensures { result ≡ slot_place slot }
 {
     SLOT as u64 * slot as u64
