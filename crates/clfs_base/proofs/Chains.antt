@@ -1,5 +1,5 @@
 -- The first wrong byte of a slot, part by part.
-use Rattle.std.proofs.Common.{◌≡◌, ℕ, List, Option, Some, None, refl, sym, ◌∙◌, ap}
+use Rattle.std.proofs.Common.{◌≡◌, ℕ, List, Option, Some, sym, ap}
 use Rattle.std.specs.Option.{option_or}
 use Rattle.clfs_base.specs.declared.layout.Layout.{Layout}
 use Rattle.clfs_base.specs.declared.layout.Numbers.{Numbers}

@@ -1,16 +1,15 @@
 -- The newest copy of a base file whose other slot is written.
-use Rattle.std.proofs.Common.{◌≡◌, ◌≢◌, ◌⊎◌, inl, inr, ⊎_elim, ℕ, zero, suc, ◌+◌, ◌-◌, ◌*◌, ◌%◌, ◌<◌, ◌≤◌, Bool, true, false, cond, ◌&&◌, ◌||◌, not, eqb, leb, ltb, List, [], ◌∷◌, ◌++◌, length, get_or, take, drop}
+use Rattle.std.proofs.Common.{◌≡◌, ◌⊎◌, inl, inr, ⊎_elim, ℕ, zero, suc, ◌+◌, ◌-◌, ◌*◌, ◌%◌, ◌<◌, ◌≤◌, Bool, true, false, cond, ◌&&◌, ◌||◌, eqb, ltb, List, [], ◌∷◌, ◌++◌, length, get_or, take, drop}
 use Rattle.std.proofs.Common.{Option, Some, None, Result, Ok, Err, refl, sym, ◌∙◌, ap, subst, arith, length-drop}
-use Rattle.std.proofs.lemmas.Bool.{cases_eq}
 use Rattle.std.proofs.lemmas.Bool.Decides.{nat_tests}
-use Rattle.std.proofs.lemmas.List.{length-take, length-take-le, get_or-take, get_or-drop, drop_more, append-nil}
+use Rattle.std.proofs.lemmas.List.{length-take, get_or-take, get_or-drop, drop_more, append-nil}
 use Rattle.clfs_disk.specs.Files.{Files, Torn, TornIn, WrittenIn, Unchanged}
-use Rattle.clfs_disk.proofs.Places.{same_part, length-overwritten, overwritten_below, overwritten_inside, overwritten_above, part_overwritten, torn_in_written}
+use Rattle.clfs_disk.proofs.Places.{same_part, overwritten_inside, part_overwritten, torn_in_written}
 use Rattle.clfs_base.specs.declared.image.BaseImage.{BaseImage}
 use Rattle.clfs_base.specs.declared.refusal.NewestRefusal.{NewestRefusal}
 use Rattle.clfs_base.specs.declared.refusal.NewestRefusal.TheVariants as refusals
-use Rattle.clfs_base.specs.Layout.{version_one, number_at, numbers_of, fields}
-use Rattle.clfs_base.specs.Spelling.{IsImage, spelled}
+use Rattle.clfs_base.specs.Layout.{version_one, numbers_of, fields}
+use Rattle.clfs_base.specs.Spelling.{spelled}
 use Rattle.clfs_base.specs.Checks.{slot_fault, image_of, image_at, unless_wrong}
 use Rattle.clfs_base.specs.Slots.{slot_place, slot_of, is_open_slot, turn_of, is_wrong_turn, newer_slot, used_slot, copy_in, copy_of, newest_of}
 use Rattle.clfs_base.specs.Writing.{older_of, body_of, HasNewest, IsOlder, IsFilled, EitherNewest}

@@ -1,5 +1,5 @@
 -- What the table's checks say of the numbers in the fields.
-use Rattle.std.proofs.Common.{◌≡◌, ◌≢◌, ◌⊎◌, inl, inr, ℕ, ◌+◌, ◌-◌, ◌*◌, ◌^◌, ◌≤◌, ◌<◌, min, Bool, true, false, not, ◌||◌, ◌&&◌, eqb, leb, ltb, cond, List, [], ◌∷◌, length, find, Option, Some, None, refl, sym, ◌∙◌, ap, arith}
+use Rattle.std.proofs.Common.{◌≡◌, ◌≢◌, inl, inr, ℕ, ◌+◌, ◌-◌, ◌*◌, ◌^◌, ◌≤◌, Bool, true, false, not, ◌||◌, ◌&&◌, eqb, leb, ltb, cond, List, [], ◌∷◌, length, find, Option, Some, None, refl, ◌∙◌, ap, arith}
 use Rattle.std.proofs.lemmas.Bool.{cases_eq}
 use Rattle.std.proofs.lemmas.Bool.Decides.{nat_tests}
 use Rattle.std.specs.Option.{option_map}
@@ -57,22 +57,52 @@ unfolding AllPass
 right_pass layout n bytes there r =
     let size = length bytes in (
       in_range size 1 1 n.version layout.version layout.version (omega (arith, there)) (omega (arith, r.version)) (omega (arith, r.version)),
-      (in_range size 2 1 n.turn 0 2 (omega (arith, there)) (omega arith) r.turn,
-      (in_range size 3 1 n.zero 0 0 (omega (arith, there)) (omega arith) (omega (arith, r.zero_is)),
-      (in_range size 4 4 n.block_sectors 1 most_block_sectors (omega (arith, there)) r.block.0 r.block.1,
-      (in_range size 8 4 n.container_sectors (2 * n.block_sectors) most_container_sectors (omega (arith, there)) r.container.0 r.container.1,
-      (in_range size 12 2 n.containers 1 most_containers (omega (arith, there)) r.containers.0 r.containers.1,
-      (in_range size 14 2 n.files_made n.containers most_containers (omega (arith, there)) r.files_made.0 r.files_made.1,
-      (in_range size 16 4 n.first 1 (2 ^ 32 - 1) (omega (arith, there)) r.first.0 r.first.1,
-      (in_range size 20 2 n.listed 1 (most_listed n.containers n.first) (omega (arith, there)) r.listed.0 r.listed.1,
-      (in_range size 22 2 n.streams 0 layout.most_streams (omega (arith, there)) (omega arith) r.streams,
-      (in_range size 24 1 n.archiving 0 1 (omega (arith, there)) (omega arith) r.archiving,
-      (in_range size 25 1 n.automatic 0 1 (omega (arith, there)) (omega arith) r.automatic,
-      (in_policy size 26 2 n.maximum 2 most_containers (omega (arith, there)) r.maximum,
-      (in_policy size 28 2 n.minimum 2 (most_minimum n.maximum) (omega (arith, there)) r.minimum,
-      (in_range size 30 2 n.growth 0 (most_containers - 2) (omega (arith, there)) (omega arith) r.growth,
-      (in_range size 32 8 n.tail 0 (most_tail n.archiving) (omega (arith, there)) (omega arith) r.tail,
-      tt))))))))))))))),
+      (
+        in_range size 2 1 n.turn 0 2 (omega (arith, there)) (omega arith) r.turn,
+        (
+          in_range size 3 1 n.zero 0 0 (omega (arith, there)) (omega arith) (omega (arith, r.zero_is)),
+          (
+            in_range size 4 4 n.block_sectors 1 most_block_sectors (omega (arith, there)) r.block.0 r.block.1,
+            (
+              in_range size 8 4 n.container_sectors (2 * n.block_sectors) most_container_sectors (omega (arith, there)) r.container.0 r.container.1,
+              (
+                in_range size 12 2 n.containers 1 most_containers (omega (arith, there)) r.containers.0 r.containers.1,
+                (
+                  in_range size 14 2 n.files_made n.containers most_containers (omega (arith, there)) r.files_made.0 r.files_made.1,
+                  (
+                    in_range size 16 4 n.first 1 (2 ^ 32 - 1) (omega (arith, there)) r.first.0 r.first.1,
+                    (
+                      in_range size 20 2 n.listed 1 (most_listed n.containers n.first) (omega (arith, there)) r.listed.0 r.listed.1,
+                      (
+                        in_range size 22 2 n.streams 0 layout.most_streams (omega (arith, there)) (omega arith) r.streams,
+                        (
+                          in_range size 24 1 n.archiving 0 1 (omega (arith, there)) (omega arith) r.archiving,
+                          (
+                            in_range size 25 1 n.automatic 0 1 (omega (arith, there)) (omega arith) r.automatic,
+                            (
+                              in_policy size 26 2 n.maximum 2 most_containers (omega (arith, there)) r.maximum,
+                              (
+                                in_policy size 28 2 n.minimum 2 (most_minimum n.maximum) (omega (arith, there)) r.minimum,
+                                (
+                                  in_range size 30 2 n.growth 0 (most_containers - 2) (omega (arith, there)) (omega arith) r.growth,
+                                  (
+                                    in_range size 32 8 n.tail 0 (most_tail n.archiving) (omega (arith, there)) (omega arith) r.tail,
+                                    tt,
+                                  ),
+                                ),
+                              ),
+                            ),
+                          ),
+                        ),
+                      ),
+                    ),
+                  ),
+                ),
+              ),
+            ),
+          ),
+        ),
+      ),
     )
 
 -- where each passes none is wrong, and the other way round
@@ -102,6 +132,7 @@ policy_is size at width number least most e = elim (cases_eq number 0) [
   where
     low : number ≢ 0 → least ≤ number
     low some = grind (arith, nat_tests)
+
     high : number ≢ 0 → number ≤ most
     high some = grind (arith, nat_tests)
 
@@ -117,8 +148,7 @@ pass_right layout n bytes (p1, (p2, (p3, (p4, (p8, (p12, (p14, (p16, (p20, (p22,
     let containers = range_is size 12 2 n.containers 1 most_containers p12 in
     let made = range_is size 14 2 n.files_made n.containers most_containers p14 in
     let first = range_is size 16 4 n.first 1 (2 ^ 32 - 1) p16 in
-    let listed = range_is size 20 2 n.listed 1 (most_listed n.containers n.first) p20 in
-    (
+    let listed = range_is size 20 2 n.listed 1 (most_listed n.containers n.first) p20 in (
       record {
         version = omega (arith, version.1, version.2);
         turn = (range_is size 2 1 n.turn 0 2 p2).2;

@@ -1,30 +1,29 @@
 -- What a slot without a wrong byte spells: the image that is read, which is one that there may be.
-use Rattle.std.proofs.Common.{◌≡◌, ◌≢◌, ◌⊎◌, inl, inr, ℕ, zero, suc, ◌+◌, ◌-◌, ◌*◌, ◌%◌, ◌^◌, ◌<◌, ◌≤◌, Bool, true, false, not, ◌||◌, ◌&&◌, eqb, leb, ltb, List, [], ◌∷◌, ◌++◌, length, get_or, take, drop, map, replicate}
-use Rattle.std.proofs.Common.{Option, Some, None, refl, sym, ◌∙◌, ap, subst, arith, length-append, length-drop, append_assoc, take-append-drop}
+use Rattle.std.proofs.Common.{◌≡◌, ◌≢◌, inl, inr, ℕ, ◌+◌, ◌-◌, ◌*◌, ◌%◌, ◌^◌, ◌<◌, ◌≤◌, Bool, true, false, not, ◌||◌, ◌&&◌, eqb, leb, ltb, List, [], ◌∷◌, ◌++◌, length, get_or, take, drop, replicate}
+use Rattle.std.proofs.Common.{None, refl, sym, ◌∙◌, ap, subst, arith, length-drop, append_assoc, take-append-drop}
 use Rattle.std.proofs.Math.Nat.{mul-le-mul_left}
 use Rattle.std.proofs.lemmas.Bool.{cases_lt}
 use Rattle.std.proofs.lemmas.Bool.Decides.{nat_tests}
-use Rattle.std.proofs.lemmas.List.{length-replicate, length-take, length-take-le, take_at, drop_more, drop-drop, get_or-take, get_or-drop, get_or_past, get_or_default}
+use Rattle.std.proofs.lemmas.List.{length-take, length-take-le, drop_more, drop-drop, get_or-take, get_or-drop, get_or_past}
 use Rattle.std.proofs.lemmas.List.FromFn.{length-map-range_with_len, get_or-map-range_with_len}
 use Rattle.std.proofs.lemmas.Nat.{le_bytes_2, le_bytes_4, le_bytes_8}
 use Rattle.std.proofs.lemmas.Slice.Eq.{bytes_eq-Decides}
 use Rattle.std.specs.Int.{w16, w32, w64, from_le_bytes}
-use Rattle.std.specs.List.{flat_map, range_with_len, list_any, list_all}
+use Rattle.std.specs.List.{flat_map, list_any, list_all}
 use Rattle.std.specs.Str.{bytes_eq}
 use Rattle.byteorder.specs.Endian.{little_bytes, little_number}
 use Rattle.byteorder.specs.Numbers.{little_from-lt}
-use Rattle.clfs_base.specs.declared.image.BaseImage.{BaseImage}
 use Rattle.clfs_base.specs.declared.image.Row.{Row}
 use Rattle.clfs_base.specs.declared.layout.Layout.{Layout}
 use Rattle.clfs_base.specs.declared.layout.Numbers.{Numbers}
-use Rattle.clfs_base.specs.Layout.{number_at, numbers_of, fields, row_place, file_place, most_minimum, most_tail}
-use Rattle.clfs_base.specs.Spelling.{is_name_byte, IsName, AreFiles, AreRows, IsImage, IsPolicy, row_in, flag, numbers_for, filled, field_bytes, number_bytes, spelled_row, spelled}
-use Rattle.clfs_base.specs.Checks.{is_short, other_byte, wrong_field, is_no_file, is_wrong_file, file_in, files_in, wrong_file, name_len, name_in, is_taken, is_wrong_length, is_no_name, is_wrong_name, row_of, rows_of, row_fault, wrong_row, slot_fault, image_with, image_of}
+use Rattle.clfs_base.specs.Layout.{number_at, numbers_of, fields, row_place, file_place, most_tail}
+use Rattle.clfs_base.specs.Spelling.{is_name_byte, IsName, AreFiles, AreRows, IsImage, row_in, flag, numbers_for, filled, field_bytes, number_bytes, spelled_row, spelled}
+use Rattle.clfs_base.specs.Checks.{file_in, files_in, wrong_file, name_len, name_in, is_taken, row_of, rows_of, row_fault, wrong_row, slot_fault, image_of}
 use Rattle.clfs_base.proofs.Searches.{both_none, each_none}
 use Rattle.clfs_base.proofs.Chains.{chained}
 use Rattle.clfs_base.proofs.Filling.{length-row, length-all_pieces}
 use Rattle.clfs_base.proofs.Places.{told_none, passed_zeros, pieces_are, each_fails}
-use Rattle.clfs_base.proofs.Ranges.{IsRight, all_pass, pass_right}
+use Rattle.clfs_base.proofs.Ranges.{all_pass, pass_right}
 use Rattle.clfs_base.proofs.Spelled.{IsLayout}
 
 -- ---- numbers as bytes
@@ -236,8 +235,11 @@ module _ (layout : Layout) (bytes : List ℕ) (fits : IsBytes bytes) (count : �
             clash (sym apart ∙ (bytes_eq-Decides (row_of layout bytes i).name name).1 equal);
         bases = λ i lt.
             let here : i < count = omega (arith, lt, size) in
-            subst (λ (r : Row). r.base < 2 ^ 64) (sym (each i here)) (omega (arith, little_from-lt 0 8 (drop (row_place layout i + 8) bytes)
-            (IsBytes-drop (row_place layout i + 8) bytes fits)));
+            subst (λ (r : Row). r.base < 2 ^ 64) (sym (each i here)) (omega (
+              arith,
+              little_from-lt 0 8 (drop (row_place layout i + 8) bytes)
+                  (IsBytes-drop (row_place layout i + 8) bytes fits),
+            ));
       }
     where
       clash : false ≡ true → ⊥

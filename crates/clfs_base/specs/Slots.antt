@@ -46,8 +46,8 @@ abbrev pub slot_by : Front → Front → Result ℕ NewestRefusal
 slot_by first second =
     if first.is_open && second.is_open
     then (if first.is_wrong_turn then Err (BadByte 0 2)
-      else if second.is_wrong_turn then Err (BadByte 1 2)
-      else newer_slot first.turn second.turn)
+    else if second.is_wrong_turn then Err (BadByte 1 2)
+    else newer_slot first.turn second.turn)
     else if first.is_open then Ok 0
     else if second.is_open then Ok 1
     else Err NoBase

@@ -1,5 +1,5 @@
 -- What the three parts of writing a base copy leave in the base file.
-use Rattle.std.specs.Prelude.{◌≡◌, ◌≢◌, ◌⊎◌, ◌==◌, ℕ, ◌+◌, ◌-◌, ◌%◌, false, List, length, take, drop, Ok}
+use Rattle.std.specs.Prelude.{◌≡◌, ◌≢◌, ◌⊎◌, ℕ, ◌+◌, ◌-◌, ◌%◌, false, List, length, take, drop, Ok}
 use Rattle.clfs_disk.specs.Files.{Files}
 use Rattle.clfs_disk.specs.State.{DiskState, Leaves}
 use Rattle.clfs_base.specs.declared.image.BaseImage.{BaseImage}

@@ -8,9 +8,10 @@ ghost use Rattle.clfs_base.specs.Checks.{other_byte, is_wrong_field, wrong_field
 ghost use Rattle.clfs_base.specs.Decoding.{Gives};
 
 use crate::image::{BaseImage, Files, Row, Rows};
-use crate::layout::{Field, Layout, Numbers, VERSION_ONE};
-use crate::layout::{FIELDS_END, FILES_AT, ROWS_AT, SLOT};
-use crate::layout::{fields, file_place, row_bytes, row_place};
+use crate::layout::{
+    FIELDS_END, FILES_AT, Field, Layout, Numbers, ROWS_AT, SLOT, VERSION_ONE, fields, file_place,
+    row_bytes, row_place,
+};
 use crate::reading::{byte_at, is_short, name_in, number_2, number_8, numbers_of, other_byte};
 use crate::refusal::BaseRefusal;
 use clfs_lsn::{Lsn, Name};
@@ -131,12 +132,7 @@ fn has_number(numbers: &[u16], number: u16) -> bool
 }
 
 // The streams of so many rows.
-fn read_rows(
-    alloc: Global,
-    layout: &Layout,
-    bytes: &[u8],
-    count: u16,
-) -> Result<Rows, BaseRefusal>
+fn read_rows(alloc: Global, layout: &Layout, bytes: &[u8], count: u16) -> Result<Rows, BaseRefusal>
     ensures { Gives result (wrong_row layout.now bytes.now count) (rows_of layout.now bytes.now count) }
 {
     let mut rows = Vec::with_capacity(alloc, count as usize)?;

@@ -73,7 +73,12 @@ fn put_fields(layout: &Layout, n: &Numbers, out: &mut [u8])
     let table = fields(layout, n);
     clear(out);
     for field in &table {
-        put(out, field.at as usize - 1, field.width as usize, field.number);
+        put(
+            out,
+            field.at as usize - 1,
+            field.width as usize,
+            field.number,
+        );
     }
 }
 

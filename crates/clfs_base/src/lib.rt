@@ -20,3 +20,6 @@ pub use newest::read_newest;
 pub use refusal::{BaseRefusal, NewestRefusal};
 pub use rows::{first_copy_of_a_small_log, slots_of_a_base_file};
 pub use slots::{close_older, open_slot, write_body};
+
+#[cfg(test)]
+mod tests;

@@ -30,10 +30,7 @@ pub struct Front {
 }
 
 /// The slot of the base file that counts, and its image, by at most three calls of the disk.
-pub fn read_newest<D: Disk>(
-    alloc: Global,
-    disk: &mut D,
-) -> Result<(u32, BaseImage), NewestRefusal>
+pub fn read_newest<D: Disk>(alloc: Global, disk: &mut D) -> Result<(u32, BaseImage), NewestRefusal>
     ensures newest { TellsContents (D.state disk.old) → GivesNewest result (newest_of ((D.state disk.old).files 0)) }
     ensures slot { IfOk result (λ x. x.0 ≤ 1) }
     ensures image { IfOk result (λ x. IsImage version_one x.1) }
@@ -148,11 +145,7 @@ fn read_slot<D: Disk>(alloc: Global, disk: &mut D, slot: u32) -> Result<Vec<u8>,
 }
 
 // The image of a slot's bytes.
-fn decode_slot(
-    alloc: Global,
-    slot: u32,
-    bytes: &[u8],
-) -> Result<(u32, BaseImage), NewestRefusal>
+fn decode_slot(alloc: Global, slot: u32, bytes: &[u8]) -> Result<(u32, BaseImage), NewestRefusal>
     ensures newest { GivesNewest result (copy_in slot (image_at version_one bytes.now)) }
     ensures slot { IfOk result (λ x. x.0 ≡ slot) }
     ensures image { IfOk result (λ x. IsImage version_one x.1) }

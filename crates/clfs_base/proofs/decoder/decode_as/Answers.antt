@@ -1,4 +1,4 @@
-use Rattle.std.proofs.Common.{◌≡◌, ℕ, List, Option, Some, None, sym, ap, ◌∙◌, refl}
+use Rattle.std.proofs.Common.{ℕ, List, sym, ap, ◌∙◌}
 use Rattle.std.proofs.lemmas.Result.{err_from_is_err_and}
 use Rattle.clfs_base.specs.declared.image.Row.{Row}
 use Rattle.clfs_base.specs.declared.layout.Numbers.{Numbers}
@@ -69,12 +69,12 @@ returns c =
     let bytes = c.args.bytes.now in
     let n = c.numbers_of-numbers.result in (
       chained c.args.layout.now bytes c.numbers_of-numbers.result c.numbers_of-numbers.ensures
-      ∙ goes_on _ _ _ (ap (wrong_field bytes) (sym c.fields.ensures) ∙ sym c.wrong_field.ensures ∙ c.in_default.is)
-      (goes_on _ _ _ (sym c.other_byte.ensures ∙ c.in_default-other_byte.is)
-      (goes_on _ _ _ c.in_ok-files.ensures.0
-      (goes_on _ _ _ (ap (λ (from : ℕ). other_byte bytes from 576) (sym c.file_place.ensures) ∙ sym c.other_byte-2.ensures ∙ c.in_default-other_byte-2.is)
-      (goes_on _ _ _ c.in_ok-streams.ensures.0
-      (ap (λ (from : ℕ). other_byte bytes from 16384) (sym c.row_place.ensures) ∙ sym c.other_byte-3.ensures ∙ c.in_default-other_byte-3.is))))),
+          ∙ goes_on _ _ _ (ap (wrong_field bytes) (sym c.fields.ensures) ∙ sym c.wrong_field.ensures ∙ c.in_default.is)
+          (goes_on _ _ _ (sym c.other_byte.ensures ∙ c.in_default-other_byte.is)
+          (goes_on _ _ _ c.in_ok-files.ensures.0
+          (goes_on _ _ _ (ap (λ (from : ℕ). other_byte bytes from 576) (sym c.file_place.ensures) ∙ sym c.other_byte-2.ensures ∙ c.in_default-other_byte-2.is)
+          (goes_on _ _ _ c.in_ok-streams.ensures.0
+          (ap (λ (from : ℕ). other_byte bytes from 16384) (sym c.row_place.ensures) ∙ sym c.other_byte-3.ensures ∙ c.in_default-other_byte-3.is))))),
       c.image.ensures ∙ ap (λ (l : List ℕ). image_with n l c.in_ok-streams.streams) c.in_ok-files.ensures.1
           ∙ ap (λ (r : List Row). image_with n (files_in bytes n.listed) r) c.in_ok-streams.ensures.1
           ∙ ap (λ (k : Numbers). image_with k (files_in bytes k.listed) (rows_of c.args.layout.now bytes k.streams)) c.numbers_of-numbers.ensures,

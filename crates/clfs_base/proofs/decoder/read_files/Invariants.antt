@@ -1,4 +1,4 @@
-use Rattle.std.proofs.Common.{◌≡◌, ◌-◌, ℕ}
+use Rattle.std.proofs.Common.{◌≡◌, ◌-◌}
 use Rattle.clfs_base.specs.Layout.{file_place}
 use Rattle.clfs_base.specs.Checks.{first_some, told, is_wrong_file, wrong_file, files_in}
 use Rattle.clfs_base.proofs.decoder.read_files.Given as goal

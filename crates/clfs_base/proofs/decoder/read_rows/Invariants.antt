@@ -1,4 +1,4 @@
-use Rattle.std.proofs.Common.{◌≡◌, ◌-◌, ℕ}
+use Rattle.std.proofs.Common.{◌≡◌, ◌-◌}
 use Rattle.clfs_base.specs.Layout.{row_place}
 use Rattle.clfs_base.specs.Checks.{first_some, row_fault, wrong_row, rows_of}
 use Rattle.clfs_base.proofs.decoder.read_rows.Given as goal

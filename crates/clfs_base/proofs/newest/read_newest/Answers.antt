@@ -1,5 +1,5 @@
 use Rattle.std.proofs.Common.{◌∙◌}
-use Rattle.clfs_disk.specs.Files.{Files, Unchanged}
+use Rattle.clfs_disk.specs.Files.{Unchanged}
 use Rattle.clfs_disk.proofs.Moments.{passes_then}
 use Rattle.clfs_base.proofs.newest.read_newest.Goals as goal
 
