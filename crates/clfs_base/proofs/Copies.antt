@@ -3,16 +3,16 @@ use Rattle.std.proofs.Common.{◌≡◌, ◌⊎◌, inl, inr, ⊎_elim, ℕ, zer
 use Rattle.std.proofs.Common.{Option, Some, None, Result, Ok, Err, refl, sym, ◌∙◌, ap, subst, arith, length-drop}
 use Rattle.std.proofs.lemmas.Bool.Decides.{nat_tests}
 use Rattle.std.proofs.lemmas.List.{length-take, get_or-take, get_or-drop, drop_more, append-nil}
-use Rattle.clfs_disk.specs.Files.{Files, Torn, TornIn, WrittenIn, Unchanged}
+use Rattle.clfs_disk.specs.Files.{Files, Torn, TornIn, WrittenIn, Unchanged, overwritten}
 use Rattle.clfs_disk.proofs.Places.{same_part, overwritten_inside, part_overwritten, torn_in_written}
 use Rattle.clfs_base.specs.declared.image.BaseImage.{BaseImage}
 use Rattle.clfs_base.specs.declared.refusal.NewestRefusal.{NewestRefusal}
 use Rattle.clfs_base.specs.declared.refusal.NewestRefusal.TheVariants as refusals
 use Rattle.clfs_base.specs.Layout.{version_one, numbers_of, fields}
-use Rattle.clfs_base.specs.Spelling.{spelled}
+use Rattle.clfs_base.specs.Spelling.{IsImage, spelled}
 use Rattle.clfs_base.specs.Checks.{slot_fault, image_of, image_at, unless_wrong}
 use Rattle.clfs_base.specs.Slots.{slot_place, slot_of, is_open_slot, turn_of, is_wrong_turn, newer_slot, used_slot, copy_in, copy_of, newest_of}
-use Rattle.clfs_base.specs.Writing.{older_of, body_of, HasNewest, IsOlder, IsFilled, EitherNewest}
+use Rattle.clfs_base.specs.Writing.{older_of, body_of, HasNewest, IsOlder, IsFilled, IsFirst, EitherNewest}
 use Rattle.clfs_base.proofs.Searches.{both_none}
 use Rattle.clfs_base.proofs.Chains.{chained}
 use Rattle.clfs_base.proofs.Ranges.{all_pass, pass_right}
@@ -350,6 +350,27 @@ next_used base (suc zero) image next le n =
     ∙ newer_first (turn_of base 0) (turn_of base 1) a.low (b.turn ∙ n.turn ∙ ap (λ (t : ℕ). (t + 1) % 3) (sym a.turn))
 next_used base (suc (suc m)) image next le n = absurd (omega (arith, le))
 
+gate_written : (at : ℕ) (old new : List ℕ) → at + 1 ≤ length old → new ≡ overwritten old at (165 ∷ []) → eqb (get_or new at 0) 165 ≡ true
+gate_written at old new room is =
+    let none : at - at ≡ 0 = omega arith in
+    let gate : get_or new at 0 ≡ 165 =
+    ap (λ (l : List ℕ). get_or l at 0) is ∙ overwritten_inside old at (165 ∷ []) room at (omega arith) (omega arith)
+    ∙ ap (λ (k : ℕ). get_or (165 ∷ []) k 0) none in
+    ap (λ (k : ℕ). eqb k 165) gate
+
+-- A whole copy that stands behind a gate is read where only the gate is torn.
+opened_is_read : (slot : ℕ) (next : BaseImage) (old new : Files) → IsImage version_one next → body_of (old 0) slot ≡ spelled version_one next
+    → TornIn 0 (16384 * slot) 1 old new → image_at version_one (slot_of (new 0) slot) ≡ Ok next
+opened_is_read slot next old new fits whole torn =
+    let gate = get_or (new 0) (slot_place slot) 0 in
+    let body : body_of (new 0) slot ≡ spelled version_one next =
+    same_part (new 0) (old 0) (16384 * slot + 1) 16383 torn.here.same_length (λ i from until. torn.here.above i (omega (arith, from))) ∙ whole in
+    let bytes : slot_of (new 0) slot ≡ gate ∷ (spelled version_one next ++ []) =
+    slot_is (new 0) slot (ap (λ (l : List ℕ). length l) body ∙ length-spelled version_one next version_one_fits fits)
+    ∙ ap (λ (l : List ℕ). gate ∷ l) (body ∙ sym (append-nil (spelled version_one next))) in
+    let read = spelled_is_read version_one next gate [] (slot_of (new 0) slot) version_one_fits fits bytes in
+    ap (λ (o : Option ℕ). unless_wrong o (image_of version_one (slot_of (new 0) slot))) read.none_wrong ∙ ap (λ (i : BaseImage). Ok i) read.image_is
+
 module _ (slot used : ℕ) (image next : BaseImage) (old : Files) (older : IsOlder slot used image old) (filled : IsFilled slot image next old) where
   -- its gate is open over the whole copy
   opened : (new : Files) → TornIn 0 (16384 * slot) 1 old new → is_open_slot (new 0) slot ≡ true → HasNewest slot next old new
@@ -357,14 +378,7 @@ module _ (slot used : ℕ) (image next : BaseImage) (old : Files) (older : IsOld
       let has = newest_parts (old 0) used image older.newest in
       let le = used_le (old 0) used has.used in
       let same = torn_beside slot used (16384 * slot) 1 (old 0) (new 0) le older.beside (omega arith) (omega arith) torn.here in
-      let body : body_of (new 0) slot ≡ spelled version_one next =
-      same_part (new 0) (old 0) (16384 * slot + 1) 16383 torn.here.same_length (λ i from until. torn.here.above i (omega (arith, from))) ∙ filled.body in
-      let bytes : slot_of (new 0) slot ≡ get_or (new 0) (slot_place slot) 0 ∷ (spelled version_one next ++ []) =
-      slot_is (new 0) slot (ap (λ (l : List ℕ). length l) body ∙ length-spelled version_one next version_one_fits filled.next_image)
-      ∙ ap (λ (l : List ℕ). get_or (new 0) (slot_place slot) 0 ∷ l) (body ∙ sym (append-nil (spelled version_one next))) in
-      let read = spelled_is_read version_one next (get_or (new 0) (slot_place slot) 0) [] (slot_of (new 0) slot) version_one_fits filled.next_image bytes in
-      let next_is : image_at version_one (slot_of (new 0) slot) ≡ Ok next =
-      ap (λ (o : Option ℕ). unless_wrong o (image_of version_one (slot_of (new 0) slot))) read.none_wrong ∙ ap (λ (i : BaseImage). Ok i) read.image_is in
+      let next_is = opened_is_read slot next old new filled.next_image filled.body torn in
       let beside : NextTo (new 0) slot used image next = record {
         open_used = (same_slot used (old 0) (new 0) torn.here.same_length same).open_same ∙ used_open (old 0) used has.used;
         open_slot = gate;
@@ -393,11 +407,33 @@ module _ (slot used : ℕ) (image next : BaseImage) (old : Files) (older : IsOld
   -- its gate is written
   pub opened_whole : (new : Files) → 16384 * slot + 1 ≤ length (old 0) → WrittenIn 0 (16384 * slot) (165 ∷ []) old new → HasNewest slot next old new
   opened_whole new room written =
-      let none : 16384 * slot - 16384 * slot ≡ 0 = omega arith in
-      let gate : get_or (new 0) (16384 * slot) 0 ≡ 165 =
-      ap (λ (l : List ℕ). get_or l (16384 * slot) 0) written.here
-      ∙ overwritten_inside (old 0) (16384 * slot) (165 ∷ []) room (16384 * slot) (omega arith) (omega arith) ∙ ap (λ (k : ℕ). get_or (165 ∷ []) k 0) none in
-      opened new (torn_in_written 0 (16384 * slot) (165 ∷ []) old new room written) (ap (λ (k : ℕ). eqb k 165) gate)
+      opened new (torn_in_written 0 (16384 * slot) (165 ∷ []) old new room written) (gate_written (16384 * slot) (old 0) (new 0) room written.here)
+
+-- the gate of the first copy is written
+pub first_opened : (slot : ℕ) (next : BaseImage) (old new : Files) → slot ≤ 1 → IsFirst slot next old → 16384 * slot + 1 ≤ length (old 0)
+    → WrittenIn 0 (16384 * slot) (165 ∷ []) old new → HasNewest slot next old new
+first_opened slot next old new le first room written =
+    let torn = torn_in_written 0 (16384 * slot) (165 ∷ []) old new room written in
+    let gate = gate_written (16384 * slot) (old 0) (new 0) room written.here in
+    record {
+      newest = newest_is (new 0) slot next (record {
+        used = alone slot le first torn gate;
+        image_is = opened_is_read slot next old new first.next_image first.body torn;
+      });
+      same_length = torn.here.same_length;
+      elsewhere = torn.elsewhere;
+    }
+  where
+    alone : (slot : ℕ) → slot ≤ 1 → IsFirst slot next old → TornIn 0 (16384 * slot) 1 old new → is_open_slot (new 0) slot ≡ true → used_slot (new 0) ≡ Ok slot
+    alone zero le first torn gate =
+        let shut : is_open_slot (new 0) 1 ≡ false = ap (λ (k : ℕ). eqb k 165) (torn.here.above 16384 (omega arith)) ∙ first.closed 1 (omega arith) in
+        used_is (new 0) ∙ (λ i. used_by (gate i) (shut i) (is_wrong_turn (new 0) 0) (is_wrong_turn (new 0) 1) (turn_of (new 0) 0) (turn_of (new 0) 1))
+        ∙ first_alone _ _ _ _
+    alone (suc zero) le first torn gate =
+        let shut : is_open_slot (new 0) 0 ≡ false = ap (λ (k : ℕ). eqb k 165) (torn.here.below 0 (omega arith)) ∙ first.closed 0 (omega arith) in
+        used_is (new 0) ∙ (λ i. used_by (shut i) (gate i) (is_wrong_turn (new 0) 0) (is_wrong_turn (new 0) 1) (turn_of (new 0) 0) (turn_of (new 0) 1))
+        ∙ second_alone _ _ _ _
+    alone (suc (suc n)) le first torn gate = absurd (omega (arith, le))
 
 -- the bytes behind a gate are written
 pub body_written : (slot : ℕ) (body : List ℕ) (old new : Files) → length body ≡ 16383 → 16384 * slot + 1 + length body ≤ length (old 0)

@@ -1,5 +1,5 @@
 -- What the three parts of writing a base copy leave in the base file.
-use Rattle.std.specs.Prelude.{◌≡◌, ◌≢◌, ◌⊎◌, ℕ, ◌+◌, ◌-◌, ◌%◌, false, List, length, take, drop, Ok}
+use Rattle.std.specs.Prelude.{◌≡◌, ◌≢◌, ◌⊎◌, ℕ, ◌+◌, ◌-◌, ◌%◌, ◌≤◌, false, List, length, take, drop, Ok}
 use Rattle.clfs_disk.specs.Files.{Files}
 use Rattle.clfs_disk.specs.State.{DiskState, Leaves}
 use Rattle.clfs_base.specs.declared.image.BaseImage.{BaseImage}
@@ -31,6 +31,12 @@ pub record IsFilled (slot : ℕ) (image next : BaseImage) (files : Files) : Type
   pub next_image : IsImage version_one next
   pub turn : next.turn ≡ (image.turn + 1) % 3
   pub closed : is_open_slot (files 0) slot ≡ false
+  pub body : body_of (files 0) slot ≡ spelled version_one next
+
+-- No slot is open, and behind the gate of this one stands all of a copy: the first one of a new log.
+pub record IsFirst (slot : ℕ) (next : BaseImage) (files : Files) : Type 0 where
+  pub next_image : IsImage version_one next
+  pub closed : (other : ℕ) → other ≤ 1 → is_open_slot (files 0) other ≡ false
   pub body : body_of (files 0) slot ≡ spelled version_one next
 
 -- A crash at each moment from old to new leaves the newest copy of before.

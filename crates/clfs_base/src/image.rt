@@ -1,5 +1,5 @@
 // What a base copy says of its log.
-ghost use Rattle.std.specs.Prelude.{◌≡◌, [], ◌++◌, ◌∷◌, length, OnOk, OnErr};
+ghost use Rattle.std.specs.Prelude.{◌≡◌, length};
 
 use clfs_lsn::{Lsn, Name};
 use std::alloc::{AllocError, Global};

@@ -1,10 +1,7 @@
 // Where each field of a base copy stands in its slot, and which numbers it may have: the table that both writing and reading follow.
 // What differs between versions of the copies is in `Layout`.
-ghost use Rattle.std.specs.Prelude.{◌≡◌, ◌+◌, ◌*◌, ◌^◌, ◌<◌, ◌||◌};
-ghost use Rattle.clfs_base.specs.Layout.{version_one, file_place, row_bytes, row_place, required, optional, most_listed, most_minimum, most_tail, fields};
-ghost use Rattle.clfs_base.specs.Spelling.{flag, numbers_for};
-
-use crate::image::BaseImage;
+ghost use Rattle.std.specs.Prelude.{◌≡◌, ◌+◌, ◌*◌, ◌<◌};
+ghost use Rattle.clfs_base.specs.Layout.{file_place, row_bytes, row_place, required, optional, most_listed, most_minimum, most_tail, fields};
 
 /// The bytes of a slot.
 pub const SLOT: u32 = 16384;

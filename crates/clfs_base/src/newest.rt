@@ -1,5 +1,5 @@
 // Reading the newest copy of the base file: three bytes of each slot say which one counts, and that one alone is read whole.
-ghost use Rattle.std.specs.Prelude.{◌≡◌, ◌⊎◌, ◌+◌, ◌-◌, ◌*◌, ◌≤◌, ◌<◌, ◌==◌, ℕ, Ok, length, take, drop, OnErr, IfOk, IfErr, IsOk, IsErrOf};
+ghost use Rattle.std.specs.Prelude.{◌≡◌, ◌⊎◌, ◌+◌, ◌-◌, ◌≤◌, ◌<◌, ◌==◌, Ok, OnErr, IfOk, IfErr, IsOk, IsErrOf};
 ghost use Rattle.clfs_disk.specs.Files.{Unchanged};
 ghost use Rattle.clfs_disk.specs.State.{TellsContents, IsSteady, Passes, Rises, raised};
 ghost use Rattle.clfs_base.specs.Layout.{version_one};

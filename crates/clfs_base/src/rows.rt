@@ -1,7 +1,6 @@
 // Worked rows, computed from the definitions.
-ghost use Rattle.std.specs.Prelude.{◌≡◌, ℕ, List, [], ◌∷◌, ◌++◌, Some, None, Ok, Err, replicate, set, take};
-ghost use Rattle.clfs_base.specs.Layout.{version_one, numbers_of, fields};
-ghost use Rattle.clfs_base.specs.Checks.{wrong_field};
+ghost use Rattle.std.specs.Prelude.{◌≡◌, ◌∷◌, Some, None, Ok, Err, set, take};
+ghost use Rattle.clfs_base.specs.Layout.{version_one, fields};
 ghost use Rattle.clfs_base.specs.Spelling.{spelled};
 ghost use Rattle.clfs_base.specs.Slots.{used_slot};
 ghost use Rattle.clfs_base.specs.Vector.{front, small_image, two_slots, fault};

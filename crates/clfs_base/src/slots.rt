@@ -5,7 +5,7 @@ ghost use Rattle.clfs_disk.specs.State.{TellsContents, IsSteady, IsHonest, IsSet
 ghost use Rattle.clfs_base.specs.declared.image.BaseImage.{BaseImage};
 ghost use Rattle.clfs_base.specs.Layout.{slot_bytes};
 ghost use Rattle.clfs_base.specs.Slots.{slot_place, is_open_slot};
-ghost use Rattle.clfs_base.specs.Writing.{body_of, HasNewest, IsOlder, IsFilled, KeepsNewest, StaysNewest, EitherNewest};
+ghost use Rattle.clfs_base.specs.Writing.{body_of, HasNewest, IsOlder, IsFilled, IsFirst, KeepsNewest, StaysNewest, EitherNewest};
 
 use crate::layout::SLOT;
 use clfs_disk::{Disk, Failed, write_synced};
@@ -117,6 +117,10 @@ pub fn open_slot<D: Disk>(disk: &mut D, slot: u32) -> Result<(), Failed>
     ensures newest { (used : ℕ) (image next : BaseImage)
         → IsOlder slot used image (D.state disk.old).files → IsFilled slot image next (D.state disk.old).files
         → EitherNewest slot used image next (D.state disk.old).files (D.state disk.new).files }
+
+    // Where no slot is open, as in a new log, the copy is then the newest.
+    ensures first { OnOk result (TellsContents (D.state disk.old) → (next : BaseImage)
+        → IsFirst slot next (D.state disk.old).files → HasNewest slot next (D.state disk.old).files (D.state disk.new).files) }
 
     // Whatever the answer, the files differ from those of before, and each image from one of before, in the gate alone.
     ensures torn { TornIn 0 (slot_place slot) 1 (D.state disk.old).files (D.state disk.new).files }

@@ -4,7 +4,7 @@ use Rattle.clfs_disk.specs.Files.{Files, TornIn, WrittenIn}
 use Rattle.clfs_disk.specs.State.{Passes}
 use Rattle.clfs_disk.proofs.Moments.{leaves_after}
 use Rattle.clfs_base.specs.Writing.{EitherNewest}
-use Rattle.clfs_base.proofs.Copies.{kept_same, opening, opened_whole}
+use Rattle.clfs_base.proofs.Copies.{kept_same, opening, opened_whole, first_opened}
 use Rattle.clfs_base.proofs.slots.open_slot.Goals as goal
 
 pub returns-clause-opened : goal.returns-clause-opened
@@ -30,3 +30,12 @@ returns-clause-newest g c used image next older filled =
     opening c.args.slot used image next _ older filled _
     (subst (λ (at : ℕ). TornIn 0 at 1 (g.D.Disk.state c.args.disk.now).files (g.D.Disk.state c.write_synced.new.disk).files) c.slot_place.ensures
     c.write_synced.ensures.torn)
+
+pub returns-clause-first : goal.returns-clause-first
+returns-clause-first g c = on_ok_weaker c.write_synced.result
+    (λ written tells next first.
+    let done = written tells in
+    first_opened c.args.slot next _ _ c.requires first (omega (arith, done.0, c.slot_place.ensures))
+    (subst (λ (k : ℕ). WrittenIn 0 k (165 ∷ []) (g.D.Disk.state c.args.disk.now).files (g.D.Disk.state c.write_synced.new.disk).files)
+    c.slot_place.ensures done.1))
+    c.write_synced.ensures.written
