@@ -1,0 +1,19 @@
+//! The index of a stream: the heads of its records, sorted by LSN, and its base.
+//!
+//! Reading goes from record to record: to one that a link names, to the next one, to the last. Each of them is a search by halves
+//! here, where the definitions filter one list of all records. New records come at the end, since LSNs only rise, so an append
+//! costs a push. A reader that goes forward asks with the place behind the record that it had last, and then nothing is searched.
+//!
+//! A base that moves changes a number alone. What it leaves behind may still be needed: the record that a cursor stands at has the
+//! links that reading goes on with, though it is dead. So dead heads go only when the caller says below which LSN nothing is read
+//! any more, and then in whole pieces: not before they are at least half of the row, so that each head that stays and has to move is
+//! paid for by one that goes. No more than twice as many heads are kept as are needed. Neither call takes memory.
+#![tactic(auto)]
+
+mod place;
+mod row;
+
+pub use row::{Found, StreamIndex};
+
+#[cfg(test)]
+mod tests;
