@@ -10,7 +10,8 @@ use Rattle.clfs_base.specs.declared.refusal.NewestRefusal.{NewestRefusal}
 use Rattle.clfs_base.specs.declared.refusal.NewestRefusal.TheVariants as refusals
 use Rattle.clfs_base.specs.Layout.{version_one, numbers_of, fields}
 use Rattle.clfs_base.specs.Spelling.{IsImage, spelled}
-use Rattle.clfs_base.specs.Checks.{slot_fault, image_of, image_at, unless_wrong}
+use Rattle.clfs_lsn.specs.Checks.{unless_wrong, unless_ok}
+use Rattle.clfs_base.specs.Checks.{slot_fault, image_of, image_at}
 use Rattle.clfs_base.specs.Slots.{slot_place, slot_of, is_open_slot, turn_of, is_wrong_turn, newer_slot, used_slot, copy_in, copy_of, newest_of}
 use Rattle.clfs_base.specs.Writing.{older_of, body_of, HasNewest, IsOlder, IsFilled, IsFirst, EitherNewest}
 use Rattle.clfs_base.proofs.Searches.{both_none}
@@ -298,10 +299,6 @@ both_used base b = used_is base
     whole : (a b : ℕ) → used_by true true false false a b ≡ newer_slot a b
     whole a b = refl
 
-pub read_ok : (fault : Option ℕ) (value image : BaseImage) → unless_wrong fault value ≡ Ok image → (fault ≡ None) × (value ≡ image)
-read_ok None value image e = (refl, cc e)
-read_ok (Some at) value image e = absurd (cc e)
-
 -- a slot's image has the slot's turn, which is one
 record HasTurn (base : List ℕ) (slot : ℕ) (image : BaseImage) : Type 0 where
   pub turn : turn_of base slot ≡ image.turn
@@ -312,14 +309,15 @@ has_turn : (base : List ℕ) (slot : ℕ) (image : BaseImage) → image_at versi
 has_turn base slot image is =
     let bytes = slot_of base slot in
     let n = numbers_of bytes in
-    let read = read_ok (slot_fault version_one bytes) (image_of version_one bytes) image is in
+    let read = unless_ok (λ (at : ℕ). at) (slot_fault version_one bytes) (Ok (image_of version_one bytes)) image is in
+    let same : image_of version_one bytes ≡ image = cc read.1 in
     let parts = both_none _ _ (sym (chained version_one bytes n refl) ∙ read.0) in
     let right = pass_right version_one n bytes (all_pass bytes (fields version_one n) parts.0) in
     let here : n.turn ≡ turn_of base slot = omega (arith, turn_is base slot, get_or-drop 2 bytes 0 0) in
     let there : slot_place slot + 40 ≤ length base = omega (arith, right.1, length-take 16384 (drop (slot_place slot) base), length-drop (slot_place slot) base) in
     let low : turn_of base slot ≤ 2 = omega (arith, here, right.0.turn) in
     record {
-      turn = sym here ∙ ap (λ (i : BaseImage). i.turn) read.1;
+      turn = sym here ∙ ap (λ (i : BaseImage). i.turn) same;
       low = low;
       right = turn_ok (length base) (slot_place slot) (turn_of base slot) there low;
     }
@@ -369,7 +367,7 @@ opened_is_read slot next old new fits whole torn =
     slot_is (new 0) slot (ap (λ (l : List ℕ). length l) body ∙ length-spelled version_one next version_one_fits fits)
     ∙ ap (λ (l : List ℕ). gate ∷ l) (body ∙ sym (append-nil (spelled version_one next))) in
     let read = spelled_is_read version_one next gate [] (slot_of (new 0) slot) version_one_fits fits bytes in
-    ap (λ (o : Option ℕ). unless_wrong o (image_of version_one (slot_of (new 0) slot))) read.none_wrong ∙ ap (λ (i : BaseImage). Ok i) read.image_is
+    ap (λ (o : Option ℕ). unless_wrong (λ (at : ℕ). at) o (Ok (image_of version_one (slot_of (new 0) slot)))) read.none_wrong ∙ ap (λ (i : BaseImage). Ok i) read.image_is
 
 module _ (slot used : ℕ) (image next : BaseImage) (old : Files) (older : IsOlder slot used image old) (filled : IsFilled slot image next old) where
   -- its gate is open over the whole copy

@@ -6,18 +6,19 @@ use Rattle.clfs_base.specs.declared.refusal.BaseRefusal.{BaseRefusal}
 use Rattle.clfs_base.specs.declared.refusal.BaseRefusal.TheVariants as refusals
 use Rattle.clfs_base.specs.Layout.{version_one}
 use Rattle.clfs_base.specs.Spelling.{IsImage, spelled}
-use Rattle.clfs_base.specs.Checks.{slot_fault, image_of, image_at, unless_wrong}
+use Rattle.clfs_lsn.specs.Checks.{unless_wrong, unless_ok}
+use Rattle.clfs_base.specs.Checks.{slot_fault, image_of, image_at}
 use Rattle.clfs_base.specs.Decoding.{Gives}
 use Rattle.clfs_base.proofs.Spelled.{Reads, spelled_is_read, length-spelled}
 use Rattle.clfs_base.proofs.Taken.{IsBytes, read_is_spelled}
-use Rattle.clfs_base.proofs.Copies.{version_one_fits, read_ok}
+use Rattle.clfs_base.proofs.Copies.{version_one_fits}
 
 -- an image that is spelled behind a gate
 pub written : (image : BaseImage) (gate : ℕ) (rest bytes : List ℕ) → IsImage version_one image → bytes ≡ gate ∷ (spelled version_one image ++ rest)
     → image_at version_one bytes ≡ Ok image
 written image gate rest bytes fits is =
     let read = spelled_is_read version_one image gate rest bytes version_one_fits fits is in
-    ap (λ (o : Option ℕ). unless_wrong o (image_of version_one bytes)) read.none_wrong ∙ ap (λ (i : BaseImage). Ok i) read.image_is
+    ap (λ (o : Option ℕ). unless_wrong (λ (at : ℕ). at) o (Ok (image_of version_one bytes))) read.none_wrong ∙ ap (λ (i : BaseImage). Ok i) read.image_is
 
 pub found : (bytes : List ℕ) → IsBytes bytes → slot_fault version_one bytes ≡ None
     → IsImage version_one (image_of version_one bytes) × (take 16383 (drop 1 bytes) ≡ spelled version_one (image_of version_one bytes))
@@ -32,8 +33,9 @@ found bytes fits none =
 pub read : (bytes : List ℕ) (image : BaseImage) → IsBytes bytes → image_at version_one bytes ≡ Ok image
     → IsImage version_one image × (take 16383 (drop 1 bytes) ≡ spelled version_one image)
 read bytes image fits is =
-    let parts = read_ok (slot_fault version_one bytes) (image_of version_one bytes) image is in
-    subst (λ (i : BaseImage). IsImage version_one i × (take 16383 (drop 1 bytes) ≡ spelled version_one i)) parts.1 (found bytes fits parts.0)
+    let parts = unless_ok (λ (at : ℕ). at) (slot_fault version_one bytes) (Ok (image_of version_one bytes)) image is in
+    let same : image_of version_one bytes ≡ image = cc parts.1 in
+    subst (λ (i : BaseImage). IsImage version_one i × (take 16383 (drop 1 bytes) ≡ spelled version_one i)) same (found bytes fits parts.0)
 
 abbrev answered : BaseImage → Result BaseImage ℕ
 answered image = Ok image

@@ -16,7 +16,8 @@ use Rattle.clfs_base.specs.declared.image.Row.{Row}
 use Rattle.clfs_base.specs.declared.layout.Layout.{Layout}
 use Rattle.clfs_base.specs.declared.layout.Numbers.{Numbers}
 use Rattle.clfs_base.specs.Layout.{number_at, numbers_of, fields, row_place, file_place, most_minimum, most_tail}
-use Rattle.clfs_base.specs.Spelling.{is_name_byte, IsName, AreFiles, AreRows, IsImage, IsPolicy, row_in, flag, numbers_for, filled, field_bytes, number_bytes, spelled_row, spelled}
+use Rattle.clfs_lsn.specs.Names.{is_name_byte}
+use Rattle.clfs_base.specs.Spelling.{IsName, AreFiles, AreRows, IsImage, IsPolicy, row_in, flag, numbers_for, filled, field_bytes, number_bytes, spelled_row, spelled}
 use Rattle.clfs_base.specs.Checks.{is_short, other_byte, file_in, files_in, wrong_file, name_len, name_in, is_taken, is_wrong_length, is_wrong_name, row_of, rows_of, row_fault, wrong_row, slot_fault, image_with, image_of}
 use Rattle.clfs_base.proofs.Searches.{goes_on, none_found}
 use Rattle.clfs_base.proofs.Chains.{chained}

@@ -17,7 +17,8 @@ use Rattle.clfs_base.specs.declared.image.Row.{Row}
 use Rattle.clfs_base.specs.declared.layout.Layout.{Layout}
 use Rattle.clfs_base.specs.declared.layout.Numbers.{Numbers}
 use Rattle.clfs_base.specs.Layout.{number_at, numbers_of, fields, row_place, file_place, most_tail}
-use Rattle.clfs_base.specs.Spelling.{is_name_byte, IsName, AreFiles, AreRows, IsImage, row_in, flag, numbers_for, filled, field_bytes, number_bytes, spelled_row, spelled}
+use Rattle.clfs_lsn.specs.Names.{is_name_byte}
+use Rattle.clfs_base.specs.Spelling.{IsName, AreFiles, AreRows, IsImage, row_in, flag, numbers_for, filled, field_bytes, number_bytes, spelled_row, spelled}
 use Rattle.clfs_base.specs.Checks.{file_in, files_in, wrong_file, name_len, name_in, is_taken, row_of, rows_of, row_fault, wrong_row, slot_fault, image_of}
 use Rattle.clfs_base.proofs.Searches.{both_none, each_none}
 use Rattle.clfs_base.proofs.Chains.{chained}

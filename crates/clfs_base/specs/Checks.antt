@@ -4,13 +4,14 @@ use Rattle.std.specs.Prelude.{Option, Some, None, Result, Ok, Err}
 use Rattle.std.specs.List.{range_with_len, list_any, list_all}
 use Rattle.std.specs.Option.{option_map, option_or}
 use Rattle.std.specs.Str.{bytes_eq}
+use Rattle.clfs_lsn.specs.Names.{is_name_byte}
+use Rattle.clfs_lsn.specs.Checks.{unless_wrong}
 use Rattle.clfs_base.specs.declared.image.BaseImage.{BaseImage}
 use Rattle.clfs_base.specs.declared.image.Row.{Row}
 use Rattle.clfs_base.specs.declared.layout.Layout.{Layout}
 use Rattle.clfs_base.specs.declared.layout.Numbers.{Numbers}
 use Rattle.clfs_base.specs.declared.layout.Field.{Field}
 use Rattle.clfs_base.specs.Layout.{slot_bytes, fields_end, files_at, rows_at, file_place, row_bytes, row_place, number_at, numbers_of, fields}
-use Rattle.clfs_base.specs.Spelling.{is_name_byte}
 
 -- some of so many bytes from a place on aren't there
 abbrev pub is_short : List ℕ → ℕ → ℕ → Bool
@@ -147,11 +148,6 @@ abbrev pub image_of : Layout → List ℕ → BaseImage
 image_of layout bytes =
     let n = numbers_of bytes in image_with n (files_in bytes n.listed) (rows_of layout bytes n.streams)
 
--- what is read where no byte is wrong, else the first wrong byte
-abbrev pub unless_wrong : {Y : Type 0} → Option ℕ → Y → Result Y ℕ
-unless_wrong None value = Ok value
-unless_wrong (Some at) value = Err at
-
 -- the image that a slot spells, or the first byte at which it is wrong
 abbrev pub image_at : Layout → List ℕ → Result BaseImage ℕ
-image_at layout bytes = unless_wrong (slot_fault layout bytes) (image_of layout bytes)
+image_at layout bytes = unless_wrong (λ at. at) (slot_fault layout bytes) (Ok (image_of layout bytes))

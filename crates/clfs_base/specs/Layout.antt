@@ -2,7 +2,7 @@
 -- fields of this table and zeros, the numbers of the listed containers' files and zeros, the rows of the streams and zeros.
 use Rattle.std.specs.Prelude.{◌==◌, ℕ, ◌+◌, ◌-◌, ◌*◌, ◌^◌, min, true, false, if◌then◌else◌, List, [], ◌∷◌, drop}
 use Rattle.byteorder.specs.Endian.{little_number}
-use Rattle.clfs_lsn.specs.Limits.{most_block_sectors, most_container_sectors, most_containers, most_streams, longest_name}
+use Rattle.clfs_lsn.specs.Limits.{most_block_sectors, most_container_sectors, most_containers, fewest_containers, greatest_rate, most_streams, longest_name}
 use Rattle.clfs_base.specs.declared.layout.Layout.{Layout}
 use Rattle.clfs_base.specs.declared.layout.Numbers.{Numbers}
 use Rattle.clfs_base.specs.declared.layout.Field.{Field}
@@ -99,8 +99,8 @@ fields layout n =
     ∷ required 22 2 n.streams 0 layout.most_streams
     ∷ required 24 1 n.archiving 0 1
     ∷ required 25 1 n.automatic 0 1
-    ∷ optional 26 2 n.maximum 2 most_containers
-    ∷ optional 28 2 n.minimum 2 (most_minimum n.maximum)
-    ∷ required 30 2 n.growth 0 (most_containers - 2)
+    ∷ optional 26 2 n.maximum fewest_containers most_containers
+    ∷ optional 28 2 n.minimum fewest_containers (most_minimum n.maximum)
+    ∷ required 30 2 n.growth 0 greatest_rate
     ∷ required 32 8 n.tail 0 (most_tail n.archiving)
     ∷ []

@@ -5,6 +5,7 @@ use Rattle.byteorder.specs.Endian.{little_bytes}
 use Rattle.clfs_lsn.specs.Limits.{most_containers}
 use Rattle.clfs_lsn.specs.Size.{IsShape}
 use Rattle.clfs_base.specs.declared.image.BaseImage.{BaseImage}
+use Rattle.clfs_lsn.specs.Names.{is_name_byte}
 use Rattle.clfs_base.specs.declared.image.Row.{Row}
 use Rattle.clfs_base.specs.declared.layout.Layout.{Layout}
 use Rattle.clfs_base.specs.declared.layout.Numbers.{Numbers}
@@ -12,11 +13,6 @@ use Rattle.clfs_base.specs.declared.layout.Field.{Field}
 use Rattle.clfs_base.specs.Layout.{slot_bytes, files_at, rows_at, fields, most_minimum, most_tail}
 
 -- ---- which images there are
-
--- a letter, a digit, `_`, `-` or `.`
-abbrev pub is_name_byte : ℕ → Bool
-is_name_byte b =
-    (nat_le 48 b && nat_le b 57) || (nat_le 65 b && nat_le b 90) || (nat_le 97 b && nat_le b 122) || (b == 95) || (b == 45) || (b == 46)
 
 -- A name has at least one byte and no more than its room, each of them one that a name may have.
 pub record IsName (room : ℕ) (name : List ℕ) : Type 0 where

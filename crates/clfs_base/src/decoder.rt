@@ -3,7 +3,8 @@ ghost use Rattle.std.specs.Prelude.{◌≡◌, ◌+◌, ◌-◌, ◌^◌, ◌<�
 ghost use Rattle.std.specs.List.{list_all, list_any};
 ghost use Rattle.clfs_base.specs.declared.image.BaseImage.{BaseImage};
 ghost use Rattle.clfs_base.specs.Layout.{version_one, number_at, slot_bytes};
-ghost use Rattle.clfs_base.specs.Spelling.{is_name_byte, IsImage, spelled};
+ghost use Rattle.clfs_lsn.specs.Names.{is_name_byte};
+ghost use Rattle.clfs_base.specs.Spelling.{IsImage, spelled};
 ghost use Rattle.clfs_base.specs.Checks.{is_wrong_field, wrong_field, is_no_file, is_wrong_file, wrong_file, files_in, is_wrong_length, is_no_name, is_wrong_name, is_taken, row_fault, wrong_row, rows_of, name_in, slot_fault, image_with, image_of};
 ghost use Rattle.clfs_base.specs.Decoding.{Gives};
 

@@ -16,7 +16,10 @@ pub const FILES_AT: u32 = 64;
 pub const ROWS_AT: u32 = 576;
 
 // The most containers of a log.
-const MOST_CONTAINERS: u64 = 256;
+const MOST_CONTAINERS: u64 = clfs_lsn::MOST_CONTAINERS as u64;
+
+// The fewest that a policy may ask for.
+const FEWEST_CONTAINERS: u64 = clfs_lsn::FEWEST_CONTAINERS as u64;
 
 /// A version of the base copies.
 #[derive(Clone, Copy, Debug)]
@@ -174,9 +177,9 @@ pub fn fields(layout: &Layout, n: &Numbers) -> [Field; 16]
         required(22, 2, n.streams as u64, 0, layout.most_streams as u64),
         required(24, 1, n.archiving as u64, 0, 1),
         required(25, 1, n.automatic as u64, 0, 1),
-        optional(26, 2, n.maximum as u64, 2, MOST_CONTAINERS),
-        optional(28, 2, n.minimum as u64, 2, most_minimum(n.maximum)),
-        required(30, 2, n.growth as u64, 0, MOST_CONTAINERS - 2),
+        optional(26, 2, n.maximum as u64, FEWEST_CONTAINERS, MOST_CONTAINERS),
+        optional(28, 2, n.minimum as u64, FEWEST_CONTAINERS, most_minimum(n.maximum)),
+        required(30, 2, n.growth as u64, 0, clfs_lsn::GREATEST_GROWTH as u64),
         required(32, 8, n.tail, 0, most_tail(n.archiving)),
     ]
 }

@@ -1,8 +1,7 @@
 // A disk that stops: it passes so many calls on to another disk, and fails each one after. So the other disk is as that
 // many calls left it.
-ghost use Rattle.std.specs.Prelude.{◌≡◌, ◌+◌, ◌-◌, ◌^◌, ◌≤◌, ◌<◌, min, length, take, drop, false, IfOk, OnOk, OnErr, IsOk, IsErr, IsErrOf};
-ghost use Rattle.clfs_disk.specs.Files.{found_count, TornIn, GrownIn, WrittenIn, LengthenedIn, Unchanged};
-ghost use Rattle.clfs_disk.specs.State.{TellsContents, IsSteady, IsHonest, IsSettled, Passes, Rises, raised};
+ghost use Rattle.std.specs.Prelude.{◌≡◌, ◌+◌, ◌-◌, ◌^◌, ◌≤◌, ◌<◌, min, OnOk, OnErr, IsErrOf};
+ghost use Rattle.clfs_disk.specs.State.{Rises, raised};
 ghost use Rattle.clfs_disk.specs.Calls.{Reads, Writes, Grows, Syncs};
 ghost use Rattle.clfs_disk.specs.Fuse.{inner_of, passes_of, fuse_shown, TakesPass};
 

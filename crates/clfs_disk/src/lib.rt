@@ -19,7 +19,7 @@ mod synced;
 
 pub use disk::{Disk, Failed, GrowRefusal};
 pub use fuse::Fuse;
-pub use laws::overwritten_bytes_stand_in_place;
+pub use laws::{calls_join, overwritten_bytes_stand_in_place};
 pub use memory::Memory;
 pub use steady::Steady;
 pub use synced::write_synced;

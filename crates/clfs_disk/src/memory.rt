@@ -1,9 +1,9 @@
 // Files in memory with a record of their calls. A crash may leave any bytes where something was written or grown since the
 // last sync, and each file at its full length. The record is what makes the images of each moment so far a matter of data,
 // and a crash takes one of those of now without taking memory.
-ghost use Rattle.std.specs.Prelude.{◌≡◌, ◌+◌, ◌<◌, ◌≤◌, ◌↔◌, [], ℕ, true, min, length, take, drop, IsTrue, IfOk, OnOk, OnErr, IsOk, IsErrOf, vec_len};
-ghost use Rattle.clfs_disk.specs.Files.{Files, Unchanged, TornIn, GrownIn, WrittenIn, LengthenedIn, found_count, picked};
-ghost use Rattle.clfs_disk.specs.State.{TellsContents, IsFirst, IsSteady, IsHonest, IsSettled, Passes, Rises, raised};
+ghost use Rattle.std.specs.Prelude.{◌≡◌, ◌+◌, ◌<◌, ◌≤◌, ◌↔◌, [], ℕ, true, min, length, IsTrue, IfOk, OnOk, OnErr, IsOk, IsErrOf, vec_len};
+ghost use Rattle.clfs_disk.specs.Files.{Unchanged, LengthenedIn, picked};
+ghost use Rattle.clfs_disk.specs.State.{IsFirst, IsSettled, Passes, raised};
 ghost use Rattle.clfs_disk.specs.Calls.{Reads, Writes, Grows, Syncs};
 ghost use Rattle.clfs_disk.specs.Copies.{Holds, read_files, synced_files, first_files};
 ghost use Rattle.clfs_disk.specs.declared.copies.FileCopies.{FileCopies};
