@@ -2,9 +2,10 @@
 use Rattle.std.proofs.Common.{◌≡◌, ◌⊎◌, inl, inr, ⊎_elim, ℕ, zero, suc, ◌+◌, ◌-◌, ◌*◌, ◌%◌, ◌<◌, ◌≤◌, Bool, true, false, cond, ◌&&◌, ◌||◌, eqb, ltb, List, [], ◌∷◌, ◌++◌, length, get_or, take, drop}
 use Rattle.std.proofs.Common.{Option, Some, None, Result, Ok, Err, refl, sym, ◌∙◌, ap, subst, arith, length-drop}
 use Rattle.std.proofs.lemmas.Bool.Decides.{nat_tests}
-use Rattle.std.proofs.lemmas.List.{length-take, get_or-take, get_or-drop, drop_more, append-nil}
+use Rattle.std.proofs.lemmas.List.{ext_get_or, length-take, get_or-take, get_or-drop, drop_more, append-nil}
 use Rattle.clfs_disk.specs.Files.{Files, Torn, TornIn, WrittenIn, Unchanged, overwritten}
-use Rattle.clfs_disk.proofs.Places.{same_part, overwritten_inside, part_overwritten, torn_in_written}
+use Rattle.clfs_disk.specs.State.{DiskState, Leaves}
+use Rattle.clfs_disk.specs.Overwriting.{StandsInPlace}
 use Rattle.clfs_base.specs.declared.image.BaseImage.{BaseImage}
 use Rattle.clfs_base.specs.declared.refusal.NewestRefusal.{NewestRefusal}
 use Rattle.clfs_base.specs.declared.refusal.NewestRefusal.TheVariants as refusals
@@ -18,6 +19,24 @@ use Rattle.clfs_base.proofs.Searches.{both_none}
 use Rattle.clfs_base.proofs.Chains.{chained}
 use Rattle.clfs_base.proofs.Ranges.{all_pass, pass_right}
 use Rattle.clfs_base.proofs.Spelled.{IsLayout, spelled_is_read, length-spelled}
+
+-- a crash that leaves this leaves what follows from it
+pub leaves_weaker : (P Q : Files → Type 0) (a b : DiskState) → ((image : Files) → P image → Q image) → Leaves P a b → Leaves Q a b
+leaves_weaker P Q a b weaker p = record {
+  later = p.later;
+  past = p.past;
+  each = λ moment image from until at. weaker image (p.each moment image from until at);
+}
+
+-- where two lists agree from a place on, the same part stands there
+same_part : (a b : List ℕ) (from n : ℕ) → length a ≡ length b → ((i : ℕ) → from ≤ i → i < from + n → get_or a i 0 ≡ get_or b i 0)
+    → take n (drop from a) ≡ take n (drop from b)
+same_part a b from n same each = ext_get_or 0 (take n (drop from a)) (take n (drop from b))
+    (omega (arith, length-take n (drop from a), length-take n (drop from b), length-drop from a, length-drop from b, same))
+    (λ i lt.
+    let within : i < n = omega (arith, lt, length-take n (drop from a)) in
+    get_or-take n (drop from a) i 0 within ∙ get_or-drop from a i 0 ∙ each (from + i) (omega arith) (omega (arith, within))
+    ∙ sym (get_or-drop from b i 0) ∙ sym (get_or-take n (drop from b) i 0 within))
 
 pub version_one_fits : IsLayout version_one
 version_one_fits = record { version = omega arith; streams = omega arith; name = omega arith; rows = omega arith }
@@ -240,9 +259,6 @@ module _ (slot used : ℕ) (image : BaseImage) (old : Files) (older : IsOlder sl
   le : used ≤ 1
   le = used_le (old 0) used (newest_parts (old 0) used image older.newest).used
 
-  pub kept_same : HasNewest used image old old
-  kept_same = record { newest = older.newest; same_length = refl; elsewhere = λ file apart. refl }
-
   kept_torn : (at n : ℕ) (new : Files) → 16384 * slot ≤ at → at + n ≤ 16384 * slot + 16384 → TornIn 0 at n old new
       → (is_open_slot (new 0) slot ≡ false) ⊎ ((is_open_slot (old 0) slot ≡ true) × (turn_of (new 0) slot ≡ turn_of (old 0) slot)) → HasNewest used image old new
   kept_torn at n new low high torn other = record {
@@ -348,11 +364,11 @@ next_used base (suc zero) image next le n =
     ∙ newer_first (turn_of base 0) (turn_of base 1) a.low (b.turn ∙ n.turn ∙ ap (λ (t : ℕ). (t + 1) % 3) (sym a.turn))
 next_used base (suc (suc m)) image next le n = absurd (omega (arith, le))
 
-gate_written : (at : ℕ) (old new : List ℕ) → at + 1 ≤ length old → new ≡ overwritten old at (165 ∷ []) → eqb (get_or new at 0) 165 ≡ true
-gate_written at old new room is =
+gate_written : StandsInPlace → (at : ℕ) (old new : List ℕ) → at + 1 ≤ length old → new ≡ overwritten old at (165 ∷ []) → eqb (get_or new at 0) 165 ≡ true
+gate_written stands at old new room is =
     let none : at - at ≡ 0 = omega arith in
     let gate : get_or new at 0 ≡ 165 =
-    ap (λ (l : List ℕ). get_or l at 0) is ∙ overwritten_inside old at (165 ∷ []) room at (omega arith) (omega arith)
+    ap (λ (l : List ℕ). get_or l at 0) is ∙ stands.inside old at (165 ∷ []) room at (omega arith) (omega arith)
     ∙ ap (λ (k : ℕ). get_or (165 ∷ []) k 0) none in
     ap (λ (k : ℕ). eqb k 165) gate
 
@@ -403,16 +419,16 @@ module _ (slot used : ℕ) (image next : BaseImage) (old : Files) (older : IsOld
       either false gate = inl (kept_torn slot used image old older (16384 * slot) 1 new (omega arith) (omega arith) torn (inl gate))
 
   -- its gate is written
-  pub opened_whole : (new : Files) → 16384 * slot + 1 ≤ length (old 0) → WrittenIn 0 (16384 * slot) (165 ∷ []) old new → HasNewest slot next old new
-  opened_whole new room written =
-      opened new (torn_in_written 0 (16384 * slot) (165 ∷ []) old new room written) (gate_written (16384 * slot) (old 0) (new 0) room written.here)
+  pub opened_whole : StandsInPlace → (new : Files) → TornIn 0 (16384 * slot) 1 old new → 16384 * slot + 1 ≤ length (old 0)
+      → WrittenIn 0 (16384 * slot) (165 ∷ []) old new → HasNewest slot next old new
+  opened_whole stands new torn room written =
+      opened new torn (gate_written stands (16384 * slot) (old 0) (new 0) room written.here)
 
 -- the gate of the first copy is written
-pub first_opened : (slot : ℕ) (next : BaseImage) (old new : Files) → slot ≤ 1 → IsFirst slot next old → 16384 * slot + 1 ≤ length (old 0)
-    → WrittenIn 0 (16384 * slot) (165 ∷ []) old new → HasNewest slot next old new
-first_opened slot next old new le first room written =
-    let torn = torn_in_written 0 (16384 * slot) (165 ∷ []) old new room written in
-    let gate = gate_written (16384 * slot) (old 0) (new 0) room written.here in
+pub first_opened : StandsInPlace → (slot : ℕ) (next : BaseImage) (old new : Files) → slot ≤ 1 → IsFirst slot next old
+    → TornIn 0 (16384 * slot) 1 old new → 16384 * slot + 1 ≤ length (old 0) → WrittenIn 0 (16384 * slot) (165 ∷ []) old new → HasNewest slot next old new
+first_opened stands slot next old new le first torn room written =
+    let gate = gate_written stands (16384 * slot) (old 0) (new 0) room written.here in
     record {
       newest = newest_is (new 0) slot next (record {
         used = alone slot le first torn gate;
@@ -434,11 +450,11 @@ first_opened slot next old new le first room written =
     alone (suc (suc n)) le first torn gate = absurd (omega (arith, le))
 
 -- the bytes behind a gate are written
-pub body_written : (slot : ℕ) (body : List ℕ) (old new : Files) → length body ≡ 16383 → 16384 * slot + 1 + length body ≤ length (old 0)
+pub body_written : StandsInPlace → (slot : ℕ) (body : List ℕ) (old new : Files) → length body ≡ 16383 → 16384 * slot + 1 + length body ≤ length (old 0)
     → WrittenIn 0 (16384 * slot + 1) body old new → body_of (new 0) slot ≡ body
-body_written slot body old new size room written =
+body_written stands slot body old new size room written =
     ap (λ (n : ℕ). take n (drop (16384 * slot + 1) (new 0))) (sym size) ∙ ap (λ (l : List ℕ). take (length body) (drop (16384 * slot + 1) l)) written.here
-    ∙ part_overwritten (old 0) (16384 * slot + 1) body room
+    ∙ stands.part (old 0) (16384 * slot + 1) body room
 
 -- nothing was changed
 pub kept_unchanged : (slot used : ℕ) (image : BaseImage) (old new : Files) → IsOlder slot used image old → Unchanged old new → HasNewest used image old new

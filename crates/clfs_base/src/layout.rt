@@ -178,7 +178,13 @@ pub fn fields(layout: &Layout, n: &Numbers) -> [Field; 16]
         required(24, 1, n.archiving as u64, 0, 1),
         required(25, 1, n.automatic as u64, 0, 1),
         optional(26, 2, n.maximum as u64, FEWEST_CONTAINERS, MOST_CONTAINERS),
-        optional(28, 2, n.minimum as u64, FEWEST_CONTAINERS, most_minimum(n.maximum)),
+        optional(
+            28,
+            2,
+            n.minimum as u64,
+            FEWEST_CONTAINERS,
+            most_minimum(n.maximum),
+        ),
         required(30, 2, n.growth as u64, 0, clfs_lsn::GREATEST_GROWTH as u64),
         required(32, 8, n.tail, 0, most_tail(n.archiving)),
     ]

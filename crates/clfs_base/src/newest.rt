@@ -14,7 +14,7 @@ use crate::layout::SLOT;
 use crate::reading::{byte_at, is_short};
 use crate::refusal::{BaseRefusal, NewestRefusal};
 use crate::slots::slot_place;
-use clfs_disk::{Disk, Failed};
+use clfs_disk::{Disk, Failed, calls_join};
 use clfs_lsn::OPEN_GATE;
 use std::alloc::Global;
 
@@ -42,6 +42,7 @@ pub fn read_newest<D: Disk>(alloc: Global, disk: &mut D) -> Result<(u32, BaseIma
     ensures steady { IsSteady (D.state disk.old) → (IsErrOf result NewestRefusal.DiskFault → ⊥)
         × ((D.state disk.new).faults ≡ (D.state disk.old).faults) }
 {
+    calls_join::<D>();
     let slot = read_used(disk)?;
     let bytes = read_slot(alloc, disk, slot)?;
     decode_slot(alloc, slot, &bytes)

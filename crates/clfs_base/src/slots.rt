@@ -8,7 +8,7 @@ ghost use Rattle.clfs_base.specs.Slots.{slot_place, is_open_slot};
 ghost use Rattle.clfs_base.specs.Writing.{body_of, HasNewest, IsOlder, IsFilled, IsFirst, KeepsNewest, StaysNewest, EitherNewest};
 
 use crate::layout::SLOT;
-use clfs_disk::{Disk, Failed, write_synced};
+use clfs_disk::{Disk, Failed, calls_join, overwritten_bytes_stand_in_place, write_synced};
 use clfs_lsn::OPEN_GATE;
 
 // One of the values of a closed gate.
@@ -60,6 +60,7 @@ pub fn close_older<D: Disk>(disk: &mut D, slot: u32) -> Result<(), Failed>
     ensures steady { IsSteady (D.state disk.old) → slot_place slot + 1 ≤ length ((D.state disk.old).files 0)
         → IsOk result × ((D.state disk.new).faults ≡ (D.state disk.old).faults) }
 {
+    calls_join::<D>();
     if has_open_gate(disk, slot)? {
         return write_synced(disk, 0, slot_place(slot), &[CLOSED]);
     }
@@ -94,6 +95,7 @@ pub fn write_body<D: Disk>(disk: &mut D, slot: u32, body: &[u8]) -> Result<(), F
     ensures steady { IsSteady (D.state disk.old) → slot_place slot + slot_bytes ≤ length ((D.state disk.old).files 0)
         → IsOk result × ((D.state disk.new).faults ≡ (D.state disk.old).faults) }
 {
+    overwritten_bytes_stand_in_place();
     write_synced(disk, 0, slot_place(slot) + 1, body)
 }
 
@@ -131,5 +133,6 @@ pub fn open_slot<D: Disk>(disk: &mut D, slot: u32) -> Result<(), Failed>
     ensures steady { IsSteady (D.state disk.old) → slot_place slot + 1 ≤ length ((D.state disk.old).files 0)
         → IsOk result × ((D.state disk.new).faults ≡ (D.state disk.old).faults) }
 {
+    overwritten_bytes_stand_in_place();
     write_synced(disk, 0, slot_place(slot), &[OPEN_GATE])
 }

@@ -1,10 +1,22 @@
-use Rattle.std.proofs.Common.{◌∙◌}
-use Rattle.clfs_disk.specs.Files.{Unchanged}
-use Rattle.clfs_disk.proofs.Moments.{passes_then}
+use Rattle.std.proofs.Common.{◌≡◌, ℕ, List, Ok, Result, IsTrue, ap, subst, sym, ◌∙◌}
+use Rattle.clfs_disk.specs.Files.{Files}
+use Rattle.clfs_disk.specs.State.{DiskState, Nature, TellsContents}
+use Rattle.clfs_base.specs.declared.refusal.NewestRefusal.{NewestRefusal}
+use Rattle.clfs_base.specs.Layout.{version_one}
+use Rattle.clfs_base.specs.Checks.{image_at}
+use Rattle.clfs_base.specs.Slots.{slot_of, used_slot, copy_in, copy_of}
+use Rattle.clfs_base.specs.Decoding.{GivesNewest}
 use Rattle.clfs_base.proofs.newest.read_newest.Goals as goal
 
+pub returns-clause-newest : goal.returns-clause-newest
+returns-clause-newest g c tells =
+    let base : List ℕ = (g.D.Disk.state c.args.disk.now).files 0 in
+    let later : TellsContents (g.D.Disk.state c.read_used.new.disk) =
+    subst (λ (k : Nature). IsTrue k.tells_contents) (sym c.in_ok-slot.ensures.time.nature) tells in
+    let read = c.deref.ensures.value ∙ c.in_ok-bytes.ensures.bytes later ∙ ap (λ (l : List ℕ). slot_of l c.in_ok-slot.slot) (c.in_ok-slot.ensures.same 0) in
+    subst (λ (used : Result ℕ NewestRefusal). GivesNewest c.decode_slot.result (copy_of base used)) (sym (c.in_ok-slot.ensures.used tells))
+    (subst (λ (bytes : List ℕ). GivesNewest c.decode_slot.result (copy_in c.in_ok-slot.slot (image_at version_one bytes))) read
+    c.decode_slot.ensures.newest)
+
 pub returns-clause-time : goal.returns-clause-time
-returns-clause-time g c =
-    passes_then Unchanged Unchanged Unchanged _ _ _
-    (λ d e f first second file. second file ∙ first file) (λ d e same. same) (λ d e same. same)
-    c.in_ok-slot.ensures.time c.in_ok-bytes.ensures.time
+returns-clause-time g c = c.calls_join.ensures.reads _ _ _ c.in_ok-slot.ensures.time c.in_ok-bytes.ensures.time
