@@ -54,7 +54,7 @@ fn nibble(byte: u8) -> u8
 }
 
 // Writes the byte of each pair of digits, and says whether all are digits. The library's decoder costs some 27 instructions for each
-// byte, this loop some 15, since it looks a digit up and has no place to remember.
+// byte, this loop some 15, since it looks a digit up and remembers no place.
 fn decode_into(text: &[u8], out: &mut [u8]) -> bool
     requires { length text.now ≡ 2 * length out.old }
     ensures { MatchBool result (result_ok (decode_of text.now) ≡ Some out.new) (result_ok (decode_of text.now) ≡ None) }
@@ -89,7 +89,8 @@ fn push_encoded(bytes: &[u8], out: &mut Bytes) -> Result<(), AllocError>
     Ok(())
 }
 
-/// Adds bytes at the end as a word of the script: a dash for none, else two lower-case hexadecimal digits for each.
+/// Adds bytes at the end as a word of the script: a dash for none, else two lower-case hexadecimal digits for each. Where memory
+/// lacks, nothing is said of `out`.
 pub fn push_data(bytes: &[u8], out: &mut Bytes) -> Result<(), AllocError>
     ensures { OnOk result (out.new ≡ out.old ++ data_text bytes.now) }
 {
