@@ -14,7 +14,15 @@ use Rattle.clfs_script.specs.declared.line.LineRefusal.TheVariants.{NoMemory, Ba
 
 skip_words : (text : List ℕ) (at : ℕ) (words : List (List ℕ)) (end : ℕ)
     → option_word text (rest_of (record { at = at; words = words; end = end }))
-    ≡ record { value = (skipping text (record { at = at; words = words; end = end })).0; rest = rest_of (skipping text (record { at = at; words = words; end = end })).1 }
+    ≡ record {
+      value = (skipping text (record { at = at; words = words; end = end })).0;
+      rest = rest_of (skipping text (record {
+        at = at;
+        words =
+            words;
+        end = end;
+      })).1;
+    }
 skip_words text at [] end = refl
 skip_words text at (w ∷ words) end = elim (cases_Bool (bytes_eq w text)) [
   | inl t ↦ rw t refl
@@ -45,7 +53,8 @@ pub append_is : (area previous undo_next : ℕ) (bytes : List ℕ) (reserved sea
     → option_word (codes "seal") (rest_of l5) ≡ record { value = seal; rest = rest_of l6 }
     → option_word (codes "flush") (rest_of l6) ≡ record { value = flush; rest = rest_of l7 }
     → append_line (rest_of l0)
-    ≡ (held_sizes (option_word (codes "hold") (rest_of l7)) >>= (λ lengths. Ok (append_with area bytes previous undo_next reserved seal flush lengths)))
+    ≡ (held_sizes (option_word (codes "hold") (rest_of l7)) >>= (λ lengths. Ok (append_with area bytes previous undo_next reserved seal flush
+    lengths)))
 append_is area previous undo_next bytes reserved seal flush l0 l1 l2 l3 l4 l5 l6 l7 a b c d e f g =
     rw (a, b, c, d, e, f, g)
     (in_turn (held_sizes (option_word (codes "hold") (rest_of l7)))
@@ -54,8 +63,10 @@ append_is area previous undo_next bytes reserved seal flush l0 l1 l2 l3 l4 l5 l6
     options.reserved options.sizes))
 
 -- the sizes at the end go wrong, or memory lacks for them
-pub append_stops : (result : Result Call LineRefusal) (read : Result (List ℕ) LineRefusal) (e : LineRefusal) (held : Result (List ℕ) ℕ) (whole : Result Call ℕ)
-    (call : List ℕ → Call) → IsErrAnd result (λ x. x ≡ e) → read ≡ Err e → Answers read held → whole ≡ (held >>= (λ lengths. Ok (call lengths))) → Answers result whole
+pub append_stops : (result : Result Call LineRefusal) (read : Result (List ℕ) LineRefusal) (e : LineRefusal) (held : Result (List ℕ) ℕ) (whole :
+    Result Call ℕ)
+    (call : List ℕ → Call) → IsErrAnd result (λ x. x ≡ e) → read ≡ Err e → Answers read held
+    → whole ≡ (held >>= (λ lengths. Ok (call lengths))) → Answers result whole
 append_stops (Ok x) read e held whole call is was answers so_far = absurd is
 append_stops (Err NoMemory) read e held whole call is was answers so_far = tt
 append_stops (Err (BadLine at)) read e held whole call is was answers so_far = let bad = rw (was, ← is) at answers in rw (so_far, bad) refl

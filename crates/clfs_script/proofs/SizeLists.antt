@@ -29,11 +29,19 @@ rest_behind : Rest → Result (Read ℕ) ℕ → Rest
 rest_behind other (Ok read) = read.rest
 rest_behind other (Err at) = other
 
-same_number : (m n : ℕ) (left rest : Rest) → ◌≡◌ {A = Result (Read ℕ) ℕ} (Ok (record { value = m; rest = left })) (Ok (record { value = n; rest = rest })) → m ≡ n
+same_number : (m n : ℕ) (left rest : Rest) → ◌≡◌ {A = Result (Read ℕ) ℕ} (Ok (record { value = m; rest = left })) (Ok (record {
+  value = n;
+  rest =
+      rest;
+})) → m ≡ n
 unfolding value_of
 same_number m n left rest e = ap value_of e
 
-same_rest : (m n : ℕ) (left rest : Rest) → ◌≡◌ {A = Result (Read ℕ) ℕ} (Ok (record { value = m; rest = left })) (Ok (record { value = n; rest = rest })) → left ≡ rest
+same_rest : (m n : ℕ) (left rest : Rest) → ◌≡◌ {A = Result (Read ℕ) ℕ} (Ok (record { value = m; rest = left })) (Ok (record {
+  value = n;
+  rest =
+      rest;
+})) → left ≡ rest
 unfolding rest_behind
 same_rest m n left rest e = ap (rest_behind left) e
 
@@ -67,7 +75,8 @@ bad_value : (room at : ℕ) (w : Word) (words : List Word) (end : ℕ) (value : 
 bad_value room at w words end None is read = let e = rw is at read in rw is (same_place w.at at e)
 bad_value room at w words end (Some m) is read = absurd (let e = rw is at read in (cc e))
 
-pub size_bad : (room at : ℕ) (words : List Word) (end : ℕ) → (words ≡ [] → ⊥) → word_at long_word words end ≡ Err at → sizes_up_to (suc room) words ≡ Err at
+pub size_bad : (room at : ℕ) (words : List Word) (end : ℕ) → (words ≡ [] → ⊥) → word_at long_word words end ≡ Err at
+    → sizes_up_to (suc room) words ≡ Err at
 size_bad room at [] end some read = absurd (some refl)
 size_bad room at (w ∷ words) end some read = bad_value room at w words end (long_word w.bytes) refl read
 
@@ -94,7 +103,8 @@ sizes_end (Err (BadLine at)) lengths room (w ∷ words) (inl none) last = rw non
 sizes_end (Err (BadLine at)) lengths room (w ∷ words) (inr empty) last = absurd (cc)
 
 -- a word that is no size behind sizes
-pub sizes_stop : (result : Result (List ℕ) LineRefusal) (read : Result ℕ LineRefusal) (e : LineRefusal) (whole : Result (List ℕ) ℕ) (lengths : List ℕ) (room : ℕ)
+pub sizes_stop : (result : Result (List ℕ) LineRefusal) (read : Result ℕ LineRefusal) (e : LineRefusal) (whole : Result (List ℕ) ℕ) (lengths :
+    List ℕ) (room : ℕ)
     (left after : Left) → IsErrAnd result (λ x. x ≡ e) → read ≡ Err e → whole ≡ behind lengths (sizes_up_to (suc room) (rest_of left).words)
     → ((rest_of left).words ≡ [] → ⊥) → Reads long_word left read after → Answers result whole
 sizes_stop (Ok x) read e whole lengths room left after is was so_far some reads = absurd is

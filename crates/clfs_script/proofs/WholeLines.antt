@@ -24,8 +24,10 @@ whole_rest : (line : List ℕ) → rest_of (left_from line 0) ≡ record { words
 whole_rest line = let t : nat_le 0 (length line) ≡ true = le-leb 0 (length line) (omega arith) in rw t refl
 
 -- there is no client
-pub no_client : (language : Language) (line : List ℕ) (left after : Left) (result : Result ScriptLine LineRefusal) (read : Result ℕ LineRefusal) (e : LineRefusal)
-    → left ≡ left_from line 0 → IsErrAnd result (λ x. x ≡ e) → read ≡ Err e → Reads client_word left read after → AnswersLine result (request_in language line)
+pub no_client : (language : Language) (line : List ℕ) (left after : Left) (result : Result ScriptLine LineRefusal) (read : Result ℕ LineRefusal)
+    (e : LineRefusal)
+    → left ≡ left_from line 0 → IsErrAnd result (λ x. x ≡ e) → read ≡ Err e → Reads client_word left read after
+    → AnswersLine result (request_in language line)
 unfolding request_in
 no_client language line left after (Ok x) read e whole is was reads = absurd is
 no_client language line left after (Err NoMemory) read e whole is was reads = tt
@@ -35,7 +37,8 @@ no_client language line left after (Err (BadLine at)) read e whole is was reads 
     rw there refl
 
 -- there is a client, and what stands behind it goes wrong
-pub no_request : (language : Language) (line : List ℕ) (left mid : Left) (client : ℕ) (result : Result ScriptLine LineRefusal) (read : Result Request LineRefusal)
+pub no_request : (language : Language) (line : List ℕ) (left mid : Left) (client : ℕ) (result : Result ScriptLine LineRefusal) (read : Result
+    Request LineRefusal)
     (e : LineRefusal) → left ≡ left_from line 0 → word client_word (rest_of left) ≡ Ok (record { value = client; rest = rest_of mid })
     → IsErrAnd result (λ x. x ≡ e) → read ≡ Err e → AnswersRequest client read (request_behind_client language client (rest_of mid))
     → AnswersLine result (request_in language line)
@@ -44,7 +47,8 @@ no_request language line left mid client (Ok x) read e whole first is was reads 
 no_request language line left mid client (Err NoMemory) read e whole first is was reads = tt
 no_request language line left mid client (Err (BadLine at)) read e whole first is was reads =
     let bad = rw (was, ← is) at reads in
-    let there = subst (λ (rest : Rest). word client_word rest ≡ Ok (record { value = client; rest = rest_of mid })) (ap rest_of whole ∙ whole_rest line) first in
+    let there = subst (λ (rest : Rest). word client_word rest ≡ Ok (record { value = client; rest = rest_of mid })) (ap rest_of whole
+    ∙ whole_rest line) first in
     rw (there, bad) refl
 
 -- there is a request
@@ -53,7 +57,8 @@ pub line_read : (language : Language) (line : List ℕ) (left mid : Left) (clien
     → request_behind_client language client (rest_of mid) ≡ Ok (requested client request) → request_in language line ≡ requested client request
 unfolding request_in
 line_read language line left mid client request whole first second =
-    let there = subst (λ (rest : Rest). word client_word rest ≡ Ok (record { value = client; rest = rest_of mid })) (ap rest_of whole ∙ whole_rest line) first in
+    let there = subst (λ (rest : Rest). word client_word rest ≡ Ok (record { value = client; rest = rest_of mid })) (ap rest_of whole
+    ∙ whole_rest line) first in
     rw (there, second) refl
 
 -- the line ends behind `reopen`

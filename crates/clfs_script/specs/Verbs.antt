@@ -39,14 +39,21 @@ verb_among rows bytes = option_map (λ row. row.1) (find (λ (row : List ℕ × 
 -- the verbs of four letters
 abbrev pub four_letters : List (List ℕ × script.Verb)
 four_letters =
-    (codes "open", script.open_verb) ∷ (codes "area", script.area_verb) ∷ (codes "drop", script.drop_verb) ∷ (codes "read", script.read_verb) ∷ (codes "next", script.next_verb) ∷ (codes "tail", script.tail_verb) ∷ (codes "size", script.size_verb) ∷ (codes "info", script.info_verb) ∷ []
+    (codes "open", script.open_verb) ∷ (codes "area", script.area_verb) ∷ (codes "drop", script.drop_verb) ∷ (codes "read", script.read_verb)
+    ∷ (codes "next", script.next_verb) ∷ (codes "tail", script.tail_verb) ∷ (codes "size", script.size_verb)
+    ∷ (codes "info", script.info_verb) ∷ []
 
 -- the verbs of seven letters
 abbrev pub seven_letters : List (List ℕ × script.Verb)
 seven_letters =
-    (codes "reserve", script.reserve_verb) ∷ (codes "release", script.release_verb) ∷ (codes "flushto", script.flush_to_verb) ∷ (codes "restart", script.restart_verb) ∷ (codes "advance", script.advance_verb) ∷ (codes "archive", script.archive_verb) ∷ (codes "extents", script.extents_verb) ∷ []
+    (codes "reserve", script.reserve_verb) ∷ (codes "release", script.release_verb) ∷ (codes "flushto", script.flush_to_verb)
+    ∷ (codes "restart", script.restart_verb) ∷ (codes "advance", script.advance_verb) ∷ (codes "archive", script.archive_verb)
+    ∷ (codes "extents", script.extents_verb) ∷ []
 
 -- the other verbs
 abbrev pub other_letters : List (List ℕ × script.Verb)
 other_letters =
-    (codes "align", script.align_verb) ∷ (codes "append", script.append_verb) ∷ (codes "flush", script.flush_verb) ∷ (codes "end", script.end_verb) ∷ (codes "readrestart", script.read_restart_verb) ∷ (codes "prevrestart", script.previous_restart_verb) ∷ (codes "policy", script.policy_verb) ∷ (codes "unpolicy", script.unpolicy_verb) ∷ []
+    (codes "align", script.align_verb) ∷ (codes "append", script.append_verb) ∷ (codes "flush", script.flush_verb)
+    ∷ (codes "end", script.end_verb) ∷ (codes "readrestart", script.read_restart_verb)
+    ∷ (codes "prevrestart", script.previous_restart_verb) ∷ (codes "policy", script.policy_verb) ∷ (codes "unpolicy", script.unpolicy_verb)
+    ∷ []

@@ -41,7 +41,7 @@ fn client_request(
     }
 }
 
-/// What a line asks for in a language, without its carriage return. It takes memory for the line's name, data or sizes alone.
+/// What a line asks for in a language, or the place where it goes wrong. The line comes without its carriage return.
 pub fn parse_line(alloc: Global, language: Language, line: &[u8]) -> Result<ScriptLine, LineRefusal>
     requires { length line.now ≤ 4294967295 }
     ensures { AnswersLine result (request_in (language_of language) line.now) }

@@ -1,6 +1,6 @@
 // One word of a line each: its value, or the place where the line goes wrong.
 ghost use Rattle.std.specs.Prelude.{◌≡◌, ◌≤◌, IfOk};
-ghost use Rattle.clfs_model.specs.Script.{number, client_word, area_word, cursor_word, stream_word, short_word, long_word, name_word, base_word, mode_word, switch_word, kind_word, option_word, ends};
+ghost use Rattle.clfs_model.specs.Script.{number, client_word, area_word, cursor_word, stream_word, short_word, long_word, name_word, base_word, mode_word, switch_word, kind_word, ends};
 ghost use Rattle.clfs_lsn.specs.Words.{lsn_of_word, data_of_word};
 ghost use Rattle.clfs_script.specs.Asked.{rest_of, Answers, Reads};
 
@@ -9,6 +9,13 @@ use clfs_lsn::{Bytes, Lsn, Name, PolicyKind};
 use clfs_model::Mode;
 use clfs_text::{Words, data_of_word, decimal_number, lsn_of_word};
 use std::alloc::Global;
+
+// The highest numbers of a client, of one of its areas and of one of an area's cursors.
+const MOST_CLIENTS: u32 = 64;
+
+const MOST_AREAS: u32 = 16;
+
+const MOST_CURSORS: u32 = 16;
 
 // A number from the least to the most.
 fn number(words: &mut Words, least: u32, most: u32) -> Result<u32, LineRefusal>
@@ -25,35 +32,35 @@ fn number(words: &mut Words, least: u32, most: u32) -> Result<u32, LineRefusal>
 pub(crate) fn client(words: &mut Words) -> Result<u16, LineRefusal>
     ensures { Reads client_word words.old result words.new }
 {
-    let client = number(words, 1, 64)?;
+    let client = number(words, 1, MOST_CLIENTS)?;
     Ok(client as u16)
 }
 
 pub(crate) fn area(words: &mut Words) -> Result<u16, LineRefusal>
     ensures { Reads area_word words.old result words.new }
 {
-    let area = number(words, 1, 16)?;
+    let area = number(words, 1, MOST_AREAS)?;
     Ok(area as u16)
 }
 
 pub(crate) fn cursor(words: &mut Words) -> Result<u16, LineRefusal>
     ensures { Reads cursor_word words.old result words.new }
 {
-    let cursor = number(words, 1, 16)?;
+    let cursor = number(words, 1, MOST_CURSORS)?;
     Ok(cursor as u16)
 }
 
 pub(crate) fn stream(words: &mut Words) -> Result<u16, LineRefusal>
     ensures { Reads stream_word words.old result words.new }
 {
-    let stream = number(words, 1, 65535)?;
+    let stream = number(words, 1, u16::MAX as u32)?;
     Ok(stream as u16)
 }
 
 pub(crate) fn short(words: &mut Words) -> Result<u16, LineRefusal>
     ensures { Reads short_word words.old result words.new }
 {
-    let number = number(words, 0, 65535)?;
+    let number = number(words, 0, u16::MAX as u32)?;
     Ok(number as u16)
 }
 
@@ -176,13 +183,6 @@ pub(crate) fn kind(words: &mut Words) -> Result<PolicyKind, LineRefusal>
         Some(kind) => Ok(kind),
         None => Err(LineRefusal::BadLine { at: word.at }),
     }
-}
-
-// Whether this word comes next; it is taken then.
-pub(crate) fn option(words: &mut Words, text: &[u8]) -> bool
-    ensures { option_word text.now (rest_of words.old) ≡ record { value = result; rest = rest_of words.new } }
-{
-    words.skip(text)
 }
 
 // This, behind which the line ends.

@@ -144,7 +144,7 @@ fn push_reply(reply: &Reply, out: &mut Bytes) -> Result<(), AllocError>
     }
 }
 
-/// Adds the line of a reply at the end. Where memory lacks, nothing is said of what stands behind the bytes that were there.
+/// Adds the line of a reply at the end. Where memory lacks, nothing is said of `out`.
 pub fn write_reply(client: u16, reply: &Reply, out: &mut Bytes) -> Result<(), AllocError>
     ensures { OnOk result (out.new ≡ out.old ++ reply_line client reply.now) }
 {

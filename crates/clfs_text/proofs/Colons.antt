@@ -35,7 +35,8 @@ one_piece text e =
 
 -- a text with several pieces is no number, since a colon is no digit
 abbrev SeveralPieces : List ℕ → Type 0
-SeveralPieces text = (p : List ℕ) × (q : List ℕ) × (more : List (List ℕ)) × (pieces_of text ≡ p ∷ q ∷ more) × (list_all is_lower_hex_digit text ≡ false)
+SeveralPieces text = (p : List ℕ) × (q : List ℕ) × (more : List (List ℕ)) × (pieces_of text ≡ p ∷ q
+    ∷ more) × (list_all is_lower_hex_digit text ≡ false)
 
 behind_colon : (text : List ℕ) (b : ℕ) → is_colon b ≡ true → (pieces_of text ≡ text ∷ []) ⊎ SeveralPieces text → SeveralPieces (b ∷ text)
 behind_colon text b t (inl one) =
@@ -79,7 +80,8 @@ last_there container offset sequence p o last first second third (inl one) = rw 
 last_there container offset sequence p o last first second third (inr several) =
     let none = not_digits last several.4 in absurd (cc (none, third))
 
-pub three_numbers : (container offset sequence : ℕ) (word behind last : List ℕ) → BeginsWithNumber container behind word → BeginsWithNumber offset last behind
+pub three_numbers : (container offset sequence : ℕ) (word behind last : List ℕ) → BeginsWithNumber container behind word
+    → BeginsWithNumber offset last behind
     → hex_number last ≡ Some sequence → lsn_of_word word ≡ lsn_of_parts container offset sequence
 three_numbers container offset sequence word behind last first second third =
     rw (first.1, second.1) (last_there container offset sequence first.0 second.0 last first.2 second.2 third (pieces_are last))

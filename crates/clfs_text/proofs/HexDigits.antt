@@ -21,7 +21,8 @@ unfolding digits
 hex_before n more = before_text 64 n [] more
 
 -- the last digit of several
-pub one_back : (fuel n : ℕ) (text : List ℕ) → 16 ≤ n → digits_onto (suc fuel) 16 false n text ≡ digits_onto fuel 16 false (n / 16) (digit_glyph false (n % 16) ∷ text)
+pub one_back : (fuel n : ℕ) (text : List ℕ) → 16 ≤ n → digits_onto (suc fuel) 16 false n text ≡ digits_onto fuel 16 false (n / 16) (digit_glyph
+    false (n % 16) ∷ text)
 one_back fuel n text h = let t : (n / 16 == 0) ≡ false = ne_eqb (n / 16) 0 (λ z. omega arith) in rw t refl
 
 -- the first digit
@@ -38,11 +39,13 @@ fewer (suc zero) n h large = absurd (omega arith)
 fewer (suc (suc k)) n h large = (
   omega arith,
   let e : suc (suc k) - 1 ≡ suc k = omega arith in
-      rw e ((div-lt_iff_lt-mul {k = 16} {x = n} {y = 16 ^ suc k} (omega arith)).1 (let p : 16 ^ suc (suc k) ≡ 16 ^ suc k * 16 = pow-suc 16 (suc k) in omega (arith, h, p))),
+      rw e ((div-lt_iff_lt-mul {k = 16} {x = n} {y = 16 ^ suc k} (omega arith)).1 (let p : 16 ^ suc (suc k) ≡ 16 ^ suc k * 16 = pow-suc 16 (suc
+      k) in omega (arith, h, p))),
 )
 
 -- one step back in a buffer
-pub step_back : (number left start end digit : ℕ) (digits text : List ℕ) → 8 ≤ end → start + 1 ≤ end → end ≤ start + 8 → start < length digits → 16 ≤ left
+pub step_back : (number left start end digit : ℕ) (digits text : List ℕ) → 8 ≤ end → start + 1 ≤ end → end ≤ start + 8 → start < length digits
+    → 16 ≤ left
     → left < 16 ^ (start + 9 - end) → digit ≡ digit_glyph false (left % 16)
     → digits_onto (start + 65 - end) 16 false left (drop (start + 1) digits) ≡ hex_text number ++ text
     → (1 ≤ start) × (end ≤ start - 1 + 8) × (left / 16 < 16 ^ (start - 1 + 9 - end))

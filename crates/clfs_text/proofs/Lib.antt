@@ -3,3 +3,4 @@ mod HexDigits
 mod WordEnds
 mod Colons
 mod Encoded
+mod Pairs

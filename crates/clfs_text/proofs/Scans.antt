@@ -20,7 +20,8 @@ scan is_digit base most value (b ∷ bytes) =
 more_is_larger : (base value : ℕ) (bytes : List ℕ) → 1 ≤ base → value ≤ digits_value_after base value bytes
 more_is_larger base value [] h = omega arith
 more_is_larger base value (b ∷ bytes) h =
-    let rest : value * base + digit_value b ≤ digits_value_after base (value * base + digit_value b) bytes = more_is_larger base (value * base + digit_value b) bytes h in
+    let rest : value * base + digit_value b ≤ digits_value_after base (value * base + digit_value b) bytes = more_is_larger base (value * base +
+    digit_value b) bytes h in
     let grows : value * 1 ≤ value * base = mul-le-mul_left value h in
     omega (arith, rest, grows)
 
@@ -33,10 +34,12 @@ scan_is is_digit base most value (b ∷ bytes) h small =
     elim (cases_Bool (is_digit b)) [
       | inr bad ↦ rw bad refl
       | inl good ↦ elim (cases_Bool (nat_le (value * base + digit_value b) most)) [
-        | inl fits ↦ rw (good, fits) (scan_is is_digit base most (value * base + digit_value b) bytes h (leb-true (value * base + digit_value b) most fits))
+        | inl fits ↦ rw (good, fits) (scan_is is_digit base most (value * base + digit_value b) bytes h (leb-true (value * base + digit_value b)
+            most fits))
         | inr large ↦
             let above : most < value * base + digit_value b = leb-false (value * base + digit_value b) most large in
-            let rest : value * base + digit_value b ≤ digits_value_after base (value * base + digit_value b) bytes = more_is_larger base (value * base + digit_value b) bytes h in
+            let rest : value * base + digit_value b ≤ digits_value_after base (value * base + digit_value b) bytes = more_is_larger base (value *
+            base + digit_value b) bytes h in
             let t : nat_le (digits_value_after base (value * base + digit_value b) bytes) most ≡ false
             = lt-leb (digits_value_after base (value * base + digit_value b) bytes) most (omega arith) in
             rw (good, large, t, and-false) refl
@@ -94,7 +97,8 @@ scan_large is_digit base most value word i within large =
     ]
 
 -- the end of a word
-pub scan_end : (is_digit : ℕ → Bool) (base most value : ℕ) (word : List ℕ) (i : ℕ) → length word ≤ i → scan is_digit base most value (drop i word) ≡ Some value
+pub scan_end : (is_digit : ℕ → Bool) (base most value : ℕ) (word : List ℕ) (i : ℕ) → length word ≤ i
+    → scan is_digit base most value (drop i word) ≡ Some value
 scan_end is_digit base most value word i past = rw (drop_all i word past) refl
 
 -- a digit's value, where there is one

@@ -74,7 +74,8 @@ parts_there (b ∷ text) e =
     ]
 
 -- words are left as long as the line hasn't been left
-pub end_is : (line : List ℕ) (at : ℕ) → (nat_lt (length line) at ≡ true → words_behind line at ≡ []) × (words_behind line at ≡ [] → nat_lt (length line) at ≡ true)
+pub end_is : (line : List ℕ) (at : ℕ) → (nat_lt (length line) at ≡ true → words_behind line at ≡ []) × (words_behind line at ≡ []
+    → nat_lt (length line) at ≡ true)
 end_is line at = (
   λ t. past_the_end line at (ltb-true (length line) at t),
   λ e. elim (cases_lt (length line) at) [

@@ -20,6 +20,7 @@ loop-words-preserved c =
     let so_far = rw room at c.loop-words.invariant.so_far in
     let step = sizes_step _ lengths (15 - length lengths) c.in_ok-long-2.field-0 (rest_of c.loop-words.words).words c.loop-words.words.end
     (rest_of c.long-in-loop-words.new.words) so_far c.in_ok-long-2.ensures in
-    let longer : length c.push-in-loop-words.new.self.items ≡ length lengths + 1 = ap length c.in_ok-push-2.ensures.items ∙ length_push lengths c.in_ok-long-2.field-0 in
+    let longer : length c.push-in-loop-words.new.self.items ≡ length lengths + 1 = ap length c.in_ok-push-2.ensures.items
+    ∙ length_push lengths c.in_ok-long-2.field-0 in
     let left : 16 - length c.push-in-loop-words.new.self.items ≡ 15 - length lengths = omega arith in
     record { few = omega arith; so_far = rw (left, c.in_ok-push-2.ensures.items) step }

@@ -16,7 +16,8 @@ pub returns-then-value : goal.returns-then-value
 returns-then-value c =
     let word = c.args.word.now in
     let i = c.loop-byte.byte-index in
-    let there = digit_there (is_lower_hex_digit (get_or word i 0)) (digit_value (get_or word i 0)) c.in_ok-value.field-0 (sym c.hex_digit.ensures ∙ c.in_ok-value.was) in
+    let there = digit_there (is_lower_hex_digit (get_or word i 0)) (digit_value (get_or word i 0)) c.in_ok-value.field-0 (sym c.hex_digit.ensures
+    ∙ c.in_ok-value.was) in
     sym (scan_large is_lower_hex_digit 16 (2 ^ 32 - 1) c.loop-byte.value word i c.loop-byte-test.true (omega (arith, there.1, c.if-value.true)))
     ∙ c.loop-byte.invariant.so_far
 
@@ -24,8 +25,13 @@ pub loop-byte-preserved : goal.loop-byte-preserved
 loop-byte-preserved c =
     let word = c.args.word.now in
     let i = c.loop-byte.byte-index in
-    let there = digit_there (is_lower_hex_digit (get_or word i 0)) (digit_value (get_or word i 0)) c.in_ok-value.field-0 (sym c.hex_digit.ensures ∙ c.in_ok-value.was) in
-    let step = scan_step is_lower_hex_digit 16 (2 ^ 32 - 1) c.loop-byte.value word i c.loop-byte-test.true there.0 (omega (arith, there.1, c.if-value.false)) in
+    let there = digit_there (is_lower_hex_digit (get_or word i 0)) (digit_value (get_or word i 0)) c.in_ok-value.field-0 (sym c.hex_digit.ensures
+    ∙ c.in_ok-value.was) in
+    let step = scan_step is_lower_hex_digit 16 (2 ^ 32 - 1) c.loop-byte.value word i c.loop-byte-test.true there.0 (omega (
+      arith,
+      there.1,
+      c.if-value.false,
+    )) in
     record {
       so_far = rw there.1 at (sym step) ∙ c.loop-byte.invariant.so_far;
       small = c.if-value.false;

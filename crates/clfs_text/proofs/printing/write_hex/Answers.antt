@@ -17,7 +17,8 @@ loop-left-init c =
 pub loop-left-preserved : goal.loop-left-preserved
 loop-left-preserved c =
     let i = c.loop-left.invariant in
-    let s = step_back c.args.number c.loop-left.left c.loop-left.start c.args.end c.lower_digit.result c.loop-left.digits (drop c.args.end c.args.digits.now)
+    let s = step_back c.args.number c.loop-left.left c.loop-left.start c.args.end c.lower_digit.result c.loop-left.digits (drop c.args.end
+    c.args.digits.now)
     c.requires.room i.within i.room (omega arith) c.loop-left-test.true i.small c.lower_digit.ensures i.so_far in
     record {
       within = omega (arith, s.0);
@@ -29,5 +30,6 @@ loop-left-preserved c =
 pub returns-clause-written : goal.returns-clause-written
 returns-clause-written c =
     let i = c.loop-left.invariant in
-    last_step c.args.number c.loop-left.left c.loop-left.start c.args.end c.lower_digit-2.result c.loop-left.digits (drop c.args.end c.args.digits.now)
+    last_step c.args.number c.loop-left.left c.loop-left.start c.args.end c.lower_digit-2.result c.loop-left.digits (drop c.args.end
+    c.args.digits.now)
     i.within i.room (omega arith) c.loop-left-test.false c.lower_digit-2.ensures i.so_far
