@@ -4,4 +4,5 @@ mod Gates
 mod Reading
 mod Sealing
 mod Searches
+mod Spellings
 mod Splices

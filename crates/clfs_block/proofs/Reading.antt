@@ -1,54 +1,31 @@
 -- What is read is spelled so, and what is spelled so is read.
-use Rattle.std.proofs.Common.{◌≡◌, ℕ, ◌+◌, ◌-◌, ◌*◌, ◌/◌, ◌%◌, ◌^◌, ◌<◌, ◌≤◌, Bool, true, false, cond, eqb, ltb}
+use Rattle.std.proofs.Common.{◌≡◌, ℕ, ◌+◌, ◌-◌, ◌*◌, ◌/◌, ◌%◌, ◌^◌, ◌<◌, ◌≤◌, false, cond, eqb, ltb}
 use Rattle.std.proofs.Common.{not, ◌||◌}
 use Rattle.std.proofs.Common.{List, [], ◌∷◌, ◌++◌, length, get_or, take, drop, Option, Some, None, Result, Ok, Err, IfOk, refl, sym, ◌∙◌, ap, subst, arith}
 use Rattle.std.proofs.Common.{length-append, length-drop, take-append-drop}
 use Rattle.std.proofs.lemmas.List.{length-take-le, get_or-take, get_or-drop, get_or_append_left}
 use Rattle.std.proofs.lemmas.List.FromFn.{take-map-range_with_len}
-use Rattle.std.proofs.lemmas.Bool.{ltb-false, le-ltb, eqb-true, eq-eqb, not-false, ne_eqb}
+use Rattle.std.proofs.lemmas.Bool.{ltb-false, le-ltb, eqb-true, eq-eqb, not-false, ne_eqb, or_parts}
 use Rattle.std.proofs.lemmas.Bool.Decides.{nat_tests}
 use Rattle.byteorder.specs.Endian.{little_number}
 use Rattle.clfs_lsn.specs.Size.{sectors}
 use Rattle.clfs_lsn.specs.declared.shape.Shape.{Shape}
-use Rattle.clfs_block.specs.Frame.{place_of, payload_of, address, address_in, header_bytes, used_bytes, used_payload, SpellsBlock}
-use Rattle.clfs_block.specs.Checks.{head_of, left_from, is_wrong_count, is_wrong_records, header_fault, wrong_sector, other_byte}
-use Rattle.clfs_block.specs.Checks.{unless_wrong, address_place, payload_place}
-use Rattle.clfs_block.specs.Checks.{sectors_at, frame_at, rest_at, head_for, IsCount}
+use Rattle.clfs_block.specs.Frame.{place_of, payload_of, address, address_in, head_bytes, used_bytes, used_payload, AreBytes, SpellsBlock}
+use Rattle.clfs_block.specs.Checks.{head_of, left_from, is_wrong_count, is_wrong_records, head_fault, wrong_sector, other_byte}
+use Rattle.clfs_block.specs.Checks.{address_place, payload_place}
+use Rattle.clfs_lsn.specs.Checks.{unless_wrong, unless_ok, no_fault, pass_check, guard_ok, pass_guard}
+use Rattle.clfs_block.specs.Checks.{sectors_at, frame_at, rest_at, head_for, IsCount, IsFramed, IsWrongBehind}
 use Rattle.clfs_block.specs.declared.head.BlockHead.{BlockHead}
 use Rattle.clfs_block.specs.declared.head.BlockRefusal.{BlockRefusal}
-use Rattle.clfs_block.specs.declared.head.BlockRefusal.TheVariants.{BadByte}
+use Rattle.clfs_block.specs.declared.head.BlockRefusal.TheVariants.{BadByte, Closed}
 use Rattle.clfs_block.proofs.Frames.{length-payload_of, get_or-payload_of, payload_is, place_within}
 use Rattle.clfs_block.proofs.Searches.{none_fails, each_passes}
 use Rattle.clfs_block.proofs.Splices.{same_address}
-
-abbrev pub IsBytes : List ℕ → Type 0
-IsBytes bytes = (i : ℕ) → get_or bytes i 0 < 256
 
 abbrev answered : BlockHead → Result BlockHead BlockRefusal
 answered head = Ok head
 
 -- ---- what checks that hold say
-
-pass_check : (b : Bool) (at : ℕ) (rest : Option ℕ) → b ≡ false → rest ≡ None → cond b (Some at) rest ≡ None
-pass_check b at rest p q = ap (λ c. cond c (Some at) rest) p ∙ q
-
-no_fault : (b : Bool) (at : ℕ) (rest : Option ℕ) → cond b (Some at) rest ≡ None → (b ≡ false) × (rest ≡ None)
-no_fault true at rest e = absurd (cc e)
-no_fault false at rest e = (refl, e)
-
-pass_guard : (b : Bool) (refusal : BlockRefusal) (answer other : Result BlockHead BlockRefusal) → b ≡ false → answer ≡ other
-    → cond b (Err refusal) answer ≡ other
-pass_guard b refusal answer other p q = ap (λ c. cond c (Err refusal) answer) p ∙ q
-
-guard_ok : (b : Bool) (refusal : BlockRefusal) (answer : Result BlockHead BlockRefusal) (head : BlockHead) → cond b (Err refusal) answer ≡ Ok head
-    → (b ≡ false) × (answer ≡ Ok head)
-guard_ok true refusal answer head e = absurd (cc e)
-guard_ok false refusal answer head e = (refl, e)
-
-unless_ok : (wrong : Option ℕ) (answer : Result BlockHead BlockRefusal) (head : BlockHead) → unless_wrong wrong answer ≡ Ok head → (wrong ≡ None)
-    × (answer ≡ Ok head)
-unless_ok None answer head e = (refl, e)
-unless_ok (Some at) answer head e = absurd (cc e)
 
 no_address : (o : Option ℕ) → address_place o ≡ None → o ≡ None
 no_address None e = refl
@@ -100,9 +77,9 @@ whole_4 : (n : ℕ) → n < 2 ^ 32 → n % 256 + 256 * (n / 256 % 256 + 256 * (n
 whole_4 n lt = omega (arith, lt)
 
 -- a header that passes is spelled by its numbers
-header_is : (bytes : List ℕ) → IsBytes bytes → get_or bytes 0 0 ≡ 165 → get_or bytes 1 0 ≡ 1 → little_number 2 (drop 6 bytes) ≡ 0
+header_is : (bytes : List ℕ) → AreBytes bytes → get_or bytes 0 0 ≡ 165 → get_or bytes 1 0 ≡ 1 → little_number 2 (drop 6 bytes) ≡ 0
     → little_number 4 (drop 12 bytes) ≡ 0
-    → payload_of 16 bytes ≡ header_bytes 165 (head_of bytes).sectors (head_of bytes).records (head_of bytes).used
+    → payload_of 16 bytes ≡ head_bytes 165 (head_of bytes).sectors (head_of bytes).records (head_of bytes).used
 header_is bytes fits gate version zero_2 zero_4 =
     let b = λ (i : ℕ). get_or bytes i 0 in
     let count = parts_2 (b 2) (b 3) (fits 2) (fits 3) in
@@ -122,10 +99,28 @@ header_is bytes fits gate version zero_2 zero_4 =
     let e15 : b 15 ≡ 0 = omega (arith, zero_4, four_bytes bytes 12) in
     λ i. gate i ∷ version i ∷ e2 i ∷ e3 i ∷ e4 i ∷ e5 i ∷ e6 i ∷ e7 i ∷ used.0 i ∷ used.1 i ∷ used.2 i ∷ used.3 i ∷ e12 i ∷ e13 i ∷ e14 i ∷ e15 i ∷ []
 
--- the version is 1, the zeros are zero and the used bytes take the sectors
-checks_held : (shape : Shape) (start : ℕ) (bytes : List ℕ) → header_fault shape start bytes ≡ None
-    → (get_or bytes 1 0 ≡ 1) × (little_number 2 (drop 6 bytes) ≡ 0) × (sectors (head_of bytes).used ≡ (head_of bytes).sectors)
-    × (little_number 4 (drop 12 bytes) ≡ 0)
+nonzero : (k : ℕ) → eqb k 0 ≡ false → 1 ≤ k
+nonzero k e = grind (arith, nat_tests, e)
+
+count_held : (largest left k : ℕ) → (eqb k 0 || (ltb largest k || ltb left k)) ≡ false → (1 ≤ k) × (k ≤ largest) × (k ≤ left)
+count_held largest left k e =
+    let some = or_parts (eqb k 0) (ltb largest k || ltb left k) e in
+    let most = or_parts (ltb largest k) (ltb left k) some.1 in
+    (nonzero k some.0, ltb-false largest k most.0, ltb-false left k most.1)
+
+records_held : (k : ℕ) → (eqb k 0 || ltb 511 k) ≡ false → (1 ≤ k) × (k ≤ 511)
+records_held k e = let some = or_parts (eqb k 0) (ltb 511 k) e in (nonzero k some.0, ltb-false 511 k some.1)
+
+-- what the checks of a header say of it
+record HeaderHolds (shape : Shape) (start : ℕ) (bytes : List ℕ) : Type 0 where
+  version : get_or bytes 1 0 ≡ 1
+  count : (1 ≤ (head_of bytes).sectors) × ((head_of bytes).sectors ≤ shape.block_sectors) × ((head_of bytes).sectors ≤ left_from shape start)
+  records : (1 ≤ (head_of bytes).records) × ((head_of bytes).records ≤ 511)
+  zero_2 : little_number 2 (drop 6 bytes) ≡ 0
+  used : sectors (head_of bytes).used ≡ (head_of bytes).sectors
+  zero_4 : little_number 4 (drop 12 bytes) ≡ 0
+
+checks_held : (shape : Shape) (start : ℕ) (bytes : List ℕ) → head_fault shape start bytes ≡ None → HeaderHolds shape start bytes
 checks_held shape start bytes e =
     let n = (head_of bytes).sectors in
     let after_used : Option ℕ = cond (not (eqb (little_number 4 (drop 12 bytes)) 0)) (Some 12) None in
@@ -139,75 +134,89 @@ checks_held shape start bytes e =
     let zero = no_fault (not (eqb (little_number 2 (drop 6 bytes)) 0)) 6 after_zero records.1 in
     let used = no_fault (not (eqb (sectors (head_of bytes).used) n)) 8 after_used zero.1 in
     let last = no_fault (not (eqb (little_number 4 (drop 12 bytes)) 0)) 12 None used.1 in
-    (equal _ _ version.0, equal _ _ zero.0, equal _ _ used.0, equal _ _ last.0)
+    record {
+      version = equal _ _ version.0;
+      count = count_held shape.block_sectors (left_from shape start) n count.0;
+      records = records_held (head_of bytes).records records.0;
+      zero_2 = equal _ _ zero.0;
+      used = equal _ _ used.0;
+      zero_4 = equal _ _ last.0;
+    }
 
 -- ---- what is read is spelled so
 
-module _ (shape : Shape) (start : ℕ) (bytes : List ℕ) (head : BlockHead) (fits : IsBytes bytes) (is : frame_at shape start bytes ≡ Ok head)
-    (rest_is : rest_at bytes head ≡ Ok head) (some : 16 ≤ head.used) where
-  pub spelled_by : (used_bytes (drop 16 (payload_of head.used bytes)) ≡ head.used)
-      × SpellsBlock start 165 head.records (drop 16 (payload_of head.used bytes)) (take (512 * head.sectors) bytes)
+module _ (shape : Shape) (start : ℕ) (bytes : List ℕ) (head : BlockHead) (fits : AreBytes bytes) (is : frame_at shape start bytes ≡ Ok head) where
+  -- what is known of a head once its checks hold, by the numbers that stand in the bytes
+  by_numbers : get_or bytes 0 0 ≡ 165 → HeaderHolds shape start bytes → 512 * (head_of bytes).sectors ≤ length bytes
+      → wrong_sector start bytes (head_of bytes).sectors ≡ None
+      → IsFramed shape start bytes (head_of bytes) (payload_of (head_of bytes).used bytes)
+  by_numbers gate held whole right = record {
+    gate = gate;
+    numbers = refl;
+    some = held.count.0;
+    count = record { largest = held.count.1; left = held.count.2; field = omega (arith, two_bytes bytes 2, fits 2, fits 3) };
+    records = held.records;
+    used = held.used;
+    whole = whole;
+    addresses = λ i lt. eqb-true _ _
+        (each_passes (λ j. eqb (address_in bytes j) (address start j)) 0 (head_of bytes).sectors right i (omega arith) (omega (arith, lt)));
+    filled = refl;
+    long = length-payload_of (head_of bytes).used bytes;
+    header = λ some. take-map-range_with_len (λ p. get_or bytes (place_of p) 0) 0 (head_of bytes).used 16 some
+        ∙ header_is bytes fits gate held.version held.zero_2 held.zero_4;
+  }
+
+  pub head_is_framed : IsFramed shape start bytes head (payload_of head.used bytes)
   unfolding frame_at sectors_at
-  spelled_by =
+  head_is_framed =
       let a = guard_ok _ _ _ _ is in
       let b = guard_ok _ _ _ _ a.1 in
       let c = guard_ok _ _ _ _ b.1 in
-      let d = unless_ok (header_fault shape start bytes) (sectors_at start bytes (head_of bytes)) head c.1 in
+      let d = unless_ok BadByte (head_fault shape start bytes) (sectors_at start bytes (head_of bytes)) head c.1 in
       let e : (ltb (length bytes) (512 * (head_of bytes).sectors) ≡ false)
-      × (unless_wrong (address_place (wrong_sector start bytes (head_of bytes).sectors)) (answered (head_of bytes)) ≡ Ok head) =
+      × (unless_wrong BadByte (address_place (wrong_sector start bytes (head_of bytes).sectors)) (answered (head_of bytes)) ≡ Ok head) =
       guard_ok (ltb (length bytes) (512 * (head_of bytes).sectors)) (BadByte (length bytes)) _ head d.1 in
-      let f = unless_ok (address_place (wrong_sector start bytes (head_of bytes).sectors)) (answered (head_of bytes)) head e.1 in
-      let same : head_of bytes ≡ head = one_head _ _ f.1 in
-      let v = checks_held shape start bytes d.0 in
-      let count : sectors head.used ≡ head.sectors = subst (λ (h : BlockHead). sectors h.used ≡ h.sectors) same
-      v.2 in
-      let whole : 512 * head.sectors ≤ length bytes = subst (λ (h : BlockHead). 512 * h.sectors ≤ length bytes) same
-      (ltb-false (length bytes) (512 * (head_of bytes).sectors) e.0) in
-      let right : wrong_sector start bytes head.sectors ≡ None = subst
-      (λ (h : BlockHead). wrong_sector start bytes h.sectors ≡ None) same (no_address (wrong_sector start bytes (head_of bytes).sectors) f.0) in
-      let clean : other_byte bytes head.used head.sectors ≡ None = no_payload (other_byte bytes head.used head.sectors)
-      (unless_ok (payload_place (other_byte bytes head.used head.sectors)) (answered head) head rest_is).0 in
-      let header : payload_of 16 bytes ≡ header_bytes 165 head.sectors head.records head.used =
-      header_is bytes fits (equal (get_or bytes 0 0) 165 b.0) v.0 v.1
-      v.3
-      ∙ ap (λ (h : BlockHead). header_bytes 165 h.sectors h.records h.used) same in
-      facts count whole right clean header
-    where
-      facts : sectors head.used ≡ head.sectors → 512 * head.sectors ≤ length bytes → wrong_sector start bytes head.sectors ≡ None
-          → other_byte bytes head.used head.sectors ≡ None
-          → payload_of 16 bytes ≡ header_bytes 165 head.sectors head.records head.used
-          → (used_bytes (drop 16 (payload_of head.used bytes)) ≡ head.used)
-          × SpellsBlock start 165 head.records (drop 16 (payload_of head.used bytes)) (take (512 * head.sectors) bytes)
-      facts count whole right clean header =
-          let content = drop 16 (payload_of head.used bytes) in
-          let block = take (512 * head.sectors) bytes in
-          let size : used_bytes content ≡ head.used = omega (arith, some, length-drop 16 (payload_of head.used bytes), length-payload_of head.used bytes) in
-          let n : sectors (used_bytes content) ≡ head.sectors = ap sectors size ∙ count in
-          let long : length block ≡ 512 * head.sectors = length-take-le (512 * head.sectors) bytes whole in
-          let front : payload_of head.used block ≡ payload_of head.used bytes =
-          payload_is head.used bytes (payload_of head.used block) (length-payload_of head.used block)
-          (λ p lt. get_or-payload_of head.used block p lt ∙ get_or-take (512 * head.sectors) bytes (place_of p) 0
-          (place_within p head.sectors (omega (arith, lt, count)))) in
-          let split : payload_of head.used bytes ≡ header_bytes 165 head.sectors head.records head.used ++ content =
-          sym (take-append-drop 16 (payload_of head.used bytes)) ∙ ap
-          (λ (l : List ℕ). l ++ content) (take-map-range_with_len (λ p. get_or bytes (place_of p) 0) 0 head.used 16 some ∙ header) in (
-            size,
-            record {
-              whole = long ∙ ap (λ (k : ℕ). 512 * k) (sym n);
-              used = ap (λ (k : ℕ). payload_of k block) size ∙ front ∙ split
-                  ∙ ap (λ (k : ℕ). header_bytes 165 k head.records head.used ++ content) (sym n)
-                  ∙ ap (λ (k : ℕ). header_bytes 165 (sectors (used_bytes content)) head.records k ++ content) (sym size);
-              zeros = λ p past until.
-                  let within : p < 504 * head.sectors = omega (arith, until, n) in
-                  get_or-take (512 * head.sectors) bytes (place_of p) 0 (place_within p head.sectors within)
-                  ∙ eqb-true _ 0 (each_passes (λ q. eqb (get_or bytes (place_of q) 0) 0) head.used (504 * head.sectors - head.used) clean p
-                  (omega (arith, past, size)) (omega (arith, within)));
-              addresses = λ i lt.
-                  let near : i < head.sectors = omega (arith, lt, n) in
-                  same_address block bytes i (λ k from until. get_or-take (512 * head.sectors) bytes k 0 (omega (arith, until, near)))
-                  ∙ eqb-true _ _ (each_passes (λ j. eqb (address_in bytes j) (address start j)) 0 head.sectors right i (omega arith) (omega (arith, near)));
-            },
-          )
+      let f = unless_ok BadByte (address_place (wrong_sector start bytes (head_of bytes).sectors)) (answered (head_of bytes)) head e.1 in
+      subst (λ (h : BlockHead). IsFramed shape start bytes h (payload_of h.used bytes)) (one_head _ _ f.1)
+      (by_numbers (equal (get_or bytes 0 0) 165 b.0) (checks_held shape start bytes d.0)
+      (ltb-false (length bytes) (512 * (head_of bytes).sectors) e.0)
+      (no_address (wrong_sector start bytes (head_of bytes).sectors) f.0))
+
+  module _ (rest_is : rest_at bytes head ≡ Ok head) (some : 16 ≤ head.used) where
+    pub spelled_by : (used_bytes (drop 16 (payload_of head.used bytes)) ≡ head.used)
+        × SpellsBlock start 165 head.records (drop 16 (payload_of head.used bytes)) (take (512 * head.sectors) bytes)
+    spelled_by =
+        let count : sectors head.used ≡ head.sectors = head_is_framed.used in
+        let clean : other_byte bytes head.used head.sectors ≡ None = no_payload (other_byte bytes head.used head.sectors)
+        (unless_ok BadByte (payload_place (other_byte bytes head.used head.sectors)) (answered head) head rest_is).0 in
+        let content = drop 16 (payload_of head.used bytes) in
+        let block = take (512 * head.sectors) bytes in
+        let size : used_bytes content ≡ head.used = omega (arith, some, length-drop 16 (payload_of head.used bytes), length-payload_of head.used bytes) in
+        let n : sectors (used_bytes content) ≡ head.sectors = ap sectors size ∙ count in
+        let long : length block ≡ 512 * head.sectors = length-take-le (512 * head.sectors) bytes head_is_framed.whole in
+        let front : payload_of head.used block ≡ payload_of head.used bytes =
+        payload_is head.used bytes (payload_of head.used block) (length-payload_of head.used block)
+        (λ p lt. get_or-payload_of head.used block p lt ∙ get_or-take (512 * head.sectors) bytes (place_of p) 0
+        (place_within p head.sectors (omega (arith, lt, count)))) in
+        let split : payload_of head.used bytes ≡ head_bytes 165 head.sectors head.records head.used ++ content =
+        sym (take-append-drop 16 (payload_of head.used bytes)) ∙ ap (λ (l : List ℕ). l ++ content) (head_is_framed.header some) in (
+          size,
+          record {
+            whole = long ∙ ap (λ (k : ℕ). 512 * k) (sym n);
+            used = ap (λ (k : ℕ). payload_of k block) size ∙ front ∙ split
+                ∙ ap (λ (k : ℕ). head_bytes 165 k head.records head.used ++ content) (sym n)
+                ∙ ap (λ (k : ℕ). head_bytes 165 (sectors (used_bytes content)) head.records k ++ content) (sym size);
+            zeros = λ p past until.
+                let within : p < 504 * head.sectors = omega (arith, until, n) in
+                get_or-take (512 * head.sectors) bytes (place_of p) 0 (place_within p head.sectors within)
+                ∙ eqb-true _ 0 (each_passes (λ q. eqb (get_or bytes (place_of q) 0) 0) head.used (504 * head.sectors - head.used) clean p
+                (omega (arith, past, size)) (omega (arith, within)));
+            addresses = λ i lt.
+                let near : i < head.sectors = omega (arith, lt, n) in
+                same_address block bytes i (λ k from until. get_or-take (512 * head.sectors) bytes k 0 (omega (arith, until, near)))
+                ∙ head_is_framed.addresses i near;
+          },
+        )
 
 -- ---- and back
 
@@ -261,7 +270,7 @@ module _ (shape : Shape) (start records : ℕ) (content block more bytes : List 
       passes_records : (k : ℕ) → 1 ≤ k → k ≤ 511 → (eqb k 0 || ltb 511 k) ≡ false
       passes_records k p q = grind (arith, nat_tests)
 
-  header_passes : header_fault shape start bytes ≡ None
+  header_passes : head_fault shape start bytes ≡ None
   header_passes =
       let count = ap (λ (h : BlockHead). is_wrong_count shape start h.sectors) head_is ∙ count_passes in
       let right = ap (λ (h : BlockHead). is_wrong_records h.records) head_is ∙ records_pass in
@@ -281,7 +290,7 @@ module _ (shape : Shape) (start records : ℕ) (content block more bytes : List 
   unfolding sectors_at
   sectors_pass =
       pass_guard _ _ _ _ (le-ltb (length bytes) (512 * sectors (used_bytes content)) long)
-      (ap (λ (o : Option ℕ). unless_wrong (address_place o) (answered (head_for records content)))
+      (ap (λ (o : Option ℕ). unless_wrong BadByte (address_place o) (answered (head_for records content)))
       (none_fails (λ i. eqb (address_in bytes i) (address start i)) 0 (sectors (used_bytes content))
       (λ i le lt. eq-eqb _ _ (same_address bytes block i (λ k from until. in_block k (omega (arith, until, lt)))
       ∙ spells.addresses i (omega (arith, lt))))))
@@ -292,11 +301,11 @@ module _ (shape : Shape) (start records : ℕ) (content block more bytes : List 
       pass_guard _ _ _ _ (ne_eqb (length bytes) 0 (λ e. absurd (omega (arith, e, long))))
       (pass_guard _ _ _ _ (unequal_fails _ 165 (byte_is 0 (omega arith)))
       (pass_guard _ _ _ _ (le-ltb (length bytes) 512 (omega (arith, long)))
-      (ap (λ (o : Option ℕ). unless_wrong o (sectors_at start bytes (head_of bytes))) header_passes
+      (ap (λ (o : Option ℕ). unless_wrong BadByte o (sectors_at start bytes (head_of bytes))) header_passes
       ∙ ap (λ (h : BlockHead). sectors_at start bytes h) head_is ∙ sectors_pass)))
 
   pub rest_read : rest_at bytes (head_for records content) ≡ answered (head_for records content)
-  rest_read = ap (λ (o : Option ℕ). unless_wrong (payload_place o) (answered (head_for records content)))
+  rest_read = ap (λ (o : Option ℕ). unless_wrong BadByte (payload_place o) (answered (head_for records content)))
       (none_fails (λ p. eqb (get_or bytes (place_of p) 0) 0) (used_bytes content) (504 * sectors (used_bytes content) - used_bytes content)
       (λ p le lt.
       let within : p < 504 * sectors (used_bytes content) = omega (arith, lt) in
@@ -305,12 +314,17 @@ module _ (shape : Shape) (start records : ℕ) (content block more bytes : List 
 pub not_refused : {answer : Result BlockHead BlockRefusal} {refusal : BlockRefusal} {head : BlockHead} → answer ≡ Err refusal → answer ≡ Ok head → ⊥
 not_refused p q = cc (p, q)
 
-rest_keeps : (wrong : Option ℕ) (head other : BlockHead) → unless_wrong wrong (answered head) ≡ Ok other → other ≡ head
+rest_keeps : (wrong : Option ℕ) (head other : BlockHead) → unless_wrong BadByte wrong (answered head) ≡ Ok other → other ≡ head
 rest_keeps None head other e = sym (one_head _ _ e)
 rest_keeps (Some at) head other e = absurd (cc e)
 
+pub is_framed : (shape : Shape) (start : ℕ) (bytes payload : List ℕ) (head : BlockHead) → AreBytes bytes → frame_at shape start bytes ≡ Ok head
+    → payload ≡ payload_of head.used bytes → IsFramed shape start bytes head payload
+is_framed shape start bytes payload head fits is filled =
+    subst (λ (l : List ℕ). IsFramed shape start bytes head l) (sym filled) (head_is_framed shape start bytes head fits is)
+
 -- a block that is answered is spelled so
-pub answered_is_spelled : (shape : Shape) (start : ℕ) (bytes payload : List ℕ) (head : BlockHead) (answer : Result BlockHead BlockRefusal) → IsBytes bytes
+pub answered_is_spelled : (shape : Shape) (start : ℕ) (bytes payload : List ℕ) (head : BlockHead) (answer : Result BlockHead BlockRefusal) → AreBytes bytes
     → frame_at shape start bytes ≡ Ok head → answer ≡ rest_at bytes head → payload ≡ payload_of head.used bytes
     → IfOk answer (λ h. 16 ≤ h.used → (used_bytes (drop 16 payload) ≡ h.used)
     × SpellsBlock start 165 h.records (drop 16 payload) (take (512 * h.sectors) bytes))
@@ -322,3 +336,33 @@ answered_is_spelled shape start bytes payload head (Ok h) fits framed is filled 
     subst (λ (l : List ℕ). (used_bytes (drop 16 l) ≡ h.used) × SpellsBlock start 165 h.records (drop 16 l) (take (512 * h.sectors) bytes)) (sym filled)
     (subst (λ (x : BlockHead). (used_bytes (drop 16 (payload_of head.used bytes)) ≡ x.used)
     × SpellsBlock start 165 x.records (drop 16 (payload_of head.used bytes)) (take (512 * x.sectors) bytes)) (sym same) result)
+
+-- and is framed so
+pub answered_is_framed : (shape : Shape) (start : ℕ) (bytes payload : List ℕ) (head : BlockHead) (answer : Result BlockHead BlockRefusal) → AreBytes bytes
+    → frame_at shape start bytes ≡ Ok head → answer ≡ rest_at bytes head → payload ≡ payload_of head.used bytes
+    → IfOk answer (λ h. IsFramed shape start bytes h payload)
+answered_is_framed shape start bytes payload head (Err refusal) fits is rest filled = tt
+answered_is_framed shape start bytes payload head (Ok h) fits is rest filled =
+    let same : head ≡ h = sym (rest_keeps (payload_place (other_byte bytes head.used head.sectors)) head h (sym rest)) in
+    subst (λ (x : BlockHead). IsFramed shape start bytes x payload) same (is_framed shape start bytes payload head fits is filled)
+
+unless_bad : (wrong : Option ℕ) (head : BlockHead) (at : ℕ) → unless_wrong BadByte wrong (answered head) ≡ Err (BadByte at) → wrong ≡ Some at
+unless_bad None head at e = absurd (cc e)
+unless_bad (Some k) head at e = cc e
+
+-- a byte that is wrong behind the checks up to the addresses is one behind the used ones
+pub wrong_is_behind : (shape : Shape) (start : ℕ) (bytes payload : List ℕ) (head : BlockHead) (answer : Result BlockHead BlockRefusal) (at : ℕ)
+    → AreBytes bytes → frame_at shape start bytes ≡ Ok head → answer ≡ rest_at bytes head → payload ≡ payload_of head.used bytes
+    → answer ≡ Err (BadByte at) → IsWrongBehind shape start bytes payload at
+wrong_is_behind shape start bytes payload head answer at fits is rest filled wrong = record {
+  head = head;
+  framed = is_framed shape start bytes payload head fits is filled;
+  other = unless_bad (payload_place (other_byte bytes head.used head.sectors)) head at (sym rest ∙ wrong);
+}
+
+unless_open : (wrong : Option ℕ) (head : BlockHead) → unless_wrong BadByte wrong (answered head) ≡ Err Closed → ⊥
+unless_open None head e = cc e
+unless_open (Some k) head e = cc e
+
+pub rest_is_open : (bytes : List ℕ) (head : BlockHead) → rest_at bytes head ≡ Err Closed → ⊥
+rest_is_open bytes head e = unless_open (payload_place (other_byte bytes head.used head.sectors)) head e

@@ -4,10 +4,12 @@ use Rattle.std.proofs.Common.{sym, ◌∙◌, ap, arith}
 use Rattle.std.proofs.Common.{⊎_elim}
 use Rattle.std.proofs.lemmas.Bool.{cases_eq}
 use Rattle.clfs_block.specs.Frame.{place_of}
-use Rattle.clfs_block.specs.Checks.{first_failing, payload_place, unless_wrong, rest_at}
+use Rattle.clfs_block.specs.Checks.{first_failing, payload_place, rest_at}
+use Rattle.clfs_lsn.specs.Checks.{unless_wrong}
 use Rattle.clfs_lsn.specs.Size.{sectors}
 use Rattle.clfs_block.specs.declared.head.BlockHead.{BlockHead}
 use Rattle.clfs_block.specs.declared.head.BlockRefusal.{BlockRefusal}
+use Rattle.clfs_block.specs.declared.head.BlockRefusal.TheVariants.{BadByte}
 
 abbrev answered : BlockHead → Result BlockHead BlockRefusal
 answered head = Ok head
@@ -64,9 +66,9 @@ payload_in_row bytes p at (suc n) row =
 -- the unused payload stands in the last sector
 pub rest_is : (bytes : List ℕ) (head : BlockHead) (answer : Option ℕ) (from end : ℕ) → sectors head.used ≡ head.sectors → 1 ≤ head.sectors
     → from ≡ 512 * (head.sectors - 1) + (head.used - 504 * (head.sectors - 1)) → end ≡ 512 * (head.sectors - 1) + 504
-    → answer ≡ first_failing (λ q. eqb (get_or bytes q 0) 0) from (end - from) → rest_at bytes head ≡ unless_wrong answer (Ok head)
+    → answer ≡ first_failing (λ q. eqb (get_or bytes q 0) 0) from (end - from) → rest_at bytes head ≡ unless_wrong BadByte answer (Ok head)
 rest_is bytes head answer from end is some from_is end_is found =
     let count : 504 * head.sectors - head.used ≡ end - from = omega (arith, is, some, from_is, end_is) in
     let row = payload_in_row bytes head.used from (504 * head.sectors - head.used) (λ j lt. omega (arith, lt, is, some, from_is)) in
-    ap (λ (o : Option ℕ). unless_wrong o (answered head))
+    ap (λ (o : Option ℕ). unless_wrong BadByte o (answered head))
     (row ∙ ap (λ (n : ℕ). first_failing (λ q. eqb (get_or bytes q 0) 0) from n) count ∙ sym found)

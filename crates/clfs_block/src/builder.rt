@@ -1,32 +1,25 @@
 // Building a block in memory that is taken once. The records' bytes are put at their places in the sectors as they come, so
 // that sealing only writes the header, the zeros behind the records and the addresses. The gate of a sealed block is closed:
 // who writes the block opens it last, on the disk. The byte behind the block is a closed gate as well.
-ghost use Rattle.std.specs.Prelude.{◌≡◌, ◌+◌, ◌-◌, ◌*◌, ◌/◌, ◌%◌, ◌^◌, ◌<◌, ◌≤◌, ◌++◌, ◌∷◌, [], nat_le, ◌&&◌, ℕ, List, length, drop, replicate, slice_index, Some, None, IsSome, IfOk, vec_len, vec_capacity};
+ghost use Rattle.std.specs.Prelude.{◌≡◌, ◌+◌, ◌-◌, ◌*◌, ◌/◌, ◌%◌, ◌^◌, ◌<◌, ◌≤◌, ◌++◌, ◌∷◌, [], nat_le, ◌&&◌, nat_lt, ℕ, List, length, take, drop, replicate, slice_index, Some, None, IsSome, IfOk, vec_len, vec_capacity};
+ghost use Rattle.byteorder.specs.Endian.{little_bytes};
+ghost use Rattle.clfs_lsn.specs.Format.{sector_bytes, sector_payload, block_header};
+ghost use Rattle.clfs_lsn.specs.Limits.{most_block_sectors, most_container_sectors, most_block_records};
 ghost use Rattle.clfs_lsn.specs.Lsn.{sequence_of, offset_of};
 ghost use Rattle.clfs_lsn.specs.Size.{IsShape, size, sectors};
-ghost use Rattle.clfs_block.specs.Frame.{place_of, payload_of, address, address_in, used_bytes, header_bytes, SpellsBlock};
+ghost use Rattle.clfs_block.specs.Frame.{place_of, payload_of, address, address_in, used_bytes, head_bytes, SpellsBlock};
 ghost use Rattle.clfs_block.specs.Building.{Building, fits, SealsAt};
 
-use crate::buffer::{overwrite, push_reserved, push_zeros, put_number};
+use crate::{HEADER, PAYLOAD, SECTOR};
 use byteorder::{ByteOrder, LittleEndian};
-use clfs_lsn::{Lsn, Shape};
+use clfs_lsn::{
+    Lsn, MOST_BLOCK_RECORDS, Shape, push_reserved, push_zeros, sectors_of, size_of_record,
+};
 use std::alloc::{AllocError, Global};
 use std::marker::Model;
 
-// The bytes of a sector.
-const SECTOR: usize = 512;
-
-// The bytes of payload of a sector.
-const PAYLOAD: usize = 504;
-
 // The bytes of a sector's address.
-const ADDRESS: usize = 8;
-
-// The bytes of a block's header.
-const HEADER: usize = 16;
-
-// The most records of a block.
-const MAX_RECORDS: u32 = 511;
+const ADDRESS: usize = SECTOR - PAYLOAD;
 
 /// A block that takes records until it is sealed.
 #[derive(Drop)]
@@ -40,6 +33,7 @@ pub struct BlockBuilder {
 
 impl Model for BlockBuilder {
     ghost use Rattle.std.specs.Prelude.{◌≡◌, ◌+◌, ◌*◌, ◌≤◌, drop, length, Some, None, if◌then◌else◌, vec_capacity};
+    ghost use Rattle.clfs_lsn.specs.Format.{block_header};
     ghost use Rattle.clfs_lsn.specs.Size.{sectors};
     ghost use Rattle.clfs_block.specs.Frame.{place_of, payload_of};
     ghost use Rattle.clfs_block.specs.Building.{Building, IsBuilt};
@@ -49,7 +43,7 @@ impl Model for BlockBuilder {
     ghost view = { λ a. record {
       room = a.room;
       records = a.records;
-      content = drop 16 (payload_of a.used a.buffer.items);
+      content = drop block_header (payload_of a.used a.buffer.items);
       sealed = if a.is_sealed then Some a.buffer.items else None;
     } };
 
@@ -85,7 +79,7 @@ impl BlockBuilder {
     /// Appends a record, given by its spelling.
     pub fn push(&mut self, spelling: &[u8])
         requires sealed { self.old.sealed ≡ None }
-        requires records { self.old.records ≤ 510 }
+        requires records { self.old.records < most_block_records }
         requires room { sectors (used_bytes self.old.content + length spelling.now) ≤ self.old.room }
         ensures { self.new ≡ record self.old { records = self.old.records + 1; content = self.old.content ++ spelling.now } }
     {
@@ -99,7 +93,7 @@ impl BlockBuilder {
         requires sealed { self.old.sealed ≡ None }
         requires records { 1 ≤ self.old.records }
         requires sequence { sequence_of start ≡ 0 }
-        requires container { offset_of start / 512 + sectors (used_bytes self.old.content) ≤ 16384 }
+        requires container { offset_of start / sector_bytes + sectors (used_bytes self.old.content) ≤ most_container_sectors }
         ensures sectors { result ≡ sectors (used_bytes self.old.content) }
         ensures sealed { SealsAt start self.old self.new }
     {
@@ -131,34 +125,19 @@ impl BlockBuilder {
 
 // Whether a record with so many bytes of data joins a block of so many records and bytes.
 fn has_room(records: u32, used: usize, room: u32, len: u32, left: u32) -> bool
-    requires { used ≤ 64512 }
-    ensures { result ≡ (nat_le records 510
+    requires { used ≤ sector_payload * most_block_sectors }
+    ensures { result ≡ (nat_lt records most_block_records
         && (nat_le (sectors (used + size len)) room && nat_le (sectors (used + size len)) left)) }
 {
-    let count = sectors_of(used as u64 + size_of(len));
-    records < MAX_RECORDS && (count <= room as u64 && count <= left as u64)
-}
-
-// The bytes of a record with so many bytes of data.
-fn size_of(len: u32) -> u64
-    ensures { result ≡ size len }
-{
-    32 + (len as u64 + 7) / 8 * 8
-}
-
-// The sectors that so many bytes of payload take.
-fn sectors_of(used: u64) -> u64
-    requires { used + 503 < 2 ^ 64 }
-    ensures { result ≡ sectors used }
-{
-    (used + (PAYLOAD as u64 - 1)) / PAYLOAD as u64
+    let count = sectors_of(used as u64 + size_of_record(len));
+    records < MOST_BLOCK_RECORDS && (count <= room as u64 && count <= left as u64)
 }
 
 // Room for a header, in an empty buffer.
 fn begin(buffer: &mut Vec<u8>)
     requires none { buffer.old.items ≡ [] }
-    requires room { 16 ≤ vec_capacity buffer.old }
-    ensures items { buffer.new.items ≡ replicate 16 0 }
+    requires room { block_header ≤ vec_capacity buffer.old }
+    ensures items { buffer.new.items ≡ replicate block_header 0 }
     ensures capacity { vec_capacity buffer.old ≤ vec_capacity buffer.new }
 {
     buffer.resize(HEADER, 0).unwrap();
@@ -186,7 +165,7 @@ fn push_payload(buffer: &mut Vec<u8>, used: usize, more: &[u8])
 // Puts bytes behind so many bytes of payload in their sector. Behind a full sector comes the room of its address.
 fn push_part(buffer: &mut Vec<u8>, used: usize, part: &[u8])
     requires place { length buffer.old.items ≡ place_of used }
-    requires sector { used % 504 + length part.now ≤ 504 }
+    requires sector { used % sector_payload + length part.now ≤ sector_payload }
     requires room { place_of (used + length part.now) ≤ vec_capacity buffer.old }
     ensures place { length buffer.new.items ≡ place_of (used + length part.now) }
     ensures payload { payload_of (used + length part.now) buffer.new.items ≡ payload_of used buffer.old.items ++ part.now }
@@ -201,15 +180,15 @@ fn push_part(buffer: &mut Vec<u8>, used: usize, part: &[u8])
 // Writes the header, zeros, the addresses and a closed gate behind them.
 fn seal_buffer(buffer: &mut Vec<u8>, start: Lsn, count: u32, records: u32, used: usize)
     requires place { length buffer.old.items ≡ place_of used }
-    requires used { 16 ≤ used }
+    requires used { block_header ≤ used }
     requires count { count ≡ sectors used }
-    requires few { count ≤ 128 }
-    requires records { records ≤ 511 }
-    requires room { 512 * count + 1 ≤ vec_capacity buffer.old }
-    requires container { offset_of start / 512 + count ≤ 16384 }
+    requires few { count ≤ most_block_sectors }
+    requires records { records ≤ most_block_records }
+    requires room { sector_bytes * count + 1 ≤ vec_capacity buffer.old }
+    requires container { offset_of start / sector_bytes + count ≤ most_container_sectors }
     ensures sealed { (bytes : List ℕ) × (buffer.new.items ≡ bytes ++ 0 ∷ [])
-        × SpellsBlock start 0 records (drop 16 (payload_of used buffer.old.items)) bytes }
-    ensures payload { drop 16 (payload_of used buffer.new.items) ≡ drop 16 (payload_of used buffer.old.items) }
+        × SpellsBlock start 0 records (drop block_header (payload_of used buffer.old.items)) bytes }
+    ensures payload { drop block_header (payload_of used buffer.new.items) ≡ drop block_header (payload_of used buffer.old.items) }
     ensures capacity { vec_capacity buffer.old ≤ vec_capacity buffer.new }
 {
     let zeros = SECTOR * count as usize - buffer.len();
@@ -221,18 +200,19 @@ fn seal_buffer(buffer: &mut Vec<u8>, start: Lsn, count: u32, records: u32, used:
 
 // Writes the header with a closed gate.
 fn write_header(buffer: &mut Vec<u8>, count: u32, records: u32, used: u32)
-    requires long { 16 ≤ vec_len buffer.old }
+    requires long { block_header ≤ vec_len buffer.old }
     requires count { count < 2 ^ 16 }
     requires records { records < 2 ^ 16 }
-    ensures items { buffer.new.items ≡ header_bytes 0 count records used ++ drop 16 buffer.old.items }
+    ensures items { buffer.new.items ≡ head_bytes 0 count records used ++ drop block_header buffer.old.items }
     ensures capacity { vec_capacity buffer.new ≡ vec_capacity buffer.old }
 {
-    overwrite(buffer, 0, &header_of(count as u16, records as u16, used));
+    let header = header_of(count as u16, records as u16, used);
+    buffer[0..HEADER].copy_from_slice(&header);
 }
 
 // The header behind a closed gate.
-fn header_of(count: u16, records: u16, used: u32) -> [u8; 16]
-    ensures { result ≡ header_bytes 0 count records used }
+fn header_of(count: u16, records: u16, used: u32) -> [u8; HEADER]
+    ensures { result ≡ head_bytes 0 count records used }
 {
     let mut header = [0; HEADER];
     header[1] = 1;
@@ -244,15 +224,15 @@ fn header_of(count: u16, records: u16, used: u32) -> [u8; 16]
 
 // Writes in each sector its address.
 fn write_addresses(buffer: &mut Vec<u8>, start: Lsn, count: u32)
-    requires length { length buffer.old.items ≡ 512 * count }
-    requires count { count ≤ 128 }
-    requires container { offset_of start / 512 + count ≤ 16384 }
-    ensures length { length buffer.new.items ≡ 512 * count }
-    ensures payload { (k : ℕ) → k % 512 < 504 → slice_index buffer.new.items k ≡ slice_index buffer.old.items k }
+    requires length { length buffer.old.items ≡ sector_bytes * count }
+    requires count { count ≤ most_block_sectors }
+    requires container { offset_of start / sector_bytes + count ≤ most_container_sectors }
+    ensures length { length buffer.new.items ≡ sector_bytes * count }
+    ensures payload { (k : ℕ) → k % sector_bytes < sector_payload → slice_index buffer.new.items k ≡ slice_index buffer.old.items k }
     ensures addresses { (i : ℕ) → i < count → address_in buffer.new.items i ≡ address start i }
     ensures capacity { vec_capacity buffer.new ≡ vec_capacity buffer.old }
 {
-    let first = start.container() as u64 * (1 << 32) + start.offset() as u64;
+    let first = Lsn::from_parts(start.container(), start.offset(), 0).number();
     for sector in 0..count {
         put_number(
             buffer,
@@ -262,11 +242,11 @@ fn write_addresses(buffer: &mut Vec<u8>, start: Lsn, count: u32)
     }
 }
 
-/// A block says in its bytes which gate it has and how many sectors, so a reader of the bytes alone knows where it ends.
-pub fn blocks_say_their_sectors()
-    ensures gate { (start gate records : ℕ) (content block : List ℕ)
-        → SpellsBlock start gate records content block → slice_index block 0 ≡ gate }
-    ensures sectors { (start gate records : ℕ) (content block : List ℕ)
-        → SpellsBlock start gate records content block → sectors (used_bytes content) < 2 ^ 16
-        → slice_index block 2 + 256 * slice_index block 3 ≡ sectors (used_bytes content) }
-{}
+// Puts a number of eight bytes in its place.
+fn put_number(out: &mut Vec<u8>, at: usize, number: u64)
+    requires { at + 8 ≤ length out.old.items }
+    ensures items { out.new.items ≡ take at out.old.items ++ little_bytes 8 number ++ drop (at + 8) out.old.items }
+    ensures capacity { vec_capacity out.new ≡ vec_capacity out.old }
+{
+    LittleEndian::write_u64(&mut out[at..at + ADDRESS], number);
+}

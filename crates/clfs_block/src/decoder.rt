@@ -1,26 +1,19 @@
 // Reading a block. The checks go from the first byte on, and the payload is filled before its
 // unused end is checked, so that a caller can judge the records first.
 ghost use Rattle.std.specs.Prelude.{◌≡◌, ◌⊎◌, ◌+◌, ◌-◌, ◌*◌, ◌/◌, ◌%◌, ◌^◌, ◌<◌, ◌≤◌, ◌++◌, ◌==◌, ◌||◌, ℕ, List, [], length, take, drop, slice_index, Some, None, IfOk, IfSome, OnOk, OnErr, Ok, Err, vec_capacity};
+ghost use Rattle.clfs_lsn.specs.Format.{sector_bytes, block_header, open_gate};
+ghost use Rattle.clfs_lsn.specs.Limits.{most_block_records};
 ghost use Rattle.clfs_lsn.specs.Size.{sectors};
-ghost use Rattle.clfs_block.specs.Frame.{payload_of, address, address_in, used_bytes, used_payload, SpellsBlock};
-ghost use Rattle.clfs_block.specs.Checks.{head_of, is_wrong_count, is_wrong_records, header_fault, head_for, IsCount, wrong_sector, first_failing, sectors_at, frame_at, rest_at, block_at};
-ghost use Rattle.clfs_block.specs.declared.head.BlockRefusal.TheVariants.{NoMemory};
+ghost use Rattle.clfs_block.specs.Frame.{place_of, payload_of, address, address_in, used_bytes, used_payload, SpellsBlock};
+ghost use Rattle.clfs_block.specs.Checks.{head_of, is_wrong_count, is_wrong_records, head_fault, head_for, IsCount, wrong_sector, first_failing, sectors_at, frame_at, rest_at, block_at, IsFramed, IsWrongBehind};
+ghost use Rattle.clfs_block.specs.declared.head.BlockRefusal.TheVariants.{NoMemory, BadByte, Closed};
 
-use crate::buffer::push_reserved;
 use crate::head::{BlockHead, BlockRefusal};
+use crate::{PAYLOAD, SECTOR};
 use byteorder::{ByteOrder, LittleEndian};
-use clfs_lsn::{Bytes, Lsn, Shape};
+use clfs_lsn::{Bytes, Lsn, MOST_BLOCK_RECORDS, OPEN_GATE, Shape, push_reserved, sectors_of};
 use std::alloc::{AllocError, Global};
 use std::mem;
-
-// The bytes of a sector.
-const SECTOR: usize = 512;
-
-// The bytes of payload of a sector.
-const PAYLOAD: usize = 504;
-
-// The gate of a block that counts.
-const OPEN: u8 = 0xA5;
 
 /// The block at the front of bytes that are to hold one at this place, all checked but its records. Its used payload, of
 /// which the first 16 bytes are the header, takes the place of what `payload` held, before the bytes behind it are checked.
@@ -35,18 +28,25 @@ pub fn decode_block(
     ensures exact { (result ≡ Err NoMemory) ⊎ (result ≡ block_at shape.now start bytes.now) }
 
     // What is read is spelled so, where the used bytes have a whole header.
-    ensures found { IfOk result (λ head. 16 ≤ head.used → (used_bytes (drop 16 payload.new) ≡ head.used)
-        × SpellsBlock start 165 head.records (drop 16 payload.new) (take (512 * head.sectors) bytes.now)) }
+    ensures found { IfOk result (λ head. block_header ≤ head.used → (used_bytes (drop block_header payload.new) ≡ head.used)
+        × SpellsBlock start open_gate head.records (drop block_header payload.new) (take (sector_bytes * head.sectors) bytes.now)) }
 
     // What is spelled so is read, whatever follows it, where the block is none too large for the log and its container.
-    ensures only { (records : ℕ) (content block more : List ℕ) → SpellsBlock start 165 records content block
-        → (1 ≤ records) × (records ≤ 511) → IsCount shape.now start (sectors (used_bytes content)) → bytes.now ≡ block ++ more
+    ensures only { (records : ℕ) (content block more : List ℕ) → SpellsBlock start open_gate records content block
+        → (1 ≤ records) × (records ≤ most_block_records) → IsCount shape.now start (sectors (used_bytes content)) → bytes.now ≡ block ++ more
         → (result ≡ Err NoMemory)
-        ⊎ ((result ≡ Ok (head_for records content)) × (payload.new ≡ used_payload 165 records content)) }
+        ⊎ ((result ≡ Ok (head_for records content)) × (payload.new ≡ used_payload open_gate records content)) }
 
-    // The payload is filled where all up to the addresses is right, and else as it was.
+    // The head of a block is right, its sectors are there, and its used payload begins with the header.
+    ensures framed { IfOk result (λ head. IsFramed shape.now start bytes.now head payload.new) }
+
+    // The payload is filled where all up to the addresses is right, and else as it was. So where it isn't as it was, what is
+    // wrong is a byte behind the used ones, and its records can be judged.
     ensures filled { (head : BlockHead) → frame_at shape.now start bytes.now ≡ Ok head → (result ≡ Err NoMemory → ⊥)
-        → payload.new ≡ payload_of head.used bytes.now }
+        → IsFramed shape.now start bytes.now head payload.new }
+    ensures wrong { (at : ℕ) → result ≡ Err (BadByte at) → (payload.new ≡ payload.old)
+        ⊎ IsWrongBehind shape.now start bytes.now payload.new at }
+    ensures closed { result ≡ Err Closed → payload.new ≡ payload.old }
     ensures kept { (refusal : BlockRefusal) → frame_at shape.now start bytes.now ≡ Err refusal → payload.new ≡ payload.old }
     ensures no_memory { result ≡ Err NoMemory → payload.new ≡ payload.old }
 {
@@ -59,14 +59,14 @@ pub fn decode_block(
 #[tactic(auto, unfolding(crate::specs::Checks::frame_at))]
 fn frame(shape: &Shape, start: Lsn, bytes: &[u8]) -> Result<BlockHead, BlockRefusal>
     ensures exact { result ≡ frame_at shape.now start bytes.now }
-    ensures whole { IfOk result (λ head. 512 * head.sectors ≤ length bytes.now) }
+    ensures whole { IfOk result (λ head. sector_bytes * head.sectors ≤ length bytes.now) }
     ensures used { IfOk result (λ head. sectors head.used ≡ head.sectors) }
     ensures some { IfOk result (λ head. (1 ≤ head.sectors) × (head.sectors < 2 ^ 16)) }
 {
     if bytes.is_empty() {
         return Err(BlockRefusal::BadByte { at: 0 });
     }
-    if bytes[0] != OPEN {
+    if bytes[0] != OPEN_GATE {
         return Err(BlockRefusal::Closed);
     }
     if bytes.len() < SECTOR {
@@ -81,7 +81,7 @@ fn frame(shape: &Shape, start: Lsn, bytes: &[u8]) -> Result<BlockHead, BlockRefu
 
 // The numbers of the header.
 fn read_head(bytes: &[u8]) -> BlockHead
-    requires { 512 ≤ length bytes.now }
+    requires { sector_bytes ≤ length bytes.now }
     ensures value { result ≡ head_of bytes.now }
     ensures small { result.sectors < 2 ^ 16 }
 {
@@ -94,8 +94,8 @@ fn read_head(bytes: &[u8]) -> BlockHead
 
 // The byte at which the header is wrong first.
 fn wrong_header(shape: &Shape, start: Lsn, bytes: &[u8]) -> Option<u32>
-    requires { 512 ≤ length bytes.now }
-    ensures { result ≡ header_fault shape.now start bytes.now }
+    requires { sector_bytes ≤ length bytes.now }
+    ensures { result ≡ head_fault shape.now start bytes.now }
 {
     let head = read_head(bytes);
     if bytes[1] != 1 {
@@ -106,7 +106,7 @@ fn wrong_header(shape: &Shape, start: Lsn, bytes: &[u8]) -> Option<u32>
         Some(4)
     } else if LittleEndian::read_u16(&bytes[6..]) != 0 {
         Some(6)
-    } else if sectors_of(head.used) != head.sectors {
+    } else if sectors_of(head.used as u64) != head.sectors as u64 {
         Some(8)
     } else if LittleEndian::read_u32(&bytes[12..]) != 0 {
         Some(12)
@@ -129,14 +129,7 @@ fn is_wrong_count(shape: &Shape, start: Lsn, count: u32) -> bool
 fn is_wrong_records(records: u32) -> bool
     ensures { result ≡ is_wrong_records records }
 {
-    records == 0 || 511 < records
-}
-
-// The sectors that so many bytes of payload take.
-fn sectors_of(used: u32) -> u32
-    ensures { result ≡ sectors used }
-{
-    ((used as u64 + (PAYLOAD as u64 - 1)) / PAYLOAD as u64) as u32
+    records == 0 || MOST_BLOCK_RECORDS < records
 }
 
 // The sectors are there and have their addresses.
@@ -145,7 +138,7 @@ fn checked_sectors(start: Lsn, bytes: &[u8], head: BlockHead) -> Result<BlockHea
     requires { head.sectors < 2 ^ 16 }
     ensures exact { result ≡ sectors_at start bytes.now head }
     ensures head { IfOk result (λ h. h ≡ head) }
-    ensures whole { OnOk result (512 * head.sectors ≤ length bytes.now) }
+    ensures whole { OnOk result (sector_bytes * head.sectors ≤ length bytes.now) }
 {
     if bytes.len() < SECTOR * head.sectors as usize {
         let at = bytes.len() as u32;
@@ -161,11 +154,11 @@ fn checked_sectors(start: Lsn, bytes: &[u8], head: BlockHead) -> Result<BlockHea
 // The first sector whose address is wrong.
 fn first_wrong_sector(start: Lsn, bytes: &[u8], count: u32) -> Option<u32>
     requires count { count < 2 ^ 16 }
-    requires whole { 512 * count ≤ length bytes.now }
+    requires whole { sector_bytes * count ≤ length bytes.now }
     ensures exact { result ≡ wrong_sector start bytes.now count }
     ensures few { IfSome result (λ sector. sector < count) }
 {
-    let first = start.container() as u64 * (1 << 32) + start.offset() as u64;
+    let first = Lsn::from_parts(start.container(), start.offset(), 0).number();
     for sector in 0..count {
         if !has_address(bytes, sector, first) {
             return Some(sector);
@@ -176,8 +169,8 @@ fn first_wrong_sector(start: Lsn, bytes: &[u8], count: u32) -> Option<u32>
 
 // Whether a sector has its address, that of the first sector given.
 fn has_address(bytes: &[u8], sector: u32, first: u64) -> bool
-    requires { 512 * sector + 512 ≤ length bytes.now }
-    ensures { result ≡ (address_in bytes.now sector == first + 512 * sector) }
+    requires { sector_bytes * sector + sector_bytes ≤ length bytes.now }
+    ensures { result ≡ (address_in bytes.now sector == first + sector_bytes * sector) }
 {
     let found = LittleEndian::read_u64(&bytes[SECTOR * sector as usize + PAYLOAD..]);
     match first.checked_add(SECTOR as u64 * sector as u64) {
@@ -188,7 +181,7 @@ fn has_address(bytes: &[u8], sector: u32, first: u64) -> bool
 
 // Puts the used payload in the place of what was there.
 fn fill(alloc: Global, bytes: &[u8], head: BlockHead, payload: &mut Bytes) -> Result<(), AllocError>
-    requires whole { 512 * head.sectors ≤ length bytes.now }
+    requires whole { sector_bytes * head.sectors ≤ length bytes.now }
     requires used { sectors head.used ≡ head.sectors }
     ensures ok { OnOk result (payload.new ≡ payload_of head.used bytes.now) }
     ensures err { OnErr result (payload.new ≡ payload.old) }
@@ -200,7 +193,7 @@ fn fill(alloc: Global, bytes: &[u8], head: BlockHead, payload: &mut Bytes) -> Re
 }
 
 fn fill_vec(out: &mut Vec<u8>, bytes: &[u8], used: usize) -> Result<(), AllocError>
-    requires { 512 * (used / 504) + used % 504 ≤ length bytes.now }
+    requires { place_of used ≤ length bytes.now }
     ensures ok { OnOk result (out.new.items ≡ payload_of used bytes.now) }
     ensures err { OnErr result (out.new.items ≡ out.old.items) }
 {
@@ -212,7 +205,7 @@ fn fill_vec(out: &mut Vec<u8>, bytes: &[u8], used: usize) -> Result<(), AllocErr
 
 // Appends so many bytes of the payload, sector by sector.
 fn push_payload(out: &mut Vec<u8>, bytes: &[u8], used: usize)
-    requires place { 512 * (used / 504) + used % 504 ≤ length bytes.now }
+    requires place { place_of used ≤ length bytes.now }
     requires none { out.old.items ≡ [] }
     requires room { used ≤ vec_capacity out.old }
     ensures { out.new.items ≡ payload_of used bytes.now }
@@ -228,7 +221,7 @@ fn push_payload(out: &mut Vec<u8>, bytes: &[u8], used: usize)
 
 // The payload behind the used bytes is zero.
 fn rest(bytes: &[u8], head: BlockHead) -> Result<BlockHead, BlockRefusal>
-    requires whole { 512 * head.sectors ≤ length bytes.now }
+    requires whole { sector_bytes * head.sectors ≤ length bytes.now }
     requires used { sectors head.used ≡ head.sectors }
     requires some { (1 ≤ head.sectors) × (head.sectors < 2 ^ 16) }
     ensures { result ≡ rest_at bytes.now head }

@@ -7,14 +7,22 @@
 //! `decode_block` checks all of a block but its records and gives their bytes in a row.
 #![tactic(auto)]
 
-mod buffer;
 mod builder;
 mod decoder;
 mod head;
+mod laws;
 
-pub use builder::{BlockBuilder, blocks_say_their_sectors};
+pub use builder::BlockBuilder;
 pub use decoder::decode_block;
 pub use head::{BlockHead, BlockRefusal};
+pub use laws::{blocks_have_one_spelling, blocks_say_their_sectors};
+
+// The sizes of the format, as numbers of bytes in memory.
+const SECTOR: usize = clfs_lsn::SECTOR as usize;
+
+const PAYLOAD: usize = clfs_lsn::SECTOR_PAYLOAD as usize;
+
+const HEADER: usize = clfs_lsn::BLOCK_HEADER as usize;
 
 #[cfg(test)]
 mod tests;

@@ -75,6 +75,32 @@ fn answer(raised: u32) -> Option<BlockRefusal> {
 }
 
 #[test]
+fn a_builder_is_filled_and_emptied(rt: HostRuntime) -> Result<(), Fail> {
+    let alloc = rt.alloc();
+    let mut builder = BlockBuilder::new(alloc, &SHAPE)?;
+    // The length, the sectors that are left, and whether a first record fits.
+    for (len, left, fits) in [
+        (960, 2, true),
+        (961, 2, false),
+        (960, 1, false),
+        (456, 1, true),
+        (457, 1, false),
+        (0, 0, false),
+    ] {
+        assert_eq!(rt; builder.fits(len, left), fits, "{len} {left}");
+    }
+    builder.push(&[7; 992]);
+    assert!(rt; !builder.fits(0, 2));
+    builder.clear();
+    assert!(rt; builder.fits(960, 2));
+    builder.push(&FRONT[16..]);
+    assert!(rt; builder.fits(408, 1) && !builder.fits(409, 1));
+    builder.seal(Lsn::of_number(1 << 32));
+    assert!(rt; builder.bytes() == sealed(alloc, &FRONT[16..])?.as_slice());
+    Ok(())
+}
+
+#[test]
 fn each_byte_is_checked(rt: HostRuntime) -> Result<(), Fail> {
     for raised in 0..512 {
         let mut bytes = block();

@@ -5,8 +5,8 @@ use Rattle.std.proofs.lemmas.List.{length-take, length-take-le, get_or-take, get
 use Rattle.std.specs.Prelude.{Result, Ok, Err, OnOk}
 use Rattle.std.proofs.lemmas.Bool.{cases_eq}
 use Rattle.clfs_disk.specs.Files.{Files, TornIn, WrittenIn}
-use Rattle.clfs_disk.proofs.Places.{length-overwritten, overwritten_below, overwritten_inside, overwritten_above, part_overwritten}
-use Rattle.clfs_container.specs.OpenBlocks.{block_sectors, BeginsWith, Opens, Ends, total, AreOpen}
+use Rattle.clfs_disk.specs.Overwriting.{StandsInPlace}
+use Rattle.clfs_container.specs.OpenBlocks.{block_sectors, BeginsWith, Opens, Ends, EndsCleanly, total, AreOpen, AreWhole}
 use Rattle.clfs_container.specs.Writing.{IsBehind, HasBlocks, HasBody, IsGroup, OthersStay}
 
 pub on_ok_both : {T E P Q R : Type 0} (r : Result T E) → (P → Q → R) → OnOk r P → OnOk r Q → OnOk r R
@@ -31,7 +31,7 @@ begins_same left bytes image block long each first =
     let same : block_sectors image ≡ block_sectors bytes = omega (arith, two, three) in (
       same,
       record {
-        open_gate = each 0 (omega (arith, size, first.some)) ∙ first.open_gate;
+        gate = each 0 (omega (arith, size, first.some)) ∙ first.gate;
         some = omega (arith, same, first.some);
         fits = omega (arith, same, first.fits);
         whole = omega (arith, same, size, long);
@@ -91,17 +91,17 @@ body_byte file at body files has i from until =
     ∙ get_or-drop (at + 1) (files file) (i - (at + 1)) 0 ∙ ap (λ (k : ℕ). get_or (files file) k 0) place)
 
 -- bytes that were written behind a gate
-pub body_written : (file at : ℕ) (body : List ℕ) (old new : Files) → at + 1 + length body ≤ length (old file) → WrittenIn file (at + 1) body old new
+pub body_written : StandsInPlace → (file at : ℕ) (body : List ℕ) (old new : Files) → at + 1 + length body ≤ length (old file) → WrittenIn file (at + 1) body old new
     → HasBody file at body new
-body_written file at body old new room written = record {
-  whole = omega (arith, room, ap (λ (l : List ℕ). length l) written.here, length-overwritten (old file) (at + 1) body room);
-  is = ap (λ (l : List ℕ). take (length body) (drop (at + 1) l)) written.here ∙ part_overwritten (old file) (at + 1) body room;
+body_written stands file at body old new room written = record {
+  whole = omega (arith, room, ap (λ (l : List ℕ). length l) written.here, stands.size (old file) (at + 1) body room);
+  is = ap (λ (l : List ℕ). take (length body) (drop (at + 1) l)) written.here ∙ stands.part (old file) (at + 1) body room;
 }
 
-pub gate_kept : (file at : ℕ) (body : List ℕ) (old new : Files) → at + 1 + length body ≤ length (old file) → WrittenIn file (at + 1) body old new
+pub gate_kept : StandsInPlace → (file at : ℕ) (body : List ℕ) (old new : Files) → at + 1 + length body ≤ length (old file) → WrittenIn file (at + 1) body old new
     → get_or (new file) at 0 ≡ get_or (old file) at 0
-gate_kept file at body old new room written =
-    ap (λ (l : List ℕ). get_or l at 0) written.here ∙ overwritten_below (old file) (at + 1) body room at (omega arith)
+gate_kept stands file at body old new room written =
+    ap (λ (l : List ℕ). get_or l at 0) written.here ∙ stands.below (old file) (at + 1) body room at (omega arith)
 
 module _ (sectors file : ℕ) (blocks : List (List ℕ)) (rest at : ℕ) (old : Files) (behind : IsBehind sectors file blocks rest at old) where
   within : at ≤ length (old file)
@@ -114,6 +114,7 @@ module _ (sectors file : ℕ) (blocks : List (List ℕ)) (rest at : ℕ) (old : 
     opens = opens_same sectors (old file) (new file) blocks rest (omega (arith, long, behind.place, within))
         (λ i lt. each i (omega (arith, lt, behind.place))) behind.opens;
     place = behind.place;
+    there = omega (arith, behind.there, long);
     closed = closed;
   }
 
@@ -153,12 +154,15 @@ module _ (sectors file : ℕ) (blocks : List (List ℕ)) (rest at : ℕ) (old : 
             (λ i lt. spelled i (omega (arith, lt, group.whole))) group.opens
 
         shut : (left ≡ 0) ⊎ ((total more ≤ length body) × (get_or (165 ∷ body) (total more) 0 ≢ 165))
-            → (left ≡ 0) ⊎ (get_or (new file) (total (blocks ++ more)) 0 ≢ 165)
+            → (left ≡ 0) ⊎ ((total (blocks ++ more) < length (new file)) × (get_or (new file) (total (blocks ++ more)) 0 ≢ 165))
         shut (inl full) = inl full
         shut (inr closed) =
             let place : at + total more ≡ total (blocks ++ more) = omega (arith, total-append blocks more, behind.place) in
-            inr (λ is. closed.1 (sym (spelled (total more) (omega (arith, closed.0))) ∙ get_or-drop at (new file) (total more) 0
-            ∙ ap (λ (k : ℕ). get_or (new file) k 0) place ∙ is))
+            inr (
+              omega (arith, place, closed.0, has.whole, long),
+              λ is. closed.1 (sym (spelled (total more) (omega (arith, closed.0))) ∙ get_or-drop at (new file) (total more) 0
+                  ∙ ap (λ (k : ℕ). get_or (new file) k 0) place ∙ is),
+            )
 
     -- the gate is torn over the whole body
     pub gate_torn : (new : Files) → TornIn file at 1 old new
@@ -172,45 +176,64 @@ module _ (sectors file : ℕ) (blocks : List (List ℕ)) (rest at : ℕ) (old : 
     )
 
     -- the gate is written
-    pub gate_written : (new : Files) → at + 1 ≤ length (old file) → WrittenIn file at (165 ∷ []) old new
+    pub gate_written : StandsInPlace → (new : Files) → at + 1 ≤ length (old file) → WrittenIn file at (165 ∷ []) old new
         → HasBlocks sectors file (blocks ++ more) left new × OthersStay file old new
-    gate_written new room written =
-        let long : length (new file) ≡ length (old file) = ap length written.here ∙ length-overwritten (old file) at (165 ∷ []) room in
+    gate_written stands new room written =
+        let long : length (new file) ≡ length (old file) = ap length written.here ∙ stands.size (old file) at (165 ∷ []) room in
         let none : at - at ≡ 0 = omega arith in (
           opened new long
-              (λ i lt. ap (λ (l : List ℕ). get_or l i 0) written.here ∙ overwritten_below (old file) at (165 ∷ []) room i lt)
-              (ap (λ (l : List ℕ). get_or l at 0) written.here ∙ overwritten_inside (old file) at (165 ∷ []) room at (omega arith) (omega arith)
+              (λ i lt. ap (λ (l : List ℕ). get_or l i 0) written.here ∙ stands.below (old file) at (165 ∷ []) room i lt)
+              (ap (λ (l : List ℕ). get_or l at 0) written.here ∙ stands.inside (old file) at (165 ∷ []) room at (omega arith) (omega arith)
               ∙ ap (λ (k : ℕ). get_or (165 ∷ []) k 0) none)
-              (λ i from. ap (λ (l : List ℕ). get_or l i 0) written.here ∙ overwritten_above (old file) at (165 ∷ []) room i from),
+              (λ i from. ap (λ (l : List ℕ). get_or l i 0) written.here ∙ stands.above (old file) at (165 ∷ []) room i from),
           written.elsewhere,
         )
 
 -- a closed first gate
-pub none_open : (sectors file : ℕ) (old new : Files) → 1 ≤ length (old file) → WrittenIn file 0 (0 ∷ []) old new → HasBlocks sectors file [] sectors new
-none_open sectors file old new room written =
+pub none_open : StandsInPlace → (sectors file : ℕ) (old new : Files) → 1 ≤ length (old file) → WrittenIn file 0 (0 ∷ []) old new → HasBlocks sectors file [] sectors new
+none_open stands sectors file old new room written =
     let gate : get_or (new file) 0 0 ≡ 0 =
-    ap (λ (l : List ℕ). get_or l 0 0) written.here ∙ overwritten_inside (old file) 0 (0 ∷ []) room 0 (omega arith) (omega arith) in
-    record { opens = refl; shut = inr (λ is. absurd (omega (arith, gate, is))) }
+    ap (λ (l : List ℕ). get_or l 0 0) written.here ∙ stands.inside (old file) 0 (0 ∷ []) room 0 (omega arith) (omega arith) in
+    let size : length (new file) ≡ length (old file) = ap length written.here ∙ stands.size (old file) 0 (0 ∷ []) room in
+    record { opens = refl; shut = inr (omega (arith, size, room), λ is. absurd (omega (arith, gate, is))) }
 
-closed_ends : (left : ℕ) (bytes : List ℕ) (at : ℕ) → get_or bytes at 0 ≢ 165 → Ends left (drop at bytes)
-closed_ends left bytes at closed = inr (inl (λ is. closed (sym (gate_at bytes at) ∙ is)))
+closed_ends : (left : ℕ) (bytes : List ℕ) (at : ℕ) → at < length bytes → get_or bytes at 0 ≢ 165 → EndsCleanly left (drop at bytes)
+closed_ends left bytes at there closed = inr (omega (arith, length-drop at bytes, there), λ is. closed (sym (gate_at bytes at) ∙ is))
 
-pub behind_are_open : (sectors file : ℕ) (blocks : List (List ℕ)) (rest at : ℕ) (files : Files) → IsBehind sectors file blocks rest at files
-    → AreOpen sectors (files file) blocks
-behind_are_open sectors file blocks rest at files behind =
-    (rest, behind.opens, closed_ends rest (files file) (total blocks) (subst (λ (k : ℕ). get_or (files file) k 0 ≢ 165) (sym behind.place) behind.closed))
+pub behind_are_whole : (sectors file : ℕ) (blocks : List (List ℕ)) (rest at : ℕ) (files : Files) → IsBehind sectors file blocks rest at files
+    → AreWhole sectors (files file) blocks
+behind_are_whole sectors file blocks rest at files behind = (
+  rest,
+  behind.opens,
+  closed_ends rest (files file) (total blocks) (omega (arith, behind.there, behind.place))
+      (subst (λ (k : ℕ). get_or (files file) k 0 ≢ 165) (sym behind.place) behind.closed),
+)
 
-pub written_are_open : (sectors file : ℕ) (blocks : List (List ℕ)) (rest : ℕ) (files : Files) → HasBlocks sectors file blocks rest files
-    → AreOpen sectors (files file) blocks
-written_are_open sectors file blocks rest files has = (rest, has.opens, ends has.shut)
+pub written_are_whole : (sectors file : ℕ) (blocks : List (List ℕ)) (rest : ℕ) (files : Files) → HasBlocks sectors file blocks rest files
+    → AreWhole sectors (files file) blocks
+written_are_whole sectors file blocks rest files has = (rest, has.opens, ends has.shut)
   where
-    ends : (rest ≡ 0) ⊎ (get_or (files file) (total blocks) 0 ≢ 165) → Ends rest (drop (total blocks) (files file))
+    ends : (rest ≡ 0) ⊎ ((total blocks < length (files file)) × (get_or (files file) (total blocks) 0 ≢ 165))
+        → EndsCleanly rest (drop (total blocks) (files file))
     ends (inl full) = inl full
-    ends (inr closed) = closed_ends rest (files file) (total blocks) closed
+    ends (inr closed) = closed_ends rest (files file) (total blocks) closed.0 closed.1
+
+clean_ends : (left : ℕ) (bytes : List ℕ) → EndsCleanly left bytes → Ends left bytes
+clean_ends left bytes (inl full) = inl full
+clean_ends left bytes (inr closed) = inr (inl closed.1)
+
+pub whole_are_open : (sectors : ℕ) (bytes : List ℕ) (blocks : List (List ℕ)) → AreWhole sectors bytes blocks → AreOpen sectors bytes blocks
+whole_are_open sectors bytes blocks whole = (whole.0, whole.1, clean_ends whole.0 (drop (total blocks) bytes) whole.2)
+
+-- where nothing is, no gate is
+pub none_whole : (sectors : ℕ) (blocks : List (List ℕ)) → 0 < sectors → AreWhole sectors [] blocks → ⊥
+none_whole sectors [] some (rest, opens, inl full) = absurd (omega (arith, some, opens, full))
+none_whole sectors [] some (rest, opens, inr closed) = absurd (omega (arith, closed.0))
+none_whole sectors (block ∷ blocks) some (rest, opens, ends) = absurd (omega (arith, opens.0.some, opens.0.whole))
 
 no_block : (left : ℕ) (bytes block : List ℕ) → Ends left bytes → BeginsWith left bytes block → ⊥
 no_block left bytes block (inl none) b = absurd (omega (arith, none, b.some, b.fits))
-no_block left bytes block (inr (inl shut)) b = shut b.open_gate
+no_block left bytes block (inr (inl shut)) b = shut b.gate
 no_block left bytes block (inr (inr (inl none))) b = absurd (omega (arith, none, b.some))
 no_block left bytes block (inr (inr (inr (inl past)))) b = absurd (omega (arith, past, b.fits))
 no_block left bytes block (inr (inr (inr (inr short)))) b = absurd (omega (arith, short, b.whole))

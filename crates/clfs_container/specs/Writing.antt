@@ -1,19 +1,22 @@
 -- Blocks that are written behind the open blocks of a file.
 use Rattle.std.specs.Prelude.{◌≡◌, ◌≢◌, ◌⊎◌, ℕ, ◌+◌, ◌<◌, ◌≤◌, List, ◌∷◌, ◌++◌, length, take, drop, slice_index}
+use Rattle.clfs_lsn.specs.Format.{open_gate}
 use Rattle.clfs_disk.specs.Files.{Files}
 use Rattle.clfs_disk.specs.State.{DiskState, Leaves}
-use Rattle.clfs_container.specs.OpenBlocks.{open_gate_byte, Opens, total}
+use Rattle.clfs_container.specs.OpenBlocks.{Opens, total}
 
--- A file has these open blocks, and then so many sectors, the first of which begins at this place with a closed gate.
+-- A file has these open blocks, and then so many sectors, the first of which begins at this place with a gate that is there
+-- and closed.
 pub record IsBehind (sectors file : ℕ) (blocks : List (List ℕ)) (rest at : ℕ) (files : Files) : Type 0 where
   pub opens : Opens sectors (files file) blocks rest
   pub place : total blocks ≡ at
-  pub closed : slice_index (files file) at ≢ open_gate_byte
+  pub there : at < length (files file)
+  pub closed : slice_index (files file) at ≢ open_gate
 
--- A file has these open blocks, and then no sector or a closed gate.
+-- A file has these open blocks, and then no sector or a gate that is there and closed.
 pub record HasBlocks (sectors file : ℕ) (blocks : List (List ℕ)) (rest : ℕ) (files : Files) : Type 0 where
   pub opens : Opens sectors (files file) blocks rest
-  pub shut : (rest ≡ 0) ⊎ (slice_index (files file) (total blocks) ≢ open_gate_byte)
+  pub shut : (rest ≡ 0) ⊎ ((total blocks < length (files file)) × (slice_index (files file) (total blocks) ≢ open_gate))
 
 -- These bytes stand behind the gate at a place of a file.
 pub record HasBody (file at : ℕ) (body : List ℕ) (files : Files) : Type 0 where
@@ -23,10 +26,10 @@ pub record HasBody (file at : ℕ) (body : List ℕ) (files : Files) : Type 0 wh
 -- The bytes behind a gate that, once it is open, begin with these blocks: behind them no sector is left, or a closed gate
 -- is among the bytes.
 pub record IsGroup (rest : ℕ) (body : List ℕ) (blocks : List (List ℕ)) (left : ℕ) : Type 0 where
-  pub opens : Opens rest (open_gate_byte ∷ body) blocks left
+  pub opens : Opens rest (open_gate ∷ body) blocks left
   pub some : 0 < total blocks
   pub whole : total blocks ≤ length body + 1
-  pub shut : (left ≡ 0) ⊎ ((total blocks ≤ length body) × (slice_index (open_gate_byte ∷ body) (total blocks) ≢ open_gate_byte))
+  pub shut : (left ≡ 0) ⊎ ((total blocks ≤ length body) × (slice_index (open_gate ∷ body) (total blocks) ≢ open_gate))
 
 -- The other files hold what they held.
 abbrev pub OthersStay : ℕ → Files → Files → Type 0

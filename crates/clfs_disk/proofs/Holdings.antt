@@ -1,19 +1,19 @@
 -- What a disk in memory keeps, after each call and after a crash.
-use Rattle.std.proofs.Common.{◌≡◌, ◌≢◌, ◌⊎◌, inl, inr, ⊎_elim, ℕ, ◌+◌, ◌-◌, ◌<◌, ◌≤◌, ◌%◌, Bool, true, false, eqb, leb, ltb, ◌&&◌, cond, List, [], ◌∷◌}
+use Rattle.std.proofs.Common.{◌≡◌, ◌≢◌, ◌⊎◌, inl, inr, ⊎_elim, ℕ, ◌+◌, ◌-◌, ◌^◌, ◌<◌, ◌≤◌, ◌%◌, min, Bool, true, false, eqb, leb, ltb, ◌&&◌, cond, List, [], ◌∷◌}
 use Rattle.std.proofs.Common.{◌++◌, length, get_or, replicate, refl, sym, ◌∙◌, ap, subst, arith, length-append}
-use Rattle.std.proofs.lemmas.List.{take_all, get_or_append_left, get_or_past, append-nil}
+use Rattle.std.proofs.lemmas.List.{take_all, get_or_append_left, get_or_past, append-nil, length_push}
 use Rattle.std.proofs.lemmas.List.FromFn.{length-map-range_with_len, get_or-map-range_with_len}
 use Rattle.std.proofs.lemmas.Bool.Decides.{nat_tests}
-use Rattle.std.proofs.lemmas.Bool.{cases_eq, cases_lt, or_parts}
+use Rattle.std.proofs.lemmas.Bool.{cases_eq, cases_lt, or_parts, lt-ltb, le-ltb}
 use Rattle.clfs_disk.specs.Files.{Files, Unchanged, lengthened, picked, picked_byte}
-use Rattle.clfs_disk.specs.State.{IsSettled, Passes}
-use Rattle.clfs_disk.specs.Record.{Moment, at_rest, after, after_write, after_growth, byte_count, total, replay, Image, recorded}
+use Rattle.clfs_disk.specs.State.{IsSettled, Passes, raised}
+use Rattle.clfs_disk.specs.Record.{Moment, at_rest, after, after_write, after_growth, byte_count, bytes_written, replay, Image, recorded}
 use Rattle.clfs_disk.specs.Copies.{read_files, synced_files, first_files, now_of, IsSound, Holds}
 use Rattle.clfs_disk.specs.declared.record.Event.{Event}
 use Rattle.clfs_disk.specs.declared.record.Event.TheVariants.{Refused, Synced}
 use Rattle.clfs_disk.specs.declared.copies.FileCopies.{FileCopies}
 use Rattle.clfs_disk.proofs.Places.{length-overwritten, overwritten_below, overwritten_above}
-use Rattle.clfs_disk.proofs.Replays.{replay_push, total_push, passes_noted, passes_unnoted, passes_with_faults, image_same, image_at_rest}
+use Rattle.clfs_disk.proofs.Replays.{replay_push, bytes_written_push, passes_noted, passes_unnoted, passes_with_faults, image_same, image_at_rest}
 
 same_number : (f file : ℕ) → f ≡ file → eqb f file ≡ true
 same_number f file is = grind (arith, nat_tests)
@@ -151,7 +151,7 @@ module _ (files : List FileCopies) (calls : List Event) (written : List ℕ) (h 
     unfolding now
     holds_after read synced sound = record {
       count = count ∙ h.count;
-      bytes = ap total is ∙ total_push calls event ∙ omega (arith, h.bytes, wrote, ap (λ (l : List ℕ). length l) are, length-append written new);
+      bytes = ap bytes_written is ∙ bytes_written_push calls event ∙ omega (arith, h.bytes, wrote, ap (λ (l : List ℕ). length l) are, length-append written new);
       read = λ file. read file ∙ ap (λ (m : Moment). m.files file) (sym then_is);
       synced = λ file. synced file ∙ ap (λ (m : Moment). m.synced file) (sym then_is);
       sound = subst IsSound (sym then_is) sound;
@@ -169,7 +169,7 @@ module _ (files : List FileCopies) (calls : List Event) (written : List ℕ) (h 
       (λ (w : List ℕ). replay (at_rest (first_files files)) calls w) are in
       record {
         count = count ∙ h.count;
-        bytes = ap total is ∙ h.bytes ∙ sym (ap (λ (l : List ℕ). length l) are);
+        bytes = ap bytes_written is ∙ h.bytes ∙ sym (ap (λ (l : List ℕ). length l) are);
         read = λ file. read file ∙ h.read file ∙ ap (λ (m : Moment). m.files file) (sym same);
         synced = λ file. synced file ∙ h.synced file ∙ ap (λ (m : Moment). m.synced file) (sym same);
         sound = subst IsSound (sym same) h.sound;
@@ -182,17 +182,17 @@ holds_fresh files calls written count none no_bytes read synced =
     let rest : now_of files calls written ≡ at_rest (first_files files) = ap (λ (l : List Event). replay (at_rest (first_files files)) l written) none in
     record {
       count = count;
-      bytes = ap total none ∙ sym (ap (λ (l : List ℕ). length l) no_bytes);
+      bytes = ap bytes_written none ∙ sym (ap (λ (l : List ℕ). length l) no_bytes);
       read = λ file. read file ∙ ap (λ (m : Moment). m.files file) (sym rest);
       synced = λ file. synced file ∙ ap (λ (m : Moment). m.synced file) (sym rest);
       sound = subst IsSound (sym rest) (sound_at_rest (first_files files));
     }
 
 -- where the record ends with nothing pending, nothing is
-pub settled_at_rest : (start rested : Files) (calls : List Event) (written : List ℕ) (files : Files) (faults : ℕ)
+pub settled_at_rest : (start rested : Files) (calls : List Event) (written : List ℕ) (files : Files) (made faults : ℕ)
     → replay (at_rest start) calls written ≡ at_rest rested → Unchanged rested files
-    → IsSettled (recorded start calls written files faults)
-settled_at_rest start rested calls written files faults is same = record {
+    → IsSettled (recorded start calls written files made faults)
+settled_at_rest start rested calls written files made faults is same = record {
   honest = (refl, refl);
   only = λ image at file.
       let now : Image (at_rest rested) image = subst (λ (m : Moment). Image m image) (ap (λ (l : List Event). replay (at_rest start) l written)
@@ -209,27 +209,50 @@ holds_refused files calls written h calls' written' true is are =
 holds_refused files calls written h calls' written' false is are =
     holds_same files calls written h files calls' written' refl (λ file. refl) (λ file. refl) (λ file. refl) is are
 
-pub passes_refused : (start : Files) (calls calls' : List Event) (written written' : List ℕ) (files : Files) (faults faults' : ℕ) (noted : Bool)
-    → calls' ≡ cond noted (calls ++ Refused ∷ []) calls → written' ≡ written → total calls ≡ length written → faults ≤ faults'
-    → Passes Unchanged (recorded start calls written files faults) (recorded start calls' written' files faults')
-passes_refused start calls calls' written written' files faults faults' true is are p le =
-    passes_with_faults Unchanged (recorded start calls written files faults) (recorded start calls' written' files faults) faults'
-    (passes_noted Unchanged start start calls calls' written written' [] Refused files files faults
+pub passes_refused : (start : Files) (calls calls' : List Event) (written written' : List ℕ) (files : Files) (made made' faults faults' : ℕ) (noted : Bool)
+    → calls' ≡ cond noted (calls ++ Refused ∷ []) calls → written' ≡ written → bytes_written calls ≡ length written → faults ≤ faults'
+    → Passes Unchanged (recorded start calls written files made faults) (recorded start calls' written' files made' faults')
+passes_refused start calls calls' written written' files made made' faults faults' true is are p le =
+    passes_with_faults Unchanged (recorded start calls written files made faults) (recorded start calls' written' files made' faults) faults'
+    (passes_noted Unchanged start start calls calls' written written' [] Refused files files made made' faults
     (λ file. refl) is (are ∙ sym (append-nil written)) p refl (λ image at. image_same (replay (at_rest start) calls written) image at))
     le
-passes_refused start calls calls' written written' files faults faults' false is are p le =
-    passes_unnoted Unchanged start start calls calls' written written' files files faults faults' (λ file. refl) is are le
+passes_refused start calls calls' written written' files made made' faults faults' false is are p le =
+    passes_unnoted Unchanged start start calls calls' written written' files files made made' faults faults' (λ file. refl) is are le
 
 -- after a sync nothing is pending
 pub settled_after_sync : (files : List FileCopies) (calls : List Event) (written : List ℕ) → Holds files calls written
-    → (files' : List FileCopies) (calls' : List Event) (written' : List ℕ) (faults : ℕ)
+    → (files' : List FileCopies) (calls' : List Event) (written' : List ℕ) (made faults : ℕ)
     → Unchanged (first_files files) (first_files files') → calls' ≡ calls ++ Synced ∷ [] → written' ≡ written ++ []
     → Unchanged (read_files files) (read_files files')
-    → IsSettled (recorded (first_files files') calls' written' (read_files files') faults)
-settled_after_sync files calls written h files' calls' written' faults first is are read =
+    → IsSettled (recorded (first_files files') calls' written' (read_files files') made faults)
+settled_after_sync files calls written h files' calls' written' made faults first is are read =
     let start : first_files files' ≡ first_files files = λ i. λ file. first file i in
-    settled_at_rest (first_files files') (now_of files calls written).files calls' written' (read_files files') faults
+    settled_at_rest (first_files files') (now_of files calls written).files calls' written' (read_files files') made faults
     (ap (λ (x : Files). replay (at_rest x) calls' written') start ∙ ap (λ (l : List Event). replay (at_rest (first_files files)) l written') is
     ∙ ap (λ (w : List ℕ). replay (at_rest (first_files files)) (calls ++ Synced ∷ []) w) are
     ∙ replay_push (at_rest (first_files files)) calls written [] Synced h.bytes refl)
     (λ file. read file ∙ h.read file)
+
+-- a call that is noted where the record has a place for it is counted too
+pub counted_after : (events events' : List Event) (event : Event) (calls calls' room room' : ℕ) → length events ≡ min calls room → length events < room
+    → room < 2 ^ 64 → events' ≡ events ++ event ∷ [] → calls' ≡ raised 1 calls → room' ≡ room → length events' ≡ min calls' room'
+counted_after events events' event calls calls' room room' counted place small is more same =
+    omega (arith, counted, place, small, more, same, ap (λ (l : List Event). length l) is, length_push events event)
+
+-- a call that is refused is counted, and noted where the record has a place for it
+pub counted_refused : (events events' : List Event) (size calls calls' room room' : ℕ) → size ≡ length events → length events ≡ min calls room
+    → room < 2 ^ 64 → calls < 2 ^ 64 → events' ≡ cond (ltb size room) (events ++ Refused ∷ []) events → calls' ≡ raised 1 calls → room' ≡ room
+    → length events' ≡ min calls' room'
+counted_refused events events' size calls calls' room room' long counted small few is more same = ⊎_elim
+    (λ (place : size < room). counted_after events events' Refused calls calls' room room' counted (omega (arith, long, place)) small
+    (is ∙ ap (λ b. cond b (events ++ Refused ∷ []) events) (lt-ltb size room place)) more same)
+    (λ (full : room ≤ size).
+    let still : length events' ≡ length events = ap (λ (l : List Event). length l)
+    (is ∙ ap (λ b. cond b (events ++ Refused ∷ []) events) (le-ltb size room full)) in
+    omega (arith, counted, full, long, small, few, more, same, still))
+    (cases_lt size room)
+
+-- an empty record of no calls
+pub counted_none : (events : List Event) (room : ℕ) → events ≡ [] → length events ≡ min 0 room
+counted_none events room none = omega (arith, ap (λ (l : List Event). length l) none)

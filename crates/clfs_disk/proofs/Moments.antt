@@ -1,8 +1,8 @@
 -- How calls on a disk are joined.
-use Rattle.std.proofs.Common.{◌≡◌, ⊎_elim, ℕ, ◌<◌, ◌≤◌, sym, ◌∙◌, subst, arith, refl, IsTrue}
+use Rattle.std.proofs.Common.{◌≡◌, ⊎_elim, ℕ, ◌+◌, ◌<◌, ◌≤◌, sym, ◌∙◌, subst, arith, refl, IsTrue}
 use Rattle.std.proofs.lemmas.Bool.{cases_lt}
 use Rattle.clfs_disk.specs.Files.{Files, Unchanged, TornIn, GrownIn}
-use Rattle.clfs_disk.specs.State.{DiskState, Nature, Passes, Later, Leaves, IsSettled, Rises}
+use Rattle.clfs_disk.specs.State.{DiskState, Nature, Passes, Later, Leaves, IsSettled, Rises, raised}
 
 pub same_files : (old new : Files) → Unchanged old new → new ≡ old
 same_files old new same = λ i. λ file. same file i
@@ -37,9 +37,9 @@ passes_then R S T a b c both first second p q = record {
         (cases_lt a.clock b.clock)
 
 -- a call after which the disk's images are those of before
-pub passes_still : (R : Files → Files → Type 0) (disk : DiskState) (files : Files) (faults : ℕ) → disk.faults ≤ faults
-    → Passes R disk (record disk { files = files; faults = faults })
-passes_still R disk files faults le = record {
+pub passes_still : (R : Files → Files → Type 0) (disk : DiskState) (files : Files) (calls faults : ℕ) → disk.faults ≤ faults
+    → Passes R disk (record disk { files = files; calls = calls; faults = faults })
+passes_still R disk files calls faults le = record {
   later = omega arith;
   past = λ moment image le at. at;
   kept = λ moment image le at. at;
@@ -144,6 +144,10 @@ rises_later a b c rise le = omega (arith, rise, le)
 
 pub later_rises : (a b c : ℕ) → a ≤ b → Rises b c → Rises a c
 later_rises a b c le rise = omega (arith, rise, le)
+
+-- counts are raised one after the other
+pub raised_then : (first second count : ℕ) → raised second (raised first count) ≡ raised (first + second) count
+raised_then first second count = omega arith
 
 -- what each image has, the disk as it reads has
 pub as_read : (P : Files → Type 0) (a b : DiskState) → Leaves P a b → b.image_at b.clock b.files → P b.files

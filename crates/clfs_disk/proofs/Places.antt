@@ -96,3 +96,11 @@ grown_in_lengthened file len old new grown = record {
   here = subst (Grown len (old file)) (sym grown.here) (grown_lengthened (old file) len);
   elsewhere = grown.elsewhere;
 }
+
+pub long_lengthened : (file len : ℕ) (old new : Files) → LengthenedIn file len old new → len ≤ length (new file)
+long_lengthened file len old new grown = omega (
+  arith,
+  ap (λ (l : List ℕ). length l) grown.here,
+  length-append (old file) (replicate (len - length (old file)) 0),
+  length-replicate {A = ℕ} (len - length (old file)) 0,
+)

@@ -8,12 +8,12 @@ use Rattle.std.proofs.lemmas.Bool.{cases_eq, cases_lt}
 use Rattle.std.proofs.lemmas.Bool.Decides.{nat_tests}
 use Rattle.clfs_disk.specs.Files.{Files, Unchanged, Torn, Grown, InFile, TornIn, GrownIn, overwritten, lengthened, WrittenIn, LengthenedIn}
 use Rattle.clfs_disk.specs.State.{DiskState, Passes}
-use Rattle.clfs_disk.specs.Record.{Moment, at_rest, after, after_write, after_growth, byte_count, total, replay, Image, recorded}
+use Rattle.clfs_disk.specs.Record.{Moment, at_rest, after, after_write, after_growth, byte_count, bytes_written, replay, Image, recorded}
 use Rattle.clfs_disk.specs.declared.record.Event.{Event}
 use Rattle.clfs_disk.proofs.Places.{length-overwritten, overwritten_below, overwritten_inside, overwritten_above}
 
 -- a call that is noted last comes last
-pub replay_push : (m : Moment) (events : List Event) (bytes new : List ℕ) (event : Event) → total events ≡ length bytes → byte_count event ≡ length new
+pub replay_push : (m : Moment) (events : List Event) (bytes new : List ℕ) (event : Event) → bytes_written events ≡ length bytes → byte_count event ≡ length new
     → replay m (events ++ event ∷ []) (bytes ++ new) ≡ after event new (replay m events bytes)
 replay_push m [] [] new event p q = ap (λ (l : List ℕ). after event l m) (take_all (byte_count event) new (omega (arith, q)))
 replay_push m [] (b ∷ bytes) new event p q = absurd (omega (arith, p))
@@ -26,7 +26,7 @@ replay_push m (e ∷ events) bytes new event p q =
     ∙ replay_push (after e (take k bytes) m) events (drop k bytes) new event (omega (arith, p, length-drop k bytes)) q
 
 -- bytes of later calls change nothing
-pub replay_more : (m : Moment) (events : List Event) (bytes new : List ℕ) → total events ≤ length bytes → replay m events (bytes ++ new) ≡ replay m events bytes
+pub replay_more : (m : Moment) (events : List Event) (bytes new : List ℕ) → bytes_written events ≤ length bytes → replay m events (bytes ++ new) ≡ replay m events bytes
 replay_more m [] bytes new le = refl
 replay_more m (e ∷ events) bytes new le =
     let k = byte_count e in
@@ -36,22 +36,22 @@ replay_more m (e ∷ events) bytes new le =
     ∙ ap (λ (l : List ℕ). replay (after e (take k bytes) m) events l) back
     ∙ replay_more (after e (take k bytes) m) events (drop k bytes) new (omega (arith, le, length-drop k bytes))
 
-total-take : (n : ℕ) (events : List Event) → total (take n events) ≤ total events
-total-take zero events = omega arith
-total-take (suc n) [] = omega arith
-total-take (suc n) (e ∷ events) = omega (arith, total-take n events)
+bytes_written-take : (n : ℕ) (events : List Event) → bytes_written (take n events) ≤ bytes_written events
+bytes_written-take zero events = omega arith
+bytes_written-take (suc n) [] = omega arith
+bytes_written-take (suc n) (e ∷ events) = omega (arith, bytes_written-take n events)
 
-pub total_push : (events : List Event) (event : Event) → total (events ++ event ∷ []) ≡ total events + byte_count event
-total_push [] event = omega arith
-total_push (e ∷ events) event = omega (arith, total_push events event)
+pub bytes_written_push : (events : List Event) (event : Event) → bytes_written (events ++ event ∷ []) ≡ bytes_written events + byte_count event
+bytes_written_push [] event = omega arith
+bytes_written_push (e ∷ events) event = omega (arith, bytes_written_push events event)
 
-module _ (start : Files) (calls : List Event) (written new : List ℕ) (event : Event) (p : total calls ≡ length written)
+module _ (start : Files) (calls : List Event) (written new : List ℕ) (event : Event) (p : bytes_written calls ≡ length written)
     (q : byte_count event ≡ length new) where
   -- earlier moments stay
   earlier : (moment : ℕ) → moment ≤ length calls → replay (at_rest start) (take moment (calls ++ event ∷ [])) (written ++ new) ≡ replay (at_rest start)
       (take moment calls) written
   earlier moment le = ap (λ (l : List Event). replay (at_rest start) l (written ++ new)) (take-append-le moment calls (event ∷ []) le)
-      ∙ replay_more (at_rest start) (take moment calls) written new (omega (arith, total-take moment calls, p))
+      ∙ replay_more (at_rest start) (take moment calls) written new (omega (arith, bytes_written-take moment calls, p))
 
   latest : (moment : ℕ) → length calls < moment → replay (at_rest start) (take moment (calls ++ event ∷ [])) (written ++ new) ≡ after event new
       (replay (at_rest start) calls written)
@@ -60,11 +60,11 @@ module _ (start : Files) (calls : List Event) (written new : List ℕ) (event : 
       ∙ replay_push (at_rest start) calls written new event p q
 
   -- a call that is noted: what a crash may leave comes from what it might by a change
-  passes_push : (R : Files → Files → Type 0) (files files' : Files) (faults : ℕ)
+  passes_push : (R : Files → Files → Type 0) (files files' : Files) (made made' faults : ℕ)
       → ((image : Files) → Image (after event new (replay (at_rest start) calls written)) image → (before : Files)
       × Image (replay (at_rest start) calls written) before × R before image)
-      → Passes R (recorded start calls written files faults) (recorded start (calls ++ event ∷ []) (written ++ new) files' faults)
-  passes_push R files files' faults changed = record {
+      → Passes R (recorded start calls written files made faults) (recorded start (calls ++ event ∷ []) (written ++ new) files' made' faults)
+  passes_push R files files' made made' faults changed = record {
     later = omega (arith, length_push calls event);
     past = λ moment image le at. subst (λ (m : Moment). Image m image) (earlier moment le) at;
     kept = λ moment image le at. subst (λ (m : Moment). Image m image) (sym (earlier moment le)) at;
@@ -84,23 +84,23 @@ same_function old new same = λ i. λ file. (sym (same file)) i
 
 -- the same where the record and the first files are known by equations
 pub passes_noted : (R : Files → Files → Type 0) (start start' : Files) (calls calls' : List Event) (written written' new : List ℕ) (event : Event)
-    (files files' : Files) (faults : ℕ)
-    → Unchanged start start' → calls' ≡ calls ++ event ∷ [] → written' ≡ written ++ new → total calls ≡ length written → byte_count event ≡ length new
+    (files files' : Files) (made made' faults : ℕ)
+    → Unchanged start start' → calls' ≡ calls ++ event ∷ [] → written' ≡ written ++ new → bytes_written calls ≡ length written → byte_count event ≡ length new
     → ((image : Files) → Image (after event new (replay (at_rest start) calls written)) image → (before : Files)
     × Image (replay (at_rest start) calls written) before × R before image)
-    → Passes R (recorded start calls written files faults) (recorded start' calls' written' files' faults)
-passes_noted R start start' calls calls' written written' new event files files' faults same is are p q changed =
-    subst₃ (λ (x : Files) (l : List Event) (w : List ℕ). Passes R (recorded start calls written files faults) (recorded x l w files' faults))
+    → Passes R (recorded start calls written files made faults) (recorded start' calls' written' files' made' faults)
+passes_noted R start start' calls calls' written written' new event files files' made made' faults same is are p q changed =
+    subst₃ (λ (x : Files) (l : List Event) (w : List ℕ). Passes R (recorded start calls written files made faults) (recorded x l w files' made' faults))
     (same_function start start' same) (sym is) (sym are)
-    (passes_push start calls written new event p q R files files' faults changed)
+    (passes_push start calls written new event p q R files files' made made' faults changed)
 
 -- a call that isn't noted
 pub passes_unnoted : (R : Files → Files → Type 0) (start start' : Files) (calls calls' : List Event) (written written' : List ℕ) (files files' : Files)
-    (faults faults' : ℕ)
+    (made made' faults faults' : ℕ)
     → Unchanged start start' → calls' ≡ calls → written' ≡ written → faults ≤ faults'
-    → Passes R (recorded start calls written files faults) (recorded start' calls' written' files' faults')
-passes_unnoted R start start' calls calls' written written' files files' faults faults' same is are le =
-    subst₃ (λ (x : Files) (l : List Event) (w : List ℕ). Passes R (recorded start calls written files faults) (recorded x l w files' faults'))
+    → Passes R (recorded start calls written files made faults) (recorded start' calls' written' files' made' faults')
+passes_unnoted R start start' calls calls' written written' files files' made made' faults faults' same is are le =
+    subst₃ (λ (x : Files) (l : List Event) (w : List ℕ). Passes R (recorded start calls written files made faults) (recorded x l w files' made' faults'))
     (same_function start start' same) (sym is) (sym are)
     (record {
       later = omega arith;

@@ -2,7 +2,7 @@
 use Rattle.std.specs.Prelude.{◌≡◌, ℕ, false, List, length, slice_index}
 use Rattle.clfs_disk.specs.Files.{Files, Unchanged}
 use Rattle.clfs_disk.specs.Table.{files_by}
-use Rattle.clfs_disk.specs.Record.{Moment, at_rest, replay, total}
+use Rattle.clfs_disk.specs.Record.{Moment, at_rest, replay, bytes_written}
 use Rattle.clfs_disk.specs.declared.record.Event.{Event}
 use Rattle.clfs_disk.specs.declared.copies.FileCopies.{FileCopies}
 
@@ -30,7 +30,7 @@ pub record IsSound (m : Moment) : Type 0 where
 -- The copies are those that the record tells, and the record has the bytes of its writes.
 pub record Holds (files : List FileCopies) (calls : List Event) (written : List ℕ) : Type 0 where
   pub count : length files ≡ 257
-  pub bytes : total calls ≡ length written
+  pub bytes : bytes_written calls ≡ length written
   pub read : Unchanged (now_of files calls written).files (read_files files)
   pub synced : Unchanged (now_of files calls written).synced (synced_files files)
   pub sound : IsSound (now_of files calls written)

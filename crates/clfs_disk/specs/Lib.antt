@@ -1,5 +1,8 @@
 pub mod Files
+pub mod Overwriting
+pub mod Joining
 pub mod State
+pub mod Calls
 pub mod Table
 pub mod Record
 pub mod Copies

@@ -47,9 +47,9 @@ byte_count (Grew file len) = 0
 byte_count Synced = 0
 
 -- How many bytes calls wrote.
-abbrev pub total : List Event → ℕ
-total [] = 0
-total (event ∷ events) = byte_count event + total events
+abbrev pub bytes_written : List Event → ℕ
+bytes_written [] = 0
+bytes_written (event ∷ events) = byte_count event + bytes_written events
 
 -- The moment after calls, the first call first. The bytes of their writes stand one after another.
 abbrev pub replay : Moment → List Event → List ℕ → Moment
@@ -61,12 +61,14 @@ abbrev pub Image : Moment → Files → Type 0
 Image m image = (file : ℕ) → (length (image file) ≡ length (m.files file))
     × ((i : ℕ) → m.pending file i ≡ false → slice_index (image file) i ≡ slice_index (m.files file) i)
 
--- What a disk shows that began with these files, after these calls, of which only the first so many count at an earlier moment.
-abbrev pub recorded : Files → List Event → List ℕ → Files → ℕ → DiskState
-recorded start calls written files faults = record {
+-- What a disk shows that began with these files, after the calls of its record, of which only the first so many count at an
+-- earlier moment. So many calls were made of it, those beyond the record's room among them.
+abbrev pub recorded : Files → List Event → List ℕ → Files → ℕ → ℕ → DiskState
+recorded start events written files calls faults = record {
   files = files;
-  clock = length calls;
-  image_at = λ moment image. Image (replay (at_rest start) (take moment calls) written) image;
+  clock = length events;
+  image_at = λ moment image. Image (replay (at_rest start) (take moment events) written) image;
+  calls = calls;
   faults = faults;
   nature = record { tells_contents = true; tells_images = true; steady = false };
 }

@@ -1,5 +1,5 @@
 -- What a disk shows at one time, and how a call changes it.
-use Rattle.std.specs.Prelude.{◌≡◌, ℕ, ◌+◌, ◌-◌, ◌^◌, ◌<◌, ◌≤◌, min, Bool, IsTrue}
+use Rattle.std.specs.Prelude.{◌≡◌, ℕ, ◌+◌, ◌-◌, ◌^◌, ◌<◌, ◌≤◌, min, Bool, IsTrue, []}
 use Rattle.clfs_disk.specs.Files.{Files, Unchanged}
 
 -- What a disk is by its making, which no call changes.
@@ -9,11 +9,12 @@ pub record Nature : Type 0 where
   pub steady : Bool
 
 -- What a disk shows: what a read gives where contents are told, the moment, what a crash at each moment up to now leaves
--- where images are told, how often the disk has failed, and its nature.
+-- where images are told, how many calls were made of the disk, how often it has failed, and its nature.
 pub record DiskState : Type 1 where
   pub files : Files
   pub clock : ℕ
   pub image_at : ℕ → Files → Type 0
+  pub calls : ℕ
   pub faults : ℕ
   pub nature : Nature
 
@@ -29,6 +30,12 @@ IsSteady disk = IsTrue disk.nature.steady
 abbrev pub IsHonest : DiskState → Type 0
 IsHonest disk = TellsContents disk × IsTrue disk.nature.tells_images
 
+-- A disk at first: its files are empty, and no call was made of it.
+pub record IsFirst (disk : DiskState) : Type 0 where
+  pub empty : (file : ℕ) → disk.files file ≡ []
+  pub calls : disk.calls ≡ 0
+  pub faults : disk.faults ≡ 0
+
 -- A crash now leaves this.
 abbrev pub MayLeave : DiskState → Files → Type 0
 MayLeave disk image = disk.image_at disk.clock image
@@ -37,6 +44,10 @@ MayLeave disk image = disk.image_at disk.clock image
 pub record IsSettled (disk : DiskState) : Type 0 where
   pub honest : IsHonest disk
   pub only : (image : Files) → MayLeave disk image → Unchanged disk.files image
+
+-- A count of calls or of faults after so many more. It stands still at the end of its type.
+abbrev pub raised : ℕ → ℕ → ℕ
+raised more count = min (count + more) (2 ^ 64 - 1)
 
 -- The count of faults rose, or it stands at the end of its type.
 abbrev pub Rises : ℕ → ℕ → Type 0

@@ -10,6 +10,7 @@ steady_shown disk = record {
   files = files_of disk.files.items;
   clock = 0;
   image_at = λ moment image. Unit {0};
+  calls = disk.calls;
   faults = disk.faults;
   nature = record { tells_contents = true; tells_images = false; steady = true };
 }

@@ -1,9 +1,9 @@
 // A disk that stops: it passes so many calls on to another disk, and fails each one after. So the other disk is as that
 // many calls left it.
-ghost use Rattle.std.specs.Prelude.{◌≡◌, ◌+◌, ◌-◌, ◌^◌, ◌≤◌, ◌<◌, min, length, take, drop, false, IfOk, OnOk, OnErr, IsOk, IsErr, IsErrOf};
-ghost use Rattle.clfs_disk.specs.Files.{found_count, TornIn, GrownIn, WrittenIn, LengthenedIn, Unchanged};
-ghost use Rattle.clfs_disk.specs.State.{TellsContents, IsSteady, IsHonest, IsSettled, Passes, Rises};
-ghost use Rattle.clfs_disk.specs.Fuse.{inner_of, passes_of, fuse_shown};
+ghost use Rattle.std.specs.Prelude.{◌≡◌, ◌+◌, ◌-◌, ◌^◌, ◌≤◌, ◌<◌, min, OnOk, OnErr, IsErrOf};
+ghost use Rattle.clfs_disk.specs.State.{Rises, raised};
+ghost use Rattle.clfs_disk.specs.Calls.{Reads, Writes, Grows, Syncs};
+ghost use Rattle.clfs_disk.specs.Fuse.{inner_of, passes_of, fuse_shown, TakesPass};
 
 use crate::{Disk, Failed, GrowRefusal};
 
@@ -20,6 +20,7 @@ impl<D: Disk> Fuse<D> {
     pub fn new(disk: D, passes: u64) -> Fuse<D>
         ensures inner { inner_of result ≡ disk }
         ensures passes { passes_of result ≡ passes }
+        ensures calls { (fuse_shown D.state result).calls ≡ raised 0 (D.state disk).calls }
         ensures faults { (fuse_shown D.state result).faults ≡ (D.state disk).faults }
     {
         Fuse {
@@ -64,71 +65,38 @@ impl<D: Disk> Disk for Fuse<D> {
 
     ghost reads_as_image = { λ fuse honest. D.reads_as_image fuse.inner honest };
 
-    /// Takes one of the passes. Where none is left it fails, and the other disk is as it was. Where one is left, it fails
-    /// only with the other disk.
+    /// Takes one of the passes. Where none is left it fails, and the other disk is as it was. Where one is left, it makes the
+    /// one call of the other disk, and fails only with it.
     fn read(&mut self, file: u16, at: u64, out: &mut [u8]) -> Result<usize, Failed>
         requires { file ≤ 256 }
-        ensures count { IfOk result (λ n. n ≤ length out.old) }
-        ensures found { IfOk result (λ n. TellsContents (fuse_shown D.state self.old) →
-            (n ≡ found_count ((fuse_shown D.state self.old).files file) at (length out.old))
-            × (take n out.new ≡ take n (drop at ((fuse_shown D.state self.old).files file)))) }
-        ensures same { Unchanged (fuse_shown D.state self.old).files (fuse_shown D.state self.new).files }
-        ensures time { Passes Unchanged (fuse_shown D.state self.old) (fuse_shown D.state self.new) }
-        ensures cause { OnErr result (Rises (fuse_shown D.state self.old).faults (fuse_shown D.state self.new).faults) }
-        ensures steady { IsSteady (fuse_shown D.state self.old) →
-            IsOk result × ((fuse_shown D.state self.new).faults ≡ (fuse_shown D.state self.old).faults) }
-        ensures passes { passes_of self.new ≡ passes_of self.old - 1 }
-        ensures stopped { passes_of self.old ≡ 0 → IsErr result }
-        ensures same_inner { passes_of self.old ≡ 0 → inner_of self.new ≡ inner_of self.old }
-        ensures passed { 0 < passes_of self.old → OnErr result
-            (Rises (D.state (inner_of self.old)).faults (D.state (inner_of self.new)).faults) }
+        ensures call { Reads file at out.old out.new result (fuse_shown D.state self.old) (fuse_shown D.state self.new) }
+        ensures pass { TakesPass D.state result self.old self.new }
     {
         take_pass(&mut self.left, &mut self.refused)?;
         self.inner.read(file, at, out)
     }
 
-    /// Takes one of the passes. Where none is left it fails, and the other disk is as it was. Where one is left, it fails
-    /// only with the other disk.
+    /// Takes one of the passes. Where none is left it fails, and the other disk is as it was. Where one is left, it makes the
+    /// one call of the other disk, and fails only with it.
     fn write(&mut self, file: u16, at: u64, bytes: &[u8]) -> Result<(), Failed>
         requires { file ≤ 256 }
-        ensures written { OnOk result (TellsContents (fuse_shown D.state self.old) →
-            (at + length bytes.now ≤ length ((fuse_shown D.state self.old).files file))
-            × WrittenIn file at bytes.now (fuse_shown D.state self.old).files (fuse_shown D.state self.new).files) }
-        ensures torn { TornIn file at (length bytes.now) (fuse_shown D.state self.old).files (fuse_shown D.state self.new).files }
-        ensures time { Passes (TornIn file at (length bytes.now)) (fuse_shown D.state self.old) (fuse_shown D.state self.new) }
-        ensures cause { OnErr result (Rises (fuse_shown D.state self.old).faults (fuse_shown D.state self.new).faults) }
-        ensures steady { IsSteady (fuse_shown D.state self.old) →
-            at + length bytes.now ≤ length ((fuse_shown D.state self.old).files file)
-            → IsOk result × ((fuse_shown D.state self.new).faults ≡ (fuse_shown D.state self.old).faults) }
-        ensures passes { passes_of self.new ≡ passes_of self.old - 1 }
-        ensures stopped { passes_of self.old ≡ 0 → IsErr result }
-        ensures same_inner { passes_of self.old ≡ 0 → inner_of self.new ≡ inner_of self.old }
-        ensures passed { 0 < passes_of self.old → OnErr result
-            (Rises (D.state (inner_of self.old)).faults (D.state (inner_of self.new)).faults) }
+        ensures call { Writes file at bytes.now result (fuse_shown D.state self.old) (fuse_shown D.state self.new) }
+        ensures pass { TakesPass D.state result self.old self.new }
     {
         take_pass(&mut self.left, &mut self.refused)?;
         self.inner.write(file, at, bytes)
     }
 
-    /// Takes one of the passes. Where none is left it fails, and the other disk is as it was. Where one is left, it fails
-    /// only with the other disk.
+    /// Takes one of the passes. Where none is left it fails, and the other disk is as it was. Where one is left, it makes the
+    /// one call of the other disk, and fails only with it.
     fn grow(&mut self, file: u16, len: u64) -> Result<(), GrowRefusal>
         requires { file ≤ 256 }
-        ensures grown { OnOk result (TellsContents (fuse_shown D.state self.old) →
-            LengthenedIn file len (fuse_shown D.state self.old).files (fuse_shown D.state self.new).files) }
-        ensures longer { GrownIn file len (fuse_shown D.state self.old).files (fuse_shown D.state self.new).files }
-        ensures time { Passes (GrownIn file len) (fuse_shown D.state self.old) (fuse_shown D.state self.new) }
-        ensures no_memory { IsErrOf result GrowRefusal.NoMemory →
-            Unchanged (fuse_shown D.state self.old).files (fuse_shown D.state self.new).files
-            × Passes Unchanged (fuse_shown D.state self.old) (fuse_shown D.state self.new)
-            × ((fuse_shown D.state self.new).faults ≡ (fuse_shown D.state self.old).faults) }
-        ensures cause { IsErrOf result GrowRefusal.Failed →
-            Rises (fuse_shown D.state self.old).faults (fuse_shown D.state self.new).faults }
-        ensures steady { IsSteady (fuse_shown D.state self.old) → (IsErrOf result GrowRefusal.Failed → ⊥)
-            × ((fuse_shown D.state self.new).faults ≡ (fuse_shown D.state self.old).faults) }
+        ensures call { Grows file len result (fuse_shown D.state self.old) (fuse_shown D.state self.new) }
         ensures passes { passes_of self.new ≡ passes_of self.old - 1 }
         ensures stopped { passes_of self.old ≡ 0 → IsErrOf result GrowRefusal.Failed }
         ensures same_inner { passes_of self.old ≡ 0 → inner_of self.new ≡ inner_of self.old }
+        ensures inner_calls { 0 < passes_of self.old → (IsErrOf result GrowRefusal.NoMemory → ⊥) →
+            (D.state (inner_of self.new)).calls ≡ raised 1 (D.state (inner_of self.old)).calls }
         ensures passed { 0 < passes_of self.old → IsErrOf result GrowRefusal.Failed →
             Rises (D.state (inner_of self.old)).faults (D.state (inner_of self.new)).faults }
     {
@@ -138,20 +106,11 @@ impl<D: Disk> Disk for Fuse<D> {
         self.inner.grow(file, len)
     }
 
-    /// Takes one of the passes. Where none is left it fails, and the other disk is as it was. Where one is left, it fails
-    /// only with the other disk.
+    /// Takes one of the passes. Where none is left it fails, and the other disk is as it was. Where one is left, it makes the
+    /// one call of the other disk, and fails only with it.
     fn sync(&mut self) -> Result<(), Failed>
-        ensures settled { OnOk result (IsHonest (fuse_shown D.state self.old) → IsSettled (fuse_shown D.state self.new)) }
-        ensures same { Unchanged (fuse_shown D.state self.old).files (fuse_shown D.state self.new).files }
-        ensures time { Passes Unchanged (fuse_shown D.state self.old) (fuse_shown D.state self.new) }
-        ensures cause { OnErr result (Rises (fuse_shown D.state self.old).faults (fuse_shown D.state self.new).faults) }
-        ensures steady { IsSteady (fuse_shown D.state self.old) →
-            IsOk result × ((fuse_shown D.state self.new).faults ≡ (fuse_shown D.state self.old).faults) }
-        ensures passes { passes_of self.new ≡ passes_of self.old - 1 }
-        ensures stopped { passes_of self.old ≡ 0 → IsErr result }
-        ensures same_inner { passes_of self.old ≡ 0 → inner_of self.new ≡ inner_of self.old }
-        ensures passed { 0 < passes_of self.old → OnErr result
-            (Rises (D.state (inner_of self.old)).faults (D.state (inner_of self.new)).faults) }
+        ensures call { Syncs result (fuse_shown D.state self.old) (fuse_shown D.state self.new) }
+        ensures pass { TakesPass D.state result self.old self.new }
     {
         take_pass(&mut self.left, &mut self.refused)?;
         self.inner.sync()

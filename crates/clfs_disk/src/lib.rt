@@ -11,6 +11,7 @@ mod bytes;
 mod copies;
 mod disk;
 mod fuse;
+mod laws;
 mod memory;
 mod record;
 mod steady;
@@ -18,9 +19,7 @@ mod synced;
 
 pub use disk::{Disk, Failed, GrowRefusal};
 pub use fuse::Fuse;
+pub use laws::{calls_join, overwritten_bytes_stand_in_place};
 pub use memory::Memory;
 pub use steady::Steady;
 pub use synced::write_synced;
-
-#[cfg(test)]
-mod tests;

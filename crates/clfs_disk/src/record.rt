@@ -1,7 +1,6 @@
 // The record of a disk in memory: each call that it did, with the bytes of the writes, in room that was taken at first. So
 // a call that is recorded never wants memory.
-ghost use Rattle.std.specs.Prelude.{◌≡◌, ◌+◌, ◌<◌, ◌≤◌, ◌++◌, ◌↔◌, [], ◌∷◌, length, IsTrue, IfOk, ◌==◌, nat_lt, if◌then◌else◌, vec_len, vec_capacity};
-ghost use Rattle.std.specs.List.{list_any};
+ghost use Rattle.std.specs.Prelude.{◌≡◌, ◌+◌, ◌<◌, ◌≤◌, ◌++◌, ◌↔◌, [], ◌∷◌, true, length, IsTrue, IfOk, Contains, nat_lt, if◌then◌else◌, vec_len, vec_capacity};
 ghost use Rattle.clfs_disk.specs.declared.record.Event.TheVariants.{Refused, Wrote};
 
 use std::alloc::{AllocError, Global};
@@ -55,7 +54,8 @@ impl Record {
 
     /// Whether the next call has a place in the record.
     pub fn has_call(&self) -> bool
-        ensures { result ≡ nat_lt (vec_len self.now.calls) self.now.call_room }
+        ensures exact { result ≡ nat_lt (vec_len self.now.calls) self.now.call_room }
+        ensures room { result ≡ true → vec_len self.now.calls < self.now.call_room }
     {
         self.calls.len() < self.call_room
     }
@@ -70,7 +70,7 @@ impl Record {
     /// Whether the next call is one of those that are to fail. They are numbered from 1.
     pub fn fails_next(&self) -> bool
         requires { vec_len self.now.calls < self.now.call_room }
-        ensures { result ≡ list_any (λ number. number == vec_len self.now.calls + 1) self.now.failing.items }
+        ensures { IsTrue result ↔ Contains self.now.failing.items (vec_len self.now.calls + 1) }
     {
         let number = self.calls.len() as u64 + 1;
         self.failing.contains(&number)

@@ -1,5 +1,6 @@
 // Files in memory for logs that need no crash: no call fails but a write that ends past its file's end.
 ghost use Rattle.std.specs.Prelude.{◌≡◌, [], ℕ, length, IfOk};
+ghost use Rattle.clfs_disk.specs.State.{IsFirst};
 ghost use Rattle.clfs_disk.specs.Table.{files_of};
 
 use crate::bytes::{has_range, lengthen, make_room, overwrite, read_from};
@@ -11,6 +12,7 @@ use std::alloc::{AllocError, Global};
 #[derive(Drop)]
 pub struct Steady {
     files: Vec<Vec<u8>>,
+    calls: u64,
     faults: u64,
     ghost count: { length files.items ≡ 257 },
 }
@@ -20,11 +22,11 @@ impl Steady {
 
     /// Empty files. Each grows in the memory of its own growth.
     pub fn new(alloc: Global) -> Result<Steady, AllocError>
-        ensures empty { IfOk result (λ disk. (file : ℕ) → (steady_shown disk).files file ≡ []) }
-        ensures faults { IfOk result (λ disk. (steady_shown disk).faults ≡ 0) }
+        ensures { IfOk result (λ disk. IsFirst (steady_shown disk)) }
     {
         Ok(Steady {
             files: empty_files(alloc)?,
+            calls: 0,
             faults: 0,
         })
     }
@@ -43,24 +45,19 @@ fn empty_files(alloc: Global) -> Result<Vec<Vec<u8>>, AllocError>
 }
 
 impl Disk for Steady {
-    ghost use Rattle.std.specs.Prelude.{ℕ, true, false};
-    ghost use Rattle.clfs_disk.specs.Table.{files_of};
+    ghost use Rattle.clfs_disk.specs.Steady.{steady_shown};
 
-    ghost state = { λ disk. record {
-      files = files_of disk.files.items;
-      clock = 0;
-      image_at = λ moment image. Unit {0};
-      faults = disk.faults;
-      nature = record { tells_contents = true; tells_images = false; steady = true };
-    } };
+    ghost state = { steady_shown };
 
     ghost reads_as_image = { λ disk honest. tt };
 
     fn read(&mut self, file: u16, at: u64, out: &mut [u8]) -> Result<usize, Failed> {
+        self.calls = self.calls.saturating_add(1);
         Ok(read_from(&self.files[file as usize], at, out))
     }
 
     fn write(&mut self, file: u16, at: u64, bytes: &[u8]) -> Result<(), Failed> {
+        self.calls = self.calls.saturating_add(1);
         if !has_range(&self.files[file as usize], at, bytes.len()) {
             self.faults = self.faults.saturating_add(1);
             return Err(Failed);
@@ -70,6 +67,7 @@ impl Disk for Steady {
     }
 
     fn grow(&mut self, file: u16, len: u64) -> Result<(), GrowRefusal> {
+        self.calls = self.calls.saturating_add(1);
         let bytes = &mut self.files[file as usize];
         if make_room(bytes, len).is_err() {
             return Err(GrowRefusal::NoMemory);
@@ -79,6 +77,7 @@ impl Disk for Steady {
     }
 
     fn sync(&mut self) -> Result<(), Failed> {
+        self.calls = self.calls.saturating_add(1);
         Ok(())
     }
 }

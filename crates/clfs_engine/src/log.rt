@@ -1,5 +1,5 @@
 // A log of one stream in memory, with its records in one list in the order of their LSNs. A look-up is a search of that list.
-ghost use Rattle.std.specs.Prelude.{◌≡◌, ◌+◌, ◌-◌, ◌%◌, ◌^◌, ◌<◌, ◌≤◌, ◌==◌, IfOk, vec_len, vec_capacity, length, true, find};
+ghost use Rattle.std.specs.Prelude.{◌≡◌, ◌+◌, ◌-◌, ◌^◌, ◌<◌, ◌≤◌, ◌==◌, IfOk, vec_len, vec_capacity, length, true, find};
 ghost use Rattle.std.specs.Option.{option_copied};
 ghost use Rattle.clfs_model.specs.State.{first};
 ghost use Rattle.clfs_model.specs.Reading.{unused_cursor, is_cursor_number};
@@ -167,14 +167,13 @@ fn entry_without_links(lsn: Lsn, bytes: &Bytes) -> Result<LogEntry, AllocError>
 
 // Seals the open block where a new one begins, and flushes all where a container begins.
 fn make_ready(waiting: &mut Vec<Lsn>, before: &Place, after: &Place)
-    requires room { vec_len waiting.old < vec_capacity waiting.old }
-    requires offset { before.now.offset % 512 ≡ 0 }
+    requires { vec_len waiting.old < vec_capacity waiting.old }
     ensures { waiting.new.items ≡ waiting_after before.now after.now waiting.old.items }
 {
     if after.container != before.container {
         waiting.clear();
     } else if after.records == 1 && before.records >= 1 {
-        let start = Lsn::of_number(before.container as u64 * (1 << 32) + before.offset as u64);
+        let start = Lsn::from_parts(before.container, before.offset, 0);
         waiting.push(start).unwrap();
         if waiting.len() >= BUFFERS {
             waiting.clear();

@@ -59,6 +59,7 @@ pub behind_joined : (last : Place) (entry : LogEntry) → last.offset % 512 ≡ 
 behind_joined last entry whole some few at =
     rw (ne_eqb (sequence_of entry.lsn) 0 (λ none. omega (arith, at, whole, some, few, none))) refl
 
+-- a record that joins the open block
 joined_next : (shape : Shape) (last place : Place) (entry : LogEntry) → place.offset % 512 ≡ 0 → 1 ≤ place.records → place.records ≤ 510
     → GoesOnAt last place → entry.lsn ≡ frontier place
     → GoesOnWith last entry (record place { used = place.used + size (length entry.bytes); records = place.records + 1 })
@@ -92,6 +93,7 @@ last_container last place (inl same) = omega (arith, ap (λ (p : Place). p.conta
 last_container last place (inr (inl same)) = omega (arith, ap (λ (p : Place). p.container) same)
 last_container last place (inr (inr further)) = omega (arith, further.0)
 
+-- the same in each of the three ways in which a record is placed
 next_by : (shape : Shape) (last place : Place) (entry : LogEntry) (joining beginning : Bool) → joins shape place (length entry.bytes) ≡ joining
     → IsShape shape → IsWithin shape place → GoesOnAt last place → entry.lsn ≡ (after_by joining beginning place (length entry.bytes)).0
     → GoesOnWith last entry (after_by joining beginning place (length entry.bytes)).1

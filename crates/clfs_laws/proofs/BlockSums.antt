@@ -47,6 +47,7 @@ pub record IsPaid (shape : Shape) (place : Place) (before : List LogEntry) : Typ
   pub short : AllByRecursion (λ (entry : LogEntry). length entry.bytes ≤ longest shape) before
   pub ends : AllByRecursion (EndsWithin shape.container_sectors before) before
 
+-- what follows from what is so of all is so of all
 weaker : (P Q : LogEntry → Type 0) (entries : List LogEntry) → ((entry : LogEntry) → P entry → Q entry) → AllByRecursion P entries
     → AllByRecursion Q entries
 weaker P Q [] more all = tt
@@ -111,14 +112,17 @@ record IsPushed (shape : Shape) (place : Place) (before : List LogEntry) (entry 
   pub below : entry.lsn < frontier place
   pub size_fits : 16 + size (length entry.bytes) ≤ place.used
 
+-- the last of a list is among it
 pub among_last : (before : List LogEntry) (entry : LogEntry) → IsAmong entry (before ++ entry ∷ [])
 among_last [] entry = inl refl
 among_last (first ∷ before) entry = inr (among_last before entry)
 
+-- a place with a record in its block is open
 opened : (shape : Shape) (place : Place) → IsClosed place ⊎ IsOpen shape place → 1 ≤ place.records → IsOpen shape place
 opened shape place (inl closed) some = absurd (omega (arith, closed.1, some))
 opened shape place (inr is) some = is
 
+-- what is known of the records behind one more
 pushed : (shape : Shape) (place : Place) (before : List LogEntry) (entry : LogEntry) → IsPushed shape place before entry
     → AllByRecursion (λ (other : LogEntry). length other.bytes ≤ longest shape) before
     → AllByRecursion (EndsWithin shape.container_sectors before) before
@@ -147,6 +151,7 @@ pushed shape place before entry is short ends =
           (λ other was. end_of_one most place before entry other is.within.offset is.within.end is.used is.of_container is.of_offset was) ends) (last, tt);
     }
 
+-- a record whose LSN has the container and the offset passes the test
 of_block : (container offset : ℕ) (entry : LogEntry) → container_of entry.lsn ≡ container → offset_of entry.lsn ≡ offset
     → is_of_block container offset entry ≡ true
 of_block container offset entry of_container of_offset =
@@ -217,6 +222,7 @@ sealed_above shape place before has = elim (cases_Bool (place.records == 0)) [
       omega (arith, used, has.offset, has.few)
 ]
 
+-- one record more that lies behind the others
 pub paid_push : (shape : Shape) (place : Place) (before : List LogEntry) (entry : LogEntry) → IsShape shape → IsPaid shape place before
     → LiesBehind place entry
     → IsWithin shape (behind place entry) → IsPaid shape (behind place entry) (before ++ entry ∷ [])
@@ -229,6 +235,7 @@ paid_push shape place before entry is has (inr (inr further)) within =
     push_begun shape place before entry (container_of entry.lsn) 0 has further.1 (omega arith)
     (omega (arith, further.0, further.1, has.few, has.offset, has.end, is.largest_container)) within
 
+-- all records that lie behind the others
 pub paid_all : (shape : Shape) (place : Place) (before entries : List LogEntry) → IsShape shape → IsPaid shape place before
     → LieInBlocks shape place entries
     → IsPaid shape (behind_all place entries) (before ++ entries)

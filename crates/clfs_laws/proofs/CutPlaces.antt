@@ -39,6 +39,7 @@ in_block_below lsn other bound same below whole =
     let of_offset : offset_of other ≡ offset_of lsn = eqb-true (offset_of other) (offset_of lsn) both.1 in
     omega (arith, of_container, of_offset, below, whole)
 
+-- no block has records on both sides of the start of a block
 pub splits_none : (records : List LogEntry) (place : Place) → frontier place % 512 ≡ 0 → SplitsNoBlock records place
 splits_none records place whole = λ k d within below. λ j e inside same.
     in_block_below (slice_index_or records k d).lsn (slice_index_or records j e).lsn (frontier place) same below whole
@@ -89,6 +90,7 @@ ends_there place last entries entry container offset used of_container of_offset
 front_of : (s : State) → IsValid s → BeginsBelow (flushed s) (cut s).records s.records
 front_of s valid = below_front (flushed s) s.records (rises s.records valid.records.rising)
 
+-- what is known of the flushed records
 front_paid : (s : State) → IsValid s → HasBlocks s → IsPaid s.shape (behind_all before_all (cut s).records) (cut s).records
 front_paid s valid blocks =
     let front = front_of s valid in
@@ -167,6 +169,7 @@ further_ends s t valid_s valid_t blocks adds turn more start = by_turn turn.cont
         any_among (EndsBlockOf t.records (cut t).place) t.records found.0
         (subst F (sym adds.joined) (among_front s.records adds.more found.0 found.1)) (inr (container, start))
 
+-- where more is flushed than before
 moved_ends : (s t : State) → IsValid s → IsValid t → HasBlocks s → HasBlocks t → Adds s t → IsTurn s t → flushed s < flushed t
     → Any (EndsBlockOf t.records (cut t).place) t.records
 moved_ends s t valid_s valid_t blocks_s blocks_t adds turn more = by_place (cut_goes_on t valid_t blocks_t)

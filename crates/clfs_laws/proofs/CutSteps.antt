@@ -15,6 +15,7 @@ use Rattle.clfs_model.specs.Step.{ReopenStep, Reopens, IsReopened, IsOpenedAnew,
 use Rattle.clfs_model.specs.Storable.{IsStorable}
 use Rattle.clfs_model.specs.Run.{Request, asks, reopens, bad_line, RequestStep, Run, all_fine, fine_outcome, replies_of, state_after, is_no_reopening}
 use Rattle.clfs_model.specs.Valid.{IsValid}
+use Rattle.clfs_space.specs.SpaceLaws.{HasSpaceLaws}
 use Rattle.clfs_laws.specs.Meets.{RequestMeets}
 use Rattle.clfs_laws.proofs.StorableCuts.{storable_cut}
 use Rattle.clfs_laws.proofs.StorableRuns.{IsKept, request_keeps}
@@ -82,16 +83,16 @@ fine_request calm s (asks client call) valid storable = one_of s (asks client ca
 fine_request calm s (reopens client) valid storable = opened_anew s client valid storable
 fine_request calm s (bad_line at) valid storable = one_of s (bad_line at) (calm s (bad_line at ∷ []) refl)
 
-fine_through : AreCalm → (s : State) (requests : List Request) → IsKept s → AllByRecursion RequestMeets requests
+fine_through : HasSpaceLaws → AreCalm → (s : State) (requests : List Request) → IsKept s → AllByRecursion RequestMeets requests
     → Run true s requests (all_fine requests) (replies_of s requests) (state_after s requests)
-fine_through calm s [] kept meets = refl
-fine_through calm s (request ∷ requests) kept meets =
+fine_through space calm s [] kept meets = refl
+fine_through space calm s (request ∷ requests) kept meets =
     let first = fine_request calm s request kept.valid kept.storable in
     let t : State = (fine_outcome s request).state in
-    (t, (first, fine_through calm t requests (request_keeps true s request Fine (fine_outcome s request).reply t first meets.0 kept) meets.1))
+    (t, (first, fine_through space calm t requests (request_keeps space true s request Fine (fine_outcome s request).reply t first meets.0 kept) meets.1))
 
 -- a list of requests
-pub fine_run : AreCalm → (s : State) (requests : List Request) → IsValid s → IsStorable s → All RequestMeets requests
+pub fine_run : HasSpaceLaws → AreCalm → (s : State) (requests : List Request) → IsValid s → IsStorable s → All RequestMeets requests
     → Run true s requests (all_fine requests) (replies_of s requests) (state_after s requests)
-fine_run calm s requests valid storable meets =
-    fine_through calm s requests (record { valid = valid; storable = storable }) (recursion_from_All RequestMeets requests meets)
+fine_run space calm s requests valid storable meets =
+    fine_through space calm s requests (record { valid = valid; storable = storable }) (recursion_from_All RequestMeets requests meets)

@@ -26,6 +26,7 @@ use Rattle.clfs_model.specs.Step.{Step}
 use Rattle.clfs_model.specs.Storable.{IsStorable}
 use Rattle.clfs_model.specs.Survivors.{HasSettings, HasMore, HasBasesOfRestart, HasBasesOfRequest, IsSurvivor}
 use Rattle.clfs_model.specs.Valid.{IsValid}
+use Rattle.clfs_space.specs.SpaceLaws.{HasSpaceLaws}
 use Rattle.clfs_laws.specs.Stable.{LeavesStable}
 use Rattle.clfs_laws.proofs.Among.{IsAmong, each_among, at_each}
 use Rattle.clfs_laws.proofs.BlockSums.{among_last}
@@ -58,6 +59,7 @@ none_more entries s all more =
     let among : IsAmong more.1 s.records = subst F more.3 (all more.0 more.1 more.2) in
     at_each (λ (other : LogEntry). other.lsn ≡ more.1.lsn → ⊥) s.records more.1 more.4 among refl
 
+-- all elements of a list are among it
 its_own : (entries : List LogEntry) → All (λ (entry : LogEntry). IsAmong entry entries) entries
 its_own entries = All-from_recursion (λ (entry : LogEntry). IsAmong entry entries) entries (each_among entries)
 
@@ -104,6 +106,7 @@ reopening_survives s client valid = survives_as (reopens client) s (cut s) valid
 pub bad_line_survives : (s : State) (at : ℕ) → IsValid s → IsSurvivor (bad_line at) s s (cut s)
 bad_line_survives s at valid = survives_as (bad_line at) s s valid (omega arith) refl tt
 
+-- the flushed part leaves what is stable as it is
 cut_leaves : (s : State) → IsValid s → LeavesStable s (cut s)
 cut_leaves s valid = record { flushed = frontier_cut s valid; settings = settings_of s; bases = λ stream. refl }
 
@@ -135,6 +138,7 @@ restart_more s t entry above is =
     (λ other below same. omega (arith, below, same, above))
     (cut s).records (All-from_recursion (λ (other : LogEntry). other.lsn < flushed s) (cut s).records (kept_below (flushed s) s.records)))
 
+-- so it is lost where the flushed part of before is left
 restart_before : (s : State) (area : Area) (bytes : List ℕ) (base : ℕ) (is_reserved : Bool) → IsValid s
     → HasBasesOfRestart s (restarted s area bytes base is_reserved) (cut s)
 restart_before s area bytes base is_reserved valid =
@@ -164,10 +168,10 @@ bases_before told s client (calls.Advance number lsn) reply t valid step = λ mo
 bases_before told s client call reply t valid step = tt
 
 -- the flushed part of a log survives a call
-pub survives_before : (told : Bool) (s t : State) (client : ℕ) (call : Call) (reply : Reply) → IsValid s → Step told s client call Fine reply t
+pub survives_before : HasSpaceLaws → (told : Bool) (s t : State) (client : ℕ) (call : Call) (reply : Reply) → IsValid s → Step told s client call Fine reply t
     → IsSurvivor (asks client call) s t (cut s)
-survives_before told s t client call reply valid step =
-    survives_as (asks client call) s t valid (flushed_rises told s client call Fine reply t valid step)
+survives_before space told s t client call reply valid step =
+    survives_as (asks client call) s t valid (flushed_rises space told s client call Fine reply t valid step)
     (flushed_still s t valid (step_adds told s client call Fine reply t step)) (bases_before told s client call reply t valid step)
 
 -- a log that was flushed, whatever base it moved then
@@ -177,9 +181,11 @@ flush_closed s = elim (cases_Bool (nat_lt 0 s.place.records)) [
   | inr none ↦ rw none (omega (arith, ltb-false 0 s.place.records none))
 ]
 
+-- a log with no open block and nothing waiting has flushed everything
 flushed_at : (s : State) → s.waiting ≡ [] → s.place.records ≡ 0 → flushed s ≡ frontier s.place
 flushed_at s none closed = ap (first_or (block_start s.place)) none ∙ omega (arith, closed)
 
+-- so has one that was flushed, with a new base or without
 flushed_rebased : (stream base : ℕ) (s : State) → flushed (rebased stream base (flush s)) ≡ frontier (rebased stream base (flush s)).place
 flushed_rebased stream base s = elim (cases_Bool (base == null_lsn)) [
   | inl none ↦ rw none (flushed_at (flush s) refl (flush_closed s))
@@ -192,15 +198,16 @@ all_flushed s valid at =
     let B : ℕ → Type 0 = λ n. AllByRecursion (λ (entry : LogEntry). entry.lsn < n) s.records in
     all_below (flushed s) s.records (subst B (sym at) (of_links.all_below s (sound_of s valid)))
 
-restart_after : (s : State) (client number : ℕ) (area : Area) (bytes : List ℕ) (base : ℕ) (is_reserved : Bool) → IsValid s
+-- so a restart area is there where the flushed part of after is left
+restart_after : HasSpaceLaws → (s : State) (client number : ℕ) (area : Area) (bytes : List ℕ) (base : ℕ) (is_reserved : Bool) → IsValid s
     → area_of s client number ≡ Some area
     → restart_refusal s area bytes base is_reserved ≡ None
     → HasBasesOfRestart s (restarted s area bytes base is_reserved) (cut (restarted s area bytes base is_reserved))
-restart_after s client number area bytes base is_reserved valid there none =
+restart_after space s client number area bytes base is_reserved valid there none =
     let t : State = restarted s area bytes base is_reserved in
     let n = length bytes in
     let joined = put (grown s (need_of is_reserved n [])) (restart_record s area bytes base) in
-    let all = all_flushed t (valid_restarted s client number area bytes base is_reserved valid there none)
+    let all = all_flushed t (valid_restarted space s client number area bytes base is_reserved valid there none)
     (flushed_rebased area.stream base (spend_if is_reserved area n joined)) in
     let F : List LogEntry → Type 0 = λ entries. All (λ (entry : LogEntry). IsAmong entry entries) t.records in
     record {
@@ -209,9 +216,9 @@ restart_after s client number area bytes base is_reserved valid there none =
     }
 
 -- the bases of what a call flushed are the new ones
-bases_after : (told : Bool) (s : State) (client : ℕ) (call : Call) (reply : Reply) (t : State) → IsValid s → Step told s client call Fine reply t
+bases_after : HasSpaceLaws → (told : Bool) (s : State) (client : ℕ) (call : Call) (reply : Reply) (t : State) → IsValid s → Step told s client call Fine reply t
     → HasBasesOfRequest (asks client call) s t (cut t)
-bases_after told s client (calls.WriteRestart number bytes base is_reserved) reply t valid step =
+bases_after space told s client (calls.WriteRestart number bytes base is_reserved) reply t valid step =
     let P : State → Type 0 = λ x. HasBasesOfRestart s x (cut x) in
     step_leads P told s client (calls.WriteRestart number bytes base is_reserved) Fine reply t step (record {
       same = record { there = λ none stream. refl; lost = λ more stream. refl };
@@ -220,21 +227,21 @@ bases_after told s client (calls.WriteRestart number bytes base is_reserved) rep
           let two = two_of s (in_area s client number (λ (area : Area). restart_refusal s area bytes base is_reserved)) none in
           in_each P s client number (λ area. restart_refusal s area bytes base is_reserved)
           (λ area. outcome (replies.Placed (next_lsn s (length bytes))) (restarted s area bytes base is_reserved)) (area_of s client number) refl two.1
-          (λ area there passes. restart_after s client number area bytes base is_reserved valid there passes);
+          (λ area there passes. restart_after space s client number area bytes base is_reserved valid there passes);
     })
-bases_after told s client (calls.Advance number lsn) reply t valid step = λ more. absurd (none_more (cut t).records (cut t) (its_own (cut t).records) more)
-bases_after told s client call reply t valid step = tt
+bases_after space told s client (calls.Advance number lsn) reply t valid step = λ more. absurd (none_more (cut t).records (cut t) (its_own (cut t).records) more)
+bases_after space told s client call reply t valid step = tt
 
 -- the flushed part of what a call leaves survives the call
-pub survives_after : (told : Bool) (s t : State) (client : ℕ) (call : Call) (reply : Reply) → IsValid s → IsStorable s
+pub survives_after : HasSpaceLaws → (told : Bool) (s t : State) (client : ℕ) (call : Call) (reply : Reply) → IsValid s → IsStorable s
     → Step told s client call Fine reply t
     → IsSurvivor (asks client call) s t (cut t)
-survives_after told s t client call reply valid storable step =
-    let valid_t = valid_step told s client call Fine reply t valid step in
-    let blocks_t = blocks_step told s client call Fine reply t valid storable.blocks step in
+survives_after space told s t client call reply valid storable step =
+    let valid_t = valid_step space told s client call Fine reply t valid step in
+    let blocks_t = blocks_step space told s client call Fine reply t valid storable.blocks step in
     let adds = step_adds told s client call Fine reply t step in
     let turn = turn_step told s client call Fine reply t valid step in
-    let rises = flushed_rises told s client call Fine reply t valid step in
+    let rises = flushed_rises space told s client call Fine reply t valid step in
     let at = frontier_cut t valid_t in
     let block = flushed_block t valid_t in
     record {
@@ -250,7 +257,7 @@ survives_after told s t client call reply valid storable step =
       settings = inr (settings_of t);
       new_settings = λ more. settings_of t;
       bases = λ stream. inr refl;
-      bases_of_request = bases_after told s client call reply t valid step;
+      bases_of_request = bases_after space told s client call reply t valid step;
       no_areas = refl;
       nothing_waits = refl;
       whole = refl;

@@ -14,6 +14,7 @@ use Rattle.clfs_model.specs.Live.{last_live}
 use Rattle.clfs_model.specs.Space.{own_sum, free, reserved, grown, has_room}
 use Rattle.clfs_model.specs.Put.{need_of, spent_of}
 use Rattle.clfs_model.specs.Refusals.{refused_if, in_area, unless_two_containers, too_long, invalid_link, invalid_base, short, full, is_link, is_base, append_refusal, restart_refusal, refusal}
+use Rattle.clfs_space.specs.SpaceLaws.{HasSpaceLaws}
 use Rattle.clfs_laws.specs.Needs.{first_too_long}
 use Rattle.clfs_laws.proofs.Room.{as_it_is}
 
@@ -40,9 +41,9 @@ refused_full : (s : State) (need : ℕ) (room : Bool) → room ≡ false
 refused_full s need true lacks = absurd (cc)
 refused_full s need false lacks = refl
 
-full_comes : (s : State) (need : ℕ) → has_room s need ≡ false → full s need ≡ Some (refusals.Full (free s) (reserved s) need)
-full_comes s need lacks =
-    refused_full s need (has_room s need) lacks ∙ ap (λ (z : State). Some (refusals.Full (free z) (reserved z) need)) (as_it_is s need lacks)
+full_comes : HasSpaceLaws → (s : State) (need : ℕ) → has_room s need ≡ false → full s need ≡ Some (refusals.Full (free s) (reserved s) need)
+full_comes space s need lacks =
+    refused_full s need (has_room s need) lacks ∙ ap (λ (z : State). Some (refusals.Full (free z) (reserved z) need)) (as_it_is space s need lacks)
 
 -- behind the tests that all three calls begin with
 in_the_area : (s : State) (client number : ℕ) (area : Area) (rest : Area → Option Refusal) → nat_lt s.containers 2 ≡ false → area_of s client number ≡ Some area
@@ -51,19 +52,19 @@ in_the_area s client number area rest two there =
     passes (nat_lt s.containers 2) (refusals.NotEnoughContainers s.containers) (in_area s client number rest) two
     ∙ passes_area (area_of s client number) area rest there
 
-pub full_reserve : (s : State) (client number : ℕ) (area : Area) (sizes : List ℕ)
+pub full_reserve : HasSpaceLaws → (s : State) (client number : ℕ) (area : Area) (sizes : List ℕ)
     → nat_lt s.containers 2 ≡ false → area_of s client number ≡ Some area → first_too_long area sizes ≡ None
     → has_room s (own_sum sizes) ≡ false
     → refusal s client (calls.Reserve number sizes) ≡ Some (refusals.Full (free s) (reserved s) (own_sum sizes))
-full_reserve s client number area sizes two there fits lacks =
+full_reserve space s client number area sizes two there fits lacks =
     in_the_area s client number area (λ (a : Area). too_long a.largest sizes (full s (own_sum sizes))) two there
-    ∙ (passes_long area sizes (full s (own_sum sizes)) fits ∙ full_comes s (own_sum sizes) lacks)
+    ∙ (passes_long area sizes (full s (own_sum sizes)) fits ∙ full_comes space s (own_sum sizes) lacks)
 
 -- an area that holds enough leaves it to the room, and one that holds too little is refused
-enough_held : (s : State) (area : Area) (taken need : ℕ) → nat_lt area.held taken ≡ false → has_room s need ≡ false
+enough_held : HasSpaceLaws → (s : State) (area : Area) (taken need : ℕ) → nat_lt area.held taken ≡ false → has_room s need ≡ false
     → short area taken (full s need) ≡ Some (refusals.Full (free s) (reserved s) need)
-enough_held s area taken need enough lacks =
-    passes (nat_lt area.held taken) (refusals.ReservationShort area.held taken) (full s need) enough ∙ full_comes s need lacks
+enough_held space s area taken need enough lacks =
+    passes (nat_lt area.held taken) (refusals.ReservationShort area.held taken) (full s need) enough ∙ full_comes space s need lacks
 
 too_little_held : (area : Area) (taken : ℕ) (others : Option Refusal) → nat_lt area.held taken ≡ true
     → short area taken others ≡ Some (refusals.ReservationShort area.held taken)
@@ -84,16 +85,16 @@ to_held_append s client number area draft spends sizes two there fits previous u
     ∙ (passes_not (is_link s area.stream draft.previous) (refusals.LinkInvalid draft.previous) second previous
     ∙ passes_not (is_link s area.stream draft.undo_next) (refusals.LinkInvalid draft.undo_next) holds undo_next))
 
-pub full_append : (s : State) (client number : ℕ) (area : Area) (draft : Draft) (spends : Bool) (sizes : List ℕ)
+pub full_append : HasSpaceLaws → (s : State) (client number : ℕ) (area : Area) (draft : Draft) (spends : Bool) (sizes : List ℕ)
     → nat_lt s.containers 2 ≡ false → area_of s client number ≡ Some area → first_too_long area (length draft.bytes ∷ sizes) ≡ None
     → is_link s area.stream draft.previous ≡ true → is_link s area.stream draft.undo_next ≡ true
     → nat_lt area.held (spent_of spends (length draft.bytes)) ≡ false
     → has_room s (need_of spends (length draft.bytes) sizes) ≡ false
     → refusal s client (calls.Append number draft spends sizes)
     ≡ Some (refusals.Full (free s) (reserved s) (need_of spends (length draft.bytes) sizes))
-full_append s client number area draft spends sizes two there fits previous undo_next enough lacks =
+full_append space s client number area draft spends sizes two there fits previous undo_next enough lacks =
     to_held_append s client number area draft spends sizes two there fits previous undo_next
-    ∙ enough_held s area (spent_of spends (length draft.bytes)) (need_of spends (length draft.bytes) sizes) enough lacks
+    ∙ enough_held space s area (spent_of spends (length draft.bytes)) (need_of spends (length draft.bytes) sizes) enough lacks
 
 pub short_append : (s : State) (client number : ℕ) (area : Area) (draft : Draft) (spends : Bool) (sizes : List ℕ)
     → nat_lt s.containers 2 ≡ false → area_of s client number ≡ Some area → first_too_long area (length draft.bytes ∷ sizes) ≡ None
@@ -123,15 +124,15 @@ to_held_restart s client number area bytes base spends two there fits good =
     ∙ (passes_long area (n ∷ []) (if base == null_lsn then others else invalid_base s area.stream base others) fits
     ∙ passes_base (base == null_lsn) s area.stream base others good)
 
-pub full_restart : (s : State) (client number : ℕ) (area : Area) (bytes : List ℕ) (base : ℕ) (spends : Bool)
+pub full_restart : HasSpaceLaws → (s : State) (client number : ℕ) (area : Area) (bytes : List ℕ) (base : ℕ) (spends : Bool)
     → nat_lt s.containers 2 ≡ false → area_of s client number ≡ Some area → first_too_long area (length bytes ∷ []) ≡ None
     → ((base == null_lsn) || is_base s area.stream base) ≡ true
     → nat_lt area.held (spent_of spends (length bytes)) ≡ false
     → has_room s (need_of spends (length bytes) []) ≡ false
     → refusal s client (calls.WriteRestart number bytes base spends) ≡ Some (refusals.Full (free s) (reserved s) (need_of spends (length bytes) []))
-full_restart s client number area bytes base spends two there fits good enough lacks =
+full_restart space s client number area bytes base spends two there fits good enough lacks =
     to_held_restart s client number area bytes base spends two there fits good
-    ∙ enough_held s area (spent_of spends (length bytes)) (need_of spends (length bytes) []) enough lacks
+    ∙ enough_held space s area (spent_of spends (length bytes)) (need_of spends (length bytes) []) enough lacks
 
 pub short_restart : (s : State) (client number : ℕ) (area : Area) (bytes : List ℕ) (base : ℕ) (spends : Bool)
     → nat_lt s.containers 2 ≡ false → area_of s client number ≡ Some area → first_too_long area (length bytes ∷ []) ≡ None

@@ -35,6 +35,7 @@ use Rattle.clfs_model.specs.Refusals.{refusal, in_area, refused_if, restart_refu
 use Rattle.clfs_model.specs.Answers.{Outcome, outcome, answer, over_area, moved_on, restart_record, restarted, rebased, archiving, advanced, flushed_to}
 use Rattle.clfs_model.specs.Step.{Step, with_broken}
 use Rattle.clfs_model.specs.Valid.{IsValid, IsRecord}
+use Rattle.clfs_space.specs.SpaceLaws.{HasSpaceLaws}
 use Rattle.clfs_laws.proofs.HoldOrder.{hold_later, hold_below_archive, hold_below_live, hold_below_frontier}
 use Rattle.clfs_laws.proofs.Links.{next_above}
 use Rattle.clfs_laws.proofs.NotRefused.{passed}
@@ -308,15 +309,15 @@ answer_keeps_needs s client (calls.SetSize containers) none valid = still s _ re
 answer_keeps_needs s client (calls.Info stream) none valid = still s s refl
 
 -- in every step
-pub hold_rises : (told : Bool) (s : State) (client : ℕ) (call : Call) (happened : Happened) (reply : Reply) (t : State)
+pub hold_rises : HasSpaceLaws → (told : Bool) (s : State) (client : ℕ) (call : Call) (happened : Happened) (reply : Reply) (t : State)
     → IsValid s → Step told s client call happened reply t → hold s ≤ hold t
-hold_rises told s client call happened reply t valid step =
+hold_rises space told s client call happened reply t valid step =
     let keeps = step_leads (KeepsNeeds s) told s client call happened reply t step (record {
       same = still s s refl;
       broken = still s (with_broken s) refl;
       answered = λ none. answer_keeps_needs s client call none valid;
     }) in
-    hold_kept s t valid (valid_step told s client call happened reply t valid step) (flushed_rises told s client call happened reply t valid step)
+    hold_kept s t valid (valid_step space told s client call happened reply t valid step) (flushed_rises space told s client call happened reply t valid step)
     (step_adds told s client call happened reply t step) keeps
 
 -- the flushed part of a log needs nothing that the log didn't

@@ -13,6 +13,7 @@ use Rattle.clfs_model.specs.Flush.{cut}
 use Rattle.clfs_model.specs.Journals.{GoesOn, IsLegal}
 use Rattle.clfs_model.specs.Step.{Step, ReopenStep, Reopens, IsBroken, IsOutOfMemory}
 use Rattle.clfs_model.specs.Valid.{IsValid}
+use Rattle.clfs_space.specs.SpaceLaws.{HasSpaceLaws}
 use Rattle.clfs_laws.proofs.HoldRises.{hold_rises, hold_cut}
 use Rattle.clfs_laws.proofs.ValidSteps.{valid_step}
 
@@ -20,10 +21,10 @@ use Rattle.clfs_laws.proofs.ValidSteps.{valid_step}
 higher_container : (a b : ℕ) → a ≤ b → container_of a ≤ container_of b
 higher_container a b more = omega (arith, more)
 
-pub container_rises : (told : Bool) (s : State) (client : ℕ) (call : Call) (happened : Happened) (reply : Reply) (t : State)
+pub container_rises : HasSpaceLaws → (told : Bool) (s : State) (client : ℕ) (call : Call) (happened : Happened) (reply : Reply) (t : State)
     → IsValid s → Step told s client call happened reply t → container_of (hold s) ≤ container_of (hold t)
-container_rises told s client call happened reply t valid step =
-    higher_container (hold s) (hold t) (hold_rises told s client call happened reply t valid step)
+container_rises space told s client call happened reply t valid step =
+    higher_container (hold s) (hold t) (hold_rises space told s client call happened reply t valid step)
 
 -- a state whose hold is that of another one
 same_container : (s t : State) → hold t ≡ hold s → container_of (hold s) ≤ container_of (hold t)
@@ -50,17 +51,17 @@ pub reopening_rises : (s : State) (happened : Happened) (reply : Reply) (t : Sta
 unfolding ReopenStep
 reopening_rises s happened reply t valid step = reopened_by s happened reply t s.broken valid step
 
-rises_through : (told : Bool) (before : List Entry) (s t : State) (entries : List Entry) → GoesOn told before s entries t → IsValid s → hold s ≤ hold t
-rises_through told before s t [] goes valid = let same : hold t ≡ hold s = ap hold goes in omega (arith, same)
-rises_through told before s t (entry ∷ entries) goes valid =
+rises_through : HasSpaceLaws → (told : Bool) (before : List Entry) (s t : State) (entries : List Entry) → GoesOn told before s entries t → IsValid s → hold s ≤ hold t
+rises_through space told before s t [] goes valid = let same : hold t ≡ hold s = ap hold goes in omega (arith, same)
+rises_through space told before s t (entry ∷ entries) goes valid =
     let step = goes.1.0.step in
     let mid : State = goes.0 in
-    let first = hold_rises told s entry.client entry.call entry.happened entry.reply mid valid step in
-    let rest = rises_through told (before ++ entry ∷ []) mid t entries goes.1.1
-    (valid_step told s entry.client entry.call entry.happened entry.reply mid valid step) in
+    let first = hold_rises space told s entry.client entry.call entry.happened entry.reply mid valid step in
+    let rest = rises_through space told (before ++ entry ∷ []) mid t entries goes.1.1
+    (valid_step space told s entry.client entry.call entry.happened entry.reply mid valid step) in
     omega (arith, first, rest)
 
 -- along a legal journal
-pub journal_container_rises : (told : Bool) (s t : State) (journal : List Entry) → IsValid s → IsLegal told journal s t
+pub journal_container_rises : HasSpaceLaws → (told : Bool) (s t : State) (journal : List Entry) → IsValid s → IsLegal told journal s t
     → container_of (hold s) ≤ container_of (hold t)
-journal_container_rises told s t journal valid legal = higher_container (hold s) (hold t) (rises_through told [] s t journal legal valid)
+journal_container_rises space told s t journal valid legal = higher_container (hold s) (hold t) (rises_through space told [] s t journal legal valid)

@@ -1,4 +1,5 @@
 pub mod Answered
+pub mod OwnSectors
 pub mod CallRefusals
 pub mod OwnAnswers
 pub mod Replies

@@ -22,6 +22,7 @@ use Rattle.clfs_laws.proofs.Links.{base_stable}
 use Rattle.clfs_laws.proofs.LsnOrder.{small_offset, few_records}
 use Rattle.clfs_laws.proofs.ValidPlaces.{sound_of, flushed_below}
 
+-- each number by itself
 pub offset_fits : (s : State) → IsValid s → s.place.offset < 2 ^ 32
 offset_fits s valid = omega (arith, small_offset s.shape s.place valid.ranges.shape valid.ranges.place)
 
@@ -37,6 +38,7 @@ lsns_fit s valid blocks =
     let low = frontier_fits s valid blocks in
     All-weaker (IsRecord s) (λ (entry : LogEntry). entry.lsn < 2 ^ 64) (λ entry is. omega (arith, is.below, low)) s.records valid.records.records
 
+-- a link lies below its record
 link_fits : (link lsn most : ℕ) → lsn < most → (link ≡ null_lsn) ⊎ (link < lsn) → link < most
 link_fits link lsn most low (inl null) = omega (arith, low, null)
 link_fits link lsn most low (inr below) = omega (arith, low, below)
@@ -76,6 +78,7 @@ bases_fit s valid blocks =
     All-weaker (λ (stream : Stream). stream.base ≤ flushed s) (λ (stream : Stream). stream.base < 2 ^ 64)
     (λ stream is. omega (arith, is, low)) s.streams valid.stable.bases
 
+-- by whether archiving is on
 tail_by : (archive : Option ℕ) (n m : ℕ) → n < m → IfSome archive (λ tail. tail ≤ n) → IfSome archive (λ tail. tail < m)
 tail_by None n m low is = tt
 tail_by (Some tail) n m low is = omega (arith, low, is)
@@ -88,6 +91,7 @@ waiting_fit s valid blocks =
     let low = frontier_fits s valid blocks in
     All-weaker (IsWaiting s) (λ (start : ℕ). start < 2 ^ 64) (λ start is. omega (arith, is.below, low)) s.waiting valid.waiting.blocks
 
+-- a cursor is at a record
 cursor_fits : (s : State) (area : Area) (cursor : Cursor) → IsValid s → HasBlocks s → IsCursor s area cursor → cursor.last < 2 ^ 64
 cursor_fits s area cursor valid blocks is =
     let f = found (λ (e : LogEntry). e.lsn == cursor.last) s.records is.entry is.there in

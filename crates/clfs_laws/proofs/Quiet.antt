@@ -26,6 +26,7 @@ use Rattle.clfs_model.specs.Refusals.{stream_number}
 use Rattle.clfs_model.specs.Answers.{Outcome, outcome, answer, reserved_for, flushed_to, archiving}
 use Rattle.clfs_model.specs.Step.{Step, calls_disk, is_pending, fills_buffers, grows, making_ready_writes, append_writes}
 use Rattle.clfs_model.specs.Valid.{IsValid}
+use Rattle.clfs_space.specs.SpaceLaws.{HasSpaceLaws}
 use Rattle.clfs_laws.proofs.OutcomeCases.{of_area}
 use Rattle.clfs_laws.proofs.StepLeads.{step_leads}
 use Rattle.clfs_laws.proofs.SurvivingRecords.{new_above, none_below}
@@ -51,10 +52,10 @@ either true b fails = absurd (cc)
 either false b fails = (refl, fails)
 
 -- a log that doesn't grow stays as it is
-pub ungrown : (s : State) (need : ℕ) → grows s need ≡ false → grown s need ≡ s
-ungrown s need fails =
+pub ungrown : HasSpaceLaws → (s : State) (need : ℕ) → grows s need ≡ false → grown s need ≡ s
+ungrown space s need fails =
     let no_more : (grown s need).containers ≤ s.containers = ltb-false s.containers (grown s need).containers fails in
-    let no_fewer = grown_no_fewer s need in
+    let no_fewer = grown_no_fewer space s need in
     let same : (grown s need).containers ≡ s.containers = omega (arith, no_more, no_fewer) in
     grown_is s need ∙ ap (λ n. with_containers n s) same
 
@@ -178,9 +179,9 @@ quiet_seal_if false s quiet = refl
 quiet_seal_if true s quiet = (quiet_seal s (both (nat_lt 0 s.place.records) (fills_buffers s) quiet)).1
 
 -- an append that writes nothing
-quiet_appended : (s : State) (area : Area) (draft : Draft) (is_reserved : Bool) (sizes : List ℕ) → IsValid s
+quiet_appended : HasSpaceLaws → (s : State) (area : Area) (draft : Draft) (is_reserved : Bool) (sizes : List ℕ) → IsValid s
     → append_writes s draft is_reserved sizes ≡ false → cut (appended s area draft is_reserved sizes) ≡ cut s
-quiet_appended s area draft is_reserved sizes valid quiet =
+quiet_appended space s area draft is_reserved sizes valid quiet =
     let n = length draft.bytes in
     let need = need_of is_reserved n sizes in
     let first = either (grows s need || making_ready_writes s n || (draft.seal && fills_buffers (made_ready s n))) draft.flush quiet in
@@ -191,7 +192,7 @@ quiet_appended s area draft is_reserved sizes valid quiet =
     let held : State = hold_sizes area sizes (spend_if is_reserved area n joined) in
     let seals : (draft.seal && fills_buffers held) ≡ false = ap (λ b. draft.seal && b) (held_fills area is_reserved n sizes joined) ∙ second.1 in
     let as_it_is : appended s area draft is_reserved sizes ≡ seal_if draft.seal held =
-    rw first.1 (ap (λ (g : State). seal_if draft.seal (hold_sizes area sizes (spend_if is_reserved area n (put g entry)))) (ungrown s need third.0)) in
+    rw first.1 (ap (λ (g : State). seal_if draft.seal (hold_sizes area sizes (spend_if is_reserved area n (put g entry)))) (ungrown space s need third.0)) in
     ap cut as_it_is ∙ quiet_seal_if draft.seal held seals ∙ quiet_held area is_reserved n sizes joined ∙ quiet_put s entry valid third.1
 
 -- an outcome that leaves the flushed part
@@ -205,9 +206,9 @@ quiet_opened : (s : State) (name : List ℕ) (found : Option ℕ) → stream_num
 quiet_opened s name None is there = absurd (cc)
 quiet_opened s name (Some number) is there = rw is refl
 
-quiet_reserved : (s : State) (area : Area) (sizes : List ℕ) → grows s (own_sum sizes) ≡ false → LeavesCut s (reserved_for s area sizes)
-quiet_reserved s area sizes quiet =
-    quiet_held area false 0 sizes (grown s (own_sum sizes)) ∙ ap cut (ungrown s (own_sum sizes) quiet)
+quiet_reserved : HasSpaceLaws → (s : State) (area : Area) (sizes : List ℕ) → grows s (own_sum sizes) ≡ false → LeavesCut s (reserved_for s area sizes)
+quiet_reserved space s area sizes quiet =
+    quiet_held area false 0 sizes (grown s (own_sum sizes)) ∙ ap cut (ungrown space s (own_sum sizes) quiet)
 
 quiet_flushed_to : (s : State) (lsn : ℕ) → (nat_le (flushed s) lsn && is_pending s) ≡ false → cut (flushed_to s lsn) ≡ cut s
 quiet_flushed_to s lsn quiet = elim (cases_Bool (nat_lt lsn (flushed s))) [
@@ -229,36 +230,36 @@ not_equal : (a b : ℕ) → not (a == b) ≡ false → a ≡ b
 not_equal a b quiet = elim (cases_Bool (a == b)) [ inl same ↦ eqb-true a b same | inr differ ↦ absurd (let wrong : true ≡ false = rw differ at quiet in cc) ]
 
 -- whatever the call
-quiet_answer : (s : State) (client : ℕ) (call : Call) → IsValid s → calls_disk s call ≡ false → LeavesCut s (answer s client call)
-quiet_answer s client (calls.OpenStream name) valid quiet = quiet_opened s name (stream_number s name) refl quiet
-quiet_answer s client (calls.CreateArea stream largest reads) valid quiet = refl
-quiet_answer s client (calls.DeleteArea number) valid quiet = refl
-quiet_answer s client (calls.Reserve number sizes) valid quiet = over s client number _ (λ (area : Area). quiet_reserved s area sizes quiet)
-quiet_answer s client (calls.Release number sectors) valid quiet = over s client number _ (λ (area : Area). refl)
-quiet_answer s client (calls.Align number sizes) valid quiet = refl
-quiet_answer s client (calls.Append number draft is_reserved sizes) valid quiet =
-    over s client number _ (λ (area : Area). quiet_appended s area draft is_reserved sizes valid quiet)
-quiet_answer s client (calls.Flush number) valid quiet = quiet_flush s quiet
-quiet_answer s client (calls.FlushTo number lsn) valid quiet = quiet_flushed_to s lsn quiet
-quiet_answer s client (calls.Read number lsn mode) valid quiet = absurd (cc)
-quiet_answer s client (calls.ReadNext number cursor) valid quiet = absurd (cc)
-quiet_answer s client (calls.EndRead number cursor) valid quiet = refl
-quiet_answer s client (calls.WriteRestart number bytes base is_reserved) valid quiet = absurd (cc)
-quiet_answer s client (calls.ReadRestart number) valid quiet = absurd (cc)
-quiet_answer s client (calls.PreviousRestart number cursor) valid quiet = absurd (cc)
-quiet_answer s client (calls.Advance number lsn) valid quiet = absurd (cc)
-quiet_answer s client (calls.SetArchive on) valid quiet = quiet_archiving s on s.archive refl quiet
-quiet_answer s client (calls.SetArchiveTail lsn) valid quiet = absurd (cc)
-quiet_answer s client calls.ListExtents valid quiet = refl
-quiet_answer s client (calls.InstallPolicy policy) valid quiet = absurd (cc)
-quiet_answer s client (calls.RemovePolicy kind) valid quiet = absurd (cc)
-quiet_answer s client (calls.SetSize containers) valid quiet =
+quiet_answer : HasSpaceLaws → (s : State) (client : ℕ) (call : Call) → IsValid s → calls_disk s call ≡ false → LeavesCut s (answer s client call)
+quiet_answer space s client (calls.OpenStream name) valid quiet = quiet_opened s name (stream_number s name) refl quiet
+quiet_answer space s client (calls.CreateArea stream largest reads) valid quiet = refl
+quiet_answer space s client (calls.DeleteArea number) valid quiet = refl
+quiet_answer space s client (calls.Reserve number sizes) valid quiet = over s client number _ (λ (area : Area). quiet_reserved space s area sizes quiet)
+quiet_answer space s client (calls.Release number sectors) valid quiet = over s client number _ (λ (area : Area). refl)
+quiet_answer space s client (calls.Align number sizes) valid quiet = refl
+quiet_answer space s client (calls.Append number draft is_reserved sizes) valid quiet =
+    over s client number _ (λ (area : Area). quiet_appended space s area draft is_reserved sizes valid quiet)
+quiet_answer space s client (calls.Flush number) valid quiet = quiet_flush s quiet
+quiet_answer space s client (calls.FlushTo number lsn) valid quiet = quiet_flushed_to s lsn quiet
+quiet_answer space s client (calls.Read number lsn mode) valid quiet = absurd (cc)
+quiet_answer space s client (calls.ReadNext number cursor) valid quiet = absurd (cc)
+quiet_answer space s client (calls.EndRead number cursor) valid quiet = refl
+quiet_answer space s client (calls.WriteRestart number bytes base is_reserved) valid quiet = absurd (cc)
+quiet_answer space s client (calls.ReadRestart number) valid quiet = absurd (cc)
+quiet_answer space s client (calls.PreviousRestart number cursor) valid quiet = absurd (cc)
+quiet_answer space s client (calls.Advance number lsn) valid quiet = absurd (cc)
+quiet_answer space s client (calls.SetArchive on) valid quiet = quiet_archiving s on s.archive refl quiet
+quiet_answer space s client (calls.SetArchiveTail lsn) valid quiet = absurd (cc)
+quiet_answer space s client calls.ListExtents valid quiet = refl
+quiet_answer space s client (calls.InstallPolicy policy) valid quiet = absurd (cc)
+quiet_answer space s client (calls.RemovePolicy kind) valid quiet = absurd (cc)
+quiet_answer space s client (calls.SetSize containers) valid quiet =
     ap (λ n. record (cut s) { containers = n }) (not_equal containers s.containers quiet)
-quiet_answer s client (calls.Info stream) valid quiet = refl
+quiet_answer space s client (calls.Info stream) valid quiet = refl
 
 -- whatever the step
-pub quiet_step : (told : Bool) (s : State) (client : ℕ) (call : Call) (happened : Happened) (reply : Reply) (t : State)
+pub quiet_step : HasSpaceLaws → (told : Bool) (s : State) (client : ℕ) (call : Call) (happened : Happened) (reply : Reply) (t : State)
     → IsValid s → calls_disk s call ≡ false → Step told s client call happened reply t → cut t ≡ cut s
-quiet_step told s client call happened reply t valid quiet step =
+quiet_step space told s client call happened reply t valid quiet step =
     let P : State → Type 0 = λ x. cut x ≡ cut s in
-    step_leads P told s client call happened reply t step (record { same = refl; broken = refl; answered = λ none. quiet_answer s client call valid quiet })
+    step_leads P told s client call happened reply t step (record { same = refl; broken = refl; answered = λ none. quiet_answer space s client call valid quiet })

@@ -15,6 +15,7 @@ use Rattle.clfs_model.specs.State.{area_of, is_area}
 use Rattle.clfs_model.specs.Space.{free, reserved, grown, has_room}
 use Rattle.clfs_model.specs.Refusals.{refusal}
 use Rattle.clfs_model.specs.Valid.{IsValid}
+use Rattle.clfs_space.specs.SpaceLaws.{HasSpaceLaws}
 use Rattle.clfs_laws.specs.Needs.{needed_sectors, taken_sectors, area_number, held_if_there}
 use Rattle.clfs_laws.proofs.CallRefusals.{Told, HasRoom, terms_of, refusal_told}
 use Rattle.std.proofs.Common.{◌∙◌}
@@ -22,7 +23,6 @@ use Rattle.std.specs.Prelude.{nat_le}
 use Rattle.clfs_lsn.specs.Space.{growth}
 use Rattle.clfs_model.specs.Live.{hold}
 use Rattle.clfs_model.specs.Space.{grown_if, with_containers, growth_rate, size_limit}
-use Rattle.clfs_space.proofs.Steps.{growth-Some}
 
 -- what it tells that a call is refused so, or isn't
 told_at : (s : State) (client : ℕ) (call : Call) (given : Option Refusal) → refusal s client call ≡ given → Told (terms_of s client call) given
@@ -55,28 +55,28 @@ not_grown s fits =
     rw (second_fails s.automatic (nat_lt (free s) (reserved s + 0)) enough) refl
 
 -- growth that gives a number of containers gives enough
-grown_by : (s : State) (wanted : ℕ) (found : Option ℕ) → growth s.shape s.place (hold s) s.containers (growth_rate s) (size_limit s) wanted ≡ found
+grown_by : HasSpaceLaws → (s : State) (wanted : ℕ) (found : Option ℕ) → growth s.shape s.place (hold s) s.containers (growth_rate s) (size_limit s) wanted ≡ found
     → nat_le wanted (free (with_containers (unwrap_or found s.containers) s)) ≡ false → with_containers (unwrap_or found s.containers) s ≡ s
-grown_by s wanted None is lacks = refl
-grown_by s wanted (Some n) is lacks =
-    let step = growth-Some s.shape s.place (hold s) s.containers (growth_rate s) (size_limit s) wanted n is in
+grown_by space s wanted None is lacks = refl
+grown_by space s wanted (Some n) is lacks =
+    let step = space.growth s.shape s.place (hold s) s.containers (growth_rate s) (size_limit s) wanted n is in
     let enough : nat_le wanted (free (with_containers n s)) ≡ true = le-leb wanted (free (with_containers n s)) step.enough in
     absurd (cc (enough, lacks))
 
-grown_if_by : (s : State) (test : Bool) (wanted : ℕ) → nat_le wanted (free (grown_if test s wanted)) ≡ false → grown_if test s wanted ≡ s
-grown_if_by s true wanted lacks = grown_by s wanted (growth s.shape s.place (hold s) s.containers (growth_rate s) (size_limit s) wanted) refl lacks
-grown_if_by s false wanted lacks = refl
+grown_if_by : HasSpaceLaws → (s : State) (test : Bool) (wanted : ℕ) → nat_le wanted (free (grown_if test s wanted)) ≡ false → grown_if test s wanted ≡ s
+grown_if_by space s true wanted lacks = grown_by space s wanted (growth s.shape s.place (hold s) s.containers (growth_rate s) (size_limit s) wanted) refl lacks
+grown_if_by space s false wanted lacks = refl
 
 -- a log without room for a call hasn't grown for it
-pub as_it_is : (s : State) (need : ℕ) → has_room s need ≡ false → grown s need ≡ s
+pub as_it_is : HasSpaceLaws → (s : State) (need : ℕ) → has_room s need ≡ false → grown s need ≡ s
 unfolding grown has_room
-as_it_is s need lacks = grown_if_by s _ (reserved s + need) lacks
+as_it_is space s need lacks = grown_if_by space s _ (reserved s + need) lacks
 
-pub full_as_it_is : (s : State) (client : ℕ) (call : Call) (of_free of_reserved need : ℕ) → refusal s client call ≡ Some (refusals.Full of_free of_reserved need)
+pub full_as_it_is : HasSpaceLaws → (s : State) (client : ℕ) (call : Call) (of_free of_reserved need : ℕ) → refusal s client call ≡ Some (refusals.Full of_free of_reserved need)
     → (of_free ≡ free s) × (of_reserved ≡ reserved s)
-full_as_it_is s client call of_free of_reserved need is =
+full_as_it_is space s client call of_free of_reserved need is =
     let tells = full_told s client call of_free of_reserved need is in
-    let same = as_it_is s need tells.1.0 in
+    let same = as_it_is space s need tells.1.0 in
     (tells.1.1.0 ∙ ap free same, tells.1.1.1 ∙ ap reserved same)
 
 -- it has room for nothing

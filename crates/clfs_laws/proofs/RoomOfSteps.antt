@@ -17,19 +17,20 @@ use Rattle.clfs_model.specs.Space.{free, reserved, has_room}
 use Rattle.clfs_model.specs.Refusals.{refusal}
 use Rattle.clfs_model.specs.Step.{Step}
 use Rattle.clfs_model.specs.Valid.{IsValid}
+use Rattle.clfs_space.specs.SpaceLaws.{HasSpaceLaws}
 use Rattle.clfs_laws.specs.Needs.{needed_sectors, taken_sectors, area_number, held_if_there, is_for_room}
 use Rattle.clfs_laws.specs.Refused.{is_of_call}
 use Rattle.clfs_laws.proofs.Replies.{first_refusal}
 use Rattle.clfs_laws.proofs.Room.{full_told, full_as_it_is, short_told, never_full, never_short, never_few}
 
 -- a step that is refused for space had no room
-pub full_step : (told : Bool) (s : State) (client : ℕ) (call : Call) (happened : Happened) (of_free of_reserved need : ℕ) (t : State)
+pub full_step : HasSpaceLaws → (told : Bool) (s : State) (client : ℕ) (call : Call) (happened : Happened) (of_free of_reserved need : ℕ) (t : State)
     → Step told s client call happened (replies.Refused (refusals.Full of_free of_reserved need)) t
     → (needed_sectors call ≡ Some need) × ((has_room s need ≡ false) × ((of_free ≡ free s) × (of_reserved ≡ reserved s)))
-full_step told s client call happened of_free of_reserved need t step =
+full_step space told s client call happened of_free of_reserved need t step =
     let is = first_refusal told s client call happened (refusals.Full of_free of_reserved need) t refl step in
     let tells = full_told s client call of_free of_reserved need is in
-    let numbers = full_as_it_is s client call of_free of_reserved need is in
+    let numbers = full_as_it_is space s client call of_free of_reserved need is in
     (tells.0, (tells.1.0, numbers))
 
 -- one that is refused for what its area holds took more

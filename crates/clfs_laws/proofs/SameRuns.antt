@@ -9,6 +9,7 @@ use Rattle.clfs_model.specs.Flush.{flushed, cut, IsSame}
 use Rattle.clfs_model.specs.Step.{ReopenStep, Reopens, IsReopened, IsOpenedAnew, IsBroken, IsOutOfMemory, with_broken}
 use Rattle.clfs_model.specs.Run.{Request, asks, reopens, bad_line, RequestStep, Run}
 use Rattle.clfs_model.specs.Valid.{IsValid}
+use Rattle.clfs_space.specs.SpaceLaws.{HasSpaceLaws}
 use Rattle.clfs_laws.proofs.Equivalence.{same_itself, same_turned, same_through, same_cut}
 use Rattle.clfs_laws.proofs.SameSteps.{broken_same, steps_alike}
 use Rattle.clfs_laws.proofs.ValidRuns.{valid_reopened}
@@ -71,28 +72,28 @@ reopening_alike told s u happened reply t valid valid_u same step =
     (other.0, (subst F (sym same_broken) other.1.0, other.1.1))
 
 -- one request
-request_alike : (told : Bool) (s u : State) (request : Request) (happened : Happened) (reply : Reply) (t : State)
+request_alike : HasSpaceLaws → (told : Bool) (s u : State) (request : Request) (happened : Happened) (reply : Reply) (t : State)
     → IsValid s → IsValid u → IsSame s u → RequestStep told s request happened reply t
     → (v : State) × (RequestStep told u request happened reply v × IsSame t v)
-request_alike told s u (asks client call) happened reply t valid valid_u same step = steps_alike told s u client call happened reply t valid valid_u same step
-request_alike told s u (reopens client) happened reply t valid valid_u same step = reopening_alike told s u happened reply t valid valid_u same step
-request_alike told s u (bad_line at) happened reply t valid valid_u same step = (u, ((step.0, refl), same_as s t u step.1 same))
+request_alike space told s u (asks client call) happened reply t valid valid_u same step = steps_alike space told s u client call happened reply t valid valid_u same step
+request_alike space told s u (reopens client) happened reply t valid valid_u same step = reopening_alike told s u happened reply t valid valid_u same step
+request_alike space told s u (bad_line at) happened reply t valid valid_u same step = (u, ((step.0, refl), same_as s t u step.1 same))
 
 -- it leaves a valid state
-request_valid : (told : Bool) (s : State) (request : Request) (happened : Happened) (reply : Reply) (t : State) → IsValid s
+request_valid : HasSpaceLaws → (told : Bool) (s : State) (request : Request) (happened : Happened) (reply : Reply) (t : State) → IsValid s
     → RequestStep told s request happened reply t → IsValid t
-request_valid told s (asks client call) happened reply t valid step = valid_step told s client call happened reply t valid step
-request_valid told s (reopens client) happened reply t valid step = valid_reopened told s happened reply t step valid
-request_valid told s (bad_line at) happened reply t valid step = subst IsValid (sym step.1) valid
+request_valid space told s (asks client call) happened reply t valid step = valid_step space told s client call happened reply t valid step
+request_valid space told s (reopens client) happened reply t valid step = valid_reopened told s happened reply t step valid
+request_valid space told s (bad_line at) happened reply t valid step = subst IsValid (sym step.1) valid
 
 -- lists of requests
-pub runs_alike : (told : Bool) (s u : State) (requests : List Request) (happened : List Happened) (given : List Reply) (t : State)
+pub runs_alike : HasSpaceLaws → (told : Bool) (s u : State) (requests : List Request) (happened : List Happened) (given : List Reply) (t : State)
     → IsValid s → IsValid u → IsSame s u → Run told s requests happened given t → (v : State) × (Run told u requests happened given v × IsSame t v)
-runs_alike told s u [] [] [] t valid valid_u same run = (u, (refl, same_as s t u run same))
-runs_alike told s u (request ∷ requests) (first ∷ happened) (reply ∷ given) t valid valid_u same run =
+runs_alike space told s u [] [] [] t valid valid_u same run = (u, (refl, same_as s t u run same))
+runs_alike space told s u (request ∷ requests) (first ∷ happened) (reply ∷ given) t valid valid_u same run =
     let mid : State = run.0 in
-    let other = request_alike told s u request first reply mid valid valid_u same run.1.0 in
-    let rest = runs_alike told mid other.0 requests happened given t (request_valid told s request first reply mid valid run.1.0)
-    (request_valid told u request first reply other.0 valid_u other.1.0) other.1.1 run.1.1 in
+    let other = request_alike space told s u request first reply mid valid valid_u same run.1.0 in
+    let rest = runs_alike space told mid other.0 requests happened given t (request_valid space told s request first reply mid valid run.1.0)
+    (request_valid space told u request first reply other.0 valid_u other.1.0) other.1.1 run.1.1 in
     (rest.0, ((other.0, (other.1.0, rest.1.0)), rest.1.1))
-runs_alike told s u _ _ _ t valid valid_u same run = absurd run
+runs_alike space told s u _ _ _ t valid valid_u same run = absurd run

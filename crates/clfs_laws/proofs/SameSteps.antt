@@ -14,6 +14,7 @@ use Rattle.clfs_model.specs.Refusals.{refusal}
 use Rattle.clfs_model.specs.Answers.{answer}
 use Rattle.clfs_model.specs.Step.{Step, Goes, Comes, IsReply, IsBroken, IsOutOfMemory, takes_memory, calls_disk, with_broken}
 use Rattle.clfs_model.specs.Valid.{IsValid}
+use Rattle.clfs_space.specs.SpaceLaws.{HasSpaceLaws}
 use Rattle.clfs_laws.proofs.AlikeAnswers.{AnswersAlike, answers_alike}
 use Rattle.clfs_laws.proofs.AlikeRefusals.{LooksAlike, refusal_alike, disk_alike}
 use Rattle.clfs_laws.proofs.HoldRuns.{container_rises}
@@ -106,11 +107,11 @@ reply_as told stable other answered given reply same_stable same is =
     subst G (sym same) (subst F (sym same_stable) is)
 
 -- a call that is answered
-answered_alike : (told : Bool) (s u : State) (client : ℕ) (call : Call) (reply : Reply) (t : State) → IsValid s → IsValid u → IsSame s u
+answered_alike : HasSpaceLaws → (told : Bool) (s u : State) (client : ℕ) (call : Call) (reply : Reply) (t : State) → IsValid s → IsValid u → IsSame s u
     → u.broken ≡ false
     → Step told s client call Fine reply t → refusal s client call ≡ None → Comes told (flushed s) (answer s client call) reply t
     → StepsAlike told u client call Fine reply t
-answered_alike told s u client call reply t valid valid_u same whole step none comes =
+answered_alike space told s u client call reply t valid valid_u same whole step none comes =
     let v : State = (answer u client call).state in
     let alike = answer_same s u client call valid valid_u same in
     let same_flushed : flushed u ≡ flushed s = ap flushed same.others in
@@ -124,59 +125,59 @@ answered_alike told s u client call reply t valid valid_u same whole step none c
       v,
       (
         other,
-        same_onward s u t v alike.more same joined others (container_rises told s client call Fine reply t valid step)
-            (container_rises told u client call Fine reply v valid_u other),
+        same_onward s u t v alike.more same joined others (container_rises space told s client call Fine reply t valid step)
+            (container_rises space told u client call Fine reply v valid_u other),
       ),
     )
 
 -- a call where nothing happens
-fine_alike : (told : Bool) (s u : State) (client : ℕ) (call : Call) (reply : Reply) (t : State) (first : Option Refusal) → IsValid s → IsValid u
+fine_alike : HasSpaceLaws → (told : Bool) (s u : State) (client : ℕ) (call : Call) (reply : Reply) (t : State) (first : Option Refusal) → IsValid s → IsValid u
     → IsSame s u
     → u.broken ≡ false → Step told s client call Fine reply t → refusal s client call ≡ first
     → MatchOption first (Comes told (flushed s) (answer s client call) reply t) (λ r. (reply ≡ replies.Refused r) × (t ≡ s))
     → StepsAlike told u client call Fine reply t
-fine_alike told s u client call reply t None valid valid_u same whole step is comes =
-    answered_alike told s u client call reply t valid valid_u same whole step is comes
-fine_alike told s u client call reply t (Some first) valid valid_u same whole step is comes =
+fine_alike space told s u client call reply t None valid valid_u same whole step is comes =
+    answered_alike space told s u client call reply t valid valid_u same whole step is comes
+fine_alike space told s u client call reply t (Some first) valid valid_u same whole step is comes =
     let refused : refusal u client call ≡ Some first = sym (refusal_same s u client call valid valid_u same) ∙ is in
     stays told s u client call Fine reply t same comes.1
     (to_whole told u client call Fine reply u whole (inr (to_option (refusal u client call) (Some first) _ _ refused (comes.0, refl))))
 
 -- a step that isn't stopped by want of memory
-goes_alike : (told : Bool) (s u : State) (client : ℕ) (call : Call) (happened : Happened) (reply : Reply) (t : State) → IsValid s → IsValid u
+goes_alike : HasSpaceLaws → (told : Bool) (s u : State) (client : ℕ) (call : Call) (happened : Happened) (reply : Reply) (t : State) → IsValid s → IsValid u
     → IsSame s u
     → u.broken ≡ false → Step told s client call happened reply t → Goes told s client call happened reply t
     → StepsAlike told u client call happened reply t
-goes_alike told s u client call Fine reply t valid valid_u same whole step goes =
-    fine_alike told s u client call reply t (refusal s client call) valid valid_u same whole step refl goes
-goes_alike told s u client call Fault reply t valid valid_u same whole step goes =
+goes_alike space told s u client call Fine reply t valid valid_u same whole step goes =
+    fine_alike space told s u client call reply t (refusal s client call) valid valid_u same whole step refl goes
+goes_alike space told s u client call Fault reply t valid valid_u same whole step goes =
     let passes : refusal u client call ≡ None = sym (refusal_same s u client call valid valid_u same) ∙ goes.0 in
     let F : Bool → Type 0 = λ calls. IsTrue calls in
     let calls = subst F (disk_same s u call valid valid_u same) goes.1.0 in
     breaks told s u client call Fault reply t same goes.1.1.1
     (to_whole told u client call Fault reply (with_broken u) whole (inr (passes, (calls, (goes.1.1.0, refl)))))
-goes_alike told s u client call Damage reply t valid valid_u same whole step goes =
+goes_alike space told s u client call Damage reply t valid valid_u same whole step goes =
     let passes : refusal u client call ≡ None = sym (refusal_same s u client call valid valid_u same) ∙ goes.0 in
     breaks told s u client call Damage reply t same goes.1.1.1
     (to_whole told u client call Damage reply (with_broken u) whole (inr (passes, (goes.1.0, (goes.1.1.0, refl)))))
 
-steps_by : (told : Bool) (s u : State) (client : ℕ) (call : Call) (happened : Happened) (reply : Reply) (t : State) (broken : Bool) → s.broken ≡ broken
+steps_by : HasSpaceLaws → (told : Bool) (s u : State) (client : ℕ) (call : Call) (happened : Happened) (reply : Reply) (t : State) (broken : Bool) → s.broken ≡ broken
     → IsValid s → IsValid u → IsSame s u → Step told s client call happened reply t → StepsAlike told u client call happened reply t
-steps_by told s u client call happened reply t true is valid valid_u same step =
+steps_by space told s u client call happened reply t true is valid valid_u same step =
     let broken = broken_step told s client call happened reply t is step in
     let other : u.broken ≡ true = ap (λ (x : State). x.broken) same.others ∙ is in
     stays told s u client call happened reply t same broken.1 (to_broken told u client call happened reply u other (broken.0, refl))
-steps_by told s u client call happened reply t false is valid valid_u same step =
+steps_by space told s u client call happened reply t false is valid valid_u same step =
     let other : u.broken ≡ false = ap (λ (x : State). x.broken) same.others ∙ is in
     elim (whole_step told s client call happened reply t is step) [
       | inl want ↦ stays told s u client call happened reply t same want.1.1
           (to_whole told u client call happened reply u other (inl (want.0, (want.1.0, refl))))
-      | inr goes ↦ goes_alike told s u client call happened reply t valid valid_u same other step goes
+      | inr goes ↦ goes_alike space told s u client call happened reply t valid valid_u same other step goes
     ]
 
 -- each step of one is a step of the other
-pub steps_alike : (told : Bool) (s u : State) (client : ℕ) (call : Call) (happened : Happened) (reply : Reply) (t : State)
+pub steps_alike : HasSpaceLaws → (told : Bool) (s u : State) (client : ℕ) (call : Call) (happened : Happened) (reply : Reply) (t : State)
     → IsValid s → IsValid u → IsSame s u → Step told s client call happened reply t
     → (v : State) × (Step told u client call happened reply v × IsSame t v)
-steps_alike told s u client call happened reply t valid valid_u same step =
-    steps_by told s u client call happened reply t s.broken refl valid valid_u same step
+steps_alike space told s u client call happened reply t valid valid_u same step =
+    steps_by space told s u client call happened reply t s.broken refl valid valid_u same step

@@ -37,6 +37,7 @@ areas_in s t areas records all =
     All-weaker (IsAreaWithinLimits s) (IsAreaWithinLimits t)
     (λ area is. area_kept s t area area [] (records ∙ sym (append-nil s.records)) (alike_itself area) is) areas all
 
+-- the second part of a test fails where the first passes and the whole fails
 second_false : (a b : Bool) → a ≡ true → (a && b) ≡ false → b ≡ false
 second_false true b passes fails = fails
 second_false false b passes fails = absurd (cc)
@@ -72,11 +73,13 @@ in_range p start (suc count) number is = elim (cases_Bool (p start)) [
   | inr there ↦ let rest = in_range p (start + 1) count number (rw there at is) in (omega (arith, rest.0), omega (arith, rest.1))
 ]
 
+-- by what the search for an unused number finds
 least_by : (count : ℕ) (p : ℕ → Bool) (number : Option ℕ) → find p (range_with_len 1 count) ≡ number
     → (1 ≤ unwrap_or number (count + 1)) × (unwrap_or number (count + 1) ≤ count + 1)
 least_by count p None is = (omega arith, omega arith)
 least_by count p (Some number) is = let range = in_range p 1 count number is in (range.0, omega (arith, range.1))
 
+-- the least unused number is at least 1 and at most one above the count
 pub least_range : (count : ℕ) (used : ℕ → Bool) → (1 ≤ least_unused count used) × (least_unused count used ≤ count + 1)
 least_range count used = least_by count (λ number. not (used number)) (find (λ number. not (used number)) (range_with_len 1 count)) refl
 
@@ -184,6 +187,7 @@ with_new_cursor s area kind entry valid none read is =
           (cursor_at_read s b (unused_cursor area.cursors) kind entry valid range.0 (omega (arith, range.1, less)) read);
     }
 
+-- a record that was read, with a new cursor at it
 pub limits_found_with : (s : State) (client number : ℕ) (area : Area) (kind : CursorKind) (entry : LogEntry) → IsValid s
     → area_of s client number ≡ Some area
     → too_many_cursors area ≡ None → IsRead s area.stream kind entry → IsWithinLimits s → IsWithinLimits (found_with_cursor s area kind entry).state
@@ -212,6 +216,7 @@ with_moved_cursor s area cursor at entry valid fits among named leads is =
           (All-from_recursion (IsCursor s area) moved all);
     }
 
+-- a cursor that moves, or is at its end
 moved_by : (s : State) (client number cursor : ℕ) (area : Area) (at : Cursor) (entry : Option LogEntry) → IsValid s
     → area_of s client number ≡ Some area
     → IsAmong at area.cursors → at.number ≡ cursor → next_of_cursor s area at ≡ entry → IsWithinLimits s
@@ -222,6 +227,7 @@ moved_by s client number cursor area at (Some entry) valid there among named lea
     limits_of_area s client number area (with_cursor_at cursor entry.lsn) there (λ a. refl)
     (with_moved_cursor s area cursor at entry valid (its_area s client number area there valid) among named leads) limits
 
+-- the same by the search that finds the cursor
 moved_found : (s : State) (client number cursor : ℕ) (area : Area) (p : Cursor → Bool) (at : Option Cursor) → IsValid s
     → area_of s client number ≡ Some area
     → find p area.cursors ≡ at → ((c : Cursor) → p c ≡ true → c.number ≡ cursor) → IsWithinLimits s → IsWithinLimits (moved_on s area cursor at).state
@@ -230,12 +236,14 @@ moved_found s client number cursor area p (Some at) valid there is named limits 
     let f = found p area.cursors at is in
     moved_by s client number cursor area at (next_of_cursor s area at) valid there f.among (named at f.passes) refl limits
 
+-- reading on with a cursor over records
 pub limits_moved : (s : State) (client number cursor : ℕ) (area : Area) → IsValid s → area_of s client number ≡ Some area → IsWithinLimits s
     → IsWithinLimits (moved_on s area cursor (record_cursor area cursor)).state
 limits_moved s client number cursor area valid there limits =
     moved_found s client number cursor area (λ (c : Cursor). (c.number == cursor) && not (is_over_restarts c.kind)) (record_cursor area cursor) valid there refl
     (λ c is. eqb-true c.number cursor (and_parts (c.number == cursor) (not (is_over_restarts c.kind)) is).0) limits
 
+-- and with one over restart areas
 pub limits_moved_back : (s : State) (client number cursor : ℕ) (area : Area) → IsValid s → area_of s client number ≡ Some area → IsWithinLimits s
     → IsWithinLimits (moved_on s area cursor (restart_cursor area cursor)).state
 limits_moved_back s client number cursor area valid there limits =

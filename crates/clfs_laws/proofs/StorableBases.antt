@@ -35,6 +35,7 @@ use Rattle.clfs_laws.proofs.ValidStreams.{stream_more}
 abbrev pub BasesRise : State → State → Type 0
 BasesRise s t = (number : ℕ) → base_of s number ≤ base_of t number
 
+-- records whose bases have moved still have bases that have
 pub bases_kept : (s t : State) (entries : List LogEntry) → BasesRise s t → All (HasMovedBase s) entries → All (HasMovedBase t) entries
 bases_kept s t entries rise all =
     All-weaker (HasMovedBase s) (HasMovedBase t) (λ entry is. record { own = is.own; moved = omega (arith, is.moved, rise entry.stream) }) entries all
@@ -84,12 +85,14 @@ set_at number lsn (stream ∷ streams) (suc k) is some = elim (cases_Bool (numbe
   | inr there ↦ rw there (set_at (number - 1) lsn streams k (omega (arith, is)) some)
 ]
 
+-- a stream that is there is at its place in the list
 number_there : (s : State) (number : ℕ) → IsSome (stream_at s number) → IsSome (slice_get s.streams (number - 1))
 number_there s number some = elim (cases_Bool (number == 0)) [
   | inl none ↦ absurd (let gone = rw none at some in cc)
   | inr has ↦ rw has at some
 ]
 
+-- the base of the stream whose base is set is that one
 pub base_set : (s : State) (number lsn : ℕ) → IsSome (stream_at s number)
     → base_of (record s { streams = set_base number lsn s.streams }) number ≡ lsn
 base_set s number lsn some = elim (cases_Bool (number == 0)) [
@@ -157,6 +160,7 @@ record MovesBase (s t : State) (stream base : ℕ) : Type 0 where
   pub rise : BasesRise s t
   pub moved : base ≤ base_of t stream
 
+-- by whether there is a new base
 moves_by : (s u : State) (stream base : ℕ) (none : Bool) → (base == null_lsn) ≡ none → u.streams ≡ s.streams → IsSome (stream_at s stream)
     → ((base == null_lsn) ≡ false → base_of s stream ≤ base)
     → MovesBase s (if none then u else record u { streams = set_base stream base u.streams }) stream base
@@ -168,6 +172,7 @@ moves_by s u stream base false is streams there based =
     let set = base_set s stream base there in
     subst F (sym streams) (record { rise = λ number. rise number; moved = omega (arith, set) })
 
+-- a new base that a stream allows moves there, and no other base falls
 moves : (s u : State) (stream base : ℕ) → u.streams ≡ s.streams → IsSome (stream_at s stream)
     → ((base == null_lsn) ≡ false → base_of s stream ≤ base) → MovesBase s (rebased stream base u) stream base
 moves s u stream base streams there based = moves_by s u stream base (base == null_lsn) refl streams there based

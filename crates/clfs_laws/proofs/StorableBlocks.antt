@@ -20,7 +20,8 @@ use Rattle.clfs_model.specs.Refusals.{append_refusal, restart_refusal}
 use Rattle.clfs_model.specs.Answers.{flushed_to, restart_record, restarted, rebased}
 use Rattle.clfs_model.specs.Storable.{before_all, behind_all, LieInBlocks, GoesOnAt, HasBlocks}
 use Rattle.clfs_model.specs.Valid.{IsValid}
-use Rattle.clfs_space.proofs.Sectors.{own-le-block}
+use Rattle.clfs_laws.proofs.OwnSectors.{own_fits}
+use Rattle.clfs_space.specs.SpaceLaws.{HasSpaceLaws}
 use Rattle.clfs_laws.proofs.BlockOrder.{behind_more, laid_push, next_goes_on, sealed_goes_on}
 use Rattle.clfs_laws.proofs.SoundJoins.{IsJoining}
 use Rattle.clfs_laws.proofs.ValidPlaces.{IsSound, sound_of}
@@ -45,7 +46,7 @@ blocks_as s t shape records place blocks =
 -- a record that needs a further container finds one that has an id
 next_id : (s : State) (n : ℕ) → IsSound s → TakesRecord s n → begins_here s.shape s.place n ≡ false → s.place.container + 1 < 2 ^ 32
 next_id s n sound takes beyond =
-    let long = own-le-block s.shape.block_sectors n sound.ranges.shape.some_sectors takes.short in
+    let long = own_fits s.shape.block_sectors n sound.ranges.shape.some_sectors takes.short in
     let left : s.shape.container_sectors - block_end s.place < own n = grind (arith, nat_tests, beyond) in
     next_one s n (omega (arith, long, left)) takes.room
   where
@@ -53,6 +54,7 @@ next_id s n sound takes beyond =
         → s.place.container + 1 < 2 ^ 32
     next_one s n none room = grind (arith, none, room)
 
+-- the container of the place behind a record has an id
 id_by : (s : State) (n : ℕ) (joining beginning : Bool) → begins_here s.shape s.place n ≡ beginning → IsSound s → TakesRecord s n
     → s.place.container < 2 ^ 32
     → (after_by joining beginning s.place n).1.container < 2 ^ 32
@@ -73,14 +75,14 @@ pub put_shape : (s : State) (entry : LogEntry) → (put s entry).shape ≡ s.sha
 put_shape s entry = put_by_shape (joins s.shape s.place (length entry.bytes)) (begins_here s.shape s.place (length entry.bytes)) s entry
 
 -- a record that is put lies behind the others
-blocks_put : (s : State) (entry : LogEntry) → IsSound s → TakesRecord s (length entry.bytes)
+blocks_put : HasSpaceLaws → (s : State) (entry : LogEntry) → IsSound s → TakesRecord s (length entry.bytes)
     → IsJoining s (placed entry (next_lsn s (length entry.bytes)))
     → HasBlocks s → HasBlocks (put s entry)
-blocks_put s entry sound takes joining blocks =
+blocks_put space s entry sound takes joining blocks =
     let n = length entry.bytes in
     let t : State = put s entry in
     let e : LogEntry = placed entry (next_lsn s n) in
-    let is = sound_put s entry sound takes joining in
+    let is = sound_put space s entry sound takes joining in
     let last : Place = behind_all before_all s.records in
     let on = next_goes_on s.shape last s.place e sound.ranges.shape sound.ranges.place blocks.place refl in
     let shape : t.shape ≡ s.shape = put_shape s entry in
@@ -133,28 +135,28 @@ blocks_hold area [] s blocks = blocks
 blocks_hold area (size ∷ sizes) s blocks = blocks_as s (hold_sizes area (size ∷ sizes) s) refl refl refl blocks
 
 -- a record that is put through an area
-blocks_joined : (s : State) (client number : ℕ) (area : Area) (entry : LogEntry) (is_reserved : Bool) (more : ℕ) → IsValid s
+blocks_joined : HasSpaceLaws → (s : State) (client number : ℕ) (area : Area) (entry : LogEntry) (is_reserved : Bool) (more : ℕ) → IsValid s
     → MayJoin s client number area entry is_reserved more → HasBlocks s → HasBlocks (spend_if is_reserved area (length entry.bytes) (put s entry))
-blocks_joined s client number area entry is_reserved more valid may blocks =
+blocks_joined space s client number area entry is_reserved more valid may blocks =
     let n = length entry.bytes in
     let some = spent s client number area entry is_reserved more valid may in
     let v : State = spend_if is_reserved area n s in
     let has = some.1.0 in
     let takes : TakesRecord v n = record { short = has.short; room = omega (arith, has.room) } in
     subst HasBlocks (spend_first is_reserved area n s entry)
-    (blocks_put v entry (sound_of v has.valid) takes has.joining (blocks_spent is_reserved area n s blocks))
+    (blocks_put space v entry (sound_of v has.valid) takes has.joining (blocks_spent is_reserved area n s blocks))
 
 -- an append that isn't refused
-pub blocks_appended : (s : State) (client number : ℕ) (area : Area) (draft : Draft) (is_reserved : Bool) (sizes : List ℕ) → IsValid s
+pub blocks_appended : HasSpaceLaws → (s : State) (client number : ℕ) (area : Area) (draft : Draft) (is_reserved : Bool) (sizes : List ℕ) → IsValid s
     → area_of s client number ≡ Some area → append_refusal s area draft is_reserved sizes ≡ None → HasBlocks s
     → HasBlocks (appended s area draft is_reserved sizes)
-blocks_appended s client number area draft is_reserved sizes valid there none blocks =
+blocks_appended space s client number area draft is_reserved sizes valid there none blocks =
     let need = need_of is_reserved (length draft.bytes) sizes in
     let u : State = grown s need in
-    let valid_u : IsValid u = valid_grown s need valid in
+    let valid_u : IsValid u = valid_grown space s need valid in
     let may =
     may_append s client number area draft is_reserved sizes u refl (grown_is s need) valid valid_u there (allowed s area draft is_reserved sizes none) in
-    let joined = blocks_joined u client number area (plain_record area draft) is_reserved _ valid_u may (blocks_grown s need blocks) in
+    let joined = blocks_joined space u client number area (plain_record area draft) is_reserved _ valid_u may (blocks_grown s need blocks) in
     blocks_flush_if draft.flush _ (blocks_seal_if draft.seal _ (blocks_hold area sizes _ joined))
 
 -- a new base
@@ -165,14 +167,14 @@ blocks_rebased stream base s blocks = elim (cases_Bool (base == 0)) [
 ]
 
 -- a restart area that isn't refused
-pub blocks_restarted : (s : State) (client number : ℕ) (area : Area) (bytes : List ℕ) (base : ℕ) (is_reserved : Bool) → IsValid s
+pub blocks_restarted : HasSpaceLaws → (s : State) (client number : ℕ) (area : Area) (bytes : List ℕ) (base : ℕ) (is_reserved : Bool) → IsValid s
     → area_of s client number ≡ Some area → restart_refusal s area bytes base is_reserved ≡ None → HasBlocks s
     → HasBlocks (restarted s area bytes base is_reserved)
-blocks_restarted s client number area bytes base is_reserved valid there none blocks =
+blocks_restarted space s client number area bytes base is_reserved valid there none blocks =
     let need = need_of is_reserved (length bytes) [] in
     let u : State = grown s need in
-    let valid_u : IsValid u = valid_grown s need valid in
+    let valid_u : IsValid u = valid_grown space s need valid in
     let may = of_restarts.may_restart s client number area bytes base is_reserved u refl (grown_is s need) valid valid_u there
     (of_restarts.allowed s area bytes base is_reserved none) in
-    let joined = blocks_joined u client number area (restart_record s area bytes base) is_reserved _ valid_u may (blocks_grown s need blocks) in
+    let joined = blocks_joined space u client number area (restart_record s area bytes base) is_reserved _ valid_u may (blocks_grown s need blocks) in
     blocks_rebased area.stream base _ (blocks_flush _ joined)

@@ -40,6 +40,7 @@ all_passing : {X : Type 0} (p : X → Bool) (P Q : X → Type 0) (xs : List X) �
 all_passing p P Q [] more all = tt
 all_passing p P Q (x ∷ xs) more all = (more x all.0, all_passing p P Q xs more all.1)
 
+-- what follows from what is so of all is so of all
 all_weaker : {X : Type 0} (P Q : X → Type 0) (xs : List X) → ((x : X) → P x → Q x) → AllByRecursion P xs → AllByRecursion Q xs
 all_weaker P Q [] more all = tt
 all_weaker P Q (x ∷ xs) more all = (more x all.0, all_weaker P Q xs more all.1)
@@ -59,6 +60,7 @@ live_read s stream mode =
     })
     (each_among s.records))
 
+-- a record that passes the test is a restart area
 restart_kind : (kind : Kind) → is_restart kind ≡ true → kind ≡ Restart
 restart_kind Plain is = absurd (cc)
 restart_kind Restart is = refl
@@ -79,14 +81,17 @@ found_has : (p : LogEntry → Bool) (P : LogEntry → Type 0) (entries : List Lo
     → AllByRecursion P entries → P entry
 found_has p P entries entry is all = among_recursion P entries entry all (found p entries entry is).among
 
+-- a live record of the stream
 pub read_live : (s : State) (stream lsn : ℕ) (mode : Mode) (entry : LogEntry) → live_at s stream lsn ≡ Some entry
     → IsRead s stream (Records mode) entry
 read_live s stream lsn mode entry is =
     found_has (λ (e : LogEntry). e.lsn == lsn) (IsRead s stream (Records mode)) (live s stream) entry is (live_read s stream mode)
 
+-- its newest restart area
 pub read_newest : (s : State) (stream : ℕ) (entry : LogEntry) → newest_restart s stream ≡ Some entry → IsRead s stream RestartAreas entry
 read_newest s stream entry is = get_has (IsRead s stream RestartAreas) (restart_areas s stream) 0 entry is (restarts_read s stream)
 
+-- the live record that a link of a record names
 linked : (s : State) (stream : ℕ) (mode : Mode) (link : LogEntry → ℕ) (holder : Option LogEntry) (entry : LogEntry)
     → option_and_then (λ (e : LogEntry). live_at s stream (link e)) holder ≡ Some entry → IsRead s stream (Records mode) entry
 linked s stream mode link None entry is = absurd (cc)
@@ -100,12 +105,14 @@ read_next s stream UndoNext last entry is = linked s stream UndoNext (λ (e : Lo
 read_next s stream Forward last entry is =
     found_has (λ (e : LogEntry). nat_lt last e.lsn) (IsRead s stream (Records Forward)) (live s stream) entry is (live_read s stream Forward)
 
+-- where a cursor of either kind comes to
 read_of_kind : (s : State) (stream : ℕ) (kind : CursorKind) (last : ℕ) (entry : LogEntry) → next_of_kind s stream kind last ≡ Some entry
     → IsRead s stream kind entry
 read_of_kind s stream (Records mode) last entry is = read_next s stream mode last entry is
 read_of_kind s stream RestartAreas last entry is =
     found_has (λ (e : LogEntry). nat_lt e.lsn last) (IsRead s stream RestartAreas) (restart_areas s stream) entry is (restarts_read s stream)
 
+-- the record that a cursor comes to next is one that the cursor can give
 pub read_on_by : (s : State) (area : Area) (at : Cursor) (entry : LogEntry) → next_of_cursor s area at ≡ Some entry
     → IsRead s area.stream at.kind entry
 read_on_by s area at entry is = read_of_kind s area.stream at.kind at.last entry (sym (next_is s area at at.kind refl) ∙ is)
@@ -120,6 +127,7 @@ finds_itself (first ∷ entries) entry rising (inr among) =
     let above : first.lsn < entry.lsn = among_recursion (λ (e : LogEntry). first.lsn < e.lsn) entries entry rising.0 among in
     rw (ne_eqb first.lsn entry.lsn (λ same. omega (arith, same, above))) (finds_itself entries entry rising.1 among)
 
+-- the record of a valid state at its own LSN
 pub entry_itself : (s : State) (entry : LogEntry) → IsValid s → IsAmong entry s.records → entry_at s entry.lsn ≡ Some entry
 entry_itself s entry valid among = finds_itself s.records entry (rises s.records valid.records.rising) among
 
@@ -148,6 +156,7 @@ abbrev Distinct : List Cursor → Type 0
 Distinct [] = Unit {0}
 Distinct (cursor ∷ cursors) = AllByRecursion (λ (other : Cursor). cursor.number ≢ other.number) cursors × Distinct cursors
 
+-- the numbers of cursors differ, by recursion
 distinct : (cursors : List Cursor) → AllPairs (λ (a b : Cursor). a.number ≢ b.number) cursors → Distinct cursors
 distinct [] pairs = tt
 distinct (cursor ∷ cursors) pairs = (
@@ -155,11 +164,13 @@ distinct (cursor ∷ cursors) pairs = (
   distinct cursors (λ i j d below within. pairs (suc i) (suc j) d (omega (arith, below)) (omega (arith, within))),
 )
 
+-- no other cursor has the number
 not_named : (at : Cursor) (n : ℕ) (cursors : List Cursor) → at.number ≡ n → AllByRecursion (λ (other : Cursor). at.number ≢ other.number) cursors
     → AllByRecursion (λ (other : Cursor). other.number ≡ n → other.kind ≡ at.kind) cursors
 not_named at n [] named all = tt
 not_named at n (cursor ∷ cursors) named all = (λ same. absurd (all.0 (named ∙ sym same)), not_named at n cursors named all.1)
 
+-- all cursors of the number are that one
 one_named : (at : Cursor) (n : ℕ) (cursors : List Cursor) → Distinct cursors → IsAmong at cursors → at.number ≡ n
     → AllByRecursion (λ (other : Cursor). other.number ≡ n → other.kind ≡ at.kind) cursors
 one_named at n [] differ among named = tt
@@ -170,6 +181,7 @@ one_named at n (cursor ∷ cursors) differ (inr among) named =
     let other : cursor.number ≢ at.number = among_recursion (λ (c : Cursor). cursor.number ≢ c.number) cursors at differ.0 among in
     (λ same. absurd (other (same ∙ sym named)), one_named at n cursors differ.1 among named)
 
+-- a cursor that has moved to a record that it can give, where it has the number
 moved_one : (s : State) (area : Area) (n : ℕ) (entry : LogEntry) (cursor : Cursor) → IsValid s → IsCursor s area cursor
     → (cursor.number ≡ n → IsRead s area.stream cursor.kind entry) → IsCursor s area (moved_if n entry.lsn cursor)
 moved_one s area n entry cursor valid is reads = elim (cases_Bool (cursor.number == n)) [
@@ -187,6 +199,7 @@ moved_all s area n kind entry (cursor ∷ cursors) valid is named all =
     let F : CursorKind → Type 0 = λ k. IsRead s area.stream k entry in
     (moved_one s area n entry cursor valid all.0 (λ same. subst F (sym (named.0 same)) is), moved_all s area n kind entry cursors valid is named.1 all.1)
 
+-- so all cursors of the area are still such
 pub cursors_moved : (s : State) (area : Area) (n : ℕ) (at : Cursor) (entry : LogEntry) → IsValid s
     → AllPairs (λ (a b : Cursor). a.number ≢ b.number) area.cursors
     → IsAmong at area.cursors → at.number ≡ n → IsRead s area.stream at.kind entry

@@ -49,6 +49,7 @@ pub record IsParted (lsn : ℕ) (entries : List LogEntry) : Type 0 where
   pub is : entries ≡ below_lsn lsn entries ++ first ∷ more
   pub at : first.lsn ≡ lsn
 
+-- records that rise, parted at the first
 first_part : (first : LogEntry) (entries : List LogEntry) → Rises (first ∷ entries) → IsParted first.lsn (first ∷ entries)
 first_part first entries rising =
     let none : below_lsn first.lsn entries ≡ [] = none_below first.lsn entries (above first entries rising.0) in
@@ -64,6 +65,7 @@ first_part first entries rising =
     above first [] all = tt
     above first (entry ∷ entries) all = (omega (arith, all.0), above first entries all.1)
 
+-- at any of them
 pub parted : (lsn : ℕ) (entries : List LogEntry) (entry : LogEntry) → Rises entries → IsAmong entry entries → entry.lsn ≡ lsn → IsParted lsn entries
 parted lsn [] entry rising among at = absurd among
 parted lsn (first ∷ entries) entry rising (inl same) at =
@@ -86,15 +88,18 @@ pub record IsLow (place : Place) : Type 0 where
   pub end : block_end place ≤ 16384
   pub few : place.records ≤ 511
 
+-- a place within its container has such numbers
 low_within : (shape : Shape) (place : Place) → IsShape shape → IsWithin shape place → IsLow place
 low_within shape place is within =
     record { offset = within.offset; end = omega (arith, within.end, is.largest_container); few = few_records shape place within }
 
+-- and so has the place behind records that lie in blocks
 pub low_all : (shape : Shape) (place : Place) (entries : List LogEntry) → IsShape shape → IsLow place → LieInBlocks shape place entries
     → IsLow (behind_all place entries)
 low_all shape place [] is low laid = low
 low_all shape place (entry ∷ entries) is low laid = low_all shape (behind place entry) entries is (low_within shape (behind place entry) is laid.1.0) laid.1.1
 
+-- from the first record of all on
 pub low_last : (shape : Shape) (entries : List LogEntry) → IsShape shape → LieInBlocks shape before_all entries
     → IsLow (behind_all before_all entries)
 low_last shape entries is laid = low_all shape before_all entries is (record { offset = refl; end = omega arith; few = omega arith }) laid
@@ -113,6 +118,7 @@ begins_there last first low begins (inr (inr further)) =
           (record { container = container_of first.lsn; offset = 0; used = 0; records = 0 }) refl (omega (arith, further.1)) refl refl,
     ))
 
+-- what is there
 some_of : {A : Type 0} (found : Option A) → IsSome found → (x : A) × (found ≡ Some x)
 some_of None some = absurd (cc)
 some_of (Some x) some = (x, refl)
@@ -152,6 +158,7 @@ cut_whole s valid blocks at none =
     closed_used shape place (inl closed) none = closed.0
     closed_used shape place (inr opened) none = absurd (omega (arith, opened.some_records, none))
 
+-- by what waits
 cut_goes_by : (s : State) (waiting : List ℕ) → s.waiting ≡ waiting → IsValid s → HasBlocks s
     → GoesOnAt (behind_all before_all (cut s).records) (cut s).place
 cut_goes_by s [] none valid blocks =

@@ -35,6 +35,7 @@ pub record IsAlike (a b : Area) : Type 0 where
   pub stream : b.stream ≡ a.stream
   pub cursors : b.cursors ≡ a.cursors
 
+-- such an area stays within its limits, with more records too
 pub area_kept : (s t : State) (a b : Area) (more : List LogEntry) → t.records ≡ s.records ++ more → IsAlike a b → IsAreaWithinLimits s a
     → IsAreaWithinLimits t b
 area_kept s t a b more records alike is = record {
@@ -50,6 +51,7 @@ area_kept s t a b more records alike is = record {
       (λ cursor has. cursor_kept s t a b more records alike.reads alike.stream cursor has) a.cursors is.cursors);
 }
 
+-- an area is alike itself
 pub alike_itself : (a : Area) → IsAlike a a
 alike_itself a = record { client = refl; number = refl; reads = refl; stream = refl; cursors = refl }
 

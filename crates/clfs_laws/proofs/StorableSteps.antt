@@ -34,6 +34,7 @@ use Rattle.clfs_model.specs.Answers.{Outcome, outcome, answer, archiving, found_
 use Rattle.clfs_model.specs.Step.{Step, with_broken}
 use Rattle.clfs_model.specs.Storable.{IsWithinLimits, IsStorable}
 use Rattle.clfs_model.specs.Valid.{IsValid}
+use Rattle.clfs_space.specs.SpaceLaws.{HasSpaceLaws}
 use Rattle.clfs_laws.proofs.NotRefused.{passed}
 use Rattle.clfs_laws.proofs.RecordsOfCalls.{seal_records, flushed_to_records}
 use Rattle.clfs_laws.proofs.StepLeads.{step_leads}
@@ -156,66 +157,66 @@ storable_removed s kinds.Growth storable = storable_same s (record s { growth = 
 storable_removed s kinds.Automatic storable = storable_same s (record s { automatic = false }) refl refl refl refl refl storable
 
 -- what a call that isn't refused leaves
-pub storable_answer : (s : State) (client : ℕ) (call : Call) → refusal s client call ≡ None → MeetsCondition client call → IsValid s → IsStorable s
+pub storable_answer : HasSpaceLaws → (s : State) (client : ℕ) (call : Call) → refusal s client call ≡ None → MeetsCondition client call → IsValid s → IsStorable s
     → IsStorable (answer s client call).state
-storable_answer s client (calls.OpenStream name) none meets valid storable =
+storable_answer space s client (calls.OpenStream name) none meets valid storable =
     opened_by s name (stream_number s name) (limits_opened s name none storable.limits) storable
-storable_answer s client (calls.CreateArea stream largest reads) none meets valid storable =
+storable_answer space s client (calls.CreateArea stream largest reads) none meets valid storable =
     storable_areas s _ (limits_created s client stream largest reads none meets.is_client meets.arguments.0 meets.arguments.1 storable.limits) storable
-storable_answer s client (calls.DeleteArea number) none meets valid storable =
+storable_answer space s client (calls.DeleteArea number) none meets valid storable =
     storable_areas s _ (limits_deleted s (λ (area : Area). not (is_area client number area)) storable.limits) storable
-storable_answer s client (calls.Reserve number sizes) none meets valid storable =
+storable_answer space s client (calls.Reserve number sizes) none meets valid storable =
     let two = two_of s (in_area s client number (λ (area : Area). too_long area.largest sizes (full s (own_sum sizes)))) none in
     in_each IsStorable s client number (λ area. too_long area.largest sizes (full s (own_sum sizes))) (λ area. reserved_for s area sizes)
     (area_of s client number) refl two.1
     (λ area there passes. storable_reserved s area sizes storable)
-storable_answer s client (calls.Release number sectors) none meets valid storable =
+storable_answer space s client (calls.Release number sectors) none meets valid storable =
     in_each IsStorable s client number (λ area. short area sectors None) (λ area. released s area sectors) (area_of s client number) refl none
     (λ area there passes. storable_areas s _ (limits_released s area sectors storable.limits) storable)
-storable_answer s client (calls.Align number sizes) none meets valid storable = storable
-storable_answer s client (calls.Append number draft is_reserved sizes) none meets valid storable =
+storable_answer space s client (calls.Align number sizes) none meets valid storable = storable
+storable_answer space s client (calls.Append number draft is_reserved sizes) none meets valid storable =
     let two = two_of s (in_area s client number (λ (area : Area). append_refusal s area draft is_reserved sizes)) none in
     in_each IsStorable s client number (λ area. append_refusal s area draft is_reserved sizes)
     (λ area. outcome (replies.Placed (next_lsn s (length draft.bytes))) (appended s area draft is_reserved sizes)) (area_of s client number) refl two.1
     (λ area there passes. record {
       bases = bases_appended s area draft is_reserved sizes storable.bases;
-      blocks = blocks_appended s client number area draft is_reserved sizes valid there passes storable.blocks;
+      blocks = blocks_appended space s client number area draft is_reserved sizes valid there passes storable.blocks;
       limits = limits_appended s area draft is_reserved sizes storable.limits;
     })
-storable_answer s client (calls.Flush number) none meets valid storable = storable_flush s storable
-storable_answer s client (calls.FlushTo number lsn) none meets valid storable = storable_flushed_to s lsn storable
-storable_answer s client (calls.Read number lsn mode) none meets valid storable =
+storable_answer space s client (calls.Flush number) none meets valid storable = storable_flush s storable
+storable_answer space s client (calls.FlushTo number lsn) none meets valid storable = storable_flushed_to s lsn storable
+storable_answer space s client (calls.Read number lsn mode) none meets valid storable =
     in_each IsStorable s client number (λ area. read_refusal s area lsn) (λ area. read_at s area lsn mode) (area_of s client number) refl none
     (λ area there passes. storable_found s client number area (Records mode) (live_at s area.stream lsn) (refusals.RecordNonexistent lsn) valid there
     (passed (is_none (live_at s area.stream lsn)) (refusals.RecordNonexistent lsn) (too_many_cursors area) passes).1
     (λ entry is. read_live s area.stream lsn mode entry is) storable)
-storable_answer s client (calls.ReadNext number cursor) none meets valid storable =
+storable_answer space s client (calls.ReadNext number cursor) none meets valid storable =
     in_each IsStorable s client number (λ area. next_refusal s area (record_cursor area cursor))
     (λ area. moved_on s area cursor (record_cursor area cursor)) (area_of s client number) refl none
     (λ area there passes. moved_areas s area cursor _ (limits_moved s client number cursor area valid there storable.limits) storable)
-storable_answer s client (calls.EndRead number cursor) none meets valid storable =
+storable_answer space s client (calls.EndRead number cursor) none meets valid storable =
     storable_areas s _ (limits_ended s client number cursor storable.limits) storable
-storable_answer s client (calls.WriteRestart number bytes base is_reserved) none meets valid storable =
+storable_answer space s client (calls.WriteRestart number bytes base is_reserved) none meets valid storable =
     let two = two_of s (in_area s client number (λ (area : Area). restart_refusal s area bytes base is_reserved)) none in
     in_each IsStorable s client number (λ area. restart_refusal s area bytes base is_reserved)
     (λ area. outcome (replies.Placed (next_lsn s (length bytes))) (restarted s area bytes base is_reserved)) (area_of s client number) refl two.1
     (λ area there passes. record {
       bases = bases_restarted s client number area bytes base is_reserved valid there passes storable.bases;
-      blocks = blocks_restarted s client number area bytes base is_reserved valid there passes storable.blocks;
+      blocks = blocks_restarted space s client number area bytes base is_reserved valid there passes storable.blocks;
       limits = limits_restarted s area bytes base is_reserved storable.limits;
     })
-storable_answer s client (calls.ReadRestart number) none meets valid storable =
+storable_answer space s client (calls.ReadRestart number) none meets valid storable =
     in_each IsStorable s client number (λ area. refused_if (is_none (newest_restart s area.stream)) refusals.NoRestart (too_many_cursors area))
     (λ area. read_newest_restart s area)
     (area_of s client number) refl none
     (λ area there passes. storable_found s client number area RestartAreas (newest_restart s area.stream) refusals.NoRestart valid there
     (passed (is_none (newest_restart s area.stream)) refusals.NoRestart (too_many_cursors area) passes).1
     (λ entry is. read_newest s area.stream entry is) storable)
-storable_answer s client (calls.PreviousRestart number cursor) none meets valid storable =
+storable_answer space s client (calls.PreviousRestart number cursor) none meets valid storable =
     in_each IsStorable s client number (λ area. next_refusal s area (restart_cursor area cursor))
     (λ area. moved_on s area cursor (restart_cursor area cursor)) (area_of s client number) refl none
     (λ area there passes. moved_areas s area cursor _ (limits_moved_back s client number cursor area valid there storable.limits) storable)
-storable_answer s client (calls.Advance number lsn) none meets valid storable =
+storable_answer space s client (calls.Advance number lsn) none meets valid storable =
     in_each IsStorable s client number (λ area. invalid_base s area.stream lsn None)
     (λ area. outcome (replies.Base lsn) (advanced s area.stream lsn)) (area_of s client number) refl none
     (λ area there passes. record {
@@ -223,21 +224,21 @@ storable_answer s client (calls.Advance number lsn) none meets valid storable =
       blocks = blocks_as (flush s) (advanced s area.stream lsn) refl refl refl (blocks_flush s storable.blocks);
       limits = limits_advanced s area.stream lsn storable.limits;
     })
-storable_answer s client (calls.SetArchive on) none meets valid storable = storable_archiving s on storable
-storable_answer s client (calls.SetArchiveTail lsn) none meets valid storable =
+storable_answer space s client (calls.SetArchive on) none meets valid storable = storable_archiving s on storable
+storable_answer space s client (calls.SetArchiveTail lsn) none meets valid storable =
     storable_same s (record s { archive = Some lsn }) refl refl refl refl refl storable
-storable_answer s client calls.ListExtents none meets valid storable = storable
-storable_answer s client (calls.InstallPolicy policy) none meets valid storable = storable_installed s policy storable
-storable_answer s client (calls.RemovePolicy kind) none meets valid storable = storable_removed s kind storable
-storable_answer s client (calls.SetSize containers) none meets valid storable = storable_same s (with_containers containers s) refl refl refl refl refl storable
-storable_answer s client (calls.Info stream) none meets valid storable = storable
+storable_answer space s client calls.ListExtents none meets valid storable = storable
+storable_answer space s client (calls.InstallPolicy policy) none meets valid storable = storable_installed s policy storable
+storable_answer space s client (calls.RemovePolicy kind) none meets valid storable = storable_removed s kind storable
+storable_answer space s client (calls.SetSize containers) none meets valid storable = storable_same s (with_containers containers s) refl refl refl refl refl storable
+storable_answer space s client (calls.Info stream) none meets valid storable = storable
 
 -- what every step leaves
-pub storable_step : (told : Bool) (s : State) (client : ℕ) (call : Call) (happened : Happened) (reply : Reply) (t : State)
+pub storable_step : HasSpaceLaws → (told : Bool) (s : State) (client : ℕ) (call : Call) (happened : Happened) (reply : Reply) (t : State)
     → IsValid s → IsStorable s → MeetsCondition client call → Step told s client call happened reply t → IsStorable t
-storable_step told s client call happened reply t valid storable meets step =
+storable_step space told s client call happened reply t valid storable meets step =
     step_leads IsStorable told s client call happened reply t step (record {
       same = storable;
       broken = storable_same s (with_broken s) refl refl refl refl refl storable;
-      answered = λ none. storable_answer s client call none meets valid storable;
+      answered = λ none. storable_answer space s client call none meets valid storable;
     })

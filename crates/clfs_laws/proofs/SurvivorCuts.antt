@@ -23,6 +23,7 @@ use Rattle.clfs_model.specs.Step.{Step}
 use Rattle.clfs_model.specs.Storable.{IsStorable}
 use Rattle.clfs_model.specs.Survivors.{names_of, HasSettings, HasBases, EndsBlockOf, IsSurvivor}
 use Rattle.clfs_model.specs.Valid.{IsValid}
+use Rattle.clfs_space.specs.SpaceLaws.{HasSpaceLaws}
 use Rattle.clfs_laws.specs.Stable.{LeavesStable}
 use Rattle.clfs_laws.proofs.FallingLists.{below_lsn}
 use Rattle.clfs_laws.proofs.Numbers.{survivor_low}
@@ -162,17 +163,17 @@ is_cut_by asked s t x leaves survives records low =
     survives.nothing_waits survives.no_areas settings.archive settings.maximum settings.minimum settings.growth settings.automatic survives.whole
 
 -- so is one of a call
-pub is_cut : (told : Bool) (s t x : State) (client : ℕ) (call : Call) (reply : Reply) → IsValid s → IsStorable s → Step told s client call Fine reply t
+pub is_cut : HasSpaceLaws → (told : Bool) (s t x : State) (client : ℕ) (call : Call) (reply : Reply) → IsValid s → IsStorable s → Step told s client call Fine reply t
     → LeavesStable s t → IsSurvivor (asks client call) s t x → record x { buffers = s.buffers } ≡ cut s
-is_cut told s t x client call reply valid storable step leaves survives =
+is_cut space told s t x client call reply valid storable step leaves survives =
     is_cut_by (asks client call) s t x leaves survives (records_are told s t x client call reply valid step leaves survives)
-    (survivor_low s t x (valid_step told s client call Fine reply t valid step) (blocks_step told s client call Fine reply t valid storable.blocks step) survives.place.end)
+    (survivor_low s t x (valid_step space told s client call Fine reply t valid step) (blocks_step space told s client call Fine reply t valid storable.blocks step) survives.place.end)
 
 -- so no reply can show a difference
 itself : (s t : State) → t ≡ s → IsSame s t
 itself s t same = let F : State → Type 0 = λ x. IsSame s x in subst F (sym same) (record { hold = refl; records = refl; others = refl })
 
-pub is_same : (told : Bool) (s t x : State) (client : ℕ) (call : Call) (reply : Reply) → IsValid s → IsStorable s → Step told s client call Fine reply t
+pub is_same : HasSpaceLaws → (told : Bool) (s t x : State) (client : ℕ) (call : Call) (reply : Reply) → IsValid s → IsStorable s → Step told s client call Fine reply t
     → LeavesStable s t → IsSurvivor (asks client call) s t x → IsSame (cut s) (record x { buffers = s.buffers })
-is_same told s t x client call reply valid storable step leaves survives =
-    itself (cut s) (record x { buffers = s.buffers }) (is_cut told s t x client call reply valid storable step leaves survives)
+is_same space told s t x client call reply valid storable step leaves survives =
+    itself (cut s) (record x { buffers = s.buffers }) (is_cut space told s t x client call reply valid storable step leaves survives)

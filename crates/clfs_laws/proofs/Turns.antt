@@ -32,7 +32,7 @@ use Rattle.clfs_model.specs.Refusals.{refusal, in_area, stream_number, append_re
 use Rattle.clfs_model.specs.Answers.{Outcome, outcome, answer, over_area, moved_on, archiving, advanced, restart_record, restarted, rebased, flushed_to}
 use Rattle.clfs_model.specs.Step.{Step, with_broken}
 use Rattle.clfs_model.specs.Valid.{IsValid}
-use Rattle.clfs_space.proofs.Sectors.{own-le-block}
+use Rattle.clfs_laws.proofs.OwnSectors.{own_fits}
 use Rattle.clfs_laws.proofs.OutcomeCases.{of_option, of_area, of_cursor}
 use Rattle.clfs_laws.proofs.StepLeads.{step_leads}
 use Rattle.clfs_laws.proofs.StorableBlocks.{seal_shape, put_shape}
@@ -94,13 +94,14 @@ turn_rebased s t stream base turn = elim (cases_Bool (base == null_lsn)) [
 turn_grown : (s : State) (need : ℕ) → IsTurn s (grown s need)
 turn_grown s need = stays s (grown s need) (ap (λ (x : State). x.shape) (grown_is s need)) (ap (λ (x : State). x.place.container) (grown_is s need))
 
+-- by how the record is placed
 turn_by : (s : State) (n : ℕ) (joining beginning : Bool) → begins_here s.shape s.place n ≡ beginning → IsShape s.shape → n ≤ longest s.shape
     → ((after_by joining beginning s.place n).1.container ≡ s.place.container)
     ⊎ (((after_by joining beginning s.place n).1.container ≡ s.place.container + 1) × (1 ≤ block_end s.place))
 turn_by s n true beginning fits is short = inl refl
 turn_by s n false true fits is short = inl refl
 turn_by s n false false fits is short =
-    let long = own-le-block s.shape.block_sectors n is.some_sectors short in
+    let long = own_fits s.shape.block_sectors n is.some_sectors short in
     let left : s.shape.container_sectors - block_end s.place < own n = grind (arith, nat_tests, fits) in
     inr (refl, omega (arith, long, left, is.two_blocks, is.some_sectors))
 
@@ -139,6 +140,7 @@ turn_restarted s client number area bytes base is_reserved valid there none =
     turn_rebased s _ area.stream base (turn_flush s _ (turn_spend s _ is_reserved area n
     (turn_joined s (need_of is_reserved n []) (restart_record s area bytes base) valid.ranges.shape (omega (arith, short, fits)))))
 
+-- a state that stays as it is
 itself : (s : State) → IsTurn s s
 itself s = stays s s refl refl
 
@@ -146,9 +148,11 @@ itself s = stays s s refl refl
 abbrev TurnsIn : State → Outcome → Type 0
 TurnsIn s o = IsTurn s o.state
 
+-- over an area, which may be missing
 over : (s : State) (client number : ℕ) (f : Area → Outcome) → ((area : Area) → IsTurn s (f area).state) → IsTurn s (over_area s client number f).state
 over s client number f each = of_area (TurnsIn s) s client number f each (itself s)
 
+-- over a cursor, which may be missing or at its end
 moved : (s : State) (area : Area) (number : ℕ) (found : Option Cursor) → IsTurn s (moved_on s area number found).state
 moved s area number found = of_cursor (TurnsIn s) s area number found (λ (entry : LogEntry). stays s _ refl refl) (itself s)
 

@@ -19,6 +19,7 @@ use Rattle.clfs_model.specs.Flush.{flushed, seal, flush}
 use Rattle.clfs_model.specs.Put.{next_lsn, put, own_unless, need_of, spent_of, with_less_held, with_more_held, spend_if, hold_sizes, seal_if, flush_if, plain_record, appended}
 use Rattle.clfs_model.specs.Refusals.{is_link, invalid_link, short, full, append_refusal}
 use Rattle.clfs_model.specs.Valid.{IsValid}
+use Rattle.clfs_space.specs.SpaceLaws.{HasSpaceLaws}
 use Rattle.clfs_laws.proofs.Finding.{find_changed}
 use Rattle.clfs_laws.proofs.NotRefused.{passed, passed_long}
 use Rattle.clfs_laws.proofs.RowSteps.{put_areas}
@@ -32,11 +33,11 @@ use Rattle.clfs_laws.proofs.ValidPuts.{TakesRecord, placed, put_by, sound_put}
 use Rattle.clfs_laws.proofs.Links.{link_below, next_above}
 
 -- a record that is no restart area is put into a valid log
-valid_put : (s : State) (entry : LogEntry) → IsValid s → TakesRecord s (length entry.bytes) → IsJoining s (placed entry (next_lsn s (length entry.bytes)))
+valid_put : HasSpaceLaws → (s : State) (entry : LogEntry) → IsValid s → TakesRecord s (length entry.bytes) → IsJoining s (placed entry (next_lsn s (length entry.bytes)))
     → entry.kind ≡ Plain → IsValid (put s entry)
-valid_put s entry valid takes joining plain =
+valid_put space s entry valid takes joining plain =
     let t = put s entry in
-    let is = sound_put s entry (sound_of s valid) takes joining in
+    let is = sound_put space s entry (sound_of s valid) takes joining in
     valid_of t is.sound (All-push (λ (e : LogEntry). e.kind ≡ Restart → e.lsn < flushed t) s.records (placed entry (next_lsn s (length entry.bytes)))
     (restarts_still s t is.more valid.stable.restarts) (λ restart. absurd (cc (plain, restart))))
 
@@ -126,10 +127,10 @@ hold_named a b (size ∷ sizes) s clients numbers =
     ap (λ (c : ℕ). change_area change c a.number s) clients ∙ ap (λ (k : ℕ). change_area change b.client k s) numbers
 
 -- the log after a record was put through an area
-pub valid_joined : (s : State) (client number : ℕ) (area : Area) (entry : LogEntry) (is_reserved : Bool) (sizes : List ℕ) → IsValid s → 2 ≤ s.containers
+pub valid_joined : HasSpaceLaws → (s : State) (client number : ℕ) (area : Area) (entry : LogEntry) (is_reserved : Bool) (sizes : List ℕ) → IsValid s → 2 ≤ s.containers
     → MayJoin s client number area entry is_reserved (own_sum sizes) → entry.kind ≡ Plain
     → IsValid (hold_sizes area sizes (spend_if is_reserved area (length entry.bytes) (put s entry)))
-valid_joined s client number area entry is_reserved sizes valid two may plain =
+valid_joined space s client number area entry is_reserved sizes valid two may plain =
     let n = length entry.bytes in
     let some = spent s client number area entry is_reserved (own_sum sizes) valid may in
     let v : State = spend_if is_reserved area n s in
@@ -137,8 +138,8 @@ valid_joined s client number area entry is_reserved sizes valid two may plain =
     let has = some.1.0 in
     let t : State = put v entry in
     let takes : TakesRecord v n = record { short = has.short; room = omega (arith, has.room) } in
-    let is = sound_put v entry (sound_of v has.valid) takes has.joining in
-    let valid_t = valid_put v entry has.valid takes has.joining plain in
+    let is = sound_put space v entry (sound_of v has.valid) takes has.joining in
+    let valid_t = valid_put space v entry has.valid takes has.joining plain in
     let same = put_areas v entry in
     let sum : reserved t ≡ reserved v = ap held_sum same in
     let there : area_of t client number ≡ Some after = ap (λ (areas : List Area). find (is_area client number) areas) same ∙ has.area_there in
@@ -236,12 +237,12 @@ valid_flush_if true s valid = valid_flush s (sound_of s valid)
 valid_flush_if false s valid = valid
 
 -- an append that isn't refused
-pub valid_appended : (s : State) (client number : ℕ) (area : Area) (draft : Draft) (is_reserved : Bool) (sizes : List ℕ) → IsValid s → 2 ≤ s.containers
+pub valid_appended : HasSpaceLaws → (s : State) (client number : ℕ) (area : Area) (draft : Draft) (is_reserved : Bool) (sizes : List ℕ) → IsValid s → 2 ≤ s.containers
     → area_of s client number ≡ Some area → append_refusal s area draft is_reserved sizes ≡ None → IsValid (appended s area draft is_reserved sizes)
-valid_appended s client number area draft is_reserved sizes valid two there none =
+valid_appended space s client number area draft is_reserved sizes valid two there none =
     let need = need_of is_reserved (length draft.bytes) sizes in
     let u : State = grown s need in
-    let valid_u : IsValid u = valid_grown s need valid in
+    let valid_u : IsValid u = valid_grown space s need valid in
     let may = may_append s client number area draft is_reserved sizes u refl (grown_is s need) valid valid_u there (allowed s area draft is_reserved sizes none) in
-    let joined = valid_joined u client number area (plain_record area draft) is_reserved sizes valid_u (omega (arith, two, grown_no_fewer s need)) may refl in
+    let joined = valid_joined space u client number area (plain_record area draft) is_reserved sizes valid_u (omega (arith, two, grown_no_fewer space s need)) may refl in
     valid_flush_if draft.flush _ (valid_seal_if draft.seal _ joined)

@@ -24,6 +24,7 @@ use Rattle.clfs_model.specs.Reading.{with_cursor, with_cursor_at, without_cursor
 use Rattle.clfs_model.specs.Refusals.{refused_if, too_long, refusal}
 use Rattle.clfs_model.specs.Answers.{new_area}
 use Rattle.clfs_model.specs.Valid.{IsValid, AreDifferentAreas, IsArea}
+use Rattle.clfs_space.specs.SpaceLaws.{HasSpaceLaws}
 use Rattle.clfs_laws.proofs.Finding.{KeepsName}
 use Rattle.clfs_laws.proofs.NotRefused.{passed}
 use Rattle.clfs_laws.proofs.RowChanges.{area_named}
@@ -243,16 +244,16 @@ unfolding has_room
 room_is s need room = leb-true (reserved s + need) (free (grown s need)) room
 
 -- a reservation, behind growth
-pub valid_reserved : (s : State) (client number : ℕ) (sizes : List ℕ) (area : Area) → area_of s client number ≡ Some area → has_room s (own_sum sizes) ≡ true → 2 ≤ s.containers → IsValid s
+pub valid_reserved : HasSpaceLaws → (s : State) (client number : ℕ) (sizes : List ℕ) (area : Area) → area_of s client number ≡ Some area → has_room s (own_sum sizes) ≡ true → 2 ≤ s.containers → IsValid s
     → IsValid (hold_sizes area sizes (grown s (own_sum sizes)))
-valid_reserved s client number sizes area is room two valid =
+valid_reserved space s client number sizes area is room two valid =
     let need = own_sum sizes in
     let g = grown s need in
     let same : g.areas ≡ s.areas = ap (λ (x : State). x.areas) (grown_is s need) in
     let there : area_of g client number ≡ Some area = ap (λ (areas : List Area). find (is_area client number) areas) same ∙ is in
     let sum : reserved g ≡ reserved s = ap held_sum same in
     let enough : reserved s + need ≤ free g = room_is s need room in
-    valid_sizes g client number sizes area there (omega (arith, enough, sum)) (omega (arith, two, grown_no_fewer s need)) (valid_grown s need valid)
+    valid_sizes g client number sizes area there (omega (arith, enough, sum)) (omega (arith, two, grown_no_fewer space s need)) (valid_grown space s need valid)
 
 -- a cursor of an area
 pub valid_cursor : (s : State) (client number : ℕ) (area : Area) (change : Area → Area) → area_of s client number ≡ Some area → KeepsName change

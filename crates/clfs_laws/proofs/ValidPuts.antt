@@ -19,8 +19,8 @@ use Rattle.clfs_model.specs.Space.{free, reserved}
 use Rattle.clfs_model.specs.Flush.{block_start, flushed, seal, flush}
 use Rattle.clfs_model.specs.Put.{next_lsn, put}
 use Rattle.clfs_space.specs.Appending.{HasRoom}
-use Rattle.clfs_space.proofs.Appends.{free-place_after}
-use Rattle.clfs_space.proofs.Sectors.{own-le-block}
+use Rattle.clfs_laws.proofs.OwnSectors.{own_fits}
+use Rattle.clfs_space.specs.SpaceLaws.{HasSpaceLaws}
 use Rattle.clfs_laws.proofs.ValidPlaces.{IsSound, IsReady, sealed_hold, sealed_within, sound_seal, sound_flush, ready_seal, flushed_seal, flushed_flush, active_by, free_by}
 use Rattle.clfs_laws.proofs.SoundPuts.{with_record}
 use Rattle.clfs_laws.proofs.SoundJoins.{IsJoining, HasPlace, sound_joined, sound_begun}
@@ -51,7 +51,7 @@ within_begun shape container sector n is short some fits = record {
     some_records = omega arith;
     few_records = omega arith;
     some_sectors = omega arith;
-    few_sectors = own-le-block shape.block_sectors n is.some_sectors short;
+    few_sectors = own_fits shape.block_sectors n is.some_sectors short;
   });
 }
 
@@ -155,14 +155,14 @@ pub record IsPut (s t : State) (n : ℕ) : Type 0 where
   pub free : free s ≤ free t + own n
   pub more : flushed s ≤ flushed t
 
-put_joined : (s : State) (entry : LogEntry) → IsSound s → TakesRecord s (length entry.bytes) → joins s.shape s.place (length entry.bytes) ≡ true
+put_joined : HasSpaceLaws → (s : State) (entry : LogEntry) → IsSound s → TakesRecord s (length entry.bytes) → joins s.shape s.place (length entry.bytes) ≡ true
     → IsJoining s (placed entry (frontier s.place))
     → IsPut s (with_record s (placed entry (frontier s.place)) (record s.place { used = s.place.used + size (length entry.bytes); records = s.place.records + 1 })) (length entry.bytes)
-put_joined s entry sound takes fits joining =
+put_joined space s entry sound takes fits joining =
     let n = length entry.bytes in
     let place : Place = record s.place { used = s.place.used + size n; records = s.place.records + 1 } in
     let after : free_sectors s.shape s.place (hold s) s.containers - own n ≤ free_sectors s.shape place (hold s) s.containers =
-    let all = free-place_after s.shape s.place (hold s) s.containers n (has_room_for s n sound takes) in rw fits at all in
+    let all = space.append s.shape s.place (hold s) s.containers n (has_room_for s n sound takes) in rw fits at all in
     let joined = sound_joined s (placed entry (frontier s.place)) (s.place.used + size n) sound joining (grind (arith, nat_tests, fits)) (grind (arith, nat_tests, fits)) refl (record {
       within = within_joined s.shape s.place n sound.ranges.shape sound.ranges.place fits;
       used = sound.space.active;
@@ -194,7 +194,7 @@ put_begun s m entry container sector sound takes is joining some fits above wait
 -- a record that doesn't fit into its container finds the next one
 next_used : (s : State) (n : ℕ) → IsSound s → TakesRecord s n → begins_here s.shape s.place n ≡ false → active_containers (begun (s.place.container + 1) 0 n) (hold s) ≤ s.containers
 next_used s n sound takes beyond =
-    let long = own-le-block s.shape.block_sectors n sound.ranges.shape.some_sectors takes.short in
+    let long = own_fits s.shape.block_sectors n sound.ranges.shape.some_sectors takes.short in
     let left : s.shape.container_sectors - block_end s.place < own n = grind (arith, nat_tests, beyond) in
     next_one s n (omega (arith, long, left)) takes.room
   where
@@ -202,32 +202,32 @@ next_used s n sound takes beyond =
         → active_containers (begun (s.place.container + 1) 0 n) (hold s) ≤ s.containers
     next_one s n none room = grind (arith, none, room)
 
-put_here : (s : State) (entry : LogEntry) → IsSound s → TakesRecord s (length entry.bytes) → joins s.shape s.place (length entry.bytes) ≡ false
+put_here : HasSpaceLaws → (s : State) (entry : LogEntry) → IsSound s → TakesRecord s (length entry.bytes) → joins s.shape s.place (length entry.bytes) ≡ false
     → begins_here s.shape s.place (length entry.bytes) ≡ true → IsJoining s (placed entry (lsn_number s.place.container (512 * block_end s.place) 0))
     → IsPut s (record (seal s) {
       records = s.records ++ placed entry (lsn_number s.place.container (512 * block_end s.place) 0) ∷ [];
       place = begun s.place.container (block_end s.place) (length entry.bytes);
     }) (length entry.bytes)
-put_here s entry sound takes apart here joining =
+put_here space s entry sound takes apart here joining =
     let n = length entry.bytes in
     let is = readied_seal s sound in
     let after : free s - own n ≤ free_sectors s.shape (begun s.place.container (block_end s.place) n) (hold s) s.containers =
-    let all = free-place_after s.shape s.place (hold s) s.containers n (has_room_for s n sound takes) in rw (apart, here) at all in
+    let all = space.append s.shape s.place (hold s) s.containers n (has_room_for s n sound takes) in rw (apart, here) at all in
     put_begun s (seal s) entry s.place.container (block_end s.place) sound takes is joining sound.ranges.place.container
     (grind (arith, nat_tests, here, sound.ranges.place.end)) (omega (arith, is.ready.container, is.ready.offset)) (inr is.ready.container) sound.space.active after
 
-put_next : (s : State) (entry : LogEntry) → IsSound s → TakesRecord s (length entry.bytes) → joins s.shape s.place (length entry.bytes) ≡ false
+put_next : HasSpaceLaws → (s : State) (entry : LogEntry) → IsSound s → TakesRecord s (length entry.bytes) → joins s.shape s.place (length entry.bytes) ≡ false
     → begins_here s.shape s.place (length entry.bytes) ≡ false → IsJoining s (placed entry (lsn_number (s.place.container + 1) 0 0))
     → IsPut s (record (flush s) {
       records = s.records ++ placed entry (lsn_number (s.place.container + 1) 0 0) ∷ [];
       place = begun (s.place.container + 1) 0 (length entry.bytes);
     }) (length entry.bytes)
-put_next s entry sound takes apart beyond joining =
+put_next space s entry sound takes apart beyond joining =
     let n = length entry.bytes in
     let is = readied_flush s sound in
-    let long = own-le-block s.shape.block_sectors n sound.ranges.shape.some_sectors takes.short in
+    let long = own_fits s.shape.block_sectors n sound.ranges.shape.some_sectors takes.short in
     let after : free s - own n ≤ free_sectors s.shape (begun (s.place.container + 1) 0 n) (hold s) s.containers =
-    let all = free-place_after s.shape s.place (hold s) s.containers n (has_room_for s n sound takes) in rw (apart, beyond) at all in
+    let all = space.append s.shape s.place (hold s) s.containers n (has_room_for s n sound takes) in rw (apart, beyond) at all in
     put_begun s (flush s) entry (s.place.container + 1) 0 sound takes is joining (omega arith)
     (omega (arith, long, sound.ranges.shape.two_blocks)) (omega (arith, is.ready.container, is.ready.offset, sound.ranges.place.end, sound.ranges.shape.largest_container))
     (inl refl) (next_used s n sound takes beyond) after
@@ -248,15 +248,15 @@ put_by joining beginning s entry = record (if joining then s else if beginning t
   place = (after_by joining beginning s.place (length entry.bytes)).1;
 }
 
-sound_put_by : (s : State) (entry : LogEntry) (joining beginning : Bool) → joins s.shape s.place (length entry.bytes) ≡ joining
+sound_put_by : HasSpaceLaws → (s : State) (entry : LogEntry) (joining beginning : Bool) → joins s.shape s.place (length entry.bytes) ≡ joining
     → begins_here s.shape s.place (length entry.bytes) ≡ beginning → IsSound s → TakesRecord s (length entry.bytes)
     → IsJoining s (placed entry (after_by joining beginning s.place (length entry.bytes)).0) → IsPut s (put_by joining beginning s entry) (length entry.bytes)
-sound_put_by s entry true beginning fits here sound takes joining = put_joined s entry sound takes fits joining
-sound_put_by s entry false true apart here sound takes joining = put_here s entry sound takes apart here joining
-sound_put_by s entry false false apart beyond sound takes joining = put_next s entry sound takes apart beyond joining
+sound_put_by space s entry true beginning fits here sound takes joining = put_joined space s entry sound takes fits joining
+sound_put_by space s entry false true apart here sound takes joining = put_here space s entry sound takes apart here joining
+sound_put_by space s entry false false apart beyond sound takes joining = put_next space s entry sound takes apart beyond joining
 
 -- in each case
-pub sound_put : (s : State) (entry : LogEntry) → IsSound s → TakesRecord s (length entry.bytes) → IsJoining s (placed entry (next_lsn s (length entry.bytes)))
+pub sound_put : HasSpaceLaws → (s : State) (entry : LogEntry) → IsSound s → TakesRecord s (length entry.bytes) → IsJoining s (placed entry (next_lsn s (length entry.bytes)))
     → IsPut s (put s entry) (length entry.bytes)
-sound_put s entry sound takes joining =
-    sound_put_by s entry (joins s.shape s.place (length entry.bytes)) (begins_here s.shape s.place (length entry.bytes)) refl refl sound takes joining
+sound_put space s entry sound takes joining =
+    sound_put_by space s entry (joins s.shape s.place (length entry.bytes)) (begins_here s.shape s.place (length entry.bytes)) refl refl sound takes joining

@@ -23,6 +23,7 @@ use Rattle.clfs_model.specs.Reading.{is_restart, restart_areas, newest_restart}
 use Rattle.clfs_model.specs.Refusals.{is_base, invalid_base, short, full, restart_refusal}
 use Rattle.clfs_model.specs.Answers.{restart_record, restarted}
 use Rattle.clfs_model.specs.Valid.{IsValid}
+use Rattle.clfs_space.specs.SpaceLaws.{HasSpaceLaws}
 use Rattle.clfs_laws.proofs.NotRefused.{passed, passed_long}
 use Rattle.clfs_laws.proofs.LsnOrder.{small_offset, few_records, frontier_sealed}
 use Rattle.clfs_laws.proofs.ValidSettings.{valid_grown, grown_is}
@@ -173,15 +174,15 @@ pub record HasRestarted (s j : State) : Type 0 where
   pub above : frontier s.place ≤ frontier j.place
   pub streams : j.streams ≡ s.streams
 
-pub restart_joined : (s : State) (client number : ℕ) (area : Area) (entry : LogEntry) (is_reserved : Bool) → IsValid s
+pub restart_joined : HasSpaceLaws → (s : State) (client number : ℕ) (area : Area) (entry : LogEntry) (is_reserved : Bool) → IsValid s
     → MayJoin s client number area entry is_reserved (own_sum []) → HasRestarted s (spend_if is_reserved area (length entry.bytes) (put s entry))
-restart_joined s client number area entry is_reserved valid may =
+restart_joined space s client number area entry is_reserved valid may =
     let n = length entry.bytes in
     let some = spent s client number area entry is_reserved (own_sum []) valid may in
     let v : State = spend_if is_reserved area n s in
     let has = some.1.0 in
     let takes : TakesRecord v n = record { short = has.short; room = omega (arith, has.room) } in
-    let is = sound_put v entry (sound_of v has.valid) takes has.joining in
+    let is = sound_put space v entry (sound_of v has.valid) takes has.joining in
     let place : (spend_if is_reserved area n (put s entry)).place ≡ (put s entry).place = spend_place is_reserved area n (put s entry) in
     let same : frontier (spend_if is_reserved area n (put s entry)).place ≡ frontier (put s entry).place = ap frontier place in
     record {
@@ -197,17 +198,17 @@ rebased_by s t stream base true is valid_s based there valid same above = valid
 rebased_by s t stream base false is valid_s based there valid same above = valid_rebased s t stream base (sound_of s valid_s) (based is) there valid same above
 
 -- a restart area that isn't refused
-pub valid_restarted : (s : State) (client number : ℕ) (area : Area) (bytes : List ℕ) (base : ℕ) (is_reserved : Bool) → IsValid s
+pub valid_restarted : HasSpaceLaws → (s : State) (client number : ℕ) (area : Area) (bytes : List ℕ) (base : ℕ) (is_reserved : Bool) → IsValid s
     → area_of s client number ≡ Some area → restart_refusal s area bytes base is_reserved ≡ None → IsValid (restarted s area bytes base is_reserved)
-valid_restarted s client number area bytes base is_reserved valid there none =
+valid_restarted space s client number area bytes base is_reserved valid there none =
     let n = length bytes in
     let need = need_of is_reserved n [] in
     let u : State = grown s need in
-    let valid_u : IsValid u = valid_grown s need valid in
+    let valid_u : IsValid u = valid_grown space s need valid in
     let allows = allowed s area bytes base is_reserved none in
     let entry = restart_record s area bytes base in
     let may = may_restart s client number area bytes base is_reserved u refl (grown_is s need) valid valid_u there allows in
-    let joined = restart_joined u client number area entry is_reserved valid_u may in
+    let joined = restart_joined space u client number area entry is_reserved valid_u may in
     let j : State = spend_if is_reserved area n (put u entry) in
     let above = frontier_flushed j joined.sound in
     let same : frontier u.place ≡ frontier s.place = ap (λ (x : State). frontier x.place) (grown_is s need) in

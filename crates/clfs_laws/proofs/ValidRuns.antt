@@ -13,6 +13,7 @@ use Rattle.clfs_model.specs.State.{area_of}
 use Rattle.clfs_model.specs.Journals.{GoesOn, IsLegal, mine, held_by, held_in}
 use Rattle.clfs_model.specs.Step.{ReopenStep, IsBroken, IsOutOfMemory, Reopens, with_broken}
 use Rattle.clfs_model.specs.Valid.{IsValid}
+use Rattle.clfs_space.specs.SpaceLaws.{HasSpaceLaws}
 use Rattle.clfs_laws.proofs.HeldRuns.{held_is}
 use Rattle.clfs_laws.proofs.ValidAreas.{valid_broken}
 use Rattle.clfs_laws.proofs.ValidSteps.{valid_step}
@@ -36,15 +37,15 @@ pub valid_reopened : (told : Bool) (s : State) (happened : Happened) (reply : Re
 unfolding ReopenStep
 valid_reopened told s happened reply t step valid = reopened_by told s happened reply t s.broken step valid
 
-valid_through : (told : Bool) (before : List Entry) (s t : State) (entries : List Entry) → GoesOn told before s entries t → IsValid s → IsValid t
-valid_through told before s t [] goes valid = valid_as s t goes valid
-valid_through told before s t (entry ∷ entries) goes valid =
-    valid_through told (before ++ entry ∷ []) goes.0 t entries goes.1.1
-    (valid_step told s entry.client entry.call entry.happened entry.reply goes.0 valid goes.1.0.step)
+valid_through : HasSpaceLaws → (told : Bool) (before : List Entry) (s t : State) (entries : List Entry) → GoesOn told before s entries t → IsValid s → IsValid t
+valid_through space told before s t [] goes valid = valid_as s t goes valid
+valid_through space told before s t (entry ∷ entries) goes valid =
+    valid_through space told (before ++ entry ∷ []) goes.0 t entries goes.1.1
+    (valid_step space told s entry.client entry.call entry.happened entry.reply goes.0 valid goes.1.0.step)
 
 -- a journal leaves a valid state
-pub valid_journal : (told : Bool) (s t : State) (journal : List Entry) → IsLegal told journal s t → IsValid s → IsValid t
-valid_journal told s t journal legal valid = valid_through told [] s t journal legal valid
+pub valid_journal : HasSpaceLaws → (told : Bool) (s t : State) (journal : List Entry) → IsLegal told journal s t → IsValid s → IsValid t
+valid_journal space told s t journal legal valid = valid_through space told [] s t journal legal valid
 
 -- an area that holds something is there
 pub record HoldsEnough (s : State) (client number n : ℕ) : Type 0 where

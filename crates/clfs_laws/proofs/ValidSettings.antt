@@ -18,8 +18,7 @@ use Rattle.clfs_model.specs.Policies.{outside, policy_refusal, with_policy, with
 use Rattle.clfs_model.specs.Refusals.{size_refusal}
 use Rattle.clfs_model.specs.declared.refusal.Refusal.TheVariants as refusals
 use Rattle.clfs_model.specs.Valid.{IsValid, HasPolicies, IsArea, IsRecord, IsWaiting}
-use Rattle.clfs_space.proofs.Steps.{growth-Some}
-use Rattle.clfs_space.proofs.Fewest.{fewest}
+use Rattle.clfs_space.specs.SpaceLaws.{HasSpaceLaws}
 use Rattle.clfs_laws.proofs.NotRefused.{passed}
 
 -- with more containers there are no fewer free sectors
@@ -79,21 +78,21 @@ limit_few : (s : State) (maximum : Option ℕ) → IfSome maximum (λ most. (2 �
 limit_few s None fits = omega arith
 limit_few s (Some most) fits = fits.1
 
-grown_more : (s : State) (wanted : ℕ) (found : Option ℕ) → IsValid s → growth s.shape s.place (hold s) s.containers (growth_rate s) (size_limit s) wanted ≡ found
+grown_more : HasSpaceLaws → (s : State) (wanted : ℕ) (found : Option ℕ) → IsValid s → growth s.shape s.place (hold s) s.containers (growth_rate s) (size_limit s) wanted ≡ found
     → IsValid (with_containers (unwrap_or found s.containers) s)
-grown_more s wanted None valid is = valid
-grown_more s wanted (Some n) valid is =
-    let step = growth-Some s.shape s.place (hold s) s.containers (growth_rate s) (size_limit s) wanted n is in
+grown_more space s wanted None valid is = valid
+grown_more space s wanted (Some n) valid is =
+    let step = space.growth s.shape s.place (hold s) s.containers (growth_rate s) (size_limit s) wanted n is in
     valid_more s n valid (omega (arith, step.whole_steps.2)) (omega (arith, step.at_most, limit_few s s.maximum valid.policies.maximum))
 
-grown_by : (s : State) (test : Bool) (wanted : ℕ) → IsValid s → IsValid (grown_if test s wanted)
-grown_by s true wanted valid = grown_more s wanted (growth s.shape s.place (hold s) s.containers (growth_rate s) (size_limit s) wanted) valid refl
-grown_by s false wanted valid = valid
+grown_by : HasSpaceLaws → (s : State) (test : Bool) (wanted : ℕ) → IsValid s → IsValid (grown_if test s wanted)
+grown_by space s true wanted valid = grown_more space s wanted (growth s.shape s.place (hold s) s.containers (growth_rate s) (size_limit s) wanted) valid refl
+grown_by space s false wanted valid = valid
 
 -- a log that grows stays valid
-pub valid_grown : (s : State) (need : ℕ) → IsValid s → IsValid (grown s need)
+pub valid_grown : HasSpaceLaws → (s : State) (need : ℕ) → IsValid s → IsValid (grown s need)
 unfolding grown
-valid_grown s need valid = grown_by s _ (reserved s + need) valid
+valid_grown space s need valid = grown_by space s _ (reserved s + need) valid
 
 -- a valid state with other policies, such as may be installed
 pub valid_policies : (s : State) (maximum minimum growth_policy : Option ℕ) (automatic : Bool) → IsValid s
@@ -213,15 +212,15 @@ at_least_all : (a b c d n : ℕ) → max (max a b) (max c d) ≤ n → (a ≤ n)
 at_least_all a b c d n fits = (omega (arith, fits), (omega (arith, fits), omega (arith, fits)))
 
 -- a size that isn't refused
-pub valid_sized : (s : State) (asked : ℕ) → IsValid s → size_refusal s asked ≡ None → IsValid (with_containers asked s)
-valid_sized s asked valid none =
+pub valid_sized : HasSpaceLaws → (s : State) (asked : ℕ) → IsValid s → size_refusal s asked ≡ None → IsValid (with_containers asked s)
+valid_sized space s asked valid none =
     let grows = passed (nat_lt s.containers asked && nat_lt (size_limit s) asked) (refusals.ContainerLimit (size_limit s)) _ none in
     let shrinks = passed (nat_lt asked s.containers && nat_lt asked (needed_containers s)) (refusals.CantShrink (active s) (needed_containers s)) None grows.1 in
     elim (cases_Bool (nat_lt asked s.containers)) [
       | inl fewer ↦
           let enough : needed_containers s ≤ asked = ltb-false asked (needed_containers s) (second_false _ _ fewer shrinks.0) in
           let all = at_least_all 2 (unwrap_or s.minimum 0) (active s) (containers_for_reserved s) asked enough in
-          let least = fewest s.shape s.place (hold s) s.containers (reserved s) valid.space.active valid.space.room in
+          let least = space.fewest s.shape s.place (hold s) s.containers (reserved s) valid.space.active valid.space.room in
           let room : free (with_containers (containers_for_reserved s) s) ≤ free (with_containers asked s) =
           free_more s.shape s.place (hold s) (containers_for_reserved s) asked all.1.1 in
           let below : asked < s.containers = ltb-true asked s.containers fewer in
@@ -239,20 +238,20 @@ valid_sized s asked valid none =
           ]
     ]
 
-more_by : (s : State) (wanted : ℕ) (found : Option ℕ) → growth s.shape s.place (hold s) s.containers (growth_rate s) (size_limit s) wanted ≡ found
+more_by : HasSpaceLaws → (s : State) (wanted : ℕ) (found : Option ℕ) → growth s.shape s.place (hold s) s.containers (growth_rate s) (size_limit s) wanted ≡ found
     → s.containers ≤ unwrap_or found s.containers
-more_by s wanted None is = omega arith
-more_by s wanted (Some n) is =
-    let step = growth-Some s.shape s.place (hold s) s.containers (growth_rate s) (size_limit s) wanted n is in omega (arith, step.whole_steps.2)
+more_by space s wanted None is = omega arith
+more_by space s wanted (Some n) is =
+    let step = space.growth s.shape s.place (hold s) s.containers (growth_rate s) (size_limit s) wanted n is in omega (arith, step.whole_steps.2)
 
-more_if : (s : State) (test : Bool) (wanted : ℕ) → s.containers ≤ (grown_if test s wanted).containers
-more_if s true wanted = more_by s wanted (growth s.shape s.place (hold s) s.containers (growth_rate s) (size_limit s) wanted) refl
-more_if s false wanted = omega arith
+more_if : HasSpaceLaws → (s : State) (test : Bool) (wanted : ℕ) → s.containers ≤ (grown_if test s wanted).containers
+more_if space s true wanted = more_by space s wanted (growth s.shape s.place (hold s) s.containers (growth_rate s) (size_limit s) wanted) refl
+more_if space s false wanted = omega arith
 
 -- a log that grows has no fewer containers
-pub grown_no_fewer : (s : State) (need : ℕ) → s.containers ≤ (grown s need).containers
+pub grown_no_fewer : HasSpaceLaws → (s : State) (need : ℕ) → s.containers ≤ (grown s need).containers
 unfolding grown
-grown_no_fewer s need = more_if s _ (reserved s + need)
+grown_no_fewer space s need = more_if space s _ (reserved s + need)
 
 only_containers : (s : State) (test : Bool) (wanted : ℕ) → grown_if test s wanted ≡ with_containers (grown_if test s wanted).containers s
 only_containers s true wanted = refl

@@ -25,6 +25,7 @@ use Rattle.clfs_model.specs.Refusals.{refusal, in_area, unless_two_containers, t
 use Rattle.clfs_model.specs.Answers.{Outcome, outcome, answer, found_with_cursor, read_at, read_newest_restart, moved_on, reserved_for, released, advanced, restarted, flushed_to}
 use Rattle.clfs_model.specs.Step.{Step}
 use Rattle.clfs_model.specs.Valid.{IsValid}
+use Rattle.clfs_space.specs.SpaceLaws.{HasSpaceLaws}
 use Rattle.clfs_laws.proofs.NotRefused.{passed, passed_long}
 use Rattle.clfs_laws.proofs.RowChanges.{area_named}
 use Rattle.clfs_laws.proofs.StepLeads.{step_leads}
@@ -86,67 +87,67 @@ valid_flushed_to s lsn valid = elim (cases_Bool (nat_lt lsn (flushed s))) [
 ]
 
 -- sectors that are reserved, where that isn't refused
-valid_reserving : (s : State) (client number : ℕ) (sizes : List ℕ) (area : Area) → 2 ≤ s.containers → area_of s client number ≡ Some area
+valid_reserving : HasSpaceLaws → (s : State) (client number : ℕ) (sizes : List ℕ) (area : Area) → 2 ≤ s.containers → area_of s client number ≡ Some area
     → too_long area.largest sizes (full s (own_sum sizes)) ≡ None → IsValid s → IsValid (reserved_for s area sizes).state
-valid_reserving s client number sizes area two there none valid =
+valid_reserving space s client number sizes area two there none valid =
     let need = own_sum sizes in
     let room = passed (not (has_room s need)) (refusals.Full (free (grown s need)) (reserved (grown s need)) need) None (passed_long area.largest sizes (full s need) none) in
-    valid_reserved s client number sizes area there (true_of_not _ room.0) two valid
+    valid_reserved space s client number sizes area there (true_of_not _ room.0) two valid
 
 -- what a call that isn't refused leaves
-pub valid_answer : (s : State) (client : ℕ) (call : Call) → refusal s client call ≡ None → IsValid s → IsValid (answer s client call).state
-valid_answer s client (calls.OpenStream name) none valid = valid_opened s name valid
-valid_answer s client (calls.CreateArea stream largest reads) none valid = valid_created s client stream largest reads none valid
-valid_answer s client (calls.DeleteArea number) none valid = valid_deleted s (is_area client number) valid
-valid_answer s client (calls.Reserve number sizes) none valid =
+pub valid_answer : HasSpaceLaws → (s : State) (client : ℕ) (call : Call) → refusal s client call ≡ None → IsValid s → IsValid (answer s client call).state
+valid_answer space s client (calls.OpenStream name) none valid = valid_opened s name valid
+valid_answer space s client (calls.CreateArea stream largest reads) none valid = valid_created s client stream largest reads none valid
+valid_answer space s client (calls.DeleteArea number) none valid = valid_deleted s (is_area client number) valid
+valid_answer space s client (calls.Reserve number sizes) none valid =
     let two = two_of s (in_area s client number (λ (area : Area). too_long area.largest sizes (full s (own_sum sizes)))) none in
     valid_in s client number (λ area. too_long area.largest sizes (full s (own_sum sizes))) (λ area. reserved_for s area sizes) (area_of s client number) refl two.1
-    (λ area there passes. valid_reserving s client number sizes area two.0 there passes valid)
-valid_answer s client (calls.Release number sectors) none valid =
+    (λ area there passes. valid_reserving space s client number sizes area two.0 there passes valid)
+valid_answer space s client (calls.Release number sectors) none valid =
     valid_in s client number (λ area. short area sectors None) (λ area. released s area sectors) (area_of s client number) refl none
     (λ area there passes. valid_released s client number sectors area there valid)
-valid_answer s client (calls.Align number sizes) none valid = valid
-valid_answer s client (calls.Append number draft is_reserved sizes) none valid =
+valid_answer space s client (calls.Align number sizes) none valid = valid
+valid_answer space s client (calls.Append number draft is_reserved sizes) none valid =
     let two = two_of s (in_area s client number (λ (area : Area). append_refusal s area draft is_reserved sizes)) none in
     valid_in s client number (λ area. append_refusal s area draft is_reserved sizes)
     (λ area. outcome (replies.Placed (next_lsn s (length draft.bytes))) (appended s area draft is_reserved sizes)) (area_of s client number) refl two.1
-    (λ area there passes. valid_appended s client number area draft is_reserved sizes valid two.0 there passes)
-valid_answer s client (calls.Flush number) none valid = valid_flush s (sound_of s valid)
-valid_answer s client (calls.FlushTo number lsn) none valid = valid_flushed_to s lsn valid
-valid_answer s client (calls.Read number lsn mode) none valid =
+    (λ area there passes. valid_appended space s client number area draft is_reserved sizes valid two.0 there passes)
+valid_answer space s client (calls.Flush number) none valid = valid_flush s (sound_of s valid)
+valid_answer space s client (calls.FlushTo number lsn) none valid = valid_flushed_to s lsn valid
+valid_answer space s client (calls.Read number lsn mode) none valid =
     valid_in s client number (λ area. read_refusal s area lsn) (λ area. read_at s area lsn mode) (area_of s client number) refl none
     (λ area there passes. valid_found s client number area (Records mode) (live_at s area.stream lsn) (refusals.RecordNonexistent lsn) there valid)
-valid_answer s client (calls.ReadNext number cursor) none valid =
+valid_answer space s client (calls.ReadNext number cursor) none valid =
     valid_in s client number (λ area. next_refusal s area (record_cursor area cursor)) (λ area. moved_on s area cursor (record_cursor area cursor)) (area_of s client number) refl none
     (λ area there passes. valid_moved_on s client number cursor area (option_and_then (next_of_cursor s area) (record_cursor area cursor)) there valid)
-valid_answer s client (calls.EndRead number cursor) none valid =
+valid_answer space s client (calls.EndRead number cursor) none valid =
     valid_ended s client number cursor (λ area. refused_if (is_none (cursor_of area cursor)) refusals.NoSuchCursor None) (area_of s client number) refl none valid
-valid_answer s client (calls.WriteRestart number bytes base is_reserved) none valid =
+valid_answer space s client (calls.WriteRestart number bytes base is_reserved) none valid =
     let two = two_of s (in_area s client number (λ (area : Area). restart_refusal s area bytes base is_reserved)) none in
     valid_in s client number (λ area. restart_refusal s area bytes base is_reserved)
     (λ area. outcome (replies.Placed (next_lsn s (length bytes))) (restarted s area bytes base is_reserved)) (area_of s client number) refl two.1
-    (λ area there passes. valid_restarted s client number area bytes base is_reserved valid there passes)
-valid_answer s client (calls.ReadRestart number) none valid =
+    (λ area there passes. valid_restarted space s client number area bytes base is_reserved valid there passes)
+valid_answer space s client (calls.ReadRestart number) none valid =
     valid_in s client number (λ area. refused_if (is_none (newest_restart s area.stream)) refusals.NoRestart (too_many_cursors area)) (λ area. read_newest_restart s area)
     (area_of s client number) refl none
     (λ area there passes. valid_found s client number area RestartAreas (newest_restart s area.stream) refusals.NoRestart there valid)
-valid_answer s client (calls.PreviousRestart number cursor) none valid =
+valid_answer space s client (calls.PreviousRestart number cursor) none valid =
     valid_in s client number (λ area. next_refusal s area (restart_cursor area cursor)) (λ area. moved_on s area cursor (restart_cursor area cursor)) (area_of s client number) refl none
     (λ area there passes. valid_moved_on s client number cursor area (option_and_then (next_of_cursor s area) (restart_cursor area cursor)) there valid)
-valid_answer s client (calls.Advance number lsn) none valid =
+valid_answer space s client (calls.Advance number lsn) none valid =
     valid_in s client number (λ area. invalid_base s area.stream lsn None) (λ area. outcome (replies.Base lsn) (advanced s area.stream lsn)) (area_of s client number) refl none
     (λ area there passes. valid_advanced s area.stream lsn passes (its_area s client number area there valid).stream valid)
-valid_answer s client (calls.SetArchive on) none valid = valid_archiving s on valid
-valid_answer s client (calls.SetArchiveTail lsn) none valid = valid_tail s lsn none valid
-valid_answer s client calls.ListExtents none valid = valid
-valid_answer s client (calls.InstallPolicy policy) none valid = valid_installed s policy valid none
-valid_answer s client (calls.RemovePolicy kind) none valid = valid_removed s kind valid
-valid_answer s client (calls.SetSize containers) none valid = valid_sized s containers valid none
-valid_answer s client (calls.Info stream) none valid = valid
+valid_answer space s client (calls.SetArchive on) none valid = valid_archiving s on valid
+valid_answer space s client (calls.SetArchiveTail lsn) none valid = valid_tail s lsn none valid
+valid_answer space s client calls.ListExtents none valid = valid
+valid_answer space s client (calls.InstallPolicy policy) none valid = valid_installed s policy valid none
+valid_answer space s client (calls.RemovePolicy kind) none valid = valid_removed s kind valid
+valid_answer space s client (calls.SetSize containers) none valid = valid_sized space s containers valid none
+valid_answer space s client (calls.Info stream) none valid = valid
 
 -- what every step leaves
-pub valid_step : (told : Bool) (s : State) (client : ℕ) (call : Call) (happened : Happened) (reply : Reply) (t : State)
+pub valid_step : HasSpaceLaws → (told : Bool) (s : State) (client : ℕ) (call : Call) (happened : Happened) (reply : Reply) (t : State)
     → IsValid s → Step told s client call happened reply t → IsValid t
-valid_step told s client call happened reply t valid step =
+valid_step space told s client call happened reply t valid step =
     step_leads IsValid told s client call happened reply t step
-    (record { same = valid; broken = valid_broken s true valid; answered = λ none. valid_answer s client call none valid })
+    (record { same = valid; broken = valid_broken s true valid; answered = λ none. valid_answer space s client call none valid })

@@ -18,6 +18,8 @@ ghost use Rattle.clfs_model.specs.Valid.{IsValid};
 ghost use Rattle.clfs_laws.specs.Needs.{is_for_room};
 ghost use Rattle.clfs_laws.specs.Rows.{row_in, row_through, NoneMakesOrEnds};
 
+use clfs_space::space_laws;
+
 /// The sectors that a client's area holds are those that the opening state and the client's own entries give.
 pub fn held_is_by_own_entries()
     ensures { (told : Bool) (s t : State) (journal : List Entry) (client number : ℕ) → IsLegal told journal s t
@@ -53,4 +55,6 @@ pub fn own_entries_cover_an_append()
     ensures step { (told : Bool) (s t u : State) (journal : List Entry) (client number : ℕ) (draft : Draft) (happened : Happened) (given : Refusal)
         → IsValid s → IsLegal told journal s t → own (length draft.bytes) ≤ held_by s client (mine journal client) number
         → Step told t client (calls.Append number draft true []) happened (replies.Refused given) u → is_for_room given ≡ false }
-{}
+{
+    space_laws();
+}

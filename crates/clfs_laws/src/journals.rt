@@ -12,6 +12,8 @@ ghost use Rattle.clfs_model.specs.Step.{Step};
 ghost use Rattle.clfs_model.specs.Valid.{IsValid};
 ghost use Rattle.clfs_laws.specs.Chains.{AreSteps};
 
+use clfs_space::space_laws;
+
 /// The front of a legal journal is legal, up to a state from which the rest goes on.
 pub fn fronts_are_legal()
     ensures { (told : Bool) (s t : State) (front rest : List Entry) → IsLegal told (front ++ rest) s t
@@ -37,4 +39,6 @@ pub fn flushed_never_falls()
     ensures step { (told : Bool) (s : State) (client : ℕ) (call : Call) (happened : Happened) (reply : Reply) (t : State)
         → IsValid s → Step told s client call happened reply t → flushed s ≤ flushed t }
     ensures journal { (told : Bool) (s t : State) (journal : List Entry) → IsValid s → IsLegal told journal s t → flushed s ≤ flushed t }
-{}
+{
+    space_laws();
+}

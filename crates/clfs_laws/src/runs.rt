@@ -14,6 +14,7 @@ ghost use Rattle.clfs_laws.specs.Fronts.{RunsBy};
 ghost use Rattle.clfs_laws.specs.Meets.{RequestMeets};
 
 use clfs_model::calm_replies_are_a_run;
+use clfs_space::space_laws;
 
 /// Two runs join where the second begins at the state that the first reached, and a run over two lists of requests, one behind the
 /// other, is two runs.
@@ -33,5 +34,6 @@ pub fn opening_anew_comes_to_the_cut()
     ensures run { (s : State) (requests : List Request) → IsValid s → IsStorable s → All RequestMeets requests
         → Run true s requests (all_fine requests) (replies_of s requests) (state_after s requests) }
 {
+    space_laws();
     calm_replies_are_a_run();
 }

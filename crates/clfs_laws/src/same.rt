@@ -14,6 +14,8 @@ ghost use Rattle.clfs_model.specs.Step.{Step, ReopenStep, calls_disk};
 ghost use Rattle.clfs_model.specs.Run.{Request, Run};
 ghost use Rattle.clfs_model.specs.Valid.{IsValid};
 
+use clfs_space::space_laws;
+
 /// Two valid states that are the same meet the same first refusal in each call, and call the disk in the same calls. Each step of one
 /// is a step of the other, with the same reply, whatever happens and whether or not the disk tells what it holds, and the states that
 /// the two come to are the same again. So it is where both are opened anew, and over lists of requests.
@@ -29,7 +31,9 @@ pub fn the_same_answer_alike()
     ensures run { (told : Bool) (s u : State) (requests : List Request) (happened : List Happened) (replies : List Reply) (t : State)
         → IsValid s → IsValid u → IsSame s u → Run told s requests happened replies t
         → (v : State) × (Run told u requests happened replies v × IsSame t v) }
-{}
+{
+    space_laws();
+}
 
 /// Every state is the same as itself; where one is the same as another, so is the other as the one; and what is the same as a third is
 /// so through it. The flushed parts of valid states that are the same are the same.
@@ -49,4 +53,6 @@ pub fn the_holds_container_never_falls()
         → IsValid s → ReopenStep true s happened reply t → container_of (hold s) ≤ container_of (hold t) }
     ensures journal { (told : Bool) (s t : State) (journal : List Entry)
         → IsValid s → IsLegal told journal s t → container_of (hold s) ≤ container_of (hold t) }
-{}
+{
+    space_laws();
+}

@@ -19,6 +19,8 @@ ghost use Rattle.clfs_model.specs.Step.{Step};
 ghost use Rattle.clfs_model.specs.Valid.{IsValid};
 ghost use Rattle.clfs_laws.specs.Needs.{needed_sectors, taken_sectors, area_number, held_if_there, first_too_long, is_for_room};
 
+use clfs_space::space_laws;
+
 /// In a state that a log can be in, the free sectors are at least the reserved ones.
 pub fn reserved_is_free()
     ensures { (s : State) → IsValid s → reserved s ≤ free s }
@@ -56,7 +58,9 @@ pub fn full_where_no_room()
         → has_room s (need_of spends (length bytes) []) ≡ false
         → refusal s client (calls.WriteRestart number bytes base spends)
         ≡ Some (refusals.Full (free s) (reserved s) (need_of spends (length bytes) [])) }
-{}
+{
+    space_laws();
+}
 
 /// A call is refused for what its area holds exactly where that is less than the call takes and none of the tests before that refuses
 /// it, and the refusal tells both.

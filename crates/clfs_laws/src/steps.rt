@@ -21,6 +21,8 @@ ghost use Rattle.clfs_model.specs.Step.{Step, calls_disk};
 ghost use Rattle.clfs_model.specs.Valid.{IsValid};
 ghost use Rattle.clfs_laws.specs.Refused.{is_of_call};
 
+use clfs_space::space_laws;
+
 /// A refusal that stands in a call's list is the first that the call meets, and the call that meets one answers it where nothing
 /// happens; one that meets none isn't refused. No step answers that a line is bad.
 pub fn refusals_are_the_calls_own()
@@ -47,7 +49,9 @@ pub fn steps_only_add_records()
 pub fn quiet_calls_leave_the_cut()
     ensures { (told : Bool) (s : State) (client : ℕ) (call : Call) (happened : Happened) (reply : Reply) (t : State)
         → IsValid s → calls_disk s call ≡ false → Step told s client call happened reply t → cut t ≡ cut s }
-{}
+{
+    space_laws();
+}
 
 /// A flush up to an LSN answers an LSN above it, below which all is on the disk.
 pub fn a_flush_goes_past_its_lsn()

@@ -23,6 +23,8 @@ ghost use Rattle.clfs_model.specs.Storable.{IsStorable};
 ghost use Rattle.clfs_model.specs.Valid.{IsValid};
 ghost use Rattle.clfs_laws.specs.Meets.{RequestMeets};
 
+use clfs_space::space_laws;
+
 /// Files can hold a log that has just been made, and the flushed part of a log that they can hold.
 pub fn first_states_are_storable()
     ensures fresh { (shape : Shape) (containers buffers : ℕ) → IsShape shape → 1 ≤ containers → containers ≤ 256 → 1 ≤ buffers → buffers ≤ 64
@@ -41,7 +43,9 @@ pub fn steps_keep_a_state_storable()
         → All (λ (entry : Entry). MeetsCondition entry.client entry.call) journal → IsLegal told journal s t → IsStorable t }
     ensures run { (told : Bool) (s : State) (requests : List Request) (happened : List Happened) (replies : List Reply) (t : State)
         → IsValid s → IsStorable s → All RequestMeets requests → Run told s requests happened replies t → IsStorable t }
-{}
+{
+    space_laws();
+}
 
 /// So each number of such a state fits its type: LSNs, links, bases, starts and tails have 64 bits, offsets and lengths 32. A record
 /// fits a block of the log's shape, and every block ends within its container.

@@ -14,6 +14,8 @@ ghost use Rattle.clfs_model.specs.Survivors.{IsSurvivor};
 ghost use Rattle.clfs_model.specs.Valid.{IsValid};
 ghost use Rattle.clfs_laws.specs.Stable.{LeavesStable};
 
+use clfs_space::space_laws;
+
 /// A survivor of a call begins with all records that were on the disk before it, in their order, and what it has behind them lies at
 /// or above the LSN up to which the log was flushed. So it has every restart area.
 pub fn survivors_keep_what_was_flushed()
@@ -35,7 +37,9 @@ pub fn quiet_calls_survive_as_the_cut()
     ensures same { (told : Bool) (s t x : State) (client : ℕ) (call : Call) (reply : Reply)
         → IsValid s → IsStorable s → Step told s client call Fine reply t → LeavesStable s t → IsSurvivor (asks client call) s t x
         → IsSame (cut s) (record x { buffers = s.buffers }) }
-{}
+{
+    space_laws();
+}
 
 /// Nothing survives opening the log anew but the flushed part of the log, up to the number of write buffers, and that does.
 pub fn opening_anew_survives_as_the_cut()
@@ -52,4 +56,6 @@ pub fn the_cut_survives()
     ensures after { (told : Bool) (s t : State) (client : ℕ) (call : Call) (reply : Reply)
         → IsValid s → IsStorable s → Step told s client call Fine reply t → IsSurvivor (asks client call) s t (cut t) }
     ensures bad_line { (s : State) (at : ℕ) → IsValid s → IsSurvivor (bad_line at) s s (cut s) }
-{}
+{
+    space_laws();
+}

@@ -13,6 +13,8 @@ ghost use Rattle.clfs_model.specs.Journals.{IsLegal};
 ghost use Rattle.clfs_model.specs.Step.{Step, ReopenStep};
 ghost use Rattle.clfs_model.specs.Valid.{IsValid};
 
+use clfs_space::space_laws;
+
 /// A log that has just been made is valid, and so is the flushed part of a valid log.
 pub fn first_states_are_valid()
     ensures fresh { (shape : Shape) (containers buffers : ℕ) → IsShape shape → 1 ≤ containers → containers ≤ 256 → 1 ≤ buffers → buffers ≤ 64
@@ -28,4 +30,6 @@ pub fn steps_keep_a_state_valid()
     ensures reopening { (told : Bool) (s : State) (happened : Happened) (reply : Reply) (t : State)
         → IsValid s → ReopenStep told s happened reply t → IsValid t }
     ensures journal { (told : Bool) (s t : State) (journal : List Entry) → IsValid s → IsLegal told journal s t → IsValid t }
-{}
+{
+    space_laws();
+}

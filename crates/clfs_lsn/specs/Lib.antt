@@ -5,5 +5,7 @@ pub mod Size
 pub mod Place
 pub mod Space
 pub mod Words
+pub mod Names
+pub mod Checks
 pub mod Spelling
 pub mod Head

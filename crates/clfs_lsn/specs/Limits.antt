@@ -17,6 +17,14 @@ most_block_records = 511
 abbrev pub most_containers : ℕ
 most_containers = 256
 
+-- the fewest containers that a policy may ask for
+abbrev pub fewest_containers : ℕ
+fewest_containers = 2
+
+-- the greatest growth rate: from the fewest containers to the most in one step
+abbrev pub greatest_rate : ℕ
+greatest_rate = 254
+
 -- the most write buffers of a log that is open: one more than the most blocks that wait
 abbrev pub most_write_buffers : ℕ
 most_write_buffers = 64

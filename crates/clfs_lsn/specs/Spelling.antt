@@ -5,6 +5,7 @@ use Rattle.std.specs.Option.{option_map}
 use Rattle.byteorder.specs.Endian.{little_bytes, little_number}
 use Rattle.clfs_lsn.specs.Format.{record_header}
 use Rattle.clfs_lsn.specs.Size.{size}
+use Rattle.clfs_lsn.specs.Checks.{unless_wrong}
 use Rattle.clfs_lsn.specs.declared.entry.LogEntry.{LogEntry}
 use Rattle.clfs_lsn.specs.declared.entry.Kind.{Kind}
 use Rattle.clfs_lsn.specs.declared.entry.Kind.TheVariants.{Plain, Restart}
@@ -97,11 +98,6 @@ entry_of lsn bytes = let h = header_of bytes in record {
   bytes = take h.len (drop record_header bytes);
 }
 
--- a check's wrong byte, or what comes where the check holds
-abbrev pub unless_fault : {Y : Type 0} → Option ℕ → Result Y ℕ → Result Y ℕ
-unless_fault None read = read
-unless_fault (Some at) read = Err at
-
 -- The record at the front of bytes and the number of its bytes, or the first wrong byte. A header that isn't there whole, or
 -- whose length reaches past the bytes, is told at the record's first byte.
 unfoldable pub record_at : ℕ → ℕ → List ℕ → Result (LogEntry × ℕ) ℕ
@@ -109,4 +105,5 @@ record_at lsn streams bytes =
     let len = (header_of bytes).len in
     if nat_lt (length bytes) record_header then Err 0
     else if nat_lt (length bytes) (size len) then Err 0
-    else unless_fault (header_fault lsn streams (header_of bytes)) (unless_fault (filling_fault len bytes) (Ok (entry_of lsn bytes, size len)))
+    else unless_wrong (λ at. at) (header_fault lsn streams (header_of bytes))
+    (unless_wrong (λ at. at) (filling_fault len bytes) (Ok (entry_of lsn bytes, size len)))

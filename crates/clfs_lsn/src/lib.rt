@@ -11,10 +11,12 @@
 mod bytes;
 mod entry;
 mod format;
+mod limits;
 mod lsn;
 mod name;
 mod place;
 mod policy;
+mod room;
 mod shape;
 mod sizes;
 
@@ -24,10 +26,12 @@ pub use format::{
     BLOCK_HEADER, MOST_BLOCK_RECORDS, OPEN_GATE, RECORD_HEADER, SECTOR, SECTOR_PAYLOAD, sectors_of,
     size_of_record,
 };
+pub use limits::{FEWEST_CONTAINERS, GREATEST_GROWTH, MOST_CONTAINERS};
 pub use lsn::{Lsn, every_number_is_an_lsn};
 pub use name::Name;
 pub use place::{Place, frontier, place_after, sealed};
 pub use policy::{Policy, PolicyKind};
+pub use room::{push_reserved, push_zeros};
 pub use shape::{Shape, longest, own};
 pub use sizes::Sizes;
 

@@ -36,29 +36,43 @@ fn places_of_records(rt: HostRuntime) -> Result<(), Fail> {
         block_sectors: 2,
         container_sectors: 8,
     };
-    let mut place = Place {
+    let small = Place {
         container: 1,
         offset: 0,
-        used: 0,
-        records: 0,
+        used: 56,
+        records: 1,
     };
-    // The last of these doesn't fit into the one sector that is left of the container.
-    for (len, want) in [
-        (1, "1:0:0"),
-        (1, "1:0:1"),
-        (960, "1:200:0"),
-        (960, "1:600:0"),
-        (960, "1:a00:0"),
-        (960, "2:0:0"),
-    ] {
-        let (lsn, after) = place_after(&shape, &place, len);
-        assert_eq!(rt; lsn.to_string(rt.alloc())?.as_str(), want);
-        place = after;
-    }
-    let behind = sealed(&place);
     assert_eq!(rt;
-        frontier(&behind).to_string(rt.alloc())?.as_str(),
-        "2:400:0"
+        place_after(&shape, &small, 1)
+            .0
+            .to_string(rt.alloc())?
+            .as_str(),
+        "1:0:1"
+    );
+    assert_eq!(rt;
+        place_after(&shape, &small, 960)
+            .0
+            .to_string(rt.alloc())?
+            .as_str(),
+        "1:200:0"
+    );
+    // One sector is left, and the record wants two.
+    let full = Place {
+        container: 1,
+        offset: 2560,
+        used: 1008,
+        records: 1,
+    };
+    assert_eq!(rt;
+        place_after(&shape, &full, 960)
+            .0
+            .to_string(rt.alloc())?
+            .as_str(),
+        "2:0:0"
+    );
+    assert_eq!(rt;
+        frontier(&sealed(&full)).to_string(rt.alloc())?.as_str(),
+        "1:e00:0"
     );
     Ok(())
 }

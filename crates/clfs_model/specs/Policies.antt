@@ -1,6 +1,6 @@
 -- The four policies of a log, of each kind one at most.
 use Rattle.std.specs.Prelude.{ℕ, Bool, true, false, ◌||◌, nat_lt, max, if◌then◌else◌, Option, Some, None, is_some, unwrap_or}
-use Rattle.clfs_lsn.specs.Limits.{most_containers}
+use Rattle.clfs_lsn.specs.Limits.{most_containers, fewest_containers, greatest_rate}
 use Rattle.clfs_lsn.specs.declared.policy.Policy.{Policy}
 use Rattle.clfs_lsn.specs.declared.policy.Policy.TheVariants as policies
 use Rattle.clfs_lsn.specs.declared.policy.PolicyKind.{PolicyKind}
@@ -11,20 +11,16 @@ use Rattle.clfs_model.specs.declared.state.State.{State}
 use Rattle.clfs_model.specs.Live.{active}
 use Rattle.clfs_model.specs.Space.{containers_for_reserved}
 
--- the greatest growth rate
-abbrev pub greatest_rate : ℕ
-greatest_rate = 254
-
 -- a value outside its range
 abbrev pub outside : ℕ → ℕ → ℕ → Option Refusal
 outside value least greatest =
     if nat_lt value least || nat_lt greatest value then Some (refusals.PolicyConflict least greatest) else None
 
--- A maximum goes from the installed minimum, else 2, to the most containers; a minimum from 2 to the installed maximum, else
--- the most containers; a growth rate from 1 to 254. Automatic growth has no value.
+-- A maximum goes from the installed minimum, else the fewest containers, to the most; a minimum from the fewest to the installed
+-- maximum, else the most; a growth rate from 1 to the greatest. Automatic growth has no value.
 abbrev pub policy_refusal : State → Policy → Option Refusal
-policy_refusal s (policies.Maximum value) = outside value (unwrap_or s.minimum 2) most_containers
-policy_refusal s (policies.Minimum value) = outside value 2 (unwrap_or s.maximum most_containers)
+policy_refusal s (policies.Maximum value) = outside value (unwrap_or s.minimum fewest_containers) most_containers
+policy_refusal s (policies.Minimum value) = outside value fewest_containers (unwrap_or s.maximum most_containers)
 policy_refusal s (policies.Growth value) = outside value 1 greatest_rate
 policy_refusal s policies.Automatic = None
 
@@ -49,6 +45,6 @@ without_policy s kinds.Minimum = record s { minimum = None }
 without_policy s kinds.Growth = record s { growth = None }
 without_policy s kinds.Automatic = record s { automatic = false }
 
--- the fewest containers that the log can shrink to: 2, the installed minimum, those in use, and those for what areas hold
+-- the fewest containers that the log can shrink to: two, the installed minimum, those in use, and those for what areas hold
 abbrev pub needed_containers : State → ℕ
-needed_containers s = max (max 2 (unwrap_or s.minimum 0)) (max (active s) (containers_for_reserved s))
+needed_containers s = max (max fewest_containers (unwrap_or s.minimum 0)) (max (active s) (containers_for_reserved s))

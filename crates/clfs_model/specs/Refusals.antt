@@ -4,6 +4,7 @@ use Rattle.std.specs.List.{position_or_len}
 use Rattle.std.specs.Option.{option_map_or}
 use Rattle.std.specs.Str.{bytes_eq}
 use Rattle.clfs_lsn.specs.Limits.{most_streams, longest_name, most_areas}
+use Rattle.clfs_lsn.specs.Names.{is_name_byte}
 use Rattle.clfs_lsn.specs.Lsn.{null_lsn}
 use Rattle.clfs_lsn.specs.Size.{longest}
 use Rattle.clfs_lsn.specs.Place.{frontier}
@@ -61,12 +62,8 @@ short area need others = refused_if (nat_lt area.held need) (refusals.Reservatio
 abbrev pub full : State → ℕ → Option Refusal
 full s need = refused_if (not (has_room s need)) (refusals.Full (free (grown s need)) (reserved (grown s need)) need) None
 
--- A name has 1 to 32 bytes, each a letter, a digit, `_`, `-` or `.`.
-abbrev pub is_name_byte : ℕ → Bool
-is_name_byte b =
-    (nat_le 48 b && nat_le b 57) || (nat_le 65 b && nat_le b 90) || (nat_le 97 b && nat_le b 122) || (b == 95) || (b == 45) || (b == 46)
-
--- The first wrong byte of a name: a byte that none may have, or the one behind the longest name. An empty name is wrong at 0.
+-- The first wrong byte of a name, which has 1 to 32 bytes: a byte that none may have, or the one behind the longest name. An
+-- empty name is wrong at 0.
 abbrev pub name_fault : List ℕ → Option ℕ
 name_fault name =
     let bad = position_or_len (λ b. not (is_name_byte b)) name in

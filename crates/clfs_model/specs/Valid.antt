@@ -2,7 +2,7 @@
 use Rattle.std.specs.Prelude.{◌≡◌, ◌≢◌, ◌<◌, ◌≤◌, ℕ, ◌&&◌, ◌==◌, ◌⊎◌, All, AllPairs, IsSome, IfSome, List, length, map, filter}
 use Rattle.std.specs.List.{range_with_len}
 use Rattle.std.specs.List.Sorted.{IsStrictlyIncreasing}
-use Rattle.clfs_lsn.specs.Limits.{most_containers, most_write_buffers}
+use Rattle.clfs_lsn.specs.Limits.{most_containers, most_write_buffers, greatest_rate}
 use Rattle.clfs_lsn.specs.Lsn.{null_lsn, container_of, offset_of, sequence_of}
 use Rattle.clfs_lsn.specs.Size.{IsShape, longest}
 use Rattle.clfs_lsn.specs.Place.{IsWithin, frontier}
@@ -17,7 +17,6 @@ use Rattle.clfs_model.specs.Live.{active}
 use Rattle.clfs_model.specs.Space.{free, reserved}
 use Rattle.clfs_model.specs.Flush.{flushed, block_start}
 use Rattle.clfs_model.specs.Reading.{entry_at}
-use Rattle.clfs_model.specs.Policies.{greatest_rate}
 
 -- The shape, the number of containers and the number of write buffers are in their ranges, and the place is within its container.
 pub record HasRanges (s : State) : Type 0 where

@@ -1,20 +1,12 @@
 -- The ranges of policies, and what installing one and taking one away leave.
 use Rattle.std.specs.Prelude.{◌≤◌, ℕ, Bool, true, false, ◌||◌, nat_lt, if◌then◌else◌, Option, Some, None, IfSome, is_some, unwrap_or}
-use Rattle.clfs_lsn.specs.Limits.{most_containers}
+use Rattle.clfs_lsn.specs.Limits.{most_containers, fewest_containers, greatest_rate}
 use Rattle.clfs_lsn.specs.declared.policy.Policy.{Policy}
 use Rattle.clfs_lsn.specs.declared.policy.Policy.TheVariants as values
 use Rattle.clfs_lsn.specs.declared.policy.PolicyKind.{PolicyKind}
 use Rattle.clfs_lsn.specs.declared.policy.PolicyKind.TheVariants as kinds
 use Rattle.clfs_policy.specs.declared.policies.Conflict.{Conflict}
 use Rattle.clfs_policy.specs.declared.policies.Policies.{Policies}
-
--- the fewest containers that a policy may ask for
-abbrev pub fewest_containers : ℕ
-fewest_containers = 2
-
--- the greatest growth rate: from the fewest containers to the most in one step
-abbrev pub greatest_rate : ℕ
-greatest_rate = 254
 
 -- the range, where a value lies outside it
 abbrev pub outside : ℕ → ℕ → ℕ → Option Conflict

@@ -2,17 +2,8 @@
 ghost use Rattle.std.specs.Prelude.{◌≡◌, ◌≢◌, ◌≤◌, ◌↔◌, Some, None, false, OnOk, OnErr, IsErr, IfErr};
 ghost use Rattle.clfs_policy.specs.Ranges.{outside, conflict_of, installed, is_installed, removed, AreAllowed};
 
-use clfs_lsn::{Policy, PolicyKind};
+use clfs_lsn::{FEWEST_CONTAINERS, GREATEST_GROWTH, MOST_CONTAINERS, Policy, PolicyKind};
 use thiserror::Error;
-
-/// The most containers of a log.
-const MOST_CONTAINERS: u16 = 256;
-
-/// The fewest containers that a policy may ask for: with one, a log takes no records.
-const FEWEST_CONTAINERS: u16 = 2;
-
-/// The most containers that a log grows by in one step: from the fewest to the most.
-const MOST_GROWTH: u16 = 254;
 
 /// A policy's value is outside its range.
 #[derive(Clone, Copy, Debug, PartialEq, Eq, Error)]
@@ -80,7 +71,7 @@ impl Policies {
                 self.minimum = Some(value);
             }
             Policy::Growth(value) => {
-                within(value, 1, MOST_GROWTH)?;
+                within(value, 1, GREATEST_GROWTH)?;
                 self.growth = Some(value);
             }
             Policy::Automatic => self.automatic = true,

@@ -1,7 +1,7 @@
 -- What a check that passes says, and that what is right passes it.
 use Rattle.std.proofs.Common.{◌≡◌, ◌≢◌, ◌⊎◌, inl, inr, ⊎_elim, ℕ, ◌<◌, ◌≤◌, Bool, true, false, cond, eqb, ltb, leb, not, ◌||◌, List, length, get_or}
 use Rattle.std.proofs.Common.{replicate}
-use Rattle.std.proofs.Common.{Option, Some, None, Result, Ok, Err, refl, sym, ◌∙◌, ap, subst, arith}
+use Rattle.std.proofs.Common.{Option, Some, None, refl, sym, ◌∙◌, ap, subst, arith}
 use Rattle.std.specs.Option.{option_map}
 use Rattle.std.specs.List.{position_or_len, position}
 use Rattle.std.proofs.lemmas.List.{ext_get_or, length-replicate, get_or-replicate}
@@ -10,7 +10,8 @@ use Rattle.std.proofs.lemmas.Bool.{cases_eq, ltb-false, le-ltb}
 use Rattle.std.proofs.lemmas.Bool.Decides.{nat_tests}
 use Rattle.clfs_lsn.specs.declared.entry.Kind.{Kind}
 use Rattle.clfs_lsn.specs.declared.entry.Kind.TheVariants.{Plain, Restart}
-use Rattle.clfs_lsn.specs.Spelling.{kind_byte, BaseFits, Header, header_fault, is_wrong_base, unless_fault}
+use Rattle.clfs_lsn.specs.Spelling.{kind_byte, BaseFits, Header, header_fault, is_wrong_base}
+use Rattle.clfs_lsn.specs.Checks.{no_fault, pass_check}
 
 -- what holds of a header without a fault
 pub record IsRight (lsn streams : ℕ) (h : Header) : Type 0 where
@@ -21,10 +22,6 @@ pub record IsRight (lsn streams : ℕ) (h : Header) : Type 0 where
   pub previous : h.previous < lsn
   pub undo_next : h.undo_next < lsn
   pub base : ((h.kind ≡ 1) × (h.new_base ≡ 0)) ⊎ ((h.kind ≡ 2) × (h.new_base ≤ lsn))
-
-no_fault : (b : Bool) (at : ℕ) (rest : Option ℕ) → cond b (Some at) rest ≡ None → (b ≡ false) × (rest ≡ None)
-no_fault true at rest e = absurd (cc e)
-no_fault false at rest e = (refl, e)
 
 base_right : (kind base lsn : ℕ) → (kind ≡ 1) ⊎ (kind ≡ 2) → is_wrong_base kind lsn base ≡ false
     → ((kind ≡ 1) × (base ≡ 0)) ⊎ ((kind ≡ 2) × (base ≤ lsn))
@@ -67,9 +64,6 @@ right lsn streams h e =
       undo_next = below_right lsn h.undo_next f.0;
       base = base_right h.kind h.new_base lsn kind k.0;
     }
-
-pass_check : (b : Bool) (at : ℕ) (rest : Option ℕ) → b ≡ false → rest ≡ None → cond b (Some at) rest ≡ None
-pass_check b at rest p q = ap (λ c. cond c (Some at) rest) p ∙ q
 
 stream_passes : (stream streams : ℕ) → 1 ≤ stream → stream ≤ streams → (eqb stream 0 || ltb streams stream) ≡ false
 stream_passes stream streams p q = grind (arith, nat_tests)
@@ -133,17 +127,6 @@ zeros_pass n =
     (λ k lt. ap (λ b. not (eqb b 0)) (get_or-replicate n k 0 0 (omega (arith, lt, size_is)))) (λ lt. absurd (omega (arith, lt))) in
     ap (λ b. cond b (Some (position_or_len (λ b. not (eqb b 0)) zeros)) None)
     (le-ltb (position_or_len (λ b. not (eqb b 0)) zeros) (length zeros) (omega (arith, all)))
-
-pub unless_ok : {Y : Type 0} (fault : Option ℕ) (read : Result Y ℕ) (x : Y) → unless_fault fault read ≡ Ok x → (fault ≡ None) × (read ≡ Ok x)
-unless_ok None read x e = (refl, e)
-unless_ok (Some at) read x e = absurd (cc e)
-
-pub guard_ok : {Y : Type 0} (b : Bool) (at : ℕ) (read : Result Y ℕ) (x : Y) → cond b (Err at) read ≡ Ok x → (b ≡ false) × (read ≡ Ok x)
-guard_ok true at read x e = absurd (cc e)
-guard_ok false at read x e = (refl, e)
-
-pub pass_guard : {Y : Type 0} (b : Bool) (at : ℕ) (read other : Result Y ℕ) → b ≡ false → read ≡ other → cond b (Err at) read ≡ other
-pass_guard b at read other p q = ap (λ c. cond c (Err at) read) p ∙ q
 
 pub mapped_none : (f : ℕ → ℕ) (o : Option ℕ) → option_map f o ≡ None → o ≡ None
 mapped_none f None e = refl

@@ -6,6 +6,7 @@ use Rattle.std.proofs.lemmas.Nat.{le_bytes_2, le_bytes_4, le_bytes_8}
 use Rattle.std.proofs.lemmas.List.{length-take-le, length-take, get_or-take, get_or-drop, get_or_past, drop-drop, drop_more}
 use Rattle.std.proofs.lemmas.Bool.{cases_lt}
 use Rattle.byteorder.specs.Endian.{little_number, little_bytes}
+use Rattle.clfs_lsn.specs.Format.{record_header}
 use Rattle.clfs_lsn.specs.Spelling.{Header, header_of}
 
 -- bytes, and not larger numbers
@@ -64,7 +65,7 @@ header_spelled h rest = little_bytes 4 h.len ++ (little_bytes 2 h.stream
     ++ (h.kind ∷ h.zero ∷ (little_bytes 8 h.previous ++ (little_bytes 8 h.undo_next ++ (little_bytes 8 h.new_base ++ rest)))))
 
 -- bytes begin with the bytes of the header that they stand for
-pub header_takes : (bytes : List ℕ) → 32 ≤ length bytes → IsBytes bytes → bytes ≡ header_spelled (header_of bytes) (drop 32 bytes)
+pub header_takes : (bytes : List ℕ) → record_header ≤ length bytes → IsBytes bytes → bytes ≡ header_spelled (header_of bytes) (drop record_header bytes)
 unfolding header_spelled
 header_takes bytes long fits =
     let from = λ (n : ℕ). IsBytes-drop n bytes fits in
@@ -85,6 +86,6 @@ header_takes bytes long fits =
     ∙ ap (λ (l : List ℕ). little_bytes 8 (little_number 8 (drop 8 bytes)) ++ l) (undo
     ∙ ap (λ (l : List ℕ). little_bytes 8 (little_number 8 (drop 16 bytes)) ++ l) base)))))
 
-pub length-header_spelled : (h : Header) (rest : List ℕ) → length (header_spelled h rest) ≡ 32 + length rest
+pub length-header_spelled : (h : Header) (rest : List ℕ) → length (header_spelled h rest) ≡ record_header + length rest
 unfolding header_spelled
 length-header_spelled h rest = omega arith

@@ -7,30 +7,31 @@ use Rattle.std.specs.List.{position}
 use Rattle.std.proofs.lemmas.List.{take_at, drop_at, length-take-le, length-take, drop-drop, length-replicate, append_cancel_left}
 use Rattle.std.proofs.lemmas.Bool.{ltb-false, le-ltb}
 use Rattle.byteorder.specs.Numbers.{little_number-reads_back, little_from-lt}
+use Rattle.clfs_lsn.specs.Format.{record_header}
 use Rattle.clfs_lsn.specs.Size.{size}
 use Rattle.clfs_lsn.specs.declared.entry.Kind.{Kind}
 use Rattle.clfs_lsn.specs.declared.entry.Kind.TheVariants.{Plain, Restart}
 use Rattle.clfs_lsn.specs.declared.entry.LogEntry.{LogEntry}
 use Rattle.clfs_lsn.specs.Spelling.{kind_byte, filling, record_bytes, BaseFits, FitsAt, Header, header_of, header_fault, filling_fault}
-use Rattle.clfs_lsn.specs.Spelling.{entry_of, unless_fault, record_at}
-use Rattle.clfs_record.proofs.Checks.{right, passes, kind_back, kind_kept, base_back, all_zero, zeros_pass, unless_ok, guard_ok, pass_guard}
-use Rattle.clfs_record.proofs.Checks.{mapped_none}
+use Rattle.clfs_lsn.specs.Spelling.{entry_of, record_at}
+use Rattle.clfs_lsn.specs.Checks.{unless_wrong, unless_ok, guard_ok, pass_guard}
+use Rattle.clfs_record.proofs.Checks.{right, passes, kind_back, kind_kept, base_back, all_zero, zeros_pass, mapped_none}
 use Rattle.clfs_record.proofs.Headers.{IsBytes, header_spelled, header_takes}
 
 abbrev answered : LogEntry × ℕ → Result (LogEntry × ℕ) ℕ
 answered x = Ok x
 
 -- the four checks that a record passes
-pub record_read : (lsn streams : ℕ) (bytes : List ℕ) → 32 ≤ length bytes → size (header_of bytes).len ≤ length bytes
+pub record_read : (lsn streams : ℕ) (bytes : List ℕ) → record_header ≤ length bytes → size (header_of bytes).len ≤ length bytes
     → header_fault lsn streams (header_of bytes) ≡ None
     → filling_fault (header_of bytes).len bytes ≡ None → record_at lsn streams bytes ≡ answered (entry_of lsn bytes, size (header_of bytes).len)
 unfolding record_at
 record_read lsn streams bytes long whole header zeros =
-    pass_guard _ 0 _ _ (le-ltb (length bytes) 32 long)
+    pass_guard _ 0 _ _ (le-ltb (length bytes) record_header long)
     (pass_guard _ 0 _ _ (le-ltb (length bytes) (size (header_of bytes).len) whole)
-    (ap (λ (o : Option ℕ). unless_fault o (unless_fault (filling_fault (header_of bytes).len bytes)
+    (ap (λ (o : Option ℕ). unless_wrong (λ at. at) o (unless_wrong (λ at. at) (filling_fault (header_of bytes).len bytes)
     (answered (entry_of lsn bytes, size (header_of bytes).len)))) header
-    ∙ ap (λ (o : Option ℕ). unless_fault o (answered (entry_of lsn bytes, size (header_of bytes).len))) zeros))
+    ∙ ap (λ (o : Option ℕ). unless_wrong (λ at. at) o (answered (entry_of lsn bytes, size (header_of bytes).len))) zeros))
 
 pub length-record_bytes : (entry : LogEntry) → length (record_bytes entry) ≡ size (length entry.bytes)
 length-record_bytes entry = omega (
@@ -87,22 +88,22 @@ pub found : (lsn streams : ℕ) (bytes : List ℕ) (x : LogEntry × ℕ) → IsB
 unfolding record_at
 found lsn streams bytes x fits is =
     let h = header_of bytes in
-    let body = drop 32 bytes in
+    let body = drop record_header bytes in
     let a = guard_ok _ _ _ _ is in
     let b = guard_ok _ _ _ _ a.1 in
-    let c = unless_ok _ _ _ b.1 in
-    let d = unless_ok _ _ _ c.1 in
-    let long : 32 ≤ length bytes = ltb-false _ _ a.0 in
+    let c = unless_ok (λ at. at) _ _ _ b.1 in
+    let d = unless_ok (λ at. at) _ _ _ c.1 in
+    let long : record_header ≤ length bytes = ltb-false _ _ a.0 in
     let whole : size h.len ≤ length bytes = ltb-false _ _ b.0 in
     let good = right lsn streams h c.0 in
-    let clean : position (λ b. not (eqb b 0)) (take (filling h.len) (drop (32 + h.len) bytes)) ≡ None = mapped_none _ _ d.0 in
+    let clean : position (λ b. not (eqb b 0)) (take (filling h.len) (drop (record_header + h.len) bytes)) ≡ None = mapped_none _ _ d.0 in
     let n = filling h.len in
-    let long_body : h.len + n ≤ length body = omega (arith, whole, length-drop 32 bytes) in
+    let long_body : h.len + n ≤ length body = omega (arith, whole, length-drop record_header bytes) in
     let data_size : length (take h.len body) ≡ h.len = length-take-le h.len body (omega (arith, long_body)) in
     let zeros : take n (drop h.len body) ≡ replicate n 0 =
-    ap (λ (l : List ℕ). take n l) (drop-drop h.len 32 bytes) ∙ all_zero (take n (drop (32 + h.len) bytes)) clean
-    ∙ ap (λ (k : ℕ). replicate k 0) (length-take-le n (drop (32 + h.len) bytes)
-    (omega (arith, long_body, length-drop 32 bytes, length-drop (32 + h.len) bytes))) in
+    ap (λ (l : List ℕ). take n l) (drop-drop h.len record_header bytes) ∙ all_zero (take n (drop (record_header + h.len) bytes)) clean
+    ∙ ap (λ (k : ℕ). replicate k 0) (length-take-le n (drop (record_header + h.len) bytes)
+    (omega (arith, long_body, length-drop record_header bytes, length-drop (record_header + h.len) bytes))) in
     let all : bytes ≡ record_bytes (entry_of lsn bytes) ++ drop n (drop h.len body) =
     header_takes bytes long fits ∙ ap (header_spelled h) (body_splits h.len body zeros)
     ∙ joined lsn h (take h.len body) (drop n (drop h.len body)) (entry_of lsn bytes) data_size (kind_back h.kind good.kind) good.zero_is refl in
@@ -148,22 +149,22 @@ only lsn streams e rest bytes fits lsn_small streams_small is =
     let len_is : (header_of bytes).len ≡ len = ap (λ (h : Header). h.len) h_is in
     let long : length bytes ≡ size len + length rest = ap (λ (l : List ℕ). length l) is ∙ length-append (record_bytes e) rest ∙ ap
     (λ (k : ℕ). k + length rest) (length-record_bytes e) in
-    let body_is : drop 32 bytes ≡ e.bytes ++ (zeros ++ rest) = ap (λ (l : List ℕ). drop 32 l) is ∙ append_assoc e.bytes zeros rest in
-    let data_is : take len (drop 32 bytes) ≡ e.bytes = ap (λ (l : List ℕ). take len l) body_is ∙ take_at e.bytes (zeros ++ rest) len refl in
-    let fill_is : take (filling len) (drop (32 + len) bytes) ≡ zeros =
-    ap (λ (l : List ℕ). take (filling len) l) (sym (drop-drop len 32 bytes) ∙ ap (λ (l : List ℕ). drop len l) body_is
+    let body_is : drop record_header bytes ≡ e.bytes ++ (zeros ++ rest) = ap (λ (l : List ℕ). drop record_header l) is ∙ append_assoc e.bytes zeros rest in
+    let data_is : take len (drop record_header bytes) ≡ e.bytes = ap (λ (l : List ℕ). take len l) body_is ∙ take_at e.bytes (zeros ++ rest) len refl in
+    let fill_is : take (filling len) (drop (record_header + len) bytes) ≡ zeros =
+    ap (λ (l : List ℕ). take (filling len) l) (sym (drop-drop len record_header bytes) ∙ ap (λ (l : List ℕ). drop len l) body_is
     ∙ drop_at e.bytes (zeros ++ rest) len refl)
     ∙ take_at zeros rest (filling len) (length-replicate (filling len) 0) in
     let clean : filling_fault len bytes ≡ None =
-    ap (λ (l : List ℕ). option_map (λ at. 32 + len + at) (position (λ b. not (eqb b 0)) l)) fill_is
-    ∙ ap (λ (o : Option ℕ). option_map (λ at. 32 + len + at) o) (zeros_pass (filling len)) in
+    ap (λ (l : List ℕ). option_map (λ at. record_header + len + at) (position (λ b. not (eqb b 0)) l)) fill_is
+    ∙ ap (λ (o : Option ℕ). option_map (λ at. record_header + len + at) o) (zeros_pass (filling len)) in
     let right : header_fault lsn streams (header_of bytes) ≡ None = ap (header_fault lsn streams) h_is
     ∙ passes lsn streams len e.stream e.kind e.previous e.undo_next e.new_base fits.some_stream fits.stream fits.previous fits.undo_next fits.new_base in
-    let same : entry_of lsn bytes ≡ e = same_entry h_is (ap (λ (n : ℕ). take n (drop 32 bytes)) len_is ∙ data_is) (sym fits.at) in
+    let same : entry_of lsn bytes ≡ e = same_entry h_is (ap (λ (n : ℕ). take n (drop record_header bytes)) len_is ∙ data_is) (sym fits.at) in
     record_read lsn streams bytes (omega (arith, long)) (omega (arith, long, len_is)) right (subst (λ (n : ℕ). filling_fault n bytes ≡ None) (sym len_is) clean)
     ∙ ap (λ (x : LogEntry). answered (x, size (header_of bytes).len)) same ∙ ap (λ (n : ℕ). answered (e, size n)) len_is
   where
-    same_entry : header_of bytes ≡ header_for e → take (header_of bytes).len (drop 32 bytes) ≡ e.bytes → lsn ≡ e.lsn → entry_of lsn bytes ≡ e
+    same_entry : header_of bytes ≡ header_for e → take (header_of bytes).len (drop record_header bytes) ≡ e.bytes → lsn ≡ e.lsn → entry_of lsn bytes ≡ e
     same_entry h_is data_is at = λ i. record {
       lsn = at i;
       stream = (h_is i).stream;

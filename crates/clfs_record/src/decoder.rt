@@ -1,6 +1,7 @@
 // Reading a record from the front of bytes. The checks go from the first byte on, and the data are copied once, when all
 // else is right.
 ghost use Rattle.std.specs.Prelude.{◌≡◌, ◌+◌, ◌-◌, ◌*◌, ◌/◌, ◌^◌, ◌<◌, ◌≤◌, ◌++◌, ◌==◌, ◌||◌, not, nat_lt, if◌then◌else◌, ℕ, List, length, take, position, IfOk, Ok};
+ghost use Rattle.clfs_lsn.specs.Format.{record_header};
 ghost use Rattle.clfs_lsn.specs.Size.{size};
 ghost use Rattle.clfs_lsn.specs.Spelling.{FitsAt, record_bytes, record_at, header_of, header_fault, filling_fault, is_wrong_base, entry_of};
 ghost use Rattle.clfs_lsn.specs.declared.entry.Kind.TheVariants.{Plain, Restart};
@@ -9,15 +10,15 @@ ghost use Rattle.clfs_record.specs.Decoding.{Gives};
 
 use crate::refusal::RecordRefusal;
 use byteorder::{ByteOrder, LittleEndian};
-use clfs_lsn::{Bytes, Kind, LogEntry, Lsn};
+use clfs_lsn::{Bytes, Kind, LogEntry, Lsn, RECORD_HEADER, size_of_record};
 use std::alloc::{AllocError, Global};
 
 // The bytes of a header.
-const HEADER: usize = 32;
+const HEADER: usize = RECORD_HEADER as usize;
 
 /// The stream's number in a record's header.
 pub fn stream_of(bytes: &[u8]) -> u16
-    requires { 32 ≤ length bytes.now }
+    requires { record_header ≤ length bytes.now }
     ensures { result ≡ (header_of bytes.now).stream }
 {
     LittleEndian::read_u16(&bytes[4..])
@@ -33,7 +34,7 @@ pub fn decode(
     streams: u16,
 ) -> Result<(LogEntry, usize), RecordRefusal>
     requires length { length bytes.now < 2 ^ 32 }
-    requires stream { 32 ≤ length bytes.now → stream ≡ (header_of bytes.now).stream }
+    requires stream { record_header ≤ length bytes.now → stream ≡ (header_of bytes.now).stream }
 
     // What is read is spelled so, and is a record that the log can have there.
     ensures found { IfOk result (λ x. (take x.1 bytes.now ≡ record_bytes x.0) × FitsAt lsn streams x.0) }
@@ -58,14 +59,14 @@ fn decode_at(
     streams: u16,
 ) -> Result<(LogEntry, usize), RecordRefusal>
     requires length { length bytes.now < 2 ^ 32 }
-    requires stream { 32 ≤ length bytes.now → stream ≡ (header_of bytes.now).stream }
+    requires stream { record_header ≤ length bytes.now → stream ≡ (header_of bytes.now).stream }
     ensures { Gives result (record_at lsn streams bytes.now) }
 {
     if bytes.len() < HEADER {
         return Err(RecordRefusal::BadByte { at: 0 });
     }
     let len = LittleEndian::read_u32(bytes);
-    let size = size_of(len);
+    let size = size_of_record(len);
     if (bytes.len() as u64) < size {
         return Err(RecordRefusal::BadByte { at: 0 });
     }
@@ -79,16 +80,9 @@ fn decode_at(
     Ok((entry, size as usize))
 }
 
-// The bytes of a record with so many bytes of data.
-fn size_of(len: u32) -> u64
-    ensures { result ≡ size len }
-{
-    HEADER as u64 + (len as u64 + 7) / 8 * 8
-}
-
 // The byte at which the header is wrong first.
 fn wrong_header(bytes: &[u8], lsn: u64, stream: u16, streams: u16) -> Option<u32>
-    requires long { 32 ≤ length bytes.now }
+    requires long { record_header ≤ length bytes.now }
     requires stream { stream ≡ (header_of bytes.now).stream }
     ensures { result ≡ header_fault lsn streams (header_of bytes.now) }
 {
@@ -140,7 +134,7 @@ fn wrong_filling(bytes: &[u8], len: u32) -> Option<u32>
     ensures { result ≡ filling_fault len bytes.now }
 {
     let end = HEADER + len as usize;
-    let zeros = &bytes[end..size_of(len) as usize];
+    let zeros = &bytes[end..size_of_record(len) as usize];
     let at = first_nonzero(zeros)?;
     Some((end + at) as u32)
 }
@@ -171,7 +165,7 @@ fn entry_at(
     len: u32,
 ) -> Result<LogEntry, AllocError>
     requires len { len ≡ (header_of bytes.now).len }
-    requires whole { 32 + len ≤ length bytes.now }
+    requires whole { record_header + len ≤ length bytes.now }
     requires stream { stream ≡ (header_of bytes.now).stream }
     ensures { IfOk result (λ entry. entry ≡ entry_of lsn bytes.now) }
 {

@@ -1,14 +1,14 @@
 // Writing a record. All memory is taken before the first byte is written, so an `Err` leaves the bytes as they were.
-ghost use Rattle.std.specs.Prelude.{◌≡◌, ◌+◌, ◌*◌, ◌/◌, ◌^◌, ◌<◌, ◌≤◌, ◌++◌, length, replicate, OnOk, OnErr, vec_len, vec_capacity};
-ghost use Rattle.clfs_lsn.specs.Spelling.{FitsAt, record_bytes, header_bytes, filling, kind_byte};
+ghost use Rattle.std.specs.Prelude.{◌≡◌, ◌^◌, ◌<◌, ◌++◌, length, OnOk, OnErr};
+ghost use Rattle.clfs_lsn.specs.Spelling.{FitsAt, record_bytes, header_bytes, kind_byte};
 
 use byteorder::{ByteOrder, LittleEndian};
-use clfs_lsn::{Bytes, Kind, LogEntry};
+use clfs_lsn::{Bytes, Kind, LogEntry, RECORD_HEADER, push_reserved, push_zeros, size_of_record};
 use std::alloc::{AllocError, Global};
 use std::mem;
 
 // The bytes of a header.
-const HEADER: usize = 32;
+const HEADER: usize = RECORD_HEADER as usize;
 
 /// Appends the record's spelling. After an `Err` nothing has changed. The record is one that a log can have at its own LSN.
 pub fn encode(alloc: Global, entry: &LogEntry, out: &mut Bytes) -> Result<(), AllocError>
@@ -28,39 +28,14 @@ fn push_record(out: &mut Vec<u8>, entry: &LogEntry) -> Result<(), AllocError>
     ensures err { OnErr result (out.new.items ≡ out.old.items) }
 {
     let data = entry.bytes.as_slice();
-    let zeros = filling_of(data.len());
-    out.reserve(HEADER + data.len() + zeros)?;
-    push_reserved(out, &header_of(entry, data.len() as u32));
+    let len = data.len() as u32;
+    let size = size_of_record(len) as usize;
+    let zeros = size - (HEADER + data.len());
+    out.reserve(size)?;
+    push_reserved(out, &header_of(entry, len));
     push_reserved(out, data);
     push_zeros(out, zeros);
     Ok(())
-}
-
-// Appends bytes for which there is memory.
-fn push_reserved(out: &mut Vec<u8>, more: &[u8])
-    requires { vec_len out.old + length more.now ≤ vec_capacity out.old }
-    ensures items { out.new.items ≡ out.old.items ++ more.now }
-    ensures capacity { vec_capacity out.old ≤ vec_capacity out.new }
-{
-    out.extend_from_slice(more).unwrap();
-}
-
-// Appends zeros for which there is memory.
-fn push_zeros(out: &mut Vec<u8>, count: usize)
-    requires { vec_len out.old + count ≤ vec_capacity out.old }
-    ensures { out.new.items ≡ out.old.items ++ replicate count 0 }
-{
-    let end = out.len() + count;
-    out.resize(end, 0).unwrap();
-}
-
-// The zeros behind so many bytes of data.
-fn filling_of(len: usize) -> usize
-    requires { len < 2 ^ 32 }
-    ensures value { result ≡ filling len }
-    ensures few { result < 8 }
-{
-    (len + 7) / 8 * 8 - len
 }
 
 fn byte_of(kind: Kind) -> u8
@@ -72,7 +47,7 @@ fn byte_of(kind: Kind) -> u8
     }
 }
 
-fn header_of(entry: &LogEntry, len: u32) -> [u8; 32]
+fn header_of(entry: &LogEntry, len: u32) -> [u8; HEADER]
     requires { len ≡ length entry.now.bytes }
     ensures { result ≡ header_bytes entry.now }
 {

@@ -3,14 +3,14 @@ use Rattle.std.proofs.Common.{◌≡◌, ◌⊎◌, ℕ, Bool, true, false, inl,
 use Rattle.std.specs.Prelude.{Some, None, IsTrue, MatchBool}
 use Rattle.clfs_model.specs.declared.call.Call.{Call}
 use Rattle.clfs_model.specs.declared.reply.Happened.{Happened}
-use Rattle.clfs_model.specs.declared.reply.Happened.TheVariants.{Fault}
+use Rattle.clfs_model.specs.declared.reply.Happened.TheVariants.{Fine, Fault, Damage}
 use Rattle.clfs_model.specs.declared.refusal.Refusal.{Refusal}
 use Rattle.clfs_model.specs.declared.refusal.Refusal.TheVariants as refusals
 use Rattle.clfs_model.specs.declared.reply.Reply.{Reply}
 use Rattle.clfs_model.specs.declared.reply.Reply.TheVariants as replies
 use Rattle.clfs_model.specs.declared.state.State.{State}
 use Rattle.clfs_model.specs.Refusals.{refusal}
-use Rattle.clfs_model.specs.Step.{Step, Goes, IsOutOfMemory, takes_memory, calls_disk, with_broken}
+use Rattle.clfs_model.specs.Step.{Step, Goes, ReopenStep, Reopens, IsOutOfMemory, takes_memory, calls_disk, with_broken}
 
 -- the first of two facts, where the test is true
 first_where_true : (b : Bool) (P Q : Type 0) → b ≡ true → MatchBool b P Q → P
@@ -28,7 +28,8 @@ broken_answers_broken told s client call happened reply t broken step = first_wh
 
 -- a step that is answered with a fault is no want of memory
 of_fault : (told : Bool) (s : State) (client : ℕ) (call : Call) (t : State)
-    → (IsTrue (takes_memory call) × IsOutOfMemory s (replies.Refused refusals.DiskFault) t) ⊎ Goes told s client call Fault (replies.Refused refusals.DiskFault) t
+    → (IsTrue (takes_memory call) × IsOutOfMemory s (replies.Refused refusals.DiskFault) t) ⊎ Goes told s client call Fault
+    (replies.Refused refusals.DiskFault) t
     → t ≡ with_broken s
 of_fault told s client call t (inl (takes, (wants, same))) = absurd (cc)
 of_fault told s client call t (inr (allowed, (calls, (answered, broken)))) = broken
@@ -41,7 +42,8 @@ fault_breaks told s client call t whole step = of_fault told s client call t (se
 
 -- a fault comes only of a call that isn't refused and that makes a call on the disk
 causes_of_fault : (told : Bool) (s : State) (client : ℕ) (call : Call) (t : State)
-    → (IsTrue (takes_memory call) × IsOutOfMemory s (replies.Refused refusals.DiskFault) t) ⊎ Goes told s client call Fault (replies.Refused refusals.DiskFault) t
+    → (IsTrue (takes_memory call) × IsOutOfMemory s (replies.Refused refusals.DiskFault) t) ⊎ Goes told s client call Fault
+    (replies.Refused refusals.DiskFault) t
     → (refusal s client call ≡ None) × IsTrue (calls_disk s call)
 causes_of_fault told s client call t (inl (takes, (wants, same))) = absurd (cc)
 causes_of_fault told s client call t (inr (allowed, (calls, (answered, broken)))) = (allowed, calls)
@@ -63,3 +65,49 @@ pub no_fault_where_refused : (told : Bool) (s : State) (client : ℕ) (call : Ca
     → refusal s client call ≡ Some first → ¬ Step told s client call Fault (replies.Refused refusals.DiskFault) t
 no_fault_where_refused told s client call first t whole refused step =
     let allowed = (fault_has_causes told s client call t whole step).0 in absurd (cc)
+
+-- opening anew leaves a broken log as it is
+pub broken_is_not_opened : (told : Bool) (s : State) (happened : Happened) (reply : Reply) (t : State) → s.broken ≡ true
+    → ReopenStep told s happened reply t → (reply ≡ replies.Refused refusals.Broken) × (t ≡ s)
+unfolding ReopenStep
+broken_is_not_opened told s happened reply t broken step = first_where_true s.broken _ _ broken step
+
+-- what a fault in opening anew leaves
+of_opening_fault : (told : Bool) (s t : State)
+    → IsOutOfMemory s (replies.Refused refusals.DiskFault) t ⊎ Reopens told s Fault (replies.Refused refusals.DiskFault) t → t ≡ with_broken s
+of_opening_fault told s t (inl (wants, same)) = absurd (cc)
+of_opening_fault told s t (inr (answered, broken)) = broken
+
+-- a fault in opening anew leaves the log broken
+pub opening_fault_breaks : (told : Bool) (s t : State) → s.broken ≡ false → ReopenStep told s Fault (replies.Refused refusals.DiskFault) t → t
+    ≡ with_broken s
+unfolding ReopenStep
+opening_fault_breaks told s t whole step = of_opening_fault told s t (second_where_false s.broken _ _ whole step)
+
+-- what damage in opening anew leaves
+of_opening_damage : (told : Bool) (s : State) (container offset at : ℕ) (t : State)
+    → IsOutOfMemory s (replies.Refused (refusals.Damaged container offset at)) t
+    ⊎ Reopens told s Damage (replies.Refused (refusals.Damaged container offset at)) t → t ≡ with_broken s
+of_opening_damage told s container offset at t (inl (wants, same)) = absurd (cc)
+of_opening_damage told s container offset at t (inr (told_so, broken)) = broken
+
+-- damage in opening anew leaves the log broken
+pub opening_damage_breaks : (told : Bool) (s : State) (container offset at : ℕ) (t : State) → s.broken ≡ false
+    → ReopenStep told s Damage (replies.Refused (refusals.Damaged container offset at)) t → t ≡ with_broken s
+unfolding ReopenStep
+opening_damage_breaks told s container offset at t whole step =
+    of_opening_damage told s container offset at t (second_where_false s.broken _ _ whole step)
+
+-- what want of memory in opening anew leaves
+of_opening_want : (told : Bool) (s : State) (happened : Happened) (t : State)
+    → IsOutOfMemory s (replies.Refused refusals.NoMemory) t ⊎ Reopens told s happened (replies.Refused refusals.NoMemory) t → t ≡ s
+of_opening_want told s happened t (inl (wants, same)) = same
+of_opening_want told s Fine t (inr opened) = let e = opened.flushed_part in absurd (cc)
+of_opening_want told s Fault t (inr (answered, broken)) = absurd (cc)
+of_opening_want told s Damage t (inr (told_so, broken)) = absurd told_so
+
+-- want of memory in opening anew changes nothing
+pub opening_want_changes_nothing : (told : Bool) (s : State) (happened : Happened) (t : State) → s.broken ≡ false
+    → ReopenStep told s happened (replies.Refused refusals.NoMemory) t → t ≡ s
+unfolding ReopenStep
+opening_want_changes_nothing told s happened t whole step = of_opening_want told s happened t (second_where_false s.broken _ _ whole step)

@@ -1,3 +1,4 @@
 pub mod Appending
 pub mod Enough
 pub mod Growing
+pub mod SpaceLaws

@@ -6,10 +6,7 @@ ghost use Rattle.clfs_lsn.specs.Size.{IsShape};
 ghost use Rattle.clfs_lsn.specs.Place.{IsWithin};
 ghost use Rattle.clfs_lsn.specs.Space.{active_containers, left_sectors, free_sectors};
 
-use clfs_lsn::{Lsn, Place, Shape, sealed};
-
-/// The bytes of a sector.
-const SECTOR: u32 = 512;
+use clfs_lsn::{Lsn, Place, SECTOR, Shape, sealed};
 
 /// The sectors that appends can surely take, whatever their lengths. The hold is the least LSN that the
 /// log still needs; the containers below its own can be used again.

@@ -7,6 +7,7 @@ ghost use Rattle.clfs_lsn.specs.Place.{IsWithin, joins, begins_here, place_after
 ghost use Rattle.clfs_lsn.specs.Space.{active_containers, free_sectors, growth, least_containers};
 ghost use Rattle.clfs_space.specs.Appending.{HasRoom};
 ghost use Rattle.clfs_space.specs.Growing.{IsLeastStep, HasNoStep, IsFewest};
+ghost use Rattle.clfs_space.specs.SpaceLaws.{HasSpaceLaws};
 
 /// Where the free sectors are at least those of a record's own block, the record has a place: if it
 /// begins the next container there is an id for that one, and the log has it. Afterwards the free
@@ -53,4 +54,9 @@ pub fn least_containers_are_the_fewest_that_are_enough()
     ensures { (shape : Shape) (place : Place) (hold containers reserved : ℕ) →
         active_containers place hold ≤ containers → reserved ≤ free_sectors shape place hold containers →
         IsFewest shape place hold containers reserved (least_containers shape place hold containers reserved) }
+{}
+
+/// The laws that the laws of the log rest on, in one place.
+pub fn space_laws()
+    ensures { HasSpaceLaws }
 {}

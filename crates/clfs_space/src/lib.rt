@@ -21,7 +21,7 @@ pub use growing::{growth, least_containers};
 pub use laws::{
     an_append_lowers_the_free_sectors_by_at_most_its_own, growth_is_the_least_step_that_is_enough,
     least_containers_are_the_fewest_that_are_enough, more_containers_or_a_later_hold_free_no_less,
-    sealing_keeps_the_free_sectors,
+    sealing_keeps_the_free_sectors, space_laws,
 };
 
 #[cfg(test)]

@@ -5,7 +5,7 @@ use mathlib.Core.List.{IsPrefix}
 use native.Mathlib.Decide.{ℕ_discrete}
 use Rattle.std.proofs.lemmas.Bool.{true≢false}
 use Rattle.std.proofs.lemmas.List.Elements.{filter-append}
-use Rattle.clfs_turn.specs.Lists.{is_in, mine}
+use Rattle.clfs_turn.specs.Lists.{is_in, entries_of}
 use Rattle.clfs_turn.proofs.Prefixes.{by_test}
 
 pub is_in-one : (c : ℕ) → is_in c (c ∷ []) ≡ true
@@ -43,20 +43,20 @@ append_none (x ∷ xs) ys e = append_none xs ys (cc e)
 
 module _ {E : Type 0} (client_of : E → ℕ) (c : ℕ) where
   -- one entry more of this client
-  pub mine-own : (xs : List E) (e : E) → client_of e ≡ c → mine client_of c (xs ++ e ∷ []) ≡ mine client_of c xs ++ e ∷ []
-  mine-own xs e is = filter-append (λ z. eqb (client_of z) c) xs (e ∷ [])
-      ∙ ap (λ (b : Bool). mine client_of c xs ++ cond b (e ∷ []) []) (eq-eqb (client_of e) c is)
+  pub entries_of-own : (xs : List E) (e : E) → client_of e ≡ c → entries_of client_of c (xs ++ e ∷ []) ≡ entries_of client_of c xs ++ e ∷ []
+  entries_of-own xs e is = filter-append (λ z. eqb (client_of z) c) xs (e ∷ [])
+      ∙ ap (λ (b : Bool). entries_of client_of c xs ++ cond b (e ∷ []) []) (eq-eqb (client_of e) c is)
 
   -- an entry of another client is none of this one's
-  pub mine-other : (xs : List E) (e : E) → client_of e ≢ c → mine client_of c (xs ++ e ∷ []) ≡ mine client_of c xs
-  mine-other xs e ne = filter-append (λ z. eqb (client_of z) c) xs (e ∷ [])
-      ∙ (ap (λ (b : Bool). mine client_of c xs ++ cond b (e ∷ []) []) (ne_eqb (client_of e) c ne) ∙ append-nil (mine client_of c xs))
+  pub entries_of-other : (xs : List E) (e : E) → client_of e ≢ c → entries_of client_of c (xs ++ e ∷ []) ≡ entries_of client_of c xs
+  entries_of-other xs e ne = filter-append (λ z. eqb (client_of z) c) xs (e ∷ [])
+      ∙ (ap (λ (b : Bool). entries_of client_of c xs ++ cond b (e ∷ []) []) (ne_eqb (client_of e) c ne) ∙ append-nil (entries_of client_of c xs))
 
   -- where a beginning has all entries of a client, so has a longer beginning
-  pub mine-between : (xs ys zs : List E) → IsPrefix xs ys → IsPrefix ys zs → mine client_of c xs ≡ mine client_of c zs
-      → mine client_of c ys ≡ mine client_of c zs
-  mine-between xs ys zs p q e = let p' = p.1 in let q' = q.1 in
-      let of : List E → List E = mine client_of c in
+  pub entries_of-between : (xs ys zs : List E) → IsPrefix xs ys → IsPrefix ys zs → entries_of client_of c xs ≡ entries_of client_of c zs
+      → entries_of client_of c ys ≡ entries_of client_of c zs
+  entries_of-between xs ys zs p q e = let p' = p.1 in let q' = q.1 in
+      let of : List E → List E = entries_of client_of c in
       let a : of xs ++ of p.0 ≡ of ys = sym (filter-append (λ z. eqb (client_of z) c) xs p.0) ∙ ap of p.1 in
       let b : of ys ++ of q.0 ≡ of zs = sym (filter-append (λ z. eqb (client_of z) c) ys q.0) ∙ ap of q.1 in
       let all : of xs ++ (of p.0 ++ of q.0) ≡ of xs = sym (append_assoc (of xs) (of p.0) (of q.0)) ∙ (ap (λ z. z ++ of q.0) a ∙ (b ∙ sym e)) in

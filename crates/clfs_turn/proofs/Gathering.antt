@@ -6,7 +6,7 @@ use native.Mathlib.Decide.{ℕ_discrete}
 use Rattle.atomic_table.specs.declared.badge.Badge.{Badge}
 use Rattle.clfs_turn.specs.declared.view.View.{View}
 use Rattle.clfs_turn.specs.declared.view.Past.{Past}
-use Rattle.clfs_turn.specs.Lists.{is_in, mine}
+use Rattle.clfs_turn.specs.Lists.{is_in, entries_of}
 use Rattle.clfs_turn.specs.Rule.{AllPast}
 use Rattle.clfs_turn.specs.Seats.{SeatState, HasSeen}
 use Rattle.clfs_turn.specs.Steps.{past, joined, IsKept, Gathered, AllGathered}
@@ -28,10 +28,10 @@ module _ {E : Type 0} where
   in_more p (x ∷ xs) ys h = ⊎_elim (λ e. inl e) (λ k. inr (in_more p xs ys k)) h
 
   what_is_past : (client_of : E → ℕ) (hist : List E) (cs : List ℕ) (p : Past E) (ps : List (Past E)) → AllPast client_of hist cs ps → IsKept p ps
-      → IsPrefix p.seen hist × ((c : ℕ) → is_in c p.clients ≡ true → mine client_of c p.seen ≡ mine client_of c hist)
+      → IsPrefix p.seen hist × ((c : ℕ) → is_in c p.clients ≡ true → entries_of client_of c p.seen ≡ entries_of client_of c hist)
   what_is_past client_of hist cs p [] a h = absurd h
   what_is_past client_of hist cs p (x ∷ xs) a h = ⊎_elim
-      (λ (e : x ≡ p). subst (λ (z : Past E). IsPrefix z.seen hist × ((c : ℕ) → is_in c z.clients ≡ true → mine client_of c z.seen ≡ mine client_of c hist))
+      (λ (e : x ≡ p). subst (λ (z : Past E). IsPrefix z.seen hist × ((c : ℕ) → is_in c z.clients ≡ true → entries_of client_of c z.seen ≡ entries_of client_of c hist))
       e (a.0.begins, λ c o. (a.0.own c o).1))
       (λ k. what_is_past client_of hist cs p xs a.1 k) h
 

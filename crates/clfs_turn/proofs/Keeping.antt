@@ -10,7 +10,7 @@ use Rattle.atomic_table.specs.Table.{State, keeps, stepped}
 use Rattle.atomic_table.proofs.Lists.{at_set, set_else}
 use Rattle.clfs_turn.specs.declared.view.View.{View}
 use Rattle.clfs_turn.specs.declared.view.Roll.{Roll}
-use Rattle.clfs_turn.specs.Lists.{is_in, mine}
+use Rattle.clfs_turn.specs.Lists.{is_in, entries_of}
 use Rattle.clfs_turn.specs.Rule.{KeepsView, KeepsTable}
 use Rattle.clfs_turn.proofs.Pasts.{past_still}
 use Rattle.clfs_turn.proofs.Prefixes.{prefix_trans}
@@ -54,7 +54,7 @@ module _ {V E O : Type 0} (entries : V → List E) (client_of : E → ℕ) (open
   -- another seat's view stays right where the history grows by none of its clients' entries
   pub other_fits : (hist hist' : List E) (held held' holder holder' : ℕ) (seat_of seat_of' : ℕ → ℕ) (j : ℕ) (u : W)
       → Fits hist held holder seat_of j u → IsPrefix hist hist'
-      → ((c : ℕ) → is_in c u.clients ≡ true → seat_of c ≡ j → (seat_of' c ≡ j) × (mine client_of c hist ≡ mine client_of c hist'))
+      → ((c : ℕ) → is_in c u.clients ≡ true → seat_of c ≡ j → (seat_of' c ≡ j) × (entries_of client_of c hist ≡ entries_of client_of c hist'))
       → ((h : List E) → u.turn ≡ Some h → (j ≡ holder') × (held' ≡ 1) × (h ≡ hist'))
       → Fits hist' held' holder' seat_of' j u
   other_fits hist hist' held held' holder holder' seat_of seat_of' j u k more still turn = record {

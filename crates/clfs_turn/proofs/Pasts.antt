@@ -2,7 +2,7 @@
 use Rattle.std.proofs.Common.{◌≡◌, ℕ, ◌≤◌, true, List, [], ◌∷◌, ◌++◌, length, sym, ◌∙◌}
 use mathlib.Core.List.{IsPrefix}
 use Rattle.clfs_turn.specs.declared.view.Past.{Past}
-use Rattle.clfs_turn.specs.Lists.{is_in, mine}
+use Rattle.clfs_turn.specs.Lists.{is_in, entries_of}
 use Rattle.clfs_turn.specs.Rule.{AllPast}
 use Rattle.clfs_turn.proofs.Prefixes.{prefix_trans, prefix_shorter}
 
@@ -14,7 +14,7 @@ AllShort n (p ∷ ps) = (length p.seen ≤ n) × AllShort n ps
 module _ {E : Type 0} (client_of : E → ℕ) where
   -- the history grew by no entry of these clients
   pub past_still : (hist hist' : List E) (cs : List ℕ) (ps : List (Past E)) → IsPrefix hist hist'
-      → ((c : ℕ) → is_in c cs ≡ true → mine client_of c hist ≡ mine client_of c hist')
+      → ((c : ℕ) → is_in c cs ≡ true → entries_of client_of c hist ≡ entries_of client_of c hist')
       → AllPast client_of hist cs ps → AllPast client_of hist' cs ps
   past_still hist hist' cs [] grew same h = tt
   past_still hist hist' cs (p ∷ ps) grew same h = (
@@ -41,7 +41,7 @@ module _ {E : Type 0} (client_of : E → ℕ) where
 
   -- a beginning of the history that has all entries of these clients, and is no shorter than these
   pub past_seen : (seen hist : List E) (cs : List ℕ) (ps : List (Past E)) → IsPrefix seen hist
-      → ((c : ℕ) → is_in c cs ≡ true → mine client_of c seen ≡ mine client_of c hist)
+      → ((c : ℕ) → is_in c cs ≡ true → entries_of client_of c seen ≡ entries_of client_of c hist)
       → AllShort (length seen) ps → AllPast client_of hist cs ps → AllPast client_of seen cs ps
   past_seen seen hist cs [] begins same short h = tt
   past_seen seen hist cs (p ∷ ps) begins same short h = (

@@ -9,10 +9,10 @@ use Rattle.atomic_table.specs.Table.{State, Me, step, keeps, Allows, Splits, Joi
 use Rattle.atomic_table.proofs.Lists.{set_else, at_longer}
 use Rattle.clfs_turn.specs.declared.view.View.{View}
 use Rattle.clfs_turn.specs.declared.view.Roll.{Roll}
-use Rattle.clfs_turn.specs.Lists.{is_in, mine}
+use Rattle.clfs_turn.specs.Lists.{is_in, entries_of}
 use Rattle.clfs_turn.specs.Steps.{past, first_client, other_clients, joined, looked}
 use Rattle.clfs_turn.specs.Views.{at_rest, spent}
-use Rattle.clfs_turn.proofs.Clients.{only_one, is_in-later, is_in-left, is_in-right, not_right, mine-between}
+use Rattle.clfs_turn.proofs.Clients.{only_one, is_in-later, is_in-left, is_in-right, not_right, entries_of-between}
 use Rattle.clfs_turn.proofs.Keeping.{Rule, Fits, at_set_here, at_snoc_at, each_after, other_fits, unmoved, holder_other}
 use Rattle.clfs_turn.proofs.Pasts.{AllShort, past_wider, past_both, past_seen}
 use Rattle.clfs_turn.proofs.Prefixes.{by_test, prefix_self, prefix_trans, longest}
@@ -119,7 +119,7 @@ module _ {V E O : Type 0} (entries : V → List E) (client_of : E → ℕ) (open
         saw = tt;
         own = λ d there. let e : d ≡ c = only_one d c there in let a = k.own c first in (
           ap (λ b. cond b (length s.views) (r.seat_of d)) (eq-eqb d c e),
-          subst (λ z. mine client_of z seen ≡ mine client_of z r.history) (sym e) a.1,
+          subst (λ z. entries_of client_of z seen ≡ entries_of client_of z r.history) (sym e) a.1,
           ap (λ z. is_in z key.clients.items) e ∙ a.2,
         );
         turn = λ l e. absurd (cc e);
@@ -165,9 +165,9 @@ module _ {V E O : Type 0} (entries : V → List E) (client_of : E → ℕ) (open
           ),
         );
         own = λ d o. by_test (is_in d w.clients)
-            (λ b. (cond b id (r.seat_of d) ≡ id) × (mine client_of d both.seen ≡ mine client_of d r.history) × (is_in d key.clients.items ≡ true))
-            (λ on. let a = k'.own d on in (refl, mine-between client_of d w.seen both.seen r.history fits.2 fits.0 a.1, a.2))
-            (λ off. let a = k.own d (not_right d v.clients w.clients off o) in (a.0, mine-between client_of d v.seen both.seen r.history fits.1 fits.0 a.1, a.2));
+            (λ b. (cond b id (r.seat_of d) ≡ id) × (entries_of client_of d both.seen ≡ entries_of client_of d r.history) × (is_in d key.clients.items ≡ true))
+            (λ on. let a = k'.own d on in (refl, entries_of-between client_of d w.seen both.seen r.history fits.2 fits.0 a.1, a.2))
+            (λ off. let a = k.own d (not_right d v.clients w.clients off o) in (a.0, entries_of-between client_of d v.seen both.seen r.history fits.1 fits.0 a.1, a.2));
         turn = λ l t. absurd (cc (sym t ∙ idle));
       }
 

@@ -9,7 +9,7 @@ use Rattle.atomic_table.specs.Table.{State, step, Enters, Final, Seen, opening a
 use Rattle.atomic_table.proofs.Lists.{at_longer}
 use Rattle.clfs_turn.specs.declared.view.View.{View}
 use Rattle.clfs_turn.specs.declared.view.Roll.{Roll}
-use Rattle.clfs_turn.specs.Lists.{is_in, mine}
+use Rattle.clfs_turn.specs.Lists.{is_in, entries_of}
 use Rattle.clfs_turn.specs.Rule.{AllPast, dealer}
 use Rattle.clfs_turn.specs.Seats.{LockId, LockState, SeatState, HasSeen}
 use Rattle.clfs_turn.specs.Steps.{AllGathered, entered}
@@ -24,7 +24,7 @@ module _ {V E O : Type 0} (entries : V → List E) (client_of : E → ℕ) (reac
   -- the value y that a closed lock gives back, whose seats were these
   pub record Ended (at : LockState O) (seats : List (SeatState E O)) (y : V) : Type 0 where
     pub each : All (λ s. HasSeen client_of (entries y) s) seats
-    pub others : (c : ℕ) → is_in c at.clients ≡ false → mine client_of c (entries y) ≡ []
+    pub others : (c : ℕ) → is_in c at.clients ≡ false → entries_of client_of c (entries y) ≡ []
     pub lawful : reached at.opening y
 
   -- the closed table's slot has such a value
@@ -124,7 +124,7 @@ module _ {V E O : Type 0} (entries : V → List E) (client_of : E → ℕ) (open
         f.4 0 (Some h.0) h.1,
         record {
           each = all_seen client_of (entries h.0) v ss (subst (λ (z : List E). AllPast client_of z v.clients v.olds) (sym h.2) k.saw) gathered;
-          others = λ c o. ap (mine client_of c) h.2 ∙ r.others c o;
+          others = λ c o. ap (entries_of client_of c) h.2 ∙ r.others c o;
           lawful = h.3;
         },
       )

@@ -11,10 +11,10 @@ use Rattle.atomic_table.proofs.Lists.{set_here, exchanged}
 use Rattle.clfs_turn.specs.declared.view.Past.{Past}
 use Rattle.clfs_turn.specs.declared.view.View.{View}
 use Rattle.clfs_turn.specs.declared.view.Roll.{Roll}
-use Rattle.clfs_turn.specs.Lists.{is_in, mine}
+use Rattle.clfs_turn.specs.Lists.{is_in, entries_of}
 use Rattle.clfs_turn.specs.Rule.{AllPast}
 use Rattle.clfs_turn.specs.Steps.{Returns, holding, claimed, posted, released}
-use Rattle.clfs_turn.proofs.Clients.{mine-other}
+use Rattle.clfs_turn.proofs.Clients.{entries_of-other}
 use Rattle.clfs_turn.proofs.Keeping.{Rule, Fits, at_set_here, each_after, other_fits, unmoved, alone, other_client}
 use Rattle.clfs_turn.proofs.Prefixes.{prefix_self}
 
@@ -91,7 +91,7 @@ module _ {V E O : Type 0} (entries : V → List E) (client_of : E → ℕ) (open
             refl,
             record {
               begins = subst (IsPrefix v.seen) (sym h.2) k.sees;
-              own = λ d o. (k.own d o).1 ∙ ap (mine client_of d) (sym h.2);
+              own = λ d o. (k.own d o).1 ∙ ap (entries_of client_of d) (sym h.2);
               lawful = λ o e. subst (λ (z : O). reached z h.0) (sym (k.opening o e)) h.3;
             },
           ),
@@ -152,15 +152,15 @@ module _ {V E O : Type 0} (entries : V → List E) (client_of : E → ℕ) (open
               r.seat_of r.seat_of j u (r.views j u q) rises
               (λ d o is. (
                 is,
-                sym (ap (mine client_of d) (sym grown)
-                    ∙ mine-other client_of d r.history e
+                sym (ap (entries_of client_of d) (sym grown)
+                    ∙ entries_of-other client_of d r.history e
                     (λ same. other_client entries client_of opening reached key s r id c v at owns j d ne is (sym names ∙ same))),
               ))
               (λ l q'. absurd (alone entries client_of opening reached key s r id v h at turn j u l ne q q')));
           home = λ z. absurd (omega (arith, z, held, t.1));
           busy = λ _. (w, at_set_here s.views id v w at, refl);
-          others = λ d out. ap (mine client_of d) (sym grown)
-              ∙ mine-other client_of d r.history e
+          others = λ d out. ap (entries_of client_of d) (sym grown)
+              ∙ entries_of-other client_of d r.history e
               (λ same. true≢false (sym (k.own c owns).2 ∙ (ap (λ (z : ℕ). is_in z key.clients.items) (sym names ∙ same) ∙ out)))
               ∙ r.others d out;
           lawful = (y, subst (λ (z : O). reached z y) (k.opening o from) good, prefix_self (entries y));

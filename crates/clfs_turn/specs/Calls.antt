@@ -2,7 +2,7 @@
 -- entry names, and which values are lawfully reached from which opening.
 use Rattle.std.specs.Prelude.{◌≡◌, ◌⊎◌, ℕ, List, [], ◌∷◌, ◌++◌}
 use mathlib.Core.List.{IsPrefix}
-use Rattle.clfs_turn.specs.Lists.{mine}
+use Rattle.clfs_turn.specs.Lists.{entries_of}
 use Rattle.clfs_turn.specs.Seats.{SeatState, own}
 
 module _ {V E : Type 0} (entries : V → List E) where
@@ -24,7 +24,7 @@ module _ {V E O : Type 0} (entries : V → List E) (client_of : E → ℕ) (reac
     -- the value's list begins with all that the seat has seen
     pub begins : IsPrefix s.seen (entries x)
     -- and has of the seat's client just what the seat has seen
-    pub own : own client_of s ≡ mine client_of s.client (entries x)
+    pub own : own client_of s ≡ entries_of client_of s.client (entries x)
     -- the value was lawfully reached from the opening
     pub lawful : reached s.opening x
 

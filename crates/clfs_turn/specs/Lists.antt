@@ -12,8 +12,8 @@ are_distinct [] = true
 are_distinct (c ∷ cs) = not (is_in c cs) && are_distinct cs
 
 -- the entries of client c, in their order
-abbrev pub mine : {E : Type 0} → (E → ℕ) → ℕ → List E → List E
-mine client_of c xs = filter (λ e. client_of e == c) xs
+abbrev pub entries_of : {E : Type 0} → (E → ℕ) → ℕ → List E → List E
+entries_of client_of c xs = filter (λ e. client_of e == c) xs
 
 -- the longer of two lists; the first where they are equally long
 abbrev pub longer : {E : Type 0} → List E → List E → List E

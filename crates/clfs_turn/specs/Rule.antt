@@ -10,13 +10,13 @@ use Rattle.clfs_turn.specs.declared.view.Past.{Past}
 use Rattle.clfs_turn.specs.declared.view.View.{View}
 use Rattle.clfs_turn.specs.declared.view.Roll.{Roll}
 use Rattle.clfs_turn.specs.Calls.{IsLawful}
-use Rattle.clfs_turn.specs.Lists.{is_in, mine}
+use Rattle.clfs_turn.specs.Lists.{is_in, entries_of}
 use Rattle.clfs_turn.specs.Views.{at_rest}
 
 -- what some seat had seen: the history begins with it, and it has all entries of the seat's clients, which are among these
 pub record IsPast {E : Type 0} (client_of : E → ℕ) (history : List E) (clients : List ℕ) (p : Past E) : Type 0 where
   pub begins : IsPrefix p.seen history
-  pub own : (c : ℕ) → is_in c p.clients ≡ true → (is_in c clients ≡ true) × (mine client_of c p.seen ≡ mine client_of c history)
+  pub own : (c : ℕ) → is_in c p.clients ≡ true → (is_in c clients ≡ true) × (entries_of client_of c p.seen ≡ entries_of client_of c history)
 
 -- the same of each of these
 abbrev pub AllPast : {E : Type 0} → (E → ℕ) → List E → List ℕ → List (Past E) → Type 0
@@ -34,7 +34,7 @@ module _ {E O : Type 0} (client_of : E → ℕ) (history : List E) (held holder 
     pub saw : AllPast client_of history v.clients v.olds
     -- stops a seat that is given another's client or entries, and an entry of a client that its one seat hasn't seen
     pub own : (c : ℕ) → is_in c v.clients ≡ true
-        → (seat_of c ≡ j) × (mine client_of c v.seen ≡ mine client_of c history) × (is_in c all ≡ true)
+        → (seat_of c ≡ j) × (entries_of client_of c v.seen ≡ entries_of client_of c history) × (is_in c all ≡ true)
     -- stops a second seat with the turn, a turn while HELD is 0, a post by a seat that doesn't know the whole history,
     -- and a turn of a copy, which is no client's seat
     pub turn : (h : List E) → v.turn ≡ Some h
@@ -62,7 +62,7 @@ module _ {V E O : Type 0} (entries : V → List E) (client_of : E → ℕ) (open
     -- stops HELD at 1 with no seat that will release it
     pub busy : slice_index s.words 0 ≢ 0 → (v : View E O) × (get_elem? s.views holder ≡ some v) × (v.turn ≡ Some history)
     -- stops an entry in the name of a client without a seat
-    pub others : (c : ℕ) → is_in c key.clients.items ≡ false → mine client_of c history ≡ []
+    pub others : (c : ℕ) → is_in c key.clients.items ≡ false → entries_of client_of c history ≡ []
     -- stops a history, seen while the value is out with a seat, that no value could have
     pub lawful : IsLawful entries reached (opening key.first.value) history
 

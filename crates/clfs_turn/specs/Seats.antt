@@ -3,7 +3,7 @@ use Rattle.std.specs.Prelude.{◌≡◌, ℕ, List, [], refl}
 use Rattle.std.specs.Coded.{Coded, code_by, coded_ℕ, coded_list, coded×}
 use mathlib.Core.List.{IsPrefix}
 use Rattle.atomic_table.specs.Seated.{TableId, table_id_coded}
-use Rattle.clfs_turn.specs.Lists.{mine}
+use Rattle.clfs_turn.specs.Lists.{entries_of}
 
 -- which lock it is
 abbrev pub LockId : Type 0
@@ -47,7 +47,7 @@ seat_code {E} {O} entry opening =
 module _ {E O : Type 0} where
   -- the own entries of a seat: those of its client that it has seen
   abbrev pub own : (E → ℕ) → SeatState E O → List E
-  own client_of s = mine client_of s.client s.seen
+  own client_of s = entries_of client_of s.client s.seen
 
   -- a new seat at this lock: it has seen nothing
   pub record IsNewSeat (at : LockState O) (s : SeatState E O) : Type 0 where
@@ -64,4 +64,4 @@ module _ {E O : Type 0} where
   -- the history begins with what the seat has seen, which has all that the history has of the seat's client
   pub record HasSeen (client_of : E → ℕ) (history : List E) (s : SeatState E O) : Type 0 where
     pub begins : IsPrefix s.seen history
-    pub own : own client_of s ≡ mine client_of s.client history
+    pub own : own client_of s ≡ entries_of client_of s.client history

@@ -6,7 +6,7 @@ use Rattle.atomic_table.specs.Table.{Me, Step}
 use Rattle.clfs_turn.specs.declared.view.Past.{Past}
 use Rattle.clfs_turn.specs.declared.view.View.{View}
 use Rattle.clfs_turn.specs.Calls.{IsAdded, AddsAtMostOne, IsLawful}
-use Rattle.clfs_turn.specs.Lists.{is_in, mine, longer}
+use Rattle.clfs_turn.specs.Lists.{is_in, entries_of, longer}
 use Rattle.clfs_turn.specs.Rule.{AllPast}
 use Rattle.clfs_turn.specs.Seats.{SeatState}
 use Rattle.clfs_turn.specs.Views.{spent}
@@ -52,7 +52,7 @@ AllGathered v (s ∷ ss) = Gathered v s × AllGathered v ss
 -- the list y begins with the list x, and has the same entries of each of these clients
 pub record Grows {E : Type 0} (client_of : E → ℕ) (clients : List ℕ) (x y : List E) : Type 0 where
   pub begins : IsPrefix x y
-  pub own : (c : ℕ) → is_in c clients ≡ true → mine client_of c x ≡ mine client_of c y
+  pub own : (c : ℕ) → is_in c clients ≡ true → entries_of client_of c x ≡ entries_of client_of c y
 
 -- a value to be put back has the history h, with one more entry of this client where one is to be posted, and its length fits COUNT
 abbrev pub Returns : {V E : Type 0} → (V → List E) → (E → ℕ) → Bool → ℕ → List E → V → Type 0
@@ -73,7 +73,7 @@ module _ {V E O : Type 0} where
     -- what a view that takes the value x knows of it, as a seat does
     pub record Meets (client_of : E → ℕ) (reached : O → V → Type 0) (v : View E O) (x : V) : Type 0 where
       pub begins : IsPrefix v.seen (entries x)
-      pub own : (c : ℕ) → is_in c v.clients ≡ true → mine client_of c v.seen ≡ mine client_of c (entries x)
+      pub own : (c : ℕ) → is_in c v.clients ≡ true → entries_of client_of c v.seen ≡ entries_of client_of c (entries x)
       pub lawful : (o : O) → v.opening ≡ Some o → reached o x
 
     -- a seat took the turn, and a job of the client c took the value from `found` to `left`: m before, m' after the release

@@ -1,8 +1,8 @@
 // The lock's public calls.
-ghost use Rattle.std.specs.Prelude.{◌≡◌, ℕ, ◌^◌, ◌<◌, [], true, false, length, map, All, IfOk, IfErr};
+ghost use Rattle.std.specs.Prelude.{◌≡◌, ℕ, ◌^◌, ◌<◌, [], true, false, length, map, All, IsOk, IfOk, IfErr};
 ghost use mathlib.Core.List.{IsPrefix};
 ghost use Rattle.clfs_turn.specs.Calls.{Called, IsLawful};
-ghost use Rattle.clfs_turn.specs.Lists.{is_in, are_distinct, mine, longer};
+ghost use Rattle.clfs_turn.specs.Lists.{is_in, are_distinct, entries_of, longer};
 ghost use Rattle.clfs_turn.specs.Seats.{own, IsNewSeat, IsSameSeat, HasSeen};
 
 use crate::closing::gather;
@@ -114,7 +114,7 @@ impl<V: Logged<E, O>, E, O> Turn<V, E, O> {
         answer
     }
 
-    /// Lets two seats share what they have seen. A refusal is want of memory.
+    /// Lets two seats share what they have seen. A refusal would be want of memory; none comes, since copies of seats take none.
     pub fn meet(&self, a: &mut TurnSeat<E, O>, b: &mut TurnSeat<E, O>) -> Result<(), AllocError>
         requires lock { (a.old.lock ≡ self.now.lock) × (b.old.lock ≡ self.now.lock) }
         ensures same { IsSameSeat a.old a.new × IsSameSeat b.old b.new }
@@ -123,6 +123,7 @@ impl<V: Logged<E, O>, E, O> Turn<V, E, O> {
         ensures own { IfOk result (λ _. (own V.client_of a.new ≡ own V.client_of a.old) × (own V.client_of b.new ≡ own V.client_of b.old)) }
         ensures lawful { IfOk result (λ _. IsLawful V.entries V.reached a.old.opening a.new.seen) }
         ensures refused { IfErr result (λ _. (a.new ≡ a.old) × (b.new ≡ b.old)) }
+        ensures granted { IsOk result }
     {
         let table = &self.table.shared;
         let badge = mem::replace(&mut a.badge, Badge::blank());
@@ -144,7 +145,7 @@ impl<V: Logged<E, O>, E, O> Turn<V, E, O> {
         requires lock { All (λ s. s.lock ≡ self.lock) seats.items }
         requires all { (c : ℕ) → is_in c self.clients ≡ true → is_in c (map (λ s. s.client) seats.items) ≡ true }
         ensures seats { All (λ s. HasSeen V.client_of (V.entries result) s) seats.items }
-        ensures others { (c : ℕ) → is_in c self.clients ≡ false → mine V.client_of c (V.entries result) ≡ [] }
+        ensures others { (c : ℕ) → is_in c self.clients ≡ false → entries_of V.client_of c (V.entries result) ≡ [] }
         ensures lawful { V.reached self.opening result }
     {
         let Turn { table } = self;

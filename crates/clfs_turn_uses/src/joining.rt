@@ -2,7 +2,7 @@
 // closure itself.
 ghost use Rattle.std.specs.Prelude.{◌≡◌, ◌≢◌, ℕ, [], ◌∷◌, IfOk, vec_len};
 ghost use Rattle.std.specs.Thread.{IsSync};
-ghost use Rattle.clfs_turn.specs.Lists.{mine};
+ghost use Rattle.clfs_turn.specs.Lists.{entries_of};
 ghost use Rattle.clfs_turn.specs.Seats.{IsSameSeat};
 ghost use Rattle.clfs_turn_uses.specs.Notes.{first_notes, HasWritten};
 
@@ -81,9 +81,9 @@ pub fn two_writers<R: Threads + Wait + Sync>(
     alloc: Global,
     count: u64,
 ) -> Result<Diary, AllocError>
-    ensures first { IfOk result (λ d. mine (λ n. n.client) 3 d.notes.items ≡ first_notes 3 count) }
-    ensures second { IfOk result (λ d. mine (λ n. n.client) 5 d.notes.items ≡ first_notes 5 count) }
-    ensures others { IfOk result (λ d. (c : ℕ) → c ≢ 3 → c ≢ 5 → mine (λ n. n.client) c d.notes.items ≡ []) }
+    ensures first { IfOk result (λ d. entries_of (λ n. n.client) 3 d.notes.items ≡ first_notes 3 count) }
+    ensures second { IfOk result (λ d. entries_of (λ n. n.client) 5 d.notes.items ≡ first_notes 5 count) }
+    ensures others { IfOk result (λ d. (c : ℕ) → c ≢ 3 → c ≢ 5 → entries_of (λ n. n.client) c d.notes.items ≡ []) }
 {
     let diary = Diary {
         notes: Vec::new(alloc),

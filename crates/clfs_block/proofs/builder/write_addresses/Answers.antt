@@ -10,14 +10,23 @@ loop-sector-preserved c =
     let kept = c.loop-sector.invariant in
     let old = c.loop-sector.buffer.items in
     let new = c.put_number.new.out.items in
-    let first = c.container.result * 4294967296 + c.offset.result in
+    let first = c.number-first.result in
     let at = 512 * s + 504 in
     let number = first + 512 * s in
     let lt : s < c.args.count = c.loop-sector-test.true in
     let room : at + 8 ≤ length old = omega (arith, lt, kept.size) in
     let put = c.put_number.ensures.items in
-    let is : number ≡ address c.args.start s = omega (arith, c.container.ensures.value, c.offset.ensures.value) in
-    let small : number < 2 ^ 64 = omega (arith, c.container.type_inv, c.offset.ensures.value, c.requires.container, lt, c.requires.count) in
+    let is : number ≡ address c.args.start s = omega (arith, c.number-first.ensures, c.from_parts.ensures, c.container.ensures.value, c.offset.ensures.value) in
+    let small : number < 2 ^ 64 = omega (
+      arith,
+      c.number-first.ensures,
+      c.from_parts.ensures,
+      c.container.type_inv,
+      c.offset.ensures.value,
+      c.requires.container,
+      lt,
+      c.requires.count,
+    ) in
     record {
       size = length-spliced old at number room new put ∙ kept.size;
       payload = λ k lt. ⊎_elim

@@ -2,7 +2,8 @@ use Rattle.std.proofs.Common.{◌≡◌, inr, sym, ◌∙◌, ap, arith}
 use Rattle.clfs_block.specs.Frame.{payload_of}
 use Rattle.clfs_block.specs.Checks.{rest_at, head_for}
 use Rattle.clfs_block.specs.declared.head.BlockHead.{BlockHead}
-use Rattle.clfs_block.proofs.Reading.{frame_read, rest_read, payload_read, answered_is_spelled, not_refused, one_head}
+use Rattle.clfs_block.proofs.Reading.{frame_read, rest_read, payload_read, answered_is_spelled, answered_is_framed, is_framed, wrong_is_behind, rest_is_open}
+use Rattle.clfs_block.proofs.Reading.{not_refused, one_head}
 use Rattle.clfs_block.proofs.decoder.decode_block.Goals as goal
 
 pub returns-in_err-head-clause-only : goal.returns-in_err-head-clause-only
@@ -26,3 +27,23 @@ returns-clause-found c =
     answered_is_spelled c.args.shape.now c.args.start c.args.bytes.now c.fill.new.payload c.in_ok-head.head c.rest.result
     (λ i. omega (arith, c.type_inv.bytes i))
     (sym c.frame.ensures.exact ∙ c.in_ok-head.was) c.rest.ensures c.in_ok-fill.ensures.ok
+
+pub returns-clause-framed : goal.returns-clause-framed
+returns-clause-framed c =
+    answered_is_framed c.args.shape.now c.args.start c.args.bytes.now c.fill.new.payload c.in_ok-head.head c.rest.result
+    (λ i. omega (arith, c.type_inv.bytes i))
+    (sym c.frame.ensures.exact ∙ c.in_ok-head.was) c.rest.ensures c.in_ok-fill.ensures.ok
+
+pub returns-clause-filled : goal.returns-clause-filled
+returns-clause-filled c head is memory =
+    let same : c.in_ok-head.head ≡ head = one_head _ _ (sym c.in_ok-head.was ∙ c.frame.ensures.exact ∙ is) in
+    is_framed c.args.shape.now c.args.start c.args.bytes.now c.fill.new.payload head (λ i. omega (arith, c.type_inv.bytes i)) is
+    (c.in_ok-fill.ensures.ok ∙ ap (λ (h : BlockHead). payload_of h.used c.args.bytes.now) same)
+
+pub returns-clause-wrong : goal.returns-clause-wrong
+returns-clause-wrong c at is = inr
+    (wrong_is_behind c.args.shape.now c.args.start c.args.bytes.now c.fill.new.payload c.in_ok-head.head c.rest.result at
+    (λ i. omega (arith, c.type_inv.bytes i)) (sym c.frame.ensures.exact ∙ c.in_ok-head.was) c.rest.ensures c.in_ok-fill.ensures.ok is)
+
+pub returns-clause-closed : goal.returns-clause-closed
+returns-clause-closed c is = absurd (rest_is_open c.args.bytes.now c.in_ok-head.head (sym c.rest.ensures ∙ is))

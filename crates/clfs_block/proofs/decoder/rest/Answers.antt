@@ -1,12 +1,13 @@
 use Rattle.std.proofs.Common.{ℕ, Option, Result, Ok, refl, sym, ◌∙◌, ap}
-use Rattle.clfs_block.specs.Checks.{unless_wrong}
+use Rattle.clfs_lsn.specs.Checks.{unless_wrong}
 use Rattle.clfs_block.specs.declared.head.BlockHead.{BlockHead}
 use Rattle.clfs_block.specs.declared.head.BlockRefusal.{BlockRefusal}
+use Rattle.clfs_block.specs.declared.head.BlockRefusal.TheVariants.{BadByte}
 use Rattle.clfs_block.proofs.Searches.{rest_is}
 use Rattle.clfs_block.proofs.decoder.rest.Goals as goal
 
 answer_of : BlockHead → Option ℕ → Result BlockHead BlockRefusal
-answer_of head found = unless_wrong found (Ok head)
+answer_of head found = unless_wrong BadByte found (Ok head)
 
 pub returns-in-Some : goal.returns-in-Some
 unfolding answer_of

@@ -16,19 +16,19 @@ returns-clause-there c = λ told s t journal client number draft legal enough.
 pub returns-clause-space : goal.returns-clause-space
 returns-clause-space c = λ told s t journal client number draft of_free of_reserved need valid legal enough refused.
     let has = holds_enough told s t journal client number (length draft.bytes) legal enough in
-    never_full t client number has.area draft of_free of_reserved need (valid_journal told s t journal legal valid) has.there has.enough refused
+    never_full t client number has.area draft of_free of_reserved need (valid_journal c.space_laws.ensures told s t journal legal valid) has.there has.enough refused
 
 pub returns-clause-held : goal.returns-clause-held
 returns-clause-held c = λ told s t journal client number draft of_held need valid legal enough refused.
     let has = holds_enough told s t journal client number (length draft.bytes) legal enough in
-    never_short t client number has.area draft of_held need (valid_journal told s t journal legal valid) has.there has.enough refused
+    never_short t client number has.area draft of_held need (valid_journal c.space_laws.ensures told s t journal legal valid) has.there has.enough refused
 
 pub returns-clause-containers : goal.returns-clause-containers
 returns-clause-containers c = λ told s t journal client number draft have valid legal enough refused.
     let has = holds_enough told s t journal client number (length draft.bytes) legal enough in
-    never_few t client number has.area draft have (valid_journal told s t journal legal valid) has.there has.enough refused
+    never_few t client number has.area draft have (valid_journal c.space_laws.ensures told s t journal legal valid) has.there has.enough refused
 
 pub returns-clause-step : goal.returns-clause-step
 returns-clause-step c = λ told s t u journal client number draft happened given valid legal enough step.
     let has = holds_enough told s t journal client number (length draft.bytes) legal enough in
-    covered_step told t client number has.area draft happened given u (valid_journal told s t journal legal valid) has.there has.enough step
+    covered_step told t client number has.area draft happened given u (valid_journal c.space_laws.ensures told s t journal legal valid) has.there has.enough step

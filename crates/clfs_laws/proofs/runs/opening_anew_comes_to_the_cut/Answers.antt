@@ -5,4 +5,4 @@ pub returns-clause-step : goal.returns-clause-step
 returns-clause-step c = cut_step
 
 pub returns-clause-run : goal.returns-clause-run
-returns-clause-run c = fine_run c.calm_replies_are_a_run.ensures
+returns-clause-run c = fine_run c.space_laws.ensures c.calm_replies_are_a_run.ensures

@@ -9,10 +9,10 @@ pub returns-clause-disk : goal.returns-clause-disk
 returns-clause-disk c = disk_same
 
 pub returns-clause-step : goal.returns-clause-step
-returns-clause-step c = steps_alike
+returns-clause-step c = steps_alike c.space_laws.ensures
 
 pub returns-clause-reopening : goal.returns-clause-reopening
 returns-clause-reopening c = reopening_alike
 
 pub returns-clause-run : goal.returns-clause-run
-returns-clause-run c = runs_alike
+returns-clause-run c = runs_alike c.space_laws.ensures

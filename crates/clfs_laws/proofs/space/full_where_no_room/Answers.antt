@@ -10,16 +10,16 @@ pub returns-clause-room : goal.returns-clause-room
 returns-clause-room c = room_told
 
 pub returns-clause-numbers : goal.returns-clause-numbers
-returns-clause-numbers c = full_as_it_is
+returns-clause-numbers c = full_as_it_is c.space_laws.ensures
 
 pub returns-clause-reserve : goal.returns-clause-reserve
-returns-clause-reserve c = full_reserve
+returns-clause-reserve c = full_reserve c.space_laws.ensures
 
 pub returns-clause-append : goal.returns-clause-append
-returns-clause-append c = full_append
+returns-clause-append c = full_append c.space_laws.ensures
 
 pub returns-clause-restart : goal.returns-clause-restart
-returns-clause-restart c = full_restart
+returns-clause-restart c = full_restart c.space_laws.ensures
 
 pub returns-clause-step : goal.returns-clause-step
-returns-clause-step c = full_step
+returns-clause-step c = full_step c.space_laws.ensures

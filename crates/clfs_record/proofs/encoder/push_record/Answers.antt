@@ -1,4 +1,5 @@
-use Rattle.std.proofs.Common.{◌≡◌, ◌++◌, ℕ, List, length, replicate, ap, ◌∙◌, append_assoc}
+use Rattle.std.proofs.Common.{◌≡◌, ◌++◌, ℕ, ◌+◌, ◌-◌, List, length, replicate, ap, ◌∙◌, append_assoc}
+use Rattle.clfs_lsn.specs.Format.{record_header}
 use Rattle.clfs_lsn.specs.Spelling.{header_bytes, filling}
 use Rattle.clfs_record.proofs.encoder.push_record.Goals as goal
 
@@ -15,10 +16,12 @@ returns-clause-ok c =
     let kept : c.reserve.new.self.items ≡ c.args.out.now.items = c.reserve.ensures.items in
     let header : c.push_reserved.new.out.items ≡ c.reserve.new.self.items ++ c.header_of.result = c.push_reserved.ensures.items in
     let content : c.push_reserved-2.new.out.items ≡ c.push_reserved.new.out.items ++ c.as_slice-data.result.now = c.push_reserved-2.ensures.items in
-    let zeros : c.push_zeros.new.out.items ≡ c.push_reserved-2.new.out.items ++ replicate c.filling_of-zeros.result 0 = c.push_zeros.ensures in
+    let zeros : c.push_zeros.new.out.items ≡ c.push_reserved-2.new.out.items ++ replicate (c.size_of_record-size.result - (record_header + length c.as_slice-data.result.now)) 0 =
+    c.push_zeros.ensures.items in
     let same : c.as_slice-data.result.now ≡ e.bytes = c.as_slice-data.ensures in
-    let count : c.filling_of-zeros.result ≡ filling (length e.bytes) =
-    c.filling_of-zeros.ensures.value ∙ ap (λ (l : List ℕ). filling (length l)) same in
+    let count : c.size_of_record-size.result - (record_header + length c.as_slice-data.result.now) ≡ filling (length e.bytes) =
+    ap (λ (n : ℕ). n - (record_header + length c.as_slice-data.result.now)) c.size_of_record-size.ensures
+    ∙ ap (λ (l : List ℕ). filling (length l)) same in
     regroup c.args.out.now.items (header_bytes e) e.bytes (filling (length e.bytes))
     c.push_reserved.new.out.items c.push_reserved-2.new.out.items c.push_zeros.new.out.items
     (header ∙ ap (λ (l : List ℕ). l ++ c.header_of.result) kept ∙ ap (λ (l : List ℕ). c.args.out.now.items ++ l) c.header_of.ensures)

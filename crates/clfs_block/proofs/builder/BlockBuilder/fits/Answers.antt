@@ -1,4 +1,4 @@
-use Rattle.std.proofs.Common.{◌+◌, ℕ, ◌&&◌, leb, ap, sym, ◌∙◌}
+use Rattle.std.proofs.Common.{◌+◌, ℕ, ◌&&◌, leb, ltb, ap, sym, ◌∙◌}
 use Rattle.clfs_lsn.specs.Size.{size, sectors}
 use Rattle.clfs_block.specs.Building.{Building}
 use Rattle.clfs_block.proofs.Buildings.{content_size}
@@ -12,8 +12,8 @@ returns c =
     let room_is = ap (λ (b : Building). b.room) c.self.view_is in
     let records_is = ap (λ (b : Building). b.records) c.self.view_is in
     c.has_room.ensures
-    ∙ ap (λ (r : ℕ). leb r 510 && (leb (sectors (c.self.inside.used + size c.args.len)) c.self.inside.room && leb
+    ∙ ap (λ (r : ℕ). ltb r 511 && (leb (sectors (c.self.inside.used + size c.args.len)) c.self.inside.room && leb
     (sectors (c.self.inside.used + size c.args.len)) c.args.left)) records_is
-    ∙ ap (λ (r : ℕ). leb shown.records 510 && (leb (sectors (c.self.inside.used + size c.args.len)) r && leb
+    ∙ ap (λ (r : ℕ). ltb shown.records 511 && (leb (sectors (c.self.inside.used + size c.args.len)) r && leb
     (sectors (c.self.inside.used + size c.args.len)) c.args.left)) room_is
-    ∙ ap (λ (u : ℕ). leb shown.records 510 && (leb (sectors (u + size c.args.len)) shown.room && leb (sectors (u + size c.args.len)) c.args.left)) (sym used_is)
+    ∙ ap (λ (u : ℕ). ltb shown.records 511 && (leb (sectors (u + size c.args.len)) shown.room && leb (sectors (u + size c.args.len)) c.args.left)) (sym used_is)

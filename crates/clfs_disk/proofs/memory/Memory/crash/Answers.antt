@@ -3,11 +3,12 @@ use Rattle.std.proofs.lemmas.List.{take_all}
 use Rattle.clfs_disk.specs.Record.{at_rest, replay, Image}
 use Rattle.clfs_disk.specs.Copies.{read_files, first_files}
 use Rattle.clfs_disk.specs.declared.record.Event.{Event}
-use Rattle.clfs_disk.proofs.Holdings.{holds_fresh, settled_at_rest, pick_is_image}
+use Rattle.clfs_disk.proofs.Holdings.{holds_fresh, counted_none, settled_at_rest, pick_is_image}
 use Rattle.clfs_disk.proofs.memory.Memory.crash.Goals as goal
 
 pub invariant_of-result : goal.invariant_of-result
 invariant_of-result c = record {
+  counted = counted_none _ _ c.clear.ensures.calls;
   holds = holds_fresh _ _ _ (c.crash_files.ensures.count ∙ c.args.self.holds.count) c.clear.ensures.calls c.clear.ensures.written
       (λ file. sym (c.crash_files.ensures.first file)) (λ file. c.crash_files.ensures.synced file ∙ sym (c.crash_files.ensures.first file));
 }
@@ -15,7 +16,7 @@ invariant_of-result c = record {
 pub returns-clause-settled : goal.returns-clause-settled
 returns-clause-settled c =
     let start = first_files c.crash_files.new.files.items in
-    settled_at_rest start start _ c.clear.new.self.written.items _ _ (ap
+    settled_at_rest start start _ c.clear.new.self.written.items _ _ _ (ap
     (λ (l : List Event). replay (at_rest start) l c.clear.new.self.written.items) c.clear.ensures.calls) (λ file. sym (c.crash_files.ensures.first file))
 
 pub returns-clause-image : goal.returns-clause-image

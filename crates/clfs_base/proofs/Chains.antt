@@ -1,0 +1,29 @@
+-- The first wrong byte of a slot, part by part.
+use Rattle.std.proofs.Common.{◌≡◌, ℕ, List, Option, Some, sym, ap}
+use Rattle.std.specs.Option.{option_or}
+use Rattle.clfs_base.specs.declared.layout.Layout.{Layout}
+use Rattle.clfs_base.specs.declared.layout.Numbers.{Numbers}
+use Rattle.clfs_base.specs.declared.refusal.BaseRefusal.{BaseRefusal}
+use Rattle.clfs_base.specs.declared.refusal.BaseRefusal.TheVariants as refusals
+use Rattle.clfs_base.specs.Layout.{slot_bytes, fields_end, files_at, rows_at, file_place, row_place, numbers_of, fields}
+use Rattle.clfs_base.specs.Checks.{other_byte, wrong_field, wrong_file, wrong_row, slot_fault}
+use Rattle.clfs_base.specs.Decoding.{RefusesAt}
+
+-- the same with the numbers that were read
+abbrev pub chain : Layout → List ℕ → Numbers → Option ℕ
+chain layout bytes n =
+    option_or (wrong_field bytes (fields layout n))
+    (option_or (other_byte bytes fields_end files_at)
+    (option_or (wrong_file bytes n.files_made n.listed)
+    (option_or (other_byte bytes (file_place n.listed) rows_at)
+    (option_or (wrong_row layout bytes n.streams)
+    (other_byte bytes (row_place layout n.streams) slot_bytes)))))
+
+pub chained : (layout : Layout) (bytes : List ℕ) (n : Numbers) → n ≡ numbers_of bytes → slot_fault layout bytes ≡ chain layout bytes n
+unfolding slot_fault
+chained layout bytes n is = ap (chain layout bytes) (sym is)
+
+-- a refusal of one part is one of the whole
+pub refused : (refusal : BaseRefusal) (part whole : Option ℕ) → RefusesAt refusal part → ((at : ℕ) → part ≡ Some at → whole ≡ Some at) → RefusesAt refusal whole
+refused refusals.NoMemory part whole at first = tt
+refused (refusals.BadByte at) part whole is first = first at is

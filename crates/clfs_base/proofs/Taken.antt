@@ -1,0 +1,332 @@
+-- What a slot without a wrong byte spells: the image that is read, which is one that there may be.
+use Rattle.std.proofs.Common.{◌≡◌, ◌≢◌, inl, inr, ℕ, ◌+◌, ◌-◌, ◌*◌, ◌%◌, ◌^◌, ◌<◌, ◌≤◌, Bool, true, false, not, ◌||◌, ◌&&◌, eqb, leb, ltb, List, [], ◌∷◌, ◌++◌, length, get_or, take, drop, replicate}
+use Rattle.std.proofs.Common.{None, refl, sym, ◌∙◌, ap, subst, arith, length-drop, append_assoc, take-append-drop}
+use Rattle.std.proofs.Math.Nat.{mul-le-mul_left}
+use Rattle.std.proofs.lemmas.Bool.{cases_lt}
+use Rattle.std.proofs.lemmas.Bool.Decides.{nat_tests}
+use Rattle.std.proofs.lemmas.List.{length-take, length-take-le, drop_more, drop-drop, get_or-take, get_or-drop, get_or_past}
+use Rattle.std.proofs.lemmas.List.FromFn.{length-map-range_with_len, get_or-map-range_with_len}
+use Rattle.std.proofs.lemmas.Nat.{le_bytes_2, le_bytes_4, le_bytes_8}
+use Rattle.std.proofs.lemmas.Slice.Eq.{bytes_eq-Decides}
+use Rattle.std.specs.Int.{w16, w32, w64, from_le_bytes}
+use Rattle.std.specs.List.{flat_map, list_any, list_all}
+use Rattle.std.specs.Str.{bytes_eq}
+use Rattle.byteorder.specs.Endian.{little_bytes, little_number}
+use Rattle.byteorder.specs.Numbers.{little_from-lt}
+use Rattle.clfs_base.specs.declared.image.Row.{Row}
+use Rattle.clfs_base.specs.declared.layout.Layout.{Layout}
+use Rattle.clfs_base.specs.declared.layout.Numbers.{Numbers}
+use Rattle.clfs_base.specs.Layout.{number_at, numbers_of, fields, row_place, file_place, most_tail}
+use Rattle.clfs_lsn.specs.Names.{is_name_byte}
+use Rattle.clfs_base.specs.Spelling.{IsName, AreFiles, AreRows, IsImage, row_in, flag, numbers_for, filled, field_bytes, number_bytes, spelled_row, spelled}
+use Rattle.clfs_base.specs.Checks.{file_in, files_in, wrong_file, name_len, name_in, is_taken, row_of, rows_of, row_fault, wrong_row, slot_fault, image_of}
+use Rattle.clfs_base.proofs.Searches.{both_none, each_none}
+use Rattle.clfs_base.proofs.Chains.{chained}
+use Rattle.clfs_base.proofs.Filling.{length-row, length-all_pieces}
+use Rattle.clfs_base.proofs.Places.{told_none, passed_zeros, pieces_are, each_fails}
+use Rattle.clfs_base.proofs.Ranges.{all_pass, pass_right}
+use Rattle.clfs_base.proofs.Spelled.{IsLayout}
+
+-- ---- numbers as bytes
+
+-- bytes, and not larger numbers
+abbrev pub IsBytes : List ℕ → Type 0
+IsBytes bytes = (i : ℕ) → get_or bytes i 0 < 256
+
+IsBytes-drop : (n : ℕ) (bytes : List ℕ) → IsBytes bytes → IsBytes (drop n bytes)
+IsBytes-drop n bytes h i = rw get_or-drop (h (n + i))
+
+IsBytes-take : (n : ℕ) (bytes : List ℕ) → IsBytes bytes → IsBytes (take n bytes)
+IsBytes-take n bytes h i =
+    elim (cases_lt i n) [
+      | inl lt ↦ rw (get_or-take n bytes i 0 lt) (h i)
+      | inr le ↦ rw (get_or_past (take n bytes) i 0 (omega (arith, length-take n bytes))) (omega arith)
+    ]
+
+module _ (bytes : List ℕ) (fits : IsBytes bytes) where
+  one : (at : ℕ) → at + 1 ≤ length bytes → drop at bytes ≡ little_bytes 1 (number_at at 1 bytes) ++ drop (at + 1) bytes
+  one at there =
+      let small = fits at in
+      let none : at + 0 ≡ at = omega arith in
+      let byte : number_at at 1 bytes % 256 ≡ get_or bytes at 0 = omega (arith, get_or-drop at bytes 0 0, ap (λ (k : ℕ). get_or bytes k 0) none, small) in
+      drop_more bytes at 0 (omega (arith, there)) ∙ ap (λ (b : ℕ). b ∷ drop (at + 1) bytes) (sym byte)
+
+  two : (at : ℕ) → at + 2 ≤ length bytes → drop at bytes ≡ little_bytes 2 (number_at at 2 bytes) ++ drop (at + 2) bytes
+  two at there =
+      let xs = drop at bytes in
+      let long : 2 ≤ length xs = omega (arith, length-drop at bytes, there) in
+      let same : little_number 2 xs ≡ from_le_bytes w16 (take 2 xs) =
+      omega (arith, get_or-take 2 xs 0 0 (omega arith), get_or-take 2 xs 1 0 (omega arith)) in
+      sym (ap (λ (l : List ℕ). l ++ drop 2 xs)
+      (le_bytes_2 (take 2 xs) (little_number 2 xs) (length-take-le 2 xs long) (IsBytes-take 2 xs (IsBytes-drop at bytes fits)) same) ∙ take-append-drop 2 xs)
+      ∙ ap (λ (l : List ℕ). little_bytes 2 (little_number 2 xs) ++ l) (drop-drop 2 at bytes)
+
+  four : (at : ℕ) → at + 4 ≤ length bytes → drop at bytes ≡ little_bytes 4 (number_at at 4 bytes) ++ drop (at + 4) bytes
+  four at there =
+      let xs = drop at bytes in
+      let long : 4 ≤ length xs = omega (arith, length-drop at bytes, there) in
+      let byte = λ (i : ℕ) (lt : i < 4). get_or-take 4 xs i 0 lt in
+      let same : little_number 4 xs ≡ from_le_bytes w32 (take 4 xs) =
+      omega (arith, byte 0 (omega arith), byte 1 (omega arith), byte 2 (omega arith), byte 3 (omega arith)) in
+      sym (ap (λ (l : List ℕ). l ++ drop 4 xs)
+      (le_bytes_4 (take 4 xs) (little_number 4 xs) (length-take-le 4 xs long) (IsBytes-take 4 xs (IsBytes-drop at bytes fits)) same) ∙ take-append-drop 4 xs)
+      ∙ ap (λ (l : List ℕ). little_bytes 4 (little_number 4 xs) ++ l) (drop-drop 4 at bytes)
+
+  eight : (at : ℕ) → at + 8 ≤ length bytes → drop at bytes ≡ little_bytes 8 (number_at at 8 bytes) ++ drop (at + 8) bytes
+  eight at there =
+      let xs = drop at bytes in
+      let long : 8 ≤ length xs = omega (arith, length-drop at bytes, there) in
+      let byte = λ (i : ℕ) (lt : i < 8). get_or-take 8 xs i 0 lt in
+      let same : little_number 8 xs ≡ from_le_bytes w64 (take 8 xs) =
+      omega (
+        arith,
+        byte 0 (omega arith),
+        byte 1 (omega arith),
+        byte 2 (omega arith),
+        byte 3 (omega arith),
+        byte 4 (omega arith),
+        byte 5 (omega arith),
+        byte 6 (omega arith),
+        byte 7 (omega arith),
+      ) in
+      sym (ap (λ (l : List ℕ). l ++ drop 8 xs)
+      (le_bytes_8 (take 8 xs) (little_number 8 xs) (length-take-le 8 xs long) (IsBytes-take 8 xs (IsBytes-drop at bytes fits)) same) ∙ take-append-drop 8 xs)
+      ∙ ap (λ (l : List ℕ). little_bytes 8 (little_number 8 xs) ++ l) (drop-drop 8 at bytes)
+
+  -- what stands at a place, and then what stands behind it
+  and_then : (at w : ℕ) (x : List ℕ) → drop at bytes ≡ little_bytes w (number_at at w bytes) ++ drop (at + w) bytes → drop (at + w) bytes ≡ x
+      → drop at bytes ≡ little_bytes w (number_at at w bytes) ++ x
+  and_then at w x here next = here ∙ ap (λ (l : List ℕ). little_bytes w (number_at at w bytes) ++ l) next
+
+  table_taken : (layout : Layout) → 40 ≤ length bytes → drop 1 bytes ≡ flat_map field_bytes (fields layout (numbers_of bytes)) ++ drop 40 bytes
+  table_taken layout there =
+      and_then 1 1 _ (one 1 (omega (arith, there)))
+      (and_then 2 1 _ (one 2 (omega (arith, there)))
+      (and_then 3 1 _ (one 3 (omega (arith, there)))
+      (and_then 4 4 _ (four 4 (omega (arith, there)))
+      (and_then 8 4 _ (four 8 (omega (arith, there)))
+      (and_then 12 2 _ (two 12 (omega (arith, there)))
+      (and_then 14 2 _ (two 14 (omega (arith, there)))
+      (and_then 16 4 _ (four 16 (omega (arith, there)))
+      (and_then 20 2 _ (two 20 (omega (arith, there)))
+      (and_then 22 2 _ (two 22 (omega (arith, there)))
+      (and_then 24 1 _ (one 24 (omega (arith, there)))
+      (and_then 25 1 _ (one 25 (omega (arith, there)))
+      (and_then 26 2 _ (two 26 (omega (arith, there)))
+      (and_then 28 2 _ (two 28 (omega (arith, there)))
+      (and_then 30 2 _ (two 30 (omega (arith, there)))
+      (eight 32 (omega (arith, there)))))))))))))))))
+
+  -- ---- the file numbers
+
+  module _ (made count : ℕ) (none : wrong_file bytes made count ≡ None) where
+    file_is : (i : ℕ) → i < count
+        → (64 + 2 * i + 2 ≤ length bytes) × (1 ≤ file_in bytes i) × (file_in bytes i ≤ made)
+        × (list_any (λ other. eqb other (file_in bytes i)) (files_in bytes i) ≡ false)
+    file_is i lt =
+        facts (length bytes) (64 + 2 * i) (file_in bytes i) (list_any (λ other. eqb other (file_in bytes i)) (files_in bytes i))
+        (told_none _ (file_place i) (each_none _ 0 count none i (omega arith) (omega (arith, lt))))
+      where
+        facts : (size at file : ℕ) (taken : Bool) → (ltb size (at + 2) || (not (leb 1 file && leb file made) || taken)) ≡ false
+            → (at + 2 ≤ size) × (1 ≤ file) × (file ≤ made) × (taken ≡ false)
+        facts size at file taken e = (grind (arith, nat_tests), grind (arith, nat_tests), grind (arith, nat_tests), grind (arith, nat_tests))
+
+    files_taken : drop 64 bytes ≡ flat_map number_bytes (files_in bytes count) ++ drop (64 + 2 * count) bytes
+    files_taken = pieces_are number_bytes (file_in bytes) 2 64 bytes count
+        (λ i lt.
+        let next : 64 + 2 * i + 2 ≡ 64 + 2 * (i + 1) = omega arith in
+        two (64 + 2 * i) (file_is i lt).0 ∙ ap (λ (k : ℕ). number_bytes (file_in bytes i) ++ drop k bytes) next)
+
+    files_are : AreFiles made (files_in bytes count)
+    files_are =
+        let size : length (files_in bytes count) ≡ count = length-map-range_with_len (file_in bytes) 0 count in
+        let each = λ (i : ℕ) (lt : i < count). get_or-map-range_with_len (file_in bytes) 0 count i i 0 lt (omega arith) in
+        record {
+          from_one = λ i lt. omega (arith, each i (omega (arith, lt, size)), (file_is i (omega (arith, lt, size))).1);
+          to_last = λ i lt. omega (arith, each i (omega (arith, lt, size)), (file_is i (omega (arith, lt, size))).2);
+          different = λ i j lt below same.
+              let here : j < count = omega (arith, below, size) in
+              let apart = each_fails (λ other. eqb other (file_in bytes j)) (file_in bytes) 0 j (file_is j here).3 i (omega arith) (omega (arith, lt)) in
+              unequal (file_in bytes i) (file_in bytes j) apart (sym (each i (omega (arith, lt, here))) ∙ same ∙ each j here);
+        }
+      where
+        unequal : (a b : ℕ) → eqb a b ≡ false → a ≢ b
+        unequal a b e = grind (arith, nat_tests)
+
+-- ---- the rows
+
+length_is : (size at len most : ℕ) → (ltb size (at + 1) || not (leb 1 len && leb len most)) ≡ false → (at + 1 ≤ size) × (1 ≤ len) × (len ≤ most)
+length_is size at len most e = (grind (arith, nat_tests), grind (arith, nat_tests), grind (arith, nat_tests))
+
+name_is : (size at len : ℕ) (bytes taken : Bool) → (ltb size (at + len) || (not bytes || taken)) ≡ false → (at + len ≤ size) × (bytes ≡ true) × (taken ≡ false)
+name_is size at len bytes taken e = (grind (arith, nat_tests), grind (arith, nat_tests), grind (arith, nat_tests))
+
+there_is : (size at width : ℕ) → ltb size (at + width) ≡ false → at + width ≤ size
+there_is size at width e = grind (arith, nat_tests)
+
+abbrev row_here : List ℕ → ℕ → Row
+row_here bytes at = record { name = name_in bytes at; base = number_at (at + 8) 8 bytes }
+
+-- a row without a wrong byte
+record RowHeld (layout : Layout) (bytes : List ℕ) (at : ℕ) (earlier : List Row) : Type 0 where
+  pub named : IsName layout.longest_name (name_in bytes at)
+  pub free : is_taken (name_in bytes at) earlier ≡ false
+  pub spelled_is : drop at bytes ≡ spelled_row layout.longest_name (row_here bytes at) ++ drop (at + (16 + layout.longest_name)) bytes
+
+row_held : (layout : Layout) (bytes : List ℕ) (at : ℕ) (earlier : List Row) → IsBytes bytes → row_fault layout bytes at earlier ≡ None → RowHeld layout bytes at earlier
+row_held layout bytes at earlier fits none =
+    let room = layout.longest_name in
+    let len = name_len bytes at in
+    let name = name_in bytes at in
+    let end = at + (16 + room) in
+    let base : List ℕ = little_bytes 8 (number_at (at + 8) 8 bytes) in
+    let a = both_none _ _ none in
+    let b = both_none _ _ a.1 in
+    let c = both_none _ _ b.1 in
+    let d = both_none _ _ c.1 in
+    let long = length_is (length bytes) at len room (told_none _ at a.0) in
+    let base_there = there_is (length bytes) (at + 8) 8 (told_none _ (at + 8) c.0) in
+    let named = name_is (length bytes) (at + 16) len (list_all is_name_byte name) (is_taken name earlier) (told_none _ (at + 16) d.0) in
+    let seven : at + 8 - (at + 1) ≡ 7 = omega arith in
+    let sixteen : at + 8 + 8 ≡ at + 16 = omega arith in
+    let size : length name ≡ len = length-take-le len (drop (at + 16) bytes) (omega (arith, length-drop (at + 16) bytes, named.0)) in
+    let left : end - (at + 16 + len) ≡ room - length name = omega (arith, size) in
+    let zeros : drop (at + 1) bytes ≡ replicate 7 0 ++ drop (at + 8) bytes =
+    passed_zeros bytes (at + 1) (at + 8) (omega arith) b.0 ∙ ap (λ (k : ℕ). replicate k 0 ++ drop (at + 8) bytes) seven in
+    let base_here : drop (at + 8) bytes ≡ base ++ drop (at + 16) bytes =
+    eight bytes fits (at + 8) base_there ∙ ap (λ (k : ℕ). base ++ drop k bytes) sixteen in
+    let behind : drop (at + 16 + len) bytes ≡ replicate (room - length name) 0 ++ drop end bytes =
+    passed_zeros bytes (at + 16 + len) end (omega (arith, long.2)) d.1 ∙ ap (λ (k : ℕ). replicate k 0 ++ drop end bytes) left in
+    let name_here : drop (at + 16) bytes ≡ filled room name ++ drop end bytes =
+    sym (take-append-drop len (drop (at + 16) bytes)) ∙ ap (λ (l : List ℕ). name ++ l) (drop-drop len (at + 16) bytes ∙ behind)
+    ∙ sym (append_assoc name (replicate (room - length name) 0) (drop end bytes)) in
+    record {
+      named = record { some = omega (arith, size, long.1); few = omega (arith, size, long.2); bytes = named.1 };
+      free = named.2;
+      spelled_is = drop_more bytes at 0 (omega (arith, long.0))
+          ∙ ap (λ (l : List ℕ). len ∷ l) (zeros ∙ ap (λ (l : List ℕ). replicate 7 0 ++ l) (base_here ∙ ap (λ (l : List ℕ). base ++ l) name_here))
+          ∙ ap (λ (k : ℕ). k ∷ replicate 7 0 ++ (base ++ (filled room name ++ drop end bytes))) (sym size);
+    }
+
+module _ (layout : Layout) (bytes : List ℕ) (fits : IsBytes bytes) (count : ℕ) (none : wrong_row layout bytes count ≡ None) where
+  row_is : (i : ℕ) → i < count → RowHeld layout bytes (row_place layout i) (rows_of layout bytes i)
+  row_is i lt = row_held layout bytes (row_place layout i) (rows_of layout bytes i) fits (each_none _ 0 count none i (omega arith) (omega (arith, lt)))
+
+  rows_taken : drop 576 bytes ≡ flat_map (spelled_row layout.longest_name) (rows_of layout bytes count) ++ drop (row_place layout count) bytes
+  rows_taken = pieces_are (spelled_row layout.longest_name) (row_of layout bytes) (16 + layout.longest_name) 576 bytes count
+      (λ i lt.
+      let next : row_place layout i + (16 + layout.longest_name) ≡ row_place layout (i + 1) = omega arith in
+      (row_is i lt).spelled_is ∙ ap (λ (k : ℕ). spelled_row layout.longest_name (row_of layout bytes i) ++ drop k bytes) next)
+
+  rows_are : AreRows layout.longest_name (rows_of layout bytes count)
+  rows_are =
+      let no_row : Row = record { name = []; base = 0 } in
+      let size : length (rows_of layout bytes count) ≡ count = length-map-range_with_len (row_of layout bytes) 0 count in
+      let each = λ (i : ℕ) (lt : i < count). get_or-map-range_with_len (row_of layout bytes) 0 count i i no_row lt (omega arith) in
+      record {
+        named = λ i lt.
+            let here : i < count = omega (arith, lt, size) in
+            subst (λ (r : Row). IsName layout.longest_name r.name) (sym (each i here)) (row_is i here).named;
+        different = λ i j lt below same.
+            let here : j < count = omega (arith, below, size) in
+            let name : List ℕ = (row_of layout bytes j).name in
+            let apart = each_fails (λ row. bytes_eq row.name name) (row_of layout bytes) 0 j (row_is j here).free i (omega arith) (omega (arith, lt)) in
+            let equal : (row_of layout bytes i).name ≡ name =
+            ap (λ (r : Row). r.name) (sym (each i (omega (arith, lt, here)))) ∙ same ∙ ap (λ (r : Row). r.name) (each j here) in
+            clash (sym apart ∙ (bytes_eq-Decides (row_of layout bytes i).name name).1 equal);
+        bases = λ i lt.
+            let here : i < count = omega (arith, lt, size) in
+            subst (λ (r : Row). r.base < 2 ^ 64) (sym (each i here)) (omega (
+              arith,
+              little_from-lt 0 8 (drop (row_place layout i + 8) bytes)
+                  (IsBytes-drop (row_place layout i + 8) bytes fits),
+            ));
+      }
+    where
+      clash : false ≡ true → ⊥
+      clash e = absurd (cc e)
+
+-- ---- the whole slot
+
+flag_back : (number : ℕ) → number ≤ 1 → flag (eqb number 1) ≡ number
+flag_back number le = grind (arith, nat_tests)
+
+-- a slot without a wrong byte spells an image
+pub record Spells (layout : Layout) (bytes : List ℕ) : Type 0 where
+  pub image : IsImage layout (image_of layout bytes)
+  pub spelled_is : drop 1 bytes ≡ spelled layout (image_of layout bytes) ++ drop 16384 bytes
+
+pub read_is_spelled : (layout : Layout) (bytes : List ℕ) → IsLayout layout → IsBytes bytes → slot_fault layout bytes ≡ None → Spells layout bytes
+read_is_spelled layout bytes l fits none =
+    let n = numbers_of bytes in
+    let image = image_of layout bytes in
+    let a = both_none _ _ (sym (chained layout bytes n refl) ∙ none) in
+    let b = both_none _ _ a.1 in
+    let c = both_none _ _ b.1 in
+    let d = both_none _ _ c.1 in
+    let e = both_none _ _ d.1 in
+    let right = pass_right layout n bytes (all_pass bytes (fields layout n) a.0) in
+    let r = right.0 in
+    let files_size : length image.files ≡ n.listed = length-map-range_with_len (file_in bytes) 0 n.listed in
+    let rows_size : length image.streams ≡ n.streams = length-map-range_with_len (row_of layout bytes) 0 n.streams in
+    let version_is : layout.version ≡ n.version = sym r.version in
+    let zero_is : 0 ≡ n.zero = sym r.zero_is in
+    let archiving_is = flag_back n.archiving r.archiving in
+    let automatic_is = flag_back n.automatic r.automatic in
+    let same : numbers_for layout image ≡ n = (λ k. record n {
+      version = version_is k;
+      zero = zero_is k;
+      listed = files_size k;
+      streams = rows_size k;
+      archiving = archiving_is k;
+      automatic = automatic_is k;
+    }) in
+    let numbers : List ℕ = flat_map number_bytes image.files in
+    let rows : List ℕ = flat_map (spelled_row layout.longest_name) image.streams in
+    let numbers_size : length numbers ≡ 2 * length image.files = length-all_pieces number_bytes 2 0 image.files (λ k lt. refl) in
+    let rows_of_image = rows_are layout bytes fits n.streams e.0 in
+    let bytes_size : length rows ≡ (16 + layout.longest_name) * length image.streams =
+    length-all_pieces (spelled_row layout.longest_name) (16 + layout.longest_name) (record { name = []; base = 0 }) image.streams
+    (λ k lt. length-row layout.longest_name (row_in image.streams k) (rows_of_image.named k lt).few) in
+    let rows_most : (16 + layout.longest_name) * n.streams ≤ (16 + layout.longest_name) * layout.most_streams =
+    mul-le-mul_left (16 + layout.longest_name) r.streams in
+    let products : (16 + layout.longest_name) * length image.streams ≡ (16 + layout.longest_name) * n.streams =
+    ap (λ (k : ℕ). (16 + layout.longest_name) * k) rows_size in
+    let second : 576 - file_place n.listed ≡ 512 - length numbers = omega (arith, numbers_size, files_size) in
+    let third : 16384 - row_place layout n.streams ≡ 15808 - length rows = omega (arith, bytes_size, products) in
+    let behind_rows : drop (row_place layout n.streams) bytes ≡ replicate (15808 - length rows) 0 ++ drop 16384 bytes =
+    passed_zeros bytes (row_place layout n.streams) 16384 (omega (arith, rows_most, l.rows)) e.1 ∙ ap (λ (k : ℕ). replicate k 0 ++ drop 16384 bytes) third in
+    let behind_files : drop (file_place n.listed) bytes ≡ replicate (512 - length numbers) 0 ++ drop 576 bytes =
+    passed_zeros bytes (file_place n.listed) 576 (omega (arith, r.listed.1, r.containers.1)) d.0 ∙ ap (λ (k : ℕ). replicate k 0 ++ drop 576 bytes) second in
+    let table : List ℕ = flat_map field_bytes (fields layout n) in
+    record {
+      image = record {
+        turn = r.turn;
+        shape = record { some_sectors = r.block.0; largest_block = r.block.1; two_blocks = r.container.0; largest_container = r.container.1 };
+        some_containers = r.containers.0;
+        containers_made = r.files_made.0;
+        few_made = r.files_made.1;
+        first = r.first.0;
+        some_listed = omega (arith, files_size, r.listed.0);
+        few_listed = omega (arith, files_size, r.listed.1);
+        last_id = omega (arith, files_size, r.listed.1, r.first.1);
+        maximum = r.maximum;
+        minimum = r.minimum;
+        growth = r.growth;
+        tail = subst (λ (k : ℕ). n.tail ≤ most_tail k) (sym archiving_is) r.tail;
+        files = files_are bytes fits n.files_made n.listed c.0;
+        few_streams = omega (arith, rows_size, r.streams);
+        rows = rows_of_image;
+      };
+      spelled_is = table_taken bytes fits layout right.1
+          ∙ ap (λ (x : List ℕ). table ++ x) (passed_zeros bytes 40 64 (omega arith) b.0
+          ∙ ap (λ (x : List ℕ). replicate 24 0 ++ x) (files_taken bytes fits n.files_made n.listed c.0
+          ∙ ap (λ (x : List ℕ). numbers ++ x) (behind_files
+          ∙ ap (λ (x : List ℕ). replicate (512 - length numbers) 0 ++ x) (rows_taken layout bytes fits n.streams e.0
+          ∙ ap (λ (x : List ℕ). rows ++ x) behind_rows))))
+          ∙ parts table (replicate 24 0) numbers (replicate (512 - length numbers) 0) rows (replicate (15808 - length rows) 0) (drop 16384 bytes)
+          ∙ ap (λ (k : Numbers). (filled 63 (flat_map field_bytes (fields layout k)) ++ (filled 512 numbers ++ filled 15808 rows)) ++ drop 16384 bytes) (sym same);
+    }
+  where
+    parts : (a x b y c z q : List ℕ) → a ++ (x ++ (b ++ (y ++ (c ++ (z ++ q))))) ≡ ((a ++ x) ++ ((b ++ y) ++ (c ++ z))) ++ q
+    parts a x b y c z q = sym (simp append_assoc)

@@ -1,0 +1,7 @@
+pub mod Layout
+pub mod Spelling
+pub mod Checks
+pub mod Slots
+pub mod Vector
+pub mod Decoding
+pub mod Writing

@@ -1,0 +1,33 @@
+//! The base file of a log: two slots, each with room for a copy of what the log is made of, of which the newer open one counts.
+//!
+//! A copy says how large blocks and containers are, which containers are listed and in which files, what the streams are called
+//! and where each begins, and what the policies are. `encode` and `decode` follow one table of the fields (`layout.rt`, and
+//! specs/Layout.antt for contracts): where each stands and which numbers it may have. What is encoded is decoded, what is decoded was
+//! spelled so, and any other bytes are refused at the first one that is wrong. A newer copy is written into the slot that doesn't
+//! count, in three parts: `close_older` closes its gate, `write_body` writes the bytes behind it, `open_slot` opens it. A crash at
+//! any moment leaves the newest copy of before, or once the gate is being opened the new one whole. `read_newest` reads which slot
+//! counts, and that slot alone.
+#![tactic(auto)]
+
+mod decoder;
+mod encoder;
+mod image;
+mod laws;
+mod layout;
+mod newest;
+mod reading;
+mod refusal;
+mod rows;
+mod slots;
+
+pub use decoder::decode;
+pub use encoder::encode;
+pub use image::{BaseImage, Files, Row, Rows};
+pub use laws::copies_are_read_as_written;
+pub use newest::read_newest;
+pub use refusal::{BaseRefusal, NewestRefusal};
+pub use rows::{first_copy_of_a_small_log, slots_of_a_base_file};
+pub use slots::{close_older, open_slot, write_body};
+
+#[cfg(test)]
+mod tests;

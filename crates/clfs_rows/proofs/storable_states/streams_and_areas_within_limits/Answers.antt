@@ -1,0 +1,32 @@
+use Rattle.std.proofs.Common.{refl}
+use Rattle.std.specs.Fmt.{digits}
+use Rattle.hex.specs.Hex.{decode_pairs, encode_with}
+use Rattle.clfs_model.specs.Space.{grown, has_room}
+use Rattle.clfs_model.specs.Run.{fine_outcome}
+use Rattle.clfs_model.specs.Script.{request_in}
+use Rattle.clfs_rows.specs.Arranged.{an_area, stream_named, with_areas}
+use Rattle.clfs_rows.specs.Filled.{streams_of}
+use Rattle.clfs_rows.specs.Worked.{worked}
+use Rattle.std.specs.Prelude.{codes, replicate, ◌∷◌, []}
+use Rattle.clfs_rows.proofs.Decisions.{no, yes}
+use Rattle.clfs_rows.proofs.StorableTests.{is_storable}
+use Rattle.clfs_rows.proofs.storable_states.streams_and_areas_within_limits.Goals as goal
+
+pub returns : goal.returns
+unfolding grown has_room fine_outcome request_in digits decode_pairs encode_with
+returns c = record {
+  a_longest_name = yes (is_storable (stream_named (replicate 32 97))) refl;
+  no_longer_name = no (is_storable (stream_named (replicate 33 97))) refl;
+  no_empty_name = no (is_storable (stream_named [])) refl;
+  no_name_with_another_byte = no (is_storable (stream_named (codes "a:b"))) refl;
+  the_most_streams = yes (is_storable (streams_of 128)) refl;
+  no_more_streams = no (is_storable (streams_of 129)) refl;
+  the_most_areas = yes (is_storable (with_areas (record an_area { client = 2 } ∷ replicate 16 an_area) worked)) refl;
+  no_more_areas_of_a_client = no (is_storable (with_areas (record an_area { client = 2 } ∷ replicate 17 an_area) worked)) refl;
+  the_last_client = yes (is_storable (with_areas (record an_area { client = 64 } ∷ []) worked)) refl;
+  no_client_0 = no (is_storable (with_areas (record an_area { client = 0 } ∷ []) worked)) refl;
+  no_client_65 = no (is_storable (with_areas (record an_area { client = 65 } ∷ []) worked)) refl;
+  the_last_area = yes (is_storable (with_areas (record an_area { number = 16 } ∷ []) worked)) refl;
+  no_area_0 = no (is_storable (with_areas (record an_area { number = 0 } ∷ []) worked)) refl;
+  no_area_17 = no (is_storable (with_areas (record an_area { number = 17 } ∷ []) worked)) refl;
+}

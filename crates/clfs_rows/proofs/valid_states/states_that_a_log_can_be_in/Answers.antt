@@ -1,0 +1,23 @@
+use Rattle.std.proofs.Common.{refl}
+use Rattle.std.specs.Fmt.{digits}
+use Rattle.hex.specs.Hex.{decode_pairs, encode_with}
+use Rattle.clfs_model.specs.Space.{grown, has_room}
+use Rattle.clfs_model.specs.Run.{fine_outcome}
+use Rattle.clfs_model.specs.Script.{request_in}
+use Rattle.clfs_model.specs.State.{log_of}
+use Rattle.clfs_rows.specs.Arranged.{arranged_log, open_log}
+use Rattle.clfs_rows.specs.Crashes.{waiting_log}
+use Rattle.clfs_rows.specs.Worked.{worked}
+use Rattle.clfs_rows.proofs.Decisions.{yes}
+use Rattle.clfs_rows.proofs.ValidTests.{is_valid}
+use Rattle.clfs_rows.proofs.valid_states.states_that_a_log_can_be_in.Goals as goal
+
+pub returns : goal.returns
+unfolding grown has_room fine_outcome request_in digits decode_pairs encode_with
+returns c = record {
+  just_made = yes (is_valid worked) refl;
+  with_blocks_that_wait = yes (is_valid waiting_log) refl;
+  with_an_open_block = yes (is_valid open_log) refl;
+  of_two_containers = yes (is_valid arranged_log) refl;
+  with_the_largest_numbers = yes (is_valid (log_of 128 16384 256 64)) refl;
+}

@@ -1,0 +1,31 @@
+use Rattle.std.proofs.Common.{refl}
+use Rattle.std.specs.Fmt.{digits}
+use Rattle.hex.specs.Hex.{decode_pairs, encode_with}
+use Rattle.clfs_model.specs.Space.{grown, has_room}
+use Rattle.clfs_lsn.specs.Lsn.{lsn_number, null_lsn}
+use Rattle.clfs_model.specs.Run.{fine_outcome}
+use Rattle.clfs_model.specs.Script.{request_in}
+use Rattle.clfs_model.specs.declared.call.Mode.TheVariants.{Forward}
+use Rattle.clfs_model.specs.declared.state.CursorKind.TheVariants.{Records}
+use Rattle.clfs_rows.specs.Arranged.{an_area, arranged_log, cursor_at, with_areas, with_cursors}
+use Rattle.clfs_rows.specs.Worked.{opened_log, worked}
+use Rattle.std.specs.Prelude.{codes, ◌∷◌, []}
+use Rattle.clfs_rows.proofs.Decisions.{yes, no}
+use Rattle.clfs_rows.proofs.ValidTests.{is_valid}
+use Rattle.clfs_rows.proofs.valid_states.tables_of_a_log.Goals as goal
+
+pub returns : goal.returns
+unfolding grown has_room fine_outcome request_in digits decode_pairs encode_with
+returns c = record {
+  different_names = no (is_valid (record worked {
+    streams = record { name = codes "a"; base = null_lsn } ∷ record
+        { name = codes "a"; base = null_lsn } ∷ [];
+  })) refl;
+  different_numbers_of_areas = no (is_valid (with_areas (an_area ∷ an_area ∷ []) opened_log)) refl;
+  areas_of_different_clients = yes (is_valid (with_areas (an_area ∷ record an_area { client = 2 } ∷ []) opened_log)) refl;
+  areas_of_one_client = yes (is_valid (with_areas (an_area ∷ record an_area { number = 2 } ∷ []) opened_log)) refl;
+  an_areas_stream = no (is_valid (with_areas (record an_area { stream = 2 } ∷ []) opened_log)) refl;
+  an_areas_largest_record = no (is_valid (with_areas (record an_area { largest = 961 } ∷ []) opened_log)) refl;
+  different_numbers_of_cursors = no (is_valid (with_cursors (cursor_at 1 (Records Forward) (lsn_number 1 0 0) ∷ cursor_at 1 (Records Forward)
+      (lsn_number 1 0 0) ∷ []) arranged_log)) refl;
+}

@@ -1,0 +1,4 @@
+mod VerbLengths
+mod SizeLists
+mod Appends
+mod WholeLines

@@ -1,0 +1,53 @@
+// What a whole line asks for.
+ghost use Rattle.std.specs.Prelude.{◌≡◌, ◌≤◌, ℕ, length};
+ghost use Rattle.std.specs.Option.{option_map};
+ghost use Rattle.clfs_model.specs.Script.{allowed_verb, request_in};
+ghost use Rattle.clfs_script.specs.Asked.{rest_of, AnswersRequest, AnswersLine, language_of, request_behind_client};
+ghost use Rattle.clfs_script.specs.Verbs.{verb_of};
+
+use crate::calls::call_line;
+use crate::line::{Language, LineRefusal, Request, ScriptLine};
+use crate::reading::{client, ending};
+use crate::verbs::{Verb, verb_of_word};
+use clfs_text::Words;
+use std::alloc::Global;
+
+// The verb that a word names, or none for `reopen`, where the language has that word.
+fn allowed_verb(language: Language, word: &[u8]) -> Option<Option<Verb>>
+    ensures { option_map (option_map verb_of) result ≡ allowed_verb (language_of language) word.now }
+{
+    match language {
+        Language::CallsAndReopening if word == b"reopen".as_slice() => Some(None),
+        _ => verb_of_word(word).map(Some),
+    }
+}
+
+// What a client asks for behind its number.
+fn client_request(
+    alloc: Global,
+    language: Language,
+    words: &mut Words,
+) -> Result<Request, LineRefusal>
+    ensures { (client : ℕ) → AnswersRequest client result (request_behind_client (language_of language) client (rest_of words.old)) }
+{
+    let word = words.take()?;
+    match allowed_verb(language, word.bytes) {
+        None => Err(LineRefusal::BadLine { at: word.at }),
+        Some(None) => ending(Request::Reopen, words),
+        Some(Some(verb)) => {
+            let call = call_line(alloc, verb, words)?;
+            Ok(Request::Step(call))
+        }
+    }
+}
+
+/// What a line asks for in a language, without its carriage return. It takes memory for the line's name, data or sizes alone.
+pub fn parse_line(alloc: Global, language: Language, line: &[u8]) -> Result<ScriptLine, LineRefusal>
+    requires { length line.now ≤ 4294967295 }
+    ensures { AnswersLine result (request_in (language_of language) line.now) }
+{
+    let mut words = Words::of(line);
+    let client = client(&mut words)?;
+    let request = client_request(alloc, language, &mut words)?;
+    Ok(ScriptLine { client, request })
+}

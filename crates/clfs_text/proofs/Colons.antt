@@ -1,0 +1,128 @@
+-- LSNs from the pieces between the colons of a word.
+use Rattle.std.proofs.Common.{◌≡◌, ℕ, ◌+◌, ◌≤◌, ◌<◌, List, [], ◌∷◌, length, take, drop, Bool, true, false, Option, refl, arith, inl, inr, drop-drop}
+use Rattle.std.specs.Prelude.{◌⊎◌, Some, None, position, ◌==◌, nat_lt}
+use Rattle.std.specs.List.{position_or_len, list_all}
+use Rattle.std.proofs.Math.Bool.{and-false}
+use Rattle.std.proofs.lemmas.Bool.{cases_Bool, eqb-true, ltb-true, ltb-false}
+use Rattle.std.proofs.lemmas.Option.{cond_some}
+use Rattle.std.proofs.lemmas.List.Splits.{slice_split_first}
+use Rattle.clfs_lsn.specs.Words.{is_lower_hex_digit, hex_number, lsn_of_numbers, lsn_of_parts, lsn_of_pieces, lsn_of_word}
+use Rattle.clfs_text.specs.Pieces.{pieces_of, BeginsWithNumber, LacksNumber}
+
+abbrev is_colon : ℕ → Bool
+is_colon b = b == 58
+
+pub piece_at : (text : List ℕ) (i : ℕ) → position is_colon text ≡ Some i → pieces_of text ≡ take i text ∷ pieces_of (drop 1 (drop i text))
+piece_at text i e =
+    let at = cond_some (nat_lt (position_or_len is_colon text) (length text)) (position_or_len is_colon text) i e in
+    let lt : position_or_len is_colon text < length text = ltb-true (position_or_len is_colon text) (length text) at.0 in
+    let parts : pieces_of text ≡ take i text ∷ pieces_of (drop (i + 1) text) = rw (← at.1) (slice_split_first is_colon text 0 lt) in
+    rw (parts, drop-drop 1 i text) refl
+
+no_colon : (text : List ℕ) → length text ≤ position_or_len is_colon text → pieces_of text ≡ text ∷ []
+no_colon [] h = refl
+no_colon (b ∷ text) h = elim (cases_Bool (is_colon b)) [
+  | inl t ↦ absurd (let h' = rw t at h in omega (arith, h'))
+  | inr t ↦ let h' = rw t at h in rw (t, no_colon text (omega (arith, h'))) refl
+]
+
+pub one_piece : (text : List ℕ) → position is_colon text ≡ None → pieces_of text ≡ text ∷ []
+one_piece text e =
+    elim (cases_Bool (nat_lt (position_or_len is_colon text) (length text))) [
+      | inl t ↦ absurd (let e' = rw t at e in (cc e'))
+      | inr t ↦ no_colon text (ltb-false (position_or_len is_colon text) (length text) t)
+    ]
+
+-- a text with several pieces is no number, since a colon is no digit
+abbrev SeveralPieces : List ℕ → Type 0
+SeveralPieces text = (p : List ℕ) × (q : List ℕ) × (more : List (List ℕ)) × (pieces_of text ≡ p ∷ q ∷ more) × (list_all is_lower_hex_digit text ≡ false)
+
+behind_colon : (text : List ℕ) (b : ℕ) → is_colon b ≡ true → (pieces_of text ≡ text ∷ []) ⊎ SeveralPieces text → SeveralPieces (b ∷ text)
+behind_colon text b t (inl one) =
+    let e : b ≡ 58 = eqb-true b 58 t in
+    ([], text, [], rw (t, one) refl, rw e refl)
+behind_colon text b t (inr (p, q, more, split, bad)) = ([], p, q ∷ more, rw (t, split) refl, rw (bad, and-false) refl)
+
+behind_other : (text : List ℕ) (b : ℕ) → is_colon b ≡ false → (pieces_of text ≡ text ∷ []) ⊎ SeveralPieces text
+    → (pieces_of (b ∷ text) ≡ (b ∷ text) ∷ []) ⊎ SeveralPieces (b ∷ text)
+behind_other text b t (inl one) = inl (rw (t, one) refl)
+behind_other text b t (inr (p, q, more, split, bad)) = inr (b ∷ p, q, more, rw (t, split) refl, rw (bad, and-false) refl)
+
+pieces_are : (text : List ℕ) → (pieces_of text ≡ text ∷ []) ⊎ SeveralPieces text
+pieces_are [] = inl refl
+pieces_are (b ∷ text) = elim (cases_Bool (is_colon b)) [
+  | inl t ↦ inr (behind_colon text b t (pieces_are text))
+  | inr t ↦ behind_other text b t (pieces_are text)
+]
+
+not_digits : (text : List ℕ) → list_all is_lower_hex_digit text ≡ false → hex_number text ≡ None
+not_digits [] bad = refl
+not_digits (b ∷ text) bad = elim (cases_Bool (nat_lt 0 (length (b ∷ text)))) [
+  | inl t ↦ rw (t, bad) refl
+  | inr t ↦ rw t refl
+]
+
+no_third : (container offset : Option ℕ) → lsn_of_numbers container offset None ≡ None
+no_third None offset = refl
+no_third (Some c) None = refl
+no_third (Some c) (Some o) = refl
+
+no_second : (container sequence : Option ℕ) → lsn_of_numbers container None sequence ≡ None
+no_second None sequence = refl
+no_second (Some c) sequence = refl
+
+-- all three numbers are there
+last_there : (container offset sequence : ℕ) (p o last : List ℕ) → hex_number p ≡ Some container → hex_number o ≡ Some offset
+    → hex_number last ≡ Some sequence → (pieces_of last ≡ last ∷ []) ⊎ SeveralPieces last
+    → lsn_of_pieces (p ∷ o ∷ pieces_of last) ≡ lsn_of_parts container offset sequence
+last_there container offset sequence p o last first second third (inl one) = rw (one, first, second, third) refl
+last_there container offset sequence p o last first second third (inr several) =
+    let none = not_digits last several.4 in absurd (cc (none, third))
+
+pub three_numbers : (container offset sequence : ℕ) (word behind last : List ℕ) → BeginsWithNumber container behind word → BeginsWithNumber offset last behind
+    → hex_number last ≡ Some sequence → lsn_of_word word ≡ lsn_of_parts container offset sequence
+three_numbers container offset sequence word behind last first second third =
+    rw (first.1, second.1) (last_there container offset sequence first.0 second.0 last first.2 second.2 third (pieces_are last))
+
+first_none : (piece : List ℕ) (more : List (List ℕ)) → hex_number piece ≡ None → lsn_of_pieces (piece ∷ more) ≡ None
+first_none piece [] none = refl
+first_none piece (o ∷ []) none = refl
+first_none piece (o ∷ s ∷ []) none = rw none refl
+first_none piece (o ∷ s ∷ x ∷ more) none = refl
+
+-- the first number isn't there
+pub no_container : (word : List ℕ) → LacksNumber word → lsn_of_word word ≡ None
+no_container word (inl one) = rw one refl
+no_container word (inr (piece, more, split, none)) = rw split (first_none piece more none)
+
+second_none : (p piece : List ℕ) (more : List (List ℕ)) → hex_number piece ≡ None → lsn_of_pieces (p ∷ piece ∷ more) ≡ None
+second_none p piece [] none = refl
+second_none p piece (s ∷ []) none = rw none (no_second (hex_number p) (hex_number s))
+second_none p piece (s ∷ x ∷ more) none = refl
+
+-- the second number isn't there
+pub no_offset : (container : ℕ) (word behind : List ℕ) → BeginsWithNumber container behind word → LacksNumber behind → lsn_of_word word ≡ None
+no_offset container word behind first (inl one) = rw (first.1, one) refl
+no_offset container word behind first (inr (piece, more, split, none)) = rw (first.1, split) (second_none first.0 piece more none)
+
+last_none : (p o last : List ℕ) → hex_number last ≡ None → (pieces_of last ≡ last ∷ []) ⊎ SeveralPieces last
+    → lsn_of_pieces (p ∷ o ∷ pieces_of last) ≡ None
+last_none p o last none (inl one) = rw (one, none) (no_third (hex_number p) (hex_number o))
+last_none p o last none (inr several) = rw several.3 refl
+
+-- the third number isn't there
+pub no_sequence : (container offset : ℕ) (word behind last : List ℕ) → BeginsWithNumber container behind word → BeginsWithNumber offset last behind
+    → hex_number last ≡ None → lsn_of_word word ≡ None
+no_sequence container offset word behind last first second none =
+    rw (first.1, second.1) (last_none first.0 second.0 last none (pieces_are last))
+
+-- what a search for the first colon shows
+pub number_there : (text digits rest behind : List ℕ) (i number : ℕ) → position is_colon text ≡ Some i → digits ≡ take i text → rest ≡ drop i text
+    → behind ≡ drop 1 rest → hex_number digits ≡ Some number → BeginsWithNumber number behind text
+number_there text digits rest behind i number found front back next is =
+    (digits, rw (front, next, back) (piece_at text i found), is)
+
+pub number_lacks : (text digits rest : List ℕ) (i : ℕ) → position is_colon text ≡ Some i → digits ≡ take i text → rest ≡ drop i text
+    → hex_number digits ≡ None → LacksNumber text
+number_lacks text digits rest i found front back none =
+    inr (digits, pieces_of (drop 1 (drop i text)), rw front (piece_at text i found), none)

@@ -1,0 +1,5 @@
+mod Scans
+mod HexDigits
+mod WordEnds
+mod Colons
+mod Encoded

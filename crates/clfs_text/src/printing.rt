@@ -1,0 +1,71 @@
+// Numbers and LSNs as text behind other text.
+ghost use Rattle.std.specs.Prelude.{◌≡◌, false, ◌++◌, ◌+◌, ◌-◌, ◌<◌, ◌≤◌, OnOk, OnErr, length, drop, decimal};
+ghost use Rattle.std.specs.Fmt.{digit_glyph};
+ghost use Rattle.clfs_lsn.specs.Words.{hex_text, lsn_text};
+
+use clfs_lsn::{Bytes, Lsn};
+use itoa::Buffer;
+use std::alloc::AllocError;
+
+/// Adds a number in decimal digits at the end.
+pub fn push_decimal(number: u64, out: &mut Bytes) -> Result<(), AllocError>
+    ensures ok { OnOk result (out.new ≡ out.old ++ decimal number) }
+    ensures err { OnErr result (out.new ≡ out.old) }
+{
+    let mut buffer = Buffer::new();
+    out.extend_from_slice(buffer.format(number).as_bytes())
+}
+
+fn lower_digit(value: u32) -> u8
+    requires { value < 16 }
+    ensures { result ≡ digit_glyph false value }
+{
+    if value < 10 {
+        b'0' + value as u8
+    } else {
+        b'a' + (value - 10) as u8
+    }
+}
+
+// Writes the hexadecimal digits of a number so that they end before `end`, and gives the place where they begin.
+fn write_hex(number: u32, digits: &mut [u8], end: usize) -> usize
+    requires room { 8 ≤ end }
+    requires within { end ≤ length digits.old }
+    ensures begins { result ≤ end }
+    ensures short { end ≤ result + 8 }
+    ensures written { drop result digits.new ≡ hex_text number ++ drop end digits.old }
+{
+    let mut left = number;
+    let mut start = end - 1;
+    while left >= 16 {
+        digits[start] = lower_digit(left % 16);
+        left /= 16;
+        start -= 1;
+    }
+    digits[start] = lower_digit(left);
+    start
+}
+
+/// Adds a number in lower-case hexadecimal digits at the end.
+pub fn push_hex(number: u32, out: &mut Bytes) -> Result<(), AllocError>
+    ensures ok { OnOk result (out.new ≡ out.old ++ hex_text number) }
+    ensures err { OnErr result (out.new ≡ out.old) }
+{
+    let mut digits = [0; 8];
+    let start = write_hex(number, &mut digits, 8);
+    out.extend_from_slice(&digits[start..])
+}
+
+/// Adds an LSN at the end: container, offset and sequence in lower-case hexadecimal digits, with colons between them.
+pub fn push_lsn(lsn: Lsn, out: &mut Bytes) -> Result<(), AllocError>
+    ensures ok { OnOk result (out.new ≡ out.old ++ lsn_text lsn) }
+    ensures err { OnErr result (out.new ≡ out.old) }
+{
+    let mut digits = [0; 26];
+    let sequence = write_hex(lsn.sequence(), &mut digits, 26);
+    digits[sequence - 1] = b':';
+    let offset = write_hex(lsn.offset(), &mut digits, sequence - 1);
+    digits[offset - 1] = b':';
+    let container = write_hex(lsn.container(), &mut digits, offset - 1);
+    out.extend_from_slice(&digits[container..])
+}
