@@ -7,7 +7,6 @@ pub mod Put
 pub mod Reading
 pub mod Archive
 pub mod Heads
-pub mod ThreeHeads
 pub mod Policies
 pub mod Refusals
 pub mod Answers

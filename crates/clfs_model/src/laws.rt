@@ -1,12 +1,10 @@
 // Laws over the definitions, for callers to cite. Their functions do nothing.
-ghost use Rattle.std.specs.Prelude.{◌≡◌, ℕ, ◌==◌, true, if◌then◌else◌, List, [], ◌∷◌, Some, None, IsTrue, map, slice_get};
+ghost use Rattle.std.specs.Prelude.{◌≡◌, ℕ, true, List, IsTrue, map, slice_get};
 ghost use Rattle.std.specs.List.{list_all};
 ghost use Rattle.std.specs.Option.{option_map};
 ghost use Rattle.clfs_lsn.specs.Head.{head_of};
 ghost use Rattle.clfs_lsn.specs.Place.{frontier};
-ghost use Rattle.clfs_lsn.specs.Lsn.{null_lsn};
 ghost use Rattle.clfs_model.specs.declared.call.Mode.{Mode};
-ghost use Rattle.clfs_model.specs.declared.call.Mode.TheVariants.{Previous, Forward};
 ghost use Rattle.clfs_model.specs.declared.state.State.{State};
 ghost use Rattle.clfs_model.specs.State.{base_of};
 ghost use Rattle.clfs_model.specs.Live.{live, live_at, last_live, hold};
@@ -14,7 +12,6 @@ ghost use Rattle.clfs_model.specs.Flush.{flushed};
 ghost use Rattle.clfs_model.specs.Reading.{entry_at, next, restart_areas, newest_restart, restart_below};
 ghost use Rattle.clfs_model.specs.Archive.{extents};
 ghost use Rattle.clfs_model.specs.Heads.{heads_of, live_heads, head_at, head_or_null, live_head_at, last_live_head, next_head, head_below, restart_heads, hold_of, extents_of};
-ghost use Rattle.clfs_model.specs.ThreeHeads.{first_lsn, second_lsn, third_lsn, end_lsn, three_heads};
 ghost use Rattle.clfs_model.specs.Ways.{GoesTheseWays};
 ghost use Rattle.clfs_model.specs.Run.{Request, Run, all_fine, replies_of, state_after, is_no_reopening};
 
@@ -40,15 +37,4 @@ pub fn records_are_as_their_heads()
     ensures below { (s : State) (stream lsn : ℕ) → option_map head_of (restart_below s stream lsn) ≡ head_below lsn (restart_heads (base_of s stream) stream (heads_of s)) }
     ensures hold { (s : State) → hold s ≡ hold_of (frontier s.place) s.archive (base_of s) (heads_of s) }
     ensures extents { (s : State) → extents s ≡ extents_of (flushed s) s.place.container s.archive (heads_of s) }
-{}
-
-/// A worked row over three heads: the next record of a stream passes over the other stream's, a link below the base leads nowhere, the
-/// hold is the least live LSN, and the extent runs to the end of the last record's block.
-pub fn three_heads_worked()
-    ensures forward { head_or_null (next_head null_lsn 1 Forward first_lsn three_heads) ≡ third_lsn }
-    ensures previous { head_or_null (next_head null_lsn 1 Previous third_lsn three_heads) ≡ first_lsn }
-    ensures below_the_base { next_head second_lsn 1 Previous third_lsn three_heads ≡ None }
-    ensures newest { head_or_null (slice_get (restart_heads null_lsn 2 three_heads) 0) ≡ second_lsn }
-    ensures hold { hold_of end_lsn None (λ stream. if stream == 1 then third_lsn else null_lsn) three_heads ≡ second_lsn }
-    ensures extents { extents_of end_lsn 1 (Some second_lsn) three_heads ≡ record { container = 1; low = 1024; high = 3072 } ∷ [] }
 {}

@@ -17,9 +17,7 @@ mod state;
 pub use call::{Call, Draft, Mode};
 pub use info::{Extent, Extents, LogInfo};
 pub use journal::{Entry, Journal};
-pub use laws::{
-    calm_replies_are_a_run, records_are_as_their_heads, three_heads_worked, ways_of_a_step,
-};
+pub use laws::{calm_replies_are_a_run, records_are_as_their_heads, ways_of_a_step};
 pub use refusal::Refusal;
 pub use reply::{Happened, Reply};
 pub use state::{Area, Cursor, CursorKind, State, Stream};
