@@ -1,6 +1,7 @@
 // Which states files can hold: those that every step leaves whose call meets its condition. What their numbers are then.
 ghost use Rattle.std.specs.Prelude.{◌≤◌, ◌<◌, ◌*◌, ◌^◌, ℕ, Bool, List, length, All, IfSome};
 ghost use Rattle.clfs_lsn.specs.Place.{frontier};
+ghost use Rattle.clfs_lsn.specs.Limits.{most_containers, most_write_buffers};
 ghost use Rattle.clfs_lsn.specs.Size.{IsShape, longest};
 ghost use Rattle.clfs_lsn.specs.declared.entry.LogEntry.{LogEntry};
 ghost use Rattle.clfs_lsn.specs.declared.shape.Shape.{Shape};
@@ -27,7 +28,7 @@ use clfs_space::space_laws;
 
 /// Files can hold a log that has just been made, and the flushed part of a log that they can hold.
 pub fn first_states_are_storable()
-    ensures fresh { (shape : Shape) (containers buffers : ℕ) → IsShape shape → 1 ≤ containers → containers ≤ 256 → 1 ≤ buffers → buffers ≤ 64
+    ensures fresh { (shape : Shape) (containers buffers : ℕ) → IsShape shape → 1 ≤ containers → containers ≤ most_containers → 1 ≤ buffers → buffers ≤ most_write_buffers
         → IsStorable (fresh shape containers buffers) }
     ensures cut { (s : State) → IsValid s → IsStorable s → IsStorable (cut s) }
 {}

@@ -1,5 +1,6 @@
 // Which states a log can be in: those that every step leaves.
 ghost use Rattle.std.specs.Prelude.{◌≡◌, ◌≤◌, ℕ, Bool, List};
+ghost use Rattle.clfs_lsn.specs.Limits.{most_containers, most_write_buffers};
 ghost use Rattle.clfs_lsn.specs.Size.{IsShape};
 ghost use Rattle.clfs_lsn.specs.declared.shape.Shape.{Shape};
 ghost use Rattle.clfs_model.specs.declared.call.Call.{Call};
@@ -17,7 +18,7 @@ use clfs_space::space_laws;
 
 /// A log that has just been made is valid, and so is the flushed part of a valid log.
 pub fn first_states_are_valid()
-    ensures fresh { (shape : Shape) (containers buffers : ℕ) → IsShape shape → 1 ≤ containers → containers ≤ 256 → 1 ≤ buffers → buffers ≤ 64
+    ensures fresh { (shape : Shape) (containers buffers : ℕ) → IsShape shape → 1 ≤ containers → containers ≤ most_containers → 1 ≤ buffers → buffers ≤ most_write_buffers
         → IsValid (fresh shape containers buffers) }
     ensures cut { (s : State) → IsValid s → IsValid (cut s) }
 {}

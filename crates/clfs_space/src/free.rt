@@ -1,6 +1,7 @@
 // The free sectors: those behind the place in its container, and those of the containers that the log
 // can still go on to.
 ghost use Rattle.std.specs.Prelude.{◌≡◌, ◌+◌, ◌-◌, ◌≤◌, ◌<◌};
+ghost use Rattle.clfs_lsn.specs.Limits.{most_containers};
 ghost use Rattle.clfs_lsn.specs.Lsn.{container_of};
 ghost use Rattle.clfs_lsn.specs.Size.{IsShape};
 ghost use Rattle.clfs_lsn.specs.Place.{IsWithin};
@@ -15,7 +16,7 @@ pub fn free_sectors(shape: &Shape, place: &Place, hold: Lsn, containers: u32) ->
     requires place { IsWithin shape.now place.now }
     requires hold { container_of hold ≤ place.now.container }
     requires active { active_containers place.now hold ≤ containers }
-    requires containers { containers ≤ 256 }
+    requires containers { containers ≤ most_containers }
     ensures { result ≡ free_sectors shape.now place.now hold containers }
 {
     let ids = u32::MAX - place.container;
@@ -26,7 +27,7 @@ pub fn free_sectors(shape: &Shape, place: &Place, hold: Lsn, containers: u32) ->
 // The containers in use, from the hold's to the place's.
 pub(crate) fn active_containers(place: &Place, hold: Lsn) -> u32
     requires hold { container_of hold ≤ place.now.container }
-    requires active { active_containers place.now hold ≤ 256 }
+    requires active { active_containers place.now hold ≤ most_containers }
     ensures { result ≡ active_containers place.now hold }
 {
     place.container - hold.container() + 1

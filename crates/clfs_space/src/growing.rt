@@ -1,6 +1,7 @@
 // The numbers of containers that give enough free sectors. Each later container adds the same number of
 // them, so the least number that is enough is a division, rounded up.
 ghost use Rattle.std.specs.Prelude.{◌≡◌, ◌+◌, ◌-◌, ◌≤◌, ◌<◌, IfSome, IfNone};
+ghost use Rattle.clfs_lsn.specs.Limits.{most_containers};
 ghost use Rattle.clfs_lsn.specs.Lsn.{container_of};
 ghost use Rattle.clfs_lsn.specs.Size.{IsShape};
 ghost use Rattle.clfs_lsn.specs.Place.{IsWithin};
@@ -27,9 +28,9 @@ pub fn growth(
     requires place { IsWithin shape.now place.now }
     requires hold { container_of hold ≤ place.now.container }
     requires active { active_containers place.now hold ≤ containers }
-    requires containers { containers ≤ 256 }
+    requires containers { containers ≤ most_containers }
     requires rate { 1 ≤ rate }
-    requires maximum { maximum ≤ 256 }
+    requires maximum { maximum ≤ most_containers }
     ensures value { result ≡ growth shape.now place.now hold containers rate maximum wanted }
     ensures some { IfSome result (IsLeastStep shape.now place.now hold containers rate maximum wanted) }
     ensures none { IfNone result (HasNoStep shape.now place.now hold containers rate maximum wanted) }
@@ -56,7 +57,7 @@ pub fn least_containers(
     requires place { IsWithin shape.now place.now }
     requires hold { container_of hold ≤ place.now.container }
     requires active { active_containers place.now hold ≤ containers }
-    requires containers { containers ≤ 256 }
+    requires containers { containers ≤ most_containers }
     requires reserved { reserved ≤ free_sectors shape.now place.now hold containers }
     ensures value { result ≡ least_containers shape.now place.now hold containers reserved }
     ensures fewest { IsFewest shape.now place.now hold containers reserved result }
@@ -70,7 +71,7 @@ fn containers_for(shape: &Shape, place: &Place, hold: Lsn, wanted: u32) -> Optio
     requires shape { IsShape shape.now }
     requires place { IsWithin shape.now place.now }
     requires hold { container_of hold ≤ place.now.container }
-    requires active { active_containers place.now hold ≤ 256 }
+    requires active { active_containers place.now hold ≤ most_containers }
     ensures some { IfSome result (IsThreshold shape.now place.now hold wanted) }
     ensures none { IfNone result (IsOutOfReach shape.now place.now hold wanted) }
 {

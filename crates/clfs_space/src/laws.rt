@@ -1,5 +1,6 @@
 // The laws of free sectors, over every shape, place, hold and number of containers.
 ghost use Rattle.std.specs.Prelude.{◌≡◌, ◌+◌, ◌-◌, ◌^◌, ◌≤◌, ◌<◌, ℕ, false, Some, None};
+ghost use Rattle.clfs_lsn.specs.Limits.{most_containers};
 ghost use Rattle.clfs_lsn.specs.declared.place.Place.{Place};
 ghost use Rattle.clfs_lsn.specs.declared.shape.Shape.{Shape};
 ghost use Rattle.clfs_lsn.specs.Size.{IsShape, own};
@@ -44,7 +45,7 @@ pub fn growth_is_the_least_step_that_is_enough()
     ensures some { (shape : Shape) (place : Place) (hold containers rate maximum wanted n : ℕ) →
         growth shape place hold containers rate maximum wanted ≡ Some n →
         IsLeastStep shape place hold containers rate maximum wanted n }
-    ensures none { (shape : Shape) (place : Place) (hold containers rate maximum wanted : ℕ) → 1 ≤ rate → maximum ≤ 256 →
+    ensures none { (shape : Shape) (place : Place) (hold containers rate maximum wanted : ℕ) → 1 ≤ rate → maximum ≤ most_containers →
         growth shape place hold containers rate maximum wanted ≡ None →
         HasNoStep shape place hold containers rate maximum wanted }
 {}
