@@ -1,5 +1,6 @@
 // The three parts of writing a newer base copy into the slot beside the newest one.
 ghost use Rattle.std.specs.Prelude.{◌≡◌, ◌+◌, ◌-◌, ◌*◌, ◌≤◌, ◌<◌, ℕ, [], ◌∷◌, true, false, length, OnOk, OnErr, IfOk, IsOk};
+ghost use Rattle.clfs_lsn.specs.Format.{open_gate};
 ghost use Rattle.clfs_disk.specs.Files.{TornIn, WrittenIn, Unchanged};
 ghost use Rattle.clfs_disk.specs.State.{TellsContents, IsSteady, IsHonest, IsSettled, Passes, Leaves, Rises, raised};
 ghost use Rattle.clfs_base.specs.declared.image.BaseImage.{BaseImage};
@@ -105,7 +106,7 @@ pub fn open_slot<D: Disk>(disk: &mut D, slot: u32) -> Result<(), Failed>
 
     ensures written { OnOk result (TellsContents (D.state disk.old) →
         (slot_place slot + 1 ≤ length ((D.state disk.old).files 0))
-        × WrittenIn 0 (slot_place slot) (165 ∷ []) (D.state disk.old).files (D.state disk.new).files) }
+        × WrittenIn 0 (slot_place slot) (open_gate ∷ []) (D.state disk.old).files (D.state disk.new).files) }
     ensures settled { OnOk result (IsHonest (D.state disk.old) → IsSettled (D.state disk.new)) }
 
     // Over a copy whose turn is the newest one's plus 1 modulo 3 the newest copy is then that one, where all went well. Whatever

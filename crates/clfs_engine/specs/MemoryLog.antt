@@ -1,6 +1,7 @@
 -- Which state of the machine a log in memory stands for.
 use Rattle.std.specs.Prelude.{◌≡◌, ℕ, ◌+◌, ◌*◌, ◌^◌, ◌≤◌, not, ◌&&◌, ◌==◌, nat_le, if◌then◌else◌, List, [], ◌∷◌, ◌++◌, length, map}
 use Rattle.std.specs.List.{AllByRecursion}
+use Rattle.clfs_lsn.specs.Limits.{most_container_sectors}
 use Rattle.clfs_lsn.specs.Lsn.{null_lsn}
 use Rattle.clfs_lsn.specs.Place.{IsWithin, block_end}
 use Rattle.clfs_lsn.specs.declared.place.Place.{Place}
@@ -15,7 +16,7 @@ use Rattle.clfs_engine.specs.declared.log.MemoryLog.TheInside.{Inside}
 
 -- the shape of the log
 abbrev pub first_shape : Shape
-first_shape = record { block_sectors = 2; container_sectors = 16384 }
+first_shape = record { block_sectors = 2; container_sectors = most_container_sectors }
 
 -- the state `first` with these records, this place, these waiting blocks, and these cursors of its area
 abbrev pub state_with : List LogEntry → Place → List ℕ → List Cursor → State
@@ -63,4 +64,4 @@ entry_without_links lsn bytes = record {
 
 -- the sectors up to the end of the open block, over all containers: each append moves this by three at most
 abbrev pub sectors_passed : Place → ℕ
-sectors_passed place = place.container * 16384 + block_end place
+sectors_passed place = place.container * most_container_sectors + block_end place

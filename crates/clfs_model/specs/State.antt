@@ -3,6 +3,7 @@
 use Rattle.std.specs.Prelude.{ℕ, ◌+◌, ◌-◌, Bool, false, not, ◌&&◌, ◌==◌, if◌then◌else◌, List, [], ◌∷◌, find, filter, Option, None, unwrap_or, slice_get, codes}
 use Rattle.std.specs.List.{range_with_len}
 use Rattle.std.specs.Option.{option_map_or}
+use Rattle.clfs_lsn.specs.Limits.{most_container_sectors, most_containers}
 use Rattle.clfs_lsn.specs.Lsn.{null_lsn}
 use Rattle.clfs_lsn.specs.declared.shape.Shape.{Shape}
 use Rattle.clfs_model.specs.declared.state.State.{State}
@@ -37,7 +38,7 @@ log_of block container containers buffers =
 -- One stream `a` and an area of client 1 on it, in an empty log of 256 containers: where scripts begin while no log is kept on
 -- a disk.
 abbrev pub first : State
-first = record (log_of 2 16384 256 4) {
+first = record (log_of 2 most_container_sectors most_containers 4) {
   streams = record { name = codes "a"; base = null_lsn } ∷ [];
   areas = record { client = 1; number = 1; stream = 1; largest = 960; reads = 4; held = 0; cursors = [] } ∷ [];
 }
