@@ -1,8 +1,10 @@
-pub mod Pieces
-pub mod FirstLine
+pub mod ScriptLines
 pub mod Cursors
 pub mod Room
 pub mod AppendSteps
 pub mod ReadSteps
 pub mod Written
 pub mod UnderWay
+pub mod LineLoop
+pub mod Outputs
+pub mod ServingEnds

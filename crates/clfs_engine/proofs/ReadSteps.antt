@@ -1,5 +1,5 @@
 -- The steps of the machine that a read of the log in memory makes.
-use Rattle.std.proofs.Common.{◌≡◌, ℕ, ◌≤◌, ◌<◌, List, [], ◌∷◌, ◌++◌, length, true, false, refl, sym, ap, ◌∙◌, arith, inl, inr}
+use Rattle.std.proofs.Common.{◌≡◌, ℕ, ◌≤◌, ◌<◌, List, [], ◌∷◌, ◌++◌, length, true, false, refl, ap, arith, inl, inr}
 use Rattle.std.specs.Prelude.{Some, None, nat_le, ◌==◌, ◌&&◌, find, filter}
 use Rattle.std.specs.List.{AllByRecursion}
 use Rattle.std.proofs.lemmas.Bool.{le-leb, lt-leb, cases_Bool, eqb-true}
@@ -15,7 +15,7 @@ use Rattle.clfs_model.specs.Live.{is_live, live_at}
 use Rattle.clfs_model.specs.Reading.{unused_cursor}
 use Rattle.clfs_model.specs.Step.{Step}
 use Rattle.clfs_model.specs.Ways.{GoesTheseWays}
-use Rattle.clfs_engine.specs.TwoLines.{read_call}
+use Rattle.clfs_engine.specs.Answered.{read_call}
 use Rattle.clfs_engine.specs.MemoryLog.{IsOfStream, state_with}
 
 -- all records are live, since no base has moved
@@ -36,26 +36,26 @@ live_at_is records place waiting cursors lsn h =
 -- no record has the LSN
 pub nonexistent_step : GoesTheseWays → (records : List LogEntry) (place : Place) (waiting : List ℕ) (cursors : List Cursor) (lsn : ℕ)
     → live_at (state_with records place waiting cursors) 1 lsn ≡ None
-    → Step true (state_with records place waiting cursors) 1 (read_call lsn) Fine (replies.Refused (refusals.RecordNonexistent lsn)) (state_with records place waiting cursors)
+    → Step true (state_with records place waiting cursors) 1 (read_call 1 lsn) Fine (replies.Refused (refusals.RecordNonexistent lsn)) (state_with records place waiting cursors)
 nonexistent_step ways records place waiting cursors lsn none =
-    ways.refused true (state_with records place waiting cursors) 1 (read_call lsn) _ refl (rw none refl)
+    ways.refused true (state_with records place waiting cursors) 1 (read_call 1 lsn) _ refl (rw none refl)
 
 -- the area has as many cursors as it can
 pub cursor_limit_step : GoesTheseWays → (records : List LogEntry) (place : Place) (waiting : List ℕ) (cursors : List Cursor) (lsn : ℕ) (e : LogEntry)
     → live_at (state_with records place waiting cursors) 1 lsn ≡ Some e → 4 ≤ length cursors
-    → Step true (state_with records place waiting cursors) 1 (read_call lsn) Fine (replies.Refused (refusals.CursorLimit (length cursors))) (state_with records place waiting cursors)
+    → Step true (state_with records place waiting cursors) 1 (read_call 1 lsn) Fine (replies.Refused (refusals.CursorLimit (length cursors))) (state_with records place waiting cursors)
 cursor_limit_step ways records place waiting cursors lsn e some many =
     let t : nat_le 4 (length cursors) ≡ true = le-leb 4 (length cursors) many in
-    ways.refused true (state_with records place waiting cursors) 1 (read_call lsn) _ refl (rw (some, t) refl)
+    ways.refused true (state_with records place waiting cursors) 1 (read_call 1 lsn) _ refl (rw (some, t) refl)
 
 -- the record is found, and there is a new cursor at it
 pub found_step : GoesTheseWays → (records : List LogEntry) (place : Place) (waiting : List ℕ) (cursors : List Cursor) (lsn : ℕ) (e : LogEntry)
     → live_at (state_with records place waiting cursors) 1 lsn ≡ Some e → e.lsn ≡ lsn → length cursors < 4
-    → Step true (state_with records place waiting cursors) 1 (read_call lsn) Fine (replies.Found (unused_cursor cursors) e)
+    → Step true (state_with records place waiting cursors) 1 (read_call 1 lsn) Fine (replies.Found (unused_cursor cursors) e)
     (state_with records place waiting (cursors ++ record { number = unused_cursor cursors; kind = Records Forward; last = lsn } ∷ []))
 found_step ways records place waiting cursors lsn e some at few =
     let t : nat_le 4 (length cursors) ≡ false = lt-leb 4 (length cursors) few in
-    ways.answered true (state_with records place waiting cursors) 1 (read_call lsn) _ _ refl (rw (some, t) refl) (rw some refl) (rw (some, at) refl)
+    ways.answered true (state_with records place waiting cursors) 1 (read_call 1 lsn) _ _ refl (rw (some, t) refl) (rw some refl) (rw (some, at) refl)
 
 -- the record that is found at an LSN has it
 pub found_lsn : (lsn : ℕ) (records : List LogEntry) (e : LogEntry) → find (λ (r : LogEntry). r.lsn == lsn) records ≡ Some e → e.lsn ≡ lsn

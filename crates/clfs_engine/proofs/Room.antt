@@ -1,17 +1,17 @@
--- A script is too short to fill the log.
-use Rattle.std.proofs.Common.{◌≡◌, ℕ, ◌+◌, ◌-◌, ◌*◌, ◌/◌, ◌^◌, ◌<◌, ◌≤◌, List, [], ◌∷◌, Bool, true, refl, arith, inl, inr}
-use Rattle.std.specs.Prelude.{min, map, filter, fold}
+-- The room of the log in memory: its hold lies in the first container, and no policy lets it grow.
+use Rattle.std.proofs.Common.{◌≡◌, ℕ, ◌+◌, ◌^◌, ◌≤◌, List, [], ◌∷◌, Bool, true, refl, ap, ◌∙◌, arith, inl, inr}
+use Rattle.std.specs.Prelude.{min, map, filter, fold, nat_le}
 use Rattle.std.specs.List.{AllByRecursion}
 use Rattle.std.proofs.lemmas.Bool.{le-leb, cases_Bool}
+use Rattle.clfs_lsn.specs.Limits.{most_containers}
 use Rattle.clfs_lsn.specs.Size.{own}
-use Rattle.clfs_lsn.specs.Place.{IsWithin, block_end, frontier}
+use Rattle.clfs_lsn.specs.Space.{free_sectors}
 use Rattle.clfs_lsn.specs.declared.place.Place.{Place}
 use Rattle.clfs_lsn.specs.declared.entry.LogEntry.{LogEntry}
-use Rattle.clfs_model.specs.declared.state.State.{State}
 use Rattle.clfs_model.specs.declared.state.Cursor.{Cursor}
-use Rattle.clfs_model.specs.Live.{hold, is_live, least_or, live_lsns}
+use Rattle.clfs_model.specs.Live.{hold, is_live}
 use Rattle.clfs_model.specs.Space.{grown, has_room}
-use Rattle.clfs_engine.specs.MemoryLog.{IsOfStream, state_with, first_shape, sectors_passed}
+use Rattle.clfs_engine.specs.MemoryLog.{IsOfStream, BeginsFirst, state_with, first_shape}
 
 -- no policy lets the log grow
 pub not_grown : (records : List LogEntry) (place : Place) (waiting : List ℕ) (cursors : List Cursor) (need : ℕ)
@@ -19,14 +19,10 @@ pub not_grown : (records : List LogEntry) (place : Place) (waiting : List ℕ) (
 unfolding grown
 not_grown records place waiting cursors need = refl
 
--- the least of numbers that are all high is high
-fold_min_ge : (low start : ℕ) (ns : List ℕ) → low ≤ start → AllByRecursion (λ n. low ≤ n) ns → low ≤ fold min start ns
-fold_min_ge low start [] high all = high
-fold_min_ge low start (n ∷ ns) high all = fold_min_ge low (min start n) ns (omega (arith, all.0)) all.1
-
-least_or_ge : (low other : ℕ) (ns : List ℕ) → low ≤ other → AllByRecursion (λ n. low ≤ n) ns → low ≤ least_or other ns
-least_or_ge low other [] high all = high
-least_or_ge low other (n ∷ ns) high all = fold_min_ge low n ns all.0 all.1
+-- the first of some numbers is the least, where none is below it
+fold_min_first : (start : ℕ) (ns : List ℕ) → AllByRecursion (λ n. start ≤ n) ns → fold min start ns ≡ start
+fold_min_first start [] all = refl
+fold_min_first start (n ∷ ns) all = let first : min start n ≡ start = omega (arith, all.0) in rw first (fold_min_first start ns all.1)
 
 -- the records that pass a test lie in containers from 1 on
 high_lsns : (p : LogEntry → Bool) (records : List LogEntry) → AllByRecursion IsOfStream records
@@ -37,23 +33,22 @@ high_lsns p (entry ∷ entries) all = elim (cases_Bool (p entry)) [
   | inr fails ↦ rw fails (high_lsns p entries all.1)
 ]
 
--- the hold lies in a container from 1 on
-hold_ge : (records : List LogEntry) (place : Place) (waiting : List ℕ) (cursors : List Cursor)
-    → 1 ≤ place.container → AllByRecursion IsOfStream records → 2 ^ 32 ≤ hold (state_with records place waiting cursors)
-hold_ge records place waiting cursors container all =
-    least_or_ge (2 ^ 32) (frontier place) _ (omega arith) (high_lsns (is_live (state_with records place waiting cursors)) records all)
+-- the hold is the first LSN of container 1
+pub hold_is : (records : List LogEntry) (place : Place) (waiting : List ℕ) (cursors : List Cursor)
+    → BeginsFirst records place → AllByRecursion IsOfStream records → hold (state_with records place waiting cursors) ≡ 2 ^ 32
+hold_is [] place waiting cursors begins all = rw begins refl
+hold_is (entry ∷ entries) place waiting cursors begins all =
+    let low : nat_le 0 entry.lsn ≡ true = le-leb 0 entry.lsn (omega arith) in
+    let live : is_live (state_with (entry ∷ entries) place waiting cursors) entry ≡ true = rw (all.0.stream, low) refl in
+    rw (live, begins) (fold_min_first (2 ^ 32) _ (high_lsns (is_live (state_with (entry ∷ entries) place waiting cursors)) entries all.1))
 
--- in a container up to 200 there is room for a record, wherever in it
-room_below_200 : (container end hold sectors : ℕ) → 1 ≤ container → container ≤ 200 → 2 ^ 32 ≤ hold → sectors ≤ 3
-    → 0 + (sectors + 0) ≤ (16384 - end - 1) + min (256 - (container - hold / 2 ^ 32 + 1)) (2 ^ 32 - 1 - container) * (16384 - 2 + 1)
-room_below_200 container end hold sectors one few high small = omega arith
-
--- there is room for each record of a script
-pub room : (records : List LogEntry) (place : Place) (waiting : List ℕ) (cursors : List Cursor) (n : ℕ) → n ≤ 960
-    → IsWithin first_shape place → sectors_passed place ≤ 3276800 → AllByRecursion IsOfStream records
-    → has_room (state_with records place waiting cursors) (own n + 0) ≡ true
+-- there is room for a record where the free sectors behind the hold are as many as its own
+pub room_is : (records : List LogEntry) (place : Place) (waiting : List ℕ) (cursors : List Cursor) (n : ℕ)
+    → BeginsFirst records place → AllByRecursion IsOfStream records
+    → has_room (state_with records place waiting cursors) (own n + 0) ≡ nat_le (own n) (free_sectors first_shape place (2 ^ 32) most_containers)
 unfolding has_room grown
-room records place waiting cursors n short within near all =
-    let high : 2 ^ 32 ≤ hold (state_with records place waiting cursors) = hold_ge records place waiting cursors within.container all in
-    le-leb _ _ (room_below_200 place.container (block_end place) (hold (state_with records place waiting cursors)) (own n) within.container
-    (omega (arith, near)) high (omega arith))
+room_is records place waiting cursors n begins all =
+    let h : hold (state_with records place waiting cursors) ≡ 2 ^ 32 = hold_is records place waiting cursors begins all in
+    let same : 0 + (own n + 0) ≡ own n = omega arith in
+    ap (λ m. nat_le m (free_sectors first_shape place (hold (state_with records place waiting cursors)) most_containers)) same
+    ∙ ap (λ (m : ℕ). nat_le (own n) (free_sectors first_shape place m most_containers)) h

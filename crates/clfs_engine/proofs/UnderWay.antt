@@ -7,16 +7,16 @@ use Rattle.clfs_model.specs.declared.reply.Reply.{Reply}
 use Rattle.clfs_model.specs.declared.state.State.{State}
 use Rattle.clfs_model.specs.State.{first}
 use Rattle.clfs_model.specs.Run.{Request, RequestStep, Run, all_fine}
-use Rattle.clfs_model.specs.Lines.{without_return, lines_of}
+use Rattle.clfs_model.specs.Lines.{without_return}
 use Rattle.clfs_model.specs.Text.{output_of, reply_line, client_of}
-use Rattle.clfs_engine.specs.TwoLines.{request_of, requests_of}
+use Rattle.clfs_engine.specs.Answered.{request_of, requests_of}
 use Rattle.clfs_engine.specs.Serve.{IsAnswered, AnswersLine}
 
--- the lines up to the rest are answered
-pub record IsUnderWay (input rest : List ℕ) (log : State) (out : List ℕ) : Type 0 where
+-- the lines up to those that are left are answered
+pub record IsUnderWay (lines left : List (List ℕ)) (log : State) (out : List ℕ) : Type 0 where
   pub requests : List Request
   pub replies : List Reply
-  pub lines : requests ++ requests_of rest ≡ requests_of input
+  pub all : requests ++ requests_of left ≡ requests_of lines
   pub run : Run true first requests (all_fine requests) replies log
   pub text : out ≡ output_of requests replies
 
@@ -42,28 +42,29 @@ text_more s (x ∷ requests) (y ∷ replies) mid request reply run =
     (sym (append_assoc (reply_line (client_of x) y) (output_of requests replies) (reply_line (client_of request) reply)))
 
 -- no line is answered yet
-pub begins : (input : List ℕ) → IsUnderWay input input first []
-begins input = record { requests = []; replies = []; lines = refl; run = refl; text = refl }
+pub begins : (lines : List (List ℕ)) → IsUnderWay lines lines first []
+begins lines = record { requests = []; replies = []; all = refl; run = refl; text = refl }
 
 -- one line more is answered
-pub goes_on : (input rest line after : List ℕ) (log next : State) (out more : List ℕ) → IsUnderWay input rest log out
-    → lines_of rest ≡ line ∷ lines_of after → AnswersLine log next line out more → IsUnderWay input after next more
-goes_on input rest line after log next out more so_far split step =
+pub goes_on : (lines left more : List (List ℕ)) (line : List ℕ) (log next : State) (out after : List ℕ) → IsUnderWay lines left log out
+    → left ≡ line ∷ more → AnswersLine log next line out after → IsUnderWay lines more next after
+goes_on lines left more line log next out after so_far split step =
     let request : Request = request_of (without_return line) in
-    let here : requests_of rest ≡ request ∷ requests_of after = ap (λ (ls : List (List ℕ)). map (λ l. request_of (without_return l)) ls) split in
+    let here : requests_of left ≡ request ∷ requests_of more = ap (λ (ls : List (List ℕ)). map (λ l. request_of (without_return l)) ls) split in
     record {
       requests = so_far.requests ++ request ∷ [];
       replies = so_far.replies ++ step.reply ∷ [];
-      lines = append_assoc so_far.requests (request ∷ []) (requests_of after) ∙ ap (λ (rs : List Request). so_far.requests ++ rs) (sym here) ∙ so_far.lines;
+      all = append_assoc so_far.requests (request ∷ []) (requests_of more) ∙ ap (λ (rs : List Request). so_far.requests ++ rs) (sym here) ∙ so_far.all;
       run = run_more first so_far.requests so_far.replies log request step.reply next so_far.run step.step;
       text = step.text ∙ rw (so_far.text) (sym (text_more first so_far.requests so_far.replies log request step.reply so_far.run));
     }
 
 -- all lines are answered
-pub ends : (input : List ℕ) (log : State) (out : List ℕ) → IsUnderWay input [] log out → IsAnswered input out
-ends input log out so_far = let all : so_far.requests ≡ requests_of input = sym (append-nil so_far.requests) ∙ so_far.lines in record {
-  replies = so_far.replies;
-  last = log;
-  run = rw (← all) so_far.run;
-  text = rw (← all) so_far.text;
-}
+pub ends : (lines left : List (List ℕ)) (log : State) (out : List ℕ) → IsUnderWay lines left log out → left ≡ [] → IsAnswered lines out
+ends lines left log out so_far none =
+    let all : so_far.requests ≡ requests_of lines = sym (append-nil so_far.requests) ∙ rw none at so_far.all in record {
+      replies = so_far.replies;
+      last = log;
+      run = rw (← all) so_far.run;
+      text = rw (← all) so_far.text;
+    }

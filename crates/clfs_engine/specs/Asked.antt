@@ -1,12 +1,11 @@
--- What a parsed line stands for.
-use Rattle.std.specs.Prelude.{ℕ}
+-- What a line that was read stands for.
 use Rattle.clfs_model.specs.Run.{Request, asks, bad_line}
-use Rattle.clfs_engine.specs.TwoLines.{append_call, read_call}
-use Rattle.clfs_engine.specs.declared.words.Line.{Line}
-use Rattle.clfs_engine.specs.declared.words.Line.TheVariants.{Append, Read, Bad}
+use Rattle.clfs_engine.specs.Answered.{append_call, read_call}
+use Rattle.clfs_engine.specs.declared.asking.Asked.{Asked}
+use Rattle.clfs_engine.specs.declared.asking.Asked.TheVariants.{Append, Read, Nothing}
 
--- what a parsed line asks for
-abbrev pub request : Line → Request
-request (Append bytes) = asks 1 (append_call bytes)
-request (Read lsn) = asks 1 (read_call lsn)
-request (Bad at) = bad_line at
+-- what it asks for
+abbrev pub request : Asked → Request
+request (Append client area bytes) = asks client (append_call area bytes)
+request (Read client area lsn) = asks client (read_call area lsn)
+request (Nothing at) = bad_line at

@@ -1,7 +1,8 @@
-pub mod TwoLines
+pub mod Answered
 pub mod Asked
 pub mod Replies
 pub mod MemoryLog
+pub mod Taken
 pub mod Ends
 pub mod Serve
 pub mod Worked

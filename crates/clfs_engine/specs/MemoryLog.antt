@@ -1,9 +1,9 @@
 -- Which state of the machine a log in memory stands for.
-use Rattle.std.specs.Prelude.{◌≡◌, ℕ, ◌+◌, ◌*◌, ◌^◌, ◌≤◌, not, ◌&&◌, ◌==◌, nat_le, if◌then◌else◌, List, [], ◌∷◌, ◌++◌, length, map}
+use Rattle.std.specs.Prelude.{◌≡◌, ℕ, ◌^◌, ◌≤◌, not, ◌&&◌, ◌==◌, nat_le, if◌then◌else◌, List, [], ◌∷◌, ◌++◌, length}
 use Rattle.std.specs.List.{AllByRecursion}
-use Rattle.clfs_lsn.specs.Limits.{most_container_sectors}
+use Rattle.clfs_lsn.specs.Limits.{most_container_sectors, most_containers}
 use Rattle.clfs_lsn.specs.Lsn.{null_lsn}
-use Rattle.clfs_lsn.specs.Place.{IsWithin, block_end}
+use Rattle.clfs_lsn.specs.Place.{IsWithin}
 use Rattle.clfs_lsn.specs.declared.place.Place.{Place}
 use Rattle.clfs_lsn.specs.declared.shape.Shape.{Shape}
 use Rattle.clfs_lsn.specs.declared.entry.LogEntry.{LogEntry}
@@ -36,10 +36,17 @@ pub record IsOfStream (entry : LogEntry) : Type 0 where
   pub stream : entry.stream ≡ 1
   pub container : 2 ^ 32 ≤ entry.lsn
 
+-- The first record lies at the first byte of container 1, where the place is before it.
+abbrev pub BeginsFirst : List LogEntry → Place → Type 0
+BeginsFirst [] place = place ≡ first.place
+BeginsFirst (entry ∷ more) place = entry.lsn ≡ 2 ^ 32
+
 -- what is true of every log in memory
 pub record IsOneStreamLog (log : Inside) : Type 0 where
   pub place : IsWithin first_shape log.place
+  pub containers : log.place.container ≤ most_containers
   pub entries : AllByRecursion IsOfStream log.entries.items
+  pub begins : BeginsFirst log.entries.items log.place
   pub few_cursors : length log.cursors.items ≤ 4
 
 -- The waiting blocks once there is a place for the next record: none where it begins a container, one more where it begins a
@@ -61,7 +68,3 @@ entry_without_links lsn bytes = record {
   new_base = null_lsn;
   bytes = bytes;
 }
-
--- the sectors up to the end of the open block, over all containers: each append moves this by three at most
-abbrev pub sectors_passed : Place → ℕ
-sectors_passed place = place.container * most_container_sectors + block_end place

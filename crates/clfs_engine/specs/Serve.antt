@@ -1,28 +1,28 @@
 -- What the program answers, and how it ends.
-use Rattle.std.specs.Prelude.{◌≡◌, ℕ, ◌<◌, ◌≤◌, ◌⊎◌, true, List, [], ◌∷◌, ◌++◌, length, codes, Option, IfSome}
-use Rattle.std.specs.Io.KnownBytes.{Appends}
+use Rattle.std.specs.Prelude.{◌≡◌, ℕ, ◌≤◌, ◌⊎◌, true, false, List, [], ◌∷◌, ◌++◌, codes, Option}
+use Rattle.std.specs.Io.KnownBytes.{Consumes, Appends}
 use Rattle.clfs_ports.specs.Cause.{Rises}
 use Rattle.clfs_model.specs.declared.reply.Happened.TheVariants.{Fine}
 use Rattle.clfs_model.specs.declared.reply.Reply.{Reply}
 use Rattle.clfs_model.specs.declared.state.State.{State}
 use Rattle.clfs_model.specs.State.{first}
-use Rattle.clfs_model.specs.Run.{Request, RequestStep, Run, all_fine}
-use Rattle.clfs_model.specs.Lines.{without_return}
+use Rattle.clfs_model.specs.Run.{RequestStep, Run, all_fine}
+use Rattle.clfs_model.specs.Lines.{lines_of, without_return}
+use Rattle.clfs_model.specs.Accepted.{serve_limits, is_within, accepted}
 use Rattle.clfs_model.specs.Text.{output_of, reply_line, client_of}
-use Rattle.clfs_engine.specs.TwoLines.{request_of, requests_of}
-use Rattle.clfs_engine.specs.Ends.{ReadsAll, AppendsFront}
+use Rattle.clfs_engine.specs.Answered.{request_of, requests_of}
+use Rattle.clfs_engine.specs.Taken.{IsWholeScript, IsPastLimit}
+use Rattle.clfs_engine.specs.Ends.{AppendsFront}
+use Rattle.clfs_engine.specs.declared.input.End.{End}
+use Rattle.clfs_engine.specs.declared.input.End.TheVariants.{Whole, Fault}
 
--- the most bytes of a script
-abbrev pub longest_input : ℕ
-longest_input = 1048576
-
--- The output is the lines of the replies of a run of the log machine over the lines of the input. The run begins at the state
--- `first`, and nothing happens in any of its steps: no reply is a disk fault, damage or that the log is broken.
-pub record IsAnswered (input output : List ℕ) : Type 0 where
+-- The output is the replies of a run of the log machine over these lines, a line each. The run begins at the state `first`, and
+-- nothing happens in any of its steps: no reply is a disk fault, damage or that the log is broken.
+pub record IsAnswered (lines : List (List ℕ)) (output : List ℕ) : Type 0 where
   pub replies : List Reply
   pub last : State
-  pub run : Run true first (requests_of input) (all_fine (requests_of input)) replies last
-  pub text : output ≡ output_of (requests_of input) replies
+  pub run : Run true first (requests_of lines) (all_fine (requests_of lines)) replies last
+  pub text : output ≡ output_of (requests_of lines) replies
 
 -- one line is answered by one step, in which nothing happens
 pub record AnswersLine (old new : State) (line before after : List ℕ) : Type 0 where
@@ -38,32 +38,53 @@ too_long_text = codes "input too long\n"
 abbrev pub usage_text : List ℕ
 usage_text = codes "usage: clfs FOLDER format, serve, race, trial or crew\n"
 
--- what is to be written for a script that was read to its end
-pub record IsAnswerTo (left left_after : Option (List ℕ)) (output : List ℕ) : Type 0 where
-  pub input : List ℕ
-  pub read : ReadsAll left left_after input
-  pub short : length input ≤ longest_input
-  pub answered : IsAnswered input output
-
--- The script was read to its end, every line is answered, and the sink's new bytes are the replies.
-pub record IsServed (left left_after written written_after : Option (List ℕ)) : Type 0 where
+-- the replies to the lines that came whole and before a limit, and then the line for an input that is too long
+pub record IsAnsweredUpToLimit (bytes text : List ℕ) : Type 0 where
   pub output : List ℕ
-  pub answer : IsAnswerTo left left_after output
-  pub text : Appends written written_after output
+  pub answered : IsAnswered (accepted serve_limits bytes) output
+  pub line : text ≡ output ++ too_long_text
 
--- more bytes came than a script may have
-abbrev pub IsTooLong : Option (List ℕ) → Type 0
-IsTooLong left = IfSome left (λ input. longest_input < length input)
+-- What is to be written for bytes that were taken, by the status then.
+pub record HasOutput (status : ℕ) (end : End) (bytes text : List ℕ) : Type 0 where
+  pub statuses : (status ≡ 0) ⊎ ((status ≡ 2) ⊎ (status ≡ 7))
+  pub whole : status ≡ 0 → end ≡ Whole
+  pub within : status ≡ 0 → is_within serve_limits bytes ≡ true
+  pub all_answered : status ≡ 0 → IsAnswered (lines_of bytes) text
+  pub fault : status ≡ 2 → end ≡ Fault
+  pub answered : status ≡ 2 → IsAnswered (accepted serve_limits bytes) text
+  pub past : status ≡ 7 → is_within serve_limits bytes ≡ false
+  pub answered_up_to_limit : status ≡ 7 → IsAnsweredUpToLimit bytes text
 
--- the line for a script that is too long
-abbrev pub IsTooLongAnswer : Option (List ℕ) → List ℕ → Type 0
-IsTooLongAnswer left output = IsTooLong left × (output ≡ too_long_text)
+-- The script was read to its end within its limits, and this text is the replies to all its lines.
+pub record IsWholeAnswer (left left_after : Option (List ℕ)) (text : List ℕ) : Type 0 where
+  pub script : List ℕ
+  pub read : IsWholeScript left left_after script
+  pub answered : IsAnswered (lines_of script) text
 
--- The sink's new bytes are a front of what was to be written: of the replies, or of the line for a script that is too long.
-pub record IsCutShort (left left_after written written_after : Option (List ℕ)) : Type 0 where
-  pub output : List ℕ
-  pub whole : IsAnswerTo left left_after output ⊎ IsTooLongAnswer left output
-  pub front : AppendsFront written written_after output
+-- The source failed, and this text is the replies to the lines that came whole before, up to the first that is too long.
+pub record IsAnswerUpToFault (left left_after : Option (List ℕ)) (text : List ℕ) : Type 0 where
+  pub bytes : List ℕ
+  pub given : Consumes left left_after bytes
+  pub answered : IsAnswered (accepted serve_limits bytes) text
+
+-- What the source gave passes a limit, and this text is the replies to the lines that came whole before it, and the line that says so.
+pub record IsAnswerUpToLimit (left left_after : Option (List ℕ)) (text : List ℕ) : Type 0 where
+  pub bytes : List ℕ
+  pub given : IsPastLimit left left_after bytes
+  pub answered : IsAnsweredUpToLimit bytes text
+
+-- what is to be written for what the source gave
+abbrev pub IsAnswer : Option (List ℕ) → Option (List ℕ) → List ℕ → Type 0
+IsAnswer left left_after text =
+    IsWholeAnswer left left_after text ⊎ (IsAnswerUpToFault left left_after text ⊎ IsAnswerUpToLimit left left_after text)
+
+-- The sink's new bytes are a text of this kind.
+abbrev pub Writes : (List ℕ → Type 0) → Option (List ℕ) → Option (List ℕ) → Type 0
+Writes IsText written written_after = (text : List ℕ) × IsText text × Appends written written_after text
+
+-- The sink's new bytes are a front of a text of this kind.
+abbrev pub WritesFront : (List ℕ → Type 0) → Option (List ℕ) → Option (List ℕ) → Type 0
+WritesFront IsText written written_after = (text : List ℕ) × IsText text × AppendsFront written written_after text
 
 -- the statuses of serving: done, a source fault, a sink fault, no memory, too long an input
 abbrev pub IsServeStatus : ℕ → Type 0
@@ -74,19 +95,18 @@ IsServeStatus status = (status ≡ 0) ⊎ ((status ≡ 2) ⊎ ((status ≡ 3) �
 pub record EndsServing (status : ℕ) (left left_after written written_after : Option (List ℕ)) (source source_after sink sink_after : ℕ) : Type 0 where
   -- there is no other status
   pub statuses : IsServeStatus status
-  -- the sink's new bytes are the replies of a run of the log machine over the lines of all that the source gave
-  pub done : status ≡ 0 → IsServed left left_after written written_after
-  -- the source failed in this call, and nothing was written
+  -- the source was read to its end, and the sink's new bytes are the replies to all its lines
+  pub done : status ≡ 0 → Writes (IsWholeAnswer left left_after) written written_after
+  -- the source failed in this call, and the lines that came whole before are answered
   pub source_fault : status ≡ 2 → Rises source source_after
-  pub source_fault_silence : status ≡ 2 → Appends written written_after []
+  pub source_fault_answers : status ≡ 2 → Writes (IsAnswerUpToFault left left_after) written written_after
   -- the sink failed in this call, and what was written is a front of what was to be written
   pub sink_fault : status ≡ 3 → Rises sink sink_after
-  pub sink_fault_front : status ≡ 3 → IsCutShort left left_after written written_after
+  pub sink_fault_front : status ≡ 3 → WritesFront (IsAnswer left left_after) written written_after
   -- memory ran out, and nothing was written
   pub no_memory_silence : status ≡ 5 → Appends written written_after []
-  -- more bytes came than a script may have, and just the line that says so was written
-  pub too_long : status ≡ 7 → IsTooLong left
-  pub too_long_line : status ≡ 7 → Appends written written_after too_long_text
+  -- what the source gave passes a limit; the lines that came whole before it are answered, and then the line that says so
+  pub too_long : status ≡ 7 → Writes (IsAnswerUpToLimit left left_after) written written_after
   -- the counts of faults never fall
   pub source_count : source ≤ source_after
   pub sink_count : sink ≤ sink_after

@@ -1,44 +1,41 @@
-// The answers to a script, line by line. A script is short enough that its appends can't fill the log.
-ghost use Rattle.std.specs.Prelude.{◌≡◌, ◌+◌, ◌-◌, ◌^◌, ◌<◌, ◌≤◌, length, true, IfOk, OnOk};
+// The answers to a script, line by line, by a log that is kept in memory.
+ghost use Rattle.std.specs.Prelude.{◌≡◌, ◌≤◌, ◌++◌, length, take, true, IfOk, OnOk};
+ghost use Rattle.std.specs.List.{list_all};
 ghost use Rattle.clfs_model.specs.Run.{RequestStep};
-ghost use Rattle.clfs_model.specs.Text.{client_of};
 ghost use Rattle.clfs_engine.specs.Asked.{request};
-ghost use Rattle.clfs_engine.specs.MemoryLog.{sectors_passed};
-ghost use Rattle.clfs_engine.specs.Serve.{longest_input, IsAnswered, AnswersLine};
+ghost use Rattle.clfs_engine.specs.Taken.{longest_script, is_short, lines_in, short_lines};
+ghost use Rattle.clfs_engine.specs.Serve.{IsAnswered, AnswersLine};
 
-use crate::lines::{first_line, without_return};
+use crate::asking::{Asked, read_line};
+use crate::input::{LONGEST_SCRIPT, Taken};
+use crate::lines::{next_line, without_return};
 use crate::log::MemoryLog;
-use crate::text::write_reply;
-use crate::words::{Line, parse_line};
+use clfs_lsn::Bytes;
 use clfs_model::{Happened, Refusal, Reply};
+use clfs_script::write_reply;
 use std::alloc::{AllocError, Global};
 
-// The reply to a parsed line.
-fn reply_to(log: &mut MemoryLog, line: &Line) -> Reply
-    requires { sectors_passed log.old.place ≤ 3276800 }
-    ensures step { RequestStep true log.old (request line.now) Happened.Fine result log.new }
-    ensures near { sectors_passed log.new.place ≤ sectors_passed log.old.place + 3 }
+/// The most bytes of a line without its line feed.
+const LONGEST_LINE: usize = 131072;
+
+// The reply to what a line asks for.
+fn reply_to(log: &mut MemoryLog, asked: Asked) -> Reply
+    ensures { RequestStep true log.old (request asked) Happened.Fine result log.new }
 {
-    match line {
-        Line::Append(bytes) => match log.append(bytes) {
+    match asked {
+        Asked::Append {
+            client,
+            area,
+            bytes,
+        } => match log.append(client, area, bytes) {
             Ok(lsn) => Reply::Placed(lsn),
             Err(refusal) => Reply::Refused(refusal),
         },
-        Line::Read(lsn) => match log.read(*lsn) {
+        Asked::Read { client, area, lsn } => match log.read(client, area, lsn) {
             Ok((cursor, entry)) => Reply::Found { cursor, entry },
             Err(refusal) => Reply::Refused(refusal),
         },
-        Line::Bad(at) => Reply::Refused(Refusal::BadLine { at: *at }),
-    }
-}
-
-// The client that a reply names: a bad line has none.
-fn client_of(line: &Line) -> u16
-    ensures { result ≡ client_of (request line.now) }
-{
-    match line {
-        Line::Bad(_) => 0,
-        _ => 1,
+        Asked::Nothing { at } => Reply::Refused(Refusal::BadLine { at }),
     }
 }
 
@@ -47,30 +44,57 @@ fn answer_line(
     alloc: Global,
     log: &mut MemoryLog,
     line: &[u8],
-    out: &mut Vec<u8>,
+    out: &mut Bytes,
 ) -> Result<(), AllocError>
-    requires room { sectors_passed log.old.place ≤ 3276800 }
-    requires short { length line.now ≤ 4294967295 }
-    ensures step { OnOk result (AnswersLine log.old log.new line.now out.old.items out.new.items) }
-    ensures near { sectors_passed log.new.place ≤ sectors_passed log.old.place + 3 }
+    requires { length line.now ≤ 4294967295 }
+    ensures { OnOk result (AnswersLine log.old log.new line.now out.old out.new) }
 {
-    let line = parse_line(alloc, without_return(line))?;
-    let reply = reply_to(log, &line);
-    write_reply(alloc, client_of(&line), &reply, out)
+    let asked = read_line(alloc, without_return(line))?;
+    let client = asked.client();
+    let reply = reply_to(log, asked);
+    write_reply(client, &reply, out)
 }
 
-/// The replies to the lines of a script, one line each.
-pub fn answers(alloc: Global, input: &[u8]) -> Result<Vec<u8>, AllocError>
-    requires { length input.now ≤ longest_input }
-    ensures { IfOk result (λ out. IsAnswered input.now out.items) }
+// As many bytes as a script may have.
+fn front_of(bytes: &[u8]) -> &[u8]
+    ensures { result.now ≡ take longest_script bytes.now }
+{
+    if bytes.len() <= LONGEST_SCRIPT {
+        bytes
+    } else {
+        bytes.split_at(LONGEST_SCRIPT).0
+    }
+}
+
+/// The replies to the lines of a script.
+#[derive(Debug, Drop)]
+pub struct Answers {
+    /// Their text.
+    pub output: Bytes,
+    /// Whether no line was too long. Else the lines before the first such line are answered.
+    pub all_short: bool,
+}
+
+/// The replies to the lines that a source gave, up to the first that is too long.
+pub fn answer_lines(alloc: Global, taken: &Taken) -> Result<Answers, AllocError>
+    ensures answered { IfOk result (λ answers. IsAnswered (short_lines taken.now.end taken.now.bytes.items) answers.output) }
+    ensures all_short { IfOk result (λ answers. answers.all_short ≡ list_all is_short (lines_in taken.now.end (take longest_script taken.now.bytes.items))) }
 {
     let mut log = MemoryLog::first(alloc);
-    let mut out = Vec::new(alloc);
-    let mut rest = input;
-    while !rest.is_empty() {
-        let (line, after) = first_line(rest);
-        answer_line(alloc, &mut log, line, &mut out)?;
+    let mut output = Bytes::new(alloc);
+    let mut rest = front_of(&taken.bytes);
+    while let Some((line, after)) = next_line(rest, taken.end) {
+        if line.len() > LONGEST_LINE {
+            return Ok(Answers {
+                output,
+                all_short: false,
+            });
+        }
+        answer_line(alloc, &mut log, line, &mut output)?;
         rest = after;
     }
-    Ok(out)
+    Ok(Answers {
+        output,
+        all_short: true,
+    })
 }

@@ -1,23 +1,26 @@
 //! The commands of the program, over any source and sink.
 //!
-//! `serve` reads a script to its end, answers each of its lines by the log, and writes the replies. So far the log is that of
-//! one stream, kept in memory, and a script's lines are an append and a read; every other line is a bad one. What `serve`
-//! promises is a clause of its contract: the bytes that it wrote are the replies of a run of the log machine over the lines
-//! of the bytes that it read.
+//! `serve` takes a script from the source, answers each of its lines by the log, and writes the replies. So far the log is that of
+//! one stream, kept in memory, and the lines that are answered are appends without links and options and reads that go forward; every
+//! other line is a bad one. What `serve` promises is a clause of its contract: the bytes that it wrote are the replies of a run of the
+//! log machine over the lines of the bytes that it took.
 #![tactic(auto)]
 
 mod answering;
+mod asking;
 mod input;
 mod lines;
 mod log;
 mod output;
 mod program;
 mod rows;
-mod text;
-mod words;
+mod serving;
+mod status;
 
-pub use program::{DONE, INPUT_TOO_LONG, NO_MEMORY, SINK_FAULT, SOURCE_FAULT, USAGE, run, serve};
-pub use rows::{appends_and_reads, ends_of_lines, lengths_of_records, words_of_lines};
+pub use program::run;
+pub use rows::{appends_and_reads, areas, ends_of_lines, lengths_of_records, words_of_lines};
+pub use serving::serve;
+pub use status::{DONE, INPUT_TOO_LONG, NO_MEMORY, Outcome, SINK_FAULT, SOURCE_FAULT, USAGE};
 
 #[cfg(test)]
 mod tests;

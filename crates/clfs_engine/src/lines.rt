@@ -1,27 +1,38 @@
 // The lines of a script, one after the other from its front.
-ghost use Rattle.std.specs.Prelude.{◌≡◌, ◌<◌, ◌≤◌, ◌∷◌, ◌+◌, ◌==◌, length, position};
-ghost use Rattle.clfs_model.specs.Lines.{lines_of, without_return};
+ghost use Rattle.std.specs.Prelude.{◌≡◌, ◌<◌, ◌≤◌, [], ◌∷◌, length, IfSome, MatchOption};
+ghost use Rattle.clfs_model.specs.Lines.{without_return};
+ghost use Rattle.clfs_engine.specs.Taken.{lines_in};
 
-fn first_feed(bytes: &[u8]) -> Option<usize>
-    ensures { result ≡ position (λ b. b == 10) bytes.now }
+use crate::input::End;
+use memchr::memchr;
+
+/// The first line, without its line feed, and what stands behind it. Bytes behind the last line feed are a line where they are
+/// the end of a whole script; else more of the line may have been to come.
+pub fn next_line(bytes: &[u8], end: End) -> Option<(&[u8], &[u8])>
+    ensures lines { MatchOption result (lines_in end bytes.now ≡ []) (λ it. lines_in end bytes.now ≡ it.0.now ∷ lines_in end it.1.now) }
+    ensures fewer { IfSome result (λ it. length it.1.now < length bytes.now) }
+    ensures within { IfSome result (λ it. length it.0.now ≤ length bytes.now) }
 {
-    bytes.iter().position(|b| *b == 10)
+    if let Some(at) = memchr(b'\n', bytes) {
+        let (line, rest) = bytes.split_at(at);
+        let (_, after) = rest.split_at(1);
+        return Some((line, after));
+    }
+    match end {
+        End::Whole => last_line(bytes),
+        End::Fault | End::Limit => None,
+    }
 }
 
-/// The first line, without its line feed, and what stands after it.
-pub fn first_line(bytes: &[u8]) -> (&[u8], &[u8])
-    requires { 0 < length bytes.now }
-    ensures lines { lines_of bytes.now ≡ result.0.now ∷ lines_of result.1.now }
-    ensures fewer { length result.1.now < length bytes.now }
-    ensures within { length result.0.now ≤ length bytes.now }
+// Bytes without a line feed as a line, where there are any.
+fn last_line(bytes: &[u8]) -> Option<(&[u8], &[u8])>
+    ensures empty { MatchOption result (bytes.now ≡ []) (λ it. 0 < length bytes.now) }
+    ensures line { IfSome result (λ it. (it.0.now ≡ bytes.now) × (it.1.now ≡ [])) }
 {
-    match first_feed(bytes) {
-        Some(end) => {
-            let (line, rest) = bytes.split_at(end);
-            let (_, after) = rest.split_at(1);
-            (line, after)
-        }
-        None => bytes.split_at(bytes.len()),
+    if bytes.is_empty() {
+        None
+    } else {
+        Some(bytes.split_at(bytes.len()))
     }
 }
 

@@ -21,18 +21,30 @@ pub fn lengths_of_records()
 pub fn ends_of_lines()
     ensures no_line { replies_to [] ≡ [] }
     ensures no_last_line_feed { replies_to (codes "1 append 1 - 0:0:0 0:0:0") ≡ codes "1 lsn 1:0:0\n" }
-    ensures one_carriage_return { replies_to (codes "1 append 1 - 0:0:0 0:0:0\r\nbad\r\n") ≡ codes "1 lsn 1:0:0\n0 refused 28 BadLine 3\n" }
+    ensures one_carriage_return { replies_to (codes "1 append 1 - 0:0:0 0:0:0\r\n1\r\n") ≡ codes "1 lsn 1:0:0\n0 refused 28 BadLine 1\n" }
     ensures empty_line { replies_to (codes "\n") ≡ codes "0 refused 28 BadLine 0\n" }
-    ensures space_at_the_end { replies_to (codes "append ") ≡ codes "0 refused 28 BadLine 7\n" }
+    ensures space_at_the_end { replies_to (codes "1 ") ≡ codes "0 refused 28 BadLine 2\n" }
 {}
 
-/// Words that are an LSN or data, and words that are none.
+/// Clients and areas that the log hasn't.
+pub fn areas()
+    ensures client { replies_to (codes "2 read 1 1:0:0 forward\n2 append 1 - 0:0:0 0:0:0\n") ≡ codes "2 refused 10 NoSuchArea\n2 refused 10 NoSuchArea\n" }
+    ensures area { replies_to (codes "1 read 2 1:0:0 forward\n1 append 16 - 0:0:0 0:0:0\n") ≡ codes "1 refused 10 NoSuchArea\n1 refused 10 NoSuchArea\n" }
+{}
+
+/// Words that are an LSN or data, and words that are none; lines of the language that aren't answered are bad at their second word.
 pub fn words_of_lines()
     ensures no_record { replies_to (codes "1 read 1 ffffffff:fffffe00:1ff forward\n") ≡ codes "1 refused 17 RecordNonexistent ffffffff:fffffe00:1ff\n" }
-    ensures offset { replies_to (codes "1 read 1 1:100:0 forward\n") ≡ codes "0 refused 28 BadLine 2\n" }
-    ensures sequence { replies_to (codes "1 read 1 1:0:200 forward\n") ≡ codes "0 refused 28 BadLine 2\n" }
-    ensures leading_zero { replies_to (codes "1 read 1 01:0:0 forward\n") ≡ codes "0 refused 28 BadLine 2\n" }
+    ensures offset { replies_to (codes "1 read 1 1:100:0 forward\n") ≡ codes "0 refused 28 BadLine 9\n" }
+    ensures sequence { replies_to (codes "1 read 1 1:0:200 forward\n") ≡ codes "0 refused 28 BadLine 9\n" }
+    ensures leading_zero { replies_to (codes "1 read 1 01:0:0 forward\n") ≡ codes "0 refused 28 BadLine 9\n" }
+    ensures no_verb { replies_to (codes "12 apend 1 aa\n") ≡ codes "0 refused 28 BadLine 3\n" }
+    ensures not_answered { replies_to (codes "12 open a\n12 reopen\n") ≡ codes "0 refused 28 BadLine 3\n0 refused 28 BadLine 3\n" }
+    ensures options { replies_to (codes "1 append 1 - 0:0:0 0:0:0 flush\n1 append 1 - 0:0:0 0:0:0 hold 8\n")
+        ≡ codes "0 refused 28 BadLine 2\n0 refused 28 BadLine 2\n" }
+    ensures links { replies_to (codes "1 append 1 - 0:0:1 0:0:0\n1 append 1 - 0:0:0 0:0:1\n") ≡ codes "0 refused 28 BadLine 2\n0 refused 28 BadLine 2\n" }
+    ensures modes { replies_to (codes "1 read 1 1:0:0 undo\n1 read 1 1:0:0 previous\n") ≡ codes "0 refused 28 BadLine 2\n0 refused 28 BadLine 2\n" }
     ensures upper_case { replies_to (codes "1 append 1 Ab 0:0:0 0:0:0\n1 read 1 1:0:0 forward\n")
         ≡ codes "1 lsn 1:0:0\n1 cursor 1 record 1:0:0 data 0:0:0 0:0:0 0:0:0 ab\n" }
-    ensures odd_digits { replies_to (codes "1 append 1 abc 0:0:0 0:0:0\n") ≡ codes "0 refused 28 BadLine 2\n" }
+    ensures odd_digits { replies_to (codes "1 append 1 abc 0:0:0 0:0:0\n") ≡ codes "0 refused 28 BadLine 11\n" }
 {}

@@ -1,4 +1,5 @@
 use super::*;
+use clfs_disk::Steady;
 use clfs_ports::{MemorySink, MemorySource};
 use std::alloc::{AllocError, Global};
 use std::process::Abort;
@@ -23,8 +24,15 @@ fn check_script(
 ) -> Result<(), AllocError> {
     let mut source = MemorySource::new(script.to_vec(alloc)?, 7, Vec::new(alloc));
     let mut sink = MemorySink::new(Vec::new(alloc), 5, Vec::new(alloc));
-    let status = run(alloc, &words(alloc, &["serve"])?, &mut source, &mut sink);
-    assert_eq!(rt; status, DONE);
+    let disk = Steady::new(alloc)?;
+    let outcome = run(
+        alloc,
+        &words(alloc, &["serve"])?,
+        &mut source,
+        &mut sink,
+        disk,
+    );
+    assert_eq!(rt; outcome.status, DONE);
     assert_eq!(rt; sink.bytes(), want);
     Ok(())
 }
@@ -41,7 +49,7 @@ fn zeros_line(alloc: Global, count: usize) -> Result<Vec<u8>, AllocError> {
 #[test]
 fn scripts_and_their_replies(rt: HostRuntime) -> Result<(), Fail> {
     let alloc = rt.alloc();
-    let cases: [(&[u8], &[u8]); 4] = [
+    let cases: [(&[u8], &[u8]); 7] = [
         (
             b"1 append 1 000102 0:0:0 0:0:0\n1 append 1 - 0:0:0 0:0:0\n1 read 1 1:0:1 forward\n1 read 1 1:0:2 forward\n1 open a\n",
             b"1 lsn 1:0:0\n1 lsn 1:0:1\n1 cursor 1 record 1:0:1 data 0:0:0 0:0:0 0:0:0 -\n1 refused 17 RecordNonexistent 1:0:2\n0 refused 28 BadLine 2\n",
@@ -52,6 +60,15 @@ fn scripts_and_their_replies(rt: HostRuntime) -> Result<(), Fail> {
         ),
         (b"", b""),
         (b"1 append 1 - 0:0:0 0:0:0", b"1 lsn 1:0:0\n"),
+        (b"2 read 1 1:0:0 forward\n", b"2 refused 10 NoSuchArea\n"),
+        (
+            b"1 apend 1 aa\n\n1 flush",
+            b"0 refused 28 BadLine 2\n0 refused 28 BadLine 0\n0 refused 28 BadLine 7\n",
+        ),
+        (
+            b"1 reopen\n1 read 1 1:0:0 undo\n1 append 1 - 0:0:0 0:0:0 seal\n",
+            b"0 refused 28 BadLine 2\n0 refused 28 BadLine 2\n0 refused 28 BadLine 2\n",
+        ),
     ];
     for (script, want) in cases {
         check_script(&rt, alloc, script, want)?;
@@ -68,41 +85,93 @@ fn scripts_and_their_replies(rt: HostRuntime) -> Result<(), Fail> {
     Ok(())
 }
 
+// The lines that came whole are answered also where the source fails behind them.
 #[test]
 fn statuses_and_their_causes(rt: HostRuntime) -> Result<(), Fail> {
     let alloc = rt.alloc();
-    let cases: [(&[&str], u64, u64, u8, &[u8]); 7] = [
-        (&["serve"], 9, 9, DONE, b"0 refused 28 BadLine 1\n"),
-        (&["serve"], 1, 9, SOURCE_FAULT, b""),
-        (&["serve"], 2, 9, SOURCE_FAULT, b""),
-        (&["serve"], 9, 2, SINK_FAULT, b"0 refused "),
-        (&["serves"], 9, 9, USAGE, USAGE_LINE),
-        (&["serve", "x"], 9, 9, USAGE, USAGE_LINE),
+    let cases: [(&[&str], u64, u64, u8, &[u8]); 8] = [
+        (&["serve"], 9, 99, DONE, b"1 lsn 1:0:0\n1 lsn 1:0:1\n"),
+        (&["serve"], 1, 99, SOURCE_FAULT, b""),
+        (&["serve"], 2, 99, SOURCE_FAULT, b""),
+        (&["serve"], 3, 99, SOURCE_FAULT, b"1 lsn 1:0:0\n"),
+        (&["serve"], 9, 2, SINK_FAULT, b"1 lsn 1:0:"),
+        (&["serves"], 9, 99, USAGE, USAGE_LINE),
+        (&["serve", "x"], 9, 99, USAGE, USAGE_LINE),
         (&[], 9, 3, SINK_FAULT, b"usage: clfs FOLDER f"),
     ];
     for (texts, source_fails, sink_fails, want, written) in cases {
-        let mut source = MemorySource::new(b"x".to_vec(alloc)?, 7, vec![in alloc; source_fails]?);
+        let script = b"1 append 1 - 0:0:0 0:0:0\n1 append 1 - 0:0:0 0:0:0\n";
+        let mut source = MemorySource::new(
+            script.to_vec(alloc)?,
+            20,
+            vec![in alloc; source_fails]?,
+        );
         let mut sink = MemorySink::new(Vec::new(alloc), 10, vec![in alloc; sink_fails]?);
-        let status = run(alloc, &words(alloc, texts)?, &mut source, &mut sink);
-        assert_eq!(rt; status, want);
+        let disk = Steady::new(alloc)?;
+        let outcome = run(alloc, &words(alloc, texts)?, &mut source, &mut sink, disk);
+        assert_eq!(rt; outcome.status, want);
         assert_eq!(rt; sink.bytes(), written);
     }
     Ok(())
 }
 
+// So many bytes `x`.
+fn push_run(script: &mut Vec<u8>, count: usize) -> Result<(), AllocError> {
+    for _ in 0..count {
+        script.push(b'x')?;
+    }
+    Ok(())
+}
+
+// A line at its limit and one above it, each behind a good line; a carriage return counts.
 #[test]
-fn an_input_at_its_limit_and_above(rt: HostRuntime) -> Result<(), Fail> {
+fn a_line_at_its_limit_and_above(rt: HostRuntime) -> Result<(), Fail> {
     let alloc = rt.alloc();
-    let cases: [(usize, u8, &[u8]); 2] = [
-        (1048576, DONE, b"0 refused 28 BadLine 1048576\n"),
-        (1048577, INPUT_TOO_LONG, b"input too long\n"),
+    let cases: [(usize, &[u8], u8, &[u8]); 5] = [
+        (131072, b"\n", DONE, b"0 refused 28 BadLine 0\n"),
+        (131073, b"\n", INPUT_TOO_LONG, b"input too long\n"),
+        (131072, b"\r\n", INPUT_TOO_LONG, b"input too long\n"),
+        (131072, b"", DONE, b"0 refused 28 BadLine 0\n"),
+        (131073, b"", INPUT_TOO_LONG, b"input too long\n"),
     ];
-    for (len, want, written) in cases {
-        let mut source = MemorySource::new(vec![in alloc; b'x'; len]?, 65536, Vec::new(alloc));
+    for (count, ending, want, written) in cases {
+        let mut script = b"1 append 1 - 0:0:0 0:0:0\n".to_vec(alloc)?;
+        push_run(&mut script, count)?;
+        script.extend_from_slice(ending)?;
+        let mut source = MemorySource::new(script, 65536, Vec::new(alloc));
         let mut sink = MemorySink::new(Vec::new(alloc), 99, Vec::new(alloc));
-        let status = serve(alloc, &mut source, &mut sink);
-        assert_eq!(rt; status, want);
-        assert_eq!(rt; sink.bytes(), written);
+        let disk = Steady::new(alloc)?;
+        let outcome = serve(alloc, 4, &mut source, &mut sink, disk);
+        assert_eq!(rt; outcome.status, want);
+        assert!(rt; sink.bytes().len() >= 12);
+        let (first, rest) = sink.bytes().split_at(12);
+        assert_eq!(rt; first, b"1 lsn 1:0:0\n".as_slice());
+        assert_eq!(rt; rest, written);
+    }
+    Ok(())
+}
+
+// A script of 512 lines of 131,072 bytes each is at its limit.
+#[test]
+fn a_script_at_its_limit_and_above(rt: HostRuntime) -> Result<(), Fail> {
+    let alloc = rt.alloc();
+    for (more, want) in [(0, DONE), (1, INPUT_TOO_LONG)] {
+        let mut script = Vec::with_capacity(alloc, 67108865)?;
+        for _ in 0..512 {
+            push_run(&mut script, 131071)?;
+            script.push(b'\n')?;
+        }
+        push_run(&mut script, more)?;
+        let mut source = MemorySource::new(script, 65536, Vec::new(alloc));
+        let mut sink = MemorySink::new(Vec::new(alloc), 4096, Vec::new(alloc));
+        let disk = Steady::new(alloc)?;
+        let outcome = serve(alloc, 4, &mut source, &mut sink, disk);
+        assert_eq!(rt; outcome.status, want);
+        let answered = 512 * b"0 refused 28 BadLine 0\n".len();
+        assert_eq!(rt;
+            sink.bytes().len(),
+            answered + more * b"input too long\n".len()
+        );
     }
     Ok(())
 }

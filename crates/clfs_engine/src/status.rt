@@ -1,0 +1,28 @@
+// The statuses that a command ends with, and what a command gives back.
+
+/// The command was done.
+pub const DONE: u8 = 0;
+
+/// The words are no command.
+pub const USAGE: u8 = 1;
+
+/// The source failed.
+pub const SOURCE_FAULT: u8 = 2;
+
+/// The sink failed.
+pub const SINK_FAULT: u8 = 3;
+
+/// Memory ran out.
+pub const NO_MEMORY: u8 = 5;
+
+/// More bytes came than a script may have, or a line was too long.
+pub const INPUT_TOO_LONG: u8 = 7;
+
+/// How a command ended.
+#[derive(Debug, Drop)]
+pub struct Outcome<D: Drop> {
+    /// The status.
+    pub status: u8,
+    /// The disk that was handed in.
+    pub disk: D,
+}
