@@ -1,8 +1,8 @@
 use Rattle.std.proofs.Common.{ltb, rules}
 use Rattle.std.proofs.lemmas.List.Sorted.{IsPartitionPoint-from_clause, IsPartitionedBy-ltb}
 use Rattle.clfs_lsn.specs.declared.entry.Head.{Head}
-use Rattle.clfs_index.proofs.Places.{place_from_lower, never_falls}
-use Rattle.clfs_index.proofs.place.place_of.Goals as goal
+use Rattle.clfs_heads.proofs.Places.{place_from_lower, never_falls}
+use Rattle.clfs_heads.proofs.row.place_of.Goals as goal
 
 pub returns : goal.returns
 returns c =
