@@ -3,12 +3,12 @@ use Rattle.std.proofs.Common.{◌≡◌, ℕ, ◌+◌, ◌-◌, ◌<◌, ◌≤�
 use Rattle.std.specs.Prelude.{nat_le, ◌==◌, if◌then◌else◌}
 use Rattle.std.specs.List.{last_or}
 use Rattle.std.specs.List.Sorted.{IsPartitionPoint, IsNonDecreasingBy}
-use Rattle.std.proofs.lemmas.Bool.{cases_Bool, cases_lt, eqb-false, ne_eqb, le-leb, lt-leb, leb-true, leb-false, lt-ltb, le-ltb, ltb-true, ltb-false}
+use Rattle.std.proofs.lemmas.Bool.{cases_Bool, cases_lt, eqb-false, ne_eqb, le-leb, lt-leb, leb-true, leb-false, lt-ltb, le-ltb}
 use Rattle.std.proofs.lemmas.List.{drop_all}
 use Rattle.std.proofs.lemmas.Option.{get_or_from_slice_get}
 use Rattle.clfs_lsn.specs.declared.entry.Head.{Head}
 use Rattle.clfs_model.specs.Heads.{heads_from, head_at, head_above}
-use Rattle.clfs_index.specs.Rising.{AreRising, IsPlaceOf}
+use Rattle.clfs_heads.specs.Rising.{AreRising, IsPlaceOf}
 
 rising_tail : (head : Head) (heads : List Head) → AreRising (head ∷ heads) → AreRising heads
 rising_tail head heads rising = λ i j d before inside. rising (suc i) (suc j) d (omega arith) (omega arith)
@@ -43,14 +43,6 @@ first_from [] zero = refl
 first_from [] (suc place) = refl
 first_from (head ∷ heads) zero = refl
 first_from (head ∷ heads) (suc place) = first_from heads place
-
--- what passes once passes again
-pub filter_again : (lsn : ℕ) (heads : List Head) → heads_from lsn (heads_from lsn heads) ≡ heads_from lsn heads
-filter_again lsn [] = refl
-filter_again lsn (head ∷ heads) = elim (cases_Bool (nat_le lsn head.lsn)) [
-  | inl passes ↦ rw passes (rw passes (ap (λ (rest : List Head). head ∷ rest) (filter_again lsn heads)))
-  | inr fails ↦ rw fails (filter_again lsn heads)
-]
 
 -- where all heads lie above an LSN, none is at it
 none_above : (heads : List Head) (lsn : ℕ) → ((k : ℕ) (d : Head) → k < length heads → lsn < (get_or heads k d).lsn) → head_at lsn heads ≡ None
@@ -188,15 +180,6 @@ none_live_at_end base heads last rising is dead =
           rw here (omega (arith, same, dead))
     ] in
     ap (last_or None) (none_live base heads below)
-
--- Where a test for lower LSNs changes is a place.
-pub place_from_lower : (heads : List Head) (lsn place : ℕ) → place ≤ length heads
-    → IsPartitionPoint (λ (head : Head). ltb head.lsn lsn ≡ true) (λ (head : Head). ltb head.lsn lsn ≡ false) heads place → IsPlaceOf heads lsn place
-place_from_lower heads lsn place within point = record {
-  within = within;
-  below = λ k d before. ltb-true _ _ (point.0 k d (omega arith) before);
-  above = λ k d behind inside. ltb-false _ _ (point.1 k d behind inside);
-}
 
 -- where a test for LSNs that aren't higher changes is the place of the first that is
 pub place_from_up_to : (heads : List Head) (lsn place : ℕ) → place ≤ length heads

@@ -1,14 +1,13 @@
 -- What the row of a stream answers, from what its fields say.
-use Rattle.std.proofs.Common.{◌≡◌, ℕ, ◌+◌, ◌-◌, ◌*◌, ◌<◌, ◌≤◌, Bool, true, false, eqb, ltb, inl, inr, refl, sym, ap, ◌∙◌, arith, List, length, ◌++◌, Option, Some, None, take, drop, slice_get}
+use Rattle.std.proofs.Common.{◌≡◌, ℕ, ◌+◌, ◌-◌, ◌<◌, ◌≤◌, Bool, true, false, eqb, ltb, inl, inr, refl, sym, ap, ◌∙◌, arith, List, length, Option, Some, None, slice_get}
 use Rattle.std.specs.List.{last_or}
-use Rattle.std.proofs.lemmas.List.{length-drop, take_at}
 use Rattle.std.specs.Ordering.{is_lt, nat_cmp}
 use Rattle.std.proofs.lemmas.Bool.{cases_Bool, ltb-true, ltb-false}
 use Rattle.clfs_lsn.specs.declared.entry.Head.{Head}
 use Rattle.clfs_model.specs.Heads.{heads_from, head_at, head_above}
 use Rattle.clfs_index.specs.Row.{Row}
-use Rattle.clfs_index.specs.Rising.{AreRising, IsPlaceOf}
-use Rattle.clfs_index.proofs.Places.{from_place, first_from, filter_again, if_at, at_place, at_from_base, above_base, above_lsn, last_live, none_live_at_end}
+use Rattle.clfs_heads.specs.Rising.{AreRising, IsPlaceOf}
+use Rattle.clfs_index.proofs.Places.{from_place, first_from, if_at, at_place, at_from_base, above_base, above_lsn, last_live, none_live_at_end}
 
 -- what a comparison of two LSNs answers
 compared : (a b : ℕ) → is_lt (nat_cmp a b) ≡ ltb a b
@@ -77,32 +76,6 @@ pub live_is : (row : Row) (base room lsn : ℕ) (heads : List Head) (found : Opt
 live_is row base room lsn heads found view up got =
     let same = ap (λ (r : Row). r.base) view in
     got ∙ sym (at_from_base row.base lsn row.heads (omega (arith, same, up)))
-
--- Heads that are turned so that the first ones are last, and cut off there, are those from the place on.
-pub turned_and_cut : (heads turned cut : List Head) (len lsn place : ℕ) → IsPlaceOf heads lsn place → len ≡ length heads
-    → turned ≡ drop place heads ++ take place heads → cut ≡ take (len - place) turned → cut ≡ drop place heads
-turned_and_cut heads turned cut len lsn place at long turn is =
-    is ∙ ap (take (len - place)) turn
-    ∙ take_at (drop place heads) (take place heads) (len - place) (length-drop place heads ∙ ap (λ n. n - place) (sym long))
-
-pub same_left : (heads new : List Head) (lsn place : ℕ) → IsPlaceOf heads lsn place → new ≡ drop place heads
-    → heads_from lsn new ≡ heads_from lsn heads
-same_left heads new lsn place at is =
-    let live = is ∙ sym (from_place heads lsn place at) in
-    ap (heads_from lsn) live ∙ filter_again lsn heads
-
-pub few_left : (heads new : List Head) (lsn place : ℕ) → IsPlaceOf heads lsn place → new ≡ drop place heads
-    → length new ≤ 2 * length (heads_from lsn new)
-few_left heads new lsn place at is =
-    let live = same_left heads new lsn place at is ∙ from_place heads lsn place at ∙ sym is in
-    let long = ap length live in
-    omega (arith, long)
-
-pub few_stay : (heads : List Head) (lsn place len : ℕ) → IsPlaceOf heads lsn place → len ≡ length heads → place < len - place
-    → length heads ≤ 2 * length (heads_from lsn heads)
-few_stay heads lsn place len at is less =
-    let long = ap length (from_place heads lsn place at) ∙ length-drop place heads in
-    omega (arith, long, is, less)
 
 pub last_is : (row : Row) (base room : ℕ) (heads slice : List Head) (last : Head)
     → record { base = base; heads = heads; room = room } ≡ row → slice ≡ heads → Some last ≡ slice_get slice (length slice - 1) → base ≤ last.lsn

@@ -1,17 +1,9 @@
-// Places in a sorted row.
+// The place above an LSN in a sorted row.
 ghost use Rattle.std.specs.Prelude.{◌≡◌, ℕ, ◌+◌, ◌<◌, ◌≤◌, true, length, slice_index_or};
 ghost use Rattle.clfs_lsn.specs.declared.entry.Head.{Head};
-ghost use Rattle.clfs_index.specs.Rising.{AreRising, IsPlaceOf};
+ghost use Rattle.clfs_heads.specs.Rising.{AreRising, IsPlaceOf};
 
 use clfs_lsn::{Head, Lsn};
-
-// The place of the first head from an LSN on: a search by halves.
-pub(crate) fn place_of(heads: &[Head], lsn: Lsn) -> usize
-    requires { AreRising heads.now }
-    ensures { IsPlaceOf heads.now lsn result }
-{
-    heads.partition_point(|head| head.lsn < lsn)
-}
 
 // The place of the first head above an LSN. Where it is likely to be is looked at first, and nothing is searched where it is there.
 pub(crate) fn place_above(heads: &[Head], lsn: Lsn, near: usize) -> usize

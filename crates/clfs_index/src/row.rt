@@ -6,7 +6,8 @@ ghost use Rattle.clfs_lsn.specs.declared.entry.Head.{Head};
 ghost use Rattle.clfs_model.specs.Heads.{heads_from, head_at, head_above};
 ghost use Rattle.clfs_index.specs.declared.row.Found.{Found};
 
-use crate::place::{place_above, place_of};
+use crate::place::place_above;
+use clfs_heads::{forget_below, place_of};
 use clfs_lsn::{Head, Lsn};
 use std::alloc::{AllocError, Global};
 use std::marker::Model;
@@ -34,7 +35,7 @@ impl Model for StreamIndex {
     ghost Value = { Row };
 
     ghost use Rattle.std.specs.Prelude.{◌-◌, vec_len, vec_capacity};
-    ghost use Rattle.clfs_index.specs.Rising.{AreRising};
+    ghost use Rattle.clfs_heads.specs.Rising.{AreRising};
 
     ghost view = { λ s. record { base = s.base; heads = s.heads.items; room = vec_capacity s.heads - vec_len s.heads } };
 
@@ -153,12 +154,7 @@ impl StreamIndex {
         ensures few { length self.new.heads ≤ 2 * length (heads_from lsn self.new.heads) }
         ensures room { self.old.room ≤ self.new.room }
     {
-        let place = place_of(&self.heads, lsn);
-        let len = self.heads.len();
-        if place >= len - place {
-            self.heads.rotate_left(place);
-            self.heads.truncate(len - place);
-        }
+        forget_below(&mut self.heads, lsn);
     }
 }
 

@@ -3,8 +3,9 @@ ghost use Rattle.std.specs.Prelude.{◌≡◌, ℕ, ◌+◌, ◌*◌, ◌<◌, �
 ghost use Rattle.clfs_lsn.specs.declared.entry.Head.{Head};
 ghost use Rattle.clfs_lsn.specs.declared.entry.Kind.TheVariants.{Restart};
 ghost use Rattle.clfs_model.specs.Heads.{heads_from, head_below, restarts_among};
-ghost use Rattle.clfs_restart.specs.Rising.{AreRising, IsPlaceOf, live_or_none, head_before};
+ghost use Rattle.clfs_restart.specs.Restarts.{live_or_none, head_before};
 
+use clfs_heads::{forget_below, place_of};
 use clfs_lsn::{Head, Lsn};
 use std::alloc::{AllocError, Global};
 use std::marker::Model;
@@ -23,7 +24,7 @@ impl Model for RestartAreas {
     ghost Value = { Row };
 
     ghost use Rattle.std.specs.Prelude.{◌-◌, vec_len, vec_capacity};
-    ghost use Rattle.clfs_restart.specs.Rising.{HasRestarts};
+    ghost use Rattle.clfs_restart.specs.Restarts.{HasRestarts};
 
     ghost view = { λ s. record { base = s.base; heads = s.heads.items; room = vec_capacity s.heads - vec_len s.heads } };
 
@@ -102,12 +103,7 @@ impl RestartAreas {
         ensures few { length self.new.heads ≤ 2 * length (heads_from lsn self.new.heads) }
         ensures room { self.old.room ≤ self.new.room }
     {
-        let place = place_of(&self.heads, lsn);
-        let len = self.heads.len();
-        if place >= len - place {
-            self.heads.rotate_left(place);
-            self.heads.truncate(len - place);
-        }
+        forget_below(&mut self.heads, lsn);
     }
 }
 
@@ -135,12 +131,4 @@ fn at_place(heads: &[Head], place: usize) -> Option<Head>
 {
     let head = *heads.get(place)?;
     Some(head)
-}
-
-// The place of the first head from an LSN on: a search by halves.
-fn place_of(heads: &[Head], lsn: Lsn) -> usize
-    requires { AreRising heads.now }
-    ensures { IsPlaceOf heads.now lsn result }
-{
-    heads.partition_point(|head| head.lsn < lsn)
 }

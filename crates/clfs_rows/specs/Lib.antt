@@ -7,3 +7,4 @@ pub mod Compared
 pub mod ReadAnew
 pub mod Interleaved
 pub mod Arranged
+pub mod Headed

@@ -10,6 +10,7 @@ mod bases_and_recycling;
 mod crashes;
 mod disk_and_memory;
 mod faults;
+mod heads;
 mod journals;
 mod legal_journals;
 mod lines;
@@ -37,6 +38,7 @@ pub use crashes::{
 };
 pub use disk_and_memory::{calls_that_leave_the_disk_alone, calls_that_reach_the_disk};
 pub use faults::{texts_of_faults, what_a_broken_log_answers, what_a_fault_leaves};
+pub use heads::{hold_and_extents_by_heads, live_heads_of_streams, reading_by_heads};
 pub use journals::{entries_of_a_client, sectors_that_an_area_holds};
 pub use legal_journals::{journals_that_are_legal, journals_that_are_not_legal};
 pub use lines::{

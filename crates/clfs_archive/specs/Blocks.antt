@@ -1,0 +1,35 @@
+-- The ends of blocks against the heads of records, and places among them.
+use Rattle.std.specs.Prelude.{◌≡◌, ℕ, ◌<◌, ◌≤◌, true, nat_le, List, length, filter, All, AllPairs, slice_index_or}
+use Rattle.std.specs.List.{Any}
+use Rattle.clfs_lsn.specs.declared.entry.Head.{Head}
+use Rattle.clfs_model.specs.Archive.{is_in_block}
+use Rattle.clfs_model.specs.Heads.{block_end}
+use Rattle.clfs_archive.specs.declared.block.BlockEnd.{BlockEnd}
+
+-- each block's last record lies below those of the blocks behind it
+abbrev pub AreRising : List BlockEnd → Type 0
+AreRising blocks = AllPairs (λ (a b : BlockEnd). a.last < b.last) blocks
+
+-- the place of the first block whose last record lies at or above an LSN
+pub record IsPlaceOf (blocks : List BlockEnd) (lsn place : ℕ) : Type 0 where
+  pub within : place ≤ length blocks
+  pub below : (k : ℕ) (d : BlockEnd) → k < place → (slice_index_or blocks k d).last < lsn
+  pub above : (k : ℕ) (d : BlockEnd) → place ≤ k → k < length blocks → lsn ≤ (slice_index_or blocks k d).last
+
+-- the blocks whose last record lies at or above an LSN
+abbrev pub blocks_from : ℕ → List BlockEnd → List BlockEnd
+blocks_from lsn blocks = filter (λ (block : BlockEnd). nat_le lsn block.last) blocks
+
+-- the end of a block of these records: its last one is there, no other of the block lies above it, and the block ends behind all of them
+pub record IsBlock (heads : List Head) (block : BlockEnd) : Type 0 where
+  pub last : Any (λ (head : Head). head.lsn ≡ block.last) heads
+  pub others : All (λ (head : Head). is_in_block head.lsn block.last ≡ true → head.lsn ≤ block.last) heads
+  pub behind : block.end ≡ block_end heads block.last
+
+-- The ends of the blocks of these records, sorted: each record that lies from one LSN on and is on the disk stands in one of them, and
+-- no block is on the disk in part.
+pub record AreBlocks (from stable : ℕ) (blocks : List BlockEnd) (heads : List Head) : Type 0 where
+  pub rising : AllPairs (λ (a b : Head). a.lsn < b.lsn) heads
+  pub each : All (IsBlock heads) blocks
+  pub told : All (λ (head : Head). from ≤ head.lsn → head.lsn < stable
+      → Any (λ (block : BlockEnd). (is_in_block head.lsn block.last ≡ true) × (block.last < stable)) blocks) heads

@@ -1,0 +1,25 @@
+//! Archiving: whether it is on, its tail, and the extents that are to be archived.
+//!
+//! An archive tail holds the log back until what lies below it has been copied elsewhere. What is still to be copied are the blocks
+//! on the disk that have a record at or above the tail, in each container from the first one's offset to the end of the last one. The
+//! definitions go through all records for that. Here the end of each sealed block is kept: the LSN of its last record, and the
+//! offset behind it. Both rise with the blocks, so the ends of a container's blocks stand together in one sorted row, and its
+//! extent is two searches by halves. A tail inside a block counts it from its start, since the block's last record lies at or above
+//! the tail.
+//!
+//! Blocks that are sealed wait until they are written, and are told here before that: the caller says up to where the log is on the
+//! disk when it asks for extents. What lies below the hold is never asked for again, whatever archiving is set to, so block ends go
+//! when the caller says so, in whole pieces: not before they are at least half of the row.
+//!
+//! No call but `reserve` and `extents` takes memory. So an append can take all of its memory before it changes anything, and neither
+//! setting the tail nor a flush fails for want of it.
+#![tactic(auto)]
+
+mod archive;
+mod block;
+
+pub use archive::Archive;
+pub use block::BlockEnd;
+
+#[cfg(test)]
+mod tests;
