@@ -1,0 +1,4 @@
+pub mod Records
+pub mod Walk
+pub mod Files
+pub mod Vector
