@@ -1,5 +1,12 @@
 -- What a decoder answers, against what the bytes spell.
-use Rattle.std.specs.Prelude.{◌≡◌, ℕ, Result, Ok, Err}
+use Rattle.std.specs.Prelude.{◌≡◌, ℕ, List, Result, Ok, Err}
+use Rattle.clfs_lsn.specs.Head.{head_of}
+use Rattle.clfs_lsn.specs.Size.{size}
+use Rattle.clfs_lsn.specs.Spelling.{header_of, entry_of, record_at}
+use Rattle.clfs_lsn.specs.declared.entry.Head.{Head}
+use Rattle.clfs_lsn.specs.declared.entry.LogEntry.{LogEntry}
+use Rattle.clfs_record.specs.declared.refusal.HeadRefusal.{HeadRefusal}
+use Rattle.clfs_record.specs.declared.refusal.HeadRefusal.TheVariants as heads
 use Rattle.clfs_record.specs.declared.refusal.RecordRefusal.{RecordRefusal}
 use Rattle.clfs_record.specs.declared.refusal.RecordRefusal.TheVariants as refusals
 
@@ -12,3 +19,29 @@ RefusesAt (refusals.BadByte at) read = read ≡ Err at
 abbrev pub Gives : {Y : Type 0} → Result Y RecordRefusal → Result Y ℕ → Type 0
 Gives (Ok value) read = read ≡ Ok value
 Gives (Err refusal) read = RefusesAt refusal read
+
+-- The refusal of a head as one of a record.
+abbrev pub as_record : HeadRefusal → RecordRefusal
+as_record (heads.BadByte at) = refusals.BadByte at
+
+-- What reading a record's head answers, by what reading the record does: its head and the bytes that spell it, or the same first wrong byte.
+abbrev pub head_read : Result (LogEntry × ℕ) ℕ → Result (Head × ℕ) HeadRefusal
+head_read (Ok (entry, size)) = Ok (head_of entry, size)
+head_read (Err at) = Err (heads.BadByte at)
+
+-- The record at the front of bytes is right and has so many bytes of data, or this is its first wrong byte.
+abbrev pub IsChecked : ℕ → ℕ → List ℕ → Result ℕ HeadRefusal → Type 0
+IsChecked lsn streams bytes (Ok len) = (len ≡ (header_of bytes).len) × (record_at lsn streams bytes ≡ Ok (entry_of lsn bytes, size len))
+IsChecked lsn streams bytes (Err (heads.BadByte at)) = record_at lsn streams bytes ≡ Err at
+
+-- The record with this head and these data.
+abbrev pub entry_with : Head → List ℕ → LogEntry
+entry_with head bytes = record {
+  lsn = head.lsn;
+  stream = head.stream;
+  kind = head.kind;
+  previous = head.previous;
+  undo_next = head.undo_next;
+  new_base = head.new_base;
+  bytes = bytes;
+}
