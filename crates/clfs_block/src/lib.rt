@@ -16,7 +16,10 @@ mod laws;
 pub use builder::BlockBuilder;
 pub use decoder::{check_frame, check_rest, decode_block, fill_payload};
 pub use head::{BlockHead, BlockRefusal};
-pub use laws::{blocks_have_one_spelling, blocks_say_their_sectors};
+pub use laws::{
+    blocks_are_judged_by_their_own_bytes, blocks_are_read_as_written, blocks_have_one_spelling,
+    blocks_say_their_sectors,
+};
 
 // The sizes of the format, as numbers of bytes in memory.
 const SECTOR: usize = clfs_lsn::SECTOR as usize;

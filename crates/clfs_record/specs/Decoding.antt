@@ -1,8 +1,9 @@
 -- What a decoder answers, against what the bytes spell.
-use Rattle.std.specs.Prelude.{◌≡◌, ℕ, List, Result, Ok, Err}
+use Rattle.std.specs.Prelude.{◌≡◌, ℕ, ◌+◌, ◌≤◌, List, length, take, drop, Result, Ok, Err}
+use Rattle.clfs_lsn.specs.Format.{record_header}
 use Rattle.clfs_lsn.specs.Head.{head_of}
 use Rattle.clfs_lsn.specs.Size.{size}
-use Rattle.clfs_lsn.specs.Spelling.{header_of, entry_of, record_at}
+use Rattle.clfs_lsn.specs.Spelling.{FitsAt, header_of, entry_of, record_at}
 use Rattle.clfs_lsn.specs.declared.entry.Head.{Head}
 use Rattle.clfs_lsn.specs.declared.entry.LogEntry.{LogEntry}
 use Rattle.clfs_record.specs.declared.refusal.HeadRefusal.{HeadRefusal}
@@ -45,3 +46,12 @@ entry_with head bytes = record {
   new_base = head.new_base;
   bytes = bytes;
 }
+
+-- The bytes spell the record with this head, whose data stand behind its header, in so many bytes.
+pub record IsHeadIn (lsn streams : ℕ) (bytes : List ℕ) (head : Head) (count : ℕ) : Type 0 where
+  pub entry : LogEntry
+  pub is : entry ≡ entry_with head (take head.len (drop record_header bytes))
+  pub there : record_at lsn streams bytes ≡ Ok (entry, count)
+  pub data_end : record_header + head.len ≤ length bytes
+  pub end : count ≤ length bytes
+  pub fits : FitsAt lsn streams entry

@@ -8,7 +8,7 @@ ghost use Rattle.clfs_lsn.specs.Spelling.{FitsAt, record_bytes, record_at, heade
 ghost use Rattle.clfs_lsn.specs.declared.entry.Kind.TheVariants.{Plain, Restart};
 ghost use Rattle.clfs_lsn.specs.declared.entry.LogEntry.{LogEntry};
 ghost use Rattle.clfs_lsn.specs.Head.{head_of};
-ghost use Rattle.clfs_record.specs.Decoding.{Gives, head_read, entry_with, IsChecked};
+ghost use Rattle.clfs_record.specs.Decoding.{Gives, head_read, IsHeadIn, IsChecked};
 ghost use Rattle.clfs_record.specs.declared.refusal.HeadRefusal.TheVariants.{BadByte};
 
 use crate::refusal::{HeadRefusal, RecordRefusal};
@@ -66,9 +66,8 @@ pub fn decode_head(
     // It refuses a byte exactly where `decode` does.
     ensures refused { (at : ℕ) → (result ≡ Err (BadByte at)) ↔ (record_at lsn streams bytes.now ≡ Err at) }
 
-    // The record's data stand behind its header.
-    ensures data { IfOk result (λ x. (record_header + x.0.len ≤ length bytes.now)
-        × (record_at lsn streams bytes.now ≡ Ok (entry_with x.0 (take x.0.len (drop record_header bytes.now)), x.1))) }
+    // What is read is the head of a record that the log can have there, whose data stand behind its header.
+    ensures found { IfOk result (λ x. IsHeadIn lsn streams bytes.now x.0 x.1) }
 {
     head_from(bytes, lsn.number(), stream, streams)
 }
@@ -83,8 +82,7 @@ fn head_from(
     requires length { length bytes.now < 2 ^ 32 }
     requires stream { record_header ≤ length bytes.now → stream ≡ (header_of bytes.now).stream }
     ensures exact { result ≡ head_read (record_at lsn streams bytes.now) }
-    ensures data { IfOk result (λ x. (record_header + x.0.len ≤ length bytes.now)
-        × (record_at lsn streams bytes.now ≡ Ok (entry_with x.0 (take x.0.len (drop record_header bytes.now)), x.1))) }
+    ensures found { IfOk result (λ x. IsHeadIn lsn streams bytes.now x.0 x.1) }
 {
     let len = checked_len(bytes, lsn, stream, streams)?;
     Ok((
