@@ -55,3 +55,7 @@ pub record IsHeadIn (lsn streams : ℕ) (bytes : List ℕ) (head : Head) (count 
   pub data_end : record_header + head.len ≤ length bytes
   pub end : count ≤ length bytes
   pub fits : FitsAt lsn streams entry
+
+-- The place of a refusal, if it has one, is no further than the bytes go.
+abbrev pub IsNear : List ℕ → HeadRefusal → Type 0
+IsNear bytes (heads.BadByte at) = at ≤ length bytes

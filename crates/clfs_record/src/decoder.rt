@@ -1,6 +1,6 @@
 // Reading a record from the front of bytes. The checks go from the first byte on, and the data are copied once, when all
 // else is right.
-ghost use Rattle.std.specs.Prelude.{◌≡◌, ◌+◌, ◌-◌, ◌*◌, ◌/◌, ◌^◌, ◌<◌, ◌≤◌, ◌++◌, ◌==◌, ◌||◌, ◌↔◌, not, nat_lt, if◌then◌else◌, ℕ, List, length, take, drop, position, IfOk, Ok, Err};
+ghost use Rattle.std.specs.Prelude.{◌≡◌, ◌+◌, ◌-◌, ◌*◌, ◌/◌, ◌^◌, ◌<◌, ◌≤◌, ◌++◌, ◌==◌, ◌||◌, ◌↔◌, not, nat_lt, if◌then◌else◌, ℕ, List, length, take, drop, position, IfOk, IfErr, IfSome, Ok, Err};
 ghost use Rattle.byteorder.specs.Endian.{little_number};
 ghost use Rattle.clfs_lsn.specs.Format.{record_header};
 ghost use Rattle.clfs_lsn.specs.Size.{size};
@@ -8,7 +8,7 @@ ghost use Rattle.clfs_lsn.specs.Spelling.{FitsAt, record_bytes, record_at, heade
 ghost use Rattle.clfs_lsn.specs.declared.entry.Kind.TheVariants.{Plain, Restart};
 ghost use Rattle.clfs_lsn.specs.declared.entry.LogEntry.{LogEntry};
 ghost use Rattle.clfs_lsn.specs.Head.{head_of};
-ghost use Rattle.clfs_record.specs.Decoding.{Gives, head_read, IsHeadIn, IsChecked};
+ghost use Rattle.clfs_record.specs.Decoding.{Gives, head_read, IsHeadIn, IsChecked, IsNear};
 ghost use Rattle.clfs_record.specs.declared.refusal.HeadRefusal.TheVariants.{BadByte};
 
 use crate::refusal::{HeadRefusal, RecordRefusal};
@@ -68,6 +68,7 @@ pub fn decode_head(
 
     // What is read is the head of a record that the log can have there, whose data stand behind its header.
     ensures found { IfOk result (λ x. IsHeadIn lsn streams bytes.now x.0 x.1) }
+    ensures near { IfErr result (λ refusal. IsNear bytes.now refusal) }
 {
     head_from(bytes, lsn.number(), stream, streams)
 }
@@ -83,6 +84,7 @@ fn head_from(
     requires stream { record_header ≤ length bytes.now → stream ≡ (header_of bytes.now).stream }
     ensures exact { result ≡ head_read (record_at lsn streams bytes.now) }
     ensures found { IfOk result (λ x. IsHeadIn lsn streams bytes.now x.0 x.1) }
+    ensures near { IfErr result (λ refusal. IsNear bytes.now refusal) }
 {
     let len = checked_len(bytes, lsn, stream, streams)?;
     Ok((
@@ -115,6 +117,7 @@ fn checked_len(bytes: &[u8], lsn: u64, stream: u16, streams: u16) -> Result<u32,
     requires stream { record_header ≤ length bytes.now → stream ≡ (header_of bytes.now).stream }
     ensures exact { IsChecked lsn streams bytes.now result }
     ensures whole { IfOk result (λ len. size len ≤ length bytes.now) }
+    ensures near { IfErr result (λ refusal. IsNear bytes.now refusal) }
 {
     if bytes.len() < HEADER {
         return Err(HeadRefusal::BadByte { at: 0 });
@@ -137,7 +140,8 @@ fn checked_len(bytes: &[u8], lsn: u64, stream: u16, streams: u16) -> Result<u32,
 fn wrong_header(bytes: &[u8], lsn: u64, stream: u16, streams: u16) -> Option<u32>
     requires long { record_header ≤ length bytes.now }
     requires stream { stream ≡ (header_of bytes.now).stream }
-    ensures { result ≡ header_fault lsn streams (header_of bytes.now) }
+    ensures exact { result ≡ header_fault lsn streams (header_of bytes.now) }
+    ensures near { IfSome result (λ at. at ≤ 24) }
 {
     let previous = LittleEndian::read_u64(&bytes[8..]);
     let undo_next = LittleEndian::read_u64(&bytes[16..]);
@@ -184,7 +188,8 @@ fn has_wrong_base(kind: u8, lsn: u64, base: u64) -> bool
 fn wrong_filling(bytes: &[u8], len: u32) -> Option<u32>
     requires whole { size len ≤ length bytes.now }
     requires length { length bytes.now < 2 ^ 32 }
-    ensures { result ≡ filling_fault len bytes.now }
+    ensures exact { result ≡ filling_fault len bytes.now }
+    ensures near { IfSome result (λ at. at ≤ length bytes.now) }
 {
     let end = HEADER + len as usize;
     let zeros = &bytes[end..size_of_record(len) as usize];
@@ -194,7 +199,8 @@ fn wrong_filling(bytes: &[u8], len: u32) -> Option<u32>
 
 // The place of the first byte that isn't 0.
 fn first_nonzero(bytes: &[u8]) -> Option<usize>
-    ensures { result ≡ position (λ b. not (b == 0)) bytes.now }
+    ensures exact { result ≡ position (λ b. not (b == 0)) bytes.now }
+    ensures near { IfSome result (λ at. at < length bytes.now) }
 {
     bytes.iter().position(|b| *b != 0)
 }

@@ -1,9 +1,10 @@
 // What opening a log gives: the newest base copy, the records or their heads, the bases of the streams, and the place.
-ghost use Rattle.std.specs.Prelude.{◌≡◌, []};
+ghost use Rattle.std.specs.Prelude.{◌≡◌, [], map};
 
+use crate::gatherer::Gatherer;
 use clfs_base::BaseImage;
-use clfs_lsn::{Head, LogEntry, Lsn, Place};
-use std::alloc::Global;
+use clfs_lsn::{Bytes, Head, LogEntry, Lsn, Place};
+use std::alloc::{AllocError, Global};
 use std::marker::Model;
 
 /// Records in the order of their LSNs.
@@ -47,6 +48,24 @@ impl Entries {
     }
 }
 
+impl Gatherer for Entries {
+    ghost has = { λ a entries. a ≡ entries };
+
+    fn gather(&mut self, alloc: Global, head: &Head, bytes: &[u8]) -> Result<(), AllocError> {
+        let entry = LogEntry {
+            lsn: head.lsn,
+            stream: head.stream,
+            kind: head.kind,
+            previous: head.previous,
+            undo_next: head.undo_next,
+            new_base: head.new_base,
+            bytes: Bytes::from_vec(Vec::from_slice(alloc, bytes)?),
+        };
+        self.entries.push(entry)?;
+        Ok(())
+    }
+}
+
 /// Heads of records in the order of their LSNs.
 #[derive(Debug, Drop)]
 pub struct Heads {
@@ -85,6 +104,17 @@ impl Heads {
     {
         let Heads { heads } = self;
         heads
+    }
+}
+
+impl Gatherer for Heads {
+    ghost use Rattle.clfs_lsn.specs.Head.{head_of};
+
+    ghost has = { λ a entries. a ≡ map head_of entries };
+
+    fn gather(&mut self, _alloc: Global, head: &Head, _bytes: &[u8]) -> Result<(), AllocError> {
+        self.heads.push(*head)?;
+        Ok(())
     }
 }
 

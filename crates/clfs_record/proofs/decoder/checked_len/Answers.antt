@@ -15,7 +15,7 @@ returns-clause-exact c =
     let len_is : c.read_u32-len.result ≡ (header_of bytes).len = c.read_u32-len.ensures in (
       len_is,
       record_read c.args.lsn c.args.streams bytes c.if-bytes-lt-HEADER.false (omega (arith, c.if-bytes-size.false, c.size_of_record-size.ensures, ap size len_is))
-          (sym c.wrong_header.ensures ∙ c.in_default.is)
-          (sym (c.wrong_filling.ensures ∙ ap (λ (n : ℕ). filling_fault n bytes) len_is) ∙ c.in_default-wrong_filling.is)
+          (sym c.wrong_header.ensures.exact ∙ c.in_default.is)
+          (sym (c.wrong_filling.ensures.exact ∙ ap (λ (n : ℕ). filling_fault n bytes) len_is) ∙ c.in_default-wrong_filling.is)
           ∙ ap (λ (n : ℕ). answered (entry_of c.args.lsn bytes) (size n)) (sym len_is),
     )
