@@ -17,7 +17,7 @@ pub use builder::BlockBuilder;
 pub use decoder::{check_frame, check_rest, decode_block, fill_payload};
 pub use head::{BlockHead, BlockRefusal};
 pub use laws::{
-    blocks_are_judged_by_their_own_bytes, blocks_are_read_as_written, blocks_have_one_spelling,
+    blocks_are_judged_alone, blocks_are_read_as_written, blocks_have_one_spelling,
     blocks_say_their_sectors,
 };
 

@@ -1,2 +1,4 @@
 pub mod Raising
 pub mod Steps
+pub mod Blocks
+pub mod Containers

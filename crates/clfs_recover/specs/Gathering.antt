@@ -1,7 +1,10 @@
 -- What a gatherer has taken in, as the parts of the walk leave it.
-use Rattle.std.specs.Prelude.{◌≡◌, ℕ, ◌≤◌, List, [], ◌∷◌, ◌++◌, length, Result, Ok, Err}
+use Rattle.std.specs.Prelude.{◌≡◌, ℕ, ◌≤◌, List, [], ◌∷◌, ◌++◌, length, Option, Some, None, Result, Ok, Err}
 use Rattle.clfs_lsn.specs.declared.entry.LogEntry.{LogEntry}
 use Rattle.clfs_base.specs.declared.image.Row.{Row}
+use Rattle.clfs_block.specs.declared.head.BlockHead.{BlockHead}
+use Rattle.clfs_block.specs.declared.head.BlockRefusal.{BlockRefusal}
+use Rattle.clfs_block.specs.declared.head.BlockRefusal.TheVariants as blocks
 use Rattle.clfs_record.specs.declared.refusal.RecordRefusal.{RecordRefusal}
 use Rattle.clfs_record.specs.declared.refusal.RecordRefusal.TheVariants as records
 use Rattle.clfs_recover.specs.Walk.{bases_with}
@@ -36,3 +39,23 @@ GathersOne has rows bases before (Err (records.BadByte at)) read = read ≡ Err 
 abbrev pub IsNear : List ℕ → RecordRefusal → Type 0
 IsNear bytes records.NoMemory = Unit {0}
 IsNear bytes (records.BadByte at) = at ≤ length bytes
+
+-- A head is the one that the checks of a block's frame give. At a closed gate there is none, and a wrong byte is told at the block's place.
+abbrev pub GivesFrame : ℕ → ℕ → Result (Option BlockHead) LoadRefusal → Result BlockHead BlockRefusal → Type 0
+GivesFrame container offset (Ok (Some head)) read = read ≡ Ok head
+GivesFrame container offset (Ok None) read = read ≡ Err blocks.Closed
+GivesFrame container offset (Err NoBase) read = ⊥
+GivesFrame container offset (Err (Damaged c o at)) read = (c ≡ container) × (o ≡ offset) × (read ≡ Err (blocks.BadByte at))
+GivesFrame container offset (Err DiskFault) read = Unit {0}
+GivesFrame container offset (Err NoMemory) read = Unit {0}
+
+-- A block's records are taken in, or its first wrong byte is told. At a closed gate nothing is.
+abbrev pub GathersBlock : (List LogEntry → Type 0) → List Row → List ℕ → List LogEntry → ℕ → ℕ → Result (Option ℕ) LoadRefusal
+    → Result (List LogEntry) BlockRefusal → Type 0
+GathersBlock has rows bases before container offset (Ok (Some sectors)) read =
+    (entries : List LogEntry) × (read ≡ Ok entries) × HasTaken has rows bases (before ++ entries)
+GathersBlock has rows bases before container offset (Ok None) read = (read ≡ Err blocks.Closed) × HasTaken has rows bases before
+GathersBlock has rows bases before container offset (Err NoBase) read = ⊥
+GathersBlock has rows bases before container offset (Err (Damaged c o at)) read = (c ≡ container) × (o ≡ offset) × (read ≡ Err (blocks.BadByte at))
+GathersBlock has rows bases before container offset (Err DiskFault) read = Unit {0}
+GathersBlock has rows bases before container offset (Err NoMemory) read = Unit {0}

@@ -4,3 +4,4 @@ pub mod Files
 pub mod Vector
 pub mod Gathering
 pub mod Bases
+pub mod Fronts

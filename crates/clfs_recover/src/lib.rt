@@ -1,6 +1,7 @@
 //! Opening a log: what files stand for, and the one walk that finds it.
 #![tactic(auto)]
 
+mod block;
 mod gatherer;
 mod parts;
 mod records;

@@ -1,5 +1,5 @@
 use Rattle.clfs_block.proofs.Fronts.{frame_same, payload_same, rest_same}
-use Rattle.clfs_block.proofs.laws.blocks_are_judged_by_their_own_bytes.Goals as goal
+use Rattle.clfs_block.proofs.laws.blocks_are_judged_alone.Goals as goal
 
 pub returns : goal.returns
 returns c = record {
