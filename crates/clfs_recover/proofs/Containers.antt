@@ -18,10 +18,10 @@ use Rattle.clfs_block.specs.declared.head.BlockRefusal.{BlockRefusal}
 use Rattle.clfs_block.specs.declared.head.BlockRefusal.TheVariants as blocks
 use Rattle.clfs_recover.specs.Records.{◌>>=◌, told_as, records_from, block_records}
 use Rattle.clfs_recover.specs.Walk.{damage_at, end_at, blocks_end, blocks_records}
-use Rattle.clfs_recover.specs.Gathering.{HasTaken}
+use Rattle.clfs_recover.specs.Gathering.{HasTaken, GathersBlock, GathersContainer, RefusesAs}
 use Rattle.clfs_recover.specs.Fronts.{IsFrontOf}
 use Rattle.clfs_recover.specs.declared.refusal.LoadRefusal.{LoadRefusal}
-use Rattle.clfs_recover.specs.declared.refusal.LoadRefusal.TheVariants.{Damaged}
+use Rattle.clfs_recover.specs.declared.refusal.LoadRefusal.TheVariants.{NoBase, Damaged, DiskFault, NoMemory}
 use Rattle.clfs_recover.proofs.Steps.{behind, behind-append, behind-nil}
 use Rattle.clfs_recover.proofs.Blocks.{block_refused, rest_has_no_gate}
 
@@ -137,6 +137,9 @@ left_here shape id offset whole small =
 
 abbrev read : List LogEntry → Records
 read entries = Ok entries
+
+abbrev damage : ℕ → ℕ → ℕ → Records
+damage container offset at = Err (Damaged container offset at)
 
 one_refusal : (a b : BlockRefusal) → no_records a ≡ no_records b → a ≡ b
 one_refusal a b e = cc e
@@ -332,6 +335,28 @@ module _ (shape : Shape) (streams id : ℕ) (bytes : List ℕ) (open_blocks : Li
                 taken = subst (λ (l : List LogEntry). HasTaken now rows moved l) (append_assoc before at.entries es) taken;
               }
 
+      -- the same by the answer of the part that takes in a block
+      pub went_on : (sectors : ℕ) (now : List LogEntry → Type 0) (moved : List ℕ)
+          → GathersBlock now rows moved (before ++ at.entries) id offset (Ok (Some sectors)) (block_records shape streams start front)
+          → (head : BlockHead) → frame_at shape start front ≡ Ok head → head.sectors ≡ sectors
+          → IsReached now rows moved before (offset + 512 * sectors)
+      went_on sectors now moved gathers head framed_is same = subst (λ (k : ℕ). IsReached now rows moved before (offset + 512 * k)) same
+          (stepped head gathers.0 now moved framed_is gathers.1 gathers.2)
+
+      pub was_closed : (now : List LogEntry → Type 0) (moved : List ℕ)
+          → GathersBlock now rows moved (before ++ at.entries) id offset (Ok None) (block_records shape streams start front)
+          → GathersContainer now rows moved before (Ok offset) (from_here 0 open_blocks) (total open_blocks)
+      was_closed now moved gathers = let end = closed gathers.0 in (sym end.1, (at.entries, end.0, gathers.1))
+
+      pub was_refused : (now : List LogEntry → Type 0) (moved : List ℕ) (refusal : LoadRefusal)
+          → GathersBlock now rows moved (before ++ at.entries) id offset (Err refusal) (block_records shape streams start front)
+          → RefusesAs refusal (from_here 0 open_blocks)
+      was_refused now moved NoBase gathers = absurd gathers
+      was_refused now moved (Damaged c o wrong) gathers = damaged wrong gathers.2
+          ∙ (λ i. damage (sym gathers.0 i) (sym gathers.1 i) wrong)
+      was_refused now moved DiskFault gathers = tt
+      was_refused now moved NoMemory gathers = tt
+
   -- where no sector is left, all blocks were met
   pub done : (offset : ℕ) → 512 * shape.container_sectors ≤ offset → (has : List LogEntry → Type 0) (rows : List Row) (bases : List ℕ)
       (before : List LogEntry) (at : IsReached has rows bases before offset) → (from_here 0 open_blocks ≡ Ok at.entries) × (total open_blocks ≡ offset)
@@ -348,3 +373,17 @@ module _ (shape : Shape) (streams id : ℕ) (bytes : List ℕ) (open_blocks : Li
       by_rest (block ∷ others) e =
           let opens = subst (λ (l : List (List ℕ)). Opens (shape.container_sectors - offset / 512) (drop offset bytes) l at.left) e at.opens in
           absurd (omega (arith, far, opens.0.some, opens.0.fits))
+
+  pub was_done : (offset : ℕ) → 512 * shape.container_sectors ≤ offset → (has : List LogEntry → Type 0) (rows : List Row) (bases : List ℕ)
+      (before : List LogEntry) → IsReached has rows bases before offset
+      → GathersContainer has rows bases before (Ok offset) (from_here 0 open_blocks) (total open_blocks)
+  was_done offset far has rows bases before at = let end = done offset far has rows bases before at in (sym end.1, (at.entries, end.0, at.taken))
+
+-- a block whose frame is right ends within its container
+pub block_end : AreReadAsWritten → (shape : Shape) (id offset : ℕ) (bytes : List ℕ) (head : BlockHead) → IsShape shape → offset % 512 ≡ 0
+    → offset < 512 * shape.container_sectors → frame_at shape (lsn_number id offset 0) bytes ≡ Ok head
+    → (1 ≤ head.sectors) × (offset + 512 * head.sectors ≤ 512 * shape.container_sectors)
+block_end written shape id offset bytes head good whole near is =
+    let frame = written.holds shape (lsn_number id offset 0) bytes head is in
+    let left = left_here shape id offset whole (omega (arith, near, good.largest_container)) in
+    (frame.some, omega (arith, frame.left, left, whole, near))

@@ -1,6 +1,6 @@
 // One block: the checks of its frame, its records, and the zeros behind them, in this order, so that the first byte that is told is the first
 // that is wrong. The payload stands in sectors with addresses between, so it is put together in memory that serves all blocks.
-ghost use Rattle.std.specs.Prelude.{◌≡◌, ◌^◌, ◌<◌, ℕ, List, Ok, Some, IfOk, IfSome, vec_len};
+ghost use Rattle.std.specs.Prelude.{◌≡◌, ◌^◌, ◌<◌, ℕ, List, Ok, Some, IfOk, IfSome, IsErrOf, vec_len};
 ghost use Rattle.clfs_lsn.specs.Lsn.{lsn_number};
 ghost use Rattle.clfs_lsn.specs.Size.{IsShape};
 ghost use Rattle.clfs_lsn.specs.declared.entry.LogEntry.{LogEntry};
@@ -21,7 +21,8 @@ use std::alloc::Global;
 
 // The refusal of a block at its place.
 fn refused(place: &BlockPlace, refusal: BlockRefusal) -> LoadRefusal
-    ensures { result ≡ damage_at place.now.container place.now.offset refusal }
+    ensures exact { result ≡ damage_at place.now.container place.now.offset refusal }
+    ensures no_fault { result ≡ LoadRefusal.DiskFault → ⊥ }
 {
     match refusal {
         BlockRefusal::Closed => place.damaged(0),
@@ -41,6 +42,7 @@ fn open_frame(
         (frame_at shape.now (lsn_number place.now.container place.now.offset 0) bytes.now) }
     ensures framed { IfOk result (λ found. IfSome found
         (λ head. IsFramed shape.now (lsn_number place.now.container place.now.offset 0) bytes.now head (payload_of head.used bytes.now))) }
+    ensures no_fault { IsErrOf result LoadRefusal.DiskFault → ⊥ }
 {
     match check_frame(shape, place.lsn(0), bytes) {
         Ok(head) => Ok(Some(head)),
@@ -69,6 +71,7 @@ pub(crate) fn gather_block<G: Gatherer>(
     ensures framed { (sectors : ℕ) → result ≡ Ok (Some sectors) → (head : BlockHead)
         × (frame_at shape.now (lsn_number place.now.container place.now.offset 0) bytes.now ≡ Ok head) × (head.sectors ≡ sectors) }
     ensures streams { vec_len bases.new ≡ vec_len bases.old }
+    ensures no_fault { IsErrOf result LoadRefusal.DiskFault → ⊥ }
 {
     let Some(head) = open_frame(shape, place, bytes)? else {
         return Ok(None);

@@ -2,8 +2,10 @@
 #![tactic(auto)]
 
 mod block;
+mod container;
 mod gatherer;
 mod parts;
+mod piece;
 mod records;
 mod refusal;
 mod rows;

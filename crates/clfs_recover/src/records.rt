@@ -1,6 +1,6 @@
 // The records of one block's payload, each handed on once all of it but its data was judged, and the bases of the streams, which restart
 // areas raise.
-ghost use Rattle.std.specs.Prelude.{◌≡◌, ◌+◌, ◌-◌, ◌*◌, ◌/◌, ◌%◌, ◌^◌, ◌<◌, ◌≤◌, max, ℕ, List, [], ◌∷◌, ◌++◌, length, slice_index, vec_len, IfOk, IfErr, Ok, Err};
+ghost use Rattle.std.specs.Prelude.{◌≡◌, ◌+◌, ◌-◌, ◌*◌, ◌/◌, ◌%◌, ◌^◌, ◌<◌, ◌≤◌, max, ℕ, List, [], ◌∷◌, ◌++◌, length, slice_index, vec_len, IfOk, IfErr, IsErrOf, Ok, Err};
 ghost use Rattle.clfs_lsn.specs.Format.{sector_payload, block_header, record_header};
 ghost use Rattle.clfs_lsn.specs.Limits.{most_block_records};
 ghost use Rattle.clfs_lsn.specs.Lsn.{lsn_number};
@@ -122,6 +122,7 @@ pub(crate) fn gather_records<G: Gatherer>(
         (told_as (λ at. Damaged place.now.container place.now.offset at)
         (records_from (vec_len bases.old) payload.now count (lsn_number place.now.container place.now.offset 0) block_header)) }
     ensures streams { vec_len bases.new ≡ vec_len bases.old }
+    ensures no_fault { IsErrOf result LoadRefusal.DiskFault → ⊥ }
 {
     let mut at = BLOCK_HEADER as usize;
     if payload.len() < at {

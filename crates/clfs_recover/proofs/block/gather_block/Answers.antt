@@ -46,7 +46,7 @@ returns-in-Err-clause-exact g c rows before taken =
     let read = c.in_ok-gather_records.ensures.exact rows before taken in
     let right = subst (λ (l : List ℕ). records_from streams l head.records start 16 ≡ Ok read.0) filled
     (told_records c.args.place.now.container c.args.place.now.offset read.0 (records_from streams c.as_slice.result.now head.records start 16) read.1) in
-    rw c.refused.ensures (rest_refusal (g.G.Gatherer.has c.gather_records.new.gatherer) rows c.gather_records.new.bases.items before
+    rw c.refused.ensures.exact (rest_refusal (g.G.Gatherer.has c.gather_records.new.gatherer) rows c.gather_records.new.bases.items before
     c.args.place.now.container c.args.place.now.offset c.args.shape.now streams start c.args.bytes.now head
     (rw c.in-Some.is at c.in_ok-head.ensures.exact) read.0 c.in-Err.refusal right (sym c.check_rest.ensures ∙ c.in-Err.is))
 
