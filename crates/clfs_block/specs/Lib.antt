@@ -1,3 +1,4 @@
 pub mod Frame
 pub mod Checks
 pub mod Building
+pub mod Judging

@@ -2,6 +2,7 @@
 ghost use Rattle.std.specs.Prelude.{◌≡◌, ◌+◌, ◌*◌, ◌^◌, ◌<◌, ℕ, List, slice_index};
 ghost use Rattle.clfs_lsn.specs.Size.{sectors};
 ghost use Rattle.clfs_block.specs.Frame.{AreBytes, used_bytes, SpellsBlock};
+ghost use Rattle.clfs_block.specs.Judging.{AreJudgedAlone, AreReadAsWritten};
 
 /// A block says in its bytes which gate it has and how many sectors, so a reader of the bytes alone knows where it ends.
 pub fn blocks_say_their_sectors()
@@ -16,4 +17,14 @@ pub fn blocks_say_their_sectors()
 pub fn blocks_have_one_spelling()
     ensures { (start gate records : ℕ) (content block other : List ℕ) → AreBytes block → AreBytes other
         → SpellsBlock start gate records content block → SpellsBlock start gate records content other → block ≡ other }
+{}
+
+/// By which bytes a block is judged: one fact for each part of its checks.
+pub fn blocks_are_judged_alone()
+    ensures { AreJudgedAlone }
+{}
+
+/// What was written is read, and what is read was written so: one fact for each part of the checks.
+pub fn blocks_are_read_as_written()
+    ensures { AreReadAsWritten }
 {}

@@ -1,0 +1,6 @@
+pub mod Raising
+pub mod Steps
+pub mod Blocks
+pub mod Containers
+pub mod Pieces
+pub mod Disks

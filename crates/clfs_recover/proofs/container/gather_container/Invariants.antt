@@ -1,0 +1,33 @@
+use Rattle.std.proofs.Common.{◌≡◌, ℕ, ◌+◌, ◌-◌, ◌*◌, ◌%◌, ◌≤◌, List, vec_len}
+use Rattle.clfs_lsn.specs.declared.entry.LogEntry.{LogEntry}
+use Rattle.clfs_base.specs.declared.image.Row.{Row}
+use Rattle.clfs_disk.specs.Files.{Unchanged}
+use Rattle.clfs_disk.specs.State.{TellsContents, IsSteady, Passes}
+use Rattle.clfs_container.specs.OpenBlocks.{AreOpen}
+use Rattle.clfs_recover.specs.Fronts.{Shows}
+use Rattle.clfs_recover.specs.Gathering.{HasTaken}
+use Rattle.clfs_recover.proofs.Containers.{IsReached}
+use Rattle.clfs_recover.proofs.container.gather_container.Given as goal
+
+abbrev pub invariant-loop-offset : goal.invariant-loop-offset
+invariant-loop-offset g l =
+    let first = g.D.Disk.state l.fn.disk in
+    let now = g.D.Disk.state l.disk in
+    record {
+      whole : l.offset % 512 ≡ 0;
+      within : l.offset ≤ 512 * l.shape.container_sectors;
+      same_room : l.piece.room ≡ l.fn.piece.room;
+      same_streams : vec_len l.bases ≡ vec_len l.fn.bases;
+      same : Unchanged first.files now.files;
+      time : Passes Unchanged first now;
+      steady : IsSteady first → now.faults ≡ first.faults;
+      shows : TellsContents first → Shows (first.files l.listed.file) l.piece;
+      taken : TellsContents first → (rows : List Row) (before : List LogEntry) (blocks : List (List ℕ))
+          → HasTaken (g.G.Gatherer.has l.fn.gatherer) rows l.fn.bases.items before
+          → AreOpen l.shape.container_sectors (first.files l.listed.file) blocks
+          → IsReached l.shape (vec_len l.fn.bases) l.listed.id (first.files l.listed.file) blocks (g.G.Gatherer.has l.gatherer) rows l.bases.items before
+          l.offset;
+    }
+
+abbrev pub decreases-loop-offset : goal.decreases-loop-offset
+decreases-loop-offset g l = l.end - l.offset

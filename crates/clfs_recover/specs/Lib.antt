@@ -1,0 +1,7 @@
+pub mod Records
+pub mod Walk
+pub mod Files
+pub mod Vector
+pub mod Gathering
+pub mod Bases
+pub mod Fronts
