@@ -6,3 +6,4 @@ mod Sealing
 mod Searches
 mod Spellings
 mod Splices
+pub mod Fronts

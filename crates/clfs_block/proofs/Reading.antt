@@ -14,7 +14,7 @@ use Rattle.clfs_block.specs.Frame.{place_of, payload_of, address, address_in, he
 use Rattle.clfs_block.specs.Checks.{head_of, left_from, is_wrong_count, is_wrong_records, head_fault, wrong_sector, other_byte}
 use Rattle.clfs_block.specs.Checks.{address_place, payload_place}
 use Rattle.clfs_lsn.specs.Checks.{unless_wrong, unless_ok, no_fault, pass_check, guard_ok, pass_guard}
-use Rattle.clfs_block.specs.Checks.{sectors_at, frame_at, rest_at, head_for, IsCount, IsFramed, IsWrongBehind}
+use Rattle.clfs_block.specs.Checks.{sectors_at, frame_at, rest_at, head_for, IsCount, HasFrame, IsFramed, IsWrongBehind}
 use Rattle.clfs_block.specs.declared.head.BlockHead.{BlockHead}
 use Rattle.clfs_block.specs.declared.head.BlockRefusal.{BlockRefusal}
 use Rattle.clfs_block.specs.declared.head.BlockRefusal.TheVariants.{BadByte, Closed}
@@ -49,10 +49,10 @@ one_head a b e = cc e
 byte_behind : (bytes : List ℕ) (at k place : ℕ) → at + k ≡ place → get_or (drop at bytes) k 0 ≡ get_or bytes place 0
 byte_behind bytes at k place is = get_or-drop at bytes k 0 ∙ ap (λ (n : ℕ). get_or bytes n 0) is
 
-two_bytes : (bytes : List ℕ) (at : ℕ) → little_number 2 (drop at bytes) ≡ get_or bytes at 0 + 256 * get_or bytes (at + 1) 0
+pub two_bytes : (bytes : List ℕ) (at : ℕ) → little_number 2 (drop at bytes) ≡ get_or bytes at 0 + 256 * get_or bytes (at + 1) 0
 two_bytes bytes at = omega (arith, byte_behind bytes at 0 at (omega arith), byte_behind bytes at 1 (at + 1) refl)
 
-four_bytes : (bytes : List ℕ) (at : ℕ) → little_number 4 (drop at bytes)
+pub four_bytes : (bytes : List ℕ) (at : ℕ) → little_number 4 (drop at bytes)
     ≡ get_or bytes at 0 + 256 * (get_or bytes (at + 1) 0 + 256 * (get_or bytes (at + 2) 0 + 256 * get_or bytes (at + 3) 0))
 four_bytes bytes at = omega (
   arith,
@@ -112,15 +112,15 @@ records_held : (k : ℕ) → (eqb k 0 || ltb 511 k) ≡ false → (1 ≤ k) × (
 records_held k e = let some = or_parts (eqb k 0) (ltb 511 k) e in (nonzero k some.0, ltb-false 511 k some.1)
 
 -- what the checks of a header say of it
-record HeaderHolds (shape : Shape) (start : ℕ) (bytes : List ℕ) : Type 0 where
-  version : get_or bytes 1 0 ≡ 1
-  count : (1 ≤ (head_of bytes).sectors) × ((head_of bytes).sectors ≤ shape.block_sectors) × ((head_of bytes).sectors ≤ left_from shape start)
-  records : (1 ≤ (head_of bytes).records) × ((head_of bytes).records ≤ 511)
-  zero_2 : little_number 2 (drop 6 bytes) ≡ 0
-  used : sectors (head_of bytes).used ≡ (head_of bytes).sectors
-  zero_4 : little_number 4 (drop 12 bytes) ≡ 0
+pub record HeaderHolds (shape : Shape) (start : ℕ) (bytes : List ℕ) : Type 0 where
+  pub version : get_or bytes 1 0 ≡ 1
+  pub count : (1 ≤ (head_of bytes).sectors) × ((head_of bytes).sectors ≤ shape.block_sectors) × ((head_of bytes).sectors ≤ left_from shape start)
+  pub records : (1 ≤ (head_of bytes).records) × ((head_of bytes).records ≤ 511)
+  pub zero_2 : little_number 2 (drop 6 bytes) ≡ 0
+  pub used : sectors (head_of bytes).used ≡ (head_of bytes).sectors
+  pub zero_4 : little_number 4 (drop 12 bytes) ≡ 0
 
-checks_held : (shape : Shape) (start : ℕ) (bytes : List ℕ) → head_fault shape start bytes ≡ None → HeaderHolds shape start bytes
+pub checks_held : (shape : Shape) (start : ℕ) (bytes : List ℕ) → head_fault shape start bytes ≡ None → HeaderHolds shape start bytes
 checks_held shape start bytes e =
     let n = (head_of bytes).sectors in
     let after_used : Option ℕ = cond (not (eqb (little_number 4 (drop 12 bytes)) 0)) (Some 12) None in
@@ -142,6 +142,31 @@ checks_held shape start bytes e =
       used = equal _ _ used.0;
       zero_4 = equal _ _ last.0;
     }
+
+-- what the checks up to the addresses say of a head
+pub has_frame : (shape : Shape) (start : ℕ) (bytes : List ℕ) (head : BlockHead) → frame_at shape start bytes ≡ Ok head → HasFrame shape start bytes head
+unfolding frame_at sectors_at
+has_frame shape start bytes head is =
+    let a = guard_ok _ _ _ _ is in
+    let b = guard_ok _ _ _ _ a.1 in
+    let c = guard_ok _ _ _ _ b.1 in
+    let d = unless_ok BadByte (head_fault shape start bytes) (sectors_at start bytes (head_of bytes)) head c.1 in
+    let e : (ltb (length bytes) (512 * (head_of bytes).sectors) ≡ false)
+    × (unless_wrong BadByte (address_place (wrong_sector start bytes (head_of bytes).sectors)) (answered (head_of bytes)) ≡ Ok head) =
+    guard_ok (ltb (length bytes) (512 * (head_of bytes).sectors)) (BadByte (length bytes)) _ head d.1 in
+    let f = unless_ok BadByte (address_place (wrong_sector start bytes (head_of bytes).sectors)) (answered (head_of bytes)) head e.1 in
+    let held = checks_held shape start bytes d.0 in
+    subst (λ (h : BlockHead). HasFrame shape start bytes h) (one_head _ _ f.1)
+    (record {
+      gate = equal (get_or bytes 0 0) 165 b.0;
+      numbers = refl;
+      some = held.count.0;
+      largest = held.count.1;
+      left = held.count.2;
+      records = held.records;
+      used = held.used;
+      whole = ltb-false (length bytes) (512 * (head_of bytes).sectors) e.0;
+    })
 
 -- ---- what is read is spelled so
 

@@ -1,5 +1,5 @@
 -- The first wrong byte of bytes that are to begin with an open block.
-use Rattle.std.specs.Prelude.{◌≡◌, ℕ, zero, suc, ◌+◌, ◌-◌, ◌*◌, ◌/◌, ◌^◌, ◌<◌, ◌≤◌, Bool, not, ◌||◌, ◌==◌, nat_lt, if◌then◌else◌, List, length, take, drop}
+use Rattle.std.specs.Prelude.{◌≡◌, ◌⊎◌, ℕ, zero, suc, ◌+◌, ◌-◌, ◌*◌, ◌/◌, ◌^◌, ◌<◌, ◌≤◌, Bool, not, ◌||◌, ◌==◌, nat_lt, if◌then◌else◌, List, length, take, drop}
 use Rattle.std.specs.Prelude.{slice_index, Option, Some, None, Result, Ok, Err}
 use Rattle.byteorder.specs.Endian.{little_number}
 use Rattle.clfs_lsn.specs.Format.{sector_bytes, sector_payload, block_header, open_gate}
@@ -125,3 +125,20 @@ pub record IsWrongBehind (shape : Shape) (start : ℕ) (bytes payload : List ℕ
   pub head : BlockHead
   pub framed : IsFramed shape start bytes head payload
   pub other : payload_place (other_byte bytes head.used head.sectors) ≡ Some at
+
+-- What the checks up to the addresses say of a head, whatever numbers the bytes are.
+pub record HasFrame (shape : Shape) (start : ℕ) (bytes : List ℕ) (head : BlockHead) : Type 0 where
+  pub gate : slice_index bytes 0 ≡ open_gate
+  pub numbers : head ≡ head_of bytes
+  pub some : 1 ≤ head.sectors
+  pub largest : head.sectors ≤ shape.block_sectors
+  pub left : head.sectors ≤ left_from shape start
+  pub records : (1 ≤ head.records) × (head.records ≤ most_block_records)
+  pub used : sectors head.used ≡ head.sectors
+  pub whole : sector_bytes * head.sectors ≤ length bytes
+
+-- So many bytes are enough to judge the block at the front of bytes: the first sector, and the sectors that it says to have, or those of a
+-- largest block.
+pub record IsEnough (shape : Shape) (bytes : List ℕ) (count : ℕ) : Type 0 where
+  pub first : sector_bytes ≤ count
+  pub all : (sector_bytes * (head_of bytes).sectors ≤ count) ⊎ (sector_bytes * shape.block_sectors ≤ count)

@@ -51,8 +51,17 @@ pub fn decode_block(
     ensures no_memory { result ≡ Err NoMemory → payload.new ≡ payload.old }
 {
     let head = frame(shape, start, bytes)?;
-    fill(alloc, bytes, head, payload)?;
-    rest(bytes, head)
+    fill_payload(alloc, bytes, head, payload)?;
+    check_rest(bytes, head)
+}
+
+/// The checks of a block up to its sectors' addresses, for who judges the records before the bytes behind them. What is known of a head
+/// that passes is what `fill_payload` and `check_rest` ask of it.
+pub fn check_frame(shape: &Shape, start: Lsn, bytes: &[u8]) -> Result<BlockHead, BlockRefusal>
+    ensures exact { result ≡ frame_at shape.now start bytes.now }
+    ensures framed { IfOk result (λ head. IsFramed shape.now start bytes.now head (payload_of head.used bytes.now)) }
+{
+    frame(shape, start, bytes)
 }
 
 // The checks up to the sectors' addresses.
@@ -179,8 +188,14 @@ fn has_address(bytes: &[u8], sector: u32, first: u64) -> bool
     }
 }
 
-// Puts the used payload in the place of what was there.
-fn fill(alloc: Global, bytes: &[u8], head: BlockHead, payload: &mut Bytes) -> Result<(), AllocError>
+/// Puts the used payload of a block, of which the first 16 bytes are the header, in the place of what was there. Memory is taken only where
+/// there isn't enough.
+pub fn fill_payload(
+    alloc: Global,
+    bytes: &[u8],
+    head: BlockHead,
+    payload: &mut Bytes,
+) -> Result<(), AllocError>
     requires whole { sector_bytes * head.sectors ≤ length bytes.now }
     requires used { sectors head.used ≡ head.sectors }
     ensures ok { OnOk result (payload.new ≡ payload_of head.used bytes.now) }
@@ -219,8 +234,8 @@ fn push_payload(out: &mut Vec<u8>, bytes: &[u8], used: usize)
     push_reserved(out, &bytes[from..from + used % PAYLOAD]);
 }
 
-// The payload behind the used bytes is zero.
-fn rest(bytes: &[u8], head: BlockHead) -> Result<BlockHead, BlockRefusal>
+/// The last check of a block: the payload behind its used bytes is zero.
+pub fn check_rest(bytes: &[u8], head: BlockHead) -> Result<BlockHead, BlockRefusal>
     requires whole { sector_bytes * head.sectors ≤ length bytes.now }
     requires used { sectors head.used ≡ head.sectors }
     requires some { (1 ≤ head.sectors) × (head.sectors < 2 ^ 16) }

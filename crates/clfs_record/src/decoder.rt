@@ -1,16 +1,19 @@
 // Reading a record from the front of bytes. The checks go from the first byte on, and the data are copied once, when all
 // else is right.
-ghost use Rattle.std.specs.Prelude.{◌≡◌, ◌+◌, ◌-◌, ◌*◌, ◌/◌, ◌^◌, ◌<◌, ◌≤◌, ◌++◌, ◌==◌, ◌||◌, not, nat_lt, if◌then◌else◌, ℕ, List, length, take, position, IfOk, Ok};
+ghost use Rattle.std.specs.Prelude.{◌≡◌, ◌+◌, ◌-◌, ◌*◌, ◌/◌, ◌^◌, ◌<◌, ◌≤◌, ◌++◌, ◌==◌, ◌||◌, ◌↔◌, not, nat_lt, if◌then◌else◌, ℕ, List, length, take, drop, position, IfOk, IfErr, IfSome, Ok, Err};
+ghost use Rattle.byteorder.specs.Endian.{little_number};
 ghost use Rattle.clfs_lsn.specs.Format.{record_header};
 ghost use Rattle.clfs_lsn.specs.Size.{size};
 ghost use Rattle.clfs_lsn.specs.Spelling.{FitsAt, record_bytes, record_at, header_of, header_fault, filling_fault, is_wrong_base, entry_of};
 ghost use Rattle.clfs_lsn.specs.declared.entry.Kind.TheVariants.{Plain, Restart};
 ghost use Rattle.clfs_lsn.specs.declared.entry.LogEntry.{LogEntry};
-ghost use Rattle.clfs_record.specs.Decoding.{Gives};
+ghost use Rattle.clfs_lsn.specs.Head.{head_of};
+ghost use Rattle.clfs_record.specs.Decoding.{Gives, head_read, IsHeadIn, IsChecked, IsNear};
+ghost use Rattle.clfs_record.specs.declared.refusal.HeadRefusal.TheVariants.{BadByte};
 
-use crate::refusal::RecordRefusal;
+use crate::refusal::{HeadRefusal, RecordRefusal};
 use byteorder::{ByteOrder, LittleEndian};
-use clfs_lsn::{Bytes, Kind, LogEntry, Lsn, RECORD_HEADER, size_of_record};
+use clfs_lsn::{Bytes, Head, Kind, LogEntry, Lsn, RECORD_HEADER, size_of_record};
 use std::alloc::{AllocError, Global};
 
 // The bytes of a header.
@@ -49,8 +52,48 @@ pub fn decode(
     decode_at(alloc, bytes, lsn.number(), stream, streams)
 }
 
+/// The head of the record that a front of the bytes spells, and how many bytes spell it: `decode` without the data. It takes no memory.
+pub fn decode_head(
+    bytes: &[u8],
+    lsn: Lsn,
+    stream: u16,
+    streams: u16,
+) -> Result<(Head, usize), HeadRefusal>
+    requires length { length bytes.now < 2 ^ 32 }
+    requires stream { record_header ≤ length bytes.now → stream ≡ (header_of bytes.now).stream }
+    ensures exact { result ≡ head_read (record_at lsn streams bytes.now) }
+
+    // It refuses a byte exactly where `decode` does.
+    ensures refused { (at : ℕ) → (result ≡ Err (BadByte at)) ↔ (record_at lsn streams bytes.now ≡ Err at) }
+
+    // What is read is the head of a record that the log can have there, whose data stand behind its header.
+    ensures found { IfOk result (λ x. IsHeadIn lsn streams bytes.now x.0 x.1) }
+    ensures near { IfErr result (λ refusal. IsNear bytes.now refusal) }
+{
+    head_from(bytes, lsn.number(), stream, streams)
+}
+
 // The same at a number.
-#[tactic(auto, unfolding(clfs_lsn::specs::Spelling::record_at))]
+fn head_from(
+    bytes: &[u8],
+    lsn: u64,
+    stream: u16,
+    streams: u16,
+) -> Result<(Head, usize), HeadRefusal>
+    requires length { length bytes.now < 2 ^ 32 }
+    requires stream { record_header ≤ length bytes.now → stream ≡ (header_of bytes.now).stream }
+    ensures exact { result ≡ head_read (record_at lsn streams bytes.now) }
+    ensures found { IfOk result (λ x. IsHeadIn lsn streams bytes.now x.0 x.1) }
+    ensures near { IfErr result (λ refusal. IsNear bytes.now refusal) }
+{
+    let len = checked_len(bytes, lsn, stream, streams)?;
+    Ok((
+        head_at(bytes, lsn, stream, len),
+        size_of_record(len) as usize,
+    ))
+}
+
+// The same as `decode` at a number.
 fn decode_at(
     alloc: Global,
     bytes: &[u8],
@@ -62,29 +105,43 @@ fn decode_at(
     requires stream { record_header ≤ length bytes.now → stream ≡ (header_of bytes.now).stream }
     ensures { Gives result (record_at lsn streams bytes.now) }
 {
+    let len = checked_len(bytes, lsn, stream, streams)?;
+    let entry = entry_at(alloc, bytes, lsn, stream, len)?;
+    Ok((entry, size_of_record(len) as usize))
+}
+
+// The length of the data of a record that is right.
+#[tactic(auto, unfolding(clfs_lsn::specs::Spelling::record_at))]
+fn checked_len(bytes: &[u8], lsn: u64, stream: u16, streams: u16) -> Result<u32, HeadRefusal>
+    requires length { length bytes.now < 2 ^ 32 }
+    requires stream { record_header ≤ length bytes.now → stream ≡ (header_of bytes.now).stream }
+    ensures exact { IsChecked lsn streams bytes.now result }
+    ensures whole { IfOk result (λ len. size len ≤ length bytes.now) }
+    ensures near { IfErr result (λ refusal. IsNear bytes.now refusal) }
+{
     if bytes.len() < HEADER {
-        return Err(RecordRefusal::BadByte { at: 0 });
+        return Err(HeadRefusal::BadByte { at: 0 });
     }
     let len = LittleEndian::read_u32(bytes);
     let size = size_of_record(len);
     if (bytes.len() as u64) < size {
-        return Err(RecordRefusal::BadByte { at: 0 });
+        return Err(HeadRefusal::BadByte { at: 0 });
     }
     if let Some(at) = wrong_header(bytes, lsn, stream, streams) {
-        return Err(RecordRefusal::BadByte { at });
+        return Err(HeadRefusal::BadByte { at });
     }
     if let Some(at) = wrong_filling(bytes, len) {
-        return Err(RecordRefusal::BadByte { at });
+        return Err(HeadRefusal::BadByte { at });
     }
-    let entry = entry_at(alloc, bytes, lsn, stream, len)?;
-    Ok((entry, size as usize))
+    Ok(len)
 }
 
 // The byte at which the header is wrong first.
 fn wrong_header(bytes: &[u8], lsn: u64, stream: u16, streams: u16) -> Option<u32>
     requires long { record_header ≤ length bytes.now }
     requires stream { stream ≡ (header_of bytes.now).stream }
-    ensures { result ≡ header_fault lsn streams (header_of bytes.now) }
+    ensures exact { result ≡ header_fault lsn streams (header_of bytes.now) }
+    ensures near { IfSome result (λ at. at ≤ 24) }
 {
     let previous = LittleEndian::read_u64(&bytes[8..]);
     let undo_next = LittleEndian::read_u64(&bytes[16..]);
@@ -131,7 +188,8 @@ fn has_wrong_base(kind: u8, lsn: u64, base: u64) -> bool
 fn wrong_filling(bytes: &[u8], len: u32) -> Option<u32>
     requires whole { size len ≤ length bytes.now }
     requires length { length bytes.now < 2 ^ 32 }
-    ensures { result ≡ filling_fault len bytes.now }
+    ensures exact { result ≡ filling_fault len bytes.now }
+    ensures near { IfSome result (λ at. at ≤ length bytes.now) }
 {
     let end = HEADER + len as usize;
     let zeros = &bytes[end..size_of_record(len) as usize];
@@ -141,7 +199,8 @@ fn wrong_filling(bytes: &[u8], len: u32) -> Option<u32>
 
 // The place of the first byte that isn't 0.
 fn first_nonzero(bytes: &[u8]) -> Option<usize>
-    ensures { result ≡ position (λ b. not (b == 0)) bytes.now }
+    ensures exact { result ≡ position (λ b. not (b == 0)) bytes.now }
+    ensures near { IfSome result (λ at. at < length bytes.now) }
 {
     bytes.iter().position(|b| *b != 0)
 }
@@ -153,6 +212,32 @@ fn kind_of(byte: u8) -> Kind
         Kind::Plain
     } else {
         Kind::Restart
+    }
+}
+
+// The LSN in a header at a byte of it.
+fn lsn_at(bytes: &[u8], at: usize) -> Lsn
+    requires { at + 8 ≤ length bytes.now }
+    ensures { result ≡ little_number 8 (drop at bytes.now) }
+{
+    Lsn::of_number(LittleEndian::read_u64(&bytes[at..]))
+}
+
+// The head of a header that is right.
+fn head_at(bytes: &[u8], lsn: u64, stream: u16, len: u32) -> Head
+    requires len { len ≡ (header_of bytes.now).len }
+    requires whole { record_header + len ≤ length bytes.now }
+    requires stream { stream ≡ (header_of bytes.now).stream }
+    ensures { result ≡ head_of (entry_of lsn bytes.now) }
+{
+    Head {
+        lsn: Lsn::of_number(lsn),
+        stream,
+        kind: kind_of(bytes[6]),
+        previous: lsn_at(bytes, 8),
+        undo_next: lsn_at(bytes, 16),
+        new_base: lsn_at(bytes, 24),
+        len,
     }
 }
 
@@ -174,9 +259,9 @@ fn entry_at(
         lsn: Lsn::of_number(lsn),
         stream,
         kind: kind_of(bytes[6]),
-        previous: Lsn::of_number(LittleEndian::read_u64(&bytes[8..])),
-        undo_next: Lsn::of_number(LittleEndian::read_u64(&bytes[16..])),
-        new_base: Lsn::of_number(LittleEndian::read_u64(&bytes[24..])),
+        previous: lsn_at(bytes, 8),
+        undo_next: lsn_at(bytes, 16),
+        new_base: lsn_at(bytes, 24),
         bytes: Bytes::from_vec(Vec::from_slice(alloc, data)?),
     })
 }

@@ -9,9 +9,9 @@ mod decoder;
 mod encoder;
 mod refusal;
 
-pub use decoder::{decode, no_spelling_begins_another, stream_of};
+pub use decoder::{decode, decode_head, no_spelling_begins_another, stream_of};
 pub use encoder::encode;
-pub use refusal::RecordRefusal;
+pub use refusal::{HeadRefusal, RecordRefusal};
 
 #[cfg(test)]
 mod tests;

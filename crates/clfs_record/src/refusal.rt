@@ -23,3 +23,23 @@ impl From<AllocError> for RecordRefusal {
         RecordRefusal::NoMemory
     }
 }
+
+/// Why no head was read.
+#[derive(Clone, Copy, Debug, PartialEq, Eq, Error)]
+pub enum HeadRefusal {
+    /// The byte at this place of the record is wrong, and none before it.
+    #[error("byte {at} of a record is wrong")]
+    BadByte { at: u32 },
+}
+
+impl From<HeadRefusal> for RecordRefusal {
+    ghost use Rattle.clfs_record.specs.Decoding.{as_record};
+
+    ghost from_gives = { λ h e. e ≡ as_record h };
+
+    fn from(refusal: HeadRefusal) -> RecordRefusal {
+        match refusal {
+            HeadRefusal::BadByte { at } => RecordRefusal::BadByte { at },
+        }
+    }
+}

@@ -16,34 +16,34 @@ returns-clause-only c records content block more spells count fits is =
     let read = frame_read c.args.shape.now c.args.start records content block more c.args.bytes.now spells count.0 count.1 fits is in
     let same : c.in_ok-head.head ≡ head_for records content = one_head _ _ (sym c.in_ok-head.was ∙ c.frame.ensures.exact ∙ read) in
     inr (
-      c.rest.ensures ∙ ap (rest_at c.args.bytes.now) same
+      c.check_rest.ensures ∙ ap (rest_at c.args.bytes.now) same
           ∙ rest_read c.args.shape.now c.args.start records content block more c.args.bytes.now spells count.0 count.1 fits is,
-      c.in_ok-fill.ensures.ok ∙ ap (λ (h : BlockHead). payload_of h.used c.args.bytes.now) same
+      c.in_ok-fill_payload.ensures.ok ∙ ap (λ (h : BlockHead). payload_of h.used c.args.bytes.now) same
           ∙ payload_read c.args.shape.now c.args.start records content block more c.args.bytes.now spells count.0 count.1 fits is,
     )
 
 pub returns-clause-found : goal.returns-clause-found
 returns-clause-found c =
-    answered_is_spelled c.args.shape.now c.args.start c.args.bytes.now c.fill.new.payload c.in_ok-head.head c.rest.result
+    answered_is_spelled c.args.shape.now c.args.start c.args.bytes.now c.fill_payload.new.payload c.in_ok-head.head c.check_rest.result
     (λ i. omega (arith, c.type_inv.bytes i))
-    (sym c.frame.ensures.exact ∙ c.in_ok-head.was) c.rest.ensures c.in_ok-fill.ensures.ok
+    (sym c.frame.ensures.exact ∙ c.in_ok-head.was) c.check_rest.ensures c.in_ok-fill_payload.ensures.ok
 
 pub returns-clause-framed : goal.returns-clause-framed
 returns-clause-framed c =
-    answered_is_framed c.args.shape.now c.args.start c.args.bytes.now c.fill.new.payload c.in_ok-head.head c.rest.result
+    answered_is_framed c.args.shape.now c.args.start c.args.bytes.now c.fill_payload.new.payload c.in_ok-head.head c.check_rest.result
     (λ i. omega (arith, c.type_inv.bytes i))
-    (sym c.frame.ensures.exact ∙ c.in_ok-head.was) c.rest.ensures c.in_ok-fill.ensures.ok
+    (sym c.frame.ensures.exact ∙ c.in_ok-head.was) c.check_rest.ensures c.in_ok-fill_payload.ensures.ok
 
 pub returns-clause-filled : goal.returns-clause-filled
 returns-clause-filled c head is memory =
     let same : c.in_ok-head.head ≡ head = one_head _ _ (sym c.in_ok-head.was ∙ c.frame.ensures.exact ∙ is) in
-    is_framed c.args.shape.now c.args.start c.args.bytes.now c.fill.new.payload head (λ i. omega (arith, c.type_inv.bytes i)) is
-    (c.in_ok-fill.ensures.ok ∙ ap (λ (h : BlockHead). payload_of h.used c.args.bytes.now) same)
+    is_framed c.args.shape.now c.args.start c.args.bytes.now c.fill_payload.new.payload head (λ i. omega (arith, c.type_inv.bytes i)) is
+    (c.in_ok-fill_payload.ensures.ok ∙ ap (λ (h : BlockHead). payload_of h.used c.args.bytes.now) same)
 
 pub returns-clause-wrong : goal.returns-clause-wrong
 returns-clause-wrong c at is = inr
-    (wrong_is_behind c.args.shape.now c.args.start c.args.bytes.now c.fill.new.payload c.in_ok-head.head c.rest.result at
-    (λ i. omega (arith, c.type_inv.bytes i)) (sym c.frame.ensures.exact ∙ c.in_ok-head.was) c.rest.ensures c.in_ok-fill.ensures.ok is)
+    (wrong_is_behind c.args.shape.now c.args.start c.args.bytes.now c.fill_payload.new.payload c.in_ok-head.head c.check_rest.result at
+    (λ i. omega (arith, c.type_inv.bytes i)) (sym c.frame.ensures.exact ∙ c.in_ok-head.was) c.check_rest.ensures c.in_ok-fill_payload.ensures.ok is)
 
 pub returns-clause-closed : goal.returns-clause-closed
-returns-clause-closed c is = absurd (rest_is_open c.args.bytes.now c.in_ok-head.head (sym c.rest.ensures ∙ is))
+returns-clause-closed c is = absurd (rest_is_open c.args.bytes.now c.in_ok-head.head (sym c.check_rest.ensures ∙ is))

@@ -4,7 +4,7 @@ use Rattle.clfs_block.specs.declared.head.BlockHead.{BlockHead}
 use Rattle.clfs_block.specs.declared.head.BlockRefusal.{BlockRefusal}
 use Rattle.clfs_block.specs.declared.head.BlockRefusal.TheVariants.{BadByte}
 use Rattle.clfs_block.proofs.Searches.{rest_is}
-use Rattle.clfs_block.proofs.decoder.rest.Goals as goal
+use Rattle.clfs_block.proofs.decoder.check_rest.Goals as goal
 
 answer_of : BlockHead → Option ℕ → Result BlockHead BlockRefusal
 answer_of head found = unless_wrong BadByte found (Ok head)

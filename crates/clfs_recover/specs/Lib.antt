@@ -1,0 +1,6 @@
+pub mod Records
+pub mod Walk
+pub mod Files
+pub mod Vector
+pub mod Gathering
+pub mod Bases

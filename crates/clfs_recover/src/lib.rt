@@ -1,0 +1,13 @@
+//! Opening a log: what files stand for, and the one walk that finds it.
+#![tactic(auto)]
+
+mod gatherer;
+mod parts;
+mod records;
+mod refusal;
+mod rows;
+
+pub use gatherer::Gatherer;
+pub use parts::{Bases, Entries, HeadParts, Heads, Parts};
+pub use refusal::LoadRefusal;
+pub use rows::walks_of_a_small_log;

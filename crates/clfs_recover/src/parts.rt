@@ -1,0 +1,187 @@
+// What opening a log gives: the newest base copy, the records or their heads, the bases of the streams, and the place.
+ghost use Rattle.std.specs.Prelude.{◌≡◌, [], map};
+
+use crate::gatherer::Gatherer;
+use clfs_base::BaseImage;
+use clfs_lsn::{Bytes, Head, LogEntry, Lsn, Place};
+use std::alloc::{AllocError, Global};
+use std::marker::Model;
+
+/// Records in the order of their LSNs.
+#[derive(Debug, Drop)]
+pub struct Entries {
+    entries: Vec<LogEntry>,
+}
+
+impl Model for Entries {
+    ghost use Rattle.std.specs.Prelude.{List};
+    ghost use Rattle.clfs_lsn.specs.declared.entry.LogEntry.{LogEntry};
+
+    ghost Value = { List LogEntry };
+
+    ghost view = { λ a. a.entries.items };
+}
+
+impl Entries {
+    /// No records. They go on to the memory of `alloc`.
+    pub fn new(alloc: Global) -> Entries
+        ensures { result ≡ [] }
+    {
+        Entries {
+            entries: Vec::new(alloc),
+        }
+    }
+
+    /// The records in order.
+    pub fn as_slice(&self) -> &[LogEntry]
+        ensures { result.now ≡ self.now }
+    {
+        self.entries.as_slice()
+    }
+
+    /// The records given back, where they are.
+    pub fn into_vec(self) -> Vec<LogEntry>
+        ensures { result.items ≡ self }
+    {
+        let Entries { entries } = self;
+        entries
+    }
+}
+
+impl Gatherer for Entries {
+    ghost has = { λ a entries. a ≡ entries };
+
+    fn gather(&mut self, alloc: Global, head: &Head, bytes: &[u8]) -> Result<(), AllocError> {
+        let entry = LogEntry {
+            lsn: head.lsn,
+            stream: head.stream,
+            kind: head.kind,
+            previous: head.previous,
+            undo_next: head.undo_next,
+            new_base: head.new_base,
+            bytes: Bytes::from_vec(Vec::from_slice(alloc, bytes)?),
+        };
+        self.entries.push(entry)?;
+        Ok(())
+    }
+}
+
+/// Heads of records in the order of their LSNs.
+#[derive(Debug, Drop)]
+pub struct Heads {
+    heads: Vec<Head>,
+}
+
+impl Model for Heads {
+    ghost use Rattle.std.specs.Prelude.{List};
+    ghost use Rattle.clfs_lsn.specs.declared.entry.Head.{Head};
+
+    ghost Value = { List Head };
+
+    ghost view = { λ a. a.heads.items };
+}
+
+impl Heads {
+    /// No heads. They go on to the memory of `alloc`.
+    pub fn new(alloc: Global) -> Heads
+        ensures { result ≡ [] }
+    {
+        Heads {
+            heads: Vec::new(alloc),
+        }
+    }
+
+    /// The heads in order.
+    pub fn as_slice(&self) -> &[Head]
+        ensures { result.now ≡ self.now }
+    {
+        self.heads.as_slice()
+    }
+
+    /// The heads given back, where they are.
+    pub fn into_vec(self) -> Vec<Head>
+        ensures { result.items ≡ self }
+    {
+        let Heads { heads } = self;
+        heads
+    }
+}
+
+impl Gatherer for Heads {
+    ghost use Rattle.clfs_lsn.specs.Head.{head_of};
+
+    ghost has = { λ a entries. a ≡ map head_of entries };
+
+    fn gather(&mut self, _alloc: Global, head: &Head, _bytes: &[u8]) -> Result<(), AllocError> {
+        self.heads.push(*head)?;
+        Ok(())
+    }
+}
+
+/// The bases of the streams in the order of their numbers.
+#[derive(Debug, Drop)]
+pub struct Bases {
+    bases: Vec<Lsn>,
+}
+
+impl Model for Bases {
+    ghost use Rattle.std.specs.Prelude.{ℕ, List};
+
+    ghost Value = { List ℕ };
+
+    ghost view = { λ a. a.bases.items };
+}
+
+impl Bases {
+    /// These bases, which stay where they are.
+    pub fn from_vec(bases: Vec<Lsn>) -> Bases
+        ensures { result ≡ bases.items }
+    {
+        Bases { bases }
+    }
+
+    /// The bases in order.
+    pub fn as_slice(&self) -> &[Lsn]
+        ensures { result.now ≡ self.now }
+    {
+        self.bases.as_slice()
+    }
+
+    /// The bases given back, where they are.
+    pub fn into_vec(self) -> Vec<Lsn>
+        ensures { result.items ≡ self }
+    {
+        let Bases { bases } = self;
+        bases
+    }
+}
+
+/// What files hold of a log, with its records.
+#[derive(Debug, Drop)]
+pub struct Parts {
+    /// The slot of the newest base copy, 0 or 1.
+    pub slot: u32,
+    /// The newest base copy.
+    pub image: BaseImage,
+    /// The records of the listed containers.
+    pub entries: Entries,
+    /// The bases of the streams, one for each row of the base copy.
+    pub bases: Bases,
+    /// Where the log goes on. No block is open there.
+    pub place: Place,
+}
+
+/// What files hold of a log, with the heads of its records.
+#[derive(Debug, Drop)]
+pub struct HeadParts {
+    /// The slot of the newest base copy, 0 or 1.
+    pub slot: u32,
+    /// The newest base copy.
+    pub image: BaseImage,
+    /// The heads of the records of the listed containers.
+    pub heads: Heads,
+    /// The bases of the streams, one for each row of the base copy.
+    pub bases: Bases,
+    /// Where the log goes on. No block is open there.
+    pub place: Place,
+}
