@@ -4,10 +4,9 @@
 // in the folder:
 // - a file is synced where it was written or grown since its last sync, the folder where a file was made in it since;
 // - the first sync of a run syncs every file that is there, the folder, and the folder that it lies in. Who wrote them may have been
-//   killed before it synced, so that they are read and still not on the medium;
-// - behind that first sync the system lets go of what it keeps of the files in memory. Where an earlier run's sync failed, the system
-//   may keep bytes that the medium doesn't have, and take them as synced; then a sync succeeds, but what is read afterwards is what the
-//   medium has.
+//   killed before it synced, so that they are read and still not on the medium.
+// What this can't do: after a sync that failed, in this run or an earlier one, the system may keep bytes in memory that the medium doesn't
+// have, and take them as synced. A later sync then succeeds over what is lost, until the system has let go of those bytes.
 ghost use Rattle.std.specs.Prelude.{◌≡◌, ◌≤◌, length, IfOk};
 
 use crate::access::State;
@@ -26,15 +25,9 @@ pub(crate) struct Directory {
     files: Vec<Option<StoredFile>>,
     // A file was made since the folder's last sync, or may have been before it was opened.
     is_unsynced: bool,
-    // The first sync of the run is still to come, and the folder that this one lies in is to be synced then, where it can be opened.
-    first: Option<FirstSync>,
-    ghost count: { length files.items ≡ 257 },
-}
-
-// What the first sync of a run syncs besides the folder and its files.
-#[derive(Drop)]
-struct FirstSync {
+    // The folder that this one lies in, until the first sync. None also where this process may not open it.
     parent: Option<File>,
+    ghost count: { length files.items ≡ 257 },
 }
 
 // All files, those that are in the folder open.
@@ -84,7 +77,7 @@ impl Directory {
             folder,
             files: open_files(location)?,
             is_unsynced: true,
-            first: Some(FirstSync { parent }),
+            parent,
         }))
     }
 
@@ -135,22 +128,9 @@ impl Directory {
             self.folder.sync_all()?;
             self.is_unsynced = false;
         }
-        match self.first.take() {
-            Some(first) => self.settle(first),
+        match self.parent.take() {
+            Some(parent) => parent.sync_all(),
             None => Ok(()),
         }
-    }
-
-    // What the first sync of a run does beside the others.
-    fn settle(&mut self, first: FirstSync) -> io::Result<()> {
-        if let Some(parent) = first.parent {
-            parent.sync_all()?;
-        }
-        for slot in self.files.iter() {
-            if let Some(file) = slot {
-                file.drop_cached()?;
-            }
-        }
-        Ok(())
     }
 }

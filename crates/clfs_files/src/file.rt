@@ -8,7 +8,6 @@ ghost use Rattle.std.specs.Prelude.{◌≤◌, length, IfOk};
 use std::alloc::{AllocError, Global};
 use std::fs::File;
 use std::io::{self, ErrorKind};
-use std::os::fd::AsRawFd;
 use std::os::unix::fs::FileExt;
 
 // The most zeros that are written in one call.
@@ -95,13 +94,5 @@ impl StoredFile {
             self.is_unsynced = false;
         }
         Ok(())
-    }
-
-    /// Lets the system drop what it keeps of the file in memory, so that it is read from the medium.
-    pub fn drop_cached(&self) -> io::Result<()> {
-        match libc::posix_fadvise(self.file.as_raw_fd(), 0, 0, libc::POSIX_FADV_DONTNEED) {
-            0 => Ok(()),
-            error => Err(io::Error::from_raw_os_error(error)),
-        }
     }
 }
