@@ -6,10 +6,8 @@
 //! done is said on standard error where standard output doesn't say it.
 #![tactic(auto)]
 
-mod standard;
-
 use clfs_engine::{DONE, NO_MEMORY, SINK_FAULT, SOURCE_FAULT, run};
-use standard::{ReaderSource, WriterSink};
+use clfs_files::{ReaderSource, WriterSink};
 use std::alloc::AllocError;
 use std::process::ExitCode;
 use std::rt::Env;

@@ -1,9 +1,9 @@
 // Standard input as a source and standard output as a sink. What the system gives and takes is not told; what is proved is
-// that a call fails only where the count of faults rises.
+// that a call fails only where the count of faults rises. A call that a signal interrupts is made again.
 ghost use Rattle.std.specs.Prelude.{◌≡◌};
 
 use clfs_ports::{Failed, Sink, Source};
-use std::io::{Read, Write};
+use std::io::{ErrorKind, Read, Write};
 
 /// A reader, and how often it has failed.
 #[derive(Drop)]
@@ -27,13 +27,15 @@ impl<R: Read + Drop> Source for ReaderSource<R> {
     ghost faults = { λ s. s.faults };
 
     fn read(&mut self, out: &mut [u8]) -> Result<usize, Failed> {
-        match self.inner.read(out) {
-            Ok(count) => Ok(count),
-            Err(_) => {
-                self.faults = self.faults.saturating_add(1);
-                Err(Failed)
+        for _ in 0..u64::MAX {
+            match self.inner.read(out) {
+                Ok(count) => return Ok(count),
+                Err(error) if error.kind() == ErrorKind::Interrupted => {}
+                Err(_) => break,
             }
         }
+        self.faults = self.faults.saturating_add(1);
+        Err(Failed)
     }
 }
 
@@ -60,12 +62,14 @@ impl<W: Write + Drop> Sink for WriterSink<W> {
 
     /// A writer that takes nothing of a piece that isn't empty has failed.
     fn write(&mut self, piece: &[u8]) -> Result<usize, Failed> {
-        match self.inner.write(piece) {
-            Ok(count) if count > 0 || piece.is_empty() => Ok(count),
-            _ => {
-                self.faults = self.faults.saturating_add(1);
-                Err(Failed)
+        for _ in 0..u64::MAX {
+            match self.inner.write(piece) {
+                Ok(count) if count > 0 || piece.is_empty() => return Ok(count),
+                Err(error) if error.kind() == ErrorKind::Interrupted => {}
+                _ => break,
             }
         }
+        self.faults = self.faults.saturating_add(1);
+        Err(Failed)
     }
 }
