@@ -66,6 +66,18 @@ leaves_both P Q R a b both p q = record {
   each = λ moment image from until at. both image (p.each moment image from until at) (q.each moment image from until at);
 }
 
+-- no call leaves what was there
+pub leaves_nothing : (P : Files → Type 0) (a : DiskState) → IsSettled a → P a.files → Leaves P a a
+leaves_nothing P a settled here = record {
+  later = omega arith;
+  past = λ moment image le at. at;
+  each = λ moment image from until at.
+      let same : moment ≡ a.clock = omega (arith, from, until) in
+      let alike = settled.only image (subst (λ (n : ℕ). a.image_at n image) same at) in
+      let files : image ≡ a.files = λ i. λ file. alike file i in
+      subst P (sym files) here;
+}
+
 -- what each image has, the disk as it reads has
 pub as_read : (P : Files → Type 0) (a b : DiskState) → Leaves P a b → b.image_at b.clock b.files → P b.files
 as_read P a b leaves at = leaves.each b.clock b.files leaves.later (omega arith) at

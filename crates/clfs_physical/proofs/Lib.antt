@@ -2,3 +2,5 @@ pub mod Joining
 pub mod Lengths
 pub mod Groups
 pub mod Copies
+pub mod Logs
+pub mod Listed

@@ -1,8 +1,10 @@
 //! The log on its disk.
 #![tactic(auto)]
 
+mod change;
 mod copy;
 mod group;
+mod physical;
 
-pub use copy::write_copy;
-pub use group::write_group;
+pub use change::Change;
+pub use physical::Physical;
