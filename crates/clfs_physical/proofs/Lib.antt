@@ -4,3 +4,5 @@ pub mod Groups
 pub mod Copies
 pub mod Logs
 pub mod Listed
+pub mod Counting
+pub mod Taken

@@ -13,11 +13,15 @@ use Rattle.clfs_base.specs.Slots.{newest_of}
 abbrev pub Blocks : Type 0
 Blocks = ℕ → List (List ℕ)
 
--- The copy lists this file: a container of the log is in it.
-pub record Lists (image : BaseImage) (file : ℕ) : Type 0 where
+-- The number of a file stands in a list.
+pub record IsIn (files : List ℕ) (file : ℕ) : Type 0 where
   pub place : ℕ
-  pub within : place < length image.files
-  pub is : slice_index image.files place ≡ file
+  pub within : place < length files
+  pub is : slice_index files place ≡ file
+
+-- The copy lists this file: a container of the log is in it.
+abbrev pub Lists : BaseImage → ℕ → Type 0
+Lists image file = IsIn image.files file
 
 -- All files that the copy counts have their full lengths: the base file, and each file that was made.
 pub record AreMade (image : BaseImage) (files : Files) : Type 0 where

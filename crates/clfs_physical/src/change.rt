@@ -1,6 +1,9 @@
 // What the next copy says.
-ghost use Rattle.std.specs.Prelude.{◌≡◌, ◌-◌, ◌≤◌, [], length, OnOk, OnErr};
-ghost use Rattle.clfs_physical.specs.Changes.{with_next_turn, listed_from, with_base, with_stream, changed, next_copy, Suits};
+ghost use Rattle.std.specs.Prelude.{◌≡◌, ◌-◌, ◌≤◌, ◌∷◌, ◌++◌, [], length, OnOk, OnErr};
+ghost use Rattle.clfs_base.specs.Layout.{version_one};
+ghost use Rattle.clfs_base.specs.Spelling.{IsImage};
+ghost use Rattle.clfs_physical.specs.Changes.{with_next_turn, with_file, listed_from, with_base, with_stream, changed, next_copy, Suits};
+ghost use Rattle.clfs_physical.specs.Taking.{IsNextFile, HasRoom};
 
 use clfs_base::{BaseImage, Files, Row, Rows};
 use clfs_lsn::Lsn;
@@ -36,6 +39,19 @@ pub fn apply(alloc: Global, image: &mut BaseImage, first: u32, change: &Change)
     image.turn = (image.turn + 1) % 3;
     list_from(alloc, image, first);
     change_fields(alloc, image, change);
+}
+
+/// Makes a copy the one that follows it, with a free file behind the listed ones. `files` are all of these.
+pub fn apply_file(image: &mut BaseImage, file: u16, files: Vec<u16>)
+    requires free { IsNextFile image.old file }
+    requires files { files.items ≡ image.old.files ++ file ∷ [] }
+    requires room { HasRoom image.old }
+    requires image { IsImage version_one image.old }
+    ensures exact { image.new ≡ with_file file (with_next_turn image.old) }
+    ensures image { IsImage version_one image.new }
+{
+    image.turn = (image.turn + 1) % 3;
+    image.files = Files::from_vec(files);
 }
 
 // Lists no container below this one.

@@ -3,8 +3,12 @@
 
 mod change;
 mod copy;
+mod free;
 mod group;
 mod physical;
+mod refusal;
+mod turn;
 
 pub use change::Change;
 pub use physical::Physical;
+pub use refusal::PhysicalRefusal;

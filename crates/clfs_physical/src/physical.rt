@@ -1,5 +1,5 @@
 // The newest base copy of a log, and what is written to the log's disk.
-ghost use Rattle.std.specs.Prelude.{◌≡◌, ◌⊎◌, ◌+◌, ◌-◌, ◌*◌, ◌%◌, ◌≤◌, [], List, ℕ, true, false, length, IfOk, OnOk, OnErr, IsOk};
+ghost use Rattle.std.specs.Prelude.{◌≡◌, ◌⊎◌, ◌+◌, ◌-◌, ◌*◌, ◌%◌, ◌≤◌, ◌∷◌, ◌++◌, [], List, ℕ, true, false, length, IfOk, OnOk, OnErr, IsOk};
 ghost use Rattle.clfs_lsn.specs.Format.{sector_bytes};
 ghost use Rattle.clfs_disk.specs.State.{TellsContents, IsHonest, IsSettled, IsSteady, Later, Leaves, Rises, raised};
 ghost use Rattle.clfs_base.specs.declared.image.BaseImage.{BaseImage};
@@ -9,13 +9,14 @@ ghost use Rattle.clfs_base.specs.Slots.{is_open_slot};
 ghost use Rattle.clfs_base.specs.Writing.{older_of};
 ghost use Rattle.clfs_physical.specs.Changes.{next_copy, Suits};
 ghost use Rattle.clfs_physical.specs.Joined.{SameLengths};
-ghost use Rattle.clfs_physical.specs.Stored.{Blocks, Newest, AreMade, Holds, Stores, IsLog, Waits, last_file, with_group};
+ghost use Rattle.clfs_physical.specs.Stored.{Blocks, Newest, AreMade, Stores, Waits, last_file, with_blocks, with_group};
+ghost use Rattle.clfs_physical.specs.Taking.{IsNextFile, HasRoom, low_of, taken_of};
 
-use crate::change::{Change, apply};
+use crate::change::{Change, apply, apply_file};
 use crate::copy::store_copy;
 use crate::group::write_group;
 use clfs_base::BaseImage;
-use clfs_container::open_blocks_are_one_list;
+use clfs_container::{close_first, open_blocks_are_one_list};
 use clfs_disk::{Disk, Failed};
 use std::alloc::{AllocError, Global};
 use std::marker::Model;
@@ -141,6 +142,70 @@ impl Physical {
             → IsOk result × ((D.state disk.new).faults ≡ (D.state disk.old).faults) }
     {
         apply(self.alloc, &mut self.image, first, change);
+        self.slot = store_copy(disk, self.slot, &self.image, &mut self.bytes)?;
+        Ok(())
+    }
+
+    /// Writes the copy without the containers below `first`, where the newest lists any.
+    pub fn drop_low<D: Disk>(&mut self, disk: &mut D, first: u32) -> Result<(), Failed>
+        requires first { self.old.image.first ≤ first }
+        requires listed { first + 1 ≤ self.old.image.first + length self.old.image.files }
+        ensures now { OnOk result (self.new ≡ low_of first self.old) }
+        ensures written { OnOk result (TellsContents (D.state disk.old) → (blocks : Blocks)
+            → Stores self.old blocks (D.state disk.old).files → Stores self.new blocks (D.state disk.new).files) }
+        ensures settled { OnOk result (IsSettled (D.state disk.old) → IsSettled (D.state disk.new)) }
+
+        // Whatever the answer, a crash at any moment leaves the same open blocks under the copy of before or under this one.
+        ensures moments { IsSettled (D.state disk.old) → (blocks : Blocks) → Stores self.old blocks (D.state disk.old).files
+            → Leaves (λ image. Stores self.old blocks image ⊎ Stores (low_of first self.old) blocks image)
+            (D.state disk.old) (D.state disk.new) }
+
+        ensures lengths { SameLengths (D.state disk.old).files (D.state disk.new).files }
+        ensures time { Later (D.state disk.old) (D.state disk.new) }
+        ensures nothing { first ≡ self.old.image.first → IsOk result × (disk.new ≡ disk.old) }
+        ensures calls_at_most { (first ≡ self.old.image.first → ⊥) → (D.state disk.new).calls ≤ raised 7 (D.state disk.old).calls }
+        ensures cause { OnErr result (Rises (D.state disk.old).faults (D.state disk.new).faults) }
+        ensures steady { IsSteady (D.state disk.old) → AreMade self.old.image (D.state disk.old).files
+            → IsOk result × ((D.state disk.new).faults ≡ (D.state disk.old).faults) }
+    {
+        if first == self.image.first {
+            return Ok(());
+        }
+        self.write_copy(disk, first, &Change::Listing)
+    }
+
+    /// Takes a file for the container that follows the last listed one: closes the first gate in it, and then writes the copy that
+    /// lists it. `files` are those of the newest copy and this one, which the next copy keeps.
+    pub fn take_file<D: Disk>(&mut self, disk: &mut D, file: u16, files: Vec<u16>) -> Result<(), Failed>
+        requires free { IsNextFile self.old.image file }
+        requires files { files.items ≡ self.old.image.files ++ file ∷ [] }
+        requires room { HasRoom self.old.image }
+        ensures now { OnOk result (self.new ≡ taken_of file self.old) }
+        ensures written { OnOk result (TellsContents (D.state disk.old) → (blocks : Blocks)
+            → Stores self.old blocks (D.state disk.old).files
+            → Stores self.new (with_blocks file [] blocks) (D.state disk.new).files) }
+        ensures settled { OnOk result (IsSettled (D.state disk.old) → IsSettled (D.state disk.new)) }
+
+        // Whatever the answer, a crash at any moment leaves the log of before, or under the new copy the same open blocks and none in
+        // the new container, whatever the file held.
+        ensures moments { IsSettled (D.state disk.old) → (blocks : Blocks) → Stores self.old blocks (D.state disk.old).files
+            → Leaves (λ image. Stores self.old blocks image ⊎ Stores (taken_of file self.old) (with_blocks file [] blocks) image)
+            (D.state disk.old) (D.state disk.new) }
+
+        ensures lengths { SameLengths (D.state disk.old).files (D.state disk.new).files }
+        ensures time { Later (D.state disk.old) (D.state disk.new) }
+        ensures calls { OnOk result (TellsContents (D.state disk.old) → is_open_slot ((D.state disk.old).files 0) (older_of self.old.slot) ≡ true
+            → (D.state disk.new).calls ≡ raised 9 (D.state disk.old).calls) }
+        ensures fewer_calls { OnOk result (TellsContents (D.state disk.old) → is_open_slot ((D.state disk.old).files 0) (older_of self.old.slot) ≡ false
+            → (D.state disk.new).calls ≡ raised 7 (D.state disk.old).calls) }
+        ensures calls_at_most { (D.state disk.new).calls ≤ raised 9 (D.state disk.old).calls }
+        ensures cause { OnErr result (Rises (D.state disk.old).faults (D.state disk.new).faults) }
+        ensures steady { IsSteady (D.state disk.old) → AreMade self.old.image (D.state disk.old).files
+            → IsOk result × ((D.state disk.new).faults ≡ (D.state disk.old).faults) }
+    {
+        apply_file(&mut self.image, file, files);
+        open_blocks_are_one_list();
+        close_first(disk, file)?;
         self.slot = store_copy(disk, self.slot, &self.image, &mut self.bytes)?;
         Ok(())
     }
