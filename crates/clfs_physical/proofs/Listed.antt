@@ -1,0 +1,85 @@
+-- Which files the next copy lists.
+use Rattle.std.proofs.Common.{◌≡◌, ◌⊎◌, ℕ, ◌+◌, ◌-◌, ◌%◌, ◌<◌, ◌≤◌, List, length, get_or, drop, refl, sym, ◌∙◌, ap, subst, arith, length-drop}
+use Rattle.std.proofs.lemmas.List.{get_or-drop}
+use Rattle.clfs_disk.specs.Files.{Files}
+use Rattle.clfs_base.specs.declared.image.BaseImage.{BaseImage}
+use Rattle.clfs_disk.specs.State.{DiskState, Leaves}
+use Rattle.clfs_base.specs.Layout.{version_one}
+use Rattle.clfs_base.specs.Spelling.{IsImage}
+use Rattle.clfs_physical.specs.declared.change.Change.{Change}
+use Rattle.clfs_physical.specs.declared.change.Change.TheVariants as changes
+use Rattle.clfs_physical.specs.Changes.{next_copy}
+use Rattle.clfs_physical.specs.Stored.{Blocks, Lists, AreMade, Holds, IsLog, Newest, Stores}
+
+-- a copy that lists files of another and counts the same
+record Relists (image next : BaseImage) : Type 0 where
+  pub sectors : next.container_sectors ≡ image.container_sectors
+  pub made : next.files_made ≡ image.files_made
+  pub gone : ℕ
+  pub files : next.files ≡ drop gone image.files
+
+pub dropped_lists : (gone : ℕ) (image next : BaseImage) (file : ℕ) → next.files ≡ drop gone image.files → Lists next file → Lists image file
+dropped_lists gone image next file files listed =
+    let within : listed.place < length (drop gone image.files) = omega (arith, listed.within, ap (λ (l : List ℕ). length l) files) in
+    record {
+      place = gone + listed.place;
+      within = omega (arith, within, length-drop gone image.files);
+      is = sym (get_or-drop gone image.files listed.place 0) ∙ sym (ap (λ (l : List ℕ). get_or l listed.place 0) files) ∙ listed.is;
+    }
+
+pub made_as : (image next : BaseImage) (files : Files) → next.container_sectors ≡ image.container_sectors → next.files_made ≡ image.files_made
+    → AreMade image files → AreMade next files
+made_as image next files sectors made are = record {
+  base = are.base;
+  made = λ file from to. omega (arith, are.made file from (omega (arith, to, made)), sectors);
+}
+
+relisted : (image next : BaseImage) (blocks : Blocks) (files : Files) → Relists image next → Holds image blocks files → Holds next blocks files
+relisted image next blocks files relists holds = record {
+  made = made_as image next files relists.sectors relists.made holds.made;
+  opens = λ file listed. rw relists.sectors (holds.opens file (dropped_lists relists.gone image next file relists.files listed));
+}
+
+relists : (first : ℕ) (change : Change) (image : BaseImage) → Relists image (next_copy first change image)
+relists first changes.Listing image = record { sectors = refl; made = refl; gone = first - image.first; files = refl }
+relists first (changes.Base stream base) image = record { sectors = refl; made = refl; gone = first - image.first; files = refl }
+relists first (changes.Archive archiving tail) image = record { sectors = refl; made = refl; gone = first - image.first; files = refl }
+relists first (changes.Policies automatic maximum minimum growth) image = record { sectors = refl; made = refl; gone = first - image.first; files = refl }
+
+pub next_holds : (first : ℕ) (change : Change) (image : BaseImage) (blocks : Blocks) (files : Files) → Holds image blocks files
+    → Holds (next_copy first change image) blocks files
+next_holds first change image blocks files holds = relisted image (next_copy first change image) blocks files (relists first change image) holds
+
+pub next_turn : (first : ℕ) (change : Change) (image : BaseImage) → (next_copy first change image).turn ≡ (image.turn + 1) % 3
+next_turn first changes.Listing image = refl
+next_turn first (changes.Base stream base) image = refl
+next_turn first (changes.Archive archiving tail) image = refl
+next_turn first (changes.Policies automatic maximum minimum growth) image = refl
+
+-- ---- the next copy, written
+
+module _ (first : ℕ) (change : Change) (slot : ℕ) (image next : BaseImage) (now : Newest) (view : record { slot = slot; image = image } ≡ now)
+    (is : next ≡ next_copy first change image) (image_is : IsImage version_one image) where
+  turn_is : next.turn ≡ (image.turn + 1) % 3
+  turn_is = ap (λ (n : BaseImage). n.turn) is ∙ next_turn first change image
+
+  holds_next : (blocks : Blocks) (files : Files) → Holds image blocks files → Holds next blocks files
+  holds_next blocks files holds = subst (λ (n : BaseImage). Holds n blocks files) (sym is) (next_holds first change image blocks files holds)
+
+  pub copy_leaves : (a b : DiskState)
+      → ((before : BaseImage) (blocks : Blocks) → IsImage version_one before → next.turn ≡ (before.turn + 1) % 3 → IsLog slot before blocks a.files
+      → Holds next blocks a.files → Leaves (λ files. IsLog slot before blocks files ⊎ IsLog (1 - slot) next blocks files) a b)
+      → (blocks : Blocks) → Stores now blocks a.files
+      → Leaves (λ files. Stores now blocks files ⊎ Stores (record { slot = 1 - now.slot; image = next_copy first change now.image }) blocks files) a b
+  copy_leaves a b leaves = subst (λ (n : Newest). (blocks : Blocks) → Stores n blocks a.files
+      → Leaves (λ files. Stores n blocks files ⊎ Stores (record { slot = 1 - n.slot; image = next_copy first change n.image }) blocks files) a b) view
+      (λ blocks log. subst (λ (n : BaseImage). Leaves (λ files. IsLog slot image blocks files ⊎ IsLog (1 - slot) n blocks files) a b) is
+      (leaves image blocks image_is turn_is log (holds_next blocks a.files log.holds)))
+
+  pub copy_written : (used : ℕ) (old new : Files) → used ≡ 1 - slot
+      → ((before : BaseImage) (blocks : Blocks) → IsImage version_one before → next.turn ≡ (before.turn + 1) % 3 → IsLog slot before blocks old
+      → Holds next blocks old → IsLog (1 - slot) next blocks new)
+      → (blocks : Blocks) → Stores now blocks old → IsLog used next blocks new
+  copy_written used old new beside written = subst (λ (n : Newest). (blocks : Blocks) → Stores n blocks old → IsLog used next blocks new) view
+      (λ blocks log. subst (λ (k : ℕ). IsLog k next blocks new) (sym beside)
+      (written image blocks image_is turn_is log (holds_next blocks old log.holds)))

@@ -1,0 +1,50 @@
+-- What the next copy says, by what is to change.
+use Rattle.std.specs.Prelude.{ℕ, ◌+◌, ◌-◌, ◌%◌, ◌≤◌, max, List, [], ◌∷◌, ◌++◌, length, drop, slice_set}
+use Rattle.clfs_base.specs.declared.image.BaseImage.{BaseImage}
+use Rattle.clfs_base.specs.declared.image.Row.{Row}
+use Rattle.clfs_base.specs.Spelling.{row_in}
+use Rattle.clfs_physical.specs.declared.change.Change.{Change}
+use Rattle.clfs_physical.specs.declared.change.Change.TheVariants as changes
+
+-- A copy with the turn that follows.
+abbrev pub with_next_turn : BaseImage → BaseImage
+with_next_turn image = record image { turn = (image.turn + 1) % 3 }
+
+-- A copy that lists no container below this one.
+abbrev pub listed_from : ℕ → BaseImage → BaseImage
+listed_from first image = record image { first = first; files = drop (first - image.first) image.files }
+
+-- The same copy with another file behind the listed ones.
+abbrev pub with_file : ℕ → BaseImage → BaseImage
+with_file file image = record image { files = image.files ++ file ∷ [] }
+
+-- The same copy with one stream more.
+abbrev pub with_stream : Row → BaseImage → BaseImage
+with_stream row image = record image { streams = image.streams ++ row ∷ [] }
+
+-- The same copy of a log with so many containers, for which files were made where there weren't enough.
+abbrev pub with_containers : ℕ → BaseImage → BaseImage
+with_containers containers image = record image { containers = containers; files_made = max image.files_made containers }
+
+-- The rows with another base of the stream of this number, from 1.
+abbrev pub with_base : ℕ → ℕ → List Row → List Row
+with_base stream base rows = slice_set rows (stream - 1) (record (row_in rows (stream - 1)) { base = base })
+
+-- The same copy after a change.
+abbrev pub changed : Change → BaseImage → BaseImage
+changed changes.Listing image = image
+changed (changes.Base stream base) image = record image { streams = with_base stream base image.streams }
+changed (changes.Archive archiving tail) image = record image { archiving = archiving; tail = tail }
+changed (changes.Policies automatic maximum minimum growth) image =
+    record image { automatic = automatic; maximum = maximum; minimum = minimum; growth = growth }
+
+-- The copy that follows one, with the containers from this one on and after a change.
+abbrev pub next_copy : ℕ → Change → BaseImage → BaseImage
+next_copy first change image = changed change (listed_from first (with_next_turn image))
+
+-- The change speaks of a stream that is there.
+abbrev pub Suits : Change → BaseImage → Type 0
+Suits (changes.Base stream base) image = (1 ≤ stream) × (stream ≤ length image.streams)
+Suits changes.Listing image = Unit {0}
+Suits (changes.Archive archiving tail) image = Unit {0}
+Suits (changes.Policies automatic maximum minimum growth) image = Unit {0}

@@ -1,0 +1,4 @@
+pub mod Stored
+pub mod Joined
+pub mod Changes
+pub mod Taking

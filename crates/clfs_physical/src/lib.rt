@@ -1,0 +1,14 @@
+//! The log on its disk.
+#![tactic(auto)]
+
+mod change;
+mod copy;
+mod free;
+mod group;
+mod physical;
+mod refusal;
+mod turn;
+
+pub use change::Change;
+pub use physical::Physical;
+pub use refusal::PhysicalRefusal;

@@ -1,0 +1,212 @@
+// The newest base copy of a log, and what is written to the log's disk.
+ghost use Rattle.std.specs.Prelude.{◌≡◌, ◌⊎◌, ◌+◌, ◌-◌, ◌*◌, ◌%◌, ◌≤◌, ◌∷◌, ◌++◌, [], List, ℕ, true, false, length, IfOk, OnOk, OnErr, IsOk};
+ghost use Rattle.clfs_lsn.specs.Format.{sector_bytes};
+ghost use Rattle.clfs_disk.specs.State.{TellsContents, IsHonest, IsSettled, IsSteady, Later, Leaves, Rises, raised};
+ghost use Rattle.clfs_base.specs.declared.image.BaseImage.{BaseImage};
+ghost use Rattle.clfs_base.specs.Layout.{version_one};
+ghost use Rattle.clfs_base.specs.Spelling.{IsImage};
+ghost use Rattle.clfs_base.specs.Slots.{is_open_slot};
+ghost use Rattle.clfs_base.specs.Writing.{older_of};
+ghost use Rattle.clfs_physical.specs.Changes.{next_copy, Suits};
+ghost use Rattle.clfs_physical.specs.Joined.{SameLengths};
+ghost use Rattle.clfs_physical.specs.Stored.{Blocks, Newest, AreMade, Stores, Waits, last_file, with_blocks, with_group};
+ghost use Rattle.clfs_physical.specs.Taking.{IsNextFile, HasRoom, low_of, taken_of};
+
+use crate::change::{Change, apply, apply_file};
+use crate::copy::store_copy;
+use crate::group::write_group;
+use clfs_base::BaseImage;
+use clfs_container::{close_first, open_blocks_are_one_list};
+use clfs_disk::{Disk, Failed};
+use std::alloc::{AllocError, Global};
+use std::marker::Model;
+
+// The bytes of a copy behind its gate.
+const COPY: usize = 16383;
+
+/// The newest base copy, the slot that it is in, and the memory in which the next one is spelled.
+#[derive(Drop)]
+pub struct Physical {
+    alloc: Global,
+    image: BaseImage,
+    slot: u32,
+    bytes: Vec<u8>,
+}
+
+impl Model for Physical {
+    ghost use Rattle.std.specs.Prelude.{◌≡◌, ◌≤◌, vec_len};
+    ghost use Rattle.clfs_base.specs.Layout.{version_one};
+    ghost use Rattle.clfs_base.specs.Spelling.{IsImage};
+    ghost use Rattle.clfs_physical.specs.Stored.{Newest, IsKept};
+
+    ghost Value = { Newest };
+
+    ghost view = { λ p. record { slot = p.slot; image = p.image } };
+
+    ghost invariant = { λ p. IsKept p.slot p.image (vec_len p.bytes) };
+}
+
+impl Physical {
+    /// What was read of the base file. The memory of a copy's bytes is taken here.
+    pub fn new(alloc: Global, slot: u32, image: BaseImage) -> Result<Physical, AllocError>
+        requires slot { slot ≤ 1 }
+        requires image { IsImage version_one image }
+        ensures { IfOk result (λ p. p ≡ record { slot = slot; image = image }) }
+    {
+        let mut bytes = Vec::new(alloc);
+        bytes.resize(COPY, 0)?;
+        Ok(Physical {
+            alloc,
+            image,
+            slot,
+            bytes,
+        })
+    }
+
+    /// The newest copy.
+    pub fn image(&self) -> &BaseImage
+        ensures exact { result.now ≡ self.now.image }
+        ensures image { IsImage version_one self.now.image }
+        ensures slot { self.now.slot ≤ 1 }
+    {
+        &self.image
+    }
+
+    /// Writes the blocks that wait as one group behind the open blocks of the last container.
+    pub fn flush<D: Disk>(&self, disk: &mut D, at: u32, body: &[u8]) -> Result<(), Failed>
+        ensures written { OnOk result (TellsContents (D.state disk.old) → (blocks : Blocks) (more : List (List ℕ))
+            → Stores self.now blocks (D.state disk.old).files → Waits self.now.image blocks at body.now more
+            → Stores self.now (with_group self.now.image more blocks) (D.state disk.new).files) }
+        ensures settled { OnOk result (IsSettled (D.state disk.old) → IsSettled (D.state disk.new)) }
+
+        // Whatever the answer, a crash at any moment leaves the blocks of before, or these and all of the group.
+        ensures moments { IsSettled (D.state disk.old) → (blocks : Blocks) (more : List (List ℕ))
+            → Stores self.now blocks (D.state disk.old).files → Waits self.now.image blocks at body.now more
+            → Leaves (λ image. Stores self.now blocks image ⊎ Stores self.now (with_group self.now.image more blocks) image)
+            (D.state disk.old) (D.state disk.new) }
+
+        ensures nothing { body.now ≡ [] → IsOk result × (disk.new ≡ disk.old) }
+        ensures lengths { SameLengths (D.state disk.old).files (D.state disk.new).files }
+        ensures time { Later (D.state disk.old) (D.state disk.new) }
+        ensures calls { OnOk result ((body.now ≡ [] → ⊥) → (D.state disk.new).calls ≡ raised 4 (D.state disk.old).calls) }
+        ensures calls_at_most { (body.now ≡ [] → ⊥) → (D.state disk.new).calls ≤ raised 4 (D.state disk.old).calls }
+        ensures cause { OnErr result (Rises (D.state disk.old).faults (D.state disk.new).faults) }
+        ensures steady { IsSteady (D.state disk.old) → AreMade self.now.image (D.state disk.old).files
+            → at + 1 + length body.now ≤ sector_bytes * self.now.image.container_sectors
+            → IsOk result × ((D.state disk.new).faults ≡ (D.state disk.old).faults) }
+    {
+        let file = self.last_file();
+        if body.is_empty() {
+            return Ok(());
+        }
+        open_blocks_are_one_list();
+        write_group(disk, file, at, body)
+    }
+
+    // The file of the last listed container.
+    fn last_file(&self) -> u16
+        ensures file { result ≡ last_file self.now.image }
+        ensures few { result ≤ 256 }
+        ensures image { IsImage version_one self.now.image }
+    {
+        let files = self.image.files.as_slice();
+        files[files.len() - 1]
+    }
+
+    /// Writes the copy that follows the newest one, with the containers from `first` on and after a change.
+    pub fn write_copy<D: Disk>(&mut self, disk: &mut D, first: u32, change: &Change) -> Result<(), Failed>
+        requires first { self.old.image.first ≤ first }
+        requires listed { first + 1 ≤ self.old.image.first + length self.old.image.files }
+        requires change { Suits change.now self.old.image }
+        requires image { IsImage version_one (next_copy first change.now self.old.image) }
+        ensures now { OnOk result (self.new ≡ record { slot = older_of self.old.slot; image = next_copy first change.now self.old.image }) }
+        ensures written { OnOk result (TellsContents (D.state disk.old) → (blocks : Blocks)
+            → Stores self.old blocks (D.state disk.old).files → Stores self.new blocks (D.state disk.new).files) }
+        ensures settled { OnOk result (IsSettled (D.state disk.old) → IsSettled (D.state disk.new)) }
+
+        // Whatever the answer, a crash at any moment leaves the same open blocks under the copy of before or under this one.
+        ensures moments { IsSettled (D.state disk.old) → (blocks : Blocks) → Stores self.old blocks (D.state disk.old).files
+            → Leaves (λ image. Stores self.old blocks image
+            ⊎ Stores (record { slot = older_of self.old.slot; image = next_copy first change.now self.old.image }) blocks image)
+            (D.state disk.old) (D.state disk.new) }
+
+        ensures lengths { SameLengths (D.state disk.old).files (D.state disk.new).files }
+        ensures time { Later (D.state disk.old) (D.state disk.new) }
+        ensures calls { OnOk result (TellsContents (D.state disk.old) → is_open_slot ((D.state disk.old).files 0) (older_of self.old.slot) ≡ true
+            → (D.state disk.new).calls ≡ raised 7 (D.state disk.old).calls) }
+        ensures fewer_calls { OnOk result (TellsContents (D.state disk.old) → is_open_slot ((D.state disk.old).files 0) (older_of self.old.slot) ≡ false
+            → (D.state disk.new).calls ≡ raised 5 (D.state disk.old).calls) }
+        ensures calls_at_most { (D.state disk.new).calls ≤ raised 7 (D.state disk.old).calls }
+        ensures cause { OnErr result (Rises (D.state disk.old).faults (D.state disk.new).faults) }
+        ensures steady { IsSteady (D.state disk.old) → AreMade self.old.image (D.state disk.old).files
+            → IsOk result × ((D.state disk.new).faults ≡ (D.state disk.old).faults) }
+    {
+        apply(self.alloc, &mut self.image, first, change);
+        self.slot = store_copy(disk, self.slot, &self.image, &mut self.bytes)?;
+        Ok(())
+    }
+
+    /// Writes the copy without the containers below `first`, where the newest lists any.
+    pub fn drop_low<D: Disk>(&mut self, disk: &mut D, first: u32) -> Result<(), Failed>
+        requires first { self.old.image.first ≤ first }
+        requires listed { first + 1 ≤ self.old.image.first + length self.old.image.files }
+        ensures now { OnOk result (self.new ≡ low_of first self.old) }
+        ensures written { OnOk result (TellsContents (D.state disk.old) → (blocks : Blocks)
+            → Stores self.old blocks (D.state disk.old).files → Stores self.new blocks (D.state disk.new).files) }
+        ensures settled { OnOk result (IsSettled (D.state disk.old) → IsSettled (D.state disk.new)) }
+
+        // Whatever the answer, a crash at any moment leaves the same open blocks under the copy of before or under this one.
+        ensures moments { IsSettled (D.state disk.old) → (blocks : Blocks) → Stores self.old blocks (D.state disk.old).files
+            → Leaves (λ image. Stores self.old blocks image ⊎ Stores (low_of first self.old) blocks image)
+            (D.state disk.old) (D.state disk.new) }
+
+        ensures lengths { SameLengths (D.state disk.old).files (D.state disk.new).files }
+        ensures time { Later (D.state disk.old) (D.state disk.new) }
+        ensures nothing { first ≡ self.old.image.first → IsOk result × (disk.new ≡ disk.old) }
+        ensures calls_at_most { (first ≡ self.old.image.first → ⊥) → (D.state disk.new).calls ≤ raised 7 (D.state disk.old).calls }
+        ensures cause { OnErr result (Rises (D.state disk.old).faults (D.state disk.new).faults) }
+        ensures steady { IsSteady (D.state disk.old) → AreMade self.old.image (D.state disk.old).files
+            → IsOk result × ((D.state disk.new).faults ≡ (D.state disk.old).faults) }
+    {
+        if first == self.image.first {
+            return Ok(());
+        }
+        self.write_copy(disk, first, &Change::Listing)
+    }
+
+    /// Takes a file for the container that follows the last listed one: closes the first gate in it, and then writes the copy that
+    /// lists it. `files` are those of the newest copy and this one, which the next copy keeps.
+    pub fn take_file<D: Disk>(&mut self, disk: &mut D, file: u16, files: Vec<u16>) -> Result<(), Failed>
+        requires free { IsNextFile self.old.image file }
+        requires files { files.items ≡ self.old.image.files ++ file ∷ [] }
+        requires room { HasRoom self.old.image }
+        ensures now { OnOk result (self.new ≡ taken_of file self.old) }
+        ensures written { OnOk result (TellsContents (D.state disk.old) → (blocks : Blocks)
+            → Stores self.old blocks (D.state disk.old).files
+            → Stores self.new (with_blocks file [] blocks) (D.state disk.new).files) }
+        ensures settled { OnOk result (IsSettled (D.state disk.old) → IsSettled (D.state disk.new)) }
+
+        // Whatever the answer, a crash at any moment leaves the log of before, or under the new copy the same open blocks and none in
+        // the new container, whatever the file held.
+        ensures moments { IsSettled (D.state disk.old) → (blocks : Blocks) → Stores self.old blocks (D.state disk.old).files
+            → Leaves (λ image. Stores self.old blocks image ⊎ Stores (taken_of file self.old) (with_blocks file [] blocks) image)
+            (D.state disk.old) (D.state disk.new) }
+
+        ensures lengths { SameLengths (D.state disk.old).files (D.state disk.new).files }
+        ensures time { Later (D.state disk.old) (D.state disk.new) }
+        ensures calls { OnOk result (TellsContents (D.state disk.old) → is_open_slot ((D.state disk.old).files 0) (older_of self.old.slot) ≡ true
+            → (D.state disk.new).calls ≡ raised 9 (D.state disk.old).calls) }
+        ensures fewer_calls { OnOk result (TellsContents (D.state disk.old) → is_open_slot ((D.state disk.old).files 0) (older_of self.old.slot) ≡ false
+            → (D.state disk.new).calls ≡ raised 7 (D.state disk.old).calls) }
+        ensures calls_at_most { (D.state disk.new).calls ≤ raised 9 (D.state disk.old).calls }
+        ensures cause { OnErr result (Rises (D.state disk.old).faults (D.state disk.new).faults) }
+        ensures steady { IsSteady (D.state disk.old) → AreMade self.old.image (D.state disk.old).files
+            → IsOk result × ((D.state disk.new).faults ≡ (D.state disk.old).faults) }
+    {
+        apply_file(&mut self.image, file, files);
+        open_blocks_are_one_list();
+        close_first(disk, file)?;
+        self.slot = store_copy(disk, self.slot, &self.image, &mut self.bytes)?;
+        Ok(())
+    }
+}
