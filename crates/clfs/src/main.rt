@@ -1,14 +1,14 @@
 //! The program: `clfs FOLDER COMMAND ..` runs a command of the log over standard input and output.
 //!
-//! Everything that matters is `clfs_engine::run`, which is proved over any source and sink. Here the two standard streams
-//! become a source and a sink, and the words behind the folder become the command. A word that isn't text, or no folder, is
+//! Everything that matters is `clfs_engine::run`, which is proved over any source, sink and disk. Here the two standard streams
+//! become a source and a sink, the folder a disk, and the words behind it the command. A word that isn't text, or no folder, is
 //! no command. `--help` and `--version` are words in the folder's place; they are answered here. Why a run ended without its work
 //! done is said on standard error where standard output doesn't say it.
 #![tactic(auto)]
 
 use clfs_engine::{DONE, NO_MEMORY, SINK_FAULT, SOURCE_FAULT, run};
-use clfs_files::{ReaderSource, WriterSink};
-use std::alloc::AllocError;
+use clfs_files::{Folder, ReaderSource, WriterSink};
+use std::alloc::{AllocError, Global};
 use std::process::ExitCode;
 use std::rt::Env;
 use std::{env, io};
@@ -41,6 +41,14 @@ fn command_words(words: &[String]) -> &[String] {
     words.split_at(words.len().min(2)).1
 }
 
+// The folder's path: the word behind the program's name.
+fn folder_path(alloc: Global, words: &[String]) -> Result<String, AllocError> {
+    match words.get(1) {
+        Some(word) => word.clone(),
+        None => Ok(String::new(alloc)),
+    }
+}
+
 // The text that a word in the folder's place asks for, where it is alone.
 fn own_text(words: &[String]) -> Option<&'static str> {
     match words {
@@ -60,7 +68,7 @@ fn cause(status: u8) -> Option<&'static str> {
     }
 }
 
-// The status of a run over standard input and output.
+// The status of a run over standard input and output and the folder.
 fn status(rt: &HostRuntime) -> u8 {
     let Ok(words) = all_words(rt) else {
         return NO_MEMORY;
@@ -73,7 +81,12 @@ fn status(rt: &HostRuntime) -> u8 {
     }
     let mut source = ReaderSource::new(rt.reader());
     let mut sink = WriterSink::new(io::writer(rt));
-    run(rt.alloc(), command_words(&words), &mut source, &mut sink)
+    let Ok(path) = folder_path(rt.alloc(), &words) else {
+        return NO_MEMORY;
+    };
+    let folder = Folder::new(*rt, path);
+    let command = command_words(&words);
+    run(rt.alloc(), command, &mut source, &mut sink, folder).status
 }
 
 fn main(rt: HostRuntime) -> ExitCode {
