@@ -14,6 +14,7 @@ mod heads;
 mod journals;
 mod legal_journals;
 mod lines;
+mod manual;
 mod names_and_limits;
 mod opening_anew;
 mod order_of_refusals;
@@ -45,6 +46,7 @@ pub use lines::{
     clients_and_verbs, ends_of_lines, first_scripts, lines_within_limits, options_of_appends,
     words_of_lines,
 };
+pub use manual::example_of_the_manual;
 pub use names_and_limits::{
     arguments_of_calls, limit_of_areas, limit_of_cursors, limit_of_streams, names_of_streams,
 };
