@@ -1,6 +1,7 @@
 -- The newest copy of a base file whose other slot is written.
-use Rattle.std.proofs.Common.{◌≡◌, ◌⊎◌, inl, inr, ⊎_elim, ℕ, zero, suc, ◌+◌, ◌-◌, ◌*◌, ◌%◌, ◌<◌, ◌≤◌, Bool, true, false, cond, ◌&&◌, ◌||◌, eqb, ltb, List, [], ◌∷◌, ◌++◌, length, get_or, take, drop}
+use Rattle.std.proofs.Common.{◌≡◌, ◌≢◌, ◌⊎◌, inl, inr, ⊎_elim, ℕ, zero, suc, ◌+◌, ◌-◌, ◌*◌, ◌%◌, ◌<◌, ◌≤◌, Bool, true, false, cond, ◌&&◌, ◌||◌, eqb, ltb, List, [], ◌∷◌, ◌++◌, length, get_or, take, drop}
 use Rattle.std.proofs.Common.{Option, Some, None, Result, Ok, Err, refl, sym, ◌∙◌, ap, subst, arith, length-drop}
+use Rattle.std.proofs.lemmas.Bool.{cases_eq, cases_lt}
 use Rattle.std.proofs.lemmas.Bool.Decides.{nat_tests}
 use Rattle.std.proofs.lemmas.List.{ext_get_or, length-take, get_or-take, get_or-drop, drop_more, append-nil}
 use Rattle.clfs_disk.specs.Files.{Files, Torn, TornIn, WrittenIn, Unchanged, overwritten}
@@ -14,7 +15,7 @@ use Rattle.clfs_base.specs.Spelling.{IsImage, spelled}
 use Rattle.clfs_lsn.specs.Checks.{unless_wrong, unless_ok}
 use Rattle.clfs_base.specs.Checks.{slot_fault, image_of, image_at}
 use Rattle.clfs_base.specs.Slots.{slot_place, slot_of, is_open_slot, turn_of, is_wrong_turn, newer_slot, used_slot, copy_in, copy_of, newest_of}
-use Rattle.clfs_base.specs.Writing.{older_of, body_of, HasNewest, IsOlder, IsFilled, IsFirst, EitherNewest}
+use Rattle.clfs_base.specs.Writing.{older_of, body_of, HasNewest, IsOlder, IsFilled, IsFirst, EitherNewest, HasNoCopy, NoneOrFirst}
 use Rattle.clfs_base.proofs.Searches.{both_none}
 use Rattle.clfs_base.proofs.Chains.{chained}
 use Rattle.clfs_base.proofs.Ranges.{all_pass, pass_right}
@@ -425,10 +426,9 @@ module _ (slot used : ℕ) (image next : BaseImage) (old : Files) (older : IsOld
       opened new torn (gate_written stands (16384 * slot) (old 0) (new 0) room written.here)
 
 -- the gate of the first copy is written
-pub first_opened : StandsInPlace → (slot : ℕ) (next : BaseImage) (old new : Files) → slot ≤ 1 → IsFirst slot next old
-    → TornIn 0 (16384 * slot) 1 old new → 16384 * slot + 1 ≤ length (old 0) → WrittenIn 0 (16384 * slot) (165 ∷ []) old new → HasNewest slot next old new
-first_opened stands slot next old new le first torn room written =
-    let gate = gate_written stands (16384 * slot) (old 0) (new 0) room written.here in
+first_with : (slot : ℕ) (next : BaseImage) (old new : Files) → slot ≤ 1 → IsFirst slot next old
+    → TornIn 0 (16384 * slot) 1 old new → is_open_slot (new 0) slot ≡ true → HasNewest slot next old new
+first_with slot next old new le first torn gate =
     record {
       newest = newest_is (new 0) slot next (record {
         used = alone slot le first torn gate;
@@ -448,6 +448,33 @@ first_opened stands slot next old new le first torn room written =
         used_is (new 0) ∙ (λ i. used_by (shut i) (gate i) (is_wrong_turn (new 0) 0) (is_wrong_turn (new 0) 1) (turn_of (new 0) 0) (turn_of (new 0) 1))
         ∙ second_alone _ _ _ _
     alone (suc (suc n)) le first torn gate = absurd (omega (arith, le))
+
+pub first_opened : StandsInPlace → (slot : ℕ) (next : BaseImage) (old new : Files) → slot ≤ 1 → IsFirst slot next old
+    → TornIn 0 (16384 * slot) 1 old new → 16384 * slot + 1 ≤ length (old 0) → WrittenIn 0 (16384 * slot) (165 ∷ []) old new → HasNewest slot next old new
+first_opened stands slot next old new le first torn room written =
+    first_with slot next old new le first torn (gate_written stands (16384 * slot) (old 0) (new 0) room written.here)
+
+-- the gate of the first copy is torn
+pub first_opening : (slot : ℕ) (next : BaseImage) (old new : Files) → slot ≤ 1 → IsFirst slot next old → TornIn 0 (16384 * slot) 1 old new
+    → NoneOrFirst slot next old new
+first_opening slot next old new le first torn = either (is_open_slot (new 0) slot) refl
+  where
+    other_gate : (other : ℕ) → other ≤ 1 → other ≢ slot → is_open_slot (new 0) other ≡ false
+    other_gate other few apart = ⊎_elim
+        (λ (below : other < slot). ap (λ (k : ℕ). eqb k 165) (torn.here.below (16384 * other) (omega (arith, below))) ∙ first.closed other few)
+        (λ (above : slot ≤ other).
+        ap (λ (k : ℕ). eqb k 165) (torn.here.above (16384 * other) (omega (arith, above, apart))) ∙ first.closed other few)
+        (cases_lt other slot)
+
+    none : is_open_slot (new 0) slot ≡ false → HasNoCopy new
+    none gate other few = ⊎_elim
+        (λ (is : other ≡ slot). subst (λ (k : ℕ). is_open_slot (new 0) k ≡ false) (sym is) gate)
+        (λ (apart : other ≢ slot). other_gate other few apart)
+        (cases_eq other slot)
+
+    either : (b : Bool) → is_open_slot (new 0) slot ≡ b → NoneOrFirst slot next old new
+    either true gate = inr (first_with slot next old new le first torn gate)
+    either false gate = inl (none gate)
 
 -- the bytes behind a gate are written
 pub body_written : StandsInPlace → (slot : ℕ) (body : List ℕ) (old new : Files) → length body ≡ 16383 → 16384 * slot + 1 + length body ≤ length (old 0)

@@ -39,6 +39,14 @@ pub record IsFirst (slot : ℕ) (next : BaseImage) (files : Files) : Type 0 wher
   pub closed : (other : ℕ) → other ≤ 1 → is_open_slot (files 0) other ≡ false
   pub body : body_of (files 0) slot ≡ spelled version_one next
 
+-- No slot is open.
+abbrev pub HasNoCopy : Files → Type 0
+HasNoCopy files = (slot : ℕ) → slot ≤ 1 → is_open_slot (files 0) slot ≡ false
+
+-- No slot is open, or the newest copy is the first one of a new log.
+abbrev pub NoneOrFirst : ℕ → BaseImage → Files → Files → Type 0
+NoneOrFirst slot next old files = HasNoCopy files ⊎ HasNewest slot next old files
+
 -- A crash at each moment from old to new leaves the newest copy of before.
 abbrev pub KeepsNewest : ℕ → DiskState → DiskState → Type 0
 KeepsNewest slot old new =

@@ -24,10 +24,11 @@ pub use decoder::decode;
 pub use encoder::encode;
 pub use image::{BaseImage, Files, Row, Rows};
 pub use laws::copies_are_read_as_written;
+pub use layout::SLOT as SLOT_BYTES;
 pub use newest::read_newest;
 pub use refusal::{BaseRefusal, NewestRefusal};
 pub use rows::{first_copy_of_a_small_log, slots_of_a_base_file};
-pub use slots::{close_older, open_slot, write_body};
+pub use slots::{close_older, has_open_gate, open_slot, slot_place, write_body};
 
 #[cfg(test)]
 mod tests;

@@ -6,7 +6,7 @@ ghost use Rattle.clfs_disk.specs.State.{TellsContents, IsSteady, IsHonest, IsSet
 ghost use Rattle.clfs_base.specs.declared.image.BaseImage.{BaseImage};
 ghost use Rattle.clfs_base.specs.Layout.{slot_bytes};
 ghost use Rattle.clfs_base.specs.Slots.{slot_place, is_open_slot};
-ghost use Rattle.clfs_base.specs.Writing.{body_of, HasNewest, IsOlder, IsFilled, IsFirst, KeepsNewest, StaysNewest, EitherNewest};
+ghost use Rattle.clfs_base.specs.Writing.{body_of, HasNewest, IsOlder, IsFilled, IsFirst, KeepsNewest, StaysNewest, EitherNewest, NoneOrFirst};
 
 use crate::layout::SLOT;
 use clfs_disk::{Disk, Failed, calls_join, overwritten_bytes_stand_in_place, write_synced};
@@ -22,8 +22,8 @@ pub fn slot_place(slot: u32) -> u64
     SLOT as u64 * slot as u64
 }
 
-// Whether a slot's gate is there and open.
-fn has_open_gate<D: Disk>(disk: &mut D, slot: u32) -> Result<bool, Failed>
+/// Whether a slot's gate is there and open, by one call of the disk.
+pub fn has_open_gate<D: Disk>(disk: &mut D, slot: u32) -> Result<bool, Failed>
     ensures open { IfOk result (λ is. TellsContents (D.state disk.old) → is ≡ is_open_slot ((D.state disk.old).files 0) slot) }
     ensures same { Unchanged (D.state disk.old).files (D.state disk.new).files }
     ensures time { Passes Unchanged (D.state disk.old) (D.state disk.new) }
@@ -124,6 +124,10 @@ pub fn open_slot<D: Disk>(disk: &mut D, slot: u32) -> Result<(), Failed>
     // Where no slot is open, as in a new log, the copy is then the newest.
     ensures first { OnOk result (TellsContents (D.state disk.old) → (next : BaseImage)
         → IsFirst slot next (D.state disk.old).files → HasNewest slot next (D.state disk.old).files (D.state disk.new).files) }
+
+    // Whatever the answer, a crash at any moment then leaves no open slot or that copy.
+    ensures first_moments { IsSettled (D.state disk.old) → (next : BaseImage) → IsFirst slot next (D.state disk.old).files
+        → Leaves (NoneOrFirst slot next (D.state disk.old).files) (D.state disk.old) (D.state disk.new) }
 
     // Whatever the answer, the files differ from those of before, and each image from one of before, in the gate alone.
     ensures torn { TornIn 0 (slot_place slot) 1 (D.state disk.old).files (D.state disk.new).files }

@@ -2,8 +2,8 @@ use Rattle.std.proofs.Common.{◌*◌, ℕ, [], ◌∷◌, inl, subst, arith}
 use Rattle.std.proofs.lemmas.Result.{on_ok_weaker}
 use Rattle.clfs_disk.specs.Files.{Files, TornIn, WrittenIn}
 use Rattle.clfs_disk.specs.State.{Leaves}
-use Rattle.clfs_base.specs.Writing.{EitherNewest}
-use Rattle.clfs_base.proofs.Copies.{leaves_weaker, opening, opened_whole, first_opened}
+use Rattle.clfs_base.specs.Writing.{EitherNewest, NoneOrFirst}
+use Rattle.clfs_base.proofs.Copies.{leaves_weaker, opening, opened_whole, first_opened, first_opening}
 use Rattle.clfs_base.proofs.slots.open_slot.Goals as goal
 
 pub returns-clause-opened : goal.returns-clause-opened
@@ -43,3 +43,11 @@ returns-clause-first g c = on_ok_weaker c.write_synced.result
     (subst (λ (k : ℕ). WrittenIn 0 k (165 ∷ []) (g.D.Disk.state c.args.disk.now).files (g.D.Disk.state c.write_synced.new.disk).files)
     c.slot_place.ensures done.1))
     c.write_synced.ensures.written
+
+pub returns-clause-first_moments : goal.returns-clause-first_moments
+returns-clause-first_moments g c settled next first =
+    let old : Files = (g.D.Disk.state c.args.disk.now).files in
+    leaves_weaker (TornIn 0 (16384 * c.args.slot) 1 old) (NoneOrFirst c.args.slot next old) _ _
+    (λ files torn. first_opening c.args.slot next old files c.requires first torn)
+    (subst (λ (at : ℕ). Leaves (TornIn 0 at 1 old) (g.D.Disk.state c.args.disk.now) (g.D.Disk.state c.write_synced.new.disk)) c.slot_place.ensures
+    (c.write_synced.ensures.moments settled))

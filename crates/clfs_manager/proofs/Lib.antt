@@ -1,0 +1,4 @@
+pub mod Joining
+pub mod Lengths
+pub mod Copies
+pub mod Made

@@ -1,0 +1,211 @@
+// Making a log: all its files at full length, no gate open in them that counts, and then the first base copy, whose gate is opened last.
+// So until that gate is opened no slot is: whoever opens the files finds no log, or the whole one. Before the closed gates
+// are synced nothing is said of a crash, since a growth that is cut short may leave any bytes; then the files are to be thrown away.
+ghost use Rattle.std.specs.Prelude.{◌≡◌, ◌≢◌, ◌==◌, ℕ, [], ◌∷◌, ◌+◌, ◌-◌, ◌*◌, ◌<◌, ◌≤◌, false, Ok, Err, Some, None, length, slice_index, IfOk, OnOk, OnErr, IsOk, IsErrOf};
+ghost use Rattle.clfs_lsn.specs.Format.{open_gate};
+ghost use Rattle.clfs_lsn.specs.Limits.{most_containers};
+ghost use Rattle.clfs_lsn.specs.Size.{IsShape};
+ghost use Rattle.clfs_disk.specs.Files.{Unchanged, WrittenIn};
+ghost use Rattle.clfs_disk.specs.State.{TellsContents, IsSteady, IsHonest, IsSettled, Later, Leaves, Passes, Rises};
+ghost use Rattle.clfs_disk.specs.Calls.{Writes};
+ghost use Rattle.clfs_base.specs.declared.image.BaseImage.{BaseImage};
+ghost use Rattle.clfs_base.specs.Layout.{slot_bytes, version_one};
+ghost use Rattle.clfs_base.specs.Spelling.{IsImage, spelled};
+ghost use Rattle.clfs_base.specs.Slots.{newest_of, is_open_slot, slot_place};
+ghost use Rattle.clfs_base.specs.Writing.{HasNewest, NoneOrFirst};
+ghost use Rattle.clfs_manager.specs.Formatting.{full_length, open_slot_of, AreLong, HasNoGates, SameLengths, KnowsLengths, IsFree, IsMade, ComesAtOnce, first_image};
+
+use crate::first_copy::first_copy;
+use crate::refusal::FormatRefusal;
+use clfs_base::{
+    SLOT_BYTES, copies_are_read_as_written, has_open_gate, open_slot, slot_place, write_body,
+};
+use clfs_container::close_first;
+use clfs_disk::{Disk, Failed, GrowRefusal, calls_join, overwritten_bytes_stand_in_place};
+use clfs_lsn::{SECTOR, Shape};
+use std::alloc::Global;
+
+// One of the values of a closed gate.
+const CLOSED: u8 = 0;
+
+// How long a file of the log is.
+fn full_length(shape: &Shape, file: u16) -> u64
+    ensures { result ≡ full_length shape.now file }
+{
+    if file == 0 {
+        2 * SLOT_BYTES as u64
+    } else {
+        SECTOR as u64 * shape.container_sectors as u64
+    }
+}
+
+// Makes the files of the log, and each at least as long as it has to be.
+pub(crate) fn make_files<D: Disk>(
+    disk: &mut D,
+    shape: &Shape,
+    containers: u16,
+) -> Result<(), GrowRefusal>
+    requires { containers ≤ most_containers }
+    ensures long { OnOk result (KnowsLengths (D.state disk.old) → AreLong shape.now (containers + 1) (D.state disk.new).files) }
+    ensures time { Later (D.state disk.old) (D.state disk.new) }
+    ensures cause { IsErrOf result GrowRefusal.Failed → Rises (D.state disk.old).faults (D.state disk.new).faults }
+    ensures steady { IsSteady (D.state disk.old) → (IsErrOf result GrowRefusal.Failed → ⊥)
+        × ((D.state disk.new).faults ≡ (D.state disk.old).faults) }
+{
+    for file in 0..containers + 1 {
+        disk.grow(file, full_length(shape, file))?;
+    }
+    Ok(())
+}
+
+// Writes a closed gate at a place of a file.
+fn close_gate<D: Disk>(disk: &mut D, file: u16, at: u64) -> Result<(), Failed>
+    requires { file ≤ 256 }
+    ensures { Writes file at (0 ∷ []) result (D.state disk.old) (D.state disk.new) }
+{
+    disk.write(file, at, &[CLOSED])
+}
+
+// Closes both gates of the base file.
+fn close_slots<D: Disk>(disk: &mut D) -> Result<(), Failed>
+    ensures first { OnOk result (TellsContents (D.state disk.old) → is_open_slot ((D.state disk.new).files 0) 0 ≡ false) }
+    ensures second { OnOk result (TellsContents (D.state disk.old) → is_open_slot ((D.state disk.new).files 0) 1 ≡ false) }
+    ensures lengths { SameLengths (D.state disk.old).files (D.state disk.new).files }
+    ensures time { Later (D.state disk.old) (D.state disk.new) }
+    ensures cause { OnErr result (Rises (D.state disk.old).faults (D.state disk.new).faults) }
+    ensures steady { IsSteady (D.state disk.old) → 2 * slot_bytes ≤ length ((D.state disk.old).files 0)
+        → IsOk result × ((D.state disk.new).faults ≡ (D.state disk.old).faults) }
+{
+    overwritten_bytes_stand_in_place();
+    close_gate(disk, 0, slot_place(0))?;
+    close_gate(disk, 0, slot_place(1))
+}
+
+// Closes both gates of the base file and the first one of file 1, and syncs them.
+fn close_gates<D: Disk>(disk: &mut D) -> Result<(), Failed>
+    ensures none { OnOk result (TellsContents (D.state disk.old) → HasNoGates (D.state disk.new).files) }
+    ensures settled { OnOk result (IsHonest (D.state disk.old) → IsSettled (D.state disk.new)) }
+    ensures lengths { SameLengths (D.state disk.old).files (D.state disk.new).files }
+    ensures time { Later (D.state disk.old) (D.state disk.new) }
+    ensures cause { OnErr result (Rises (D.state disk.old).faults (D.state disk.new).faults) }
+    ensures steady { IsSteady (D.state disk.old) → 2 * slot_bytes ≤ length ((D.state disk.old).files 0)
+        → 1 ≤ length ((D.state disk.old).files 1) → IsOk result × ((D.state disk.new).faults ≡ (D.state disk.old).faults) }
+{
+    close_slots(disk)?;
+    close_first(disk, 1)
+}
+
+// Writes the first copy behind the closed gate of slot 0, syncs it, and opens the gate.
+fn write_copy<D: Disk>(disk: &mut D, body: &[u8]) -> Result<(), Failed>
+    requires { length body.now ≡ slot_bytes - 1 }
+    ensures written { OnOk result (TellsContents (D.state disk.old) → (image : BaseImage) → IsImage version_one image
+        → body.now ≡ spelled version_one image → HasNoGates (D.state disk.old).files
+        → HasNewest 0 image (D.state disk.old).files (D.state disk.new).files) }
+    ensures settled { OnOk result (IsHonest (D.state disk.old) → IsSettled (D.state disk.new)) }
+
+    // Whatever the answer, a crash at any moment leaves no open slot or this copy.
+    ensures moments { IsSettled (D.state disk.old) → (image : BaseImage) → IsImage version_one image
+        → body.now ≡ spelled version_one image → HasNoGates (D.state disk.old).files
+        → Leaves (NoneOrFirst 0 image (D.state disk.old).files) (D.state disk.old) (D.state disk.new) }
+
+    ensures lengths { SameLengths (D.state disk.old).files (D.state disk.new).files }
+    ensures time { Later (D.state disk.old) (D.state disk.new) }
+    ensures cause { OnErr result (Rises (D.state disk.old).faults (D.state disk.new).faults) }
+    ensures steady { IsSteady (D.state disk.old) → 2 * slot_bytes ≤ length ((D.state disk.old).files 0)
+        → IsOk result × ((D.state disk.new).faults ≡ (D.state disk.old).faults) }
+{
+    calls_join::<D>();
+    write_body(disk, 0, body)?;
+    open_slot(disk, 0)
+}
+
+// Whether no log is there: no gate of the base file is open.
+fn is_free<D: Disk>(disk: &mut D) -> Result<(), FormatRefusal>
+    ensures free { TellsContents (D.state disk.old) → IsFree result ((D.state disk.old).files 0) }
+    ensures same { Unchanged (D.state disk.old).files (D.state disk.new).files }
+    ensures time { Passes Unchanged (D.state disk.old) (D.state disk.new) }
+    ensures cause { IsErrOf result FormatRefusal.DiskFault → Rises (D.state disk.old).faults (D.state disk.new).faults }
+    ensures steady { IsSteady (D.state disk.old) → (IsErrOf result FormatRefusal.DiskFault → ⊥)
+        × ((D.state disk.new).faults ≡ (D.state disk.old).faults) }
+{
+    calls_join::<D>();
+    if has_open_gate(disk, 0)? {
+        return Err(FormatRefusal::Exists { slot: 0 });
+    }
+    if has_open_gate(disk, 1)? {
+        return Err(FormatRefusal::Exists { slot: 1 });
+    }
+    Ok(())
+}
+
+// All files at full length, and no gate open in them that counts.
+fn prepare<D: Disk>(disk: &mut D, shape: &Shape, containers: u16) -> Result<(), FormatRefusal>
+    requires { containers ≤ most_containers }
+    ensures none { OnOk result (TellsContents (D.state disk.old) → HasNoGates (D.state disk.new).files) }
+    ensures long { OnOk result (KnowsLengths (D.state disk.old) → AreLong shape.now (containers + 1) (D.state disk.new).files) }
+    ensures settled { OnOk result (IsHonest (D.state disk.old) → IsSettled (D.state disk.new)) }
+    ensures time { Later (D.state disk.old) (D.state disk.new) }
+    ensures cause { IsErrOf result FormatRefusal.DiskFault → Rises (D.state disk.old).faults (D.state disk.new).faults }
+    ensures steady { IsSteady (D.state disk.old) → 1 ≤ containers → 1 ≤ shape.now.container_sectors
+        → (IsErrOf result FormatRefusal.DiskFault → ⊥) × ((D.state disk.new).faults ≡ (D.state disk.old).faults) }
+    ensures other { (slot : ℕ) → IsErrOf result (FormatRefusal.Exists slot) → ⊥ }
+{
+    make_files(disk, shape, containers)?;
+    disk.sync()?;
+    close_gates(disk)?;
+    Ok(())
+}
+
+/// Makes a log on a disk, on which none is.
+pub(crate) fn format_disk<D: Disk>(
+    alloc: Global,
+    disk: &mut D,
+    shape: &Shape,
+    containers: u16,
+) -> Result<(), FormatRefusal>
+    requires shape { IsShape shape.now }
+    requires some { 1 ≤ containers }
+    requires few { containers ≤ most_containers }
+    ensures made { OnOk result (TellsContents (D.state disk.old) → IsMade shape.now containers (D.state disk.new).files) }
+    ensures long { OnOk result (TellsContents (D.state disk.old) → AreLong shape.now (containers + 1) (D.state disk.new).files) }
+    ensures settled { OnOk result (IsHonest (D.state disk.old) → IsSettled (D.state disk.new)) }
+    ensures moments { OnOk result (IsHonest (D.state disk.old) → ComesAtOnce shape.now containers (D.state disk.old) (D.state disk.new)) }
+    ensures free { TellsContents (D.state disk.old) → IsFree result ((D.state disk.old).files 0) }
+    ensures same { (slot : ℕ) → IsErrOf result (FormatRefusal.Exists slot) → Unchanged (D.state disk.old).files (D.state disk.new).files
+        × Passes Unchanged (D.state disk.old) (D.state disk.new) }
+    ensures time { Later (D.state disk.old) (D.state disk.new) }
+    ensures cause { IsErrOf result FormatRefusal.DiskFault → Rises (D.state disk.old).faults (D.state disk.new).faults }
+    ensures steady { IsSteady (D.state disk.old) → (IsErrOf result FormatRefusal.DiskFault → ⊥)
+        × ((D.state disk.new).faults ≡ (D.state disk.old).faults) }
+{
+    let body = first_copy(alloc, shape, containers)?;
+    is_free(disk)?;
+    fill_disk(disk, shape, containers, &body)
+}
+
+// Makes the files of a log and writes its first copy.
+fn fill_disk<D: Disk>(
+    disk: &mut D,
+    shape: &Shape,
+    containers: u16,
+    body: &[u8],
+) -> Result<(), FormatRefusal>
+    requires shape { IsShape shape.now }
+    requires some { 1 ≤ containers }
+    requires few { containers ≤ most_containers }
+    requires body { body.now ≡ spelled version_one (first_image shape.now containers) }
+    ensures made { OnOk result (TellsContents (D.state disk.old) → IsMade shape.now containers (D.state disk.new).files) }
+    ensures long { OnOk result (TellsContents (D.state disk.old) → AreLong shape.now (containers + 1) (D.state disk.new).files) }
+    ensures settled { OnOk result (IsHonest (D.state disk.old) → IsSettled (D.state disk.new)) }
+    ensures moments { OnOk result (IsHonest (D.state disk.old) → ComesAtOnce shape.now containers (D.state disk.old) (D.state disk.new)) }
+    ensures other { (slot : ℕ) → IsErrOf result (FormatRefusal.Exists slot) → ⊥ }
+    ensures time { Later (D.state disk.old) (D.state disk.new) }
+    ensures cause { IsErrOf result FormatRefusal.DiskFault → Rises (D.state disk.old).faults (D.state disk.new).faults }
+    ensures steady { IsSteady (D.state disk.old) → (IsErrOf result FormatRefusal.DiskFault → ⊥)
+        × ((D.state disk.new).faults ≡ (D.state disk.old).faults) }
+{
+    copies_are_read_as_written();
+    prepare(disk, shape, containers)?;
+    write_copy(disk, body)?;
+    Ok(())
+}
