@@ -22,6 +22,8 @@ usage: clfs FOLDER COMMAND ..
 A log manager: several clients share one log, and each sees its own stream of records.
 
 Commands:
+  format --block-sectors B --container-sectors S --containers N
+          makes a log of N containers of S sectors in FOLDER, with blocks of B sectors at most
   serve   answers the lines of a script on standard input, one reply a line (docs/SCRIPT.md)
 ";
 
@@ -68,32 +70,61 @@ fn cause(status: u8) -> Option<&'static str> {
     }
 }
 
-// The status of a run over standard input and output and the folder.
-fn status(rt: &HostRuntime) -> u8 {
+// How a run ended, and whether another process was found to have the folder.
+#[derive(Clone, Copy)]
+struct Ending {
+    status: u8,
+    is_taken: bool,
+}
+
+impl Ending {
+    // An end without a look at the folder.
+    fn before(status: u8) -> Ending {
+        Ending {
+            status,
+            is_taken: false,
+        }
+    }
+
+    // Why it ended so.
+    fn cause(&self) -> Option<&'static str> {
+        if self.is_taken {
+            return Some("clfs: another process has the folder");
+        }
+        cause(self.status)
+    }
+}
+
+// A run over standard input and output and the folder.
+fn run_words(rt: &HostRuntime) -> Ending {
     let Ok(words) = all_words(rt) else {
-        return NO_MEMORY;
+        return Ending::before(NO_MEMORY);
     };
     if let Some(text) = own_text(&words) {
         return match rt.print(text) {
-            Ok(()) => DONE,
-            Err(_) => SINK_FAULT,
+            Ok(()) => Ending::before(DONE),
+            Err(_) => Ending::before(SINK_FAULT),
         };
     }
+    let Ok(path) = folder_path(rt.alloc(), &words) else {
+        return Ending::before(NO_MEMORY);
+    };
     let mut source = ReaderSource::new(rt.reader());
     let mut sink = WriterSink::new(io::writer(rt));
-    let Ok(path) = folder_path(rt.alloc(), &words) else {
-        return NO_MEMORY;
-    };
     let folder = Folder::new(*rt, path);
     let command = command_words(&words);
-    run(rt.alloc(), command, &mut source, &mut sink, folder).status
+    let outcome = run(rt.alloc(), command, &mut source, &mut sink, folder);
+    Ending {
+        status: outcome.status,
+        is_taken: outcome.disk.is_taken(),
+    }
 }
 
 fn main(rt: HostRuntime) -> ExitCode {
-    let status = status(&rt);
-    if let Some(line) = cause(status) {
+    let ending = run_words(&rt);
+    if let Some(line) = ending.cause() {
         // Where this can't be said either, the status still tells it.
         let _said = rt.eprintln(line);
     }
-    ExitCode::from(status)
+    ExitCode::from(ending.status)
 }

@@ -5,4 +5,6 @@ pub mod MemoryLog
 pub mod Taken
 pub mod Ends
 pub mod Serve
+pub mod Command
+pub mod Format
 pub mod Worked

@@ -1,5 +1,5 @@
 -- What the program answers, and how it ends.
-use Rattle.std.specs.Prelude.{◌≡◌, ℕ, ◌≤◌, ◌⊎◌, true, false, List, [], ◌∷◌, ◌++◌, codes, Option}
+use Rattle.std.specs.Prelude.{◌≡◌, ℕ, ◌≤◌, ◌⊎◌, true, false, List, [], ◌++◌, codes, Option}
 use Rattle.std.specs.Io.KnownBytes.{Consumes, Appends}
 use Rattle.clfs_ports.specs.Cause.{Rises}
 use Rattle.clfs_model.specs.declared.reply.Happened.TheVariants.{Fine}
@@ -118,7 +118,3 @@ pub record EndsByUsage (status : ℕ) (written written_after : Option (List ℕ)
   pub sink_fault : status ≡ 3 → Rises sink sink_after
   pub sink_fault_front : status ≡ 3 → AppendsFront written written_after usage_text
   pub sink_count : sink ≤ sink_after
-
--- the one word `serve`
-abbrev pub IsServeCommand : List (List ℕ) → Type 0
-IsServeCommand words = words ≡ codes "serve" ∷ []

@@ -8,6 +8,8 @@
 
 mod answering;
 mod asking;
+mod command;
+mod formatting;
 mod input;
 mod lines;
 mod log;
@@ -17,10 +19,13 @@ mod rows;
 mod serving;
 mod status;
 
+pub use formatting::format;
 pub use program::run;
 pub use rows::{appends_and_reads, areas, ends_of_lines, lengths_of_records, words_of_lines};
 pub use serving::serve;
-pub use status::{DONE, INPUT_TOO_LONG, NO_MEMORY, Outcome, SINK_FAULT, SOURCE_FAULT, USAGE};
+pub use status::{
+    DISK_FAULT, DONE, EXISTS, INPUT_TOO_LONG, NO_MEMORY, Outcome, SINK_FAULT, SOURCE_FAULT, USAGE,
+};
 
 #[cfg(test)]
 mod tests;

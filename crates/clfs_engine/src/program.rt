@@ -1,8 +1,14 @@
 // The commands of the program.
-ghost use Rattle.std.specs.Prelude.{◌≡◌, map, IsTrue};
+ghost use Rattle.std.specs.Prelude.{◌≡◌, ◌≢◌, ℕ, map, Some, None};
 ghost use Rattle.std.specs.String.{string_bytes};
-ghost use Rattle.clfs_engine.specs.Serve.{IsServeCommand, EndsServing, EndsByUsage};
+ghost use Rattle.clfs_lsn.specs.declared.shape.Shape.{Shape};
+ghost use Rattle.clfs_engine.specs.Command.{command_of};
+ghost use Rattle.clfs_engine.specs.Format.{EndsFormat};
+ghost use Rattle.clfs_engine.specs.Serve.{EndsServing, EndsByUsage};
+ghost use Rattle.clfs_engine.specs.declared.command.Command.TheVariants.{Format, Serve};
 
+use crate::command::{Command, command_of};
+use crate::formatting::format;
 use crate::output::printed;
 use crate::serving::serve;
 use crate::status::{Outcome, USAGE};
@@ -13,14 +19,7 @@ use std::alloc::Global;
 /// The write buffers of a log that is served.
 const WRITE_BUFFERS: u32 = 4;
 
-fn is_serve(words: &[String]) -> bool
-    ensures yes { IsTrue result → IsServeCommand (map string_bytes words.now) }
-    ensures no { IsServeCommand (map string_bytes words.now) → IsTrue result }
-{
-    words.len() == 1 && words[0].as_str() == "serve"
-}
-
-/// Runs the command that the words name. The only command so far is the one word `serve`.
+/// Runs the command that the words name: `serve`, or `format` with the sizes of the log.
 pub fn run<S: Source, K: Sink, D: Disk + Drop>(
     alloc: Global,
     words: &[String],
@@ -28,21 +27,28 @@ pub fn run<S: Source, K: Sink, D: Disk + Drop>(
     sink: &mut K,
     disk: D,
 ) -> Outcome<D>
-    ensures serves { IsServeCommand (map string_bytes words.now) → EndsServing result.status (S.left source.old) (S.left source.new)
+    ensures serves { command_of (map string_bytes words.now) ≡ Some Serve → EndsServing result.status (S.left source.old) (S.left source.new)
         (K.written sink.old) (K.written sink.new) (S.faults source.old) (S.faults source.new) (K.faults sink.old) (K.faults sink.new) }
-    ensures usage { (IsServeCommand (map string_bytes words.now) → ⊥) → EndsByUsage result.status (K.written sink.old) (K.written sink.new)
+    ensures formats { (shape : Shape) (containers : ℕ) → command_of (map string_bytes words.now) ≡ Some (Format shape containers)
+        → EndsFormat result.status shape containers (D.state disk) (D.state result.disk)
+        (K.written sink.old) (K.written sink.new) (K.faults sink.old) (K.faults sink.new) }
+    ensures usage { command_of (map string_bytes words.now) ≡ None → EndsByUsage result.status (K.written sink.old) (K.written sink.new)
         (K.faults sink.old) (K.faults sink.new) }
-    // The source isn't read then.
-    ensures unread { (IsServeCommand (map string_bytes words.now) → ⊥) → source.new ≡ source.old }
-    ensures disk { result.disk ≡ disk }
+    // Only a script is read from the source, and only a log that is made calls the disk.
+    ensures unread { command_of (map string_bytes words.now) ≢ Some Serve → source.new ≡ source.old }
+    ensures unmade { ((shape : Shape) (containers : ℕ) → command_of (map string_bytes words.now) ≢ Some (Format shape containers)) → result.disk ≡ disk }
 {
-    if is_serve(words) {
-        serve(alloc, WRITE_BUFFERS, source, sink, disk)
-    } else {
-        let line = b"usage: clfs FOLDER format, serve, race, trial or crew\n";
-        Outcome {
-            status: printed(sink, line, USAGE),
-            disk,
+    match command_of(words) {
+        Some(Command::Serve) => serve(alloc, WRITE_BUFFERS, source, sink, disk),
+        Some(Command::Format { shape, containers }) => {
+            format(alloc, shape, containers, sink, disk)
+        }
+        None => {
+            let line = b"usage: clfs FOLDER format, serve, race, trial or crew\n";
+            Outcome {
+                status: printed(sink, line, USAGE),
+                disk,
+            }
         }
     }
 }

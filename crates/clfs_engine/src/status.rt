@@ -12,11 +12,17 @@ pub const SOURCE_FAULT: u8 = 2;
 /// The sink failed.
 pub const SINK_FAULT: u8 = 3;
 
+/// The disk failed.
+pub const DISK_FAULT: u8 = 4;
+
 /// Memory ran out.
 pub const NO_MEMORY: u8 = 5;
 
 /// More bytes came than a script may have, or a line was too long.
 pub const INPUT_TOO_LONG: u8 = 7;
+
+/// A log is there.
+pub const EXISTS: u8 = 8;
 
 /// How a command ended.
 #[derive(Debug, Drop)]

@@ -115,6 +115,46 @@ fn statuses_and_their_causes(rt: HostRuntime) -> Result<(), Fail> {
     Ok(())
 }
 
+// A log is made once: a second time it is there. Sizes that no log has are no command.
+#[test]
+fn logs_are_made(rt: HostRuntime) -> Result<(), Fail> {
+    let alloc = rt.alloc();
+    let sizes = |numbers: [&'static str; 3]| {
+        let [block, container, containers] = numbers;
+        [
+            "format",
+            "--block-sectors",
+            block,
+            "--container-sectors",
+            container,
+            "--containers",
+            containers,
+        ]
+    };
+    let cases: [([&'static str; 3], u8, &[u8]); 8] = [
+        (["2", "8", "2"], DONE, b"formatted\n"),
+        (["2", "8", "2"], EXISTS, b"a log is there\n"),
+        (["2", "3", "2"], USAGE, USAGE_LINE),
+        (["0", "8", "2"], USAGE, USAGE_LINE),
+        (["129", "16384", "2"], USAGE, USAGE_LINE),
+        (["2", "16385", "2"], USAGE, USAGE_LINE),
+        (["2", "8", "257"], USAGE, USAGE_LINE),
+        (["2", "8", "02"], USAGE, USAGE_LINE),
+    ];
+    let mut disk = Steady::new(alloc)?;
+    for (numbers, want, written) in cases {
+        let mut source = MemorySource::new(Vec::new(alloc), 1, Vec::new(alloc));
+        let mut sink = MemorySink::new(Vec::new(alloc), 10, Vec::new(alloc));
+        let texts = sizes(numbers);
+        let command = words(alloc, texts.as_slice())?;
+        let outcome = run(alloc, &command, &mut source, &mut sink, disk);
+        assert_eq!(rt; outcome.status, want);
+        assert_eq!(rt; sink.bytes(), written);
+        disk = outcome.disk;
+    }
+    Ok(())
+}
+
 // So many bytes `x`.
 fn push_run(script: &mut Vec<u8>, count: usize) -> Result<(), AllocError> {
     for _ in 0..count {
