@@ -115,23 +115,25 @@ fn statuses_and_their_causes(rt: HostRuntime) -> Result<(), Fail> {
     Ok(())
 }
 
+// The words that make a log of these sizes.
+fn format_words<'a>(sizes: [&'a str; 3]) -> [&'a str; 7] {
+    let [block, container, containers] = sizes;
+    [
+        "format",
+        "--block-sectors",
+        block,
+        "--container-sectors",
+        container,
+        "--containers",
+        containers,
+    ]
+}
+
 // A log is made once: a second time it is there. Sizes that no log has are no command.
 #[test]
 fn logs_are_made(rt: HostRuntime) -> Result<(), Fail> {
     let alloc = rt.alloc();
-    let sizes = |numbers: [&'static str; 3]| {
-        let [block, container, containers] = numbers;
-        [
-            "format",
-            "--block-sectors",
-            block,
-            "--container-sectors",
-            container,
-            "--containers",
-            containers,
-        ]
-    };
-    let cases: [([&'static str; 3], u8, &[u8]); 8] = [
+    let cases: [([&str; 3], u8, &[u8]); 8] = [
         (["2", "8", "2"], DONE, b"formatted\n"),
         (["2", "8", "2"], EXISTS, b"a log is there\n"),
         (["2", "3", "2"], USAGE, USAGE_LINE),
@@ -145,8 +147,7 @@ fn logs_are_made(rt: HostRuntime) -> Result<(), Fail> {
     for (numbers, want, written) in cases {
         let mut source = MemorySource::new(Vec::new(alloc), 1, Vec::new(alloc));
         let mut sink = MemorySink::new(Vec::new(alloc), 10, Vec::new(alloc));
-        let texts = sizes(numbers);
-        let command = words(alloc, texts.as_slice())?;
+        let command = words(alloc, format_words(numbers).as_slice())?;
         let outcome = run(alloc, &command, &mut source, &mut sink, disk);
         assert_eq!(rt; outcome.status, want);
         assert_eq!(rt; sink.bytes(), written);
