@@ -1,11 +1,13 @@
 -- Places in sorted ends of blocks, and what is left where the first ones go.
-use Rattle.std.proofs.Common.{◌≡◌, ℕ, ◌-◌, ◌*◌, ◌<◌, ◌≤◌, true, false, leb, ltb, refl, sym, ap, ◌∙◌, inl, inr, arith, List, [], ◌∷◌, ◌++◌, length, zero, suc, take, drop}
+use Rattle.std.proofs.Common.{◌≡◌, ℕ, ◌+◌, ◌-◌, ◌*◌, ◌<◌, ◌≤◌, true, false, leb, ltb, refl, sym, ap, ◌∙◌, inl, inr, arith, List, [], ◌∷◌, ◌++◌, length, zero, suc, get_or, take, drop}
 use Rattle.std.specs.Prelude.{nat_le}
 use Rattle.std.specs.List.Sorted.{IsPartitionPoint, IsNonDecreasingBy}
 use Rattle.std.proofs.lemmas.Bool.{cases_Bool, cases_lt, le-leb, lt-leb, ltb-true, ltb-false}
-use Rattle.std.proofs.lemmas.List.{drop_all, length-drop, take_at}
+use Rattle.std.proofs.lemmas.List.{drop_all, get_or-drop, length-drop, take_at}
+use Rattle.std.proofs.lemmas.List.Elements.{All-drop}
+use Rattle.clfs_lsn.specs.declared.entry.Head.{Head}
 use Rattle.clfs_archive.specs.declared.block.BlockEnd.{BlockEnd}
-use Rattle.clfs_archive.specs.Blocks.{AreRising, IsPlaceOf, blocks_from}
+use Rattle.clfs_archive.specs.Blocks.{AreRising, IsPlaceOf, blocks_from, IsBlock, AreBlocks}
 
 -- sorted ends don't fall
 pub never_falls : (blocks : List BlockEnd) → AreRising blocks → IsNonDecreasingBy (λ (block : BlockEnd). block.last) blocks
@@ -80,3 +82,25 @@ pub few_stay : (blocks : List BlockEnd) (lsn place len : ℕ) → IsPlaceOf bloc
 few_stay blocks lsn place len at is less =
     let long = ap length (from_place blocks lsn place at) ∙ length-drop place blocks in
     omega (arith, long, is, less)
+
+-- What lies from an LSN on is still told where the blocks below it went.
+pub still_told : (blocks new : List BlockEnd) (lsn place from stable : ℕ) (heads : List Head) → IsPlaceOf blocks lsn place → new ≡ drop place blocks → lsn ≤ from
+    → AreBlocks from stable blocks heads → AreBlocks from stable new heads
+still_told blocks new lsn place from stable heads at is up are = record {
+  rising = are.rising;
+  each = rw is (All-drop (IsBlock heads) place blocks are.each);
+  told = λ k d inside high below.
+      let block = are.told k d inside high below in
+      let right : IsBlock heads block.1 = rw block.3 at (are.each block.0 block.1 block.2) in
+      let up_to = right.others k d inside block.4.0 in
+      let behind : place ≤ block.0 = elim (cases_lt block.0 place) [
+        | inr over ↦ over
+        | inl before ↦ absurd (let under = rw block.3 at (at.below block.0 block.1 before) in omega (arith, under, up_to, high, up))
+      ] in
+      let back : place + (block.0 - place) ≡ block.0 = omega (arith, behind) in
+      let there : get_or new (block.0 - place) block.1 ≡ block.1
+      = rw is (get_or-drop place blocks (block.0 - place) block.1 ∙ ap (λ n. get_or blocks n block.1) back ∙ block.3) in
+      let long = ap length is ∙ length-drop place blocks in
+      let within : block.0 - place < length new = (let end = block.2 in omega (arith, end, behind, long)) in
+      (block.0 - place, block.1, within, there, block.4);
+}

@@ -136,6 +136,7 @@ impl Archive {
         ensures kept { blocks_from lsn self.new.blocks ≡ blocks_from lsn self.old.blocks }
         ensures end { (n : ℕ) × (self.new.blocks ≡ drop n self.old.blocks) }
         ensures few { length self.new.blocks ≤ 2 * length (blocks_from lsn self.new.blocks) }
+        ensures told { (from stable : ℕ) (heads : List Head) → lsn ≤ from → AreBlocks from stable self.old.blocks heads → AreBlocks from stable self.new.blocks heads }
         ensures room { self.old.room ≤ self.new.room }
     {
         let place = place_of(&self.blocks, lsn);
