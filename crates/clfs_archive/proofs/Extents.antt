@@ -13,7 +13,8 @@ use Rattle.clfs_model.specs.Archive.{is_in_block}
 use Rattle.clfs_model.specs.Heads.{archived_heads, container_extent}
 use Rattle.clfs_model.specs.declared.info.Extent.{Extent}
 use Rattle.clfs_archive.specs.declared.block.BlockEnd.{BlockEnd}
-use Rattle.clfs_archive.specs.Blocks.{AreRising, IsPlaceOf, IsBlock, AreBlocks}
+use Rattle.clfs_sorted.specs.Rising.{AreRising, IsPlaceOf}
+use Rattle.clfs_archive.specs.Blocks.{lsn_of_block, IsBlock, AreBlocks}
 use Rattle.clfs_archive.proofs.Among.{Passing, first_of, none_passes, last_of}
 
 -- a head is at or above the tail, on the disk and in the container
@@ -49,7 +50,7 @@ pub record AreBetween (stable tail container : ℕ) (blocks : List BlockEnd) (fi
 
 pub between_places : (stable tail container low high first end : ℕ) (blocks : List BlockEnd)
     → ((n : ℕ) → (low ≤ n) ↔ ((tail ≤ n) × (container ≤ container_of n))) → ((n : ℕ) → (n < high) ↔ ((n < stable) × (container_of n ≤ container)))
-    → IsPlaceOf blocks low first → IsPlaceOf blocks high end → AreBetween stable tail container blocks first end
+    → IsPlaceOf lsn_of_block blocks low first → IsPlaceOf lsn_of_block blocks high end → AreBetween stable tail container blocks first end
 between_places stable tail container low high first end blocks from_low to_high at_first at_end = record {
   inside = at_end.within;
   passing = λ k d from to.
@@ -138,7 +139,7 @@ between_in_block : (a b c : ℕ) → a ≤ b → b ≤ c → container_of a ≡ 
 between_in_block a b c low high container offset = omega arith
 
 -- blocks in order
-in_order : (blocks : List BlockEnd) (i j : ℕ) (d e : BlockEnd) → AreRising blocks → i ≤ j → j < length blocks
+in_order : (blocks : List BlockEnd) (i j : ℕ) (d e : BlockEnd) → AreRising lsn_of_block blocks → i ≤ j → j < length blocks
     → (get_or blocks i d).last ≤ (get_or blocks j e).last
 in_order blocks i j d e rising up inside =
     let other = ap (λ (b : BlockEnd). b.last) (get_or_default blocks j d e inside) in
@@ -154,7 +155,7 @@ record FirstIn (stable tail container : ℕ) (heads : List Head) (lsn : ℕ) : T
   within : container_of head.lsn ≡ container
   offset : offset_of head.lsn ≡ offset_of lsn
 
-first_in : (stable tail container first end : ℕ) (blocks : List BlockEnd) (heads : List Head) (d : BlockEnd) → AreRising blocks
+first_in : (stable tail container first end : ℕ) (blocks : List BlockEnd) (heads : List Head) (d : BlockEnd) → AreRising lsn_of_block blocks
     → AreBlocks tail stable blocks heads → AreBetween stable tail container blocks first end → first < end
     → FirstIn stable tail container heads (get_or blocks first d).last
 first_in stable tail container first end blocks heads d rising are between some =
@@ -184,7 +185,7 @@ record LastIn (stable tail container : ℕ) (heads : List Head) (lsn : ℕ) : Ty
   is : last_or None (archived_heads stable tail container heads) ≡ Some head
   same : head.lsn ≡ lsn
 
-last_in : (stable tail container first end : ℕ) (blocks : List BlockEnd) (heads : List Head) (d : BlockEnd) → AreRising blocks
+last_in : (stable tail container first end : ℕ) (blocks : List BlockEnd) (heads : List Head) (d : BlockEnd) → AreRising lsn_of_block blocks
     → AreBlocks tail stable blocks heads → AreBetween stable tail container blocks first end → first < end
     → LastIn stable tail container heads (get_or blocks (end - 1) d).last
 last_in stable tail container first end blocks heads d rising are between some =
@@ -208,7 +209,7 @@ last_in stable tail container first end blocks heads d rising are between some =
     ]
 
 -- Between places the extent goes from the first block's offset to the last one's end.
-pub some_extent : (stable tail container first end : ℕ) (blocks : List BlockEnd) (heads : List Head) (d e : BlockEnd) → AreRising blocks
+pub some_extent : (stable tail container first end : ℕ) (blocks : List BlockEnd) (heads : List Head) (d e : BlockEnd) → AreRising lsn_of_block blocks
     → AreBlocks tail stable blocks heads → AreBetween stable tail container blocks first end → first < end
     → Some (record { container = container; low = offset_of (get_or blocks first d).last; high = (get_or blocks (end - 1) e).end })
     ≡ container_extent stable tail heads container

@@ -1,20 +1,14 @@
--- The ends of blocks against the heads of records, and places among them.
-use Rattle.std.specs.Prelude.{◌≡◌, ℕ, ◌<◌, ◌≤◌, true, nat_le, List, length, filter, All, AllPairs, slice_index_or}
+-- The ends of blocks against the heads of records.
+use Rattle.std.specs.Prelude.{◌≡◌, ℕ, ◌<◌, ◌≤◌, true, nat_le, List, filter, All, AllPairs}
 use Rattle.std.specs.List.{Any}
 use Rattle.clfs_lsn.specs.declared.entry.Head.{Head}
 use Rattle.clfs_model.specs.Archive.{is_in_block}
 use Rattle.clfs_model.specs.Heads.{block_end}
 use Rattle.clfs_archive.specs.declared.block.BlockEnd.{BlockEnd}
 
--- each block's last record lies below those of the blocks behind it
-abbrev pub AreRising : List BlockEnd → Type 0
-AreRising blocks = AllPairs (λ (a b : BlockEnd). a.last < b.last) blocks
-
--- the place of the first block whose last record lies at or above an LSN
-pub record IsPlaceOf (blocks : List BlockEnd) (lsn place : ℕ) : Type 0 where
-  pub within : place ≤ length blocks
-  pub below : (k : ℕ) (d : BlockEnd) → k < place → (slice_index_or blocks k d).last < lsn
-  pub above : (k : ℕ) (d : BlockEnd) → place ≤ k → k < length blocks → lsn ≤ (slice_index_or blocks k d).last
+-- a block's last record, by which ends of blocks are sorted
+abbrev pub lsn_of_block : BlockEnd → ℕ
+lsn_of_block block = block.last
 
 -- the blocks whose last record lies at or above an LSN
 abbrev pub blocks_from : ℕ → List BlockEnd → List BlockEnd

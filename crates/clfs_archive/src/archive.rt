@@ -10,9 +10,10 @@ ghost use Rattle.clfs_model.specs.Refusals.{tail_refusal};
 ghost use Rattle.clfs_archive.specs.declared.block.BlockEnd.{BlockEnd};
 ghost use Rattle.clfs_archive.specs.Blocks.{AreBlocks, blocks_from};
 
-use crate::block::{BlockEnd, extents_from, place_of};
+use crate::block::{BlockEnd, extents_from};
 use clfs_lsn::Lsn;
 use clfs_model::{Extents, Refusal};
+use clfs_sorted::forget_below;
 use std::alloc::{AllocError, Global};
 use std::marker::Model;
 
@@ -30,11 +31,12 @@ impl Model for Archive {
     ghost Value = { Row };
 
     ghost use Rattle.std.specs.Prelude.{◌-◌, vec_len, vec_capacity};
-    ghost use Rattle.clfs_archive.specs.Blocks.{AreRising};
+    ghost use Rattle.clfs_sorted.specs.Rising.{AreRising};
+    ghost use Rattle.clfs_archive.specs.Blocks.{lsn_of_block};
 
     ghost view = { λ s. record { tail = s.tail; blocks = s.blocks.items; room = vec_capacity s.blocks - vec_len s.blocks } };
 
-    ghost invariant = { λ s. AreRising s.blocks.items };
+    ghost invariant = { λ s. AreRising lsn_of_block s.blocks.items };
 }
 
 impl Archive {
@@ -136,13 +138,9 @@ impl Archive {
         ensures kept { blocks_from lsn self.new.blocks ≡ blocks_from lsn self.old.blocks }
         ensures end { (n : ℕ) × (self.new.blocks ≡ drop n self.old.blocks) }
         ensures few { length self.new.blocks ≤ 2 * length (blocks_from lsn self.new.blocks) }
+        ensures told { (from stable : ℕ) (heads : List Head) → lsn ≤ from → AreBlocks from stable self.old.blocks heads → AreBlocks from stable self.new.blocks heads }
         ensures room { self.old.room ≤ self.new.room }
     {
-        let place = place_of(&self.blocks, lsn);
-        let len = self.blocks.len();
-        if place >= len - place {
-            self.blocks.rotate_left(place);
-            self.blocks.truncate(len - place);
-        }
+        forget_below(&mut self.blocks, lsn);
     }
 }

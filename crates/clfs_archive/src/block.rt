@@ -3,10 +3,12 @@ ghost use Rattle.std.specs.Prelude.{◌≡◌, ℕ, ◌+◌, ◌<◌, ◌≤◌,
 ghost use Rattle.clfs_lsn.specs.Lsn.{container_of};
 ghost use Rattle.clfs_lsn.specs.declared.entry.Head.{Head};
 ghost use Rattle.clfs_model.specs.Heads.{container_extent, extents_of};
-ghost use Rattle.clfs_archive.specs.Blocks.{AreRising, IsPlaceOf, AreBlocks};
+ghost use Rattle.clfs_sorted.specs.Rising.{AreRising};
+ghost use Rattle.clfs_archive.specs.Blocks.{AreBlocks, lsn_of_block};
 
 use clfs_lsn::Lsn;
 use clfs_model::Extent;
+use clfs_sorted::{HasLsn, place_of};
 use std::alloc::{AllocError, Global};
 
 /// Where a sealed block ends.
@@ -18,12 +20,14 @@ pub struct BlockEnd {
     pub end: u32,
 }
 
-// The place of the first block whose last record lies at or above an LSN: a search by halves.
-pub(crate) fn place_of(blocks: &[BlockEnd], lsn: Lsn) -> usize
-    requires { AreRising blocks.now }
-    ensures { IsPlaceOf blocks.now lsn result }
-{
-    blocks.partition_point(|block| block.last < lsn)
+impl HasLsn for BlockEnd {
+    ghost use Rattle.clfs_archive.specs.Blocks.{lsn_of_block};
+
+    ghost lsn_of = { lsn_of_block };
+
+    fn lsn(&self) -> Lsn {
+        self.last
+    }
 }
 
 // The extents of the containers from the tail's to the last one, in order.
@@ -34,7 +38,7 @@ pub(crate) fn extents_from(
     stable: Lsn,
     last: u32,
 ) -> Result<Vec<Extent>, AllocError>
-    requires { AreRising blocks.now }
+    requires { AreRising lsn_of_block blocks.now }
     ensures { (heads : List Head) → AreBlocks tail stable blocks.now heads → IfOk result (λ extents. extents.items ≡ extents_of stable last (Some tail) heads) }
 {
     let mut extents = Vec::new(alloc);
@@ -48,7 +52,7 @@ pub(crate) fn extents_from(
 
 // The extent of a container, where it has a block to be archived: on the disk, with a record at or above the tail.
 fn extent_in(blocks: &[BlockEnd], tail: Lsn, stable: Lsn, container: u32) -> Option<Extent>
-    requires { AreRising blocks.now }
+    requires { AreRising lsn_of_block blocks.now }
     ensures { (heads : List Head) → AreBlocks tail stable blocks.now heads → result ≡ container_extent stable tail heads container }
 {
     let first = place_of(blocks, start_in(container, tail));

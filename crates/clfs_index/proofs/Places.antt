@@ -8,19 +8,20 @@ use Rattle.std.proofs.lemmas.List.{drop_all}
 use Rattle.std.proofs.lemmas.Option.{get_or_from_slice_get}
 use Rattle.clfs_lsn.specs.declared.entry.Head.{Head}
 use Rattle.clfs_model.specs.Heads.{heads_from, head_at, head_above}
-use Rattle.clfs_heads.specs.Rising.{AreRising, IsPlaceOf}
+use Rattle.clfs_sorted.specs.Heads.{lsn_of_head}
+use Rattle.clfs_sorted.specs.Rising.{AreRising, IsPlaceOf}
 
-rising_tail : (head : Head) (heads : List Head) → AreRising (head ∷ heads) → AreRising heads
+rising_tail : (head : Head) (heads : List Head) → AreRising lsn_of_head (head ∷ heads) → AreRising lsn_of_head heads
 rising_tail head heads rising = λ i j d before inside. rising (suc i) (suc j) d (omega arith) (omega arith)
 
-place_tail : (head : Head) (heads : List Head) (lsn place : ℕ) → IsPlaceOf (head ∷ heads) lsn (suc place) → IsPlaceOf heads lsn place
+place_tail : (head : Head) (heads : List Head) (lsn place : ℕ) → IsPlaceOf lsn_of_head (head ∷ heads) lsn (suc place) → IsPlaceOf lsn_of_head heads lsn place
 place_tail head heads lsn place is = record {
   within = omega (arith, is.within);
   below = λ k d before. is.below (suc k) d (omega arith);
   above = λ k d behind inside. is.above (suc k) d (omega arith) (omega arith);
 }
 
-place_of_tail : (head : Head) (heads : List Head) (lsn : ℕ) → IsPlaceOf (head ∷ heads) lsn 0 → IsPlaceOf heads lsn 0
+place_of_tail : (head : Head) (heads : List Head) (lsn : ℕ) → IsPlaceOf lsn_of_head (head ∷ heads) lsn 0 → IsPlaceOf lsn_of_head heads lsn 0
 place_of_tail head heads lsn is = record {
   within = omega arith;
   below = λ k d before. absurd (omega arith);
@@ -28,7 +29,7 @@ place_of_tail head heads lsn is = record {
 }
 
 -- the heads from an LSN on are those from its place on
-pub from_place : (heads : List Head) (lsn place : ℕ) → IsPlaceOf heads lsn place → heads_from lsn heads ≡ drop place heads
+pub from_place : (heads : List Head) (lsn place : ℕ) → IsPlaceOf lsn_of_head heads lsn place → heads_from lsn heads ≡ drop place heads
 from_place [] lsn place is = sym (drop_all place [] (omega arith))
 from_place (head ∷ heads) lsn zero is =
     let above : leb lsn head.lsn ≡ true = le-leb _ _ (is.above 0 head (omega arith) (omega arith)) in
@@ -57,7 +58,7 @@ if_at lsn None = None
 if_at lsn (Some head) = if head.lsn == lsn then Some head else None
 
 -- the head at an LSN stands at its place
-pub at_place : (heads : List Head) (lsn place : ℕ) → AreRising heads → IsPlaceOf heads lsn place → head_at lsn heads ≡ if_at lsn (slice_get heads place)
+pub at_place : (heads : List Head) (lsn place : ℕ) → AreRising lsn_of_head heads → IsPlaceOf lsn_of_head heads lsn place → head_at lsn heads ≡ if_at lsn (slice_get heads place)
 at_place [] lsn place rising is = refl
 at_place (head ∷ heads) lsn zero rising is = elim (cases_Bool (head.lsn == lsn)) [
   | inl same ↦ rw same refl
@@ -101,7 +102,7 @@ at_from_base base lsn (head ∷ heads) up = elim (cases_Bool (nat_le base head.l
 ]
 
 -- the first live head above an LSN stands at the place of the base or at the one behind the LSN
-pub above_place : (base lsn place : ℕ) (heads : List Head) → IsPlaceOf heads (max (lsn + 1) base) place
+pub above_place : (base lsn place : ℕ) (heads : List Head) → IsPlaceOf lsn_of_head heads (max (lsn + 1) base) place
     → head_above lsn (heads_from base heads) ≡ slice_get heads place
 above_place base lsn place [] is = refl
 above_place base lsn zero (head ∷ heads) is =
@@ -120,13 +121,13 @@ above_place base lsn (suc place) (head ∷ heads) is =
       | inr fails ↦ rw fails rest
     ]
 
-pub above_base : (base lsn place : ℕ) (heads : List Head) → lsn < base → IsPlaceOf heads base place
+pub above_base : (base lsn place : ℕ) (heads : List Head) → lsn < base → IsPlaceOf lsn_of_head heads base place
     → head_above lsn (heads_from base heads) ≡ slice_get heads place
 above_base base lsn place heads below is =
     let least : max (lsn + 1) base ≡ base = omega arith in
     above_place base lsn place heads (rw least is)
 
-pub above_lsn : (base lsn place : ℕ) (heads : List Head) → base ≤ lsn → IsPlaceOf heads (lsn + 1) place
+pub above_lsn : (base lsn place : ℕ) (heads : List Head) → base ≤ lsn → IsPlaceOf lsn_of_head heads (lsn + 1) place
     → head_above lsn (heads_from base heads) ≡ slice_get heads place
 above_lsn base lsn place heads up is =
     let least : max (lsn + 1) base ≡ lsn + 1 = omega arith in
@@ -164,7 +165,7 @@ last_live base heads last is up =
     ap (λ (all : List Head). last_or None (heads_from base all)) (ends_in heads last is)
     ∙ last_behind base None (take (length heads - 1) heads) last (le-leb _ _ up)
 
-pub none_live_at_end : (base : ℕ) (heads : List Head) (last : Head) → AreRising heads → slice_get heads (length heads - 1) ≡ Some last
+pub none_live_at_end : (base : ℕ) (heads : List Head) (last : Head) → AreRising lsn_of_head heads → slice_get heads (length heads - 1) ≡ Some last
     → last.lsn < base → last_or None (heads_from base heads) ≡ None
 none_live_at_end base heads last rising is dead =
     let at_end : (d : Head) → get_or heads (length heads - 1) d ≡ last = λ d. get_or_from_slice_get heads (length heads - 1) last d is in
@@ -183,7 +184,7 @@ none_live_at_end base heads last rising is dead =
 
 -- where a test for LSNs that aren't higher changes is the place of the first that is
 pub place_from_up_to : (heads : List Head) (lsn place : ℕ) → place ≤ length heads
-    → IsPartitionPoint (λ (head : Head). leb head.lsn lsn ≡ true) (λ (head : Head). leb head.lsn lsn ≡ false) heads place → IsPlaceOf heads (lsn + 1) place
+    → IsPartitionPoint (λ (head : Head). leb head.lsn lsn ≡ true) (λ (head : Head). leb head.lsn lsn ≡ false) heads place → IsPlaceOf lsn_of_head heads (lsn + 1) place
 place_from_up_to heads lsn place within point = record {
   within = within;
   below = λ k d before. let up = leb-true _ _ (point.0 k d (omega arith) before) in omega (arith, up);
@@ -191,16 +192,16 @@ place_from_up_to heads lsn place within point = record {
 }
 
 -- sorted heads don't fall
-pub never_falls : (heads : List Head) → AreRising heads → IsNonDecreasingBy (λ (head : Head). head.lsn) heads
+pub never_falls : (heads : List Head) → AreRising lsn_of_head heads → IsNonDecreasingBy (λ (head : Head). head.lsn) heads
 never_falls heads rising = λ i j d up inside. elim (cases_lt i j) [
   | inl before ↦ let over = rising i j d before inside in omega (arith, over)
   | inr back ↦ let same : i ≡ j = omega arith in rw same (omega arith)
 ]
 
 -- The place at which the head lies above an LSN, and the one before it doesn't, is the first above it.
-pub between_neighbours : (heads : List Head) (lsn near : ℕ) → AreRising heads → near ≤ length heads
+pub between_neighbours : (heads : List Head) (lsn near : ℕ) → AreRising lsn_of_head heads → near ≤ length heads
     → ((d : Head) → near < length heads → lsn < (get_or heads near d).lsn)
-    → ((d : Head) → 0 < near → (get_or heads (near - 1) d).lsn ≤ lsn) → IsPlaceOf heads (lsn + 1) near
+    → ((d : Head) → 0 < near → (get_or heads (near - 1) d).lsn ≤ lsn) → IsPlaceOf lsn_of_head heads (lsn + 1) near
 between_neighbours heads lsn near rising within above up_to = record {
   within = within;
   below = λ k d before. elim (cases_lt k (near - 1)) [

@@ -1,14 +1,15 @@
 // The place above an LSN in a sorted row.
 ghost use Rattle.std.specs.Prelude.{◌≡◌, ℕ, ◌+◌, ◌<◌, ◌≤◌, true, length, slice_index_or};
 ghost use Rattle.clfs_lsn.specs.declared.entry.Head.{Head};
-ghost use Rattle.clfs_heads.specs.Rising.{AreRising, IsPlaceOf};
+ghost use Rattle.clfs_sorted.specs.Heads.{lsn_of_head};
+ghost use Rattle.clfs_sorted.specs.Rising.{AreRising, IsPlaceOf};
 
 use clfs_lsn::{Head, Lsn};
 
 // The place of the first head above an LSN. Where it is likely to be is looked at first, and nothing is searched where it is there.
 pub(crate) fn place_above(heads: &[Head], lsn: Lsn, near: usize) -> usize
-    requires { AreRising heads.now }
-    ensures { IsPlaceOf heads.now (lsn + 1) result }
+    requires { AreRising lsn_of_head heads.now }
+    ensures { IsPlaceOf lsn_of_head heads.now (lsn + 1) result }
 {
     if is_place_above(heads, lsn, near) {
         near
@@ -19,8 +20,8 @@ pub(crate) fn place_above(heads: &[Head], lsn: Lsn, near: usize) -> usize
 
 // Whether a place is that of the first head above an LSN, by the heads there and before it.
 fn is_place_above(heads: &[Head], lsn: Lsn, near: usize) -> bool
-    requires { AreRising heads.now }
-    ensures { result ≡ true → IsPlaceOf heads.now (lsn + 1) near }
+    requires { AreRising lsn_of_head heads.now }
+    ensures { result ≡ true → IsPlaceOf lsn_of_head heads.now (lsn + 1) near }
 {
     if !lies_above(heads, lsn, near) {
         return false;

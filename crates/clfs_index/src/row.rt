@@ -7,8 +7,8 @@ ghost use Rattle.clfs_model.specs.Heads.{heads_from, head_at, head_above};
 ghost use Rattle.clfs_index.specs.declared.row.Found.{Found};
 
 use crate::place::place_above;
-use clfs_heads::{forget_below, place_of};
 use clfs_lsn::{Head, Lsn};
+use clfs_sorted::{forget_below, place_of};
 use std::alloc::{AllocError, Global};
 use std::marker::Model;
 
@@ -35,11 +35,12 @@ impl Model for StreamIndex {
     ghost Value = { Row };
 
     ghost use Rattle.std.specs.Prelude.{◌-◌, vec_len, vec_capacity};
-    ghost use Rattle.clfs_heads.specs.Rising.{AreRising};
+    ghost use Rattle.clfs_sorted.specs.Heads.{lsn_of_head};
+    ghost use Rattle.clfs_sorted.specs.Rising.{AreRising};
 
     ghost view = { λ s. record { base = s.base; heads = s.heads.items; room = vec_capacity s.heads - vec_len s.heads } };
 
-    ghost invariant = { λ s. AreRising s.heads.items };
+    ghost invariant = { λ s. AreRising lsn_of_head s.heads.items };
 }
 
 impl StreamIndex {

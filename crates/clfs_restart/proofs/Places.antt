@@ -10,20 +10,21 @@ use Rattle.clfs_lsn.specs.declared.entry.Kind.TheVariants.{Restart}
 use Rattle.clfs_model.specs.Reading.{is_restart}
 use Rattle.clfs_model.specs.Heads.{heads_from, head_below, restarts_among}
 use Rattle.clfs_restart.specs.Row.{Row}
-use Rattle.clfs_heads.specs.Rising.{AreRising, IsPlaceOf}
+use Rattle.clfs_sorted.specs.Heads.{lsn_of_head}
+use Rattle.clfs_sorted.specs.Rising.{AreRising, IsPlaceOf}
 use Rattle.clfs_restart.specs.Restarts.{HasRestarts, head_before, live_or_none}
 
-rising_tail : (head : Head) (heads : List Head) → AreRising (head ∷ heads) → AreRising heads
+rising_tail : (head : Head) (heads : List Head) → AreRising lsn_of_head (head ∷ heads) → AreRising lsn_of_head heads
 rising_tail head heads rising = λ i j d before inside. rising (suc i) (suc j) d (omega arith) (omega arith)
 
-place_tail : (head : Head) (heads : List Head) (lsn place : ℕ) → IsPlaceOf (head ∷ heads) lsn (suc place) → IsPlaceOf heads lsn place
+place_tail : (head : Head) (heads : List Head) (lsn place : ℕ) → IsPlaceOf lsn_of_head (head ∷ heads) lsn (suc place) → IsPlaceOf lsn_of_head heads lsn place
 place_tail head heads lsn place is = record {
   within = omega (arith, is.within);
   below = λ k d before. is.below (suc k) d (omega arith);
   above = λ k d behind inside. is.above (suc k) d (omega arith) (omega arith);
 }
 
-place_of_tail : (head : Head) (heads : List Head) (lsn : ℕ) → IsPlaceOf (head ∷ heads) lsn 0 → IsPlaceOf heads lsn 0
+place_of_tail : (head : Head) (heads : List Head) (lsn : ℕ) → IsPlaceOf lsn_of_head (head ∷ heads) lsn 0 → IsPlaceOf lsn_of_head heads lsn 0
 place_of_tail head heads lsn is = record {
   within = omega arith;
   below = λ k d before. absurd (omega arith);
@@ -62,7 +63,7 @@ first_on [] last = refl
 first_on (head ∷ heads) last = refl
 
 -- behind a live head all are live
-live_behind : (base place : ℕ) (head : Head) (heads : List Head) → AreRising (head ∷ heads) → place < length heads → base ≤ head.lsn
+live_behind : (base place : ℕ) (head : Head) (heads : List Head) → AreRising lsn_of_head (head ∷ heads) → place < length heads → base ≤ head.lsn
     → live_or_none base (slice_get heads place) ≡ Some (get_or heads place head)
 live_behind base place head heads rising inside up =
     let over = rising 0 (suc place) head (omega arith) (omega (arith, inside)) in
@@ -70,7 +71,7 @@ live_behind base place head heads rising inside up =
     rw (slice_get-get_or heads place head inside) (rw live refl)
 
 -- the newest live head is the last one, where that is live
-pub newest_is : (base : ℕ) (heads : List Head) → AreRising heads
+pub newest_is : (base : ℕ) (heads : List Head) → AreRising lsn_of_head heads
     → slice_get (newest_first base heads) 0 ≡ live_or_none base (head_before heads (length heads))
 newest_is base [] rising = refl
 newest_is base (head ∷ []) rising = elim (cases_Bool (nat_le base head.lsn)) [
@@ -93,7 +94,7 @@ newest_is base (head ∷ (other ∷ heads)) rising =
     ]
 
 -- where no head lies below an LSN, none is found
-none_below : (base lsn : ℕ) (heads : List Head) → IsPlaceOf heads lsn 0 → head_below lsn (newest_first base heads) ≡ None
+none_below : (base lsn : ℕ) (heads : List Head) → IsPlaceOf lsn_of_head heads lsn 0 → head_below lsn (newest_first base heads) ≡ None
 none_below base lsn [] is = refl
 none_below base lsn (head ∷ heads) is =
     let rest = none_below base lsn heads (place_of_tail head heads lsn is) in
@@ -106,7 +107,7 @@ none_below base lsn (head ∷ heads) is =
     ]
 
 -- the newest live head below an LSN is the one before its place, where that is live
-pub below_is : (base lsn place : ℕ) (heads : List Head) → AreRising heads → IsPlaceOf heads lsn place
+pub below_is : (base lsn place : ℕ) (heads : List Head) → AreRising lsn_of_head heads → IsPlaceOf lsn_of_head heads lsn place
     → head_below lsn (newest_first base heads) ≡ live_or_none base (head_before heads place)
 below_is base lsn zero heads rising is = none_below base lsn heads is
 below_is base lsn (suc place) [] rising is = refl
@@ -165,10 +166,10 @@ newest_of row base room heads slice place found view has same end got =
     ∙ ap (λ (all : List Head). slice_get all 0) (sym (restarts_are base heads has)))
 
 pub below_of : (row : Row) (base room lsn : ℕ) (heads slice searched : List Head) (place : ℕ) (found : Option Head)
-    → record { base = base; heads = heads; room = room } ≡ row → HasRestarts heads → slice ≡ heads → searched ≡ heads → IsPlaceOf searched lsn place
+    → record { base = base; heads = heads; room = room } ≡ row → HasRestarts heads → slice ≡ heads → searched ≡ heads → IsPlaceOf lsn_of_head searched lsn place
     → found ≡ live_or_none base (head_before slice place) → found ≡ head_below lsn (restarts_among (heads_from row.base row.heads))
 below_of row base room lsn heads slice searched place found view has same as_searched at got =
     let by_heads : found ≡ live_or_none base (head_before heads place) = rw (← same) got in
-    let place_in : IsPlaceOf heads lsn place = rw as_searched at at in
+    let place_in : IsPlaceOf lsn_of_head heads lsn place = rw as_searched at at in
     rw (← view) (by_heads ∙ sym (below_is base lsn place heads has.rising place_in)
     ∙ ap (head_below lsn) (sym (restarts_are base heads has)))

@@ -5,8 +5,8 @@ ghost use Rattle.clfs_lsn.specs.declared.entry.Kind.TheVariants.{Restart};
 ghost use Rattle.clfs_model.specs.Heads.{heads_from, head_below, restarts_among};
 ghost use Rattle.clfs_restart.specs.Restarts.{live_or_none, head_before};
 
-use clfs_heads::{forget_below, place_of};
 use clfs_lsn::{Head, Lsn};
+use clfs_sorted::{forget_below, place_of};
 use std::alloc::{AllocError, Global};
 use std::marker::Model;
 

@@ -187,3 +187,23 @@ least_of_firsts least firsts is = record {
   below = λ n among. let found = place_of_first firsts n among in is.below found.0 n found.1;
   one = λ n there. let found = is.one n there in first_is_among firsts found.0 n found.1;
 }
+
+-- the least of the first live LSNs: none where none is live
+abbrev pub least_first : List (Option ℕ) → Option ℕ
+least_first [] = None
+least_first (first ∷ firsts) = lesser first (least_first firsts)
+
+first_up : (firsts : List (Option ℕ)) (j n : ℕ) → get_or firsts j None ≡ Some n → UpTo (least_first firsts) n
+first_up [] j n is = absurd (cc)
+first_up (first ∷ firsts) zero n is = lesser_left first (least_first firsts) n (record { value = n; is = is; up_to = omega arith })
+first_up (first ∷ firsts) (suc j) n is = lesser_right first (least_first firsts) n (first_up firsts j n is)
+
+first_there : (firsts : List (Option ℕ)) (n : ℕ) → least_first firsts ≡ Some n → (j : ℕ) × (get_or firsts j None ≡ Some n)
+first_there [] n is = absurd (cc)
+first_there (first ∷ firsts) n is = elim (lesser_one first (least_first firsts) n is) [
+  | inl own ↦ (0, own)
+  | inr others ↦ let found = first_there firsts n others in (suc found.0, found.1)
+]
+
+pub least_first_is : (firsts : List (Option ℕ)) → IsLeastOf (least_first firsts) firsts
+least_first_is firsts = record { below = first_up firsts; one = first_there firsts }

@@ -12,9 +12,11 @@
 //! No call but `reserve` takes memory, so a base that moves never fails for want of it.
 #![tactic(auto)]
 
+mod laws;
 mod tail;
 mod tree;
 
+pub use laws::first_live_lsns_give_the_hold;
 pub use tail::LogTail;
 
 #[cfg(test)]
