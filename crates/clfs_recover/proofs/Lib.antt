@@ -4,3 +4,4 @@ pub mod Blocks
 pub mod Containers
 pub mod Pieces
 pub mod Disks
+pub mod Listing

@@ -9,6 +9,7 @@ mod piece;
 mod records;
 mod refusal;
 mod rows;
+mod walk;
 
 pub use gatherer::Gatherer;
 pub use parts::{Bases, Entries, HeadParts, Heads, Parts};
