@@ -5,3 +5,4 @@ pub mod Vector
 pub mod Gathering
 pub mod Bases
 pub mod Fronts
+pub mod Opening

@@ -4,6 +4,7 @@
 mod block;
 mod container;
 mod gatherer;
+mod load;
 mod parts;
 mod piece;
 mod records;
@@ -12,6 +13,7 @@ mod rows;
 mod walk;
 
 pub use gatherer::Gatherer;
+pub use load::Walked;
 pub use parts::{Bases, Entries, HeadParts, Heads, Parts};
 pub use refusal::LoadRefusal;
 pub use rows::walks_of_a_small_log;

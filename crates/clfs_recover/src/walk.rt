@@ -1,6 +1,6 @@
 // The walk over the listed containers, in their order: one way through the files of a log for whoever wants its records, their heads, or
 // only their number.
-ghost use Rattle.std.specs.Prelude.{◌≡◌, ◌+◌, ◌-◌, ◌*◌, ◌^◌, ◌<◌, ◌≤◌, ℕ, List, length, slice_index, vec_len, OnOk, IfOk, IsErrOf};
+ghost use Rattle.std.specs.Prelude.{◌≡◌, ◌+◌, ◌-◌, ◌*◌, ◌^◌, ◌<◌, ◌≤◌, ℕ, List, length, slice_index, vec_len, IfOk, IsErrOf};
 ghost use Rattle.clfs_lsn.specs.Format.{sector_bytes};
 ghost use Rattle.clfs_lsn.specs.Size.{IsShape};
 ghost use Rattle.clfs_lsn.specs.declared.entry.LogEntry.{LogEntry};
@@ -9,7 +9,7 @@ ghost use Rattle.clfs_disk.specs.State.{TellsContents, IsSteady, Passes, Rises};
 ghost use Rattle.clfs_base.specs.declared.image.Row.{Row};
 ghost use Rattle.clfs_recover.specs.Walk.{Container, listed_records, last_end};
 ghost use Rattle.clfs_recover.specs.Files.{AreListed};
-ghost use Rattle.clfs_recover.specs.Gathering.{HasTaken, GathersContainer};
+ghost use Rattle.clfs_recover.specs.Gathering.{HasTaken, GathersContainer, IsEnd};
 
 use crate::container::{Listed, gather_container};
 use crate::gatherer::Gatherer;
@@ -41,6 +41,7 @@ pub(crate) fn gather_listed<D: Disk, G: Gatherer>(
         → AreListed shape.now.container_sectors (D.state disk.old).files files.now listed
         → GathersContainer (G.has gatherer.new) rows bases.new.items before result
         (listed_records shape.now (vec_len bases.old) first listed) (last_end listed) }
+    ensures end { IfOk result (λ end. IsEnd shape.now end) }
     ensures streams { vec_len bases.new ≡ vec_len bases.old }
     ensures same { Unchanged (D.state disk.old).files (D.state disk.new).files }
     ensures time { Passes Unchanged (D.state disk.old) (D.state disk.new) }

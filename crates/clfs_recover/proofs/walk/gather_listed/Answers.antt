@@ -13,6 +13,7 @@ pub loop-i-init : goal.loop-i-init
 loop-i-init g c =
     let first = g.D.Disk.state c.args.disk.now in record {
       same_room = refl;
+      is_end = (refl, omega arith);
       same_streams = refl;
       same = λ file. refl;
       time = no_time first;
@@ -47,6 +48,7 @@ returns-in_err-end-clause-exact g c tells rows before listed has are =
 pub loop-i-preserved : goal.loop-i-preserved
 loop-i-preserved g c = record {
   same_room = c.in_ok-end.ensures.room ∙ c.loop-i.invariant.same_room;
+  is_end = c.in_ok-end.ensures.end;
   same_streams = c.in_ok-end.ensures.streams ∙ c.loop-i.invariant.same_streams;
   same = λ f. c.in_ok-end.ensures.same f ∙ c.loop-i.invariant.same f;
   time = c.calls_join.ensures.reads c.args.disk.now c.loop-i.disk c.gather_container.new.disk c.loop-i.invariant.time c.in_ok-end.ensures.time;

@@ -5,7 +5,7 @@ use Rattle.clfs_disk.specs.Files.{Unchanged}
 use Rattle.clfs_disk.specs.State.{TellsContents, IsSteady, Passes}
 use Rattle.clfs_recover.specs.Walk.{Container}
 use Rattle.clfs_recover.specs.Files.{AreListed}
-use Rattle.clfs_recover.specs.Gathering.{HasTaken}
+use Rattle.clfs_recover.specs.Gathering.{HasTaken, IsEnd}
 use Rattle.clfs_recover.proofs.Listing.{IsListed}
 use Rattle.clfs_recover.proofs.walk.gather_listed.Given as goal
 
@@ -15,6 +15,7 @@ invariant-loop-i g l =
     let now = g.D.Disk.state l.disk in
     record {
       same_room : l.piece.room ≡ l.fn.piece.room;
+      is_end : IsEnd l.shape l.end;
       same_streams : vec_len l.bases ≡ vec_len l.fn.bases;
       same : Unchanged first.files now.files;
       time : Passes Unchanged first now;

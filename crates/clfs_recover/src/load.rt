@@ -1,0 +1,87 @@
+// Opening: a sync, the newest base copy, the walk, and what hangs on the records in the base copy.
+ghost use Rattle.std.specs.Prelude.{◌≡◌, ◌+◌, ◌-◌, ◌*◌, ◌^◌, ◌<◌, ◌≤◌, nat_lt, ℕ, List, [], length, map, position, OnOk, IfOk, IsErrOf, Ok};
+ghost use Rattle.clfs_lsn.specs.Format.{sector_bytes};
+ghost use Rattle.clfs_lsn.specs.Place.{IsSmall, frontier};
+ghost use Rattle.clfs_lsn.specs.Size.{IsShape};
+ghost use Rattle.clfs_lsn.specs.declared.entry.LogEntry.{LogEntry};
+ghost use Rattle.clfs_disk.specs.Files.{Unchanged};
+ghost use Rattle.clfs_disk.specs.State.{TellsContents, IsHonest, IsSteady, IsSettled, Passes, Rises};
+ghost use Rattle.clfs_base.specs.declared.image.Row.{Row};
+ghost use Rattle.clfs_base.specs.Layout.{version_one, row_place};
+ghost use Rattle.clfs_base.specs.Spelling.{IsImage};
+ghost use Rattle.clfs_recover.specs.Walk.{Container, walked, shape_of, image_fault, is_wrong_tail};
+ghost use Rattle.clfs_recover.specs.Files.{AreListed};
+ghost use Rattle.clfs_recover.specs.Gathering.{IsEnd};
+ghost use Rattle.clfs_recover.specs.Opening.{IsWalked, IsLoaded, AreHeadsLoaded};
+
+use crate::gatherer::Gatherer;
+use crate::parts::{Bases, Entries, HeadParts, Heads, Parts};
+use crate::piece::Ahead;
+use crate::refusal::{LoadRefusal, damaged_slot};
+use crate::walk::gather_listed;
+use clfs_base::{BaseImage, Row, read_newest};
+use clfs_disk::{Disk, calls_join};
+use clfs_lsn::{Lsn, Place, SECTOR, Shape, frontier};
+use std::alloc::{AllocError, Global};
+
+// The most bytes of a file that are read at a time.
+const PIECE: u32 = 1 << 20;
+
+// The byte of a slot at which the archive tail stands.
+const TAIL: u32 = 32;
+
+/// What a walk leaves beside the records, which its gatherer has.
+#[derive(Debug, Drop)]
+pub struct Walked {
+    /// The slot of the newest base copy, 0 or 1.
+    pub slot: u32,
+    /// The newest base copy.
+    pub image: BaseImage,
+    /// The bases of the streams, one for each row of the base copy.
+    pub bases: Bases,
+    /// Where the log goes on. No block is open there.
+    pub place: Place,
+}
+
+// The byte of a slot at which the base of a stream's row stands.
+fn base_place(row: usize) -> u32
+    requires { row < 2 ^ 16 }
+    ensures { result ≡ row_place version_one row + 8 }
+{
+    576 + 48 * row as u32 + 8
+}
+
+// The first row whose base lies above an LSN.
+fn first_high(rows: &[Row], frontier: Lsn) -> Option<usize>
+    ensures { result ≡ position (λ (row : Row). nat_lt frontier row.base) rows.now }
+{
+    rows.iter().position(|row| frontier < row.base)
+}
+
+// Whether the archive tail is none that a log can have whose records end here.
+fn is_wrong_tail(image: &BaseImage, frontier: Lsn) -> bool
+    ensures { result ≡ is_wrong_tail image.now frontier }
+{
+    image.archiving && (frontier < image.tail || image.tail.container() < image.first)
+}
+
+// The byte of a base copy that is wrong by where the records end.
+fn wrong_image(image: &BaseImage, frontier: Lsn) -> Option<u32>
+    requires { length image.now.streams < 2 ^ 16 }
+    ensures { result ≡ image_fault image.now frontier }
+{
+    if let Some(row) = first_high(image.streams.as_slice(), frontier) {
+        return Some(base_place(row));
+    }
+    if is_wrong_tail(image, frontier) {
+        return Some(TAIL);
+    }
+    None
+}
+
+// The bases of the rows.
+fn row_bases(alloc: Global, rows: &[Row]) -> Result<Vec<Lsn>, AllocError>
+    ensures { IfOk result (λ bases. bases.items ≡ map (λ (row : Row). row.base) rows.now) }
+{
+    rows.iter().map(|row| row.base).collect(alloc)
+}
