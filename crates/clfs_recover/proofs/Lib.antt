@@ -5,3 +5,4 @@ pub mod Containers
 pub mod Pieces
 pub mod Disks
 pub mod Listing
+pub mod Finding

@@ -4,6 +4,7 @@ use Rattle.clfs_lsn.specs.Head.{head_of}
 use Rattle.clfs_lsn.specs.declared.entry.LogEntry.{LogEntry}
 use Rattle.clfs_disk.specs.Files.{Files}
 use Rattle.clfs_recover.specs.Files.{Finds}
+use Rattle.clfs_recover.specs.Gathering.{RefusesAs}
 use Rattle.clfs_recover.specs.declared.load.Walked.{Walked}
 use Rattle.clfs_recover.specs.declared.parts.Parts.{Parts}
 use Rattle.clfs_recover.specs.declared.parts.HeadParts.{HeadParts}
@@ -26,6 +27,11 @@ IsRefused files NoBase = Finds files (Err NoBase)
 IsRefused files (Damaged container offset at) = Finds files (Err (Damaged container offset at))
 IsRefused files DiskFault = Unit {0}
 IsRefused files NoMemory = Unit {0}
+
+-- The walk behind a base copy gives this, and the gatherer has taken its records.
+abbrev pub IsWalkOf : (List LogEntry → Type 0) → Result Walked LoadRefusal → Result Parts LoadRefusal → Type 0
+IsWalkOf has (Ok walked) read = (entries : List LogEntry) × has entries × (read ≡ Ok (parts_of walked entries))
+IsWalkOf has (Err refusal) read = RefusesAs refusal read
 
 -- The walk is the one that opening finds, and the gatherer has taken its records.
 abbrev pub IsWalked : (List LogEntry → Type 0) → Files → Result Walked LoadRefusal → Type 0

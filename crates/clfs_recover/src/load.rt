@@ -12,7 +12,7 @@ ghost use Rattle.clfs_base.specs.Spelling.{IsImage};
 ghost use Rattle.clfs_recover.specs.Walk.{Container, walked, shape_of, image_fault, is_wrong_tail};
 ghost use Rattle.clfs_recover.specs.Files.{AreListed};
 ghost use Rattle.clfs_recover.specs.Gathering.{IsEnd};
-ghost use Rattle.clfs_recover.specs.Opening.{IsWalked, IsLoaded, AreHeadsLoaded};
+ghost use Rattle.clfs_recover.specs.Opening.{IsWalkOf, IsWalked, IsLoaded, AreHeadsLoaded};
 
 use crate::gatherer::Gatherer;
 use crate::parts::{Bases, Entries, HeadParts, Heads, Parts};
@@ -84,4 +84,73 @@ fn row_bases(alloc: Global, rows: &[Row]) -> Result<Vec<Lsn>, AllocError>
     ensures { IfOk result (λ bases. bases.items ≡ map (λ (row : Row). row.base) rows.now) }
 {
     rows.iter().map(|row| row.base).collect(alloc)
+}
+
+// How many bytes are read at a time: a container, where that is short.
+fn piece_bytes(shape: &Shape) -> usize
+    requires { IsShape shape.now }
+    ensures { sector_bytes * shape.now.block_sectors ≤ result }
+{
+    (SECTOR * shape.container_sectors).min(PIECE) as usize
+}
+
+// The place behind the last block of the last listed container.
+fn place_behind(image: &BaseImage, end: u32) -> Place
+    requires { IsImage version_one image.now }
+    ensures { result ≡ record { container = image.now.first + length image.now.files - 1; offset = end; used = 0; records = 0 } }
+{
+    let others = image.files.as_slice().len() as u32 - 1;
+    Place {
+        container: image.first + others,
+        offset: end,
+        used: 0,
+        records: 0,
+    }
+}
+
+// The walk over the containers that a base copy lists, and whether the copy fits what is found.
+fn walk_image<D: Disk, G: Gatherer>(
+    alloc: Global,
+    disk: &mut D,
+    slot: u32,
+    image: BaseImage,
+    gatherer: &mut G,
+) -> Result<Walked, LoadRefusal>
+    requires { IsImage version_one image }
+    ensures exact { TellsContents (D.state disk.old) → G.has gatherer.old [] → (listed : List Container)
+        → AreListed image.container_sectors (D.state disk.old).files image.files listed
+        → IsWalkOf (G.has gatherer.new) result (walked slot image listed) }
+    ensures same { Unchanged (D.state disk.old).files (D.state disk.new).files }
+    ensures time { Passes Unchanged (D.state disk.old) (D.state disk.new) }
+    ensures cause { IsErrOf result LoadRefusal.DiskFault → Rises (D.state disk.old).faults (D.state disk.new).faults }
+    ensures steady { IsSteady (D.state disk.old) → (IsErrOf result LoadRefusal.DiskFault → ⊥)
+        × ((D.state disk.new).faults ≡ (D.state disk.old).faults) }
+{
+    let shape = Shape {
+        block_sectors: image.block_sectors,
+        container_sectors: image.container_sectors,
+    };
+    let mut piece = Ahead::new(alloc, piece_bytes(&shape))?;
+    let mut bases = row_bases(alloc, image.streams.as_slice())?;
+    let files = image.files.as_slice();
+    let end = gather_listed(
+        alloc,
+        disk,
+        image.first,
+        files,
+        &shape,
+        &mut piece,
+        gatherer,
+        &mut bases,
+    )?;
+    let place = place_behind(&image, end);
+    if let Some(at) = wrong_image(&image, frontier(&place)) {
+        return Err(damaged_slot(slot, at));
+    }
+    Ok(Walked {
+        slot,
+        image,
+        bases: Bases::from_vec(bases),
+        place,
+    })
 }
