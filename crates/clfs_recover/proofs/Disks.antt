@@ -1,7 +1,9 @@
 -- What stays over calls of a disk that change no file.
-use Rattle.std.proofs.Common.{◌≡◌, ℕ, List, IsTrue, refl, sym, subst, arith}
+use Rattle.std.proofs.Common.{◌≡◌, ℕ, List, IsTrue, Result, Ok, Err, refl, sym, ◌∙◌, subst, arith}
+use Rattle.std.specs.Prelude.{OnOk}
+use Rattle.clfs_disk.specs.Joining.{CallsJoin}
 use Rattle.clfs_disk.specs.Files.{Files, Unchanged}
-use Rattle.clfs_disk.specs.State.{DiskState, Nature, TellsContents, IsSteady, Passes}
+use Rattle.clfs_disk.specs.State.{DiskState, Nature, TellsContents, IsSteady, IsSettled, Passes}
 
 -- a disk that tells its contents tells them still
 pub tells_still : (change : Files → Files → Type 0) (old new : DiskState) → Passes change old new → TellsContents old → TellsContents new
@@ -21,3 +23,16 @@ no_time disk = record {
   faults = omega arith;
   nature = refl;
 }
+
+-- What was settled is settled still after reads.
+pub settled_still : {D : Type 0} (state : D → DiskState) → CallsJoin state → (a b : D) → IsSettled (state a) → Passes Unchanged (state a) (state b)
+    → Unchanged (state a).files (state b).files → IsSettled (state b)
+settled_still state join a b settled time same = record {
+  honest = subst (λ (n : Nature). IsTrue n.tells_contents × IsTrue n.tells_images) (sym time.nature) settled.honest;
+  only = λ image left file. (join.left_by_reads a b settled time).each (state b).clock image time.later (omega arith) left file ∙ sym (same file);
+}
+
+-- what holds whatever the answer
+pub always : {T E P : Type 0} (r : Result T E) → P → OnOk r P
+always (Ok value) p = p
+always (Err e) p = tt

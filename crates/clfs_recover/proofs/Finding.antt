@@ -19,7 +19,7 @@ use Rattle.clfs_recover.specs.Walk.{Container, shape_of, listed_records, last_en
 use Rattle.clfs_recover.specs.Files.{AreListed, without_copy, FindsBehind, Finds}
 use Rattle.clfs_recover.specs.Gathering.{RefusesAs}
 use Rattle.clfs_recover.specs.Opening.{parts_of, IsWalkOf, IsWalked, IsRefused}
-use Rattle.clfs_recover.specs.declared.load.Walked.{Walked}
+use Rattle.clfs_recover.specs.declared.opening.Walked.{Walked}
 use Rattle.clfs_recover.specs.declared.parts.Parts.{Parts}
 use Rattle.clfs_recover.specs.declared.refusal.LoadRefusal.{LoadRefusal}
 use Rattle.clfs_recover.specs.declared.refusal.LoadRefusal.TheVariants.{NoBase, Damaged, DiskFault, NoMemory}
@@ -62,3 +62,95 @@ module _ (slot : ℕ) (image : BaseImage) (listed : List Container) where
     image_right is moved = ap by_records read
         ∙ ap (λ (o : Option ℕ). judged o entries) (sym (ap fault_at place_is) ∙ is)
         ∙ (λ i. found (record { slot = slot; image = image; entries = entries; bases = sym moved i; place = sym place_is i }))
+
+-- ---- open blocks
+
+-- bytes have a list of open blocks
+open_exist : (fuel left : ℕ) (bytes : List ℕ) → left ≤ fuel → (blocks : List (List ℕ)) × AreOpen left bytes blocks
+open_exist zero left bytes le = ([], (left, refl, inl (omega (arith, le))))
+open_exist (suc fuel) left bytes le =
+    ⊎_elim (λ (none : left ≡ 0). ends (inl none))
+    (λ (some : left ≢ 0). ⊎_elim
+    (λ (gate : get_or bytes 0 0 ≡ 165). ⊎_elim (λ (none : block_sectors bytes ≡ 0). ends (inr (inr (inl none))))
+    (λ (counted : block_sectors bytes ≢ 0). ⊎_elim (λ (many : left < block_sectors bytes). ends (inr (inr (inr (inl many)))))
+    (λ (fits : block_sectors bytes ≤ left). ⊎_elim
+    (λ (short : length bytes < 512 * block_sectors bytes). ends (inr (inr (inr (inr short)))))
+    (λ (whole : 512 * block_sectors bytes ≤ length bytes). more (open_exist fuel) gate counted fits whole)
+    (cases_lt (length bytes) (512 * block_sectors bytes)))
+    (cases_lt left (block_sectors bytes))) (cases_eq (block_sectors bytes) 0))
+    (λ (closed : get_or bytes 0 0 ≢ 165). ends (inr (inl closed)))
+    (cases_eq (get_or bytes 0 0) 165)) (cases_eq left 0)
+  where
+    ends : Ends left bytes → (blocks : List (List ℕ)) × AreOpen left bytes blocks
+    ends e = ([], (left, refl, e))
+
+    more : ((left : ℕ) (bytes : List ℕ) → left ≤ fuel → (blocks : List (List ℕ)) × AreOpen left bytes blocks) → get_or bytes 0 0 ≡ 165 → block_sectors bytes ≢ 0 → block_sectors bytes ≤ left → 512 * block_sectors bytes ≤ length bytes
+        → (blocks : List (List ℕ)) × AreOpen left bytes blocks
+    more rest_of gate counted fits whole =
+        let size : ℕ = 512 * block_sectors bytes in
+        let rest = rest_of (left - block_sectors bytes) (drop size bytes) (omega (arith, counted, le)) in
+        let block = take size bytes in
+        let long : length block ≡ size = length-take-le size bytes whole in
+        let place : drop (total rest.0) (drop size bytes) ≡ drop (total (block ∷ rest.0)) bytes =
+        drop-drop (total rest.0) size bytes ∙ ap (λ (k : ℕ). drop (k + total rest.0) bytes) (sym long) in (
+          block ∷ rest.0,
+          (
+            rest.1.0,
+            (record { gate = gate; some = omega (arith, counted); fits = fits; whole = whole; is = refl }, rest.1.1),
+            subst (λ (l : List ℕ). Ends rest.1.0 l) place rest.1.2,
+          ),
+        )
+
+-- files with these numbers are listed containers
+pub lists_exist : (sectors : ℕ) (files : Files) (numbers : List ℕ) → (listed : List Container) × AreListed sectors files numbers listed
+lists_exist sectors files [] = ([], tt)
+lists_exist sectors files (number ∷ numbers) =
+    let one = open_exist sectors sectors (files number) (omega arith) in
+    let others = lists_exist sectors files numbers in
+    (record { bytes = files number; blocks = one.0 } ∷ others.0, (refl, one.1, others.1))
+
+-- and so they are in files that hold the same
+pub listed_same : (sectors : ℕ) (files same : Files) (numbers : List ℕ) (listed : List Container) → Unchanged files same
+    → AreListed sectors files numbers listed → AreListed sectors same numbers listed
+listed_same sectors files same [] [] e are = tt
+listed_same sectors files same [] (container ∷ containers) e are = absurd are
+listed_same sectors files same (number ∷ numbers) [] e are = absurd are
+listed_same sectors files same (number ∷ numbers) (container ∷ containers) e are =
+    (are.0 ∙ sym (e number), are.1, listed_same sectors files same numbers containers e are.2)
+
+-- ---- what opening finds
+
+abbrev no_image : NewestRefusal → Result (ℕ × BaseImage) NewestRefusal
+no_image refusal = Err refusal
+
+refused_by : (files : Files) (refusal : NewestRefusal) → newest_of (files 0) ≡ Err refusal → Finds files (Err (without_copy refusal))
+refused_by files refusal is = subst (λ (r : Result (ℕ × BaseImage) NewestRefusal). FindsBehind files (Err (without_copy refusal)) r) (sym is) refl
+
+-- a base file without a newest copy
+pub no_copy : (files : Files) (refusal : NewestRefusal) → GivesNewest (no_image refusal) (newest_of (files 0)) → IsRefused files (without_copy refusal)
+no_copy files newest.NoBase is = refused_by files newest.NoBase is
+no_copy files (newest.BadByte slot at) is = refused_by files (newest.BadByte slot at) is
+no_copy files newest.DiskFault is = tt
+no_copy files newest.NoMemory is = tt
+
+-- a copy, and the walk behind it
+pub by_copy : (has : List LogEntry → Type 0) (files : Files) (slot : ℕ) (image : BaseImage) (result : Result Walked LoadRefusal)
+    → newest_of (files 0) ≡ Ok (slot, image)
+    → ((listed : List Container) → AreListed image.container_sectors files image.files listed → IsWalkOf has result (walked slot image listed))
+    → IsWalked has files result
+by_copy has files slot image result is walks =
+    let listed = lists_exist image.container_sectors files image.files in
+    by_result result (walks listed.0 listed.1)
+  where
+    finds : (read : Result Parts LoadRefusal) → read ≡ walked slot image (lists_exist image.container_sectors files image.files).0 → Finds files read
+    finds read e =
+        let listed = lists_exist image.container_sectors files image.files in
+        subst (λ (r : Result (ℕ × BaseImage) NewestRefusal). FindsBehind files read r) (sym is) (listed.0, listed.1, e)
+
+    by_result : (r : Result Walked LoadRefusal) → IsWalkOf has r (walked slot image (lists_exist image.container_sectors files image.files).0)
+        → IsWalked has files r
+    by_result (Ok w) walk = (walk.0, walk.1, finds (Ok (parts_of w walk.0)) (sym walk.2))
+    by_result (Err NoBase) walk = finds (Err NoBase) (sym walk)
+    by_result (Err (Damaged container offset at)) walk = finds (Err (Damaged container offset at)) (sym walk)
+    by_result (Err DiskFault) walk = tt
+    by_result (Err NoMemory) walk = tt

@@ -5,7 +5,7 @@ use Rattle.clfs_lsn.specs.declared.entry.LogEntry.{LogEntry}
 use Rattle.clfs_disk.specs.Files.{Files}
 use Rattle.clfs_recover.specs.Files.{Finds}
 use Rattle.clfs_recover.specs.Gathering.{RefusesAs}
-use Rattle.clfs_recover.specs.declared.load.Walked.{Walked}
+use Rattle.clfs_recover.specs.declared.opening.Walked.{Walked}
 use Rattle.clfs_recover.specs.declared.parts.Parts.{Parts}
 use Rattle.clfs_recover.specs.declared.parts.HeadParts.{HeadParts}
 use Rattle.clfs_recover.specs.declared.refusal.LoadRefusal.{LoadRefusal}

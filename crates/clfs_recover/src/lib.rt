@@ -4,16 +4,16 @@
 mod block;
 mod container;
 mod gatherer;
-mod load;
+mod listed;
+mod opening;
 mod parts;
 mod piece;
 mod records;
 mod refusal;
 mod rows;
-mod walk;
 
 pub use gatherer::Gatherer;
-pub use load::Walked;
+pub use opening::{Walked, load, load_heads, walk};
 pub use parts::{Bases, Entries, HeadParts, Heads, Parts};
 pub use refusal::LoadRefusal;
 pub use rows::walks_of_a_small_log;

@@ -7,7 +7,7 @@ use Rattle.clfs_recover.specs.Walk.{container_records}
 use Rattle.clfs_recover.specs.Gathering.{GathersContainer}
 use Rattle.clfs_recover.proofs.Listing.{begins, done, went_on, was_refused, named_otherwise}
 use Rattle.clfs_recover.proofs.Disks.{tells_still, steady_still, no_time}
-use Rattle.clfs_recover.proofs.walk.gather_listed.Goals as goal
+use Rattle.clfs_recover.proofs.listed.gather_listed.Goals as goal
 
 pub loop-i-init : goal.loop-i-init
 loop-i-init g c =

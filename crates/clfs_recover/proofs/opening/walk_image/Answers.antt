@@ -10,7 +10,7 @@ use Rattle.clfs_recover.specs.Gathering.{HasTaken, RefusesAs}
 use Rattle.clfs_recover.specs.declared.refusal.LoadRefusal.{LoadRefusal}
 use Rattle.clfs_recover.proofs.Raising.{first_bases, length-bases_with}
 use Rattle.clfs_recover.proofs.Finding.{walk_refused, image_wrong, image_right}
-use Rattle.clfs_recover.proofs.load.walk_image.Goals as goal
+use Rattle.clfs_recover.proofs.opening.walk_image.Goals as goal
 
 abbrev bases_of : List Row → List ℕ
 bases_of rows = map (λ (row : Row). row.base) rows

@@ -7,7 +7,7 @@ use Rattle.clfs_recover.specs.Walk.{Container}
 use Rattle.clfs_recover.specs.Files.{AreListed}
 use Rattle.clfs_recover.specs.Gathering.{HasTaken, IsEnd}
 use Rattle.clfs_recover.proofs.Listing.{IsListed}
-use Rattle.clfs_recover.proofs.walk.gather_listed.Given as goal
+use Rattle.clfs_recover.proofs.listed.gather_listed.Given as goal
 
 abbrev pub invariant-loop-i : goal.invariant-loop-i
 invariant-loop-i g l =

@@ -18,7 +18,7 @@ use crate::gatherer::Gatherer;
 use crate::parts::{Bases, Entries, HeadParts, Heads, Parts};
 use crate::piece::Ahead;
 use crate::refusal::{LoadRefusal, damaged_slot};
-use crate::walk::gather_listed;
+use crate::listed::gather_listed;
 use clfs_base::{BaseImage, Row, read_newest};
 use clfs_disk::{Disk, calls_join};
 use clfs_lsn::{Lsn, Place, SECTOR, Shape, frontier};
@@ -152,5 +152,68 @@ fn walk_image<D: Disk, G: Gatherer>(
         image,
         bases: Bases::from_vec(bases),
         place,
+    })
+}
+
+/// Syncs the disk, reads the newest base copy, and hands each record of the listed containers on, in the order of their LSNs. Over files that
+/// stand for a state it answers that state's parts; over others, why they stand for none. It writes nothing.
+pub fn walk<D: Disk, G: Gatherer>(
+    alloc: Global,
+    disk: &mut D,
+    gatherer: &mut G,
+) -> Result<Walked, LoadRefusal>
+    ensures exact { TellsContents (D.state disk.old) → G.has gatherer.old [] → IsWalked (G.has gatherer.new) (D.state disk.old).files result }
+    ensures settled { OnOk result (IsHonest (D.state disk.old) → IsSettled (D.state disk.new)) }
+    ensures same { Unchanged (D.state disk.old).files (D.state disk.new).files }
+    ensures time { Passes Unchanged (D.state disk.old) (D.state disk.new) }
+    ensures cause { IsErrOf result LoadRefusal.DiskFault → Rises (D.state disk.old).faults (D.state disk.new).faults }
+    ensures steady { IsSteady (D.state disk.old) → (IsErrOf result LoadRefusal.DiskFault → ⊥)
+        × ((D.state disk.new).faults ≡ (D.state disk.old).faults) }
+{
+    calls_join::<D>();
+    disk.sync()?;
+    let (slot, image) = read_newest(alloc, disk)?;
+    walk_image(alloc, disk, slot, image, gatherer)
+}
+
+/// Opens a log with its records.
+pub fn load<D: Disk>(alloc: Global, disk: &mut D) -> Result<Parts, LoadRefusal>
+    ensures exact { TellsContents (D.state disk.old) → IsLoaded (D.state disk.old).files result }
+    ensures settled { OnOk result (IsHonest (D.state disk.old) → IsSettled (D.state disk.new)) }
+    ensures same { Unchanged (D.state disk.old).files (D.state disk.new).files }
+    ensures time { Passes Unchanged (D.state disk.old) (D.state disk.new) }
+    ensures cause { IsErrOf result LoadRefusal.DiskFault → Rises (D.state disk.old).faults (D.state disk.new).faults }
+    ensures steady { IsSteady (D.state disk.old) → (IsErrOf result LoadRefusal.DiskFault → ⊥)
+        × ((D.state disk.new).faults ≡ (D.state disk.old).faults) }
+{
+    let mut entries = Entries::new(alloc);
+    let walked = walk(alloc, disk, &mut entries)?;
+    Ok(Parts {
+        slot: walked.slot,
+        image: walked.image,
+        entries,
+        bases: walked.bases,
+        place: walked.place,
+    })
+}
+
+/// Opens a log with the heads of its records, as `load` does with the records.
+pub fn load_heads<D: Disk>(alloc: Global, disk: &mut D) -> Result<HeadParts, LoadRefusal>
+    ensures exact { TellsContents (D.state disk.old) → AreHeadsLoaded (D.state disk.old).files result }
+    ensures settled { OnOk result (IsHonest (D.state disk.old) → IsSettled (D.state disk.new)) }
+    ensures same { Unchanged (D.state disk.old).files (D.state disk.new).files }
+    ensures time { Passes Unchanged (D.state disk.old) (D.state disk.new) }
+    ensures cause { IsErrOf result LoadRefusal.DiskFault → Rises (D.state disk.old).faults (D.state disk.new).faults }
+    ensures steady { IsSteady (D.state disk.old) → (IsErrOf result LoadRefusal.DiskFault → ⊥)
+        × ((D.state disk.new).faults ≡ (D.state disk.old).faults) }
+{
+    let mut heads = Heads::new(alloc);
+    let walked = walk(alloc, disk, &mut heads)?;
+    Ok(HeadParts {
+        slot: walked.slot,
+        image: walked.image,
+        heads,
+        bases: walked.bases,
+        place: walked.place,
     })
 }
