@@ -43,7 +43,7 @@ module _ (slot : ℕ) (image : BaseImage) (listed : List Container) where
   found parts = Ok parts
 
   pub walk_refused : (refusal : LoadRefusal) → RefusesAs refusal all → RefusesAs refusal (walked slot image listed)
-  walk_refused NoBase is = ap by_records is
+  walk_refused NoBase is = is
   walk_refused (Damaged container offset at) is = ap by_records is
   walk_refused DiskFault is = tt
   walk_refused NoMemory is = tt
@@ -128,7 +128,7 @@ refused_by files refusal is = subst (λ (r : Result (ℕ × BaseImage) NewestRef
 
 -- a base file without a newest copy
 pub no_copy : (files : Files) (refusal : NewestRefusal) → GivesNewest (no_image refusal) (newest_of (files 0)) → IsRefused files (without_copy refusal)
-no_copy files newest.NoBase is = refused_by files newest.NoBase is
+no_copy files newest.NoBase is = is
 no_copy files (newest.BadByte slot at) is = refused_by files (newest.BadByte slot at) is
 no_copy files newest.DiskFault is = tt
 no_copy files newest.NoMemory is = tt
@@ -150,7 +150,7 @@ by_copy has files slot image result is walks =
     by_result : (r : Result Walked LoadRefusal) → IsWalkOf has r (walked slot image (lists_exist image.container_sectors files image.files).0)
         → IsWalked has files r
     by_result (Ok w) walk = (walk.0, walk.1, finds (Ok (parts_of w walk.0)) (sym walk.2))
-    by_result (Err NoBase) walk = finds (Err NoBase) (sym walk)
+    by_result (Err NoBase) walk = absurd walk
     by_result (Err (Damaged container offset at)) walk = finds (Err (Damaged container offset at)) (sym walk)
     by_result (Err DiskFault) walk = tt
     by_result (Err NoMemory) walk = tt

@@ -6,3 +6,4 @@ pub mod Pieces
 pub mod Disks
 pub mod Listing
 pub mod Finding
+pub mod Meanings

@@ -151,8 +151,7 @@ module _ (shape : Shape) (streams first : ℕ) (files : Files) (numbers : List �
         → GathersContainer now rows moved (before ++ at.entries) (Err refusal)
         (container_records shape streams (first + i) (record { bytes = files number; blocks = blocks })) (total blocks))
         → RefusesAs refusal (listed_records shape streams first listed)
-    was_refused now moved NoBase gathers = sym at.so_far
-        ∙ ap (behind at.entries) (split (Err NoBase) (gathers next.blocks next.open_blocks))
+    was_refused now moved NoBase gathers = gathers next.blocks next.open_blocks
     was_refused now moved (Damaged c o wrong) gathers = sym at.so_far
         ∙ ap (behind at.entries) (split (Err (Damaged c o wrong)) (gathers next.blocks next.open_blocks))
     was_refused now moved DiskFault gathers = tt

@@ -18,9 +18,9 @@ pub record HasTaken (has : List LogEntry → Type 0) (rows : List Row) (bases : 
   pub records : has entries
   pub moved : bases ≡ bases_with rows entries
 
--- A refusal is the one that reading tells. A fault of the disk, or want of memory, may come in place of any answer.
+-- A refusal is the one that reading tells. What is behind a base copy is never refused for want of one. A fault of the disk, or want of memory, may come in place of any answer.
 abbrev pub RefusesAs : {A : Type 0} → LoadRefusal → Result A LoadRefusal → Type 0
-RefusesAs NoBase read = read ≡ Err NoBase
+RefusesAs NoBase read = ⊥
 RefusesAs (Damaged container offset at) read = read ≡ Err (Damaged container offset at)
 RefusesAs DiskFault read = Unit {0}
 RefusesAs NoMemory read = Unit {0}

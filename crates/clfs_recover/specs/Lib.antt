@@ -6,3 +6,4 @@ pub mod Gathering
 pub mod Bases
 pub mod Fronts
 pub mod Opening
+pub mod Stored

@@ -3,7 +3,7 @@ use Rattle.std.specs.Prelude.{◌≡◌, List, map, Result, Ok, Err}
 use Rattle.clfs_lsn.specs.Head.{head_of}
 use Rattle.clfs_lsn.specs.declared.entry.LogEntry.{LogEntry}
 use Rattle.clfs_disk.specs.Files.{Files}
-use Rattle.clfs_recover.specs.Files.{Finds}
+use Rattle.clfs_recover.specs.Files.{Finds, IsDamaged, HasNoBase}
 use Rattle.clfs_recover.specs.Gathering.{RefusesAs}
 use Rattle.clfs_recover.specs.declared.opening.Walked.{Walked}
 use Rattle.clfs_recover.specs.declared.parts.Parts.{Parts}
@@ -23,8 +23,8 @@ with_heads parts =
 
 -- A refusal is the one that opening finds in files. A fault of the disk, or want of memory, may come in place of any answer.
 abbrev pub IsRefused : Files → LoadRefusal → Type 0
-IsRefused files NoBase = Finds files (Err NoBase)
-IsRefused files (Damaged container offset at) = Finds files (Err (Damaged container offset at))
+IsRefused files NoBase = HasNoBase files
+IsRefused files (Damaged container offset at) = IsDamaged files container offset at
 IsRefused files DiskFault = Unit {0}
 IsRefused files NoMemory = Unit {0}
 

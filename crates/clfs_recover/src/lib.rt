@@ -4,6 +4,7 @@
 mod block;
 mod container;
 mod gatherer;
+mod laws;
 mod listed;
 mod opening;
 mod parts;
@@ -13,6 +14,7 @@ mod refusal;
 mod rows;
 
 pub use gatherer::Gatherer;
+pub use laws::{copies_and_blocks_decide, files_have_one_meaning};
 pub use opening::{Walked, load, load_heads, walk};
 pub use parts::{Bases, Entries, HeadParts, Heads, Parts};
 pub use refusal::LoadRefusal;
