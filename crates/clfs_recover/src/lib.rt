@@ -19,3 +19,6 @@ pub use opening::{Walked, load, load_heads, walk};
 pub use parts::{Bases, Entries, HeadParts, Heads, Parts};
 pub use refusal::LoadRefusal;
 pub use rows::walks_of_a_small_log;
+
+#[cfg(test)]
+mod tests;
