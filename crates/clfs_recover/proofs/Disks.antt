@@ -1,5 +1,5 @@
 -- What stays over calls of a disk that change no file.
-use Rattle.std.proofs.Common.{◌≡◌, ℕ, List, IsTrue, Result, Ok, Err, refl, sym, ◌∙◌, subst, arith}
+use Rattle.std.proofs.Common.{IsTrue, Result, Ok, Err, refl, sym, ◌∙◌, subst, arith}
 use Rattle.std.specs.Prelude.{OnOk}
 use Rattle.clfs_disk.specs.Joining.{CallsJoin}
 use Rattle.clfs_disk.specs.Files.{Files, Unchanged}

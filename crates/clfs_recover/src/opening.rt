@@ -15,10 +15,10 @@ ghost use Rattle.clfs_recover.specs.Gathering.{IsEnd};
 ghost use Rattle.clfs_recover.specs.Opening.{IsWalkOf, IsWalked, IsLoaded, AreHeadsLoaded};
 
 use crate::gatherer::Gatherer;
+use crate::listed::gather_listed;
 use crate::parts::{Bases, Entries, HeadParts, Heads, Parts};
 use crate::piece::Ahead;
 use crate::refusal::{LoadRefusal, damaged_slot};
-use crate::listed::gather_listed;
 use clfs_base::{BaseImage, Row, read_newest};
 use clfs_disk::{Disk, calls_join};
 use clfs_lsn::{Lsn, Place, SECTOR, Shape, frontier};

@@ -1,6 +1,5 @@
 // Why a log isn't opened.
 ghost use Rattle.std.specs.Prelude.{◌≡◌};
-
 ghost use Rattle.clfs_recover.specs.Walk.{slot_offset};
 
 use clfs_base::NewestRefusal;

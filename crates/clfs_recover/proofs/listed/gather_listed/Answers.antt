@@ -1,10 +1,6 @@
-use Rattle.std.proofs.Common.{◌≡◌, ℕ, ◌+◌, ◌<◌, List, ◌++◌, length, get_or, Ok, Err, vec_len, refl, sym, ◌∙◌, ap, subst, arith}
+use Rattle.std.proofs.Common.{◌+◌, ◌++◌, get_or, Ok, Err, vec_len, refl, ◌∙◌, arith}
 use Rattle.std.proofs.lemmas.Result.{err_from_is_err_and}
 use Rattle.clfs_disk.specs.Files.{Unchanged}
-use Rattle.clfs_disk.specs.State.{DiskState}
-use Rattle.clfs_container.specs.OpenBlocks.{AreOpen, total}
-use Rattle.clfs_recover.specs.Walk.{container_records}
-use Rattle.clfs_recover.specs.Gathering.{GathersContainer}
 use Rattle.clfs_recover.proofs.Listing.{begins, done, went_on, was_refused, named_otherwise}
 use Rattle.clfs_recover.proofs.Disks.{tells_still, steady_still, no_time}
 use Rattle.clfs_recover.proofs.listed.gather_listed.Goals as goal

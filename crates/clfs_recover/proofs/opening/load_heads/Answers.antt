@@ -1,4 +1,3 @@
-use Rattle.std.proofs.Common.{◌≡◌}
 use Rattle.clfs_recover.specs.Opening.{parts_of}
 use Rattle.clfs_recover.proofs.opening.load_heads.Goals as goal
 

@@ -1,4 +1,4 @@
-use Rattle.std.proofs.Common.{◌≡◌, List, sym, ◌∙◌, ap}
+use Rattle.std.proofs.Common.{sym, ◌∙◌, ap}
 use Rattle.clfs_disk.specs.Files.{Unchanged}
 use Rattle.clfs_base.specs.Slots.{newest_of}
 use Rattle.clfs_recover.proofs.Disks.{tells_still, settled_still, always}

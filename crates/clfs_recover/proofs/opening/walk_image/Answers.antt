@@ -1,13 +1,10 @@
-use Rattle.std.proofs.Common.{◌≡◌, ℕ, ◌+◌, ◌-◌, List, [], length, map, Option, Some, None, Ok, vec_len, refl, sym, ◌∙◌, ap, subst, arith}
+use Rattle.std.proofs.Common.{◌≡◌, ℕ, List, [], length, map, Some, None, Ok, vec_len, sym, ◌∙◌, ap, subst, arith}
 use Rattle.std.proofs.lemmas.Result.{err_from_is_err_and}
-use Rattle.std.proofs.lemmas.List.{length-map}
 use Rattle.clfs_lsn.specs.Place.{frontier}
-use Rattle.clfs_lsn.specs.declared.entry.LogEntry.{LogEntry}
 use Rattle.clfs_base.specs.declared.image.Row.{Row}
-use Rattle.clfs_recover.specs.Walk.{shape_of, listed_records, image_fault, walked}
+use Rattle.clfs_recover.specs.Walk.{shape_of, listed_records, image_fault}
 use Rattle.clfs_recover.specs.Files.{AreListed}
-use Rattle.clfs_recover.specs.Gathering.{HasTaken, RefusesAs}
-use Rattle.clfs_recover.specs.declared.refusal.LoadRefusal.{LoadRefusal}
+use Rattle.clfs_recover.specs.Gathering.{RefusesAs}
 use Rattle.clfs_recover.proofs.Raising.{first_bases, length-bases_with}
 use Rattle.clfs_recover.proofs.Finding.{walk_refused, image_wrong, image_right}
 use Rattle.clfs_recover.proofs.opening.walk_image.Goals as goal
