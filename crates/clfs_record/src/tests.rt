@@ -69,6 +69,9 @@ fn each_byte_is_checked(rt: HostRuntime) -> Result<(), Fail> {
             Err(RecordRefusal::NoMemory) => Some(48),
         };
         assert_eq!(rt; at, wrong_byte(raised), "byte {raised} raised");
+        let head = decode_head(&bytes, Lsn::of_number(1 << 32), stream_of(&bytes), 1);
+        let head_at = head.err().map(|HeadRefusal::BadByte { at }| at);
+        assert_eq!(rt; head_at, at, "byte {raised} raised");
     }
     for short in [0, 31, 32, 47] {
         let cut = decode(rt.alloc(), &SPELLED[..short], Lsn::of_number(1 << 32), 1, 1);

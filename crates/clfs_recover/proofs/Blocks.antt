@@ -1,5 +1,5 @@
 -- The records of a block by the answers of its checks.
-use Rattle.std.proofs.Common.{◌≡◌, ℕ, List, ◌∷◌, ◌++◌, Option, Some, None, Result, Ok, Err, refl, sym, ◌∙◌, ap, subst}
+use Rattle.std.proofs.Common.{◌≡◌, ℕ, List, Option, Some, None, Result, Ok, Err, refl, ◌∙◌, ap}
 use Rattle.clfs_lsn.specs.Checks.{unless_wrong}
 use Rattle.clfs_lsn.specs.declared.entry.LogEntry.{LogEntry}
 use Rattle.clfs_lsn.specs.declared.shape.Shape.{Shape}
@@ -11,7 +11,7 @@ use Rattle.clfs_block.specs.declared.head.BlockRefusal.{BlockRefusal}
 use Rattle.clfs_block.specs.declared.head.BlockRefusal.TheVariants as blocks
 use Rattle.clfs_recover.specs.Records.{◌>>=◌, told_as, records_from, block_records}
 use Rattle.clfs_recover.specs.Walk.{damage_at}
-use Rattle.clfs_recover.specs.Gathering.{HasTaken, GivesFrame, GathersBlock, RefusesAs}
+use Rattle.clfs_recover.specs.Gathering.{GivesFrame, GathersBlock, RefusesAs}
 use Rattle.clfs_recover.specs.declared.refusal.LoadRefusal.{LoadRefusal}
 use Rattle.clfs_recover.specs.declared.refusal.LoadRefusal.TheVariants.{NoBase, Damaged, DiskFault, NoMemory}
 
@@ -67,10 +67,6 @@ pub told_damage : (container offset c o at : ℕ) (read : Result (List LogEntry)
 told_damage container offset c o at (Ok entries) e = absurd (cc e)
 told_damage container offset c o at (Err k) e = (cc e, cc e, cc e)
 
-pub told_no_base : (container offset : ℕ) (read : Result (List LogEntry) ℕ) → told_as (λ at. Damaged container offset at) read ≡ Err NoBase → ⊥
-told_no_base container offset (Ok entries) e = cc e
-told_no_base container offset (Err k) e = cc e
-
 pub told_records : (container offset : ℕ) (entries : List LogEntry) (read : Result (List LogEntry) ℕ)
     → told_as (λ at. Damaged container offset at) read ≡ Ok entries → read ≡ Ok entries
 told_records container offset entries (Ok others) e = cc e
@@ -91,7 +87,7 @@ module _ (has : List LogEntry → Type 0) (rows : List Row) (bases : List ℕ) (
     pub records_refusal : (refusal : LoadRefusal)
         → RefusesAs refusal (told_as (λ at. Damaged container offset at) (records_from streams (payload_of head.used bytes) head.records start 16))
         → Gathered (Err refusal)
-    records_refusal NoBase refuses = told_no_base container offset (records_from streams (payload_of head.used bytes) head.records start 16) refuses
+    records_refusal NoBase refuses = refuses
     records_refusal (Damaged c o at) refuses =
         let damage = told_damage container offset c o at (records_from streams (payload_of head.used bytes) head.records start 16) refuses in
         (damage.0, damage.1, records_refused shape streams start bytes head is at damage.2)

@@ -1,6 +1,6 @@
 -- The open blocks of a container as the walk meets them.
-use Rattle.std.proofs.Common.{◌≡◌, ◌≢◌, ◌⊎◌, inl, inr, ⊎_elim, ℕ, zero, suc, ◌+◌, ◌-◌, ◌*◌, ◌/◌, ◌%◌, ◌^◌, ◌<◌, ◌≤◌, Bool, true, false, cond, not, eqb, ltb, leb, List, [], ◌∷◌, ◌++◌, length, get_or, take, drop}
-use Rattle.std.proofs.Common.{Option, Some, None, Result, Ok, Err, refl, sym, ◌∙◌, ap, subst, arith, append_assoc, length-drop}
+use Rattle.std.proofs.Common.{◌≡◌, inl, inr, ⊎_elim, ℕ, ◌+◌, ◌-◌, ◌*◌, ◌/◌, ◌%◌, ◌^◌, ◌<◌, ◌≤◌, Bool, true, false, cond, not, eqb, ltb, List, [], ◌∷◌, ◌++◌, length, get_or, take, drop}
+use Rattle.std.proofs.Common.{Option, Some, None, Result, Ok, Err, refl, sym, ◌∙◌, ap, subst, arith, append_assoc}
 use Rattle.std.proofs.lemmas.List.{append-nil, length-take-le, get_or-drop, drop-drop}
 use Rattle.std.proofs.lemmas.Bool.{le-leb, lt-leb, eq-eqb}
 use Rattle.clfs_lsn.specs.Lsn.{lsn_number}
@@ -11,13 +11,13 @@ use Rattle.clfs_lsn.specs.declared.shape.Shape.{Shape}
 use Rattle.clfs_base.specs.declared.image.Row.{Row}
 use Rattle.clfs_container.specs.OpenBlocks.{block_sectors, BeginsWith, Opens, Ends, AreOpen, total}
 use Rattle.clfs_block.specs.Frame.{payload_of}
-use Rattle.clfs_block.specs.Checks.{head_of, left_from, frame_at, sectors_at, rest_at, head_fault, wrong_sector, address_place, HasFrame, IsEnough}
+use Rattle.clfs_block.specs.Checks.{head_of, left_from, frame_at, sectors_at, rest_at, head_fault, wrong_sector, address_place, IsEnough}
 use Rattle.clfs_block.specs.Judging.{AreJudgedAlone, AreReadAsWritten}
 use Rattle.clfs_block.specs.declared.head.BlockHead.{BlockHead}
 use Rattle.clfs_block.specs.declared.head.BlockRefusal.{BlockRefusal}
 use Rattle.clfs_block.specs.declared.head.BlockRefusal.TheVariants as blocks
 use Rattle.clfs_recover.specs.Records.{◌>>=◌, told_as, records_from, block_records}
-use Rattle.clfs_recover.specs.Walk.{damage_at, end_at, blocks_end, blocks_records}
+use Rattle.clfs_recover.specs.Walk.{damage_at, end_at, blocks_records}
 use Rattle.clfs_recover.specs.Gathering.{HasTaken, GathersBlock, GathersContainer, RefusesAs}
 use Rattle.clfs_recover.specs.Fronts.{IsFrontOf}
 use Rattle.clfs_recover.specs.declared.refusal.LoadRefusal.{LoadRefusal}

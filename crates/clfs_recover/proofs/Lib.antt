@@ -4,3 +4,6 @@ pub mod Blocks
 pub mod Containers
 pub mod Pieces
 pub mod Disks
+pub mod Listing
+pub mod Finding
+pub mod Meanings

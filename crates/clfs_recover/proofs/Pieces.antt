@@ -1,5 +1,5 @@
 -- What a piece that was read ahead has of its file.
-use Rattle.std.proofs.Common.{◌≡◌, ◌⊎◌, inl, inr, ⊎_elim, ℕ, ◌+◌, ◌-◌, ◌<◌, ◌≤◌, List, length, take, drop, Result, Ok, Err, refl, sym, ◌∙◌, ap, subst, arith, length-drop}
+use Rattle.std.proofs.Common.{◌≡◌, inl, inr, ⊎_elim, ℕ, ◌+◌, ◌-◌, ◌<◌, ◌≤◌, List, length, take, drop, Result, Ok, Err, sym, ◌∙◌, ap, arith, length-drop}
 use Rattle.std.proofs.lemmas.List.{drop-take, drop-drop, drop_all, take_all, length-take}
 use Rattle.std.specs.Prelude.{OnOk}
 use Rattle.std.proofs.lemmas.Bool.{cases_lt}
@@ -42,6 +42,6 @@ pub read_reaches : {T E : Type 0} (r : Result T E) (at least : ℕ) (piece : Pie
 read_reaches (Ok value) at least piece place few room = (
   omega (arith, place),
   ⊎_elim (λ (short : length piece.bytes < piece.room). inr short) (λ (full : piece.room ≤ length piece.bytes). inl (omega (arith, full, room, place)))
-  (cases_lt (length piece.bytes) piece.room),
+      (cases_lt (length piece.bytes) piece.room),
 )
 read_reaches (Err e) at least piece place few room = tt

@@ -1,12 +1,12 @@
 -- The bases of streams, record by record.
-use Rattle.std.proofs.Common.{◌≡◌, ◌≢◌, ◌⊎◌, ⊎_elim, ℕ, ◌+◌, ◌-◌, ◌<◌, ◌≤◌, Bool, true, false, cond, eqb, max, List, [], ◌∷◌, ◌++◌, length, get_or, set, map}
-use Rattle.std.proofs.Common.{refl, sym, ◌∙◌, ap, subst, arith, get_or-set_other, get_or-set_same, length-set}
-use Rattle.std.specs.List.{fold, filter, range_with_len}
-use Rattle.std.proofs.lemmas.List.{ext_get_or, map-append}
+use Rattle.std.proofs.Common.{◌≡◌, ◌≢◌, ⊎_elim, ℕ, ◌+◌, ◌-◌, ◌<◌, ◌≤◌, Bool, true, false, cond, eqb, max, List, [], ◌∷◌, ◌++◌, length, get_or, set, map}
+use Rattle.std.proofs.Common.{refl, sym, ◌∙◌, ap, arith, get_or-set_other, get_or-set_same, length-set}
+use Rattle.std.specs.List.{fold, filter}
+use Rattle.std.proofs.lemmas.List.{ext_get_or, map-append, length-map, get_or-map}
 use Rattle.std.proofs.lemmas.List.Elements.{filter-append}
 use Rattle.std.proofs.lemmas.List.Sums.{fold-append}
 use Rattle.std.proofs.lemmas.List.FromFn.{get_or-map-range_with_len, length-map-range_with_len}
-use Rattle.std.proofs.lemmas.Bool.{cases_eq, eqb-true, eq-eqb, ne_eqb}
+use Rattle.std.proofs.lemmas.Bool.{cases_eq, eq-eqb, ne_eqb}
 use Rattle.clfs_lsn.specs.declared.entry.LogEntry.{LogEntry}
 use Rattle.clfs_base.specs.declared.image.Row.{Row}
 use Rattle.clfs_base.specs.Spelling.{row_in}
@@ -65,3 +65,11 @@ bases_more rows before e some few =
     get_or-set_other old at i now 0 other ∙ here
     ∙ sym (more ∙ ap (λ b. cond b (max (base_with rows before i) e.new_base) (base_with rows before i)) test))
     (cases_eq i at))
+
+-- without records the bases are those of the rows
+pub first_bases : (rows : List Row) → map (λ (row : Row). row.base) rows ≡ bases_with rows []
+first_bases rows = ext_get_or 0 (map (λ (row : Row). row.base) rows) (bases_with rows [])
+    (length-map rows (λ (row : Row). row.base) ∙ sym (length-bases_with rows []))
+    (λ i lt.
+    let near : i < length rows = omega (arith, lt, length-map rows (λ (row : Row). row.base)) in
+    get_or-map (λ (row : Row). row.base) rows i (record { name = []; base = 0 }) 0 near ∙ sym (base_at rows [] i near))

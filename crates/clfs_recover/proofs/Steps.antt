@@ -1,6 +1,6 @@
 -- The walk step by step: what is gathered so far, before what is left gives what all gives.
-use Rattle.std.proofs.Common.{◌≡◌, ℕ, Bool, true, false, zero, suc, ◌+◌, ◌-◌, ◌<◌, ◌≤◌, List, [], ◌∷◌, ◌++◌, length, drop, cond, eqb, Result, Ok, Err}
-use Rattle.std.proofs.Common.{refl, sym, ◌∙◌, ap, subst, arith, append_assoc}
+use Rattle.std.proofs.Common.{◌≡◌, ℕ, Bool, suc, ◌+◌, ◌-◌, ◌<◌, ◌≤◌, List, [], ◌∷◌, ◌++◌, length, drop, cond, eqb, Result, Ok, Err}
+use Rattle.std.proofs.Common.{refl, sym, ◌∙◌, ap, arith, append_assoc}
 use Rattle.std.proofs.lemmas.List.{append-nil}
 use Rattle.std.proofs.lemmas.Bool.{lt-ltb, eq-eqb, ne_eqb}
 use Rattle.clfs_lsn.specs.Spelling.{record_at}
@@ -8,8 +8,7 @@ use Rattle.clfs_lsn.specs.declared.entry.LogEntry.{LogEntry}
 use Rattle.clfs_base.specs.declared.image.Row.{Row}
 use Rattle.clfs_block.specs.Frame.{place_of}
 use Rattle.clfs_recover.specs.Records.{◌>>=◌, told_as, records_from}
-use Rattle.clfs_recover.specs.Gathering.{HasTaken, Gathers, RefusesAs}
-use Rattle.clfs_recover.specs.declared.refusal.LoadRefusal.{LoadRefusal}
+use Rattle.clfs_recover.specs.Gathering.{HasTaken}
 
 -- what reading gives with records before it
 abbrev pub behind : {E : Type 0} → List LogEntry → Result (List LogEntry) E → Result (List LogEntry) E

@@ -9,10 +9,10 @@ use Rattle.clfs_base.specs.declared.image.Row.{Row}
 use Rattle.clfs_base.specs.declared.refusal.NewestRefusal.{NewestRefusal}
 use Rattle.clfs_base.specs.declared.refusal.NewestRefusal.TheVariants as newest
 use Rattle.clfs_base.specs.Layout.{slot_bytes}
-use Rattle.clfs_base.specs.Slots.{slot_place, newest_of}
+use Rattle.clfs_base.specs.Slots.{newest_of}
 use Rattle.clfs_model.specs.declared.state.State.{State}
 use Rattle.clfs_model.specs.declared.state.Stream.{Stream}
-use Rattle.clfs_recover.specs.Walk.{Container, shape_of, walked}
+use Rattle.clfs_recover.specs.Walk.{Container, shape_of, slot_offset, walked}
 use Rattle.clfs_recover.specs.declared.parts.Parts.{Parts}
 use Rattle.clfs_recover.specs.declared.refusal.LoadRefusal.{LoadRefusal}
 use Rattle.clfs_recover.specs.declared.refusal.LoadRefusal.TheVariants.{NoBase, Damaged, DiskFault, NoMemory}
@@ -29,7 +29,7 @@ AreListed sectors files (number ∷ numbers) (container ∷ containers) =
 -- why a base file has no newest copy, as the refusal of opening; a wrong byte of a slot is damage in file 0
 abbrev pub without_copy : NewestRefusal → LoadRefusal
 without_copy newest.NoBase = NoBase
-without_copy (newest.BadByte slot at) = Damaged 0 (slot_place slot) at
+without_copy (newest.BadByte slot at) = Damaged 0 (slot_offset slot) at
 without_copy newest.DiskFault = DiskFault
 without_copy newest.NoMemory = NoMemory
 

@@ -1,5 +1,7 @@
 -- What a gatherer has taken in, as the parts of the walk leave it.
-use Rattle.std.specs.Prelude.{◌≡◌, ℕ, ◌≤◌, List, [], ◌∷◌, ◌++◌, length, Option, Some, None, Result, Ok, Err}
+use Rattle.std.specs.Prelude.{◌≡◌, ℕ, ◌*◌, ◌%◌, ◌≤◌, List, [], ◌∷◌, ◌++◌, length, Option, Some, None, Result, Ok, Err}
+use Rattle.clfs_lsn.specs.Format.{sector_bytes}
+use Rattle.clfs_lsn.specs.declared.shape.Shape.{Shape}
 use Rattle.clfs_lsn.specs.declared.entry.LogEntry.{LogEntry}
 use Rattle.clfs_base.specs.declared.image.Row.{Row}
 use Rattle.clfs_block.specs.declared.head.BlockHead.{BlockHead}
@@ -16,9 +18,9 @@ pub record HasTaken (has : List LogEntry → Type 0) (rows : List Row) (bases : 
   pub records : has entries
   pub moved : bases ≡ bases_with rows entries
 
--- A refusal is the one that reading tells. A fault of the disk, or want of memory, may come in place of any answer.
+-- A refusal is the one that reading tells. What is behind a base copy is never refused for want of one. A fault of the disk, or want of memory, may come in place of any answer.
 abbrev pub RefusesAs : {A : Type 0} → LoadRefusal → Result A LoadRefusal → Type 0
-RefusesAs NoBase read = read ≡ Err NoBase
+RefusesAs NoBase read = ⊥
 RefusesAs (Damaged container offset at) read = read ≡ Err (Damaged container offset at)
 RefusesAs DiskFault read = Unit {0}
 RefusesAs NoMemory read = Unit {0}
@@ -66,3 +68,7 @@ abbrev pub GathersContainer : (List LogEntry → Type 0) → List Row → List �
 GathersContainer has rows bases before (Ok end) read size =
     (end ≡ size) × ((entries : List LogEntry) × (read ≡ Ok entries) × HasTaken has rows bases (before ++ entries))
 GathersContainer has rows bases before (Err refusal) read size = RefusesAs refusal read
+
+-- a place at which the blocks of a container can end
+abbrev pub IsEnd : Shape → ℕ → Type 0
+IsEnd shape end = (end % sector_bytes ≡ 0) × (end ≤ sector_bytes * shape.container_sectors)

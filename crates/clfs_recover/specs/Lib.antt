@@ -5,3 +5,5 @@ pub mod Vector
 pub mod Gathering
 pub mod Bases
 pub mod Fronts
+pub mod Opening
+pub mod Stored

@@ -16,10 +16,9 @@ use Rattle.clfs_block.specs.declared.head.BlockRefusal.{BlockRefusal}
 use Rattle.clfs_block.specs.declared.head.BlockRefusal.TheVariants as blocks
 use Rattle.clfs_base.specs.declared.image.BaseImage.{BaseImage}
 use Rattle.clfs_base.specs.declared.image.Row.{Row}
-use Rattle.clfs_base.specs.Layout.{version_one, row_place}
+use Rattle.clfs_base.specs.Layout.{version_one, slot_bytes, row_place}
 use Rattle.clfs_base.specs.Spelling.{row_in}
 use Rattle.clfs_base.specs.Checks.{told}
-use Rattle.clfs_base.specs.Slots.{slot_place}
 use Rattle.clfs_recover.specs.Records.{◌>>=◌, told_as, block_records}
 use Rattle.clfs_recover.specs.declared.parts.Parts.{Parts}
 use Rattle.clfs_recover.specs.declared.refusal.LoadRefusal.{LoadRefusal}
@@ -110,8 +109,12 @@ abbrev pub parts_with : ℕ → BaseImage → List Container → List LogEntry �
 parts_with slot image listed entries =
     record { slot = slot; image = image; entries = entries; bases = bases_with image.streams entries; place = place_behind image listed }
 
+-- a slot's first byte in the base file
+abbrev pub slot_offset : ℕ → ℕ
+slot_offset slot = if slot == 0 then 0 else slot_bytes
+
 -- What the walk finds: the records of all listed containers, and then whether the base copy fits them.
 abbrev pub walked : ℕ → BaseImage → List Container → Result Parts LoadRefusal
 walked slot image listed = do
   entries ← listed_records (shape_of image) (length image.streams) image.first listed
-  unless_wrong (λ at. Damaged 0 (slot_place slot) at) (image_fault image (frontier (place_behind image listed))) (Ok (parts_with slot image listed entries))
+  unless_wrong (λ at. Damaged 0 (slot_offset slot) at) (image_fault image (frontier (place_behind image listed))) (Ok (parts_with slot image listed entries))

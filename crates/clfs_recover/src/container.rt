@@ -1,5 +1,5 @@
 // The blocks of one container, one behind the other, from its first byte up to a closed gate or its end.
-ghost use Rattle.std.specs.Prelude.{◌≡◌, ◌*◌, ◌^◌, ◌<◌, ◌≤◌, ℕ, List, IsOk, OnOk, OnErr, IsErrOf, vec_len};
+ghost use Rattle.std.specs.Prelude.{◌≡◌, ◌*◌, ◌^◌, ◌<◌, ◌≤◌, ℕ, List, IsOk, IfOk, OnOk, OnErr, IsErrOf, vec_len};
 ghost use Rattle.clfs_lsn.specs.Format.{sector_bytes};
 ghost use Rattle.clfs_lsn.specs.Size.{IsShape};
 ghost use Rattle.clfs_lsn.specs.declared.entry.LogEntry.{LogEntry};
@@ -9,7 +9,7 @@ ghost use Rattle.clfs_container.specs.OpenBlocks.{AreOpen, total};
 ghost use Rattle.clfs_base.specs.declared.image.Row.{Row};
 ghost use Rattle.clfs_recover.specs.Walk.{container_records};
 ghost use Rattle.clfs_recover.specs.Fronts.{Shows, Reaches};
-ghost use Rattle.clfs_recover.specs.Gathering.{HasTaken, GathersContainer};
+ghost use Rattle.clfs_recover.specs.Gathering.{HasTaken, GathersContainer, IsEnd};
 
 use crate::block::gather_block;
 use crate::gatherer::Gatherer;
@@ -74,6 +74,7 @@ pub(crate) fn gather_container<D: Disk, G: Gatherer>(
         → GathersContainer (G.has gatherer.new) rows bases.new.items before result
         (container_records shape.now (vec_len bases.old) listed.now.id
         (record { bytes = (D.state disk.old).files listed.now.file; blocks = blocks })) (total blocks) }
+    ensures end { IfOk result (λ end. IsEnd shape.now end) }
     ensures room { piece.new.room ≡ piece.old.room }
     ensures streams { vec_len bases.new ≡ vec_len bases.old }
     ensures same { Unchanged (D.state disk.old).files (D.state disk.new).files }

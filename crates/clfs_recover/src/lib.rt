@@ -1,9 +1,23 @@
 //! Opening a log: what files stand for, and the one walk that finds it.
+//!
+//! Opening takes any bytes. It syncs, so that what it reads outlasts a crash; it reads the newest base copy; and it walks the blocks of the
+//! containers that this one lists, each from its first byte up to a closed gate or its end. What is found is defined over whole files, in
+//! specs/Files.antt: a state, or the first place at which a check fails, or that no slot is open. It hangs on the newest base copy and on the
+//! open blocks alone, so whoever writes blocks behind closed gates, and copies into the slot that doesn't count, changes nothing of it before
+//! a gate is opened.
+//!
+//! There is one walk. It judges a block's frame, its records in turn, and what stands behind them, and hands each record on to a
+//! `Gatherer` by its head and where its data stand: `load` keeps records, `load_heads` their heads, which is what a log that is open keeps.
+//! Files are read ahead in pieces of 1 MiB, or of a container where that is shorter; the memory for a piece and for a block's payload is
+//! taken once.
 #![tactic(auto)]
 
 mod block;
 mod container;
 mod gatherer;
+mod laws;
+mod listed;
+mod opening;
 mod parts;
 mod piece;
 mod records;
@@ -11,6 +25,11 @@ mod refusal;
 mod rows;
 
 pub use gatherer::Gatherer;
+pub use laws::{copies_and_blocks_decide, files_have_one_meaning};
+pub use opening::{Walked, load, load_heads, walk};
 pub use parts::{Bases, Entries, HeadParts, Heads, Parts};
 pub use refusal::LoadRefusal;
 pub use rows::walks_of_a_small_log;
+
+#[cfg(test)]
+mod tests;

@@ -1,10 +1,14 @@
 // Why a log isn't opened.
 ghost use Rattle.std.specs.Prelude.{◌≡◌};
+ghost use Rattle.clfs_recover.specs.Walk.{slot_offset};
 
 use clfs_base::NewestRefusal;
 use clfs_disk::Failed;
 use std::alloc::AllocError;
 use thiserror::Error;
+
+// The bytes of a slot of the base file.
+const SLOT: u32 = 16384;
 
 /// Why a log wasn't opened.
 #[derive(Clone, Copy, Debug, PartialEq, Eq, Error)]
@@ -47,5 +51,31 @@ impl From<Failed> for LoadRefusal {
 
     fn from(_e: Failed) -> LoadRefusal {
         LoadRefusal::DiskFault
+    }
+}
+
+impl From<NewestRefusal> for LoadRefusal {
+    ghost use Rattle.clfs_recover.specs.Files.{without_copy};
+
+    ghost from_gives = { λ r e. e ≡ without_copy r };
+
+    fn from(refusal: NewestRefusal) -> LoadRefusal {
+        match refusal {
+            NewestRefusal::NoBase => LoadRefusal::NoBase,
+            NewestRefusal::BadByte { slot, at } => damaged_slot(slot, at),
+            NewestRefusal::DiskFault => LoadRefusal::DiskFault,
+            NewestRefusal::NoMemory => LoadRefusal::NoMemory,
+        }
+    }
+}
+
+// A byte of a slot of the base file is wrong.
+pub(crate) fn damaged_slot(slot: u32, at: u32) -> LoadRefusal
+    ensures { result ≡ LoadRefusal.Damaged 0 (slot_offset slot) at }
+{
+    LoadRefusal::Damaged {
+        container: 0,
+        offset: if slot == 0 { 0 } else { SLOT },
+        at,
     }
 }

@@ -1,13 +1,9 @@
-use Rattle.std.proofs.Common.{◌≡◌, ℕ, List, ◌++◌, vec_len, Result, Ok, Err, refl, sym, ◌∙◌, ap, subst}
+use Rattle.std.proofs.Common.{◌≡◌, ℕ, List, vec_len, Ok, sym, ◌∙◌, subst}
 use Rattle.std.proofs.lemmas.Result.{err_from_is_err_and}
 use Rattle.clfs_lsn.specs.Lsn.{lsn_number}
-use Rattle.clfs_lsn.specs.declared.entry.LogEntry.{LogEntry}
-use Rattle.clfs_block.specs.Frame.{payload_of}
 use Rattle.clfs_block.specs.declared.head.BlockRefusal.TheVariants.{Closed}
 use Rattle.clfs_recover.specs.Records.{told_as, records_from}
-use Rattle.clfs_recover.specs.Gathering.{RefusesAs, GathersBlock}
-use Rattle.clfs_recover.specs.Walk.{damage_at}
-use Rattle.clfs_recover.specs.declared.refusal.LoadRefusal.{LoadRefusal}
+use Rattle.clfs_recover.specs.Gathering.{RefusesAs}
 use Rattle.clfs_recover.specs.declared.refusal.LoadRefusal.TheVariants.{Damaged}
 use Rattle.clfs_recover.proofs.Blocks.{block_refused, block_read, frame_refusal, records_refusal, rest_refusal, told_records}
 use Rattle.clfs_recover.proofs.block.gather_block.Goals as goal

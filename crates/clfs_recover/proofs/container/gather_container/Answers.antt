@@ -1,4 +1,4 @@
-use Rattle.std.proofs.Common.{◌≡◌, ℕ, ◌+◌, ◌-◌, ◌*◌, ◌%◌, List, [], ◌++◌, Option, Some, None, Result, Ok, Err, drop, vec_len, refl, sym, ◌∙◌, ap, subst, arith}
+use Rattle.std.proofs.Common.{ℕ, ◌*◌, List, ◌++◌, Option, Some, None, Result, Ok, Err, drop, vec_len, refl, sym, ◌∙◌, ap, subst, arith}
 use Rattle.std.proofs.lemmas.Result.{err_from_is_err_and}
 use Rattle.clfs_lsn.specs.Lsn.{lsn_number}
 use Rattle.clfs_disk.specs.Files.{Unchanged}
@@ -6,7 +6,7 @@ use Rattle.clfs_recover.specs.Records.{block_records}
 use Rattle.clfs_recover.specs.Gathering.{GathersBlock}
 use Rattle.clfs_recover.specs.Fronts.{IsFrontOf, Shows}
 use Rattle.clfs_recover.specs.declared.refusal.LoadRefusal.{LoadRefusal}
-use Rattle.clfs_recover.proofs.Containers.{IsReached, begins, went_on, was_closed, was_refused, was_done, block_end}
+use Rattle.clfs_recover.proofs.Containers.{begins, went_on, was_closed, was_refused, was_done, block_end}
 use Rattle.clfs_recover.proofs.Pieces.{shown_front}
 use Rattle.clfs_recover.proofs.Disks.{tells_still, steady_still}
 use Rattle.clfs_recover.proofs.container.gather_container.Goals as goal

@@ -8,7 +8,7 @@ use Rattle.clfs_recover.specs.Records.{told_as, records_from}
 use Rattle.clfs_recover.specs.Gathering.{HasTaken, RefusesAs}
 use Rattle.clfs_recover.specs.declared.refusal.LoadRefusal.{LoadRefusal}
 use Rattle.clfs_recover.specs.declared.refusal.LoadRefusal.TheVariants.{Damaged}
-use Rattle.clfs_recover.proofs.Steps.{behind, behind-nil, no_header, record_wrong, records_step, records_stop, records_done, records_uneven}
+use Rattle.clfs_recover.proofs.Steps.{behind-nil, no_header, record_wrong, records_step, records_stop, records_done, records_uneven}
 use Rattle.clfs_recover.proofs.records.gather_records.Goals as goal
 
 abbrev told : ℕ → ℕ → Result (List LogEntry) ℕ → Result (List LogEntry) LoadRefusal
@@ -51,7 +51,7 @@ loop-sequence-init g c = record {
       let lsn : start + 0 ≡ start = omega arith in (
         [],
         behind-nil (records_from streams payload (c.args.count - 0) (start + 0) 16)
-        ∙ ap (λ (k : ℕ). records_from streams payload k (start + 0) 16) n ∙ ap (λ (k : ℕ). records_from streams payload c.args.count k 16) lsn,
+            ∙ ap (λ (k : ℕ). records_from streams payload k (start + 0) 16) n ∙ ap (λ (k : ℕ). records_from streams payload c.args.count k 16) lsn,
         subst (λ (l : List LogEntry). HasTaken (g.G.Gatherer.has c.args.gatherer.now) rows c.args.bases.now.items l) (sym (append-nil before)) taken,
       );
 }
@@ -90,9 +90,9 @@ loop-sequence-preserved g c = record {
       same_read (sym c.lsn.ensures) (sym c.loop-sequence.invariant.same_streams) (sym c.split_at.ensures.back) ∙ one.1 in (
         so_far.0 ++ one.0 ∷ [],
         records_step streams payload c.args.count start c.loop-sequence.sequence c.loop-sequence.at c.in-Ok.size one.0 so_far.0 _
-        c.loop-sequence-test.true so_far.1 is,
+            c.loop-sequence-test.true so_far.1 is,
         subst (λ (l : List LogEntry). HasTaken (g.G.Gatherer.has c.gather_record.new.gatherer) rows c.gather_record.new.bases.items l)
-        (append_assoc before so_far.0 (one.0 ∷ [])) one.2,
+            (append_assoc before so_far.0 (one.0 ∷ [])) one.2,
       );
 }
 
@@ -114,7 +114,7 @@ returns-clause-exact g c rows before taken =
     let so_far = c.loop-sequence.invariant.taken rows before taken in (
       so_far.0,
       ap (told c.args.place.now.container c.args.place.now.offset)
-      (records_done streams payload c.args.count start c.loop-sequence.sequence c.loop-sequence.at so_far.0 _ (omega (arith, c.loop-sequence-test.false))
-      so_far.1 c.if-at-payload.false),
+          (records_done streams payload c.args.count start c.loop-sequence.sequence c.loop-sequence.at so_far.0 _ (omega (arith, c.loop-sequence-test.false))
+          so_far.1 c.if-at-payload.false),
       so_far.2,
     )

@@ -1,0 +1,27 @@
+use Rattle.std.proofs.Common.{◌≡◌, List, vec_len}
+use Rattle.clfs_lsn.specs.declared.entry.LogEntry.{LogEntry}
+use Rattle.clfs_base.specs.declared.image.Row.{Row}
+use Rattle.clfs_disk.specs.Files.{Unchanged}
+use Rattle.clfs_disk.specs.State.{TellsContents, IsSteady, Passes}
+use Rattle.clfs_recover.specs.Walk.{Container}
+use Rattle.clfs_recover.specs.Files.{AreListed}
+use Rattle.clfs_recover.specs.Gathering.{HasTaken, IsEnd}
+use Rattle.clfs_recover.proofs.Listing.{IsListed}
+use Rattle.clfs_recover.proofs.listed.gather_listed.Given as goal
+
+abbrev pub invariant-loop-i : goal.invariant-loop-i
+invariant-loop-i g l =
+    let first = g.D.Disk.state l.fn.disk in
+    let now = g.D.Disk.state l.disk in
+    record {
+      same_room : l.piece.room ≡ l.fn.piece.room;
+      is_end : IsEnd l.shape l.end;
+      same_streams : vec_len l.bases ≡ vec_len l.fn.bases;
+      same : Unchanged first.files now.files;
+      time : Passes Unchanged first now;
+      steady : IsSteady first → now.faults ≡ first.faults;
+      taken : TellsContents first → (rows : List Row) (before : List LogEntry) (listed : List Container)
+          → HasTaken (g.G.Gatherer.has l.fn.gatherer) rows l.fn.bases.items before
+          → AreListed l.shape.container_sectors first.files l.files listed
+          → IsListed l.shape (vec_len l.fn.bases) l.first first.files l.files listed (g.G.Gatherer.has l.gatherer) rows l.bases.items before l.i l.end;
+    }

@@ -1,0 +1,49 @@
+-- What opening answers, against what files stand for.
+use Rattle.std.specs.Prelude.{◌≡◌, List, map, Result, Ok, Err}
+use Rattle.clfs_lsn.specs.Head.{head_of}
+use Rattle.clfs_lsn.specs.declared.entry.LogEntry.{LogEntry}
+use Rattle.clfs_disk.specs.Files.{Files}
+use Rattle.clfs_recover.specs.Files.{Finds, IsDamaged, HasNoBase}
+use Rattle.clfs_recover.specs.Gathering.{RefusesAs}
+use Rattle.clfs_recover.specs.declared.opening.Walked.{Walked}
+use Rattle.clfs_recover.specs.declared.parts.Parts.{Parts}
+use Rattle.clfs_recover.specs.declared.parts.HeadParts.{HeadParts}
+use Rattle.clfs_recover.specs.declared.refusal.LoadRefusal.{LoadRefusal}
+use Rattle.clfs_recover.specs.declared.refusal.LoadRefusal.TheVariants.{NoBase, Damaged, DiskFault, NoMemory}
+
+-- what was walked, with its records
+abbrev pub parts_of : Walked → List LogEntry → Parts
+parts_of walked entries =
+    record { slot = walked.slot; image = walked.image; entries = entries; bases = walked.bases; place = walked.place }
+
+-- what is opened, with the heads of its records in place of them
+abbrev pub with_heads : Parts → HeadParts
+with_heads parts =
+    record { slot = parts.slot; image = parts.image; heads = map head_of parts.entries; bases = parts.bases; place = parts.place }
+
+-- A refusal is the one that opening finds in files. A fault of the disk, or want of memory, may come in place of any answer.
+abbrev pub IsRefused : Files → LoadRefusal → Type 0
+IsRefused files NoBase = HasNoBase files
+IsRefused files (Damaged container offset at) = IsDamaged files container offset at
+IsRefused files DiskFault = Unit {0}
+IsRefused files NoMemory = Unit {0}
+
+-- The walk behind a base copy gives this, and the gatherer has taken its records.
+abbrev pub IsWalkOf : (List LogEntry → Type 0) → Result Walked LoadRefusal → Result Parts LoadRefusal → Type 0
+IsWalkOf has (Ok walked) read = (entries : List LogEntry) × has entries × (read ≡ Ok (parts_of walked entries))
+IsWalkOf has (Err refusal) read = RefusesAs refusal read
+
+-- The walk is the one that opening finds, and the gatherer has taken its records.
+abbrev pub IsWalked : (List LogEntry → Type 0) → Files → Result Walked LoadRefusal → Type 0
+IsWalked has files (Ok walked) = (entries : List LogEntry) × has entries × Finds files (Ok (parts_of walked entries))
+IsWalked has files (Err refusal) = IsRefused files refusal
+
+-- What was loaded is what opening finds.
+abbrev pub IsLoaded : Files → Result Parts LoadRefusal → Type 0
+IsLoaded files (Ok parts) = Finds files (Ok parts)
+IsLoaded files (Err refusal) = IsRefused files refusal
+
+-- The same with the heads of the records.
+abbrev pub AreHeadsLoaded : Files → Result HeadParts LoadRefusal → Type 0
+AreHeadsLoaded files (Ok heads) = (parts : Parts) × (heads ≡ with_heads parts) × Finds files (Ok parts)
+AreHeadsLoaded files (Err refusal) = IsRefused files refusal
