@@ -15,11 +15,13 @@ use clfs_lsn::Shape;
 use std::alloc::Global;
 
 /// A log over a disk.
+#[derive(Drop)]
 pub struct Manager<D: Disk> {
     disk: D,
 }
 
 /// A log wasn't made. The disk is given back.
+#[derive(Drop)]
 pub struct FormatRefused<D> {
     /// The disk.
     pub disk: D,
