@@ -1,4 +1,3 @@
 pub mod Joining
-pub mod Lengths
 pub mod Copies
 pub mod Made

@@ -1,19 +1,18 @@
 // Making a log: all its files at full length, no gate open in them that counts, and then the first base copy, whose gate is opened last.
 // So until that gate is opened no slot is: whoever opens the files finds no log, or the whole one. Before the closed gates
 // are synced nothing is said of a crash, since a growth that is cut short may leave any bytes; then the files are to be thrown away.
-ghost use Rattle.std.specs.Prelude.{◌≡◌, ◌≢◌, ◌==◌, ℕ, [], ◌∷◌, ◌+◌, ◌-◌, ◌*◌, ◌<◌, ◌≤◌, false, Ok, Err, Some, None, length, slice_index, IfOk, OnOk, OnErr, IsOk, IsErrOf};
-ghost use Rattle.clfs_lsn.specs.Format.{open_gate};
+ghost use Rattle.std.specs.Prelude.{◌≡◌, ◌==◌, ℕ, [], ◌∷◌, ◌+◌, ◌-◌, ◌*◌, ◌≤◌, false, Ok, Err, length, OnOk, OnErr, IsOk, IsErrOf};
 ghost use Rattle.clfs_lsn.specs.Limits.{most_containers};
 ghost use Rattle.clfs_lsn.specs.Size.{IsShape};
-ghost use Rattle.clfs_disk.specs.Files.{Unchanged, WrittenIn};
+ghost use Rattle.clfs_disk.specs.Files.{Unchanged};
 ghost use Rattle.clfs_disk.specs.State.{TellsContents, IsSteady, IsHonest, IsSettled, Later, Leaves, Passes, Rises};
 ghost use Rattle.clfs_disk.specs.Calls.{Writes};
 ghost use Rattle.clfs_base.specs.declared.image.BaseImage.{BaseImage};
 ghost use Rattle.clfs_base.specs.Layout.{slot_bytes, version_one};
 ghost use Rattle.clfs_base.specs.Spelling.{IsImage, spelled};
-ghost use Rattle.clfs_base.specs.Slots.{newest_of, is_open_slot, slot_place};
+ghost use Rattle.clfs_base.specs.Slots.{is_open_slot, slot_place};
 ghost use Rattle.clfs_base.specs.Writing.{HasNewest, NoneOrFirst};
-ghost use Rattle.clfs_manager.specs.Formatting.{full_length, open_slot_of, AreLong, HasNoGates, SameLengths, KnowsLengths, IsFree, IsMade, ComesAtOnce, first_image};
+ghost use Rattle.clfs_manager.specs.Formatting.{full_length, AreLong, HasNoGates, SameLengths, KnowsLengths, IsFree, IsMade, ComesAtOnce, first_image};
 
 use crate::first_copy::first_copy;
 use crate::refusal::FormatRefusal;

@@ -11,3 +11,6 @@ mod refusal;
 
 pub use manager::{FormatRefused, Manager};
 pub use refusal::FormatRefusal;
+
+#[cfg(test)]
+mod tests;

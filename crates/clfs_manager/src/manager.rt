@@ -1,5 +1,5 @@
 // The manager of a log over any disk. So far it makes a log.
-ghost use Rattle.std.specs.Prelude.{◌≡◌, ◌≢◌, ◌+◌, ◌≤◌, ℕ, Some, None, IfOk, IfErr};
+ghost use Rattle.std.specs.Prelude.{◌≡◌, ◌≢◌, ◌≤◌, ℕ, Some, None, IfOk, IfErr};
 ghost use Rattle.clfs_lsn.specs.Limits.{most_containers};
 ghost use Rattle.clfs_lsn.specs.Size.{IsShape};
 ghost use Rattle.clfs_disk.specs.Files.{Unchanged};
@@ -14,12 +14,14 @@ use clfs_disk::Disk;
 use clfs_lsn::Shape;
 use std::alloc::Global;
 
-/// A log over a disk.
+/// A log over a disk. So far a log is only made, and there is no value of this type yet.
+#[derive(Drop)]
 pub struct Manager<D: Disk> {
     disk: D,
 }
 
 /// A log wasn't made. The disk is given back.
+#[derive(Drop)]
 pub struct FormatRefused<D> {
     /// The disk.
     pub disk: D,
