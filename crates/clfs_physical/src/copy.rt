@@ -44,7 +44,12 @@ pub fn write_copy<D: Disk>(disk: &mut D, slot: u32, body: &[u8]) -> Result<(), F
 }
 
 /// Spells a copy that follows the one in the used slot, and writes it over the other one. It answers that slot.
-pub fn store_copy<D: Disk>(disk: &mut D, used: u32, next: &BaseImage, bytes: &mut [u8]) -> Result<u32, Failed>
+pub fn store_copy<D: Disk>(
+    disk: &mut D,
+    used: u32,
+    next: &BaseImage,
+    bytes: &mut [u8],
+) -> Result<u32, Failed>
     requires slot { used ≤ 1 }
     requires image { IsImage version_one next.now }
     requires room { length bytes.old ≡ slot_bytes - 1 }

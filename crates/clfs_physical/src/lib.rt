@@ -2,9 +2,11 @@
 #![tactic(auto)]
 
 mod change;
+mod containers;
 mod copy;
 mod free;
 mod group;
+mod growth;
 mod physical;
 mod refusal;
 mod turn;
@@ -12,3 +14,6 @@ mod turn;
 pub use change::Change;
 pub use physical::Physical;
 pub use refusal::PhysicalRefusal;
+
+#[cfg(test)]
+mod tests;

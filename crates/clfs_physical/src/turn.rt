@@ -58,7 +58,11 @@ impl Physical {
         ensures { IsNextFile (low_of first self.now).image result }
     {
         let image = self.image();
-        let listed = image.files.as_slice().split_at((first - image.first) as usize).1;
+        let listed = image
+            .files
+            .as_slice()
+            .split_at((first - image.first) as usize)
+            .1;
         free_file(image.files_made, listed)
     }
 
@@ -69,7 +73,11 @@ impl Physical {
         ensures { IfOk result (λ files. files.items ≡ (low_of first self.now).image.files ++ file ∷ []) }
     {
         let image = self.image();
-        let listed = image.files.as_slice().split_at((first - image.first) as usize).1;
+        let listed = image
+            .files
+            .as_slice()
+            .split_at((first - image.first) as usize)
+            .1;
         with_one_more(alloc, listed, file)
     }
 

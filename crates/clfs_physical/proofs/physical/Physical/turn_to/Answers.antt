@@ -1,8 +1,8 @@
-use Rattle.std.proofs.Common.{◌≡◌, ◌⊎◌, ◌∙◌, ℕ, List, [], sym, subst, IsTrue}
+use Rattle.std.proofs.Common.{◌⊎◌, [], sym, subst, IsTrue}
 use Rattle.std.proofs.lemmas.Result.{on_ok_weaker}
 use Rattle.clfs_disk.specs.Files.{Files}
-use Rattle.clfs_disk.specs.State.{DiskState, Nature, IsSettled, Leaves}
-use Rattle.clfs_physical.specs.Stored.{Blocks, Newest, Stores, Waits, with_blocks, with_group}
+use Rattle.clfs_disk.specs.State.{Nature, Leaves}
+use Rattle.clfs_physical.specs.Stored.{Blocks, Newest, Stores, with_blocks, with_group}
 use Rattle.clfs_physical.specs.Taking.{low_of, taken_of, InTurn}
 use Rattle.clfs_physical.proofs.Joining.{later_then, leaves_then}
 use Rattle.clfs_physical.proofs.Taken.{first_part, second_part, turn_leaves}
@@ -49,7 +49,7 @@ returns-clause-moments g c settled blocks more stores waits =
     (c.flush.ensures.moments settled blocks more stores waits)
     (c.drop_low.ensures.moments settled-2 behind flushed)
     (subst (λ (n : Newest). Leaves (λ f. Stores n behind f ⊎ Stores (taken_of c.args.file n) (with_blocks c.args.file [] behind) f)
-        (g.D.Disk.state c.drop_low.new.disk) (g.D.Disk.state c.take_file.new.disk)) c.in_ok-drop_low.ensures.now
+    (g.D.Disk.state c.drop_low.new.disk) (g.D.Disk.state c.take_file.new.disk)) c.in_ok-drop_low.ensures.now
     (c.take_file.ensures.moments settled-3 behind (c.in_ok-drop_low.ensures.written tells-2 behind flushed)))
 
 pub returns-clause-time : goal.returns-clause-time
