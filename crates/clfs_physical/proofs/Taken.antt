@@ -12,7 +12,7 @@ use Rattle.clfs_base.specs.Spelling.{IsImage, AreFiles}
 use Rattle.clfs_physical.specs.declared.change.Change.TheVariants as changes
 use Rattle.std.proofs.lemmas.Bool.Decides.{nat_tests}
 use Rattle.clfs_physical.specs.Changes.{with_next_turn, with_file, next_copy}
-use Rattle.clfs_physical.specs.Stored.{Blocks, IsIn, Lists, Holds, IsLog, Newest, Stores, with_blocks}
+use Rattle.clfs_physical.specs.Stored.{Blocks, IsIn, Lists, AreMade, Holds, IsLog, Newest, Stores, with_blocks}
 use Rattle.clfs_physical.specs.Taking.{IsFree, HasRoom, low_of, taken_of}
 use Rattle.clfs_physical.proofs.Joining.{leaves_weaker, leaves_then}
 use Rattle.clfs_physical.proofs.Lengths.{torn_lengths}
@@ -217,3 +217,11 @@ turn_leaves A B C D a b c d first second third =
     leaves_then P a c d
     (leaves_then P a b c (first_part A B C D a b first) (second_part A B C D b c second))
     (leaves_weaker (λ f. C f ⊎ D f) P c d (λ f either. inr (inr either)) third)
+
+-- it counts as many files
+pub low_counts : (first : ℕ) (now : Newest) (files : Files) → AreMade now.image files → AreMade (low_of first now).image files
+low_counts first now files are = by_test (eqb first now.image.first)
+  where
+    by_test : (b : Bool) → AreMade (cond b now (record { slot = 1 - now.slot; image = next_copy first changes.Listing now.image })).image files
+    by_test true = are
+    by_test false = record { base = are.base; made = are.made }

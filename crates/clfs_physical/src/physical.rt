@@ -90,7 +90,7 @@ impl Physical {
         ensures lengths { SameLengths (D.state disk.old).files (D.state disk.new).files }
         ensures time { Later (D.state disk.old) (D.state disk.new) }
         ensures calls { OnOk result ((body.now ≡ [] → ⊥) → (D.state disk.new).calls ≡ raised 4 (D.state disk.old).calls) }
-        ensures calls_at_most { (body.now ≡ [] → ⊥) → (D.state disk.new).calls ≤ raised 4 (D.state disk.old).calls }
+        ensures calls_at_most { raised 0 (D.state disk.new).calls ≤ raised 4 (D.state disk.old).calls }
         ensures cause { OnErr result (Rises (D.state disk.old).faults (D.state disk.new).faults) }
         ensures steady { IsSteady (D.state disk.old) → AreMade self.now.image (D.state disk.old).files
             → at + 1 + length body.now ≤ sector_bytes * self.now.image.container_sectors
@@ -168,7 +168,7 @@ impl Physical {
         ensures lengths { SameLengths (D.state disk.old).files (D.state disk.new).files }
         ensures time { Later (D.state disk.old) (D.state disk.new) }
         ensures nothing { first ≡ self.old.image.first → IsOk result × (disk.new ≡ disk.old) }
-        ensures calls_at_most { (first ≡ self.old.image.first → ⊥) → (D.state disk.new).calls ≤ raised 7 (D.state disk.old).calls }
+        ensures calls_at_most { raised 0 (D.state disk.new).calls ≤ raised 7 (D.state disk.old).calls }
         ensures cause { OnErr result (Rises (D.state disk.old).faults (D.state disk.new).faults) }
         ensures steady { IsSteady (D.state disk.old) → AreMade self.old.image (D.state disk.old).files
             → IsOk result × ((D.state disk.new).faults ≡ (D.state disk.old).faults) }
@@ -244,6 +244,11 @@ impl Physical {
         ensures no_memory { IsErrOf result PhysicalRefusal.NoMemory → (self.new ≡ self.old) × (disk.new ≡ disk.old) }
         ensures lengths { SameLengths (D.state disk.old).files (D.state disk.new).files }
         ensures time { Later (D.state disk.old) (D.state disk.new) }
+        ensures calls { OnOk result (TellsContents (D.state disk.old) → is_open_slot ((D.state disk.old).files 0) (older_of self.old.slot) ≡ true
+            → (D.state disk.new).calls ≡ raised 7 (D.state disk.old).calls) }
+        ensures fewer_calls { OnOk result (TellsContents (D.state disk.old) → is_open_slot ((D.state disk.old).files 0) (older_of self.old.slot) ≡ false
+            → (D.state disk.new).calls ≡ raised 5 (D.state disk.old).calls) }
+        ensures calls_at_most { raised 0 (D.state disk.new).calls ≤ raised 7 (D.state disk.old).calls }
         ensures cause { IsErrOf result PhysicalRefusal.DiskFault → Rises (D.state disk.old).faults (D.state disk.new).faults }
         ensures steady { IsSteady (D.state disk.old) → AreMade self.old.image (D.state disk.old).files
             → (IsErrOf result PhysicalRefusal.DiskFault → ⊥) × ((D.state disk.new).faults ≡ (D.state disk.old).faults) }

@@ -84,8 +84,7 @@ fn is_written<D: Disk>(
 }
 
 // How many open blocks of one sector a file has.
-fn open_blocks(disk: &mut Memory, file: u16) -> Result<u32, Fail> {
-    let mut count = 0;
+fn open_blocks(disk: &mut Memory, file: u16) -> Result<u64, Fail> {
     for sector in 0..8 {
         let mut head = [0; 3];
         if file > 256 {
@@ -93,15 +92,14 @@ fn open_blocks(disk: &mut Memory, file: u16) -> Result<u32, Fail> {
         }
         let found = disk.read(file, 512 * sector, &mut head)?;
         if found < 3 || head[0] != 0xA5 || head[2] != 1 {
-            break;
+            return Ok(sector);
         }
-        count += 1;
     }
-    Ok(count)
+    Ok(8)
 }
 
 // What a crash left: the slot of the newest copy, how many containers it counts and lists, the last file, and its open blocks.
-type Left = (u32, u16, usize, u16, u32);
+type Left = (u32, u16, usize, u16, u64);
 
 fn left_in(alloc: Global, disk: &mut Memory) -> Result<Left, Fail> {
     let (slot, image) = read_newest(alloc, disk)?;
