@@ -3,7 +3,6 @@ ghost use Rattle.std.specs.Prelude.{◌≡◌, ◌⊎◌, ◌+◌, ◌≤◌, le
 ghost use Rattle.clfs_disk.specs.State.{TellsContents, IsSettled, IsSteady, Later, Leaves, Rises};
 ghost use Rattle.clfs_base.specs.Writing.{older_of};
 ghost use Rattle.clfs_physical.specs.Changes.{with_containers, next_copy, CanHave};
-ghost use Rattle.clfs_physical.specs.Joined.{GrownAbove};
 ghost use Rattle.clfs_physical.specs.Stored.{Blocks, AreMade, Stores};
 
 use crate::change::Change;
@@ -30,8 +29,9 @@ impl Physical {
 
         // Also where memory was wanted half way, nothing is pending, and the copy and the open blocks are as before.
         ensures settled { (IsErrOf result PhysicalRefusal.DiskFault → ⊥) → IsSettled (D.state disk.old) → IsSettled (D.state disk.new) }
-        ensures no_memory { IsErrOf result PhysicalRefusal.NoMemory → (self.new ≡ self.old)
-            × GrownAbove self.old.image.files_made (D.state disk.old).files (D.state disk.new).files }
+        ensures no_memory { IsErrOf result PhysicalRefusal.NoMemory → self.new ≡ self.old }
+        ensures kept { IsErrOf result PhysicalRefusal.NoMemory → (blocks : Blocks) → Stores self.old blocks (D.state disk.old).files
+            → Stores self.old blocks (D.state disk.new).files }
 
         // Whatever the answer, a crash at any moment leaves the same open blocks under the copy of before or under this one.
         ensures moments { IsSettled (D.state disk.old) → (blocks : Blocks) → Stores self.old blocks (D.state disk.old).files

@@ -73,7 +73,7 @@ pub fn store_copy<D: Disk>(
         → (D.state disk.new).calls ≡ raised 5 (D.state disk.old).calls) }
     ensures calls_at_most { (D.state disk.new).calls ≤ raised 7 (D.state disk.old).calls }
     ensures cause { OnErr result (Rises (D.state disk.old).faults (D.state disk.new).faults) }
-    ensures steady { IsSteady (D.state disk.old) → 32768 ≤ length ((D.state disk.old).files 0)
+    ensures steady { IsSteady (D.state disk.old) → 2 * slot_bytes ≤ length ((D.state disk.old).files 0)
         → IsOk result × ((D.state disk.new).faults ≡ (D.state disk.old).faults) }
 {
     encode(next, bytes);

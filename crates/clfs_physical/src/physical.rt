@@ -1,4 +1,6 @@
-// The newest base copy of a log, and what is written to the log's disk.
+// The newest base copy of a log, with the slot that it is in, and the calls that write a group or a copy. The copy that follows is made of
+// it where it stands, so that no memory is wanted when the disk is written. What a crash leaves is said of two values: the one
+// before the call, and the one after an Ok.
 ghost use Rattle.std.specs.Prelude.{◌≡◌, ◌⊎◌, ◌+◌, ◌-◌, ◌*◌, ◌%◌, ◌≤◌, ◌∷◌, ◌++◌, [], List, ℕ, true, false, length, IfOk, OnOk, OnErr, IsOk, IsErrOf};
 ghost use Rattle.clfs_lsn.specs.Format.{sector_bytes};
 ghost use Rattle.clfs_disk.specs.State.{TellsContents, IsHonest, IsSettled, IsSteady, Later, Leaves, Rises, raised};
@@ -73,7 +75,9 @@ impl Physical {
         &self.image
     }
 
-    /// Writes the blocks that wait as one group behind the open blocks of the last container.
+    /// Writes the blocks that wait as one group behind the open blocks of the last container, at byte `at` of its file. `body` is
+    /// the group but for its first byte, and a closed gate behind it where the container has a sector there; it is empty where nothing
+    /// waits, and then nothing is written.
     pub fn flush<D: Disk>(&self, disk: &mut D, at: u32, body: &[u8]) -> Result<(), Failed>
         ensures written { OnOk result (TellsContents (D.state disk.old) → (blocks : Blocks) (more : List (List ℕ))
             → Stores self.now blocks (D.state disk.old).files → Waits self.now.image blocks at body.now more

@@ -15,7 +15,8 @@ use clfs_disk::{Disk, Failed};
 use std::alloc::{AllocError, Global};
 
 impl Physical {
-    /// Turns the log to its next container, `first` being the first one that is still listed.
+    /// Turns the log to its next container: writes the blocks that wait as `flush` does, lists the containers from `first` on, and takes
+    /// the least file that isn't listed.
     pub fn turn<D: Disk>(
         &mut self,
         alloc: Global,

@@ -12,6 +12,10 @@ returns-in_err-make_files-clause-moments g c settled blocks stores =
     grown_leaves c.args.self.now (record { slot = 1 - c.args.self.now.slot; image = with_containers c.args.containers (next_copy c.args.first changes.Listing c.args.self.now.image) })
     blocks c.image-image.result.now c.image-image.ensures.exact c.image-image.ensures.image _ _ settled stores c.make_files.ensures.time
 
+pub returns-in_err-make_files-clause-kept : goal.returns-in_err-make_files-clause-kept
+returns-in_err-make_files-clause-kept g c wanting blocks stores =
+    stores_grown c.args.self.now c.args.containers blocks c.image-image.result.now c.image-image.ensures.exact c.image-image.ensures.image _ _ stores c.make_files.ensures.grown
+
 pub returns-in_err-write_containers-clause-moments : goal.returns-in_err-write_containers-clause-moments
 returns-in_err-write_containers-clause-moments g c settled blocks stores =
     leaves_then (λ f. Stores c.args.self.now blocks f ⊎ Stores (record { slot = 1 - c.args.self.now.slot; image = with_containers c.args.containers (next_copy c.args.first changes.Listing c.args.self.now.image) }) blocks f) _ _ _
