@@ -1,5 +1,5 @@
 -- That a file is free where fewer are listed than were made.
-use Rattle.std.proofs.Common.{◌≡◌, ◌≢◌, ◌⊎◌, ⊎_elim, ℕ, zero, suc, ◌+◌, ◌-◌, ◌<◌, ◌≤◌, List, [], ◌∷◌, length, get_or, refl, sym, ◌∙◌, ap, arith}
+use Rattle.std.proofs.Common.{◌≡◌, ◌≢◌, ⊎_elim, ℕ, zero, suc, ◌+◌, ◌-◌, ◌<◌, ◌≤◌, List, [], ◌∷◌, length, get_or, refl, sym, ◌∙◌, ap, arith}
 use Rattle.std.proofs.lemmas.Bool.{cases_lt, cases_eq}
 use Rattle.clfs_physical.specs.Stored.{IsIn}
 use Rattle.clfs_physical.specs.Taking.{IsFree}
@@ -36,14 +36,14 @@ other_in place xs file within apart is = ⊎_elim
       is = below-without place xs is.place below ∙ is.is;
     })
     (λ (above : place ≤ is.place). ⊎_elim
-        (λ (same : is.place ≡ place). absurd (apart (ap (λ (k : ℕ). get_or xs k 0) (sym same) ∙ is.is)))
-        (λ (past : is.place ≢ place). record {
-          place = is.place - 1;
-          within = omega (arith, above, past, is.within, length-without place xs within);
-          is = above-without place xs (is.place - 1) (omega (arith, above, past)) within
-              ∙ ap (λ (k : ℕ). get_or xs k 0) (omega (arith, above, past)) ∙ is.is;
-        })
-        (cases_eq is.place place))
+    (λ (same : is.place ≡ place). absurd (apart (ap (λ (k : ℕ). get_or xs k 0) (sym same) ∙ is.is)))
+    (λ (past : is.place ≢ place). record {
+      place = is.place - 1;
+      within = omega (arith, above, past, is.within, length-without place xs within);
+      is = above-without place xs (is.place - 1) (omega (arith, above, past)) within
+          ∙ ap (λ (k : ℕ). get_or xs k 0) (omega (arith, above, past)) ∙ is.is;
+    })
+    (cases_eq is.place place))
     (cases_lt is.place place)
 
 -- a list that has all of the numbers from 1 to so many has at least as many elements
@@ -52,7 +52,7 @@ as_many zero xs each = omega arith
 as_many (suc count) xs each =
     let last : IsIn xs (suc count) = each (suc count) (omega arith) (omega arith) in
     let fewer : count ≤ length (without last.place xs) = as_many count (without last.place xs)
-        (λ k some few. other_in last.place xs k last.within (λ same. absurd (omega (arith, last.is, same, few))) (each k some (omega (arith, few)))) in
+    (λ k some few. other_in last.place xs k last.within (λ same. absurd (omega (arith, last.is, same, few))) (each k some (omega (arith, few)))) in
     omega (arith, fewer, length-without last.place xs last.within)
 
 -- only one file is the least free one
@@ -60,7 +60,7 @@ pub one_free : (made : ℕ) (files : List ℕ) (a b : ℕ) → IsFree made files
 one_free made files a b first second = ⊎_elim
     (λ (below : a < b). absurd (first.free (second.least a first.some below)))
     (λ (above : b ≤ a). ⊎_elim (λ (same : a ≡ b). same) (λ (apart : a ≢ b). absurd (second.free (first.least b second.some (omega (arith, above, apart)))))
-        (cases_eq a b))
+    (cases_eq a b))
     (cases_lt a b)
 
 -- where a file and all smaller ones are among some, they are as many

@@ -1,5 +1,5 @@
 -- A group that is written behind the open blocks of a file.
-use Rattle.std.proofs.Common.{◌≡◌, ◌≢◌, ◌⊎◌, inl, inr, ⊎_elim, ℕ, ◌+◌, List, ◌++◌, length, ◌∙◌}
+use Rattle.std.proofs.Common.{◌⊎◌, inl, inr, ⊎_elim, ℕ, ◌+◌, List, ◌++◌, ◌∙◌}
 use Rattle.clfs_disk.specs.Files.{Files, TornIn}
 use Rattle.clfs_disk.specs.State.{DiskState, Leaves}
 use Rattle.clfs_container.specs.Writing.{IsBehind, HasBlocks, OthersStay}
@@ -35,7 +35,7 @@ all_or_none sectors file blocks rest at more left old mid b c others lengths ope
     let apart = others_then file old mid image others either.1 in
     let long = lengths_then old mid image lengths (torn_lengths file at 1 mid image within) in
     ⊎_elim (λ (behind : IsBehind sectors file blocks rest at image). inl (record { behind = behind; others = apart; lengths = long }))
-        (λ (has : HasBlocks sectors file (blocks ++ more) left image). inr (record { blocks_are = has; others = apart; lengths = long })) either.0)
+    (λ (has : HasBlocks sectors file (blocks ++ more) left image). inr (record { blocks_are = has; others = apart; lengths = long })) either.0)
     opens torn
 
 -- after both

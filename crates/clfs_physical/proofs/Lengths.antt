@@ -1,5 +1,5 @@
 -- How long files are after a write.
-use Rattle.std.proofs.Common.{◌≡◌, ◌≢◌, ⊎_elim, ℕ, List, length, sym, ◌∙◌, ap, subst}
+use Rattle.std.proofs.Common.{◌≡◌, ◌≢◌, ⊎_elim, ℕ, length, sym, ◌∙◌, ap, subst}
 use Rattle.std.proofs.lemmas.Bool.{cases_eq}
 use Rattle.clfs_disk.specs.Files.{Files, TornIn}
 use Rattle.clfs_physical.specs.Joined.{SameLengths}

@@ -6,3 +6,5 @@ pub mod Logs
 pub mod Listed
 pub mod Counting
 pub mod Taken
+pub mod Growing
+pub mod NextCopies

@@ -1,14 +1,15 @@
 -- Which files the next copy lists.
-use Rattle.std.proofs.Common.{◌≡◌, ◌⊎◌, ℕ, ◌+◌, ◌-◌, ◌%◌, ◌<◌, ◌≤◌, List, length, get_or, drop, refl, sym, ◌∙◌, ap, subst, arith, length-drop}
+use Rattle.std.proofs.Common.{◌≡◌, ◌⊎◌, ℕ, ◌+◌, ◌-◌, ◌%◌, ◌<◌, List, length, get_or, drop, refl, sym, ◌∙◌, ap, subst, arith, length-drop}
 use Rattle.std.proofs.lemmas.List.{get_or-drop}
 use Rattle.clfs_disk.specs.Files.{Files}
 use Rattle.clfs_base.specs.declared.image.BaseImage.{BaseImage}
+use Rattle.clfs_base.specs.declared.image.Row.{Row}
 use Rattle.clfs_disk.specs.State.{DiskState, Leaves}
 use Rattle.clfs_base.specs.Layout.{version_one}
 use Rattle.clfs_base.specs.Spelling.{IsImage}
 use Rattle.clfs_physical.specs.declared.change.Change.{Change}
 use Rattle.clfs_physical.specs.declared.change.Change.TheVariants as changes
-use Rattle.clfs_physical.specs.Changes.{next_copy}
+use Rattle.clfs_physical.specs.Changes.{with_stream, with_containers, next_copy}
 use Rattle.clfs_physical.specs.Stored.{Blocks, Lists, AreMade, Holds, IsLog, Newest, Stores}
 
 -- a copy that lists files of another and counts the same
@@ -56,30 +57,55 @@ next_turn first (changes.Base stream base) image = refl
 next_turn first (changes.Archive archiving tail) image = refl
 next_turn first (changes.Policies automatic maximum minimum growth) image = refl
 
+-- a log under another copy that lists no other files and counts as many of them
+pub stream_holds : (first : ℕ) (row : Row) (image : BaseImage) (blocks : Blocks) (files : Files) → Holds image blocks files
+    → Holds (with_stream row (next_copy first changes.Listing image)) blocks files
+stream_holds first row image blocks files holds =
+    relisted image (with_stream row (next_copy first changes.Listing image)) blocks files
+    (record { sectors = refl; made = refl; gone = first - image.first; files = refl }) holds
+
+-- or more of them, where these were made
+pub containers_hold : (first containers : ℕ) (image : BaseImage) (blocks : Blocks) (files : Files) → Holds image blocks files
+    → AreMade (with_containers containers image) files → Holds (with_containers containers (next_copy first changes.Listing image)) blocks files
+containers_hold first containers image blocks files holds made = record {
+  made = record { base = made.base; made = made.made };
+  opens = λ file listed. holds.opens file
+      (dropped_lists (first - image.first) image (with_containers containers (next_copy first changes.Listing image)) file refl listed);
+}
+
 -- ---- the next copy, written
 
-module _ (first : ℕ) (change : Change) (slot : ℕ) (image next : BaseImage) (now : Newest) (view : record { slot = slot; image = image } ≡ now)
-    (is : next ≡ next_copy first change image) (image_is : IsImage version_one image) where
+module _ (next_of : BaseImage → BaseImage) (turns : (image : BaseImage) → (next_of image).turn ≡ (image.turn + 1) % 3)
+    (slot : ℕ) (image next : BaseImage) (now : Newest) (view : record { slot = slot; image = image } ≡ now)
+    (is : next ≡ next_of image) (image_is : IsImage version_one image) where
   turn_is : next.turn ≡ (image.turn + 1) % 3
-  turn_is = ap (λ (n : BaseImage). n.turn) is ∙ next_turn first change image
+  turn_is = ap (λ (n : BaseImage). n.turn) is ∙ turns image
 
-  holds_next : (blocks : Blocks) (files : Files) → Holds image blocks files → Holds next blocks files
-  holds_next blocks files holds = subst (λ (n : BaseImage). Holds n blocks files) (sym is) (next_holds first change image blocks files holds)
+  holds_next : (blocks : Blocks) (files : Files) → (Holds image blocks files → Holds (next_of image) blocks files) → Holds image blocks files
+      → Holds next blocks files
+  holds_next blocks files then holds = subst (λ (n : BaseImage). Holds n blocks files) (sym is) (then holds)
 
-  pub copy_leaves : (a b : DiskState)
+  pub copy_leaves : (a b : DiskState) → ((blocks : Blocks) → Holds now.image blocks a.files → Holds (next_of now.image) blocks a.files)
       → ((before : BaseImage) (blocks : Blocks) → IsImage version_one before → next.turn ≡ (before.turn + 1) % 3 → IsLog slot before blocks a.files
       → Holds next blocks a.files → Leaves (λ files. IsLog slot before blocks files ⊎ IsLog (1 - slot) next blocks files) a b)
       → (blocks : Blocks) → Stores now blocks a.files
-      → Leaves (λ files. Stores now blocks files ⊎ Stores (record { slot = 1 - now.slot; image = next_copy first change now.image }) blocks files) a b
-  copy_leaves a b leaves = subst (λ (n : Newest). (blocks : Blocks) → Stores n blocks a.files
-      → Leaves (λ files. Stores n blocks files ⊎ Stores (record { slot = 1 - n.slot; image = next_copy first change n.image }) blocks files) a b) view
-      (λ blocks log. subst (λ (n : BaseImage). Leaves (λ files. IsLog slot image blocks files ⊎ IsLog (1 - slot) n blocks files) a b) is
-      (leaves image blocks image_is turn_is log (holds_next blocks a.files log.holds)))
+      → Leaves (λ files. Stores now blocks files ⊎ Stores (record { slot = 1 - now.slot; image = next_of now.image }) blocks files) a b
+  copy_leaves a b still leaves = subst
+      (λ (n : Newest). ((blocks : Blocks) → Holds n.image blocks a.files → Holds (next_of n.image) blocks a.files)
+      → (blocks : Blocks) → Stores n blocks a.files
+      → Leaves (λ files. Stores n blocks files ⊎ Stores (record { slot = 1 - n.slot; image = next_of n.image }) blocks files) a b) view
+      (λ here blocks log. subst (λ (n : BaseImage). Leaves (λ files. IsLog slot image blocks files ⊎ IsLog (1 - slot) n blocks files) a b) is
+      (leaves image blocks image_is turn_is log (holds_next blocks a.files (here blocks) log.holds)))
+      still
 
   pub copy_written : (used : ℕ) (old new : Files) → used ≡ 1 - slot
+      → ((blocks : Blocks) → Holds now.image blocks old → Holds (next_of now.image) blocks old)
       → ((before : BaseImage) (blocks : Blocks) → IsImage version_one before → next.turn ≡ (before.turn + 1) % 3 → IsLog slot before blocks old
       → Holds next blocks old → IsLog (1 - slot) next blocks new)
       → (blocks : Blocks) → Stores now blocks old → IsLog used next blocks new
-  copy_written used old new beside written = subst (λ (n : Newest). (blocks : Blocks) → Stores n blocks old → IsLog used next blocks new) view
-      (λ blocks log. subst (λ (k : ℕ). IsLog k next blocks new) (sym beside)
-      (written image blocks image_is turn_is log (holds_next blocks old log.holds)))
+  copy_written used old new beside still written = subst
+      (λ (n : Newest). ((blocks : Blocks) → Holds n.image blocks old → Holds (next_of n.image) blocks old)
+      → (blocks : Blocks) → Stores n blocks old → IsLog used next blocks new) view
+      (λ here blocks log. subst (λ (k : ℕ). IsLog k next blocks new) (sym beside)
+      (written image blocks image_is turn_is log (holds_next blocks old (here blocks) log.holds)))
+      still

@@ -1,6 +1,6 @@
 -- What is still a log after a file of it has changed.
-use Rattle.std.proofs.Common.{◌≡◌, ◌≢◌, ◌⊎◌, inl, inr, ⊎_elim, ℕ, zero, suc, ◌+◌, ◌-◌, ◌*◌, ◌/◌, ◌%◌, ◌<◌, ◌≤◌, Bool, true, false, cond, eqb, List, [], ◌∷◌, ◌++◌, length, get_or, take, drop}
-use Rattle.std.proofs.Common.{Result, Ok, Err, refl, sym, ◌∙◌, ap, subst, arith, length-drop}
+use Rattle.std.proofs.Common.{◌≡◌, ◌≢◌, ◌⊎◌, inl, inr, ⊎_elim, ℕ, ◌+◌, ◌-◌, ◌*◌, ◌/◌, ◌<◌, ◌≤◌, Bool, true, false, cond, eqb, List, [], ◌∷◌, ◌++◌, length, get_or, drop}
+use Rattle.std.proofs.Common.{Ok, refl, sym, ◌∙◌, ap, subst, arith, length-drop}
 use Rattle.std.proofs.lemmas.Bool.{cases_eq, eq-eqb}
 use Rattle.std.proofs.lemmas.Bool.Decides.{nat_tests}
 use Rattle.std.proofs.lemmas.List.{length-take-le, get_or-drop, append-nil}
@@ -62,9 +62,9 @@ module _ (image : BaseImage) (old new : Files) (file : ℕ) (some : 1 ≤ file) 
     made = made_still image old new lengths holds.made;
     opens = λ other listed. ⊎_elim
         (λ (same : other ≡ file). subst (AreWhole image.container_sectors (new other)) (sym (here file is blocks other same))
-            (subst (λ (k : ℕ). AreWhole image.container_sectors (new k) is) (sym same) whole))
+        (subst (λ (k : ℕ). AreWhole image.container_sectors (new k) is) (sym same) whole))
         (λ (apart : other ≢ file). subst (AreWhole image.container_sectors (new other)) (sym (elsewhere file is blocks other apart))
-            (subst (λ (l : List ℕ). AreWhole image.container_sectors l (blocks other)) (sym (others other apart)) (holds.opens other listed)))
+        (subst (λ (l : List ℕ). AreWhole image.container_sectors l (blocks other)) (sym (others other apart)) (holds.opens other listed)))
         (cases_eq other file);
   }
 
@@ -213,7 +213,7 @@ log_no_group slot image blocks more files none log = record {
     still : (other : ℕ) → with_group image more blocks other ≡ blocks other
     still other = ⊎_elim
         (λ (same : other ≡ last_file image). here (last_file image) (blocks (last_file image) ++ more) blocks other same
-            ∙ ap (λ (l : List (List ℕ)). blocks (last_file image) ++ l) none ∙ append-nil (blocks (last_file image)) ∙ ap blocks (sym same))
+        ∙ ap (λ (l : List (List ℕ)). blocks (last_file image) ++ l) none ∙ append-nil (blocks (last_file image)) ∙ ap blocks (sym same))
         (λ (apart : other ≢ last_file image). elsewhere (last_file image) (blocks (last_file image) ++ more) blocks other apart)
         (cases_eq other (last_file image))
 
@@ -246,8 +246,8 @@ module _ (slot : ℕ) (image : BaseImage) (blocks : Blocks) (at : ℕ) (body : L
       leaves_weaker (λ f. HasNone sectors file here rest at old f ⊎ HasGroup sectors file here more placed.left old f)
       (λ f. IsLog slot image blocks f ⊎ IsLog slot image (with_group image more blocks) f) a b
       (λ f either. ⊎_elim
-          (λ (none : HasNone sectors file here rest at old f). inl (log_still behind slot image blocks rest at old f is log
-              (subst (λ (k : ℕ). HasNone sectors k here rest at old f) last none)))
-          (λ (has : HasGroup sectors file here more placed.left old f). inr (log_with written slot image blocks more placed.left old f is log
-              (subst (λ (k : ℕ). HasGroup sectors k here more placed.left old f) last has))) either)
+      (λ (none : HasNone sectors file here rest at old f). inl (log_still behind slot image blocks rest at old f is log
+      (subst (λ (k : ℕ). HasNone sectors k here rest at old f) last none)))
+      (λ (has : HasGroup sectors file here more placed.left old f). inr (log_with written slot image blocks more placed.left old f is log
+      (subst (λ (k : ℕ). HasGroup sectors k here more placed.left old f) last has))) either)
       (leaves sectors here rest more placed.left behind_last placed.group)

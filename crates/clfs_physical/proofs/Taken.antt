@@ -1,5 +1,5 @@
 -- The copy that lists another file, and what is a log under it.
-use Rattle.std.proofs.Common.{◌≡◌, ◌≢◌, ◌⊎◌, inl, inr, ⊎_elim, ℕ, zero, suc, ◌+◌, ◌-◌, ◌*◌, ◌%◌, ◌<◌, ◌≤◌, Bool, true, false, cond, eqb, List, [], ◌∷◌, ◌++◌, length, get_or, drop, refl, sym, ◌∙◌, ap, subst, arith, length-append}
+use Rattle.std.proofs.Common.{◌≡◌, ◌≢◌, ◌⊎◌, inl, inr, ⊎_elim, ℕ, ◌+◌, ◌-◌, ◌%◌, ◌<◌, ◌≤◌, Bool, true, false, cond, eqb, List, [], ◌∷◌, ◌++◌, length, get_or, drop, refl, sym, ◌∙◌, ap, subst, arith, length-append}
 use Rattle.std.proofs.Math.ListN.{get_or-append}
 use Rattle.std.proofs.Math.Seq.{get_or-append_seam}
 use Rattle.std.proofs.lemmas.Bool.{cases_lt, cases_eq, eq-eqb}
@@ -12,8 +12,7 @@ use Rattle.clfs_base.specs.Spelling.{IsImage, AreFiles}
 use Rattle.clfs_physical.specs.declared.change.Change.TheVariants as changes
 use Rattle.std.proofs.lemmas.Bool.Decides.{nat_tests}
 use Rattle.clfs_physical.specs.Changes.{with_next_turn, with_file, next_copy}
-use Rattle.clfs_physical.specs.Joined.{SameLengths}
-use Rattle.clfs_physical.specs.Stored.{Blocks, IsIn, Lists, Holds, IsLog, Newest, Stores, with_blocks}
+use Rattle.clfs_physical.specs.Stored.{Blocks, IsIn, Lists, AreMade, Holds, IsLog, Newest, Stores, with_blocks}
 use Rattle.clfs_physical.specs.Taking.{IsFree, HasRoom, low_of, taken_of}
 use Rattle.clfs_physical.proofs.Joining.{leaves_weaker, leaves_then}
 use Rattle.clfs_physical.proofs.Lengths.{torn_lengths}
@@ -47,7 +46,7 @@ more_files made files file are is = record {
       (in_either files file _ (at_place files file i within));
   different = λ i j below within same. ⊎_elim
       (λ (both : j < length files). are.different i j below both
-          (sym (get_or-append files (file ∷ []) 0 i (omega (arith, below, both))) ∙ same ∙ get_or-append files (file ∷ []) 0 j both))
+      (sym (get_or-append files (file ∷ []) 0 i (omega (arith, below, both))) ∙ same ∙ get_or-append files (file ∷ []) 0 j both))
       (λ (last : length files ≤ j).
       let at_end : j ≡ length files = omega (arith, last, within, length-append files (file ∷ [])) in
       let early : i < length files = omega (arith, at_end, below) in
@@ -117,7 +116,7 @@ holds_taken image blocks file files holds none = record {
   made = record { base = holds.made.base; made = holds.made.made };
   opens = λ other listed. ⊎_elim
       (λ (same : other ≡ file). subst (AreWhole image.container_sectors (files other)) (sym (here file [] blocks other same))
-          (subst (λ (k : ℕ). AreWhole image.container_sectors (files k) []) (sym same) none))
+      (subst (λ (k : ℕ). AreWhole image.container_sectors (files k) []) (sym same) none))
       (λ (among : IsIn image.files other). holds.opens other among)
       (in_either image.files file other listed);
 }
@@ -161,14 +160,14 @@ module _ (slot : ℕ) (image next : BaseImage) (now : Newest) (view : record { s
       leaves_then (λ f. Stores now blocks f ⊎ Stores (taken_of file now) (with_blocks file [] blocks) f) a m b
       (taken_beside a m first blocks stores)
       (leaves_weaker (λ f. IsLog slot image (with_blocks file [] blocks) f ⊎ IsLog (1 - slot) next (with_blocks file [] blocks) f)
-          (λ f. Stores now blocks f ⊎ Stores (taken_of file now) (with_blocks file [] blocks) f) m b
-          (λ f either. ⊎_elim
-              (λ (old : IsLog slot image (with_blocks file [] blocks) f). inl (of_log blocks f (log_unlisted slot image blocks file [] f free.free old)))
-              (λ (new : IsLog (1 - slot) next (with_blocks file [] blocks) f). inr (
-                  subst (λ (n : Newest). Stores (taken_of file n) (with_blocks file [] blocks) f) view
-                  (subst (λ (n : BaseImage). IsLog (1 - slot) n (with_blocks file [] blocks) f) is new)))
-              either)
-          (second image (with_blocks file [] blocks) image_is turn_is closed (holds_next blocks m.files closed.holds none)))
+      (λ f. Stores now blocks f ⊎ Stores (taken_of file now) (with_blocks file [] blocks) f) m b
+      (λ f either. ⊎_elim
+      (λ (old : IsLog slot image (with_blocks file [] blocks) f). inl (of_log blocks f (log_unlisted slot image blocks file [] f free.free old)))
+      (λ (new : IsLog (1 - slot) next (with_blocks file [] blocks) f). inr (
+      subst (λ (n : Newest). Stores (taken_of file n) (with_blocks file [] blocks) f) view
+      (subst (λ (n : BaseImage). IsLog (1 - slot) n (with_blocks file [] blocks) f) is new)))
+      either)
+      (second image (with_blocks file [] blocks) image_is turn_is closed (holds_next blocks m.files closed.holds none)))
 
   pub taken_written : (used : ℕ) (old mid new : Files) → used ≡ 1 - slot → TornIn file 0 1 old mid → AreWhole image.container_sectors (mid file) []
       → ((before : BaseImage) (blocks : Blocks) → IsImage version_one before → next.turn ≡ (before.turn + 1) % 3 → IsLog slot before blocks mid
@@ -218,3 +217,11 @@ turn_leaves A B C D a b c d first second third =
     leaves_then P a c d
     (leaves_then P a b c (first_part A B C D a b first) (second_part A B C D b c second))
     (leaves_weaker (λ f. C f ⊎ D f) P c d (λ f either. inr (inr either)) third)
+
+-- it counts as many files
+pub low_counts : (first : ℕ) (now : Newest) (files : Files) → AreMade now.image files → AreMade (low_of first now).image files
+low_counts first now files are = by_test (eqb first now.image.first)
+  where
+    by_test : (b : Bool) → AreMade (cond b now (record { slot = 1 - now.slot; image = next_copy first changes.Listing now.image })).image files
+    by_test true = are
+    by_test false = record { base = are.base; made = are.made }

@@ -1,8 +1,10 @@
 -- What the next copy says, by what is to change.
-use Rattle.std.specs.Prelude.{ℕ, ◌+◌, ◌-◌, ◌%◌, ◌≤◌, max, List, [], ◌∷◌, ◌++◌, length, drop, slice_set}
+use Rattle.std.specs.Prelude.{◌≢◌, ℕ, ◌+◌, ◌-◌, ◌%◌, ◌^◌, ◌<◌, ◌≤◌, max, List, [], ◌∷◌, ◌++◌, length, drop, slice_set}
 use Rattle.clfs_base.specs.declared.image.BaseImage.{BaseImage}
 use Rattle.clfs_base.specs.declared.image.Row.{Row}
-use Rattle.clfs_base.specs.Spelling.{row_in}
+use Rattle.clfs_base.specs.Layout.{most_minimum, most_tail}
+use Rattle.clfs_base.specs.Spelling.{IsName, row_in, IsPolicy, flag}
+use Rattle.clfs_lsn.specs.Limits.{most_containers, fewest_containers, greatest_rate, most_streams, longest_name}
 use Rattle.clfs_physical.specs.declared.change.Change.{Change}
 use Rattle.clfs_physical.specs.declared.change.Change.TheVariants as changes
 
@@ -42,9 +44,23 @@ changed (changes.Policies automatic maximum minimum growth) image =
 abbrev pub next_copy : ℕ → Change → BaseImage → BaseImage
 next_copy first change image = changed change (listed_from first (with_next_turn image))
 
--- The change speaks of a stream that is there.
+-- A change that a copy can have: it speaks of a stream that is there, and its numbers are in their ranges.
 abbrev pub Suits : Change → BaseImage → Type 0
-Suits (changes.Base stream base) image = (1 ≤ stream) × (stream ≤ length image.streams)
 Suits changes.Listing image = Unit {0}
-Suits (changes.Archive archiving tail) image = Unit {0}
-Suits (changes.Policies automatic maximum minimum growth) image = Unit {0}
+Suits (changes.Base stream base) image = (1 ≤ stream) × (stream ≤ length image.streams) × (base < 2 ^ 64)
+Suits (changes.Archive archiving tail) image = tail ≤ most_tail (flag archiving)
+Suits (changes.Policies automatic maximum minimum growth) image =
+    IsPolicy fewest_containers most_containers maximum × IsPolicy fewest_containers (most_minimum maximum) minimum × (growth ≤ greatest_rate)
+
+-- A number of containers that the log can have while it lists those from this one on.
+pub record CanHave (containers first : ℕ) (image : BaseImage) : Type 0 where
+  pub some : 1 ≤ containers
+  pub few : containers ≤ most_containers
+  pub listed : image.first + length image.files ≤ first + containers
+
+-- A stream that the log can have besides: there is room for it, and its name is one that no other stream has.
+pub record IsNewRow (row : Row) (image : BaseImage) : Type 0 where
+  pub few : length image.streams < most_streams
+  pub name : IsName longest_name row.name
+  pub other : (i : ℕ) → i < length image.streams → (row_in image.streams i).name ≢ row.name
+  pub base : row.base < 2 ^ 64

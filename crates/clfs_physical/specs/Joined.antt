@@ -1,5 +1,5 @@
 -- What the calls leave that are joined from several calls of the lower crates.
-use Rattle.std.specs.Prelude.{◌≡◌, ◌⊎◌, ℕ, ◌+◌, ◌%◌, List, ◌++◌, length}
+use Rattle.std.specs.Prelude.{◌≡◌, ℕ, ◌+◌, ◌%◌, ◌≤◌, List, ◌++◌, length}
 use Rattle.clfs_disk.specs.Files.{Files}
 use Rattle.clfs_container.specs.Writing.{IsBehind, HasBlocks, OthersStay}
 use Rattle.clfs_base.specs.declared.image.BaseImage.{BaseImage}
@@ -10,6 +10,11 @@ use Rattle.clfs_base.specs.Writing.{IsOlder}
 -- Each file is as long as it was.
 abbrev pub SameLengths : Files → Files → Type 0
 SameLengths old new = (file : ℕ) → length (new file) ≡ length (old file)
+
+-- The files up to this one are as they were, and none is shorter.
+pub record GrownAbove (made : ℕ) (old new : Files) : Type 0 where
+  pub same : (file : ℕ) → file ≤ made → new file ≡ old file
+  pub longer : (file : ℕ) → length (old file) ≤ length (new file)
 
 -- Of the old files one alone was changed, not in its length: it has the blocks of before and those of a group behind them.
 pub record HasGroup (sectors file : ℕ) (blocks more : List (List ℕ)) (left : ℕ) (old new : Files) : Type 0 where

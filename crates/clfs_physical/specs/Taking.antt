@@ -1,5 +1,5 @@
 -- Which file the next container takes, and what a turn leaves.
-use Rattle.std.specs.Prelude.{◌≡◌, ◌⊎◌, ◌==◌, ℕ, ◌+◌, ◌^◌, ◌<◌, ◌≤◌, if◌then◌else◌, List, [], length}
+use Rattle.std.specs.Prelude.{◌⊎◌, ◌==◌, ℕ, ◌+◌, ◌^◌, ◌<◌, ◌≤◌, if◌then◌else◌, List, [], length}
 use Rattle.clfs_disk.specs.Files.{Files}
 use Rattle.clfs_base.specs.declared.image.BaseImage.{BaseImage}
 use Rattle.clfs_base.specs.Writing.{older_of}

@@ -1,8 +1,8 @@
 // What the next copy says.
-ghost use Rattle.std.specs.Prelude.{◌≡◌, ◌-◌, ◌≤◌, ◌∷◌, ◌++◌, [], length, OnOk, OnErr};
+ghost use Rattle.std.specs.Prelude.{◌≡◌, ◌+◌, ◌≤◌, ◌-◌, ◌∷◌, ◌++◌, [], length, OnOk, OnErr};
 ghost use Rattle.clfs_base.specs.Layout.{version_one};
 ghost use Rattle.clfs_base.specs.Spelling.{IsImage};
-ghost use Rattle.clfs_physical.specs.Changes.{with_next_turn, with_file, listed_from, with_base, with_stream, changed, next_copy, Suits};
+ghost use Rattle.clfs_physical.specs.Changes.{with_next_turn, with_file, listed_from, with_base, with_stream, with_containers, changed, next_copy, Suits, CanHave, IsNewRow};
 ghost use Rattle.clfs_physical.specs.Taking.{IsNextFile, HasRoom};
 
 use clfs_base::{BaseImage, Files, Row, Rows};
@@ -16,9 +16,15 @@ pub enum Change {
     /// Which containers are listed, and nothing else.
     Listing,
     /// The base of the stream of this number, from 1.
-    Base { stream: u16, base: Lsn },
+    Base {
+        stream: u16,
+        base: Lsn,
+    },
     /// Whether archiving is on, and the archive tail, null where it is off.
-    Archive { archiving: bool, tail: Lsn },
+    Archive {
+        archiving: bool,
+        tail: Lsn,
+    },
     /// All policies but those of archiving, as in a copy.
     Policies {
         automatic: bool,
@@ -31,10 +37,11 @@ pub enum Change {
 /// Makes a copy the one that follows it, with the containers from `first` on and after a change.
 pub fn apply(alloc: Global, image: &mut BaseImage, first: u32, change: &Change)
     requires first { image.old.first ≤ first }
-    requires listed { first - image.old.first ≤ length image.old.files }
-    requires turn { image.old.turn ≤ 2 }
+    requires listed { first + 1 ≤ image.old.first + length image.old.files }
+    requires image { IsImage version_one image.old }
     requires change { Suits change.now image.old }
-    ensures { image.new ≡ next_copy first change.now image.old }
+    ensures exact { image.new ≡ next_copy first change.now image.old }
+    ensures image { IsImage version_one image.new }
 {
     image.turn = (image.turn + 1) % 3;
     list_from(alloc, image, first);
@@ -119,8 +126,44 @@ fn set_base(alloc: Global, image: &mut BaseImage, stream: u16, base: Lsn)
     image.streams = Rows::from_vec(rows);
 }
 
-/// Adds a stream behind the others. Where memory is wanted, nothing has changed.
-pub fn push_stream(alloc: Global, image: &mut BaseImage, row: Row) -> Result<(), AllocError>
+/// Makes a copy the one that follows it, with the containers from `first` on and another stream. Where memory is wanted, nothing has
+/// changed.
+pub fn apply_stream(
+    alloc: Global,
+    image: &mut BaseImage,
+    first: u32,
+    row: Row,
+) -> Result<(), AllocError>
+    requires first { image.old.first ≤ first }
+    requires listed { first + 1 ≤ image.old.first + length image.old.files }
+    requires image { IsImage version_one image.old }
+    requires row { IsNewRow row image.old }
+    ensures image { OnOk result (IsImage version_one image.new) }
+    ensures ok { OnOk result (image.new ≡ with_stream row (next_copy first Change.Listing image.old)) }
+    ensures err { OnErr result (image.new ≡ image.old) }
+{
+    push_stream(alloc, image, row)?;
+    image.turn = (image.turn + 1) % 3;
+    list_from(alloc, image, first);
+    Ok(())
+}
+
+/// Makes a copy the one that follows it, with the containers from `first` on and so many containers.
+pub fn apply_containers(alloc: Global, image: &mut BaseImage, first: u32, containers: u16)
+    requires first { image.old.first ≤ first }
+    requires listed { first + 1 ≤ image.old.first + length image.old.files }
+    requires image { IsImage version_one image.old }
+    requires containers { CanHave containers first image.old }
+    ensures exact { image.new ≡ with_containers containers (next_copy first Change.Listing image.old) }
+    ensures image { IsImage version_one image.new }
+{
+    apply(alloc, image, first, &Change::Listing);
+    image.containers = containers;
+    image.files_made = image.files_made.max(containers);
+}
+
+// Adds a stream behind the others. Where memory is wanted, nothing has changed.
+fn push_stream(alloc: Global, image: &mut BaseImage, row: Row) -> Result<(), AllocError>
     ensures ok { OnOk result (image.new ≡ with_stream row image.old) }
     ensures err { OnErr result (image.new ≡ image.old) }
 {

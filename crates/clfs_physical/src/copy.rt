@@ -44,7 +44,12 @@ pub fn write_copy<D: Disk>(disk: &mut D, slot: u32, body: &[u8]) -> Result<(), F
 }
 
 /// Spells a copy that follows the one in the used slot, and writes it over the other one. It answers that slot.
-pub fn store_copy<D: Disk>(disk: &mut D, used: u32, next: &BaseImage, bytes: &mut [u8]) -> Result<u32, Failed>
+pub fn store_copy<D: Disk>(
+    disk: &mut D,
+    used: u32,
+    next: &BaseImage,
+    bytes: &mut [u8],
+) -> Result<u32, Failed>
     requires slot { used ≤ 1 }
     requires image { IsImage version_one next.now }
     requires room { length bytes.old ≡ slot_bytes - 1 }
@@ -68,7 +73,7 @@ pub fn store_copy<D: Disk>(disk: &mut D, used: u32, next: &BaseImage, bytes: &mu
         → (D.state disk.new).calls ≡ raised 5 (D.state disk.old).calls) }
     ensures calls_at_most { (D.state disk.new).calls ≤ raised 7 (D.state disk.old).calls }
     ensures cause { OnErr result (Rises (D.state disk.old).faults (D.state disk.new).faults) }
-    ensures steady { IsSteady (D.state disk.old) → 32768 ≤ length ((D.state disk.old).files 0)
+    ensures steady { IsSteady (D.state disk.old) → 2 * slot_bytes ≤ length ((D.state disk.old).files 0)
         → IsOk result × ((D.state disk.new).faults ≡ (D.state disk.old).faults) }
 {
     encode(next, bytes);

@@ -1,5 +1,7 @@
-// The newest base copy of a log, and what is written to the log's disk.
-ghost use Rattle.std.specs.Prelude.{◌≡◌, ◌⊎◌, ◌+◌, ◌-◌, ◌*◌, ◌%◌, ◌≤◌, ◌∷◌, ◌++◌, [], List, ℕ, true, false, length, IfOk, OnOk, OnErr, IsOk};
+// The newest base copy of a log, with the slot that it is in, and the calls that write a group or a copy. The copy that follows is made of
+// it where it stands, so that no memory is wanted when the disk is written. What a crash leaves is said of two values: the one
+// before the call, and the one after an Ok.
+ghost use Rattle.std.specs.Prelude.{◌≡◌, ◌⊎◌, ◌+◌, ◌-◌, ◌*◌, ◌%◌, ◌≤◌, ◌∷◌, ◌++◌, [], List, ℕ, true, false, length, IfOk, OnOk, OnErr, IsOk, IsErrOf};
 ghost use Rattle.clfs_lsn.specs.Format.{sector_bytes};
 ghost use Rattle.clfs_disk.specs.State.{TellsContents, IsHonest, IsSettled, IsSteady, Later, Leaves, Rises, raised};
 ghost use Rattle.clfs_base.specs.declared.image.BaseImage.{BaseImage};
@@ -7,15 +9,16 @@ ghost use Rattle.clfs_base.specs.Layout.{version_one};
 ghost use Rattle.clfs_base.specs.Spelling.{IsImage};
 ghost use Rattle.clfs_base.specs.Slots.{is_open_slot};
 ghost use Rattle.clfs_base.specs.Writing.{older_of};
-ghost use Rattle.clfs_physical.specs.Changes.{next_copy, Suits};
+ghost use Rattle.clfs_physical.specs.Changes.{with_stream, with_containers, next_copy, Suits, CanHave, IsNewRow};
 ghost use Rattle.clfs_physical.specs.Joined.{SameLengths};
 ghost use Rattle.clfs_physical.specs.Stored.{Blocks, Newest, AreMade, Stores, Waits, last_file, with_blocks, with_group};
 ghost use Rattle.clfs_physical.specs.Taking.{IsNextFile, HasRoom, low_of, taken_of};
 
-use crate::change::{Change, apply, apply_file};
+use crate::change::{Change, apply, apply_containers, apply_file, apply_stream};
 use crate::copy::store_copy;
 use crate::group::write_group;
-use clfs_base::BaseImage;
+use crate::refusal::PhysicalRefusal;
+use clfs_base::{BaseImage, Row};
 use clfs_container::{close_first, open_blocks_are_one_list};
 use clfs_disk::{Disk, Failed};
 use std::alloc::{AllocError, Global};
@@ -72,7 +75,9 @@ impl Physical {
         &self.image
     }
 
-    /// Writes the blocks that wait as one group behind the open blocks of the last container.
+    /// Writes the blocks that wait as one group behind the open blocks of the last container, at byte `at` of its file. `body` is
+    /// the group but for its first byte, and a closed gate behind it where the container has a sector there; it is empty where nothing
+    /// waits, and then nothing is written.
     pub fn flush<D: Disk>(&self, disk: &mut D, at: u32, body: &[u8]) -> Result<(), Failed>
         ensures written { OnOk result (TellsContents (D.state disk.old) → (blocks : Blocks) (more : List (List ℕ))
             → Stores self.now blocks (D.state disk.old).files → Waits self.now.image blocks at body.now more
@@ -89,7 +94,7 @@ impl Physical {
         ensures lengths { SameLengths (D.state disk.old).files (D.state disk.new).files }
         ensures time { Later (D.state disk.old) (D.state disk.new) }
         ensures calls { OnOk result ((body.now ≡ [] → ⊥) → (D.state disk.new).calls ≡ raised 4 (D.state disk.old).calls) }
-        ensures calls_at_most { (body.now ≡ [] → ⊥) → (D.state disk.new).calls ≤ raised 4 (D.state disk.old).calls }
+        ensures calls_at_most { raised 0 (D.state disk.new).calls ≤ raised 4 (D.state disk.old).calls }
         ensures cause { OnErr result (Rises (D.state disk.old).faults (D.state disk.new).faults) }
         ensures steady { IsSteady (D.state disk.old) → AreMade self.now.image (D.state disk.old).files
             → at + 1 + length body.now ≤ sector_bytes * self.now.image.container_sectors
@@ -114,11 +119,15 @@ impl Physical {
     }
 
     /// Writes the copy that follows the newest one, with the containers from `first` on and after a change.
-    pub fn write_copy<D: Disk>(&mut self, disk: &mut D, first: u32, change: &Change) -> Result<(), Failed>
+    pub fn write_copy<D: Disk>(
+        &mut self,
+        disk: &mut D,
+        first: u32,
+        change: &Change,
+    ) -> Result<(), Failed>
         requires first { self.old.image.first ≤ first }
         requires listed { first + 1 ≤ self.old.image.first + length self.old.image.files }
         requires change { Suits change.now self.old.image }
-        requires image { IsImage version_one (next_copy first change.now self.old.image) }
         ensures now { OnOk result (self.new ≡ record { slot = older_of self.old.slot; image = next_copy first change.now self.old.image }) }
         ensures written { OnOk result (TellsContents (D.state disk.old) → (blocks : Blocks)
             → Stores self.old blocks (D.state disk.old).files → Stores self.new blocks (D.state disk.new).files) }
@@ -163,7 +172,7 @@ impl Physical {
         ensures lengths { SameLengths (D.state disk.old).files (D.state disk.new).files }
         ensures time { Later (D.state disk.old) (D.state disk.new) }
         ensures nothing { first ≡ self.old.image.first → IsOk result × (disk.new ≡ disk.old) }
-        ensures calls_at_most { (first ≡ self.old.image.first → ⊥) → (D.state disk.new).calls ≤ raised 7 (D.state disk.old).calls }
+        ensures calls_at_most { raised 0 (D.state disk.new).calls ≤ raised 7 (D.state disk.old).calls }
         ensures cause { OnErr result (Rises (D.state disk.old).faults (D.state disk.new).faults) }
         ensures steady { IsSteady (D.state disk.old) → AreMade self.old.image (D.state disk.old).files
             → IsOk result × ((D.state disk.new).faults ≡ (D.state disk.old).faults) }
@@ -176,7 +185,12 @@ impl Physical {
 
     /// Takes a file for the container that follows the last listed one: closes the first gate in it, and then writes the copy that
     /// lists it. `files` are those of the newest copy and this one, which the next copy keeps.
-    pub fn take_file<D: Disk>(&mut self, disk: &mut D, file: u16, files: Vec<u16>) -> Result<(), Failed>
+    pub fn take_file<D: Disk>(
+        &mut self,
+        disk: &mut D,
+        file: u16,
+        files: Vec<u16>,
+    ) -> Result<(), Failed>
         requires free { IsNextFile self.old.image file }
         requires files { files.items ≡ self.old.image.files ++ file ∷ [] }
         requires room { HasRoom self.old.image }
@@ -206,6 +220,79 @@ impl Physical {
         apply_file(&mut self.image, file, files);
         open_blocks_are_one_list();
         close_first(disk, file)?;
+        self.slot = store_copy(disk, self.slot, &self.image, &mut self.bytes)?;
+        Ok(())
+    }
+
+    /// Opens a stream: writes the copy that has it behind the others, with the containers from `first` on.
+    pub fn add_stream<D: Disk>(
+        &mut self,
+        disk: &mut D,
+        first: u32,
+        row: Row,
+    ) -> Result<(), PhysicalRefusal>
+        requires first { self.old.image.first ≤ first }
+        requires listed { first + 1 ≤ self.old.image.first + length self.old.image.files }
+        requires row { IsNewRow row self.old.image }
+        ensures now { OnOk result (self.new ≡ record { slot = older_of self.old.slot; image = with_stream row (next_copy first Change.Listing self.old.image) }) }
+        ensures written { OnOk result (TellsContents (D.state disk.old) → (blocks : Blocks)
+            → Stores self.old blocks (D.state disk.old).files → Stores self.new blocks (D.state disk.new).files) }
+        ensures settled { OnOk result (IsSettled (D.state disk.old) → IsSettled (D.state disk.new)) }
+
+        // Whatever the answer, a crash at any moment leaves the same open blocks under the copy of before or under this one.
+        ensures moments { IsSettled (D.state disk.old) → (blocks : Blocks) → Stores self.old blocks (D.state disk.old).files
+            → Leaves (λ image. Stores self.old blocks image
+            ⊎ Stores (record { slot = older_of self.old.slot; image = with_stream row (next_copy first Change.Listing self.old.image) }) blocks image)
+            (D.state disk.old) (D.state disk.new) }
+
+        ensures no_memory { IsErrOf result PhysicalRefusal.NoMemory → (self.new ≡ self.old) × (disk.new ≡ disk.old) }
+        ensures lengths { SameLengths (D.state disk.old).files (D.state disk.new).files }
+        ensures time { Later (D.state disk.old) (D.state disk.new) }
+        ensures calls { OnOk result (TellsContents (D.state disk.old) → is_open_slot ((D.state disk.old).files 0) (older_of self.old.slot) ≡ true
+            → (D.state disk.new).calls ≡ raised 7 (D.state disk.old).calls) }
+        ensures fewer_calls { OnOk result (TellsContents (D.state disk.old) → is_open_slot ((D.state disk.old).files 0) (older_of self.old.slot) ≡ false
+            → (D.state disk.new).calls ≡ raised 5 (D.state disk.old).calls) }
+        ensures calls_at_most { raised 0 (D.state disk.new).calls ≤ raised 7 (D.state disk.old).calls }
+        ensures cause { IsErrOf result PhysicalRefusal.DiskFault → Rises (D.state disk.old).faults (D.state disk.new).faults }
+        ensures steady { IsSteady (D.state disk.old) → AreMade self.old.image (D.state disk.old).files
+            → (IsErrOf result PhysicalRefusal.DiskFault → ⊥) × ((D.state disk.new).faults ≡ (D.state disk.old).faults) }
+    {
+        apply_stream(self.alloc, &mut self.image, first, row)?;
+        self.slot = store_copy(disk, self.slot, &self.image, &mut self.bytes)?;
+        Ok(())
+    }
+
+    /// Writes the copy of a log with so many containers, whose files are made, with the containers from `first` on.
+    pub(crate) fn write_containers<D: Disk>(
+        &mut self,
+        disk: &mut D,
+        first: u32,
+        containers: u16,
+    ) -> Result<(), Failed>
+        requires first { self.old.image.first ≤ first }
+        requires listed { first + 1 ≤ self.old.image.first + length self.old.image.files }
+        requires containers { CanHave containers first self.old.image }
+        ensures now { OnOk result (self.new ≡ record { slot = older_of self.old.slot; image = with_containers containers (next_copy first Change.Listing self.old.image) }) }
+        ensures written { OnOk result (TellsContents (D.state disk.old) → (blocks : Blocks)
+            → Stores self.old blocks (D.state disk.old).files → AreMade (with_containers containers self.old.image) (D.state disk.old).files
+            → Stores self.new blocks (D.state disk.new).files) }
+        ensures settled { OnOk result (IsSettled (D.state disk.old) → IsSettled (D.state disk.new)) }
+
+        // Whatever the answer, a crash at any moment leaves the same open blocks under the copy of before or under this one.
+        ensures moments { IsSettled (D.state disk.old) → (blocks : Blocks) → Stores self.old blocks (D.state disk.old).files
+            → AreMade (with_containers containers self.old.image) (D.state disk.old).files
+            → Leaves (λ image. Stores self.old blocks image
+            ⊎ Stores (record { slot = older_of self.old.slot; image = with_containers containers (next_copy first Change.Listing self.old.image) }) blocks image)
+            (D.state disk.old) (D.state disk.new) }
+
+        ensures lengths { SameLengths (D.state disk.old).files (D.state disk.new).files }
+        ensures time { Later (D.state disk.old) (D.state disk.new) }
+        ensures calls_at_most { (D.state disk.new).calls ≤ raised 7 (D.state disk.old).calls }
+        ensures cause { OnErr result (Rises (D.state disk.old).faults (D.state disk.new).faults) }
+        ensures steady { IsSteady (D.state disk.old) → AreMade self.old.image (D.state disk.old).files
+            → IsOk result × ((D.state disk.new).faults ≡ (D.state disk.old).faults) }
+    {
+        apply_containers(self.alloc, &mut self.image, first, containers);
         self.slot = store_copy(disk, self.slot, &self.image, &mut self.bytes)?;
         Ok(())
     }

@@ -1,10 +1,11 @@
 // A turn to the next container, in three parts: what waits is written, a copy without the low containers is written, and a file is
 // taken. All memory is taken first. What waits lies in the container that the log leaves, and is on the disk before a copy
 // lists the next one: so a crash never leaves a later container beside an earlier one that has lost blocks.
-ghost use Rattle.std.specs.Prelude.{◌≡◌, ◌⊎◌, ◌+◌, ◌≤◌, ◌∷◌, ◌++◌, ℕ, List, [], length, IfOk, OnOk, OnErr, IsErrOf};
-ghost use Rattle.clfs_disk.specs.State.{TellsContents, IsSettled, Later, Leaves, Rises, raised};
+ghost use Rattle.std.specs.Prelude.{◌≡◌, ◌⊎◌, ◌+◌, ◌*◌, ◌≤◌, ◌∷◌, ◌++◌, ℕ, List, [], length, IfOk, OnOk, OnErr, IsOk, IsErrOf};
+ghost use Rattle.clfs_lsn.specs.Format.{sector_bytes};
+ghost use Rattle.clfs_disk.specs.State.{TellsContents, IsSettled, IsSteady, Later, Leaves, Rises, raised};
 ghost use Rattle.clfs_physical.specs.Joined.{SameLengths};
-ghost use Rattle.clfs_physical.specs.Stored.{Blocks, Stores, Waits, with_blocks, with_group};
+ghost use Rattle.clfs_physical.specs.Stored.{Blocks, AreMade, Stores, Waits, with_blocks, with_group};
 ghost use Rattle.clfs_physical.specs.Taking.{IsNextFile, HasRoom, low_of, taken_of, InTurn};
 
 use crate::free::{free_file, with_one_more};
@@ -14,7 +15,8 @@ use clfs_disk::{Disk, Failed};
 use std::alloc::{AllocError, Global};
 
 impl Physical {
-    /// Turns the log to its next container, `first` being the first one that is still listed.
+    /// Turns the log to its next container: writes the blocks that wait as `flush` does, lists the containers from `first` on, and takes
+    /// the least file that isn't listed.
     pub fn turn<D: Disk>(
         &mut self,
         alloc: Global,
@@ -42,7 +44,11 @@ impl Physical {
         ensures no_memory { IsErrOf result PhysicalRefusal.NoMemory → (self.new ≡ self.old) × (disk.new ≡ disk.old) }
         ensures lengths { SameLengths (D.state disk.old).files (D.state disk.new).files }
         ensures time { Later (D.state disk.old) (D.state disk.new) }
+        ensures calls_at_most { raised 0 (D.state disk.new).calls ≤ raised 20 (D.state disk.old).calls }
         ensures cause { IsErrOf result PhysicalRefusal.DiskFault → Rises (D.state disk.old).faults (D.state disk.new).faults }
+        ensures steady { IsSteady (D.state disk.old) → AreMade self.old.image (D.state disk.old).files
+            → at + 1 + length body.now ≤ sector_bytes * self.old.image.container_sectors
+            → (IsErrOf result PhysicalRefusal.DiskFault → ⊥) × ((D.state disk.new).faults ≡ (D.state disk.old).faults) }
     {
         let file = self.next_file(first);
         let files = self.next_files(alloc, first, file)?;
@@ -58,7 +64,11 @@ impl Physical {
         ensures { IsNextFile (low_of first self.now).image result }
     {
         let image = self.image();
-        let listed = image.files.as_slice().split_at((first - image.first) as usize).1;
+        let listed = image
+            .files
+            .as_slice()
+            .split_at((first - image.first) as usize)
+            .1;
         free_file(image.files_made, listed)
     }
 
@@ -69,7 +79,11 @@ impl Physical {
         ensures { IfOk result (λ files. files.items ≡ (low_of first self.now).image.files ++ file ∷ []) }
     {
         let image = self.image();
-        let listed = image.files.as_slice().split_at((first - image.first) as usize).1;
+        let listed = image
+            .files
+            .as_slice()
+            .split_at((first - image.first) as usize)
+            .1;
         with_one_more(alloc, listed, file)
     }
 
@@ -98,7 +112,11 @@ impl Physical {
             → Leaves (InTurn self.old first file more blocks) (D.state disk.old) (D.state disk.new) }
         ensures lengths { SameLengths (D.state disk.old).files (D.state disk.new).files }
         ensures time { Later (D.state disk.old) (D.state disk.new) }
+        ensures calls_at_most { raised 0 (D.state disk.new).calls ≤ raised 20 (D.state disk.old).calls }
         ensures cause { OnErr result (Rises (D.state disk.old).faults (D.state disk.new).faults) }
+        ensures steady { IsSteady (D.state disk.old) → AreMade self.old.image (D.state disk.old).files
+            → at + 1 + length body.now ≤ sector_bytes * self.old.image.container_sectors
+            → IsOk result × ((D.state disk.new).faults ≡ (D.state disk.old).faults) }
     {
         self.flush(disk, at, body)?;
         self.drop_low(disk, first)?;

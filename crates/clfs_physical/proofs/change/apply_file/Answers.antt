@@ -1,4 +1,4 @@
-use Rattle.std.proofs.Common.{◌≡◌, ◌+◌, ◌%◌, ◌∙◌, ℕ, List, sym, subst}
+use Rattle.std.proofs.Common.{◌+◌, ◌%◌, ◌∙◌, ℕ, List, sym, subst}
 use Rattle.clfs_base.specs.Layout.{version_one}
 use Rattle.clfs_base.specs.Spelling.{IsImage}
 use Rattle.clfs_physical.proofs.Taken.{file_image}

@@ -1,10 +1,7 @@
-use Rattle.std.proofs.Common.{◌≡◌, ◌⊎◌, ◌-◌, ℕ, List, refl}
-use Rattle.std.proofs.lemmas.Result.{on_ok_weaker}
+use Rattle.std.proofs.Common.{◌⊎◌, ◌-◌, refl}
 use Rattle.clfs_disk.specs.Files.{Files}
-use Rattle.clfs_base.specs.declared.image.BaseImage.{BaseImage}
 use Rattle.clfs_base.specs.Writing.{EitherNewest}
-use Rattle.clfs_physical.specs.Joined.{Follows}
-use Rattle.clfs_physical.specs.Stored.{Blocks, IsLog}
+use Rattle.clfs_physical.specs.Stored.{IsLog}
 use Rattle.clfs_physical.proofs.Joining.{leaves_weaker}
 use Rattle.clfs_physical.proofs.Logs.{log_by_copy, log_by_either}
 use Rattle.clfs_physical.proofs.copy.store_copy.Goals as goal

@@ -1,9 +1,8 @@
-use Rattle.std.proofs.Common.{◌≡◌, ◌≢◌, ◌⊎◌, inl, ◌∙◌, sym, subst}
-use Rattle.clfs_disk.specs.Files.{Files}
+use Rattle.std.proofs.Common.{◌≢◌, ◌⊎◌, inl, subst}
 use Rattle.clfs_disk.specs.State.{Leaves}
 use Rattle.clfs_physical.specs.Stored.{Newest, Stores}
 use Rattle.clfs_physical.specs.Taking.{low_of}
-use Rattle.clfs_physical.proofs.Joining.{leaves_nothing, leaves_weaker}
+use Rattle.clfs_physical.proofs.Joining.{leaves_nothing}
 use Rattle.clfs_physical.proofs.Taken.{low_else}
 use Rattle.clfs_physical.proofs.physical.Physical.drop_low.Goals as goal
 
@@ -14,7 +13,7 @@ returns-then-first-self-clause-moments g c settled blocks stores =
 pub returns-clause-moments : goal.returns-clause-moments
 returns-clause-moments g c settled blocks stores =
     let apart : c.args.first ≢ c.args.self.now.image.first =
-        subst (λ (n : Newest). c.args.first ≢ n.image.first) c.self.view_is c.if-first-self.false in
+    subst (λ (n : Newest). c.args.first ≢ n.image.first) c.self.view_is c.if-first-self.false in
     subst (λ (n : Newest). Leaves (λ image. Stores c.args.self.now blocks image ⊎ Stores n blocks image)
-        (g.D.Disk.state c.args.disk.now) (g.D.Disk.state c.write_copy.new.disk)) (low_else c.args.first c.args.self.now apart)
+    (g.D.Disk.state c.args.disk.now) (g.D.Disk.state c.write_copy.new.disk)) (low_else c.args.first c.args.self.now apart)
     (c.write_copy.ensures.moments settled blocks stores)

@@ -1,11 +1,8 @@
-use Rattle.std.proofs.Common.{◌≡◌, ◌⊎◌, inl, inr, ⊎_elim, ◌+◌, ◌-◌, ◌/◌, ◌++◌, ℕ, List, [], length, sym, subst}
+use Rattle.std.proofs.Common.{◌≡◌, ◌⊎◌, inl, ⊎_elim, []}
 use Rattle.std.proofs.lemmas.Result.{on_ok_weaker}
-use Rattle.clfs_disk.specs.Files.{Files}
-use Rattle.clfs_container.specs.Writing.{IsBehind, IsGroup}
-use Rattle.clfs_physical.specs.Joined.{HasGroup, HasNone}
-use Rattle.clfs_physical.specs.Stored.{Blocks, Stores, IsPlaced, Waits, last_file, with_group}
-use Rattle.clfs_physical.proofs.Joining.{leaves_weaker, leaves_nothing}
-use Rattle.clfs_physical.proofs.Logs.{log_no_group, log_behind, log_with, log_still, placed_bytes, is_empty, not_empty, group_done, group_moments}
+use Rattle.clfs_physical.specs.Stored.{Stores, IsPlaced, with_group}
+use Rattle.clfs_physical.proofs.Joining.{leaves_nothing}
+use Rattle.clfs_physical.proofs.Logs.{log_no_group, placed_bytes, is_empty, not_empty, group_done, group_moments}
 use Rattle.clfs_physical.proofs.physical.Physical.flush.Goals as goal
 
 pub returns-then-is_empty-clause-written : goal.returns-then-is_empty-clause-written
@@ -25,7 +22,7 @@ returns-clause-written g c = on_ok_weaker c.write_group.result
     (λ (none : (c.args.body.now ≡ []) × (more ≡ [])). absurd (not_empty c.args.body.now _ c.is_empty.ensures c.if-is_empty.false none.0))
     (λ (placed : IsPlaced c.args.self.now.image blocks c.args.at c.args.body.now more).
     group_done c.args.self.now.slot c.args.self.now.image blocks c.args.at c.args.body.now more _ c.last_file-file.result c.last_file-file.ensures.file
-        c.last_file-file.ensures.image stores placed c.open_blocks_are_one_list.ensures.written _ (written tells))
+    c.last_file-file.ensures.image stores placed c.open_blocks_are_one_list.ensures.written _ (written tells))
     waits)
     c.write_group.ensures.written
 
@@ -34,6 +31,6 @@ returns-clause-moments g c settled blocks more stores waits = ⊎_elim
     (λ (none : (c.args.body.now ≡ []) × (more ≡ [])). absurd (not_empty c.args.body.now _ c.is_empty.ensures c.if-is_empty.false none.0))
     (λ (placed : IsPlaced c.args.self.now.image blocks c.args.at c.args.body.now more).
     group_moments c.args.self.now.slot c.args.self.now.image blocks c.args.at c.args.body.now more _ c.last_file-file.result c.last_file-file.ensures.file
-        c.last_file-file.ensures.image stores placed c.open_blocks_are_one_list.ensures.written c.open_blocks_are_one_list.ensures.behind _ _
-        (c.write_group.ensures.moments settled))
+    c.last_file-file.ensures.image stores placed c.open_blocks_are_one_list.ensures.written c.open_blocks_are_one_list.ensures.behind _ _
+    (c.write_group.ensures.moments settled))
     waits

@@ -1,6 +1,6 @@
-use Rattle.std.proofs.Common.{◌≡◌, ◌⊎◌, inl, ℕ, List, [], sym, subst}
+use Rattle.std.proofs.Common.{inl, ℕ, [], subst}
 use Rattle.clfs_disk.specs.State.{Leaves}
-use Rattle.clfs_physical.specs.Stored.{Blocks, Stores, with_blocks, with_group}
+use Rattle.clfs_physical.specs.Stored.{Stores, with_blocks, with_group}
 use Rattle.clfs_physical.specs.Taking.{InTurn}
 use Rattle.clfs_physical.proofs.Joining.{leaves_nothing}
 use Rattle.clfs_physical.proofs.Counting.{one_free}

@@ -1,11 +1,12 @@
-use Rattle.std.proofs.Common.{◌≡◌, ◌⊎◌, ◌∙◌, ℕ, List, [], sym, subst, IsTrue}
+use Rattle.std.proofs.Common.{◌⊎◌, ◌∙◌, [], sym, subst, IsTrue}
 use Rattle.std.proofs.lemmas.Result.{on_ok_weaker}
 use Rattle.clfs_disk.specs.Files.{Files}
-use Rattle.clfs_disk.specs.State.{DiskState, Nature, IsSettled, Leaves}
-use Rattle.clfs_physical.specs.Stored.{Blocks, Newest, Stores, Waits, with_blocks, with_group}
+use Rattle.clfs_disk.specs.State.{Nature, Leaves}
+use Rattle.clfs_physical.specs.Stored.{Blocks, Newest, AreMade, Stores, with_blocks, with_group}
 use Rattle.clfs_physical.specs.Taking.{low_of, taken_of, InTurn}
 use Rattle.clfs_physical.proofs.Joining.{later_then, leaves_then}
-use Rattle.clfs_physical.proofs.Taken.{first_part, second_part, turn_leaves}
+use Rattle.clfs_physical.proofs.Logs.{made_still}
+use Rattle.clfs_physical.proofs.Taken.{low_counts, first_part, second_part, turn_leaves}
 use Rattle.clfs_physical.proofs.physical.Physical.turn_to.Goals as goal
 
 pub returns-in_err-drop_low-clause-moments : goal.returns-in_err-drop_low-clause-moments
@@ -49,8 +50,20 @@ returns-clause-moments g c settled blocks more stores waits =
     (c.flush.ensures.moments settled blocks more stores waits)
     (c.drop_low.ensures.moments settled-2 behind flushed)
     (subst (λ (n : Newest). Leaves (λ f. Stores n behind f ⊎ Stores (taken_of c.args.file n) (with_blocks c.args.file [] behind) f)
-        (g.D.Disk.state c.drop_low.new.disk) (g.D.Disk.state c.take_file.new.disk)) c.in_ok-drop_low.ensures.now
+    (g.D.Disk.state c.drop_low.new.disk) (g.D.Disk.state c.take_file.new.disk)) c.in_ok-drop_low.ensures.now
     (c.take_file.ensures.moments settled-3 behind (c.in_ok-drop_low.ensures.written tells-2 behind flushed)))
 
 pub returns-clause-time : goal.returns-clause-time
 returns-clause-time g c = later_then _ _ _ c.flush.ensures.time (later_then _ _ _ c.drop_low.ensures.time c.take_file.ensures.time)
+
+pub returns-clause-steady : goal.returns-clause-steady
+returns-clause-steady g c steady made room =
+    let now = c.args.self.now in
+    let steady-2 = subst (λ (n : Nature). IsTrue n.steady) (sym c.flush.ensures.time.nature) steady in
+    let steady-3 = subst (λ (n : Nature). IsTrue n.steady) (sym c.drop_low.ensures.time.nature) steady-2 in
+    let made-2 = made_still now.image _ _ c.flush.ensures.lengths made in
+    let made-3 = made_still now.image _ _ c.drop_low.ensures.lengths made-2 in
+    let third = c.take_file.ensures.steady steady-3
+    (subst (λ (n : Newest). AreMade n.image (g.D.Disk.state c.drop_low.new.disk).files) (sym c.in_ok-drop_low.ensures.now)
+    (low_counts c.args.first now _ made-3)) in
+    (third.0, third.1 ∙ (c.drop_low.ensures.steady steady-2 made-2).1 ∙ (c.flush.ensures.steady steady made room).1)

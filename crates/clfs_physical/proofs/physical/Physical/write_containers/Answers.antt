@@ -1,0 +1,23 @@
+use Rattle.std.proofs.Common.{refl}
+use Rattle.clfs_physical.specs.declared.change.Change.TheVariants as changes
+use Rattle.clfs_physical.specs.Changes.{with_containers, next_copy}
+use Rattle.clfs_physical.proofs.Listed.{containers_hold, copy_leaves, copy_written}
+use Rattle.clfs_physical.proofs.physical.Physical.write_containers.Goals as goal
+
+pub returns-in_err-self-inside-clause-moments : goal.returns-in_err-self-inside-clause-moments
+returns-in_err-self-inside-clause-moments g c settled blocks stores made =
+    copy_leaves (λ n. with_containers c.args.containers (next_copy c.args.first changes.Listing n)) (λ n. refl) c.self.inside.slot c.self.inside.image
+    c.apply_containers.new.image c.args.self.now c.self.view_is c.apply_containers.ensures.exact c.self.invariant.image_is _ _
+    (λ others holds. containers_hold c.args.first c.args.containers c.args.self.now.image others _ holds made) (c.store_copy.ensures.moments settled) blocks stores
+
+pub returns-clause-written : goal.returns-clause-written
+returns-clause-written g c tells blocks stores made =
+    copy_written (λ n. with_containers c.args.containers (next_copy c.args.first changes.Listing n)) (λ n. refl) c.self.inside.slot c.self.inside.image
+    c.apply_containers.new.image c.args.self.now c.self.view_is c.apply_containers.ensures.exact c.self.invariant.image_is _ _ _ c.in_ok-self-inside.ensures.slot
+    (λ others holds. containers_hold c.args.first c.args.containers c.args.self.now.image others _ holds made) (c.in_ok-self-inside.ensures.written tells) blocks stores
+
+pub returns-clause-moments : goal.returns-clause-moments
+returns-clause-moments g c settled blocks stores made =
+    copy_leaves (λ n. with_containers c.args.containers (next_copy c.args.first changes.Listing n)) (λ n. refl) c.self.inside.slot c.self.inside.image
+    c.apply_containers.new.image c.args.self.now c.self.view_is c.apply_containers.ensures.exact c.self.invariant.image_is _ _
+    (λ others holds. containers_hold c.args.first c.args.containers c.args.self.now.image others _ holds made) (c.store_copy.ensures.moments settled) blocks stores
