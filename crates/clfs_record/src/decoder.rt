@@ -271,3 +271,10 @@ pub fn no_spelling_begins_another()
     ensures { (lsn streams others : ℕ) (a b : LogEntry) (x y : List ℕ) → lsn < 2 ^ 64 → streams < 2 ^ 16 → others < 2 ^ 16
         → FitsAt lsn streams a → FitsAt lsn others b → record_bytes a ++ x ≡ record_bytes b ++ y → (a ≡ b) × (x ≡ y) }
 {}
+
+/// What is spelled is read as the record, whatever follows it. A spelling has as many bytes as its record's size.
+pub fn records_are_read_as_written()
+    ensures read { (lsn streams : ℕ) (entry : LogEntry) (rest : List ℕ) → lsn < 2 ^ 64 → streams < 2 ^ 16 → FitsAt lsn streams entry
+        → record_at lsn streams (record_bytes entry ++ rest) ≡ Ok (entry, size (length entry.bytes)) }
+    ensures length { (entry : LogEntry) → length (record_bytes entry) ≡ size (length entry.bytes) }
+{}

@@ -9,7 +9,9 @@ mod decoder;
 mod encoder;
 mod refusal;
 
-pub use decoder::{decode, decode_head, no_spelling_begins_another, stream_of};
+pub use decoder::{
+    decode, decode_head, no_spelling_begins_another, records_are_read_as_written, stream_of,
+};
 pub use encoder::encode;
 pub use refusal::{HeadRefusal, RecordRefusal};
 

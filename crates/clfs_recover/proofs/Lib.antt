@@ -7,3 +7,4 @@ pub mod Disks
 pub mod Listing
 pub mod Finding
 pub mod Meanings
+pub mod Writings

@@ -1,11 +1,18 @@
 -- The log that files have by a base copy and lists of open blocks alone: what whoever writes blocks and copies keeps. All else in the files is free.
-use Rattle.std.specs.Prelude.{◌≡◌, ℕ, ◌+◌, ◌-◌, List, [], ◌∷◌, ◌++◌, length, Result, Ok}
+use Rattle.std.specs.Prelude.{◌≡◌, ℕ, ◌+◌, ◌-◌, ◌≤◌, List, [], ◌∷◌, ◌++◌, length, Result, Ok}
+use Rattle.std.specs.List.{flat_map}
+use Rattle.clfs_lsn.specs.Format.{open_gate}
+use Rattle.clfs_lsn.specs.Limits.{most_block_records}
 use Rattle.clfs_lsn.specs.Lsn.{lsn_number}
+use Rattle.clfs_lsn.specs.Size.{sectors}
+use Rattle.clfs_lsn.specs.Spelling.{FitsAt, record_bytes}
 use Rattle.clfs_lsn.specs.declared.entry.LogEntry.{LogEntry}
 use Rattle.clfs_lsn.specs.declared.place.Place.{Place}
 use Rattle.clfs_lsn.specs.declared.shape.Shape.{Shape}
 use Rattle.clfs_disk.specs.Files.{Files}
 use Rattle.clfs_container.specs.OpenBlocks.{AreWhole, total}
+use Rattle.clfs_block.specs.Frame.{used_bytes, SpellsBlock}
+use Rattle.clfs_block.specs.Checks.{IsCount}
 use Rattle.clfs_base.specs.declared.image.BaseImage.{BaseImage}
 use Rattle.clfs_base.specs.Slots.{newest_of}
 use Rattle.clfs_recover.specs.Records.{◌>>=◌, told_as, block_records}
@@ -57,3 +64,16 @@ stored_place image blocks =
 abbrev pub stored_parts : ℕ → BaseImage → List (List (List ℕ)) → List LogEntry → Parts
 stored_parts slot image blocks entries =
     record { slot = slot; image = image; entries = entries; bases = bases_with image.streams entries; place = stored_place image blocks }
+
+-- records that a log of so many streams can have at LSNs in a row, from one on
+abbrev pub FitFrom : ℕ → ℕ → List LogEntry → Type 0
+FitFrom lsn streams [] = Unit {0}
+FitFrom lsn streams (entry ∷ entries) = FitsAt lsn streams entry × FitFrom (lsn + 1) streams entries
+
+-- a block at this LSN that has these records, no more than a block may have, and no more sectors than its place allows
+pub record HasRecords (shape : Shape) (streams start : ℕ) (entries : List LogEntry) (block : List ℕ) : Type 0 where
+  pub some : 1 ≤ length entries
+  pub few : length entries ≤ most_block_records
+  pub fit : FitFrom start streams entries
+  pub count : IsCount shape start (sectors (used_bytes (flat_map record_bytes entries)))
+  pub spelled : SpellsBlock start open_gate (length entries) (flat_map record_bytes entries) block

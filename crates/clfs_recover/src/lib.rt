@@ -25,7 +25,7 @@ mod refusal;
 mod rows;
 
 pub use gatherer::Gatherer;
-pub use laws::{copies_and_blocks_decide, files_have_one_meaning};
+pub use laws::{copies_and_blocks_decide, files_have_one_meaning, written_blocks_are_read};
 pub use opening::{Walked, load, load_heads, walk};
 pub use parts::{Bases, Entries, HeadParts, Heads, Parts};
 pub use refusal::LoadRefusal;

@@ -1,0 +1,9 @@
+use Rattle.std.proofs.Common.{refl}
+use Rattle.clfs_record.proofs.Laws.{only, length-record_bytes}
+use Rattle.clfs_record.proofs.decoder.records_are_read_as_written.Goals as goal
+
+pub returns : goal.returns
+returns c = record {
+  read = λ lsn streams entry rest lsn_small streams_small fits. only lsn streams entry rest _ fits lsn_small streams_small refl;
+  length = length-record_bytes;
+}
