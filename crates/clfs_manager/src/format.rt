@@ -1,6 +1,6 @@
 // Making a log: all its files at full length, no gate open in them that counts, and then the first base copy, whose gate is opened last.
-// So until that gate is opened no slot is: whoever opens the files finds no log, or the whole one. Before the closed gates
-// are synced nothing is said of a crash, since a growth that is cut short may leave any bytes; then the files are to be thrown away.
+// From the moment at which the closed gates are on the disk, whoever opens the files after a crash finds no log or the whole one. Before
+// it nothing is said of a crash, since a growth that is cut short may leave any bytes: then the files are to be thrown away.
 ghost use Rattle.std.specs.Prelude.{◌≡◌, ◌==◌, ℕ, [], ◌∷◌, ◌+◌, ◌-◌, ◌*◌, ◌≤◌, false, Ok, Err, length, OnOk, OnErr, IsOk, IsErrOf};
 ghost use Rattle.clfs_lsn.specs.Limits.{most_containers};
 ghost use Rattle.clfs_lsn.specs.Size.{IsShape};
