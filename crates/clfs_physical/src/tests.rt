@@ -115,6 +115,27 @@ fn left_in(alloc: Global, disk: &mut Memory) -> Result<Left, Fail> {
     ))
 }
 
+// Whether a crash after so many calls leaves what the call of this number wrote.
+fn is_left(gate: u64, passes: u64, pick: u8) -> bool {
+    passes > gate || (passes == gate && pick > 0)
+}
+
+// How many parts a crash leaves, where these calls open their gates.
+fn parts_left(gates: [u64; 3], passes: u64, pick: u8) -> usize
+    ensures { result ≤ 3 }
+{
+    if !is_left(gates[0], passes, pick) {
+        return 0;
+    }
+    if !is_left(gates[1], passes, pick) {
+        return 1;
+    }
+    if !is_left(gates[2], passes, pick) {
+        return 2;
+    }
+    3
+}
+
 #[test]
 fn a_crash_leaves_each_part_whole_or_not_at_all(rt: HostRuntime) -> Result<(), Fail> {
     let alloc = rt.alloc();
@@ -157,12 +178,7 @@ fn a_crash_leaves_each_part_whole_or_not_at_all(rt: HostRuntime) -> Result<(), F
                 let mut fuse = Fuse::new(disk, passes);
                 let done = is_written(alloc, writing, &mut physical, &mut fuse);
                 assert_eq!(rt; done, passes >= calls, "{writing:?} after {passes} calls");
-                let mut parts = 0;
-                for gate in gates {
-                    if passes > gate || (passes == gate && pick > 0) {
-                        parts += 1;
-                    }
-                }
+                let parts = parts_left(gates, passes, pick);
                 let mut left = fuse.into_inner().crash(pick);
                 assert!(rt;
                     left_in(alloc, &mut left)? == wanted[parts],
