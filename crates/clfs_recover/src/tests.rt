@@ -123,6 +123,7 @@ fn damage_is_told_at_its_place(rt: HostRuntime) -> Result<(), Fail> {
         (0, 16384, 0xA5, damaged(0, 16384, 2)),
     ];
     for (file, at, byte, want) in table {
+        assert!(rt; file <= 1);
         assert!(rt;
             answer(alloc, file, at, byte)? == want,
             "byte {at} of file {file}"
