@@ -90,7 +90,7 @@ module _ (judged : AreJudgedAlone) (written : AreReadAsWritten) (shape : Shape) 
         (λ long. ap (block_records shape streams start) is.is ∙ block_same all (length front) (front_enough long)) is.long
 
 -- the sectors that a block says to have
-sectors_said : (bytes : List ℕ) → (head_of bytes).sectors ≡ block_sectors bytes
+pub sectors_said : (bytes : List ℕ) → (head_of bytes).sectors ≡ block_sectors bytes
 sectors_said bytes =
     let a = get_or-drop 2 bytes 0 0 ∙ ap (λ (k : ℕ). get_or bytes k 0) (plus 2 0 2 refl) in
     let b = get_or-drop 2 bytes 1 0 ∙ ap (λ (k : ℕ). get_or bytes k 0) (plus 2 1 3 refl) in
@@ -112,7 +112,7 @@ past_gate : (b : Bool) (r : Result BlockHead BlockRefusal) → b ≡ false → c
 past_gate true r p e = absurd (cc p)
 past_gate false r p e = e
 
-closed_gate : (shape : Shape) (start : ℕ) (bytes : List ℕ) → get_or bytes 0 0 ≡ 165 → frame_at shape start bytes ≡ Err blocks.Closed → ⊥
+pub closed_gate : (shape : Shape) (start : ℕ) (bytes : List ℕ) → get_or bytes 0 0 ≡ 165 → frame_at shape start bytes ≡ Err blocks.Closed → ⊥
 unfolding frame_at sectors_at
 closed_gate shape start bytes gate e =
     let sum = (head_of bytes).sectors in
@@ -129,8 +129,18 @@ closed_gate shape start bytes gate e =
     let h = past_check (address_place (wrong_sector start bytes sum)) (answered (head_of bytes)) f in
     cc h
 
+-- and where there is no byte the gate is no closed one
+unread_byte : (bytes : List ℕ) (more : Result BlockHead BlockRefusal)
+    → cond (eqb (length bytes) 0) (refused (blocks.BadByte 0)) more ≡ Err blocks.Closed → 0 < length bytes
+unread_byte [] more e = absurd (cc e)
+unread_byte (byte ∷ bytes) more e = omega arith
+
+pub unread_gate : (shape : Shape) (start : ℕ) (bytes : List ℕ) → frame_at shape start bytes ≡ Err blocks.Closed → 0 < length bytes
+unfolding frame_at
+unread_gate shape start bytes e = unread_byte bytes _ e
+
 -- the sectors that are left from an offset on
-left_here : (shape : Shape) (id offset : ℕ) → offset % 512 ≡ 0 → offset < 2 ^ 32 → left_from shape (lsn_number id offset 0) ≡ shape.container_sectors - offset / 512
+pub left_here : (shape : Shape) (id offset : ℕ) → offset % 512 ≡ 0 → offset < 2 ^ 32 → left_from shape (lsn_number id offset 0) ≡ shape.container_sectors - offset / 512
 left_here shape id offset whole small =
     let e : (id * 2 ^ 32 + offset + 0) % 2 ^ 32 / 512 * 512 / 512 ≡ offset / 512 = omega (arith, whole, small) in
     ap (λ (n : ℕ). shape.container_sectors - n) e
@@ -151,7 +161,7 @@ gate_behind (Ok entries) (Ok head) e = absurd (cc e)
 gate_behind (Ok entries) (Err refusal) e = cc e
 
 -- a block that is refused for a closed gate has one
-frame_closed : (shape : Shape) (streams start : ℕ) (bytes : List ℕ) → block_records shape streams start bytes ≡ Err blocks.Closed
+pub frame_closed : (shape : Shape) (streams start : ℕ) (bytes : List ℕ) → block_records shape streams start bytes ≡ Err blocks.Closed
     → frame_at shape start bytes ≡ Err blocks.Closed
 frame_closed shape streams start bytes is = by_answer (frame_at shape start bytes) refl
   where

@@ -8,3 +8,5 @@ pub mod Listing
 pub mod Finding
 pub mod Meanings
 pub mod Writings
+pub mod Taken
+pub mod Opened

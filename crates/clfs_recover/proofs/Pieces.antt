@@ -1,5 +1,5 @@
 -- What a piece that was read ahead has of its file.
-use Rattle.std.proofs.Common.{◌≡◌, inl, inr, ⊎_elim, ℕ, ◌+◌, ◌-◌, ◌<◌, ◌≤◌, List, length, take, drop, Result, Ok, Err, sym, ◌∙◌, ap, arith, length-drop}
+use Rattle.std.proofs.Common.{◌≡◌, inl, inr, ⊎_elim, ℕ, ◌+◌, ◌-◌, ◌<◌, ◌≤◌, List, length, take, drop, Result, Ok, Err, sym, ◌∙◌, ap, subst, arith, length-drop}
 use Rattle.std.proofs.lemmas.List.{drop-take, drop-drop, drop_all, take_all, length-take}
 use Rattle.std.specs.Prelude.{OnOk}
 use Rattle.std.proofs.lemmas.Bool.{cases_lt}
@@ -35,6 +35,10 @@ shown_front file piece at least shows reach =
 
         whole : k ≤ n → k + (n - k) ≡ n
         whole le = omega (arith, le)
+
+-- A piece shows a file still, where the bytes of that are named otherwise.
+pub shows_still : (file same : List ℕ) (old new : Piece) → file ≡ same → (Shows file old → Shows file new) → Shows same old → Shows same new
+shows_still file same old new e still shows = subst (λ (l : List ℕ). Shows l new) e (still (subst (λ (l : List ℕ). Shows l old) (sym e) shows))
 
 -- and so they are where a piece was just read
 pub read_reaches : {T E : Type 0} (r : Result T E) (at least : ℕ) (piece : Piece) → OnOk r (piece.from ≡ at) → length piece.bytes ≤ piece.room

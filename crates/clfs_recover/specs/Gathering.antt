@@ -1,15 +1,19 @@
 -- What a gatherer has taken in, as the parts of the walk leave it.
-use Rattle.std.specs.Prelude.{◌≡◌, ℕ, ◌*◌, ◌%◌, ◌≤◌, List, [], ◌∷◌, ◌++◌, length, Option, Some, None, Result, Ok, Err}
+use Rattle.std.specs.Prelude.{◌≡◌, ℕ, ◌*◌, ◌%◌, ◌≤◌, All, List, [], ◌∷◌, ◌++◌, length, Option, Some, None, Result, Ok, Err}
 use Rattle.clfs_lsn.specs.Format.{sector_bytes}
 use Rattle.clfs_lsn.specs.declared.shape.Shape.{Shape}
 use Rattle.clfs_lsn.specs.declared.entry.LogEntry.{LogEntry}
 use Rattle.clfs_base.specs.declared.image.Row.{Row}
+use Rattle.clfs_disk.specs.Files.{Files}
+use Rattle.clfs_container.specs.OpenBlocks.{AreWhole, total}
 use Rattle.clfs_block.specs.declared.head.BlockHead.{BlockHead}
 use Rattle.clfs_block.specs.declared.head.BlockRefusal.{BlockRefusal}
 use Rattle.clfs_block.specs.declared.head.BlockRefusal.TheVariants as blocks
 use Rattle.clfs_record.specs.declared.refusal.RecordRefusal.{RecordRefusal}
 use Rattle.clfs_record.specs.declared.refusal.RecordRefusal.TheVariants as records
 use Rattle.clfs_recover.specs.Walk.{bases_with}
+use Rattle.clfs_recover.specs.Stored.{HaveBlocks, stored_in, stored_records, stored_end}
+use Rattle.clfs_recover.specs.Logs.{LieIn}
 use Rattle.clfs_recover.specs.declared.refusal.LoadRefusal.{LoadRefusal}
 use Rattle.clfs_recover.specs.declared.refusal.LoadRefusal.TheVariants.{NoBase, Damaged, DiskFault, NoMemory}
 
@@ -72,3 +76,27 @@ GathersContainer has rows bases before (Err refusal) read size = RefusesAs refus
 -- a place at which the blocks of a container can end
 abbrev pub IsEnd : Shape → ℕ → Type 0
 IsEnd shape end = (end % sector_bytes ≡ 0) × (end ≤ sector_bytes * shape.container_sectors)
+
+-- The blocks of a container that were taken in, whatever the disk told: its records are those of the blocks, which end at a byte. Where the
+-- contents of its file are told, they are its open blocks.
+pub record TakesContainer (shape : Shape) (streams id : ℕ) (told : Type 0) (bytes : List ℕ) (has : List LogEntry → Type 0) (rows : List Row)
+    (bases : List ℕ) (before : List LogEntry) (end : ℕ) : Type 0 where
+  pub blocks : List (List ℕ)
+  pub entries : List LogEntry
+  pub lie : LieIn shape.container_sectors blocks
+  pub records : stored_in shape streams id 0 blocks ≡ Ok entries
+  pub ends : total blocks ≡ end
+  pub stand : told → AreWhole shape.container_sectors bytes blocks
+  pub taken : HasTaken has rows bases (before ++ entries)
+
+-- The same for the containers in the files with these numbers, whose ids go on from the first.
+pub record TakesListed (shape : Shape) (streams first : ℕ) (told : Type 0) (files : Files) (numbers : List ℕ) (has : List LogEntry → Type 0)
+    (rows : List Row) (bases : List ℕ) (before : List LogEntry) (end : ℕ) : Type 0 where
+  pub blocks : List (List (List ℕ))
+  pub entries : List LogEntry
+  pub listed : length blocks ≡ length numbers
+  pub lie : All (LieIn shape.container_sectors) blocks
+  pub records : stored_records shape streams first blocks ≡ Ok entries
+  pub ends : stored_end blocks ≡ end
+  pub stand : told → HaveBlocks shape.container_sectors files numbers blocks
+  pub taken : HasTaken has rows bases (before ++ entries)

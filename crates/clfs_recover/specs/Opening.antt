@@ -1,9 +1,12 @@
 -- What opening answers, against what files stand for.
-use Rattle.std.specs.Prelude.{◌≡◌, List, map, Result, Ok, Err}
+use Rattle.std.specs.Prelude.{◌≡◌, ℕ, List, map, Result, Ok, Err}
 use Rattle.clfs_lsn.specs.Head.{head_of}
 use Rattle.clfs_lsn.specs.declared.entry.LogEntry.{LogEntry}
 use Rattle.clfs_disk.specs.Files.{Files}
+use Rattle.clfs_base.specs.declared.image.BaseImage.{BaseImage}
 use Rattle.clfs_recover.specs.Files.{Finds, IsDamaged, HasNoBase}
+use Rattle.clfs_recover.specs.Stored.{HaveBlocks}
+use Rattle.clfs_recover.specs.Logs.{IsLogOf}
 use Rattle.clfs_recover.specs.Gathering.{RefusesAs}
 use Rattle.clfs_recover.specs.declared.opening.Walked.{Walked}
 use Rattle.clfs_recover.specs.declared.parts.Parts.{Parts}
@@ -32,6 +35,15 @@ IsRefused files NoMemory = Unit {0}
 abbrev pub IsWalkOf : (List LogEntry → Type 0) → Result Walked LoadRefusal → Result Parts LoadRefusal → Type 0
 IsWalkOf has (Ok walked) read = (entries : List LogEntry) × has entries × (read ≡ Ok (parts_of walked entries))
 IsWalkOf has (Err refusal) read = RefusesAs refusal read
+
+-- The walk behind a base copy left a log whose records the gatherer has. Where the contents of the files are told, its blocks are their open ones.
+pub record IsWalkedLog (has : List LogEntry → Type 0) (told : Type 0) (files : Files) (slot : ℕ) (image : BaseImage) (walked : Walked) : Type 0 where
+  pub entries : List LogEntry
+  pub taken : has entries
+  pub slot_is : walked.slot ≡ slot
+  pub image_is : walked.image ≡ image
+  pub log : IsLogOf (parts_of walked entries)
+  pub stand : told → HaveBlocks image.container_sectors files image.files log.blocks
 
 -- The walk is the one that opening finds, and the gatherer has taken its records.
 abbrev pub IsWalked : (List LogEntry → Type 0) → Files → Result Walked LoadRefusal → Type 0

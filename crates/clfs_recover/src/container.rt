@@ -9,7 +9,7 @@ ghost use Rattle.clfs_container.specs.OpenBlocks.{AreOpen, total};
 ghost use Rattle.clfs_base.specs.declared.image.Row.{Row};
 ghost use Rattle.clfs_recover.specs.Walk.{container_records};
 ghost use Rattle.clfs_recover.specs.Fronts.{Shows, Reaches};
-ghost use Rattle.clfs_recover.specs.Gathering.{HasTaken, GathersContainer, IsEnd};
+ghost use Rattle.clfs_recover.specs.Gathering.{HasTaken, GathersContainer, TakesContainer, IsEnd};
 
 use crate::block::gather_block;
 use crate::gatherer::Gatherer;
@@ -74,6 +74,9 @@ pub(crate) fn gather_container<D: Disk, G: Gatherer>(
         → GathersContainer (G.has gatherer.new) rows bases.new.items before result
         (container_records shape.now (vec_len bases.old) listed.now.id
         (record { bytes = (D.state disk.old).files listed.now.file; blocks = blocks })) (total blocks) }
+    ensures taken { (rows : List Row) (before : List LogEntry) → HasTaken (G.has gatherer.old) rows bases.old.items before
+        → IfOk result (λ end. TakesContainer shape.now (vec_len bases.old) listed.now.id (TellsContents (D.state disk.old))
+        ((D.state disk.old).files listed.now.file) (G.has gatherer.new) rows bases.new.items before end) }
     ensures end { IfOk result (λ end. IsEnd shape.now end) }
     ensures room { piece.new.room ≡ piece.old.room }
     ensures streams { vec_len bases.new ≡ vec_len bases.old }

@@ -9,7 +9,7 @@ ghost use Rattle.clfs_disk.specs.State.{TellsContents, IsSteady, Passes, Rises};
 ghost use Rattle.clfs_base.specs.declared.image.Row.{Row};
 ghost use Rattle.clfs_recover.specs.Walk.{Container, listed_records, last_end};
 ghost use Rattle.clfs_recover.specs.Files.{AreListed};
-ghost use Rattle.clfs_recover.specs.Gathering.{HasTaken, GathersContainer, IsEnd};
+ghost use Rattle.clfs_recover.specs.Gathering.{HasTaken, GathersContainer, TakesListed, IsEnd};
 
 use crate::container::{Listed, gather_container};
 use crate::gatherer::Gatherer;
@@ -41,6 +41,9 @@ pub(crate) fn gather_listed<D: Disk, G: Gatherer>(
         → AreListed shape.now.container_sectors (D.state disk.old).files files.now listed
         → GathersContainer (G.has gatherer.new) rows bases.new.items before result
         (listed_records shape.now (vec_len bases.old) first listed) (last_end listed) }
+    ensures taken { (rows : List Row) (before : List LogEntry) → HasTaken (G.has gatherer.old) rows bases.old.items before
+        → IfOk result (λ end. TakesListed shape.now (vec_len bases.old) first (TellsContents (D.state disk.old)) (D.state disk.old).files files.now
+        (G.has gatherer.new) rows bases.new.items before end) }
     ensures end { IfOk result (λ end. IsEnd shape.now end) }
     ensures streams { vec_len bases.new ≡ vec_len bases.old }
     ensures same { Unchanged (D.state disk.old).files (D.state disk.new).files }

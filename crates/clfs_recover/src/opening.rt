@@ -12,7 +12,9 @@ ghost use Rattle.clfs_base.specs.Spelling.{IsImage};
 ghost use Rattle.clfs_recover.specs.Walk.{Container, walked, shape_of, image_fault, is_wrong_tail};
 ghost use Rattle.clfs_recover.specs.Files.{AreListed};
 ghost use Rattle.clfs_recover.specs.Gathering.{IsEnd};
-ghost use Rattle.clfs_recover.specs.Opening.{IsWalkOf, IsWalked, IsLoaded, AreHeadsLoaded};
+ghost use Rattle.clfs_recover.specs.Opening.{parts_of, with_heads, IsWalkOf, IsWalked, IsWalkedLog, IsLoaded, AreHeadsLoaded};
+ghost use Rattle.clfs_recover.specs.Logs.{IsOpenedFrom};
+ghost use Rattle.clfs_recover.specs.declared.parts.Parts.{Parts};
 
 use crate::gatherer::Gatherer;
 use crate::listed::gather_listed;
@@ -20,6 +22,7 @@ use crate::parts::{Bases, Entries, HeadParts, Heads, Parts};
 use crate::piece::Ahead;
 use crate::refusal::{LoadRefusal, damaged_slot};
 use clfs_base::{BaseImage, Row, read_newest};
+use clfs_container::open_blocks_are_one_list;
 use clfs_disk::{Disk, calls_join};
 use clfs_lsn::{Lsn, Place, SECTOR, Shape, frontier};
 use std::alloc::{AllocError, Global};
@@ -116,10 +119,13 @@ fn walk_image<D: Disk, G: Gatherer>(
     image: BaseImage,
     gatherer: &mut G,
 ) -> Result<Walked, LoadRefusal>
-    requires { IsImage version_one image }
+    requires slot { slot ≤ 1 }
+    requires image { IsImage version_one image }
     ensures exact { TellsContents (D.state disk.old) → G.has gatherer.old [] → (listed : List Container)
         → AreListed image.container_sectors (D.state disk.old).files image.files listed
         → IsWalkOf (G.has gatherer.new) result (walked slot image listed) }
+    ensures log { G.has gatherer.old [] → IfOk result (λ walked.
+        IsWalkedLog (G.has gatherer.new) (TellsContents (D.state disk.old)) (D.state disk.old).files slot image walked) }
     ensures same { Unchanged (D.state disk.old).files (D.state disk.new).files }
     ensures time { Passes Unchanged (D.state disk.old) (D.state disk.new) }
     ensures cause { IsErrOf result LoadRefusal.DiskFault → Rises (D.state disk.old).faults (D.state disk.new).faults }
@@ -163,6 +169,8 @@ pub fn walk<D: Disk, G: Gatherer>(
     gatherer: &mut G,
 ) -> Result<Walked, LoadRefusal>
     ensures exact { TellsContents (D.state disk.old) → G.has gatherer.old [] → IsWalked (G.has gatherer.new) (D.state disk.old).files result }
+    ensures log { G.has gatherer.old [] → IfOk result (λ walked. (entries : List LogEntry) × G.has gatherer.new entries
+        × IsOpenedFrom (D.state disk.old) (parts_of walked entries)) }
     ensures settled { OnOk result (IsHonest (D.state disk.old) → IsSettled (D.state disk.new)) }
     ensures same { Unchanged (D.state disk.old).files (D.state disk.new).files }
     ensures time { Passes Unchanged (D.state disk.old) (D.state disk.new) }
@@ -171,6 +179,7 @@ pub fn walk<D: Disk, G: Gatherer>(
         × ((D.state disk.new).faults ≡ (D.state disk.old).faults) }
 {
     calls_join::<D>();
+    open_blocks_are_one_list();
     disk.sync()?;
     let (slot, image) = read_newest(alloc, disk)?;
     walk_image(alloc, disk, slot, image, gatherer)
@@ -179,6 +188,7 @@ pub fn walk<D: Disk, G: Gatherer>(
 /// Opens a log with its records.
 pub fn load<D: Disk>(alloc: Global, disk: &mut D) -> Result<Parts, LoadRefusal>
     ensures exact { TellsContents (D.state disk.old) → IsLoaded (D.state disk.old).files result }
+    ensures log { IfOk result (λ parts. IsOpenedFrom (D.state disk.old) parts) }
     ensures settled { OnOk result (IsHonest (D.state disk.old) → IsSettled (D.state disk.new)) }
     ensures same { Unchanged (D.state disk.old).files (D.state disk.new).files }
     ensures time { Passes Unchanged (D.state disk.old) (D.state disk.new) }
@@ -200,6 +210,7 @@ pub fn load<D: Disk>(alloc: Global, disk: &mut D) -> Result<Parts, LoadRefusal>
 /// Opens a log with the heads of its records, as `load` does with the records.
 pub fn load_heads<D: Disk>(alloc: Global, disk: &mut D) -> Result<HeadParts, LoadRefusal>
     ensures exact { TellsContents (D.state disk.old) → AreHeadsLoaded (D.state disk.old).files result }
+    ensures log { IfOk result (λ heads. (parts : Parts) × (heads ≡ with_heads parts) × IsOpenedFrom (D.state disk.old) parts) }
     ensures settled { OnOk result (IsHonest (D.state disk.old) → IsSettled (D.state disk.new)) }
     ensures same { Unchanged (D.state disk.old).files (D.state disk.new).files }
     ensures time { Passes Unchanged (D.state disk.old) (D.state disk.new) }

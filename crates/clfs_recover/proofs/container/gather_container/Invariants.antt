@@ -7,6 +7,7 @@ use Rattle.clfs_container.specs.OpenBlocks.{AreOpen}
 use Rattle.clfs_recover.specs.Fronts.{Shows}
 use Rattle.clfs_recover.specs.Gathering.{HasTaken}
 use Rattle.clfs_recover.proofs.Containers.{IsReached}
+use Rattle.clfs_recover.proofs.Taken.{IsBehind}
 use Rattle.clfs_recover.proofs.container.gather_container.Given as goal
 
 abbrev pub invariant-loop-offset : goal.invariant-loop-offset
@@ -27,6 +28,9 @@ invariant-loop-offset g l =
           → AreOpen l.shape.container_sectors (first.files l.listed.file) blocks
           → IsReached l.shape (vec_len l.fn.bases) l.listed.id (first.files l.listed.file) blocks (g.G.Gatherer.has l.gatherer) rows l.bases.items before
           l.offset;
+      behind : (rows : List Row) (before : List LogEntry) → HasTaken (g.G.Gatherer.has l.fn.gatherer) rows l.fn.bases.items before
+          → IsBehind l.shape (vec_len l.fn.bases) l.listed.id (TellsContents first) (first.files l.listed.file) (g.G.Gatherer.has l.gatherer) rows
+          l.bases.items before l.offset;
     }
 
 abbrev pub decreases-loop-offset : goal.decreases-loop-offset

@@ -1,7 +1,9 @@
 use Rattle.std.proofs.Common.{◌+◌, ◌++◌, get_or, Ok, Err, vec_len, refl, ◌∙◌, arith}
 use Rattle.std.proofs.lemmas.Result.{err_from_is_err_and}
 use Rattle.clfs_disk.specs.Files.{Unchanged}
+use Rattle.clfs_disk.specs.State.{TellsContents}
 use Rattle.clfs_recover.proofs.Listing.{begins, done, went_on, was_refused, named_otherwise}
+use Rattle.clfs_recover.proofs.Taken.{starts_listed, all_listed, goes_on_listed, taken_otherwise}
 use Rattle.clfs_recover.proofs.Disks.{tells_still, steady_still, no_time}
 use Rattle.clfs_recover.proofs.listed.gather_listed.Goals as goal
 
@@ -17,6 +19,9 @@ loop-i-init g c =
       taken = λ tells rows before listed has are.
           begins c.args.shape.now (vec_len c.args.bases.now) c.args.first first.files c.args.files.now listed (g.G.Gatherer.has c.args.gatherer.now) rows
           c.args.bases.now.items before are has;
+      behind = λ rows before has.
+          starts_listed c.args.shape.now (vec_len c.args.bases.now) c.args.first (TellsContents first) first.files c.args.files.now
+          (g.G.Gatherer.has c.args.gatherer.now) rows c.args.bases.now.items before has;
     }
 
 pub returns-clause-exact : goal.returns-clause-exact
@@ -24,6 +29,13 @@ returns-clause-exact g c tells rows before listed has are =
     let first = g.D.Disk.state c.args.disk.now in
     done c.args.shape.now (vec_len c.args.bases.now) c.args.first first.files c.args.files.now listed (g.G.Gatherer.has c.loop-i.gatherer) rows
     c.loop-i.bases.items before c.loop-i.i c.loop-i.end (omega (arith, c.loop-i-test.false)) (c.loop-i.invariant.taken tells rows before listed has are)
+
+pub returns-clause-taken : goal.returns-clause-taken
+returns-clause-taken g c rows before has =
+    let first = g.D.Disk.state c.args.disk.now in
+    all_listed c.args.shape.now (vec_len c.args.bases.now) c.args.first (TellsContents first) first.files c.args.files.now
+    (g.G.Gatherer.has c.loop-i.gatherer) rows c.loop-i.bases.items before c.loop-i.i c.loop-i.end (c.loop-i.invariant.behind rows before has)
+    (omega (arith, c.loop-i-test.false))
 
 pub returns-in_err-end-clause-exact : goal.returns-in_err-end-clause-exact
 returns-in_err-end-clause-exact g c tells rows before listed has are =
@@ -63,4 +75,17 @@ loop-i-preserved g c = record {
       (Ok c.in_ok-end.end) c.args.shape.now (c.args.first + c.loop-i.i) (vec_len c.loop-i.bases) (vec_len c.args.bases.now)
       (now.files number) (first.files number) c.loop-i.invariant.same_streams (c.loop-i.invariant.same number)
       (λ blocks are_open. c.in_ok-end.ensures.exact told rows (before ++ at.entries) blocks at.taken are_open));
+  behind = λ rows before has.
+      let first = g.D.Disk.state c.args.disk.now in
+      let now = g.D.Disk.state c.loop-i.disk in
+      let at = c.loop-i.invariant.behind rows before has in
+      let number = get_or c.args.files.now c.loop-i.i 0 in
+      goes_on_listed c.args.shape.now (vec_len c.args.bases.now) c.args.first (TellsContents first) first.files c.args.files.now
+      (g.G.Gatherer.has c.loop-i.gatherer) rows c.loop-i.bases.items before c.loop-i.i c.loop-i.end at c.loop-i-test.true
+      (g.G.Gatherer.has c.gather_container.new.gatherer) c.gather_container.new.bases.items c.in_ok-end.end
+      (taken_otherwise c.args.shape.now (c.args.first + c.loop-i.i) (vec_len c.loop-i.bases) (vec_len c.args.bases.now) (TellsContents now)
+      (TellsContents first) (now.files number) (first.files number) (g.G.Gatherer.has c.gather_container.new.gatherer) rows
+      c.gather_container.new.bases.items (before ++ at.entries) c.in_ok-end.end c.loop-i.invariant.same_streams
+      (λ tells. tells_still Unchanged first now c.loop-i.invariant.time tells) (c.loop-i.invariant.same number)
+      (c.in_ok-end.ensures.taken rows (before ++ at.entries) at.taken));
 }

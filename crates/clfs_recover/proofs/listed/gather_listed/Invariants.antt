@@ -7,6 +7,7 @@ use Rattle.clfs_recover.specs.Walk.{Container}
 use Rattle.clfs_recover.specs.Files.{AreListed}
 use Rattle.clfs_recover.specs.Gathering.{HasTaken, IsEnd}
 use Rattle.clfs_recover.proofs.Listing.{IsListed}
+use Rattle.clfs_recover.proofs.Taken.{HaveTaken}
 use Rattle.clfs_recover.proofs.listed.gather_listed.Given as goal
 
 abbrev pub invariant-loop-i : goal.invariant-loop-i
@@ -24,4 +25,7 @@ invariant-loop-i g l =
           → HasTaken (g.G.Gatherer.has l.fn.gatherer) rows l.fn.bases.items before
           → AreListed l.shape.container_sectors first.files l.files listed
           → IsListed l.shape (vec_len l.fn.bases) l.first first.files l.files listed (g.G.Gatherer.has l.gatherer) rows l.bases.items before l.i l.end;
+      behind : (rows : List Row) (before : List LogEntry) → HasTaken (g.G.Gatherer.has l.fn.gatherer) rows l.fn.bases.items before
+          → HaveTaken l.shape (vec_len l.fn.bases) l.first (TellsContents first) first.files l.files (g.G.Gatherer.has l.gatherer) rows l.bases.items
+          before l.i l.end;
     }

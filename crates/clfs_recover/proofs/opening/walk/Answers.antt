@@ -1,8 +1,10 @@
 use Rattle.std.proofs.Common.{sym, ◌∙◌, ap}
 use Rattle.clfs_disk.specs.Files.{Unchanged}
+use Rattle.clfs_disk.specs.State.{TellsContents}
 use Rattle.clfs_base.specs.Slots.{newest_of}
 use Rattle.clfs_recover.proofs.Disks.{tells_still, settled_still, always}
 use Rattle.clfs_recover.proofs.Finding.{by_copy, listed_same}
+use Rattle.clfs_recover.proofs.Opened.{walked_is_opened}
 use Rattle.clfs_recover.proofs.opening.walk.Goals as goal
 
 pub returns-clause-exact : goal.returns-clause-exact
@@ -23,3 +25,15 @@ returns-clause-settled g c = always c.walk_image.result (λ honest.
     settled_still g.D.Disk.state c.calls_join.ensures c.sync.new.self c.walk_image.new.disk (c.in_ok-sync.ensures.settled honest)
     (c.calls_join.ensures.reads c.sync.new.self c.read_newest.new.disk c.walk_image.new.disk c.in_ok-slot.ensures.time c.walk_image.ensures.time)
     (λ file. c.walk_image.ensures.same file ∙ c.in_ok-slot.ensures.same file))
+
+pub returns-clause-log : goal.returns-clause-log
+returns-clause-log g c has =
+    let first = g.D.Disk.state c.args.disk.now in
+    let synced = g.D.Disk.state c.sync.new.self in
+    let read = g.D.Disk.state c.read_newest.new.disk in
+    walked_is_opened c.open_blocks_are_one_list.ensures.whole (g.G.Gatherer.has c.walk_image.new.gatherer) first (TellsContents read) read.files
+    c.in_ok-slot.slot c.in_ok-slot.image c.walk_image.result
+    (λ tells. tells_still Unchanged synced read c.in_ok-slot.ensures.time (tells_still Unchanged first synced c.sync.ensures.time tells))
+    (λ file. c.in_ok-slot.ensures.same file ∙ c.sync.ensures.same file)
+    (λ tells. ap newest_of (sym (c.sync.ensures.same 0)) ∙ c.in_ok-slot.ensures.newest (tells_still Unchanged first synced c.sync.ensures.time tells))
+    (c.walk_image.ensures.log has)

@@ -1,12 +1,14 @@
 use Rattle.std.proofs.Common.{◌≡◌, ℕ, List, [], length, map, Some, None, Ok, vec_len, sym, ◌∙◌, ap, subst, arith}
 use Rattle.std.proofs.lemmas.Result.{err_from_is_err_and}
 use Rattle.clfs_lsn.specs.Place.{frontier}
+use Rattle.clfs_disk.specs.State.{TellsContents}
 use Rattle.clfs_base.specs.declared.image.Row.{Row}
 use Rattle.clfs_recover.specs.Walk.{shape_of, listed_records, image_fault}
 use Rattle.clfs_recover.specs.Files.{AreListed}
-use Rattle.clfs_recover.specs.Gathering.{RefusesAs}
+use Rattle.clfs_recover.specs.Gathering.{RefusesAs, TakesListed}
 use Rattle.clfs_recover.proofs.Raising.{first_bases, length-bases_with}
 use Rattle.clfs_recover.proofs.Finding.{walk_refused, image_wrong, image_right}
+use Rattle.clfs_recover.proofs.Opened.{fits_records}
 use Rattle.clfs_recover.proofs.opening.walk_image.Goals as goal
 
 abbrev bases_of : List Row → List ℕ
@@ -57,3 +59,21 @@ returns-clause-exact g c tells has listed are =
       image_right c.args.slot image listed one.1.0 c.from_vec.result c.place_behind-place.result c.in_ok-end.end read one.0 c.place_behind-place.ensures
           right (c.from_vec.ensures ∙ one.1.2.moved),
     )
+
+pub returns-clause-log : goal.returns-clause-log
+returns-clause-log g c has =
+    let image = c.args.image in
+    let rows = image.streams in
+    let moved = c.in_ok-bases.ensures ∙ ap (λ (l : List Row). bases_of l) c.as_slice.ensures ∙ first_bases rows in
+    let streams : vec_len c.in_ok-bases.bases ≡ length rows = omega (arith, ap length moved, length-bases_with rows []) in
+    let one = subst (λ (l : List ℕ). TakesListed (shape_of image) (length rows) image.first (TellsContents (g.D.Disk.state c.args.disk.now))
+    (g.D.Disk.state c.args.disk.now).files l (g.G.Gatherer.has c.gather_listed.new.gatherer) rows c.gather_listed.new.bases.items [] c.in_ok-end.end)
+    c.as_slice-files.ensures
+    (subst (λ (n : ℕ). TakesListed (shape_of image) n image.first (TellsContents (g.D.Disk.state c.args.disk.now))
+    (g.D.Disk.state c.args.disk.now).files c.as_slice-files.result.now (g.G.Gatherer.has c.gather_listed.new.gatherer) rows c.gather_listed.new.bases.items []
+    c.in_ok-end.end) streams (c.in_ok-end.ensures.taken rows [] (record { records = has; moved = moved }))) in
+    let right : image_fault image (frontier c.place_behind-place.result) ≡ None =
+    sym (ap (image_fault image) c.frontier.ensures) ∙ sym c.wrong_image.ensures ∙ c.in_default.is in
+    fits_records (g.G.Gatherer.has c.gather_listed.new.gatherer) (TellsContents (g.D.Disk.state c.args.disk.now)) (g.D.Disk.state c.args.disk.now).files
+    c.args.slot image c.requires.slot c.requires.image c.from_vec.result c.gather_listed.new.bases.items c.place_behind-place.result c.in_ok-end.end one
+    c.from_vec.ensures c.place_behind-place.ensures right

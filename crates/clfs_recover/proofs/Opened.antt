@@ -1,0 +1,74 @@
+-- A log that was walked behind a base copy, whatever the disk told, and that it is the one that opening finds where the disk tells.
+use Rattle.std.proofs.Common.{◌≡◌, ℕ, ◌+◌, ◌-◌, ◌≤◌, List, [], length, None, Result, Ok, Err, refl, sym, ◌∙◌, ap, subst}
+use Rattle.std.specs.Prelude.{IfOk}
+use Rattle.clfs_lsn.specs.Place.{frontier}
+use Rattle.clfs_lsn.specs.declared.entry.LogEntry.{LogEntry}
+use Rattle.clfs_lsn.specs.declared.place.Place.{Place}
+use Rattle.clfs_disk.specs.Files.{Files, Unchanged}
+use Rattle.clfs_disk.specs.State.{DiskState, TellsContents}
+use Rattle.clfs_base.specs.declared.image.BaseImage.{BaseImage}
+use Rattle.clfs_base.specs.Layout.{version_one}
+use Rattle.clfs_base.specs.Spelling.{IsImage}
+use Rattle.clfs_base.specs.Slots.{newest_of}
+use Rattle.clfs_recover.specs.Walk.{shape_of, image_fault}
+use Rattle.clfs_recover.specs.Files.{Finds}
+use Rattle.clfs_recover.specs.Stored.{HaveBlocks, HasLog, stored_place}
+use Rattle.clfs_recover.specs.Gathering.{TakesListed}
+use Rattle.clfs_recover.specs.Logs.{IsOpenedFrom}
+use Rattle.clfs_recover.specs.Opening.{parts_of, IsWalkedLog}
+use Rattle.clfs_recover.specs.declared.opening.Walked.{Walked}
+use Rattle.clfs_recover.specs.declared.parts.Parts.{Parts}
+use Rattle.clfs_recover.specs.declared.refusal.LoadRefusal.{LoadRefusal}
+use Rattle.clfs_recover.proofs.Meanings.{WholeAreOpen, stored_found}
+
+module _ (has : List LogEntry → Type 0) (told : Type 0) (files : Files) (slot : ℕ) (image : BaseImage) where
+  -- a base copy that fits the records that were taken in
+  pub fits_records : slot ≤ 1 → IsImage version_one image → (bases moved : List ℕ) (place : Place) (end : ℕ)
+      → TakesListed (shape_of image) (length image.streams) image.first told files image.files has image.streams moved [] end → bases ≡ moved
+      → place ≡ record { container = image.first + length image.files - 1; offset = end; used = 0; records = 0 }
+      → image_fault image (frontier place) ≡ None
+      → IsWalkedLog has told files slot image (record { slot = slot; image = image; bases = bases; place = place })
+  fits_records is_slot is_image bases moved place end taken same placed right =
+      let there : place ≡ stored_place image taken.blocks =
+      placed ∙ (λ i. record { container = image.first + length image.files - 1; offset = sym taken.ends i; used = 0; records = 0 }) in
+      let raised = same ∙ taken.taken.moved in record {
+        entries = taken.entries;
+        taken = taken.taken.records;
+        slot_is = refl;
+        image_is = refl;
+        log = record {
+          blocks = taken.blocks;
+          listed = taken.listed;
+          lie = taken.lie;
+          records = taken.records;
+          is = λ i. record { slot = slot; image = image; entries = taken.entries; bases = raised i; place = there i };
+          fits = ap (λ (p : Place). image_fault image (frontier p)) (sym there) ∙ right;
+          image = is_image;
+          slot = is_slot;
+        };
+        stand = taken.stand;
+      }
+
+-- What was walked behind the newest base copy of a disk was opened from it.
+pub walked_is_opened : WholeAreOpen → (has : List LogEntry → Type 0) (disk : DiskState) (told : Type 0) (files : Files) (slot : ℕ) (image : BaseImage)
+    (result : Result Walked LoadRefusal) → (TellsContents disk → told) → Unchanged disk.files files
+    → (TellsContents disk → newest_of (disk.files 0) ≡ Ok (slot, image)) → IfOk result (IsWalkedLog has told files slot image)
+    → IfOk result (λ walked. (entries : List LogEntry) × has entries × IsOpenedFrom disk (parts_of walked entries))
+walked_is_opened open_too has disk told files slot image (Err refusal) tells same newest walk = tt
+walked_is_opened open_too has disk told files slot image (Ok walked) tells same newest walk =
+    let log = walk.log in
+    let unchanged : files ≡ disk.files = λ i file. same file i in
+    let stored = λ (is_told : TellsContents disk).
+    let blocks = subst (λ (f : Files). HaveBlocks image.container_sectors f image.files log.blocks) unchanged (walk.stand (tells is_told)) in
+    let is_log : HasLog walked.slot walked.image log.blocks disk.files = record {
+      newest = newest is_told ∙ (λ i. Ok (sym walk.slot_is i, sym walk.image_is i));
+      containers = subst (λ (copy : BaseImage). HaveBlocks copy.container_sectors disk.files copy.files log.blocks) (sym walk.image_is) blocks;
+    } in
+    stored_found walked.slot walked.image log.blocks open_too disk.files is_log walk.entries log.records log.fits in (
+      walk.entries,
+      walk.taken,
+      record {
+        log = log;
+        found = λ is_told. subst (λ (parts : Parts). Finds disk.files (Ok parts)) (sym log.is) (stored is_told);
+      },
+    )
