@@ -18,6 +18,7 @@ use Rattle.clfs_base.specs.declared.layout.Layout.{Layout}
 use Rattle.clfs_base.specs.declared.layout.Numbers.{Numbers}
 use Rattle.clfs_base.specs.Layout.{number_at, numbers_of, fields, row_place, file_place, most_tail}
 use Rattle.clfs_lsn.specs.Names.{is_name_byte}
+use Rattle.clfs_lsn.specs.Size.{IsShape}
 use Rattle.clfs_base.specs.Spelling.{IsName, AreFiles, AreRows, IsImage, row_in, flag, numbers_for, filled, field_bytes, number_bytes, spelled_row, spelled}
 use Rattle.clfs_base.specs.Checks.{file_in, files_in, wrong_file, name_len, name_in, is_taken, row_of, rows_of, row_fault, wrong_row, slot_fault, image_of}
 use Rattle.clfs_base.proofs.Searches.{both_none, each_none}
@@ -276,7 +277,20 @@ small_bases layout bytes count fits i lt =
 flag_back : (number : ℕ) → number ≤ 1 → flag (eqb number 1) ≡ number
 flag_back number le = grind (arith, nat_tests)
 
--- a slot without a wrong byte has an image that there may be, where its bases are numbers of eight bytes
+-- a slot without a wrong byte has blocks and containers of sizes that there are, and ids that fit four bytes
+pub limits_hold : (layout : Layout) (bytes : List ℕ) → slot_fault layout bytes ≡ None
+    → IsShape (record { block_sectors = (image_of layout bytes).block_sectors; container_sectors = (image_of layout bytes).container_sectors })
+    × ((image_of layout bytes).first + length (image_of layout bytes).files ≤ 2 ^ 32)
+limits_hold layout bytes none =
+    let n = numbers_of bytes in
+    let a = both_none _ _ (sym (chained layout bytes n refl) ∙ none) in
+    let r = (pass_right layout n bytes (all_pass bytes (fields layout n) a.0)).0 in
+    let files_size : length (files_in bytes n.listed) ≡ n.listed = length-map-range_with_len (file_in bytes) 0 n.listed in (
+      record { some_sectors = r.block.0; largest_block = r.block.1; two_blocks = r.container.0; largest_container = r.container.1 },
+      omega (arith, files_size, r.listed.1, r.first.1),
+    )
+
+-- and an image that there may be, where its bases are numbers of eight bytes
 pub image_may_be : (layout : Layout) (bytes : List ℕ) → slot_fault layout bytes ≡ None → HaveSmallBases (image_of layout bytes).streams
     → IsImage layout (image_of layout bytes)
 image_may_be layout bytes none small =
@@ -290,14 +304,14 @@ image_may_be layout bytes none small =
     let rows_size : length image.streams ≡ n.streams = length-map-range_with_len (row_of layout bytes) 0 n.streams in
     record {
       turn = r.turn;
-      shape = record { some_sectors = r.block.0; largest_block = r.block.1; two_blocks = r.container.0; largest_container = r.container.1 };
+      shape = (limits_hold layout bytes none).0;
       some_containers = r.containers.0;
       containers_made = r.files_made.0;
       few_made = r.files_made.1;
       first = r.first.0;
       some_listed = omega (arith, files_size, r.listed.0);
       few_listed = omega (arith, files_size, r.listed.1);
-      last_id = omega (arith, files_size, r.listed.1, r.first.1);
+      last_id = (limits_hold layout bytes none).1;
       maximum = r.maximum;
       minimum = r.minimum;
       growth = r.growth;

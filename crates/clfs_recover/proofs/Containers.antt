@@ -90,7 +90,7 @@ module _ (judged : AreJudgedAlone) (written : AreReadAsWritten) (shape : Shape) 
         (λ long. ap (block_records shape streams start) is.is ∙ block_same all (length front) (front_enough long)) is.long
 
 -- the sectors that a block says to have
-sectors_said : (bytes : List ℕ) → (head_of bytes).sectors ≡ block_sectors bytes
+pub sectors_said : (bytes : List ℕ) → (head_of bytes).sectors ≡ block_sectors bytes
 sectors_said bytes =
     let a = get_or-drop 2 bytes 0 0 ∙ ap (λ (k : ℕ). get_or bytes k 0) (plus 2 0 2 refl) in
     let b = get_or-drop 2 bytes 1 0 ∙ ap (λ (k : ℕ). get_or bytes k 0) (plus 2 1 3 refl) in
@@ -130,7 +130,7 @@ closed_gate shape start bytes gate e =
     cc h
 
 -- the sectors that are left from an offset on
-left_here : (shape : Shape) (id offset : ℕ) → offset % 512 ≡ 0 → offset < 2 ^ 32 → left_from shape (lsn_number id offset 0) ≡ shape.container_sectors - offset / 512
+pub left_here : (shape : Shape) (id offset : ℕ) → offset % 512 ≡ 0 → offset < 2 ^ 32 → left_from shape (lsn_number id offset 0) ≡ shape.container_sectors - offset / 512
 left_here shape id offset whole small =
     let e : (id * 2 ^ 32 + offset + 0) % 2 ^ 32 / 512 * 512 / 512 ≡ offset / 512 = omega (arith, whole, small) in
     ap (λ (n : ℕ). shape.container_sectors - n) e

@@ -8,3 +8,7 @@ pub mod Listing
 pub mod Finding
 pub mod Meanings
 pub mod Writings
+pub mod Binding
+pub mod ReadBlocks
+pub mod LaidBlocks
+pub mod LaidContainers
