@@ -148,8 +148,7 @@ found lsn streams bytes x fits is =
     let all : bytes ≡ record_bytes (entry_of lsn bytes) ++ drop n (drop h.len body) =
     header_takes bytes long fits ∙ ap (header_spelled h) (body_splits h.len body zeros)
     ∙ joined lsn h (take h.len body) (drop n (drop h.len body)) (entry_of lsn bytes) data_size (kind_back h.kind good.kind) good.zero_is refl in
-    let x_is : (entry_of lsn bytes, size h.len) ≡ x = read_is _ _ d.1 in
-    (
+    let x_is : (entry_of lsn bytes, size h.len) ≡ x = read_is _ _ d.1 in (
       subst (λ (y : LogEntry × ℕ). take y.1 bytes ≡ record_bytes y.0) x_is
           (ap (λ (l : List ℕ). take (size h.len) l) all
           ∙ take_at (record_bytes (entry_of lsn bytes)) (drop n (drop h.len body)) (size h.len) (length-record_bytes (entry_of lsn bytes) ∙ ap size data_size)),

@@ -12,3 +12,9 @@ pub mod Binding
 pub mod ReadBlocks
 pub mod LaidBlocks
 pub mod LaidContainers
+pub mod FoundParts
+pub mod FoundBases
+pub mod FoundStreams
+pub mod FoundRecords
+pub mod ValidStates
+pub mod StorableStates

@@ -1,4 +1,4 @@
-// Laws of the states that files can stand for. Their functions do nothing; a caller cites their clauses.
+// Laws of what files can stand for. Their functions do nothing; a caller cites their clauses.
 ghost use Rattle.std.specs.Prelude.{◌≡◌, ◌≤◌, ℕ, [], false};
 ghost use Rattle.clfs_lsn.specs.Limits.{most_write_buffers};
 ghost use Rattle.clfs_lsn.specs.Place.{frontier};
@@ -13,10 +13,24 @@ use clfs_base::copies_are_read_as_written;
 use clfs_block::blocks_are_read_as_written;
 use clfs_record::records_are_read_as_written;
 
-/// What files stand for is a state that a log can be in, with 1 to 64 write buffers, and one that files can hold.
+/// What files stand for is a state that files can hold and, with 1 to 64 write buffers, one that a log can be in. The files may hold any
+/// numbers in place of bytes.
 pub fn opened_states_are_valid()
     ensures valid { (files : Files) (s : State) → StandsFor files s → 1 ≤ s.buffers → s.buffers ≤ most_write_buffers → IsValid s }
     ensures storable { (files : Files) (s : State) → StandsFor files s → IsStorable s }
+{
+    copies_are_read_as_written();
+    blocks_are_read_as_written();
+    records_are_read_as_written();
+}
+
+/// It is its own flushed part: all of its records are stable, nothing is under way, and no earlier call failed.
+pub fn opened_states_are_cut()
+    ensures cut { (files : Files) (s : State) → StandsFor files s → cut s ≡ s }
+    ensures flushed { (files : Files) (s : State) → StandsFor files s → flushed s ≡ frontier s.place }
+    ensures no_areas { (files : Files) (s : State) → StandsFor files s → s.areas ≡ [] }
+    ensures nothing_waits { (files : Files) (s : State) → StandsFor files s → s.waiting ≡ [] }
+    ensures whole { (files : Files) (s : State) → StandsFor files s → s.broken ≡ false }
 {
     copies_are_read_as_written();
     blocks_are_read_as_written();
