@@ -10,3 +10,13 @@ pub mod Meanings
 pub mod Writings
 pub mod Taken
 pub mod Opened
+pub mod Binding
+pub mod ReadBlocks
+pub mod LaidBlocks
+pub mod LaidContainers
+pub mod FoundParts
+pub mod FoundBases
+pub mod FoundStreams
+pub mod FoundRecords
+pub mod ValidStates
+pub mod StorableStates

@@ -17,6 +17,7 @@ mod container;
 mod gatherer;
 mod laws;
 mod listed;
+mod opened;
 mod opening;
 mod parts;
 mod piece;
@@ -26,6 +27,7 @@ mod rows;
 
 pub use gatherer::Gatherer;
 pub use laws::{copies_and_blocks_decide, files_have_one_meaning, written_blocks_are_read};
+pub use opened::{opened_states_are_cut, opened_states_are_valid};
 pub use opening::{Walked, load, load_heads, walk};
 pub use parts::{Bases, Entries, HeadParts, Heads, Parts};
 pub use refusal::LoadRefusal;

@@ -21,7 +21,7 @@ use crate::listed::gather_listed;
 use crate::parts::{Bases, Entries, HeadParts, Heads, Parts};
 use crate::piece::Ahead;
 use crate::refusal::{LoadRefusal, damaged_slot};
-use clfs_base::{BaseImage, Row, read_newest};
+use clfs_base::{BaseImage, Row, TAIL_AT, base_place, read_newest};
 use clfs_container::open_blocks_are_one_list;
 use clfs_disk::{Disk, calls_join};
 use clfs_lsn::{Lsn, Place, SECTOR, Shape, frontier};
@@ -29,9 +29,6 @@ use std::alloc::{AllocError, Global};
 
 // The most bytes of a file that are read at a time.
 const PIECE: u32 = 1 << 20;
-
-// The byte of a slot at which the archive tail stands.
-const TAIL: u32 = 32;
 
 /// What a walk leaves beside the records, which its gatherer has.
 #[derive(Debug, Drop)]
@@ -44,14 +41,6 @@ pub struct Walked {
     pub bases: Bases,
     /// Where the log goes on. No block is open there.
     pub place: Place,
-}
-
-// The byte of a slot at which the base of a stream's row stands.
-fn base_place(row: usize) -> u32
-    requires { row < 2 ^ 16 }
-    ensures { result ≡ row_place version_one row + 8 }
-{
-    576 + 48 * row as u32 + 8
 }
 
 // The first row whose base lies above an LSN.
@@ -74,10 +63,10 @@ fn wrong_image(image: &BaseImage, frontier: Lsn) -> Option<u32>
     ensures { result ≡ image_fault image.now frontier }
 {
     if let Some(row) = first_high(image.streams.as_slice(), frontier) {
-        return Some(base_place(row));
+        return Some(base_place(row as u16));
     }
     if is_wrong_tail(image, frontier) {
-        return Some(TAIL);
+        return Some(TAIL_AT);
     }
     None
 }
