@@ -9,7 +9,7 @@ pub mod Finding
 pub mod Meanings
 pub mod Writings
 pub mod Taken
-pub mod Opened
+pub mod OpenedLogs
 pub mod Binding
 pub mod ReadBlocks
 pub mod LaidBlocks
