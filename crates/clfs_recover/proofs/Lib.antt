@@ -10,3 +10,4 @@ pub mod Meanings
 pub mod Writings
 pub mod Taken
 pub mod Opened
+pub mod Laid

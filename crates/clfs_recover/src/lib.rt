@@ -17,6 +17,7 @@ mod container;
 mod gatherer;
 mod laws;
 mod listed;
+mod logs;
 mod opening;
 mod parts;
 mod piece;
@@ -26,6 +27,7 @@ mod rows;
 
 pub use gatherer::Gatherer;
 pub use laws::{copies_and_blocks_decide, files_have_one_meaning, written_blocks_are_read};
+pub use logs::logs_are_found_in_files;
 pub use opening::{Walked, load, load_heads, walk};
 pub use parts::{Bases, Entries, HeadParts, Heads, Parts};
 pub use refusal::LoadRefusal;
