@@ -20,3 +20,4 @@ pub mod FoundStreams
 pub mod FoundRecords
 pub mod ValidStates
 pub mod StorableStates
+pub mod Laid

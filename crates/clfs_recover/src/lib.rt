@@ -17,6 +17,7 @@ mod container;
 mod gatherer;
 mod laws;
 mod listed;
+mod logs;
 mod opened;
 mod opening;
 mod parts;
@@ -27,6 +28,7 @@ mod rows;
 
 pub use gatherer::Gatherer;
 pub use laws::{copies_and_blocks_decide, files_have_one_meaning, written_blocks_are_read};
+pub use logs::logs_are_found_in_files;
 pub use opened::{opened_states_are_cut, opened_states_are_valid};
 pub use opening::{Walked, load, load_heads, walk};
 pub use parts::{Bases, Entries, HeadParts, Heads, Parts};

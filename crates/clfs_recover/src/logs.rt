@@ -1,0 +1,19 @@
+// What holds of a log that was opened over any disk. The function does nothing; a caller cites its clauses.
+ghost use Rattle.std.specs.Prelude.{ℕ, Ok};
+ghost use Rattle.clfs_disk.specs.Files.{Files};
+ghost use Rattle.clfs_recover.specs.Files.{Finds, StandsFor, state_of};
+ghost use Rattle.clfs_recover.specs.Logs.{IsLogOf};
+ghost use Rattle.clfs_recover.specs.declared.parts.Parts.{Parts};
+
+use clfs_base::copies_are_read_as_written;
+use clfs_container::open_blocks_are_one_list;
+
+/// The parts of a log are what opening finds in some files, which stand for its state. So what is known of every state for which files stand is
+/// known of a log that was opened, also where the disk doesn't tell what its files hold.
+pub fn logs_are_found_in_files()
+    ensures found { (parts : Parts) → IsLogOf parts → (files : Files) × Finds files (Ok parts) }
+    ensures state { (parts : Parts) (buffers : ℕ) → IsLogOf parts → (files : Files) × StandsFor files (state_of parts buffers) }
+{
+    copies_are_read_as_written();
+    open_blocks_are_one_list();
+}
