@@ -10,7 +10,8 @@ mod manager;
 mod refusal;
 mod tables;
 
-pub use manager::{FormatRefused, Manager};
+pub use clfs_recover::LoadRefusal;
+pub use manager::{FormatRefused, LoadRefused, Manager};
 pub use refusal::FormatRefusal;
 
 #[cfg(test)]

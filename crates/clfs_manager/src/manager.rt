@@ -1,23 +1,65 @@
-// The manager of a log over any disk. So far it makes a log.
+// The manager of a log over any disk: making a log, and opening and closing one. The state that a manager stands for is told, for clauses alone: what it
+// holds of the log are the heads of its records, and their data are on the disk.
 ghost use Rattle.std.specs.Prelude.{◌≡◌, ◌≢◌, ◌≤◌, ℕ, Some, None, IfOk, IfErr};
-ghost use Rattle.clfs_lsn.specs.Limits.{most_containers};
+ghost use Rattle.clfs_lsn.specs.Limits.{most_containers, most_write_buffers};
 ghost use Rattle.clfs_lsn.specs.Size.{IsShape};
 ghost use Rattle.clfs_disk.specs.Files.{Unchanged};
 ghost use Rattle.clfs_disk.specs.State.{TellsContents, IsSteady, IsHonest, IsSettled, Passes, Later, Rises};
 ghost use Rattle.clfs_model.specs.State.{fresh};
-ghost use Rattle.clfs_recover.specs.Files.{StandsFor, AreWholeFiles};
+ghost use Rattle.clfs_model.specs.Flush.{cut};
+ghost use Rattle.clfs_model.specs.Storable.{IsStorable};
+ghost use Rattle.clfs_model.specs.Valid.{IsValid};
+ghost use Rattle.clfs_recover.specs.Files.{StandsFor, AreWholeFiles, state_of};
+ghost use Rattle.clfs_recover.specs.Opening.{IsRefused, told_parts};
 ghost use Rattle.clfs_manager.specs.Formatting.{open_slot_of, ComesAtOnce};
 
 use crate::format::format_disk;
 use crate::refusal::FormatRefusal;
 use clfs_disk::Disk;
 use clfs_lsn::Shape;
+use clfs_model::State;
+use clfs_recover::{
+    HeadParts, LoadRefusal, load_heads, logs_are_found_in_files, opened_states_are_cut,
+    opened_states_are_valid,
+};
+use clfs_told::Told;
 use std::alloc::Global;
+use std::marker::Model;
 
-/// A log over a disk. So far a log is only made, and there is no value of this type yet.
+/// A log over a disk. A contract sees the state of the log machine that it stands for, and the disk.
 #[derive(Drop)]
 pub struct Manager<D: Disk> {
     disk: D,
+    opened: HeadParts,
+    write_buffers: u32,
+    state: Told<State>,
+}
+
+impl<D: Disk> Model for Manager<D> {
+    ghost use Rattle.clfs_model.specs.declared.state.State.{State};
+    ghost use Rattle.clfs_manager.specs.Loading.{IsLoaded};
+
+    ghost Value = { State × D };
+
+    ghost view = { λ m. (m.state.value, m.disk) };
+
+    ghost invariant = { λ m. IsLoaded m.state.value m.opened m.write_buffers };
+}
+
+/// A log wasn't opened. The disk is given back.
+#[derive(Drop)]
+pub struct LoadRefused<D> {
+    /// The disk.
+    pub disk: D,
+    /// Why.
+    pub cause: LoadRefusal,
+}
+
+// The state of what was opened.
+fn state_of(opened: &HeadParts, write_buffers: u32) -> Told<State>
+    ensures { result.value ≡ state_of (told_parts opened.now) write_buffers }
+{
+    Told::pick(&(opened, write_buffers))
 }
 
 /// A log wasn't made. The disk is given back.
@@ -73,5 +115,64 @@ impl<D: Disk> Manager<D> {
             Ok(()) => Ok(disk),
             Err(cause) => Err(FormatRefused { disk, cause }),
         }
+    }
+
+    /// Opens the log on a disk, with so many write buffers, which bound the blocks that wait to be written. Nothing is written.
+    pub fn load(alloc: Global, disk: D, write_buffers: u32) -> Result<Manager<D>, LoadRefused<D>>
+        requires some { 1 ≤ write_buffers }
+        requires few { write_buffers ≤ most_write_buffers }
+
+        // The state is the one for which the files stand, with so many write buffers, and one that a log can be in; over a disk that doesn't
+        // tell what its files hold it is some such state.
+        ensures loaded { IfOk result (λ manager. TellsContents (D.state disk) → StandsFor (D.state disk).files manager.0) }
+        ensures buffers { IfOk result (λ manager. manager.0.buffers ≡ write_buffers) }
+        ensures valid { IfOk result (λ manager. IsValid manager.0) }
+        ensures storable { IfOk result (λ manager. IsStorable manager.0) }
+        ensures stable { IfOk result (λ manager. cut manager.0 ≡ manager.0) }
+        ensures settled { IfOk result (λ manager. IsHonest (D.state disk) → IsSettled (D.state manager.1)) }
+
+        // A refusal is what opening finds in the files: that no slot is open, or the first place of damage.
+        ensures refused { IfErr result (λ refused. TellsContents (D.state disk) → IsRefused (D.state disk).files refused.cause) }
+
+        // No file changes.
+        ensures same { IfOk result (λ manager. Unchanged (D.state disk).files (D.state manager.1).files
+            × Passes Unchanged (D.state disk) (D.state manager.1)) }
+        ensures same_refused { IfErr result (λ refused. Unchanged (D.state disk).files (D.state refused.disk).files
+            × Passes Unchanged (D.state disk) (D.state refused.disk)) }
+
+        // A fault is told only where the disk failed in the call, and never over a steady disk.
+        ensures cause { IfErr result (λ refused. refused.cause ≡ LoadRefusal.DiskFault
+            → Rises (D.state disk).faults (D.state refused.disk).faults) }
+        ensures steady { IsSteady (D.state disk) → IfErr result (λ refused. refused.cause ≢ LoadRefusal.DiskFault) }
+    {
+        logs_are_found_in_files();
+        opened_states_are_valid();
+        opened_states_are_cut();
+        let mut disk = disk;
+        match load_heads(alloc, &mut disk) {
+            Ok(opened) => {
+                let state = state_of(&opened, write_buffers);
+                Ok(Manager {
+                    disk,
+                    opened,
+                    write_buffers,
+                    state,
+                })
+            }
+            Err(cause) => Err(LoadRefused { disk, cause }),
+        }
+    }
+
+    /// Closes the log and gives the disk back. Nothing is written: what isn't flushed is lost.
+    pub fn close(self) -> D
+        ensures { result ≡ self.1 }
+    {
+        let Manager {
+            disk,
+            opened: _,
+            write_buffers: _,
+            state: _,
+        } = self;
+        disk
     }
 }
