@@ -4,3 +4,4 @@ pub mod Made
 pub mod Kept
 pub mod StreamRows
 pub mod TableSteps
+pub mod Tabling

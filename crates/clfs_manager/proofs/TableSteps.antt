@@ -19,7 +19,7 @@ use Rattle.clfs_manager.proofs.Kept.{all_kept, kept_further, kept_with, live_kep
 use Rattle.clfs_manager.proofs.StreamRows.{dead_in}
 
 -- the base in a stream that is or isn't there
-abbrev base_or_null : Option Stream → ℕ
+abbrev pub base_or_null : Option Stream → ℕ
 base_or_null found = option_map_or (λ (stream : Stream). stream.base) found null_lsn
 
 -- ---- a stream more

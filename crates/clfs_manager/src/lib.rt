@@ -7,6 +7,7 @@
 mod first_copy;
 mod format;
 mod manager;
+mod opening;
 mod refusal;
 mod tables;
 
