@@ -50,7 +50,7 @@ abbrev body : ℕ → ℕ → BlockHead → List ℕ → Result BlockHead BlockR
 body streams start head payload rest =
     told_as blocks.BadByte (records_from streams payload head.records start 16) >>= λ (entries : List LogEntry). (rest >>= λ (clean : BlockHead). Ok entries)
 
-by_frame : (shape : Shape) (streams start : ℕ) (bytes : List ℕ) (head : BlockHead) → frame_at shape start bytes ≡ Ok head
+pub by_frame : (shape : Shape) (streams start : ℕ) (bytes : List ℕ) (head : BlockHead) → frame_at shape start bytes ≡ Ok head
     → block_records shape streams start bytes ≡ body streams start head (payload_of head.used bytes) (rest_at bytes head)
 unfolding block_records
 by_frame shape streams start bytes head is = rw is refl

@@ -8,6 +8,8 @@ pub mod Listing
 pub mod Finding
 pub mod Meanings
 pub mod Writings
+pub mod Joined
 pub mod Taken
 pub mod Opened
 pub mod Laid
+pub mod Counting

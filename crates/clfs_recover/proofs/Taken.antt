@@ -17,33 +17,16 @@ use Rattle.clfs_block.specs.Judging.{AreJudgedAlone, AreReadAsWritten}
 use Rattle.clfs_block.specs.declared.head.BlockHead.{BlockHead}
 use Rattle.clfs_block.specs.declared.head.BlockRefusal.{BlockRefusal}
 use Rattle.clfs_block.specs.declared.head.BlockRefusal.TheVariants as blocks
-use Rattle.clfs_recover.specs.Records.{◌>>=◌, told_as, block_records}
+use Rattle.clfs_recover.specs.Records.{told_as, block_records}
 use Rattle.clfs_recover.specs.Walk.{damage_at}
 use Rattle.clfs_recover.specs.Stored.{HaveBlocks, stored_in, stored_records, stored_end}
 use Rattle.clfs_recover.specs.Logs.{LieIn}
 use Rattle.clfs_recover.specs.Gathering.{HasTaken, GathersBlock, TakesContainer, TakesListed}
 use Rattle.clfs_recover.specs.Fronts.{IsFrontOf}
-use Rattle.clfs_recover.specs.declared.refusal.LoadRefusal.{LoadRefusal}
+use Rattle.clfs_recover.proofs.Joined.{Records, joined, joined_nil, joined_assoc}
 use Rattle.clfs_recover.proofs.Containers.{block_same, front_frame, sectors_said, left_here, frame_closed, closed_gate, unread_gate}
 
-abbrev Records : Type 0
-Records = Result (List LogEntry) LoadRefusal
-
 -- ---- records of blocks, and those of more blocks behind them
-
--- records with others behind them
-abbrev joined : Records → Records → Records
-joined r s = r >>= λ (entries : List LogEntry). (s >>= λ (others : List LogEntry). Ok (entries ++ others))
-
-joined_nil : (r : Records) → joined (Ok []) r ≡ r
-joined_nil (Ok entries) = refl
-joined_nil (Err refusal) = refl
-
-joined_assoc : (r s t : Records) → joined r (joined s t) ≡ joined (joined r s) t
-joined_assoc (Err refusal) s t = refl
-joined_assoc (Ok a) (Err refusal) t = refl
-joined_assoc (Ok a) (Ok b) (Err refusal) = refl
-joined_assoc (Ok a) (Ok b) (Ok c) = ap (λ (l : List LogEntry). Ok l) (sym (append_assoc a b c))
 
 module _ (shape : Shape) (streams : ℕ) where
   stored_append : (id offset : ℕ) (some more : List (List ℕ))

@@ -14,6 +14,7 @@
 
 mod block;
 mod container;
+mod counts;
 mod gatherer;
 mod laws;
 mod listed;
@@ -25,9 +26,10 @@ mod records;
 mod refusal;
 mod rows;
 
+pub use counts::Counts;
 pub use gatherer::Gatherer;
 pub use laws::{copies_and_blocks_decide, files_have_one_meaning, written_blocks_are_read};
-pub use logs::logs_are_found_in_files;
+pub use logs::{logs_are_found_in_files, logs_have_few_records};
 pub use opening::{Walked, load, load_heads, walk};
 pub use parts::{Bases, Entries, HeadParts, Heads, Parts};
 pub use refusal::LoadRefusal;
