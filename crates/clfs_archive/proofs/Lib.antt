@@ -1,3 +1,4 @@
 pub mod Among
 pub mod Extents
 pub mod Places
+pub mod Sealing

@@ -1,6 +1,7 @@
 -- The ends of blocks against the heads of records.
-use Rattle.std.specs.Prelude.{◌≡◌, ℕ, ◌<◌, ◌≤◌, true, nat_le, List, filter, All, AllPairs}
+use Rattle.std.specs.Prelude.{◌≡◌, ℕ, ◌<◌, ◌≤◌, true, nat_le, List, [], ◌∷◌, ◌++◌, filter, All, AllPairs}
 use Rattle.std.specs.List.{Any}
+use Rattle.clfs_lsn.specs.Lsn.{sequence_of}
 use Rattle.clfs_lsn.specs.declared.entry.Head.{Head}
 use Rattle.clfs_model.specs.Archive.{is_in_block}
 use Rattle.clfs_model.specs.Heads.{block_end}
@@ -27,3 +28,21 @@ pub record AreBlocks (from stable : ℕ) (blocks : List BlockEnd) (heads : List 
   pub each : All (IsBlock heads) blocks
   pub told : All (λ (head : Head). from ≤ head.lsn → head.lsn < stable
       → Any (λ (block : BlockEnd). (is_in_block head.lsn block.last ≡ true) × (block.last < stable)) blocks) heads
+
+-- The ends of all blocks of these records that are sealed: up to the LSN at which the next block begins. No record of that block has an end yet.
+pub record AreSealed (from next : ℕ) (blocks : List BlockEnd) (heads : List Head) : Type 0 where
+  pub told : AreBlocks from next blocks heads
+  pub below : All (λ (block : BlockEnd). block.last < next) blocks
+  pub start : sequence_of next ≡ 0
+
+-- What becomes of the ends of blocks as the log goes on.
+pub record BlocksGoOn : Type 0 where
+  -- A record joins the open block: no end is told of it.
+  pub joined : (from next : ℕ) (blocks : List BlockEnd) (heads : List Head) (head : Head) → AreSealed from next blocks heads → next ≤ head.lsn
+      → All (λ (other : Head). other.lsn < head.lsn) heads → AreSealed from next blocks (heads ++ head ∷ [])
+  -- Where no block is open the next one may begin further on, as at the first byte of the next container.
+  pub moved : (from next later : ℕ) (blocks : List BlockEnd) (heads : List Head) → AreSealed from next blocks heads → next ≤ later
+      → sequence_of later ≡ 0 → All (λ (head : Head). head.lsn < next) heads → AreSealed from later blocks heads
+  -- What is on the disk ends with a block, so the ends of the blocks there are among these.
+  pub stable : (from next stable : ℕ) (blocks : List BlockEnd) (heads : List Head) → AreSealed from next blocks heads → stable ≤ next
+      → sequence_of stable ≡ 0 → AreBlocks from stable blocks heads

@@ -1,6 +1,8 @@
 // What archiving is set to, and the ends of the blocks.
-ghost use Rattle.std.specs.Prelude.{◌≡◌, ℕ, ◌+◌, ◌*◌, ◌<◌, ◌≤◌, All, List, [], ◌∷◌, ◌++◌, Some, length, drop, OnOk, IfOk, IfSome};
+ghost use Rattle.std.specs.Prelude.{◌≡◌, true, ℕ, ◌+◌, ◌*◌, ◌<◌, ◌≤◌, All, List, [], ◌∷◌, ◌++◌, Some, length, drop, OnOk, IfOk, IfSome};
+ghost use Rattle.clfs_lsn.specs.Lsn.{sequence_of};
 ghost use Rattle.clfs_lsn.specs.declared.entry.Head.{Head};
+ghost use Rattle.clfs_model.specs.Archive.{is_in_block};
 ghost use Rattle.clfs_model.specs.declared.state.State.{State};
 ghost use Rattle.clfs_model.specs.Answers.{archiving};
 ghost use Rattle.clfs_model.specs.Flush.{flushed};
@@ -8,7 +10,7 @@ ghost use Rattle.clfs_model.specs.Heads.{extents_of};
 ghost use Rattle.clfs_model.specs.Live.{hold};
 ghost use Rattle.clfs_model.specs.Refusals.{tail_refusal};
 ghost use Rattle.clfs_archive.specs.declared.block.BlockEnd.{BlockEnd};
-ghost use Rattle.clfs_archive.specs.Blocks.{AreBlocks, blocks_from};
+ghost use Rattle.clfs_archive.specs.Blocks.{IsBlock, AreBlocks, AreSealed, blocks_from};
 
 use crate::block::{BlockEnd, extents_from};
 use clfs_lsn::Lsn;
@@ -98,14 +100,14 @@ impl Archive {
         self.tail = Some(lsn);
     }
 
-    /// Makes room for the end of one more block.
-    pub fn reserve(&mut self) -> Result<(), AllocError>
+    /// Makes room for the ends of so many more blocks.
+    pub fn reserve(&mut self, count: usize) -> Result<(), AllocError>
         ensures tail { self.new.tail ≡ self.old.tail }
         ensures blocks { self.new.blocks ≡ self.old.blocks }
-        ensures room { OnOk result (1 ≤ self.new.room) }
+        ensures room { OnOk result (count ≤ self.new.room) }
         ensures kept { self.old.room ≤ self.new.room }
     {
-        self.blocks.reserve(1)
+        self.blocks.reserve(count)
     }
 
     /// The end of a block that takes no more records, behind the others. It takes no memory.
@@ -114,6 +116,9 @@ impl Archive {
         requires room { 1 ≤ self.old.room }
         ensures tail { self.new.tail ≡ self.old.tail }
         ensures blocks { self.new.blocks ≡ self.old.blocks ++ block ∷ [] }
+        ensures told { (from start next : ℕ) (heads : List Head) → AreSealed from start self.old.blocks heads → IsBlock heads block → start ≤ next
+            → block.last < next → sequence_of next ≡ 0 → All (λ (head : Head). start ≤ head.lsn → is_in_block head.lsn block.last ≡ true) heads
+            → AreSealed from next self.new.blocks heads }
         ensures room { self.new.room + 1 ≡ self.old.room }
     {
         self.blocks.push_reserved(block);
@@ -139,6 +144,7 @@ impl Archive {
         ensures end { (n : ℕ) × (self.new.blocks ≡ drop n self.old.blocks) }
         ensures few { length self.new.blocks ≤ 2 * length (blocks_from lsn self.new.blocks) }
         ensures told { (from stable : ℕ) (heads : List Head) → lsn ≤ from → AreBlocks from stable self.old.blocks heads → AreBlocks from stable self.new.blocks heads }
+        ensures ended { (from next : ℕ) (heads : List Head) → lsn ≤ from → AreSealed from next self.old.blocks heads → AreSealed from next self.new.blocks heads }
         ensures room { self.old.room ≤ self.new.room }
     {
         forget_below(&mut self.blocks, lsn);

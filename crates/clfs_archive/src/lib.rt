@@ -17,9 +17,11 @@
 
 mod archive;
 mod block;
+mod laws;
 
 pub use archive::Archive;
 pub use block::BlockEnd;
+pub use laws::ends_of_blocks_go_on;
 
 #[cfg(test)]
 mod tests;

@@ -17,7 +17,7 @@ fn with_block(mut archive: Archive, last: Lsn, end: u32) -> Result<Archive, Allo
     requires { All (λ (other : BlockEnd). other.last < last) archive.blocks }
     ensures { IfOk result (λ more. (n : ℕ) → last < n → All (λ (other : BlockEnd). other.last < n) more.blocks) }
 {
-    archive.reserve()?;
+    archive.reserve(1)?;
     archive.push(BlockEnd { last, end });
     Ok(archive)
 }

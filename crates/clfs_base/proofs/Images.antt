@@ -1,16 +1,17 @@
 -- Images and the bytes that spell them.
-use Rattle.std.proofs.Common.{◌≡◌, ℕ, List, [], ◌∷◌, ◌++◌, take, drop, Option, None, Result, Ok, Err, IfOk, refl, sym, ◌∙◌, ap, subst}
+use Rattle.std.proofs.Common.{◌≡◌, ℕ, ◌+◌, ◌^◌, ◌≤◌, List, [], ◌∷◌, ◌++◌, length, take, drop, Option, None, Result, Ok, Err, IfOk, refl, sym, ◌∙◌, ap, subst}
 use Rattle.std.proofs.lemmas.List.{take_at}
 use Rattle.clfs_base.specs.declared.image.BaseImage.{BaseImage}
 use Rattle.clfs_base.specs.declared.refusal.BaseRefusal.{BaseRefusal}
 use Rattle.clfs_base.specs.declared.refusal.BaseRefusal.TheVariants as refusals
 use Rattle.clfs_base.specs.Layout.{version_one}
 use Rattle.clfs_base.specs.Spelling.{IsImage, spelled}
+use Rattle.clfs_lsn.specs.Size.{IsShape}
 use Rattle.clfs_lsn.specs.Checks.{unless_wrong, unless_ok}
 use Rattle.clfs_base.specs.Checks.{slot_fault, image_of, image_at}
 use Rattle.clfs_base.specs.Decoding.{Gives}
 use Rattle.clfs_base.proofs.Spelled.{Reads, spelled_is_read, length-spelled}
-use Rattle.clfs_base.proofs.Taken.{IsBytes, read_is_spelled}
+use Rattle.clfs_base.proofs.Taken.{IsBytes, HaveSmallBases, limits_hold, image_may_be, read_is_spelled}
 use Rattle.clfs_base.proofs.Copies.{version_one_fits}
 
 -- an image that is spelled behind a gate
@@ -36,6 +37,23 @@ read bytes image fits is =
     let parts = unless_ok (λ (at : ℕ). at) (slot_fault version_one bytes) (Ok (image_of version_one bytes)) image is in
     let same : image_of version_one bytes ≡ image = cc parts.1 in
     subst (λ (i : BaseImage). IsImage version_one i × (take 16383 (drop 1 bytes) ≡ spelled version_one i)) same (found bytes fits parts.0)
+
+-- what is read has a shape that there is, and ids that fit four bytes
+pub read_limits : (bytes : List ℕ) (image : BaseImage) → image_at version_one bytes ≡ Ok image
+    → IsShape (record { block_sectors = image.block_sectors; container_sectors = image.container_sectors }) × (image.first + length image.files ≤ 2 ^ 32)
+read_limits bytes image is =
+    let parts = unless_ok (λ (at : ℕ). at) (slot_fault version_one bytes) (Ok (image_of version_one bytes)) image is in
+    let same : image_of version_one bytes ≡ image = cc parts.1 in
+    subst (λ (i : BaseImage). IsShape (record { block_sectors = i.block_sectors; container_sectors = i.container_sectors })
+    × (i.first + length i.files ≤ 2 ^ 32)) same (limits_hold version_one bytes parts.0)
+
+-- and is one that there may be, where its bases are numbers of eight bytes
+pub read_may_be : (bytes : List ℕ) (image : BaseImage) → HaveSmallBases image.streams → image_at version_one bytes ≡ Ok image → IsImage version_one image
+read_may_be bytes image small is =
+    let parts = unless_ok (λ (at : ℕ). at) (slot_fault version_one bytes) (Ok (image_of version_one bytes)) image is in
+    let same : image_of version_one bytes ≡ image = cc parts.1 in
+    subst (IsImage version_one) same
+    (image_may_be version_one bytes parts.0 (subst (λ (i : BaseImage). HaveSmallBases i.streams) (sym same) small))
 
 abbrev answered : BaseImage → Result BaseImage ℕ
 answered image = Ok image

@@ -18,6 +18,7 @@ use Rattle.clfs_base.specs.declared.layout.Layout.{Layout}
 use Rattle.clfs_base.specs.declared.layout.Numbers.{Numbers}
 use Rattle.clfs_base.specs.Layout.{number_at, numbers_of, fields, row_place, file_place, most_tail}
 use Rattle.clfs_lsn.specs.Names.{is_name_byte}
+use Rattle.clfs_lsn.specs.Size.{IsShape}
 use Rattle.clfs_base.specs.Spelling.{IsName, AreFiles, AreRows, IsImage, row_in, flag, numbers_for, filled, field_bytes, number_bytes, spelled_row, spelled}
 use Rattle.clfs_base.specs.Checks.{file_in, files_in, wrong_file, name_len, name_in, is_taken, row_of, rows_of, row_fault, wrong_row, slot_fault, image_of}
 use Rattle.clfs_base.proofs.Searches.{both_none, each_none}
@@ -26,6 +27,36 @@ use Rattle.clfs_base.proofs.Filling.{length-row, length-all_pieces}
 use Rattle.clfs_base.proofs.Places.{told_none, passed_zeros, pieces_are, each_fails}
 use Rattle.clfs_base.proofs.Ranges.{all_pass, pass_right}
 use Rattle.clfs_base.proofs.Spelled.{IsLayout}
+
+-- ---- the file numbers that are there
+
+module _ (bytes : List ℕ) (made count : ℕ) (none : wrong_file bytes made count ≡ None) where
+  file_is : (i : ℕ) → i < count
+      → (64 + 2 * i + 2 ≤ length bytes) × (1 ≤ file_in bytes i) × (file_in bytes i ≤ made)
+      × (list_any (λ other. eqb other (file_in bytes i)) (files_in bytes i) ≡ false)
+  file_is i lt =
+      facts (length bytes) (64 + 2 * i) (file_in bytes i) (list_any (λ other. eqb other (file_in bytes i)) (files_in bytes i))
+      (told_none _ (file_place i) (each_none _ 0 count none i (omega arith) (omega (arith, lt))))
+    where
+      facts : (size at file : ℕ) (taken : Bool) → (ltb size (at + 2) || (not (leb 1 file && leb file made) || taken)) ≡ false
+          → (at + 2 ≤ size) × (1 ≤ file) × (file ≤ made) × (taken ≡ false)
+      facts size at file taken e = (grind (arith, nat_tests), grind (arith, nat_tests), grind (arith, nat_tests), grind (arith, nat_tests))
+
+  files_are : AreFiles made (files_in bytes count)
+  files_are =
+      let size : length (files_in bytes count) ≡ count = length-map-range_with_len (file_in bytes) 0 count in
+      let each = λ (i : ℕ) (lt : i < count). get_or-map-range_with_len (file_in bytes) 0 count i i 0 lt (omega arith) in
+      record {
+        from_one = λ i lt. omega (arith, each i (omega (arith, lt, size)), (file_is i (omega (arith, lt, size))).1);
+        to_last = λ i lt. omega (arith, each i (omega (arith, lt, size)), (file_is i (omega (arith, lt, size))).2);
+        different = λ i j lt below same.
+            let here : j < count = omega (arith, below, size) in
+            let apart = each_fails (λ other. eqb other (file_in bytes j)) (file_in bytes) 0 j (file_is j here).3 i (omega arith) (omega (arith, lt)) in
+            unequal (file_in bytes i) (file_in bytes j) apart (sym (each i (omega (arith, lt, here))) ∙ same ∙ each j here);
+      }
+    where
+      unequal : (a b : ℕ) → eqb a b ≡ false → a ≢ b
+      unequal a b e = grind (arith, nat_tests)
 
 -- ---- numbers as bytes
 
@@ -120,38 +151,11 @@ module _ (bytes : List ℕ) (fits : IsBytes bytes) where
   -- ---- the file numbers
 
   module _ (made count : ℕ) (none : wrong_file bytes made count ≡ None) where
-    file_is : (i : ℕ) → i < count
-        → (64 + 2 * i + 2 ≤ length bytes) × (1 ≤ file_in bytes i) × (file_in bytes i ≤ made)
-        × (list_any (λ other. eqb other (file_in bytes i)) (files_in bytes i) ≡ false)
-    file_is i lt =
-        facts (length bytes) (64 + 2 * i) (file_in bytes i) (list_any (λ other. eqb other (file_in bytes i)) (files_in bytes i))
-        (told_none _ (file_place i) (each_none _ 0 count none i (omega arith) (omega (arith, lt))))
-      where
-        facts : (size at file : ℕ) (taken : Bool) → (ltb size (at + 2) || (not (leb 1 file && leb file made) || taken)) ≡ false
-            → (at + 2 ≤ size) × (1 ≤ file) × (file ≤ made) × (taken ≡ false)
-        facts size at file taken e = (grind (arith, nat_tests), grind (arith, nat_tests), grind (arith, nat_tests), grind (arith, nat_tests))
-
     files_taken : drop 64 bytes ≡ flat_map number_bytes (files_in bytes count) ++ drop (64 + 2 * count) bytes
     files_taken = pieces_are number_bytes (file_in bytes) 2 64 bytes count
         (λ i lt.
         let next : 64 + 2 * i + 2 ≡ 64 + 2 * (i + 1) = omega arith in
-        two (64 + 2 * i) (file_is i lt).0 ∙ ap (λ (k : ℕ). number_bytes (file_in bytes i) ++ drop k bytes) next)
-
-    files_are : AreFiles made (files_in bytes count)
-    files_are =
-        let size : length (files_in bytes count) ≡ count = length-map-range_with_len (file_in bytes) 0 count in
-        let each = λ (i : ℕ) (lt : i < count). get_or-map-range_with_len (file_in bytes) 0 count i i 0 lt (omega arith) in
-        record {
-          from_one = λ i lt. omega (arith, each i (omega (arith, lt, size)), (file_is i (omega (arith, lt, size))).1);
-          to_last = λ i lt. omega (arith, each i (omega (arith, lt, size)), (file_is i (omega (arith, lt, size))).2);
-          different = λ i j lt below same.
-              let here : j < count = omega (arith, below, size) in
-              let apart = each_fails (λ other. eqb other (file_in bytes j)) (file_in bytes) 0 j (file_is j here).3 i (omega arith) (omega (arith, lt)) in
-              unequal (file_in bytes i) (file_in bytes j) apart (sym (each i (omega (arith, lt, here))) ∙ same ∙ each j here);
-        }
-      where
-        unequal : (a b : ℕ) → eqb a b ≡ false → a ≢ b
-        unequal a b e = grind (arith, nat_tests)
+        two (64 + 2 * i) (file_is bytes made count none i lt).0 ∙ ap (λ (k : ℕ). number_bytes (file_in bytes i) ++ drop k bytes) next)
 
 -- ---- the rows
 
@@ -164,17 +168,33 @@ name_is size at len bytes taken e = (grind (arith, nat_tests), grind (arith, nat
 there_is : (size at width : ℕ) → ltb size (at + width) ≡ false → at + width ≤ size
 there_is size at width e = grind (arith, nat_tests)
 
+-- each base is a number of eight bytes
+abbrev pub HaveSmallBases : List Row → Type 0
+HaveSmallBases rows = (i : ℕ) → i < length rows → (row_in rows i).base < 2 ^ 64
+
 abbrev row_here : List ℕ → ℕ → Row
 row_here bytes at = record { name = name_in bytes at; base = number_at (at + 8) 8 bytes }
 
--- a row without a wrong byte
-record RowHeld (layout : Layout) (bytes : List ℕ) (at : ℕ) (earlier : List Row) : Type 0 where
+-- the name in a row without a wrong byte
+record RowNamed (layout : Layout) (bytes : List ℕ) (at : ℕ) (earlier : List Row) : Type 0 where
   pub named : IsName layout.longest_name (name_in bytes at)
   pub free : is_taken (name_in bytes at) earlier ≡ false
-  pub spelled_is : drop at bytes ≡ spelled_row layout.longest_name (row_here bytes at) ++ drop (at + (16 + layout.longest_name)) bytes
 
-row_held : (layout : Layout) (bytes : List ℕ) (at : ℕ) (earlier : List Row) → IsBytes bytes → row_fault layout bytes at earlier ≡ None → RowHeld layout bytes at earlier
-row_held layout bytes at earlier fits none =
+row_named : (layout : Layout) (bytes : List ℕ) (at : ℕ) (earlier : List Row) → row_fault layout bytes at earlier ≡ None → RowNamed layout bytes at earlier
+row_named layout bytes at earlier none =
+    let len = name_len bytes at in
+    let name = name_in bytes at in
+    let a = both_none _ _ none in
+    let d = both_none _ _ (both_none _ _ (both_none _ _ a.1).1).1 in
+    let long = length_is (length bytes) at len layout.longest_name (told_none _ at a.0) in
+    let named = name_is (length bytes) (at + 16) len (list_all is_name_byte name) (is_taken name earlier) (told_none _ (at + 16) d.0) in
+    let size : length name ≡ len = length-take-le len (drop (at + 16) bytes) (omega (arith, length-drop (at + 16) bytes, named.0)) in
+    record { named = record { some = omega (arith, size, long.1); few = omega (arith, size, long.2); bytes = named.1 }; free = named.2 }
+
+-- a row without a wrong byte is spelled
+row_spelled : (layout : Layout) (bytes : List ℕ) (at : ℕ) (earlier : List Row) → IsBytes bytes → row_fault layout bytes at earlier ≡ None
+    → drop at bytes ≡ spelled_row layout.longest_name (row_here bytes at) ++ drop (at + (16 + layout.longest_name)) bytes
+row_spelled layout bytes at earlier fits none =
     let room = layout.longest_name in
     let len = name_len bytes at in
     let name = name_in bytes at in
@@ -200,26 +220,27 @@ row_held layout bytes at earlier fits none =
     let name_here : drop (at + 16) bytes ≡ filled room name ++ drop end bytes =
     sym (take-append-drop len (drop (at + 16) bytes)) ∙ ap (λ (l : List ℕ). name ++ l) (drop-drop len (at + 16) bytes ∙ behind)
     ∙ sym (append_assoc name (replicate (room - length name) 0) (drop end bytes)) in
-    record {
-      named = record { some = omega (arith, size, long.1); few = omega (arith, size, long.2); bytes = named.1 };
-      free = named.2;
-      spelled_is = drop_more bytes at 0 (omega (arith, long.0))
-          ∙ ap (λ (l : List ℕ). len ∷ l) (zeros ∙ ap (λ (l : List ℕ). replicate 7 0 ++ l) (base_here ∙ ap (λ (l : List ℕ). base ++ l) name_here))
-          ∙ ap (λ (k : ℕ). k ∷ replicate 7 0 ++ (base ++ (filled room name ++ drop end bytes))) (sym size);
-    }
+    drop_more bytes at 0 (omega (arith, long.0))
+    ∙ ap (λ (l : List ℕ). len ∷ l) (zeros ∙ ap (λ (l : List ℕ). replicate 7 0 ++ l) (base_here ∙ ap (λ (l : List ℕ). base ++ l) name_here))
+    ∙ ap (λ (k : ℕ). k ∷ replicate 7 0 ++ (base ++ (filled room name ++ drop end bytes))) (sym size)
 
-module _ (layout : Layout) (bytes : List ℕ) (fits : IsBytes bytes) (count : ℕ) (none : wrong_row layout bytes count ≡ None) where
-  row_is : (i : ℕ) → i < count → RowHeld layout bytes (row_place layout i) (rows_of layout bytes i)
-  row_is i lt = row_held layout bytes (row_place layout i) (rows_of layout bytes i) fits (each_none _ 0 count none i (omega arith) (omega (arith, lt)))
+module _ (layout : Layout) (bytes : List ℕ) (count : ℕ) (none : wrong_row layout bytes count ≡ None) where
+  passes : (i : ℕ) → i < count → row_fault layout bytes (row_place layout i) (rows_of layout bytes i) ≡ None
+  passes i lt = each_none _ 0 count none i (omega arith) (omega (arith, lt))
 
-  rows_taken : drop 576 bytes ≡ flat_map (spelled_row layout.longest_name) (rows_of layout bytes count) ++ drop (row_place layout count) bytes
-  rows_taken = pieces_are (spelled_row layout.longest_name) (row_of layout bytes) (16 + layout.longest_name) 576 bytes count
+  row_is : (i : ℕ) → i < count → RowNamed layout bytes (row_place layout i) (rows_of layout bytes i)
+  row_is i lt = row_named layout bytes (row_place layout i) (rows_of layout bytes i) (passes i lt)
+
+  rows_taken : IsBytes bytes → drop 576 bytes ≡ flat_map (spelled_row layout.longest_name) (rows_of layout bytes count) ++ drop (row_place layout count) bytes
+  rows_taken fits = pieces_are (spelled_row layout.longest_name) (row_of layout bytes) (16 + layout.longest_name) 576 bytes count
       (λ i lt.
       let next : row_place layout i + (16 + layout.longest_name) ≡ row_place layout (i + 1) = omega arith in
-      (row_is i lt).spelled_is ∙ ap (λ (k : ℕ). spelled_row layout.longest_name (row_of layout bytes i) ++ drop k bytes) next)
+      row_spelled layout bytes (row_place layout i) (rows_of layout bytes i) fits (passes i lt)
+      ∙ ap (λ (k : ℕ). spelled_row layout.longest_name (row_of layout bytes i) ++ drop k bytes) next)
 
-  rows_are : AreRows layout.longest_name (rows_of layout bytes count)
-  rows_are =
+  -- where the bases are numbers of eight bytes
+  rows_are : HaveSmallBases (rows_of layout bytes count) → AreRows layout.longest_name (rows_of layout bytes count)
+  rows_are small =
       let no_row : Row = record { name = []; base = 0 } in
       let size : length (rows_of layout bytes count) ≡ count = length-map-range_with_len (row_of layout bytes) 0 count in
       let each = λ (i : ℕ) (lt : i < count). get_or-map-range_with_len (row_of layout bytes) 0 count i i no_row lt (omega arith) in
@@ -234,24 +255,73 @@ module _ (layout : Layout) (bytes : List ℕ) (fits : IsBytes bytes) (count : �
             let equal : (row_of layout bytes i).name ≡ name =
             ap (λ (r : Row). r.name) (sym (each i (omega (arith, lt, here)))) ∙ same ∙ ap (λ (r : Row). r.name) (each j here) in
             clash (sym apart ∙ (bytes_eq-Decides (row_of layout bytes i).name name).1 equal);
-        bases = λ i lt.
-            let here : i < count = omega (arith, lt, size) in
-            subst (λ (r : Row). r.base < 2 ^ 64) (sym (each i here)) (omega (
-              arith,
-              little_from-lt 0 8 (drop (row_place layout i + 8) bytes)
-                  (IsBytes-drop (row_place layout i + 8) bytes fits),
-            ));
+        bases = small;
       }
     where
       clash : false ≡ true → ⊥
       clash e = absurd (cc e)
+
+-- the base in a row of bytes is a number of eight bytes
+small_bases : (layout : Layout) (bytes : List ℕ) (count : ℕ) → IsBytes bytes → HaveSmallBases (rows_of layout bytes count)
+small_bases layout bytes count fits i lt =
+    let no_row : Row = record { name = []; base = 0 } in
+    let size : length (rows_of layout bytes count) ≡ count = length-map-range_with_len (row_of layout bytes) 0 count in
+    let here = get_or-map-range_with_len (row_of layout bytes) 0 count i i no_row (omega (arith, lt, size)) (omega arith) in
+    subst (λ (r : Row). r.base < 2 ^ 64) (sym here) (omega (
+      arith,
+      little_from-lt 0 8 (drop (row_place layout i + 8) bytes) (IsBytes-drop (row_place layout i + 8) bytes fits),
+    ))
 
 -- ---- the whole slot
 
 flag_back : (number : ℕ) → number ≤ 1 → flag (eqb number 1) ≡ number
 flag_back number le = grind (arith, nat_tests)
 
--- a slot without a wrong byte spells an image
+-- a slot without a wrong byte has blocks and containers of sizes that there are, and ids that fit four bytes
+pub limits_hold : (layout : Layout) (bytes : List ℕ) → slot_fault layout bytes ≡ None
+    → IsShape (record { block_sectors = (image_of layout bytes).block_sectors; container_sectors = (image_of layout bytes).container_sectors })
+    × ((image_of layout bytes).first + length (image_of layout bytes).files ≤ 2 ^ 32)
+limits_hold layout bytes none =
+    let n = numbers_of bytes in
+    let a = both_none _ _ (sym (chained layout bytes n refl) ∙ none) in
+    let r = (pass_right layout n bytes (all_pass bytes (fields layout n) a.0)).0 in
+    let files_size : length (files_in bytes n.listed) ≡ n.listed = length-map-range_with_len (file_in bytes) 0 n.listed in (
+      record { some_sectors = r.block.0; largest_block = r.block.1; two_blocks = r.container.0; largest_container = r.container.1 },
+      omega (arith, files_size, r.listed.1, r.first.1),
+    )
+
+-- and an image that there may be, where its bases are numbers of eight bytes
+pub image_may_be : (layout : Layout) (bytes : List ℕ) → slot_fault layout bytes ≡ None → HaveSmallBases (image_of layout bytes).streams
+    → IsImage layout (image_of layout bytes)
+image_may_be layout bytes none small =
+    let n = numbers_of bytes in
+    let image = image_of layout bytes in
+    let a = both_none _ _ (sym (chained layout bytes n refl) ∙ none) in
+    let c = both_none _ _ (both_none _ _ a.1).1 in
+    let e = both_none _ _ (both_none _ _ c.1).1 in
+    let r = (pass_right layout n bytes (all_pass bytes (fields layout n) a.0)).0 in
+    let files_size : length image.files ≡ n.listed = length-map-range_with_len (file_in bytes) 0 n.listed in
+    let rows_size : length image.streams ≡ n.streams = length-map-range_with_len (row_of layout bytes) 0 n.streams in
+    record {
+      turn = r.turn;
+      shape = (limits_hold layout bytes none).0;
+      some_containers = r.containers.0;
+      containers_made = r.files_made.0;
+      few_made = r.files_made.1;
+      first = r.first.0;
+      some_listed = omega (arith, files_size, r.listed.0);
+      few_listed = omega (arith, files_size, r.listed.1);
+      last_id = (limits_hold layout bytes none).1;
+      maximum = r.maximum;
+      minimum = r.minimum;
+      growth = r.growth;
+      tail = subst (λ (k : ℕ). n.tail ≤ most_tail k) (sym (flag_back n.archiving r.archiving)) r.tail;
+      files = files_are bytes n.files_made n.listed c.0;
+      few_streams = omega (arith, rows_size, r.streams);
+      rows = rows_are layout bytes n.streams e.0 small;
+    }
+
+-- a slot of bytes without a wrong one spells an image
 pub record Spells (layout : Layout) (bytes : List ℕ) : Type 0 where
   pub image : IsImage layout (image_of layout bytes)
   pub spelled_is : drop 1 bytes ≡ spelled layout (image_of layout bytes) ++ drop 16384 bytes
@@ -284,10 +354,10 @@ read_is_spelled layout bytes l fits none =
     let numbers : List ℕ = flat_map number_bytes image.files in
     let rows : List ℕ = flat_map (spelled_row layout.longest_name) image.streams in
     let numbers_size : length numbers ≡ 2 * length image.files = length-all_pieces number_bytes 2 0 image.files (λ k lt. refl) in
-    let rows_of_image = rows_are layout bytes fits n.streams e.0 in
+    let may_be = image_may_be layout bytes none (small_bases layout bytes n.streams fits) in
     let bytes_size : length rows ≡ (16 + layout.longest_name) * length image.streams =
     length-all_pieces (spelled_row layout.longest_name) (16 + layout.longest_name) (record { name = []; base = 0 }) image.streams
-    (λ k lt. length-row layout.longest_name (row_in image.streams k) (rows_of_image.named k lt).few) in
+    (λ k lt. length-row layout.longest_name (row_in image.streams k) (may_be.rows.named k lt).few) in
     let rows_most : (16 + layout.longest_name) * n.streams ≤ (16 + layout.longest_name) * layout.most_streams =
     mul-le-mul_left (16 + layout.longest_name) r.streams in
     let products : (16 + layout.longest_name) * length image.streams ≡ (16 + layout.longest_name) * n.streams =
@@ -300,29 +370,12 @@ read_is_spelled layout bytes l fits none =
     passed_zeros bytes (file_place n.listed) 576 (omega (arith, r.listed.1, r.containers.1)) d.0 ∙ ap (λ (k : ℕ). replicate k 0 ++ drop 576 bytes) second in
     let table : List ℕ = flat_map field_bytes (fields layout n) in
     record {
-      image = record {
-        turn = r.turn;
-        shape = record { some_sectors = r.block.0; largest_block = r.block.1; two_blocks = r.container.0; largest_container = r.container.1 };
-        some_containers = r.containers.0;
-        containers_made = r.files_made.0;
-        few_made = r.files_made.1;
-        first = r.first.0;
-        some_listed = omega (arith, files_size, r.listed.0);
-        few_listed = omega (arith, files_size, r.listed.1);
-        last_id = omega (arith, files_size, r.listed.1, r.first.1);
-        maximum = r.maximum;
-        minimum = r.minimum;
-        growth = r.growth;
-        tail = subst (λ (k : ℕ). n.tail ≤ most_tail k) (sym archiving_is) r.tail;
-        files = files_are bytes fits n.files_made n.listed c.0;
-        few_streams = omega (arith, rows_size, r.streams);
-        rows = rows_of_image;
-      };
+      image = may_be;
       spelled_is = table_taken bytes fits layout right.1
           ∙ ap (λ (x : List ℕ). table ++ x) (passed_zeros bytes 40 64 (omega arith) b.0
           ∙ ap (λ (x : List ℕ). replicate 24 0 ++ x) (files_taken bytes fits n.files_made n.listed c.0
           ∙ ap (λ (x : List ℕ). numbers ++ x) (behind_files
-          ∙ ap (λ (x : List ℕ). replicate (512 - length numbers) 0 ++ x) (rows_taken layout bytes fits n.streams e.0
+          ∙ ap (λ (x : List ℕ). replicate (512 - length numbers) 0 ++ x) (rows_taken layout bytes n.streams e.0 fits
           ∙ ap (λ (x : List ℕ). rows ++ x) behind_rows))))
           ∙ parts table (replicate 24 0) numbers (replicate (512 - length numbers) 0) rows (replicate (15808 - length rows) 0) (drop 16384 bytes)
           ∙ ap (λ (k : Numbers). (filled 63 (flat_map field_bytes (fields layout k)) ++ (filled 512 numbers ++ filled 15808 rows)) ++ drop 16384 bytes) (sym same);

@@ -1,10 +1,13 @@
 // Where each field of a base copy stands in its slot, and which numbers it may have: the table that both writing and reading follow.
 // What differs between versions of the copies is in `Layout`.
 ghost use Rattle.std.specs.Prelude.{◌≡◌, ◌+◌, ◌*◌, ◌<◌};
-ghost use Rattle.clfs_base.specs.Layout.{file_place, row_bytes, row_place, required, optional, most_listed, most_minimum, most_tail, fields};
+ghost use Rattle.clfs_base.specs.Layout.{version_one, file_place, row_bytes, row_place, required, optional, most_listed, most_minimum, most_tail, fields};
 
 /// The bytes of a slot.
 pub const SLOT: u32 = 16384;
+
+/// The byte of a slot at which the archive tail stands.
+pub const TAIL_AT: u32 = 32;
 
 /// The first byte behind the fields.
 pub const FIELDS_END: u32 = 40;
@@ -209,4 +212,11 @@ pub fn row_place(layout: &Layout, i: u16) -> u32
     ensures { result ≡ row_place layout.now i }
 {
     ROWS_AT + row_bytes(layout) * i as u32
+}
+
+/// The byte of a slot at which the base of the stream so many after the first stands.
+pub fn base_place(i: u16) -> u32
+    ensures { result ≡ row_place version_one i + 8 }
+{
+    row_place(&VERSION_ONE, i) + 8
 }

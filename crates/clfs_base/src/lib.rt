@@ -24,7 +24,7 @@ pub use decoder::decode;
 pub use encoder::encode;
 pub use image::{BaseImage, Files, Row, Rows};
 pub use laws::copies_are_read_as_written;
-pub use layout::SLOT as SLOT_BYTES;
+pub use layout::{SLOT as SLOT_BYTES, TAIL_AT, base_place};
 pub use newest::read_newest;
 pub use refusal::{BaseRefusal, NewestRefusal};
 pub use rows::{first_copy_of_a_small_log, slots_of_a_base_file};

@@ -8,6 +8,7 @@ mod first_copy;
 mod format;
 mod manager;
 mod refusal;
+mod tables;
 
 pub use manager::{FormatRefused, Manager};
 pub use refusal::FormatRefusal;

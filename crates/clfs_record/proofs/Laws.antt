@@ -83,6 +83,47 @@ body_splits len body zeros =
 read_is : (x y : LogEntry × ℕ) → answered x ≡ answered y → x ≡ y
 read_is x y e = cc e
 
+-- what is read lies whole in the bytes
+pub read_whole : (lsn streams : ℕ) (bytes : List ℕ) (x : LogEntry × ℕ) → record_at lsn streams bytes ≡ Ok x → size (header_of bytes).len ≤ length bytes
+unfolding record_at
+read_whole lsn streams bytes x is =
+    let a = guard_ok _ _ _ _ is in
+    let b = guard_ok _ _ _ _ a.1 in
+    let long : record_header ≤ length bytes = ltb-false _ _ a.0 in
+    ltb-false _ _ b.0
+
+-- what is read is a record that fits, where its length is a number of four bytes
+pub read_fits : (lsn streams : ℕ) (bytes : List ℕ) (x : LogEntry × ℕ) → (header_of bytes).len < 2 ^ 32 → record_at lsn streams bytes ≡ Ok x
+    → FitsAt lsn streams x.0 × (x.1 ≡ size (length x.0.bytes)) × (x.1 ≤ length bytes)
+unfolding record_at
+read_fits lsn streams bytes x small is =
+    let h = header_of bytes in
+    let whole = read_whole lsn streams bytes x is in
+    let a = guard_ok _ _ _ _ is in
+    let b = guard_ok _ _ _ _ a.1 in
+    let c = unless_ok (λ at. at) _ _ _ b.1 in
+    let d = unless_ok (λ at. at) _ _ _ c.1 in
+    let long : record_header ≤ length bytes = ltb-false _ _ a.0 in
+    let fits_in : size h.len ≤ length bytes = ltb-false _ _ b.0 in
+    let good = right lsn streams h c.0 in
+    let clean : position (λ b. not (eqb b 0)) (take (filling h.len) (drop (record_header + h.len) bytes)) ≡ None = mapped_none _ _ d.0 in
+    let body = drop record_header bytes in
+    let data_size : length (take h.len body) ≡ h.len = length-take-le h.len body (omega (arith, whole, length-drop record_header bytes)) in
+    subst (λ (y : LogEntry × ℕ). FitsAt lsn streams y.0 × (y.1 ≡ size (length y.0.bytes)) × (y.1 ≤ length bytes)) (read_is _ _ d.1) (
+      record {
+        at = refl;
+        some_stream = good.some_stream;
+        stream = good.stream;
+        bytes = omega (arith, data_size, small);
+        previous = good.previous;
+        undo_next = good.undo_next;
+        new_base = base_back h.kind h.new_base lsn good.base;
+      },
+      sym (ap size data_size),
+      whole,
+    )
+
+-- bytes that aren't larger numbers spell what is read from them
 pub found : (lsn streams : ℕ) (bytes : List ℕ) (x : LogEntry × ℕ) → IsBytes bytes → record_at lsn streams bytes ≡ Ok x
     → (take x.1 bytes ≡ record_bytes x.0) × FitsAt lsn streams x.0
 unfolding record_at
@@ -107,19 +148,11 @@ found lsn streams bytes x fits is =
     let all : bytes ≡ record_bytes (entry_of lsn bytes) ++ drop n (drop h.len body) =
     header_takes bytes long fits ∙ ap (header_spelled h) (body_splits h.len body zeros)
     ∙ joined lsn h (take h.len body) (drop n (drop h.len body)) (entry_of lsn bytes) data_size (kind_back h.kind good.kind) good.zero_is refl in
-    let x_is : (entry_of lsn bytes, size h.len) ≡ x = read_is _ _ d.1 in
-    subst (λ (y : LogEntry × ℕ). (take y.1 bytes ≡ record_bytes y.0) × FitsAt lsn streams y.0) x_is (
-      ap (λ (l : List ℕ). take (size h.len) l) all
-          ∙ take_at (record_bytes (entry_of lsn bytes)) (drop n (drop h.len body)) (size h.len) (length-record_bytes (entry_of lsn bytes) ∙ ap size data_size),
-      record {
-        at = refl;
-        some_stream = good.some_stream;
-        stream = good.stream;
-        bytes = omega (arith, length-take h.len body, little_from-lt 0 4 bytes fits);
-        previous = good.previous;
-        undo_next = good.undo_next;
-        new_base = base_back h.kind h.new_base lsn good.base;
-      },
+    let x_is : (entry_of lsn bytes, size h.len) ≡ x = read_is _ _ d.1 in (
+      subst (λ (y : LogEntry × ℕ). take y.1 bytes ≡ record_bytes y.0) x_is
+          (ap (λ (l : List ℕ). take (size h.len) l) all
+          ∙ take_at (record_bytes (entry_of lsn bytes)) (drop n (drop h.len body)) (size h.len) (length-record_bytes (entry_of lsn bytes) ∙ ap size data_size)),
+      (read_fits lsn streams bytes x (omega (arith, little_from-lt 0 4 bytes fits)) is).0,
     )
 
 -- ---- and back

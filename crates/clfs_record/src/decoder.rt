@@ -272,9 +272,13 @@ pub fn no_spelling_begins_another()
         → FitsAt lsn streams a → FitsAt lsn others b → record_bytes a ++ x ≡ record_bytes b ++ y → (a ≡ b) × (x ≡ y) }
 {}
 
-/// What is spelled is read as the record, whatever follows it. A spelling has as many bytes as its record's size.
+/// What is spelled is read as the record, whatever follows it. A spelling has as many bytes as its record's size. What is read fits its
+/// LSN and the log's streams, and lies whole in the bytes, whatever numbers stand for these.
 pub fn records_are_read_as_written()
     ensures read { (lsn streams : ℕ) (entry : LogEntry) (rest : List ℕ) → lsn < 2 ^ 64 → streams < 2 ^ 16 → FitsAt lsn streams entry
         → record_at lsn streams (record_bytes entry ++ rest) ≡ Ok (entry, size (length entry.bytes)) }
     ensures length { (entry : LogEntry) → length (record_bytes entry) ≡ size (length entry.bytes) }
+    ensures fits { (lsn streams : ℕ) (bytes : List ℕ) (entry : LogEntry) (count : ℕ) → length bytes < 2 ^ 32
+        → record_at lsn streams bytes ≡ Ok (entry, count)
+        → FitsAt lsn streams entry × (count ≡ size (length entry.bytes)) × (count ≤ length bytes) }
 {}

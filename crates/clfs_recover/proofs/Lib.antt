@@ -10,6 +10,16 @@ pub mod Meanings
 pub mod Writings
 pub mod Joined
 pub mod Taken
-pub mod Opened
+pub mod OpenedLogs
+pub mod Binding
+pub mod ReadBlocks
+pub mod LaidBlocks
+pub mod LaidContainers
+pub mod FoundParts
+pub mod FoundBases
+pub mod FoundStreams
+pub mod FoundRecords
+pub mod ValidStates
+pub mod StorableStates
 pub mod Laid
 pub mod Counting

@@ -29,11 +29,11 @@ joined es (Ok others) = refl
 joined es (Err e) = refl
 
 -- the end of the last of some containers, or where the one before them ended
-abbrev end_behind : ℕ → List Container → ℕ
+abbrev pub end_behind : ℕ → List Container → ℕ
 end_behind end [] = end
 end_behind end (container ∷ containers) = last_end (container ∷ containers)
 
-ends_on : (container : Container) (others : List Container) → last_end (container ∷ others) ≡ end_behind (total container.blocks) others
+pub ends_on : (container : Container) (others : List Container) → last_end (container ∷ others) ≡ end_behind (total container.blocks) others
 ends_on container [] = refl
 ends_on container (other ∷ others) = refl
 

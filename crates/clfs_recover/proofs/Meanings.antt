@@ -106,7 +106,7 @@ closed_frame shape start bytes there closed =
     let gate : not (eqb (get_or bytes 0 0) 165) ≡ true = ap not (ne_eqb (get_or bytes 0 0) 165 closed) in
     pass_guard _ _ _ _ (ne_eqb (length bytes) 0 (λ e. absurd (omega (arith, e, there)))) (taken _ _ _ gate)
 
-opens_rest : (left : ℕ) (bytes : List ℕ) (open_blocks : List (List ℕ)) (rest : ℕ) → Opens left bytes open_blocks rest
+pub opens_rest : (left : ℕ) (bytes : List ℕ) (open_blocks : List (List ℕ)) (rest : ℕ) → Opens left bytes open_blocks rest
     → 512 * left ≡ 512 * rest + total open_blocks
 opens_rest left bytes [] rest opens = omega (arith, opens)
 opens_rest left bytes (block ∷ others) rest opens =

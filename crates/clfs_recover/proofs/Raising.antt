@@ -16,7 +16,7 @@ use Rattle.clfs_recover.specs.Bases.{raised}
 new_base_of : LogEntry → ℕ
 new_base_of entry = entry.new_base
 
-abbrev is_of : ℕ → LogEntry → Bool
+abbrev pub is_of : ℕ → LogEntry → Bool
 is_of i entry = eqb entry.stream (i + 1)
 
 -- a base with one record more
@@ -37,7 +37,7 @@ base_more rows before e i =
 pub length-bases_with : (rows : List Row) (entries : List LogEntry) → length (bases_with rows entries) ≡ length rows
 length-bases_with rows entries = length-map-range_with_len (base_with rows entries) 0 (length rows)
 
-base_at : (rows : List Row) (entries : List LogEntry) (i : ℕ) → i < length rows → get_or (bases_with rows entries) i 0 ≡ base_with rows entries i
+pub base_at : (rows : List Row) (entries : List LogEntry) (i : ℕ) → i < length rows → get_or (bases_with rows entries) i 0 ≡ base_with rows entries i
 base_at rows entries i lt = get_or-map-range_with_len (base_with rows entries) 0 (length rows) i i 0 lt (omega arith)
 
 -- A record raises the base of its stream and no other.

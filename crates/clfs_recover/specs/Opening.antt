@@ -19,10 +19,10 @@ abbrev pub parts_of : Walked → List LogEntry → Parts
 parts_of walked entries =
     record { slot = walked.slot; image = walked.image; entries = entries; bases = walked.bases; place = walked.place }
 
--- what is opened, with the heads of its records in place of them
-abbrev pub with_heads : Parts → HeadParts
-with_heads parts =
-    record { slot = parts.slot; image = parts.image; heads = map head_of parts.entries; bases = parts.bases; place = parts.place }
+-- what was opened with heads, with the records that are told in place of them
+abbrev pub told_parts : HeadParts → Parts
+told_parts opened =
+    record { slot = opened.slot; image = opened.image; entries = opened.entries.value; bases = opened.bases; place = opened.place }
 
 -- A refusal is the one that opening finds in files. A fault of the disk, or want of memory, may come in place of any answer.
 abbrev pub IsRefused : Files → LoadRefusal → Type 0
@@ -57,5 +57,5 @@ IsLoaded files (Err refusal) = IsRefused files refusal
 
 -- The same with the heads of the records.
 abbrev pub AreHeadsLoaded : Files → Result HeadParts LoadRefusal → Type 0
-AreHeadsLoaded files (Ok heads) = (parts : Parts) × (heads ≡ with_heads parts) × Finds files (Ok parts)
+AreHeadsLoaded files (Ok opened) = (opened.heads ≡ map head_of opened.entries.value) × Finds files (Ok (told_parts opened))
 AreHeadsLoaded files (Err refusal) = IsRefused files refusal

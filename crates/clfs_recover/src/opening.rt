@@ -1,5 +1,6 @@
 // Opening: a sync, the newest base copy, the walk, and what hangs on the records in the base copy.
 ghost use Rattle.std.specs.Prelude.{◌≡◌, ◌+◌, ◌-◌, ◌*◌, ◌^◌, ◌<◌, ◌≤◌, nat_lt, ℕ, List, [], length, map, position, OnOk, IfOk, IsErrOf, Ok};
+ghost use Rattle.clfs_lsn.specs.Head.{head_of};
 ghost use Rattle.clfs_lsn.specs.Format.{sector_bytes};
 ghost use Rattle.clfs_lsn.specs.Place.{IsSmall, frontier};
 ghost use Rattle.clfs_lsn.specs.Size.{IsShape};
@@ -12,16 +13,16 @@ ghost use Rattle.clfs_base.specs.Spelling.{IsImage};
 ghost use Rattle.clfs_recover.specs.Walk.{Container, walked, shape_of, image_fault, is_wrong_tail};
 ghost use Rattle.clfs_recover.specs.Files.{AreListed};
 ghost use Rattle.clfs_recover.specs.Gathering.{IsEnd};
-ghost use Rattle.clfs_recover.specs.Opening.{parts_of, with_heads, IsWalkOf, IsWalked, IsWalkedLog, IsLoaded, AreHeadsLoaded};
+ghost use Rattle.clfs_recover.specs.Opening.{parts_of, told_parts, IsWalkOf, IsWalked, IsWalkedLog, IsLoaded, AreHeadsLoaded};
 ghost use Rattle.clfs_recover.specs.Logs.{IsOpenedFrom};
 ghost use Rattle.clfs_recover.specs.declared.parts.Parts.{Parts};
 
 use crate::gatherer::Gatherer;
 use crate::listed::gather_listed;
-use crate::parts::{Bases, Entries, HeadParts, Heads, Parts};
+use crate::parts::{Bases, Entries, HeadGatherer, HeadParts, Parts};
 use crate::piece::Ahead;
 use crate::refusal::{LoadRefusal, damaged_slot};
-use clfs_base::{BaseImage, Row, read_newest};
+use clfs_base::{BaseImage, Row, TAIL_AT, base_place, read_newest};
 use clfs_container::open_blocks_are_one_list;
 use clfs_disk::{Disk, calls_join};
 use clfs_lsn::{Lsn, Place, SECTOR, Shape, frontier};
@@ -29,9 +30,6 @@ use std::alloc::{AllocError, Global};
 
 // The most bytes of a file that are read at a time.
 const PIECE: u32 = 1 << 20;
-
-// The byte of a slot at which the archive tail stands.
-const TAIL: u32 = 32;
 
 /// What a walk leaves beside the records, which its gatherer has.
 #[derive(Debug, Drop)]
@@ -44,14 +42,6 @@ pub struct Walked {
     pub bases: Bases,
     /// Where the log goes on. No block is open there.
     pub place: Place,
-}
-
-// The byte of a slot at which the base of a stream's row stands.
-fn base_place(row: usize) -> u32
-    requires { row < 2 ^ 16 }
-    ensures { result ≡ row_place version_one row + 8 }
-{
-    576 + 48 * row as u32 + 8
 }
 
 // The first row whose base lies above an LSN.
@@ -74,10 +64,10 @@ fn wrong_image(image: &BaseImage, frontier: Lsn) -> Option<u32>
     ensures { result ≡ image_fault image.now frontier }
 {
     if let Some(row) = first_high(image.streams.as_slice(), frontier) {
-        return Some(base_place(row));
+        return Some(base_place(row as u16));
     }
     if is_wrong_tail(image, frontier) {
-        return Some(TAIL);
+        return Some(TAIL_AT);
     }
     None
 }
@@ -210,7 +200,7 @@ pub fn load<D: Disk>(alloc: Global, disk: &mut D) -> Result<Parts, LoadRefusal>
 /// Opens a log with the heads of its records, as `load` does with the records.
 pub fn load_heads<D: Disk>(alloc: Global, disk: &mut D) -> Result<HeadParts, LoadRefusal>
     ensures exact { TellsContents (D.state disk.old) → AreHeadsLoaded (D.state disk.old).files result }
-    ensures log { IfOk result (λ heads. (parts : Parts) × (heads ≡ with_heads parts) × IsOpenedFrom (D.state disk.old) parts) }
+    ensures log { IfOk result (λ opened. (opened.heads ≡ map head_of opened.entries.value) × IsOpenedFrom (D.state disk.old) (told_parts opened)) }
     ensures settled { OnOk result (IsHonest (D.state disk.old) → IsSettled (D.state disk.new)) }
     ensures same { Unchanged (D.state disk.old).files (D.state disk.new).files }
     ensures time { Passes Unchanged (D.state disk.old) (D.state disk.new) }
@@ -218,12 +208,13 @@ pub fn load_heads<D: Disk>(alloc: Global, disk: &mut D) -> Result<HeadParts, Loa
     ensures steady { IsSteady (D.state disk.old) → (IsErrOf result LoadRefusal.DiskFault → ⊥)
         × ((D.state disk.new).faults ≡ (D.state disk.old).faults) }
 {
-    let mut heads = Heads::new(alloc);
-    let walked = walk(alloc, disk, &mut heads)?;
+    let mut gatherer = HeadGatherer::new(alloc);
+    let walked = walk(alloc, disk, &mut gatherer)?;
     Ok(HeadParts {
         slot: walked.slot,
         image: walked.image,
-        heads,
+        heads: gatherer.heads,
+        entries: gatherer.entries,
         bases: walked.bases,
         place: walked.place,
     })

@@ -1,10 +1,13 @@
 // What opening a log gives: the newest base copy, the records or their heads, the bases of the streams, and the place.
-ghost use Rattle.std.specs.Prelude.{◌≡◌, [], map};
+ghost use Rattle.std.specs.Prelude.{◌≡◌, ◌∷◌, ◌++◌, [], map};
+ghost use Rattle.clfs_record.specs.Decoding.{entry_with};
 
 use crate::gatherer::Gatherer;
 use clfs_base::BaseImage;
 use clfs_lsn::{Bytes, Head, LogEntry, Lsn, Place};
+use clfs_told::Told;
 use std::alloc::{AllocError, Global};
+use std::collections::LinkedList;
 use std::marker::Model;
 
 /// Records in the order of their LSNs.
@@ -107,15 +110,54 @@ impl Heads {
     }
 }
 
-impl Gatherer for Heads {
+/// Takes in the heads of records. The records themselves are told, for clauses alone.
+#[derive(Drop)]
+pub(crate) struct HeadGatherer {
+    pub heads: Heads,
+    pub entries: Told<LinkedList<LogEntry>>,
+}
+
+impl HeadGatherer {
+    // No records yet.
+    pub fn new(alloc: Global) -> HeadGatherer
+        ensures heads { result.heads ≡ [] }
+        ensures entries { result.entries.value ≡ [] }
+    {
+        HeadGatherer {
+            heads: Heads::new(alloc),
+            entries: no_entries(),
+        }
+    }
+}
+
+impl Gatherer for HeadGatherer {
     ghost use Rattle.clfs_lsn.specs.Head.{head_of};
 
-    ghost has = { λ a entries. a ≡ map head_of entries };
+    ghost has = { λ a entries. (a.entries.value ≡ entries) × (a.heads ≡ map head_of entries) };
 
-    fn gather(&mut self, _alloc: Global, head: &Head, _bytes: &[u8]) -> Result<(), AllocError> {
-        self.heads.push(*head)?;
+    fn gather(&mut self, _alloc: Global, head: &Head, bytes: &[u8]) -> Result<(), AllocError> {
+        self.heads.heads.push(*head)?;
+        self.entries = with_entry(&self.entries, head, bytes);
         Ok(())
     }
+}
+
+// No records.
+fn no_entries() -> Told<LinkedList<LogEntry>>
+    ensures { result.value ≡ [] }
+{
+    Told::pick(&())
+}
+
+// The records with one more behind them, by its head and its data.
+fn with_entry(
+    entries: &Told<LinkedList<LogEntry>>,
+    head: &Head,
+    bytes: &[u8],
+) -> Told<LinkedList<LogEntry>>
+    ensures { result.value ≡ entries.now.value ++ entry_with head.now bytes.now ∷ [] }
+{
+    entries.next(&(head, bytes))
 }
 
 /// The bases of the streams in the order of their numbers.
@@ -172,7 +214,7 @@ pub struct Parts {
 }
 
 /// What files hold of a log, with the heads of its records.
-#[derive(Debug, Drop)]
+#[derive(Drop)]
 pub struct HeadParts {
     /// The slot of the newest base copy, 0 or 1.
     pub slot: u32,
@@ -180,6 +222,8 @@ pub struct HeadParts {
     pub image: BaseImage,
     /// The heads of the records of the listed containers.
     pub heads: Heads,
+    /// These records, for clauses alone: nothing of their data is kept.
+    pub entries: Told<LinkedList<LogEntry>>,
     /// The bases of the streams, one for each row of the base copy.
     pub bases: Bases,
     /// Where the log goes on. No block is open there.

@@ -2,13 +2,10 @@
 ghost use Rattle.std.specs.Prelude.{◌≡◌};
 ghost use Rattle.clfs_recover.specs.Walk.{slot_offset};
 
-use clfs_base::NewestRefusal;
+use clfs_base::{NewestRefusal, SLOT_BYTES};
 use clfs_disk::Failed;
 use std::alloc::AllocError;
 use thiserror::Error;
-
-// The bytes of a slot of the base file.
-const SLOT: u32 = 16384;
 
 /// Why a log wasn't opened.
 #[derive(Clone, Copy, Debug, PartialEq, Eq, Error)]
@@ -75,7 +72,7 @@ pub(crate) fn damaged_slot(slot: u32, at: u32) -> LoadRefusal
 {
     LoadRefusal::Damaged {
         container: 0,
-        offset: if slot == 0 { 0 } else { SLOT },
+        offset: if slot == 0 { 0 } else { SLOT_BYTES },
         at,
     }
 }

@@ -1,3 +1,4 @@
 pub mod Holds
+pub mod Joining
 pub mod Leasts
 pub mod Trees

@@ -1,10 +1,10 @@
 // The first live LSNs of the streams, and what they hold back.
-ghost use Rattle.std.specs.Prelude.{◌≡◌, ℕ, ◌+◌, ◌-◌, ◌^◌, ◌<◌, ◌≤◌, List, [], ◌∷◌, ◌++◌, Option, None, Some, is_some, if◌then◌else◌, length, slice_set, slice_index_or, OnOk};
+ghost use Rattle.std.specs.Prelude.{◌≡◌, ◌≢◌, All, ℕ, ◌+◌, ◌-◌, ◌^◌, ◌<◌, ◌≤◌, List, [], ◌∷◌, ◌++◌, Option, None, Some, is_some, if◌then◌else◌, length, slice_set, slice_index_or, OnOk};
 ghost use Rattle.clfs_lsn.specs.Place.{IsSmall, frontier};
 ghost use Rattle.clfs_lsn.specs.Space.{active_containers};
 ghost use Rattle.clfs_lsn.specs.declared.entry.Head.{Head};
 ghost use Rattle.clfs_model.specs.Heads.{hold_of};
-ghost use Rattle.clfs_tail.specs.Firsts.{AreFirsts, hold_among};
+ghost use Rattle.clfs_tail.specs.Firsts.{first_live, AreFirsts, hold_among};
 
 use crate::tree::{Node, least_at, lesser, settle};
 use clfs_lsn::{Lsn, Place, frontier};
@@ -54,6 +54,7 @@ impl LogTail {
     pub fn add(&mut self)
         requires room { 1 ≤ self.old.room }
         ensures firsts { self.new.firsts ≡ self.old.firsts ++ None ∷ [] }
+        ensures told { (bases : ℕ → ℕ) (heads : List Head) → AreFirsts self.old.firsts bases heads → AreFirsts self.new.firsts bases heads }
         ensures room { self.new.room + 1 ≡ self.old.room }
     {
         self.nodes.push_reserved(Node {
@@ -67,6 +68,10 @@ impl LogTail {
         requires some { 1 ≤ stream }
         requires there { stream ≤ length self.old.firsts }
         ensures firsts { self.new.firsts ≡ slice_set self.old.firsts (stream - 1) first }
+        ensures count { length self.new.firsts ≡ length self.old.firsts }
+        ensures told { (bases others : ℕ → ℕ) (heads : List Head) → AreFirsts self.old.firsts bases heads
+            → ((other : ℕ) → other ≢ stream → others other ≡ bases other) → first ≡ first_live others heads stream
+            → AreFirsts self.new.firsts others heads }
         ensures room { self.new.room ≡ self.old.room }
     {
         let place = stream as usize - 1;
@@ -79,6 +84,10 @@ impl LogTail {
         requires some { 1 ≤ stream }
         requires there { stream ≤ length self.old.firsts }
         ensures firsts { self.new.firsts ≡ (if is_some (slice_index_or self.old.firsts (stream - 1) None) then self.old.firsts else slice_set self.old.firsts (stream - 1) (Some lsn)) }
+        ensures count { length self.new.firsts ≡ length self.old.firsts }
+        ensures told { (bases : ℕ → ℕ) (heads : List Head) (head : Head) → AreFirsts self.old.firsts bases heads
+            → head.stream ≡ stream → head.lsn ≡ lsn → All (λ (other : Head). other.lsn < lsn) heads → bases stream ≤ lsn
+            → AreFirsts self.new.firsts bases (heads ++ head ∷ []) }
         ensures room { self.new.room ≡ self.old.room }
     {
         if self.nodes[stream as usize - 1].first.is_none() {

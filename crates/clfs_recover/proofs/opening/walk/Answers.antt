@@ -4,7 +4,7 @@ use Rattle.clfs_disk.specs.State.{TellsContents}
 use Rattle.clfs_base.specs.Slots.{newest_of}
 use Rattle.clfs_recover.proofs.Disks.{tells_still, settled_still, always}
 use Rattle.clfs_recover.proofs.Finding.{by_copy, listed_same}
-use Rattle.clfs_recover.proofs.Opened.{walked_is_opened}
+use Rattle.clfs_recover.proofs.OpenedLogs.{walked_is_opened}
 use Rattle.clfs_recover.proofs.opening.walk.Goals as goal
 
 pub returns-clause-exact : goal.returns-clause-exact

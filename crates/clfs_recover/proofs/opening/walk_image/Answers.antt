@@ -8,7 +8,7 @@ use Rattle.clfs_recover.specs.Files.{AreListed}
 use Rattle.clfs_recover.specs.Gathering.{RefusesAs, TakesListed}
 use Rattle.clfs_recover.proofs.Raising.{first_bases, length-bases_with}
 use Rattle.clfs_recover.proofs.Finding.{walk_refused, image_wrong, image_right}
-use Rattle.clfs_recover.proofs.Opened.{fits_records}
+use Rattle.clfs_recover.proofs.OpenedLogs.{fits_records}
 use Rattle.clfs_recover.proofs.opening.walk_image.Goals as goal
 
 abbrev bases_of : List Row → List ℕ

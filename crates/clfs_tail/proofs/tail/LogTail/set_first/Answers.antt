@@ -2,6 +2,7 @@ use Rattle.std.proofs.Common.{arith, ap, ◌∙◌, ◌-◌, ◌≤◌, length}
 use Rattle.std.proofs.lemmas.List.{map-set, length-map}
 use Rattle.clfs_tail.specs.declared.tree.Node.{Node}
 use Rattle.clfs_tail.specs.Row.{Rows}
+use Rattle.clfs_tail.proofs.Joining.{moved}
 use Rattle.clfs_tail.proofs.Trees.{right_but_there}
 use Rattle.clfs_tail.proofs.tail.LogTail.set_first.Goals as goal
 
@@ -16,3 +17,9 @@ settle-requires-clause-tree c =
 pub returns-clause-firsts : goal.returns-clause-firsts
 returns-clause-firsts c =
     rw (← c.self.view_is) (c.settle.ensures.firsts ∙ map-set (λ (node : Node). node.first) c.self.inside.nodes.items (c.args.stream - 1) _)
+
+pub returns-clause-told : goal.returns-clause-told
+returns-clause-told c = λ bases others heads are same first.
+    let long = ap (λ (row : Rows). length row.firsts) c.self.view_is in
+    rw (c.settle.ensures.firsts, map-set (λ (node : Node). node.first) c.self.inside.nodes.items (c.args.stream - 1) _)
+    (moved _ c.args.stream c.args.first bases others heads c.requires.some (omega (arith, long, c.requires.there)) (rw (← c.self.view_is) at are) same first)

@@ -1,0 +1,77 @@
+-- The bases with records: at least those of the rows and the new ones of the records, and no further than both go.
+use Rattle.std.proofs.Common.{◌≡◌, ◌⊎◌, inl, inr, ℕ, ◌+◌, ◌-◌, ◌<◌, ◌≤◌, Bool, true, false, eqb, max, List, [], ◌∷◌, length, get_or, map, refl, sym, ◌∙◌, ap, subst, arith}
+use Rattle.std.specs.List.{All, AllByRecursion, fold, filter}
+use Rattle.std.proofs.lemmas.Bool.{cases_Bool, eq-eqb}
+use Rattle.std.proofs.lemmas.List.Elements.{All-from_recursion}
+use Rattle.clfs_lsn.specs.Spelling.{BaseFits}
+use Rattle.clfs_lsn.specs.declared.entry.LogEntry.{LogEntry}
+use Rattle.clfs_lsn.specs.declared.entry.Kind.{Kind}
+use Rattle.clfs_lsn.specs.declared.entry.Kind.TheVariants.{Plain, Restart}
+use Rattle.clfs_base.specs.declared.image.Row.{Row}
+use Rattle.clfs_base.specs.Spelling.{row_in}
+use Rattle.clfs_recover.specs.Walk.{base_with, bases_with}
+use Rattle.clfs_recover.proofs.Raising.{is_of, base_at, length-bases_with}
+
+-- a new base is at most its record's LSN
+pub base_low : (kind : Kind) (lsn base : ℕ) → BaseFits kind lsn base → base ≤ lsn
+base_low Plain lsn base is = omega (arith, is)
+base_low Restart lsn base is = is
+
+-- the greatest of some numbers is at least each
+greatest_first : (n : ℕ) (ns : List ℕ) → n ≤ fold max n ns
+greatest_first n [] = omega arith
+greatest_first n (m ∷ ms) = omega (arith, greatest_first (max n m) ms)
+
+greatest_above : (n : ℕ) (ns : List ℕ) → AllByRecursion (λ m. m ≤ fold max n ns) ns
+greatest_above n [] = tt
+greatest_above n (m ∷ ms) = (omega (arith, greatest_first (max n m) ms), greatest_above (max n m) ms)
+
+-- and at most what each is
+greatest_below : (bound n : ℕ) (ns : List ℕ) → n ≤ bound → AllByRecursion (λ m. m ≤ bound) ns → fold max n ns ≤ bound
+greatest_below bound n [] le all = le
+greatest_below bound n (m ∷ ms) le all = greatest_below bound (max n m) ms (omega (arith, le, all.0)) all.1
+
+-- the new bases of the records of a stream
+abbrev new_bases : ℕ → List LogEntry → List ℕ
+new_bases i entries = map (λ (entry : LogEntry). entry.new_base) (filter (is_of i) entries)
+
+-- what is so of the new bases of all records is so of those of a stream's
+of_stream : (P : ℕ → Type 0) (i : ℕ) (entries : List LogEntry) → AllByRecursion (λ (entry : LogEntry). P entry.new_base) entries
+    → AllByRecursion P (new_bases i entries)
+of_stream P i [] all = tt
+of_stream P i (entry ∷ entries) all = elim (cases_Bool (is_of i entry)) [
+  | inl here ↦ rw here (all.0, of_stream P i entries all.1)
+  | inr other ↦ rw other (of_stream P i entries all.1)
+]
+
+absurd_test : {A : Type 0} (b : Bool) → b ≡ false → b ≡ true → A
+absurd_test b fails passes = absurd (cc)
+
+-- and the other way round
+of_records : (P : ℕ → Type 0) (i : ℕ) (entries : List LogEntry) → AllByRecursion P (new_bases i entries)
+    → AllByRecursion (λ (entry : LogEntry). is_of i entry ≡ true → P entry.new_base) entries
+of_records P i [] all = tt
+of_records P i (entry ∷ entries) all = elim (cases_Bool (is_of i entry)) [
+  | inl here ↦
+      let them = rw here at all in
+      (λ passes. them.0, of_records P i entries them.1)
+  | inr other ↦ (λ passes. absurd_test (is_of i entry) other passes, of_records P i entries (rw other at all))
+]
+
+module _ (rows : List Row) (entries : List LogEntry) where
+  -- a base with records is at least the row's
+  pub base_from_row : (i : ℕ) → (row_in rows i).base ≤ base_with rows entries i
+  base_from_row i = greatest_first (row_in rows i).base (new_bases i entries)
+
+  -- it is at least the new base of each record of its stream
+  pub base_from_records : All (λ (entry : LogEntry). 1 ≤ entry.stream → entry.new_base ≤ base_with rows entries (entry.stream - 1)) entries
+  base_from_records k d lt some =
+      let i : ℕ = (get_or entries k d).stream - 1 in
+      let all = of_records (λ n. n ≤ base_with rows entries i) i entries (greatest_above (row_in rows i).base (new_bases i entries)) in
+      All-from_recursion (λ (entry : LogEntry). is_of i entry ≡ true → entry.new_base ≤ base_with rows entries i) entries all k d lt
+      (eq-eqb (get_or entries k d).stream (i + 1) (omega (arith, some)))
+
+  -- and no further than the row's and the new ones go
+  pub base_to : (bound i : ℕ) → (row_in rows i).base ≤ bound → AllByRecursion (λ (entry : LogEntry). entry.new_base ≤ bound) entries
+      → base_with rows entries i ≤ bound
+  base_to bound i le all = greatest_below bound (row_in rows i).base (new_bases i entries) le (of_stream (λ n. n ≤ bound) i entries all)

@@ -1,0 +1,105 @@
+-- The state of parts that opening finds is one that files can hold, and its own flushed part.
+use Rattle.std.proofs.Common.{◌≡◌, ◌⊎◌, inl, inr, ℕ, ◌+◌, ◌-◌, ◌*◌, ◌/◌, ◌%◌, ◌^◌, ◌<◌, ◌≤◌, List, [], ◌∷◌, length, get_or, None, refl, sym, ◌∙◌, ap, subst, arith}
+use Rattle.std.specs.Prelude.{All}
+use Rattle.std.proofs.lemmas.List.Elements.{All-from_recursion, recursion_from_All}
+use Rattle.clfs_lsn.specs.Lsn.{lsn_number, container_of, offset_of}
+use Rattle.clfs_lsn.specs.Place.{block_end, frontier}
+use Rattle.clfs_lsn.specs.Spelling.{FitsAt}
+use Rattle.clfs_lsn.specs.declared.entry.LogEntry.{LogEntry}
+use Rattle.clfs_lsn.specs.declared.place.Place.{Place}
+use Rattle.clfs_disk.specs.Files.{Files}
+use Rattle.clfs_block.specs.Judging.{AreReadAsWritten}
+use Rattle.clfs_base.specs.declared.image.BaseImage.{BaseImage}
+use Rattle.clfs_model.specs.declared.state.State.{State}
+use Rattle.clfs_model.specs.declared.state.Stream.{Stream}
+use Rattle.clfs_model.specs.Flush.{flushed, cut}
+use Rattle.clfs_model.specs.Refusals.{name_fault}
+use Rattle.clfs_model.specs.Storable.{before_all, behind_all, GoesOnAt, HasMovedBase, IsAreaWithinLimits, IsStorable}
+use Rattle.clfs_model.specs.Valid.{IsValid}
+use Rattle.clfs_recover.specs.Walk.{base_with}
+use Rattle.clfs_recover.specs.Files.{streams_with, state_of, StandsFor}
+use Rattle.clfs_recover.specs.declared.parts.Parts.{Parts}
+use Rattle.clfs_recover.proofs.FoundBases.{base_from_records}
+use Rattle.clfs_recover.proofs.FoundParts.{AreImagesRead, AreOpened, found_opened}
+use Rattle.clfs_recover.proofs.FoundRecords.{all_kept, from_both}
+use Rattle.clfs_recover.proofs.FoundStreams.{length-streams_with, all_streams, legal_name, base_there}
+use Rattle.clfs_recover.proofs.LaidBlocks.{BeginsAt}
+use Rattle.clfs_recover.proofs.ReadBlocks.{ReadsFit}
+use Rattle.clfs_recover.proofs.ValidStates.{frontier_is, below, same_length, base_is, valid}
+
+module _ (parts : Parts) (buffers : ℕ) (is : AreOpened parts) where
+  abbrev s : State
+  s = state_of parts buffers
+
+  abbrev image : BaseImage
+  image = parts.image
+
+  moved_base : (entry : LogEntry) → FitsAt entry.lsn (length image.streams) entry
+      → (1 ≤ entry.stream → entry.new_base ≤ base_with image.streams parts.entries (entry.stream - 1)) → HasMovedBase s entry
+  moved_base entry fits moved = record {
+    own = fits.new_base;
+    moved =
+        let at = base_there image.streams parts.bases (same_length parts buffers is) s refl entry.stream fits.some_stream fits.stream in
+        let base = base_is parts buffers is (entry.stream - 1) (omega (arith, fits.some_stream, fits.stream)) in
+        let further = moved fits.some_stream in
+        omega (arith, at, base, further);
+  }
+
+  goes_on : BeginsAt (behind_all before_all parts.entries) parts.place.container parts.place.offset → GoesOnAt (behind_all before_all parts.entries) parts.place
+  goes_on (inl here) = inr (inl (λ i. record { container = sym here.0 i; offset = here.1 i; used = is.closed.0 i; records = is.closed.1 i }))
+  goes_on (inr further) =
+      inr (inr (further.0, λ i. record { container = parts.place.container; offset = further.1 i; used = is.closed.0 i; records = is.closed.1 i }))
+
+  pub storable : IsStorable s
+  storable = record {
+    bases = All-from_recursion (HasMovedBase s) parts.entries
+        (from_both (λ (entry : LogEntry). FitsAt entry.lsn (length image.streams) entry)
+        (λ (entry : LogEntry). 1 ≤ entry.stream → entry.new_base ≤ base_with image.streams parts.entries (entry.stream - 1)) (HasMovedBase s) parts.entries moved_base
+        is.laid.fit (recursion_from_All (λ (entry : LogEntry). 1 ≤ entry.stream → entry.new_base ≤ base_with image.streams parts.entries (entry.stream - 1))
+        parts.entries (base_from_records image.streams parts.entries)));
+    blocks = record {
+      laid = is.laid.laid;
+      place = goes_on is.laid.next;
+      container = omega (arith, is.container_is, is.image_is.last_id);
+    };
+    limits = record {
+      names = all_streams image.streams parts.bases (same_length parts buffers is) (λ (stream : Stream). name_fault stream.name ≡ None)
+          (λ i lt. legal_name _ (is.image_is.rows.named i lt));
+      few_streams =
+          let long = length-streams_with image.streams parts.bases (same_length parts buffers is) in omega (arith, long, is.image_is.few_streams);
+      few_areas = λ client. omega arith;
+      areas = All-from_recursion (IsAreaWithinLimits s) [] tt;
+    };
+  }
+
+  pub flushed_is : flushed s ≡ frontier parts.place
+  flushed_is = sym (frontier_is parts buffers is)
+
+  pub cut_is : cut s ≡ s
+  cut_is =
+      let low : parts.place.offset ≤ 8388608 = omega (arith, is.laid.within, is.image_is.shape.largest_container) in
+      let container : container_of (flushed s) ≡ parts.place.container = omega (arith, low) in
+      let offset : offset_of (flushed s) ≡ parts.place.offset = omega (arith, low, is.laid.whole) in
+      let kept = all_kept (flushed s) parts.entries (below parts buffers is) in
+      λ i. record s {
+        records = kept i;
+        place = record { container = container i; offset = offset i; used = sym is.closed.0 i; records = sym is.closed.1 i };
+      }
+
+-- ---- files that stand for a state
+
+module _ (images : AreImagesRead) (written : AreReadAsWritten) (reads : ReadsFit) (files : Files) (s : State) (stands : StandsFor files s) where
+  opened : AreOpened stands.parts
+  opened = found_opened images written reads files stands.parts stands.found
+
+  pub stands_valid : 1 ≤ s.buffers → s.buffers ≤ 64 → IsValid s
+  stands_valid some few = subst IsValid (sym stands.is) (valid stands.parts s.buffers opened some few)
+
+  pub stands_storable : IsStorable s
+  stands_storable = subst IsStorable (sym stands.is) (storable stands.parts s.buffers opened)
+
+  pub stands_cut : cut s ≡ s
+  stands_cut = subst (λ (t : State). cut t ≡ t) (sym stands.is) (cut_is stands.parts s.buffers opened)
+
+  pub stands_flushed : flushed s ≡ frontier s.place
+  stands_flushed = subst (λ (t : State). flushed t ≡ frontier t.place) (sym stands.is) (flushed_is stands.parts s.buffers opened)
