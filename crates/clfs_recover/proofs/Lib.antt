@@ -4,12 +4,12 @@ pub mod Blocks
 pub mod Containers
 pub mod Pieces
 pub mod Disks
-pub mod Listing
 pub mod Finding
 pub mod Meanings
 pub mod Writings
 pub mod Joined
 pub mod Taken
+pub mod Listing
 pub mod OpenedLogs
 pub mod Binding
 pub mod ReadBlocks
