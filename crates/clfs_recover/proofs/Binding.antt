@@ -1,5 +1,5 @@
 -- Answers that come of earlier ones.
-use Rattle.std.proofs.Common.{◌≡◌, Result, Ok, Err, refl, sym, ◌∙◌}
+use Rattle.std.proofs.Common.{◌≡◌, Option, Some, None, Result, Ok, Err, refl, sym, ◌∙◌}
 use Rattle.clfs_recover.specs.Records.{◌>>=◌, told_as}
 
 -- where a later answer is a value, the earlier one was

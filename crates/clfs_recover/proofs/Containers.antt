@@ -1,4 +1,4 @@
--- The open blocks of a container as the walk meets them.
+-- What a block is judged by: itself and a front of what begins with it, its gate, and the sectors that are left for it.
 use Rattle.std.proofs.Common.{◌≡◌, inr, ⊎_elim, ℕ, ◌+◌, ◌-◌, ◌*◌, ◌/◌, ◌%◌, ◌^◌, ◌<◌, ◌≤◌, Bool, true, false, cond, not, eqb, ltb, List, [], ◌∷◌, length, get_or, take}
 use Rattle.std.proofs.Common.{Option, Some, None, Result, Ok, Err, refl, sym, ◌∙◌, ap, arith}
 use Rattle.std.proofs.lemmas.List.{get_or-drop}
@@ -17,17 +17,10 @@ use Rattle.clfs_block.specs.declared.head.BlockRefusal.{BlockRefusal}
 use Rattle.clfs_block.specs.declared.head.BlockRefusal.TheVariants as blocks
 use Rattle.clfs_recover.specs.Records.{◌>>=◌, told_as, records_from, block_records}
 use Rattle.clfs_recover.specs.Fronts.{IsFrontOf}
-use Rattle.clfs_recover.specs.declared.refusal.LoadRefusal.{LoadRefusal}
 use Rattle.clfs_recover.proofs.Blocks.{block_refused, rest_has_no_gate}
-
-abbrev Records : Type 0
-Records = Result (List LogEntry) LoadRefusal
 
 abbrev BlockRecords : Type 0
 BlockRecords = Result (List LogEntry) BlockRefusal
-
-abbrev framed : Result BlockHead BlockRefusal → BlockHead → Type 0
-framed r head = r ≡ Ok head
 
 abbrev refused : BlockRefusal → Result BlockHead BlockRefusal
 refused refusal = Err refusal
