@@ -1,4 +1,4 @@
-use Rattle.std.proofs.Common.{ℕ, ◌*◌, List, ◌++◌, Option, Some, None, Result, Ok, Err, drop, vec_len, refl, rules, sym, ◌∙◌, ap, subst, arith}
+use Rattle.std.proofs.Common.{ℕ, ◌*◌, ◌++◌, Option, Some, None, Result, Ok, Err, vec_len, refl, rules, ◌∙◌, ap, subst, arith}
 use Rattle.std.proofs.lemmas.Result.{err_from_is_err_and}
 use Rattle.clfs_lsn.specs.Lsn.{lsn_number}
 use Rattle.clfs_disk.specs.Files.{Unchanged}
@@ -6,11 +6,10 @@ use Rattle.clfs_disk.specs.State.{TellsContents}
 use Rattle.clfs_block.specs.Frame.{AreBytes}
 use Rattle.clfs_recover.specs.Records.{block_records}
 use Rattle.clfs_recover.specs.Gathering.{GathersBlock}
-use Rattle.clfs_recover.specs.Fronts.{IsFrontOf}
 use Rattle.clfs_recover.specs.declared.refusal.LoadRefusal.{LoadRefusal}
 use Rattle.clfs_recover.proofs.Containers.{block_end}
 use Rattle.clfs_recover.proofs.Taken.{starts, goes_on, is_closed, is_full, is_refused}
-use Rattle.clfs_recover.proofs.Pieces.{shown_front, shows_still}
+use Rattle.clfs_recover.proofs.Pieces.{shows_still, front_still}
 use Rattle.clfs_recover.proofs.Disks.{tells_still, steady_still}
 use Rattle.clfs_recover.proofs.container.gather_container.Goals as goal
 
@@ -61,12 +60,11 @@ returns-in_err-sectors-clause-refused g c tells rows before blocks has listed =
     let first = g.D.Disk.state c.args.disk.now in
     let file = c.args.listed.now.file in
     let at = c.loop-offset.invariant.behind rows before has in
-    let shows = λ (tells : TellsContents first).
-    shows_still (now.files file) (first.files file) c.loop-offset.piece c.cover.new.piece (c.loop-offset.invariant.same file)
-    (c.in_ok-cover.ensures.shows (tells_still Unchanged first now c.loop-offset.invariant.time tells)) (c.loop-offset.invariant.shows tells) in
     let shown = λ (tells : TellsContents first).
-    subst (λ (l : List ℕ). IsFrontOf (512 * c.args.shape.now.block_sectors) (drop c.loop-offset.offset (first.files file)) l) (sym c.bytes_from-bytes.ensures)
-    (shown_front (first.files file) c.cover.new.piece c.loop-offset.offset (512 * c.args.shape.now.block_sectors) (shows tells) c.in_ok-cover.ensures.reach) in
+    front_still (now.files file) (first.files file) c.loop-offset.piece c.cover.new.piece c.loop-offset.offset (512 * c.args.shape.now.block_sectors)
+    c.bytes_from-bytes.result.now (c.loop-offset.invariant.same file)
+    (c.in_ok-cover.ensures.shows (tells_still Unchanged first now c.loop-offset.invariant.time tells)) (c.loop-offset.invariant.shows tells)
+    c.in_ok-cover.ensures.reach c.bytes_from-bytes.ensures in
     let gathers = subst (λ (n : ℕ). GathersBlock (g.G.Gatherer.has c.gather_block.new.gatherer) rows c.gather_block.new.bases.items (before ++ at.entries)
     c.args.listed.now.id c.loop-offset.offset (Err c.in_err-sectors.field-0.0)
     (block_records c.args.shape.now n (lsn_number c.args.listed.now.id c.loop-offset.offset 0) c.bytes_from-bytes.result.now))
@@ -82,12 +80,11 @@ loop-offset-preserved g c =
     let now = g.D.Disk.state c.loop-offset.disk in
     let first = g.D.Disk.state c.args.disk.now in
     let file = c.args.listed.now.file in
-    let shows = λ (tells : TellsContents first).
-    shows_still (now.files file) (first.files file) c.loop-offset.piece c.cover.new.piece (c.loop-offset.invariant.same file)
-    (c.in_ok-cover.ensures.shows (tells_still Unchanged first now c.loop-offset.invariant.time tells)) (c.loop-offset.invariant.shows tells) in
     let shown = λ (tells : TellsContents first).
-    subst (λ (l : List ℕ). IsFrontOf (512 * c.args.shape.now.block_sectors) (drop c.loop-offset.offset (first.files file)) l) (sym c.bytes_from-bytes.ensures)
-    (shown_front (first.files file) c.cover.new.piece c.loop-offset.offset (512 * c.args.shape.now.block_sectors) (shows tells) c.in_ok-cover.ensures.reach) in
+    front_still (now.files file) (first.files file) c.loop-offset.piece c.cover.new.piece c.loop-offset.offset (512 * c.args.shape.now.block_sectors)
+    c.bytes_from-bytes.result.now (c.loop-offset.invariant.same file)
+    (c.in_ok-cover.ensures.shows (tells_still Unchanged first now c.loop-offset.invariant.time tells)) (c.loop-offset.invariant.shows tells)
+    c.in_ok-cover.ensures.reach c.bytes_from-bytes.ensures in
     let framed = c.gather_block.ensures.framed c.in-Some.sectors (c.in_ok-sectors.was ∙ ap found c.in-Some.is) in
     let end = block_end c.blocks_are_read_as_written.ensures c.args.shape.now c.args.listed.now.id c.loop-offset.offset c.bytes_from-bytes.result.now framed.0
     c.requires.shape c.loop-offset.invariant.whole c.loop-offset-test.true framed.1 in record {
@@ -99,7 +96,9 @@ loop-offset-preserved g c =
       time = c.calls_join.ensures.reads c.args.disk.now c.loop-offset.disk c.cover.new.disk c.loop-offset.invariant.time c.in_ok-cover.ensures.time;
       steady = λ steady. (c.in_ok-cover.ensures.steady (steady_still Unchanged first now c.loop-offset.invariant.time steady)).1
           ∙ c.loop-offset.invariant.steady steady;
-      shows = shows;
+      shows = λ tells.
+          shows_still (now.files file) (first.files file) c.loop-offset.piece c.cover.new.piece (c.loop-offset.invariant.same file)
+          (c.in_ok-cover.ensures.shows (tells_still Unchanged first now c.loop-offset.invariant.time tells)) (c.loop-offset.invariant.shows tells);
       behind = λ rows before has.
           let at = c.loop-offset.invariant.behind rows before has in
           let bytes : AreBytes c.bytes_from-bytes.result.now = search rules in
@@ -120,12 +119,11 @@ returns-in-None-clause-taken g c rows before has =
     let first = g.D.Disk.state c.args.disk.now in
     let file = c.args.listed.now.file in
     let at = c.loop-offset.invariant.behind rows before has in
-    let shows = λ (tells : TellsContents first).
-    shows_still (now.files file) (first.files file) c.loop-offset.piece c.cover.new.piece (c.loop-offset.invariant.same file)
-    (c.in_ok-cover.ensures.shows (tells_still Unchanged first now c.loop-offset.invariant.time tells)) (c.loop-offset.invariant.shows tells) in
     let shown = λ (tells : TellsContents first).
-    subst (λ (l : List ℕ). IsFrontOf (512 * c.args.shape.now.block_sectors) (drop c.loop-offset.offset (first.files file)) l) (sym c.bytes_from-bytes.ensures)
-    (shown_front (first.files file) c.cover.new.piece c.loop-offset.offset (512 * c.args.shape.now.block_sectors) (shows tells) c.in_ok-cover.ensures.reach) in
+    front_still (now.files file) (first.files file) c.loop-offset.piece c.cover.new.piece c.loop-offset.offset (512 * c.args.shape.now.block_sectors)
+    c.bytes_from-bytes.result.now (c.loop-offset.invariant.same file)
+    (c.in_ok-cover.ensures.shows (tells_still Unchanged first now c.loop-offset.invariant.time tells)) (c.loop-offset.invariant.shows tells)
+    c.in_ok-cover.ensures.reach c.bytes_from-bytes.ensures in
     let gathers = subst (λ (n : ℕ). GathersBlock (g.G.Gatherer.has c.gather_block.new.gatherer) rows c.gather_block.new.bases.items (before ++ at.entries)
     c.args.listed.now.id c.loop-offset.offset (found None)
     (block_records c.args.shape.now n (lsn_number c.args.listed.now.id c.loop-offset.offset 0) c.bytes_from-bytes.result.now))
