@@ -1,12 +1,12 @@
 -- What the walk finds behind a base copy, and that every file has one list of open blocks.
-use Rattle.std.proofs.Common.{◌≡◌, ◌≢◌, inl, inr, ⊎_elim, ℕ, zero, suc, ◌+◌, ◌-◌, ◌*◌, ◌<◌, ◌≤◌, List, [], ◌∷◌, length, get_or, take, drop, Option, Some, None, Result, Ok, Err}
+use Rattle.std.proofs.Common.{◌≡◌, ◌≢◌, inl, inr, ⊎_elim, ℕ, zero, suc, ◌+◌, ◌-◌, ◌*◌, ◌<◌, ◌≤◌, List, [], ◌∷◌, length, get_or, take, drop, Result, Ok, Err}
 use Rattle.std.proofs.Common.{refl, sym, ◌∙◌, ap, subst, arith}
+use Rattle.std.specs.Prelude.{IfOk, IfErr}
 use Rattle.std.proofs.lemmas.List.{length-take-le, drop-drop}
 use Rattle.std.proofs.lemmas.Bool.{cases_eq, cases_lt}
 use Rattle.clfs_lsn.specs.Place.{frontier}
 use Rattle.clfs_lsn.specs.Checks.{unless_wrong}
 use Rattle.clfs_lsn.specs.declared.entry.LogEntry.{LogEntry}
-use Rattle.clfs_lsn.specs.declared.place.Place.{Place}
 use Rattle.clfs_disk.specs.Files.{Files, Unchanged}
 use Rattle.clfs_container.specs.OpenBlocks.{block_sectors, Ends, AreOpen, total}
 use Rattle.clfs_base.specs.declared.image.BaseImage.{BaseImage}
@@ -15,53 +15,26 @@ use Rattle.clfs_base.specs.declared.refusal.NewestRefusal.TheVariants as newest
 use Rattle.clfs_base.specs.Decoding.{GivesNewest}
 use Rattle.clfs_base.specs.Slots.{newest_of}
 use Rattle.clfs_recover.specs.Records.{◌>>=◌}
-use Rattle.clfs_recover.specs.Walk.{Container, shape_of, listed_records, last_end, place_behind, bases_with, image_fault, slot_offset, parts_with, walked}
+use Rattle.clfs_recover.specs.Walk.{Container, shape_of, listed_records, place_behind, image_fault, slot_offset, parts_with, walked}
 use Rattle.clfs_recover.specs.Files.{AreListed, without_copy, FindsBehind, Finds}
 use Rattle.clfs_recover.specs.Gathering.{RefusesAs}
-use Rattle.clfs_recover.specs.Opening.{parts_of, IsWalkOf, IsWalked, IsRefused}
+use Rattle.clfs_recover.specs.Opening.{parts_of, IsWalked, IsRefused}
 use Rattle.clfs_recover.specs.declared.opening.Walked.{Walked}
-use Rattle.clfs_recover.specs.declared.parts.Parts.{Parts}
 use Rattle.clfs_recover.specs.declared.refusal.LoadRefusal.{LoadRefusal}
 use Rattle.clfs_recover.specs.declared.refusal.LoadRefusal.TheVariants.{NoBase, Damaged, DiskFault, NoMemory}
 
 -- ---- behind a base copy
 
-module _ (slot : ℕ) (image : BaseImage) (listed : List Container) where
-  abbrev all : Result (List LogEntry) LoadRefusal
-  all = listed_records (shape_of image) (length image.streams) image.first listed
-
-  abbrev judged : Option ℕ → List LogEntry → Result Parts LoadRefusal
-  judged fault entries = unless_wrong (λ at. Damaged 0 (slot_offset slot) at) fault (Ok (parts_with slot image listed entries))
-
-  abbrev fault_at : Place → Option ℕ
-  fault_at place = image_fault image (frontier place)
-
-  abbrev by_records : Result (List LogEntry) LoadRefusal → Result Parts LoadRefusal
-  by_records r = r >>= judged (fault_at (place_behind image listed))
-
-  abbrev found : Parts → Result Parts LoadRefusal
-  found parts = Ok parts
-
-  pub walk_refused : (refusal : LoadRefusal) → RefusesAs refusal all → RefusesAs refusal (walked slot image listed)
-  walk_refused NoBase is = is
-  walk_refused (Damaged container offset at) is = ap by_records is
-  walk_refused DiskFault is = tt
-  walk_refused NoMemory is = tt
-
-  module _ (entries : List LogEntry) (bases : List ℕ) (place : Place) (end : ℕ) (read : all ≡ Ok entries) (ends : end ≡ last_end listed)
-      (placed : place ≡ record { container = image.first + length image.files - 1; offset = end; used = 0; records = 0 }) where
-    place_is : place ≡ place_behind image listed
-    place_is = placed ∙ (λ i. record { container = image.first + length image.files - 1; offset = ends i; used = 0; records = 0 })
-
-    pub image_wrong : (at : ℕ) → image_fault image (frontier place) ≡ Some at → walked slot image listed ≡ Err (Damaged 0 (slot_offset slot) at)
-    image_wrong at is = ap by_records read
-        ∙ ap (λ (o : Option ℕ). judged o entries) (sym (ap fault_at place_is) ∙ is)
-
-    pub image_right : image_fault image (frontier place) ≡ None → bases ≡ bases_with image.streams entries
-        → walked slot image listed ≡ Ok (parts_of (record { slot = slot; image = image; bases = bases; place = place }) entries)
-    image_right is moved = ap by_records read
-        ∙ ap (λ (o : Option ℕ). judged o entries) (sym (ap fault_at place_is) ∙ is)
-        ∙ (λ i. found (record { slot = slot; image = image; entries = entries; bases = sym moved i; place = sym place_is i }))
+-- what the records of the listed containers are refused for
+pub walk_refused : (slot : ℕ) (image : BaseImage) (listed : List Container) (refusal : LoadRefusal)
+    → RefusesAs refusal (listed_records (shape_of image) (length image.streams) image.first listed) → RefusesAs refusal (walked slot image listed)
+walk_refused slot image listed NoBase is = is
+walk_refused slot image listed (Damaged container offset at) is =
+    ap (λ (r : Result (List LogEntry) LoadRefusal). r >>= λ (entries : List LogEntry).
+    unless_wrong (λ at. Damaged 0 (slot_offset slot) at) (image_fault image (frontier (place_behind image listed)))
+    (Ok (parts_with slot image listed entries))) is
+walk_refused slot image listed DiskFault is = tt
+walk_refused slot image listed NoMemory is = tt
 
 -- ---- open blocks
 
@@ -136,21 +109,20 @@ no_copy files newest.NoMemory is = tt
 -- a copy, and the walk behind it
 pub by_copy : (has : List LogEntry → Type 0) (files : Files) (slot : ℕ) (image : BaseImage) (result : Result Walked LoadRefusal)
     → newest_of (files 0) ≡ Ok (slot, image)
-    → ((listed : List Container) → AreListed image.container_sectors files image.files listed → IsWalkOf has result (walked slot image listed))
+    → IfOk result (λ walked. (entries : List LogEntry) × has entries × Finds files (Ok (parts_of walked entries)))
+    → ((listed : List Container) → AreListed image.container_sectors files image.files listed
+    → IfErr result (λ refusal. RefusesAs refusal (walked slot image listed)))
     → IsWalked has files result
-by_copy has files slot image result is walks =
-    let listed = lists_exist image.container_sectors files image.files in
-    by_result result (walks listed.0 listed.1)
+by_copy has files slot image (Ok walk) is found refused = found
+by_copy has files slot image (Err refusal) is found refused = by_refusal refusal (refused listed.0 listed.1)
   where
-    finds : (read : Result Parts LoadRefusal) → read ≡ walked slot image (lists_exist image.container_sectors files image.files).0 → Finds files read
-    finds read e =
-        let listed = lists_exist image.container_sectors files image.files in
-        subst (λ (r : Result (ℕ × BaseImage) NewestRefusal). FindsBehind files read r) (sym is) (listed.0, listed.1, e)
+    listed : (listed : List Container) × AreListed image.container_sectors files image.files listed
+    listed = lists_exist image.container_sectors files image.files
 
-    by_result : (r : Result Walked LoadRefusal) → IsWalkOf has r (walked slot image (lists_exist image.container_sectors files image.files).0)
-        → IsWalked has files r
-    by_result (Ok w) walk = (walk.0, walk.1, finds (Ok (parts_of w walk.0)) (sym walk.2))
-    by_result (Err NoBase) walk = absurd walk
-    by_result (Err (Damaged container offset at)) walk = finds (Err (Damaged container offset at)) (sym walk)
-    by_result (Err DiskFault) walk = tt
-    by_result (Err NoMemory) walk = tt
+    by_refusal : (refusal : LoadRefusal) → RefusesAs refusal (walked slot image listed.0) → IsRefused files refusal
+    by_refusal NoBase refuses = absurd refuses
+    by_refusal (Damaged container offset at) refuses =
+        subst (λ (r : Result (ℕ × BaseImage) NewestRefusal). FindsBehind files (Err (Damaged container offset at)) r) (sym is)
+        (listed.0, listed.1, sym refuses)
+    by_refusal DiskFault refuses = tt
+    by_refusal NoMemory refuses = tt

@@ -1,20 +1,19 @@
 -- Files in which opening finds a log: its base copy alone, in its slot, and the blocks of each container with a closed gate behind them.
-use Rattle.std.proofs.Common.{◌≡◌, ◌≢◌, inl, inr, ⊎_elim, ℕ, zero, suc, ◌+◌, ◌-◌, ◌*◌, ◌<◌, ◌≤◌, Bool, true, false, cond, eqb, List, [], ◌∷◌, ◌++◌, length, get_or, take, drop}
-use Rattle.std.proofs.Common.{replicate, Option, None, Result, Ok, Err, refl, sym, ◌∙◌, ap, subst, arith, length-append}
-use Rattle.std.specs.Prelude.{All}
+use Rattle.std.proofs.Common.{◌≡◌, ◌≢◌, inr, ℕ, zero, suc, ◌-◌, ◌*◌, ◌<◌, ◌≤◌, Bool, true, false, cond, eqb, List, [], ◌∷◌, ◌++◌, length, get_or, take, drop}
+use Rattle.std.proofs.Common.{replicate, Result, Ok, refl, sym, ◌∙◌, ap, subst, arith, length-append}
 use Rattle.std.proofs.lemmas.List.{append-nil, length-replicate, get_or-replicate, get_or_append_left, get_or_at, get_or_past, take_at, take_all, drop_at, drop-drop, length-take-le}
 use Rattle.std.proofs.lemmas.List.Elements.{recursion_from_All}
 use Rattle.std.specs.List.{AllByRecursion}
 use Rattle.std.proofs.lemmas.Bool.{eq-eqb, ne_eqb}
 use Rattle.clfs_disk.specs.Files.{Files}
-use Rattle.clfs_container.specs.OpenBlocks.{block_sectors, BeginsWith, Opens, EndsCleanly, AreWhole, total}
+use Rattle.clfs_container.specs.OpenBlocks.{block_sectors, BeginsWith, Opens, AreWhole, total}
 use Rattle.clfs_base.specs.declared.image.BaseImage.{BaseImage}
 use Rattle.clfs_base.specs.declared.newest.Front.{Front}
 use Rattle.clfs_base.specs.declared.refusal.NewestRefusal.{NewestRefusal}
 use Rattle.clfs_base.specs.Layout.{version_one}
-use Rattle.clfs_base.specs.Spelling.{IsImage, AreFiles, spelled}
+use Rattle.clfs_base.specs.Spelling.{IsImage, spelled}
 use Rattle.clfs_base.specs.Checks.{image_at}
-use Rattle.clfs_base.specs.Slots.{is_open_slot, front_of, slot_by, slot_of, copy_in, copy_of, newest_of}
+use Rattle.clfs_base.specs.Slots.{front_of, slot_by, slot_of, copy_in, copy_of, newest_of}
 use Rattle.clfs_recover.specs.Files.{Finds}
 use Rattle.clfs_recover.specs.Stored.{HaveBlocks, HasLog}
 use Rattle.clfs_recover.specs.Logs.{LieIn, IsLogOf}

@@ -4,11 +4,12 @@ pub mod Blocks
 pub mod Containers
 pub mod Pieces
 pub mod Disks
-pub mod Listing
 pub mod Finding
 pub mod Meanings
 pub mod Writings
+pub mod Joined
 pub mod Taken
+pub mod Listing
 pub mod OpenedLogs
 pub mod Binding
 pub mod ReadBlocks
@@ -21,3 +22,4 @@ pub mod FoundRecords
 pub mod ValidStates
 pub mod StorableStates
 pub mod Laid
+pub mod Counting

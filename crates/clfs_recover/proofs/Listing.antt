@@ -1,32 +1,21 @@
--- The listed containers as the walk meets them, one after the other.
-use Rattle.std.proofs.Common.{◌≡◌, ℕ, suc, ◌+◌, ◌<◌, List, [], ◌∷◌, ◌++◌, length, get_or, drop, Result, Ok, Err, refl, sym, ◌∙◌, ap, subst, arith, append_assoc}
-use Rattle.std.proofs.Math.Seq.{drop-cons}
-use Rattle.std.proofs.lemmas.List.{append-nil, drop_all}
+-- The listed containers as the walk takes them in, one after the other, whatever the disk told.
+use Rattle.std.proofs.Common.{◌≡◌, ℕ, suc, zero, ◌+◌, ◌<◌, ◌≤◌, List, [], ◌∷◌, ◌++◌, length, get_or, take, Ok, refl, sym, ◌∙◌, ap, subst, arith, append_assoc, length-append}
+use Rattle.std.proofs.lemmas.List.{append-nil, length-take-le, take_all, take_more}
+use Rattle.std.proofs.lemmas.List.Elements.{All-nil, All-push}
 use Rattle.clfs_lsn.specs.declared.entry.LogEntry.{LogEntry}
 use Rattle.clfs_lsn.specs.declared.shape.Shape.{Shape}
 use Rattle.clfs_base.specs.declared.image.Row.{Row}
 use Rattle.clfs_disk.specs.Files.{Files}
-use Rattle.clfs_container.specs.OpenBlocks.{AreOpen, total}
-use Rattle.clfs_recover.specs.Records.{◌>>=◌}
+use Rattle.clfs_container.specs.OpenBlocks.{AreOpen, AreWhole, total}
 use Rattle.clfs_recover.specs.Walk.{Container, container_records, listed_records, last_end}
 use Rattle.clfs_recover.specs.Files.{AreListed}
-use Rattle.clfs_recover.specs.Gathering.{HasTaken, GathersContainer, RefusesAs}
+use Rattle.clfs_recover.specs.Stored.{HaveBlocks, stored_in, stored_records, stored_end}
+use Rattle.clfs_recover.specs.Logs.{LieIn}
+use Rattle.clfs_recover.specs.Gathering.{HasTaken, TakesContainer, TakesListed, RefusesAs}
 use Rattle.clfs_recover.specs.declared.refusal.LoadRefusal.{LoadRefusal}
 use Rattle.clfs_recover.specs.declared.refusal.LoadRefusal.TheVariants.{NoBase, Damaged, DiskFault, NoMemory}
-use Rattle.clfs_recover.proofs.Steps.{behind, behind-append, behind-nil}
-
-abbrev Records : Type 0
-Records = Result (List LogEntry) LoadRefusal
-
-abbrev read : List LogEntry → Records
-read entries = Ok entries
-
-abbrev refused : LoadRefusal → Records
-refused refusal = Err refusal
-
-joined : (es : List LogEntry) (r : Records) → (r >>= λ (others : List LogEntry). Ok (es ++ others)) ≡ behind es r
-joined es (Ok others) = refl
-joined es (Err e) = refl
+use Rattle.clfs_recover.proofs.Joined.{Records, joined, joined_nil, joined_assoc, AreBoth, both_there}
+use Rattle.clfs_recover.proofs.Meanings.{OneList, WholeAreOpen, whole_is}
 
 -- the end of the last of some containers, or where the one before them ended
 abbrev pub end_behind : ℕ → List Container → ℕ
@@ -37,135 +26,157 @@ pub ends_on : (container : Container) (others : List Container) → last_end (co
 ends_on container [] = refl
 ends_on container (other ∷ others) = refl
 
-module _ (shape : Shape) (streams first : ℕ) (files : Files) (numbers : List ℕ) (listed : List Container) where
-  -- The walk has been through so many containers: the others are left, and with the records so far they give what all give.
-  pub record IsListed (has : List LogEntry → Type 0) (rows : List Row) (bases : List ℕ) (before : List LogEntry) (i end : ℕ) : Type 0 where
-    pub rest : List Container
-    pub entries : List LogEntry
-    pub left : AreListed shape.container_sectors files (drop i numbers) rest
-    pub so_far : behind entries (listed_records shape streams (first + i) rest) ≡ listed_records shape streams first listed
-    pub last : end_behind end rest ≡ last_end listed
-    pub taken : HasTaken has rows bases (before ++ entries)
+-- ---- records of containers, and those of more containers behind them
 
-  pub begins : (has : List LogEntry → Type 0) (rows : List Row) (bases : List ℕ) (before : List LogEntry)
-      → AreListed shape.container_sectors files numbers listed → HasTaken has rows bases before → IsListed has rows bases before 0 0
-  begins has rows bases before are taken = record {
-    rest = listed;
+module _ (shape : Shape) (streams : ℕ) where
+  containers_append : (id : ℕ) (some more : List (List (List ℕ)))
+      → stored_records shape streams id (some ++ more)
+      ≡ joined (stored_records shape streams id some) (stored_records shape streams (id + length some) more)
+  containers_append id [] more =
+      let e : id ≡ id + 0 = omega arith in
+      ap (λ (n : ℕ). stored_records shape streams n more) e ∙ sym (joined_nil (stored_records shape streams (id + 0) more))
+  containers_append id (container ∷ others) more =
+      let e : id + 1 + length others ≡ id + suc (length others) = omega arith in
+      let own : Records = stored_in shape streams id 0 container in
+      ap (joined own) (containers_append (id + 1) others more)
+      ∙ joined_assoc own (stored_records shape streams (id + 1) others) (stored_records shape streams (id + 1 + length others) more)
+      ∙ ap (λ (n : ℕ). joined (joined own (stored_records shape streams (id + 1) others)) (stored_records shape streams n more)) e
+
+  -- a container more
+  pub containers_more : (id : ℕ) (some : List (List (List ℕ))) (container : List (List ℕ)) (entries es : List LogEntry)
+      → stored_records shape streams id some ≡ Ok entries → stored_in shape streams (id + length some) 0 container ≡ Ok es
+      → stored_records shape streams id (some ++ container ∷ []) ≡ Ok (entries ++ es)
+  containers_more id some container entries es so_far is =
+      containers_append id some (container ∷ [])
+      ∙ ap (λ (r : Records). joined r (joined (stored_in shape streams (id + length some) 0 container) (Ok []))) so_far
+      ∙ ap (λ (r : Records). joined (Ok entries) (joined r (Ok []))) is
+      ∙ ap (λ (l : List LogEntry). Ok (entries ++ l)) (append-nil es)
+
+-- ---- a container more
+
+have_more : (sectors : ℕ) (files : Files) (numbers : List ℕ) (some : List (List (List ℕ))) (number : ℕ) (container : List (List ℕ))
+    → HaveBlocks sectors files numbers some → AreWhole sectors (files number) container
+    → HaveBlocks sectors files (numbers ++ number ∷ []) (some ++ container ∷ [])
+have_more sectors files [] [] number container have whole = (whole, tt)
+have_more sectors files [] (c ∷ cs) number container have whole = absurd have
+have_more sectors files (n ∷ ns) [] number container have whole = absurd have
+have_more sectors files (n ∷ ns) (c ∷ cs) number container have whole = (have.0, have_more sectors files ns cs number container have.1 whole)
+
+end_more : (some : List (List (List ℕ))) (container : List (List ℕ)) → stored_end (some ++ container ∷ []) ≡ total container
+end_more [] container = refl
+end_more (c ∷ []) container = refl
+end_more (c ∷ d ∷ cs) container = end_more (d ∷ cs) container
+
+module _ (shape : Shape) (streams first : ℕ) (told : Type 0) (files : Files) (numbers : List ℕ) where
+  -- the containers in the first of these files were taken in
+  abbrev pub HaveTaken : (List LogEntry → Type 0) → List Row → List ℕ → List LogEntry → ℕ → ℕ → Type 0
+  HaveTaken has rows bases before i end = TakesListed shape streams first told files (take i numbers) has rows bases before end
+
+  pub starts_listed : (has : List LogEntry → Type 0) (rows : List Row) (bases : List ℕ) (before : List LogEntry) → HasTaken has rows bases before
+      → HaveTaken has rows bases before 0 0
+  starts_listed has rows bases before taken = record {
+    blocks = [];
     entries = [];
-    left = are;
-    so_far = behind-nil (listed_records shape streams (first + 0) listed)
-        ∙ (let e : first + 0 ≡ first = omega arith in ap (λ (n : ℕ). listed_records shape streams n listed) e);
-    last = first_end listed;
+    listed = refl;
+    lie = All-nil (LieIn shape.container_sectors);
+    records = refl;
+    ends = refl;
+    stand = λ is_told. tt;
     taken = subst (λ (l : List LogEntry). HasTaken has rows bases l) (sym (append-nil before)) taken;
   }
-    where
-      first_end : (l : List Container) → end_behind 0 l ≡ last_end l
-      first_end [] = refl
-      first_end (container ∷ containers) = refl
 
-  pub done : (has : List LogEntry → Type 0) (rows : List Row) (bases : List ℕ) (before : List LogEntry) (i end : ℕ) → length numbers < i + 1
-      → IsListed has rows bases before i end
-      → GathersContainer has rows bases before (Ok end) (listed_records shape streams first listed) (last_end listed)
-  done has rows bases before i end far at = by_rest at.rest refl (subst (λ (l : List ℕ). AreListed shape.container_sectors files l at.rest)
-      (drop_all i numbers (omega (arith, far))) at.left)
-    where
-      by_rest : (l : List Container) → at.rest ≡ l → AreListed shape.container_sectors files [] at.rest
-          → GathersContainer has rows bases before (Ok end) (listed_records shape streams first listed) (last_end listed)
-      by_rest [] e are = (
-        sym (ap (end_behind end) e) ∙ at.last,
-        (
-          at.entries,
-          sym at.so_far ∙ ap (λ (l : List Container). behind at.entries (listed_records shape streams (first + i) l)) e ∙ ap read (append-nil at.entries),
-          at.taken,
-        ),
-      )
-      by_rest (container ∷ containers) e are = absurd (subst (λ (l : List Container). AreListed shape.container_sectors files [] l) e are)
+  module _ (has : List LogEntry → Type 0) (rows : List Row) (bases : List ℕ) (before : List LogEntry) (i end : ℕ)
+      (at : HaveTaken has rows bases before i end) where
+    pub all_listed : length numbers ≤ i → TakesListed shape streams first told files numbers has rows bases before end
+    all_listed far = subst (λ (l : List ℕ). TakesListed shape streams first told files l has rows bases before end) (take_all i numbers far) at
 
-  module _ (has : List LogEntry → Type 0) (rows : List Row) (bases : List ℕ) (before : List LogEntry) (i end : ℕ) (near : i < length numbers)
-      (at : IsListed has rows bases before i end) where
-    abbrev number : ℕ
-    number = get_or numbers i 0
+    pub goes_on_listed : i < length numbers → (now : List LogEntry → Type 0) (moved : List ℕ) (stop : ℕ)
+        → TakesContainer shape streams (first + i) told (files (get_or numbers i 0)) now rows moved (before ++ at.entries) stop
+        → HaveTaken now rows moved before (i + 1) stop
+    goes_on_listed near now moved stop one =
+        let number : ℕ = get_or numbers i 0 in
+        let more : take (i + 1) numbers ≡ take i numbers ++ number ∷ [] = take_more numbers i 0 near in
+        let count : length at.blocks ≡ i = at.listed ∙ length-take-le i numbers (omega (arith, near)) in
+        subst (λ (l : List ℕ). TakesListed shape streams first told files l now rows moved before stop) (sym more) (record {
+          blocks = at.blocks ++ one.blocks ∷ [];
+          entries = at.entries ++ one.entries;
+          listed = length-append at.blocks (one.blocks ∷ []) ∙ ap (λ (n : ℕ). n + 1) at.listed ∙ sym (length-append (take i numbers) (number ∷ []));
+          lie = All-push (LieIn shape.container_sectors) at.blocks one.blocks at.lie one.lie;
+          records = containers_more shape streams first at.blocks one.blocks at.entries one.entries at.records
+              (ap (λ (n : ℕ). stored_in shape streams (first + n) 0 one.blocks) count ∙ one.records);
+          ends = end_more at.blocks one.blocks ∙ one.ends;
+          stand = λ is_told. have_more shape.container_sectors files (take i numbers) at.blocks number one.blocks (at.stand is_told) (one.stand is_told);
+          taken = subst (λ (l : List LogEntry). HasTaken now rows moved l) (append_assoc before at.entries one.entries) one.taken;
+        })
 
-    -- the next container
-    record IsNext : Type 0 where
-      blocks : List (List ℕ)
-      others : List Container
-      open_blocks : AreOpen shape.container_sectors (files number) blocks
-      left : AreListed shape.container_sectors files (drop (i + 1) numbers) others
-      is : at.rest ≡ record { bytes = files number; blocks = blocks } ∷ others
+-- ---- a container that is refused
 
-    next : IsNext
-    next = by_rest at.rest refl (subst (λ (l : List ℕ). AreListed shape.container_sectors files l at.rest) split at.left)
-      where
-        split : drop i numbers ≡ number ∷ drop (i + 1) numbers
-        split = drop-cons numbers i 0 near ∙ (let e : suc i ≡ i + 1 = omega arith in ap (λ (k : ℕ). number ∷ drop k numbers) e)
+-- what was taken in of a container, where the same is named otherwise
+pub taken_otherwise : (shape : Shape) (id streams others : ℕ) (told still : Type 0) (bytes same : List ℕ) (has : List LogEntry → Type 0) (rows : List Row)
+    (bases : List ℕ) (before : List LogEntry) (end : ℕ) → streams ≡ others → (still → told) → bytes ≡ same
+    → TakesContainer shape streams id told bytes has rows bases before end → TakesContainer shape others id still same has rows bases before end
+taken_otherwise shape id streams others told still bytes same has rows bases before end p tells q one = record {
+  blocks = one.blocks;
+  entries = one.entries;
+  lie = one.lie;
+  records = subst (λ (n : ℕ). stored_in shape n id 0 one.blocks ≡ Ok one.entries) p one.records;
+  ends = one.ends;
+  stand = λ is_told. subst (λ (l : List ℕ). AreWhole shape.container_sectors l one.blocks) q (one.stand (tells is_told));
+  taken = one.taken;
+}
 
-        by_rest : (l : List Container) → at.rest ≡ l → AreListed shape.container_sectors files (number ∷ drop (i + 1) numbers) at.rest → IsNext
-        by_rest [] e are = absurd (subst (λ (l : List Container). AreListed shape.container_sectors files (number ∷ drop (i + 1) numbers) l) e are)
-        by_rest (container ∷ others) e are =
-            let parts = subst (λ (l : List Container). AreListed shape.container_sectors files (number ∷ drop (i + 1) numbers) l) e are in record {
-              blocks = container.blocks;
-              others = others;
-              open_blocks = subst (λ (l : List ℕ). AreOpen shape.container_sectors l container.blocks) parts.0 parts.1;
-              left = parts.2;
-              is = e ∙ ap (λ (l : List ℕ). container_of l container.blocks ∷ others) parts.0;
-            }
-          where
-            container_of : List ℕ → List (List ℕ) → Container
-            container_of l blocks = record { bytes = l; blocks = blocks }
-
-    abbrev here : Container
-    here = record { bytes = files number; blocks = next.blocks }
-
-    split : (r : Records) → container_records shape streams (first + i) here ≡ r
-        → listed_records shape streams (first + i) at.rest
-        ≡ (r >>= λ (es : List LogEntry). (listed_records shape streams (first + i + 1) next.others >>= λ (others : List LogEntry). Ok (es ++ others)))
-    split r is = ap (listed_records shape streams (first + i)) next.is
-        ∙ ap (λ (r : Records). r >>= λ (es : List LogEntry).
-        (listed_records shape streams (first + i + 1) next.others >>= λ (others : List LogEntry). Ok (es ++ others))) is
-
-    -- a container that was walked
-    pub went_on : (now : List LogEntry → Type 0) (moved : List ℕ) (stop : ℕ)
-        → ((blocks : List (List ℕ)) → AreOpen shape.container_sectors (files number) blocks
-        → GathersContainer now rows moved (before ++ at.entries) (Ok stop)
-        (container_records shape streams (first + i) (record { bytes = files number; blocks = blocks })) (total blocks))
-        → IsListed now rows moved before (i + 1) stop
-    went_on now moved stop gathers =
-        let one = gathers next.blocks next.open_blocks in
-        let es = one.1.0 in
-        let further : first + i + 1 ≡ first + (i + 1) = omega arith in record {
-          rest = next.others;
-          entries = at.entries ++ es;
-          left = next.left;
-          so_far = behind-append at.entries es (listed_records shape streams (first + (i + 1)) next.others)
-              ∙ ap (λ (n : ℕ). behind at.entries (behind es (listed_records shape streams n next.others))) (sym further)
-              ∙ ap (behind at.entries) (sym (joined es (listed_records shape streams (first + i + 1) next.others)) ∙ sym (split (Ok es) one.1.1))
-              ∙ at.so_far;
-          last = ap (λ (n : ℕ). end_behind n next.others) one.0 ∙ sym (ends_on here next.others) ∙ sym (ap (end_behind end) next.is) ∙ at.last;
-          taken = subst (λ (l : List LogEntry). HasTaken now rows moved l) (append_assoc before at.entries es) one.1.2;
-        }
-
-    -- one that was refused
-    pub was_refused : (now : List LogEntry → Type 0) (moved : List ℕ) (refusal : LoadRefusal)
-        → ((blocks : List (List ℕ)) → AreOpen shape.container_sectors (files number) blocks
-        → GathersContainer now rows moved (before ++ at.entries) (Err refusal)
-        (container_records shape streams (first + i) (record { bytes = files number; blocks = blocks })) (total blocks))
-        → RefusesAs refusal (listed_records shape streams first listed)
-    was_refused now moved NoBase gathers = gathers next.blocks next.open_blocks
-    was_refused now moved (Damaged c o wrong) gathers = sym at.so_far
-        ∙ ap (behind at.entries) (split (Err (Damaged c o wrong)) (gathers next.blocks next.open_blocks))
-    was_refused now moved DiskFault gathers = tt
-    was_refused now moved NoMemory gathers = tt
-
--- what a walk over a container's file takes in, where the same bytes are named otherwise
-pub named_otherwise : (has : List LogEntry → Type 0) (rows : List Row) (bases : List ℕ) (before : List LogEntry) (result : Result ℕ LoadRefusal) (shape : Shape)
-    (id streams others : ℕ) (bytes same : List ℕ) → streams ≡ others → bytes ≡ same
+-- and what it is refused for
+pub refused_otherwise : (refusal : LoadRefusal) (shape : Shape) (id streams others : ℕ) (bytes same : List ℕ) → streams ≡ others → bytes ≡ same
     → ((blocks : List (List ℕ)) → AreOpen shape.container_sectors bytes blocks
-    → GathersContainer has rows bases before result (container_records shape streams id (record { bytes = bytes; blocks = blocks })) (total blocks))
+    → RefusesAs refusal (container_records shape streams id (record { bytes = bytes; blocks = blocks })))
     → (blocks : List (List ℕ)) → AreOpen shape.container_sectors same blocks
-    → GathersContainer has rows bases before result (container_records shape others id (record { bytes = same; blocks = blocks })) (total blocks)
-named_otherwise has rows bases before result shape id streams others bytes same p q gathers =
+    → RefusesAs refusal (container_records shape others id (record { bytes = same; blocks = blocks }))
+refused_otherwise refusal shape id streams others bytes same p q refuses =
     subst (λ (l : List ℕ). (blocks : List (List ℕ)) → AreOpen shape.container_sectors l blocks
-    → GathersContainer has rows bases before result (container_records shape others id (record { bytes = l; blocks = blocks })) (total blocks)) q
+    → RefusesAs refusal (container_records shape others id (record { bytes = l; blocks = blocks }))) q
     (subst (λ (n : ℕ). (blocks : List (List ℕ)) → AreOpen shape.container_sectors bytes blocks
-    → GathersContainer has rows bases before result (container_records shape n id (record { bytes = bytes; blocks = blocks })) (total blocks)) p gathers)
+    → RefusesAs refusal (container_records shape n id (record { bytes = bytes; blocks = blocks }))) p refuses)
+
+-- a refusal stands, whatever comes behind it, and behind records that were taken in
+refused_first : (refusal : LoadRefusal) (r s : Records) → RefusesAs refusal r → RefusesAs refusal (joined r s)
+refused_first NoBase r s refuses = refuses
+refused_first (Damaged container offset at) r s refuses = ap (λ (read : Records). joined read s) refuses
+refused_first DiskFault r s refuses = tt
+refused_first NoMemory r s refuses = tt
+
+refused_behind : (refusal : LoadRefusal) (own : List LogEntry) (r s : Records) → r ≡ Ok own → RefusesAs refusal s → RefusesAs refusal (joined r s)
+refused_behind NoBase own r s is refuses = refuses
+refused_behind (Damaged container offset at) own r s is refuses = ap (λ (read : Records). joined read s) is ∙ ap (joined (Ok own)) refuses
+refused_behind DiskFault own r s is refuses = tt
+refused_behind NoMemory own r s is refuses = tt
+
+module _ (one : OneList) (open_too : WholeAreOpen) (shape : Shape) (streams : ℕ) (files : Files) (refusal : LoadRefusal) where
+  -- Behind containers that were taken in, what the next is refused for, all are.
+  pub listed_refused : (numbers : List ℕ) (i first : ℕ) (some : List (List (List ℕ))) (entries : List LogEntry) (listed : List Container)
+      → HaveBlocks shape.container_sectors files (take i numbers) some → stored_records shape streams first some ≡ Ok entries → i < length numbers
+      → AreListed shape.container_sectors files numbers listed
+      → ((blocks : List (List ℕ)) → AreOpen shape.container_sectors (files (get_or numbers i 0)) blocks
+      → RefusesAs refusal (container_records shape streams (first + i) (record { bytes = files (get_or numbers i 0); blocks = blocks })))
+      → RefusesAs refusal (listed_records shape streams first listed)
+  listed_refused [] i first some entries listed have read near are refuses = absurd (omega (arith, near))
+  listed_refused (n ∷ ns) i first some entries [] have read near are refuses = absurd are
+  listed_refused (n ∷ ns) zero first some entries (c ∷ cs) have read near are refuses =
+      let e : first + 0 ≡ first = omega arith in
+      let own = refuses c.blocks (subst (λ (l : List ℕ). AreOpen shape.container_sectors l c.blocks) are.0 are.1) in
+      refused_first refusal (container_records shape streams first c) (listed_records shape streams (first + 1) cs)
+      (subst (λ (k : ℕ). RefusesAs refusal (container_records shape streams k c)) e
+      (subst (λ (l : List ℕ). RefusesAs refusal (container_records shape streams (first + 0) (record { bytes = l; blocks = c.blocks }))) (sym are.0) own))
+  listed_refused (n ∷ ns) (suc i) first [] entries (c ∷ cs) have read near are refuses = absurd have
+  listed_refused (n ∷ ns) (suc i) first (b ∷ bs) entries (c ∷ cs) have read near are refuses =
+      let both : AreBoth (stored_in shape streams first 0 b) (stored_records shape streams (first + 1) bs) entries =
+      both_there (stored_in shape streams first 0 b) (stored_records shape streams (first + 1) bs) entries read in
+      let whole : AreWhole shape.container_sectors c.bytes b = subst (λ (l : List ℕ). AreWhole shape.container_sectors l b) (sym are.0) have.0 in
+      let same : c.blocks ≡ b = one shape.container_sectors c.bytes c.blocks b are.1 (open_too shape.container_sectors c.bytes b whole) in
+      let own : container_records shape streams first c ≡ Ok both.own =
+      ap (λ (l : List (List ℕ)). container_records shape streams first (record { bytes = c.bytes; blocks = l })) same
+      ∙ whole_is shape streams first c.bytes b whole ∙ both.first in
+      let further : first + suc i ≡ first + 1 + i = omega arith in
+      refused_behind refusal both.own (container_records shape streams first c) (listed_records shape streams (first + 1) cs) own
+      (listed_refused ns i (first + 1) bs both.others cs have.1 both.second (omega (arith, near)) are.2
+      (λ blocks are_open. subst (λ (k : ℕ). RefusesAs refusal (container_records shape streams k (record { bytes = files (get_or ns i 0); blocks = blocks })))
+      further (refuses blocks are_open)))

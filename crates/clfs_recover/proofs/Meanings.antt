@@ -1,6 +1,6 @@
 -- Opening finds one thing in files, whatever stands outside the open blocks.
 use Rattle.std.proofs.Common.{◌≡◌, ◌≢◌, ⊎_elim, ℕ, ◌+◌, ◌-◌, ◌*◌, ◌/◌, ◌<◌, ◌≤◌, Bool, true, false, cond, not, eqb, map, List, [], ◌∷◌, ◌++◌, length, get_or, drop}
-use Rattle.std.proofs.Common.{Option, None, Result, Ok, Err, refl, sym, ◌∙◌, ap, subst, arith}
+use Rattle.std.proofs.Common.{Option, Some, None, Result, Ok, Err, refl, sym, ◌∙◌, ap, subst, arith}
 use Rattle.std.proofs.lemmas.List.{length-take-le}
 use Rattle.std.proofs.lemmas.Bool.{le-leb, lt-leb, ne_eqb, cases_lt}
 use Rattle.clfs_lsn.specs.Lsn.{lsn_number}
@@ -139,7 +139,7 @@ module _ (shape : Shape) (streams : ℕ) where
       >>= λ (entries : List LogEntry). (more >>= λ (rest : List LogEntry). Ok (entries ++ rest)))
       (stored_same id behind (offset + length block) others (sym (ap (blocks_end shape id behind) e) ∙ ends))
 
-  whole_is : (id : ℕ) (bytes : List ℕ) (open_blocks : List (List ℕ)) → AreWhole shape.container_sectors bytes open_blocks
+  pub whole_is : (id : ℕ) (bytes : List ℕ) (open_blocks : List (List ℕ)) → AreWhole shape.container_sectors bytes open_blocks
       → container_records shape streams id (record { bytes = bytes; blocks = open_blocks }) ≡ stored_in shape streams id 0 open_blocks
   whole_is id bytes open_blocks whole =
       let size : total open_blocks ≡ 0 + total open_blocks = omega arith in
@@ -188,9 +188,9 @@ module _ (slot : ℕ) (image : BaseImage) (stored : List (List (List ℕ))) wher
   all = stored_records (shape_of image) (length image.streams) image.first stored
 
   -- the walk over these blocks, whatever stands behind them
-  module _ (open_too : WholeAreOpen) (files : Files) (has : HasLog slot image stored files) where
+  module _ (open_too : WholeAreOpen) (files : Files) (have : HaveBlocks image.container_sectors files image.files stored) where
     here : IsStored (shape_of image) (length image.streams) files image.files stored
-    here = is_stored (shape_of image) (length image.streams) open_too files image.files stored has.containers
+    here = is_stored (shape_of image) (length image.streams) open_too files image.files stored have
 
     walked_is : walked slot image here.listed ≡ walk_of all stored
     walked_is =
@@ -201,8 +201,21 @@ module _ (slot : ℕ) (image : BaseImage) (stored : List (List (List ℕ))) wher
         unless_wrong (λ at. Damaged 0 (slot_offset slot) at) (image_fault image (frontier place))
         (Ok (record (stored_parts slot image stored entries) { place = place })))
 
+    -- a base or a tail that doesn't fit their records is told
+    pub stored_fault : OneList → (entries : List LogEntry) (at : ℕ) → all ≡ Ok entries → image_fault image (frontier (stored_place image stored)) ≡ Some at
+        → (listed : List Container) → AreListed image.container_sectors files image.files listed
+        → walked slot image listed ≡ Err (Damaged 0 (slot_offset slot) at)
+    stored_fault one entries at read fault listed are =
+        ap (walked slot image) (one_listing one image.container_sectors files image.files listed here.listed are here.are) ∙ walked_is
+        ∙ ap (λ (r : Records). walk_of r stored) read
+        ∙ ap (λ (o : Option ℕ). unless_wrong (λ at. Damaged 0 (slot_offset slot) at) o (Ok (stored_parts slot image stored entries))) fault
+
+  -- the same in the files of a log
+  module _ (open_too : WholeAreOpen) (files : Files) (has : HasLog slot image stored files) where
     pub finds_stored : (read : Result Parts LoadRefusal) → read ≡ walk_of all stored → Finds files read
-    finds_stored read is = subst (λ (r : Copy). FindsBehind files read r) (sym has.newest) (here.listed, here.are, is ∙ sym walked_is)
+    finds_stored read is =
+        let there = here open_too files has.containers in
+        subst (λ (r : Copy). FindsBehind files read r) (sym has.newest) (there.listed, there.are, is ∙ sym (walked_is open_too files has.containers))
 
     pub stored_found : (entries : List LogEntry) → all ≡ Ok entries → image_fault image (frontier (stored_place image stored)) ≡ None
         → Finds files (Ok (stored_parts slot image stored entries))

@@ -1,5 +1,5 @@
 -- A log that was walked behind a base copy, whatever the disk told, and that it is the one that opening finds where the disk tells.
-use Rattle.std.proofs.Common.{◌≡◌, ℕ, ◌+◌, ◌-◌, ◌≤◌, List, [], length, None, Result, Ok, Err, refl, sym, ◌∙◌, ap, subst}
+use Rattle.std.proofs.Common.{◌≡◌, ℕ, ◌+◌, ◌-◌, ◌≤◌, List, [], length, Some, None, Result, Ok, Err, refl, sym, ◌∙◌, ap, subst}
 use Rattle.std.specs.Prelude.{IfOk}
 use Rattle.clfs_lsn.specs.Place.{frontier}
 use Rattle.clfs_lsn.specs.declared.entry.LogEntry.{LogEntry}
@@ -10,8 +10,8 @@ use Rattle.clfs_base.specs.declared.image.BaseImage.{BaseImage}
 use Rattle.clfs_base.specs.Layout.{version_one}
 use Rattle.clfs_base.specs.Spelling.{IsImage}
 use Rattle.clfs_base.specs.Slots.{newest_of}
-use Rattle.clfs_recover.specs.Walk.{shape_of, image_fault}
-use Rattle.clfs_recover.specs.Files.{Finds}
+use Rattle.clfs_recover.specs.Walk.{Container, shape_of, slot_offset, image_fault, walked}
+use Rattle.clfs_recover.specs.Files.{AreListed, Finds}
 use Rattle.clfs_recover.specs.Stored.{HaveBlocks, HasLog, stored_place}
 use Rattle.clfs_recover.specs.Gathering.{TakesListed}
 use Rattle.clfs_recover.specs.Logs.{IsOpenedFrom}
@@ -19,18 +19,43 @@ use Rattle.clfs_recover.specs.Opening.{parts_of, IsWalkedLog}
 use Rattle.clfs_recover.specs.declared.opening.Walked.{Walked}
 use Rattle.clfs_recover.specs.declared.parts.Parts.{Parts}
 use Rattle.clfs_recover.specs.declared.refusal.LoadRefusal.{LoadRefusal}
-use Rattle.clfs_recover.proofs.Meanings.{WholeAreOpen, stored_found}
+use Rattle.clfs_recover.specs.declared.refusal.LoadRefusal.TheVariants.{Damaged}
+use Rattle.clfs_recover.proofs.Meanings.{OneList, WholeAreOpen, stored_fault, stored_found}
 
 module _ (has : List LogEntry → Type 0) (told : Type 0) (files : Files) (slot : ℕ) (image : BaseImage) where
-  -- a base copy that fits the records that were taken in
-  pub fits_records : slot ≤ 1 → IsImage version_one image → (bases moved : List ℕ) (place : Place) (end : ℕ)
-      → TakesListed (shape_of image) (length image.streams) image.first told files image.files has image.streams moved [] end → bases ≡ moved
+  -- the records that were taken in of the containers that a base copy lists
+  abbrev pub Taken : List ℕ → ℕ → Type 0
+  Taken moved end = TakesListed (shape_of image) (length image.streams) image.first told files image.files has image.streams moved [] end
+
+  pub taken_by_image : (moved : List ℕ) (end streams : ℕ) (numbers : List ℕ) → streams ≡ length image.streams → numbers ≡ image.files
+      → TakesListed (shape_of image) streams image.first told files numbers has image.streams moved [] end → Taken moved end
+  taken_by_image moved end streams numbers p q taken =
+      subst (λ (l : List ℕ). TakesListed (shape_of image) (length image.streams) image.first told files l has image.streams moved [] end) q
+      (subst (λ (n : ℕ). TakesListed (shape_of image) n image.first told files numbers has image.streams moved [] end) p taken)
+
+  -- where they end
+  there : (moved : List ℕ) (place : Place) (end : ℕ) (taken : Taken moved end)
+      → place ≡ record { container = image.first + length image.files - 1; offset = end; used = 0; records = 0 }
+      → place ≡ stored_place image taken.blocks
+  there moved place end taken placed =
+      placed ∙ (λ i. record { container = image.first + length image.files - 1; offset = sym taken.ends i; used = 0; records = 0 })
+
+  -- a base copy that doesn't fit them
+  pub is_fault : OneList → WholeAreOpen → told → (moved : List ℕ) (place : Place) (end : ℕ) → Taken moved end
+      → place ≡ record { container = image.first + length image.files - 1; offset = end; used = 0; records = 0 }
+      → (at : ℕ) → image_fault image (frontier place) ≡ Some at → (listed : List Container) → AreListed image.container_sectors files image.files listed
+      → walked slot image listed ≡ Err (Damaged 0 (slot_offset slot) at)
+  is_fault one open_too is_told moved place end taken placed at fault =
+      stored_fault slot image taken.blocks open_too files (taken.stand is_told) one taken.entries at taken.records
+      (ap (λ (p : Place). image_fault image (frontier p)) (sym (there moved place end taken placed)) ∙ fault)
+
+  -- and one that does
+  pub fits_records : slot ≤ 1 → IsImage version_one image → (bases moved : List ℕ) (place : Place) (end : ℕ) → Taken moved end → bases ≡ moved
       → place ≡ record { container = image.first + length image.files - 1; offset = end; used = 0; records = 0 }
       → image_fault image (frontier place) ≡ None
       → IsWalkedLog has told files slot image (record { slot = slot; image = image; bases = bases; place = place })
   fits_records is_slot is_image bases moved place end taken same placed right =
-      let there : place ≡ stored_place image taken.blocks =
-      placed ∙ (λ i. record { container = image.first + length image.files - 1; offset = sym taken.ends i; used = 0; records = 0 }) in
+      let at = there moved place end taken placed in
       let raised = same ∙ taken.taken.moved in record {
         entries = taken.entries;
         taken = taken.taken.records;
@@ -41,8 +66,8 @@ module _ (has : List LogEntry → Type 0) (told : Type 0) (files : Files) (slot 
           listed = taken.listed;
           lie = taken.lie;
           records = taken.records;
-          is = λ i. record { slot = slot; image = image; entries = taken.entries; bases = raised i; place = there i };
-          fits = ap (λ (p : Place). image_fault image (frontier p)) (sym there) ∙ right;
+          is = λ i. record { slot = slot; image = image; entries = taken.entries; bases = raised i; place = at i };
+          fits = ap (λ (p : Place). image_fault image (frontier p)) (sym at) ∙ right;
           image = is_image;
           slot = is_slot;
         };
@@ -72,3 +97,10 @@ walked_is_opened open_too has disk told files slot image (Ok walked) tells same 
         found = λ is_told. subst (λ (parts : Parts). Finds disk.files (Ok parts)) (sym log.is) (stored is_told);
       },
     )
+
+-- What was opened from a disk that tells its contents is what opening finds there.
+pub opened_is_found : (has : List LogEntry → Type 0) (disk : DiskState) (result : Result Walked LoadRefusal) → TellsContents disk
+    → IfOk result (λ walked. (entries : List LogEntry) × has entries × IsOpenedFrom disk (parts_of walked entries))
+    → IfOk result (λ walked. (entries : List LogEntry) × has entries × Finds disk.files (Ok (parts_of walked entries)))
+opened_is_found has disk (Ok walked) tells opened = (opened.0, opened.1, opened.2.found tells)
+opened_is_found has disk (Err refusal) tells opened = tt

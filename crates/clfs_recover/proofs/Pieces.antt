@@ -40,7 +40,13 @@ shown_front file piece at least shows reach =
 pub shows_still : (file same : List ℕ) (old new : Piece) → file ≡ same → (Shows file old → Shows file new) → Shows same old → Shows same new
 shows_still file same old new e still shows = subst (λ (l : List ℕ). Shows l new) e (still (subst (λ (l : List ℕ). Shows l old) (sym e) shows))
 
--- and so they are where a piece was just read
+-- And so what it has from a place on is a front of the file's bytes there.
+pub front_still : (file same : List ℕ) (old new : Piece) (at least : ℕ) (front : List ℕ) → file ≡ same → (Shows file old → Shows file new) → Shows same old
+    → Reaches at least new → front ≡ drop (at - new.from) new.bytes → IsFrontOf least (drop at same) front
+front_still file same old new at least front e still shows reach is =
+    subst (λ (l : List ℕ). IsFrontOf least (drop at same) l) (sym is) (shown_front same new at least (shows_still file same old new e still shows) reach)
+
+-- A piece reaches where it was just read.
 pub read_reaches : {T E : Type 0} (r : Result T E) (at least : ℕ) (piece : Piece) → OnOk r (piece.from ≡ at) → length piece.bytes ≤ piece.room
     → least ≤ piece.room → OnOk r (Reaches at least piece)
 read_reaches (Ok value) at least piece place few room = (

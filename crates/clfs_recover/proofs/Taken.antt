@@ -1,15 +1,13 @@
 -- Blocks that the walk has taken in, one behind the other, whatever the disk told.
-use Rattle.std.proofs.Common.{◌≡◌, inl, inr, ⊎_elim, ℕ, suc, ◌+◌, ◌-◌, ◌*◌, ◌/◌, ◌%◌, ◌<◌, ◌≤◌, List, [], ◌∷◌, ◌++◌, length, get_or, take, drop}
-use Rattle.std.proofs.Common.{Some, None, Result, Ok, Err, refl, sym, ◌∙◌, ap, subst, arith, append_assoc, length-append}
-use Rattle.std.proofs.lemmas.List.{append-nil, length-take-le, take-take, take_all, take_more, get_or-take, get_or_past, drop-drop}
-use Rattle.std.proofs.lemmas.List.Elements.{All-nil, All-push}
-use Rattle.std.proofs.lemmas.Bool.{cases_lt}
+use Rattle.std.proofs.Common.{◌≡◌, inl, inr, ⊎_elim, ℕ, ◌+◌, ◌-◌, ◌*◌, ◌/◌, ◌%◌, ◌<◌, ◌≤◌, cond, List, [], ◌∷◌, ◌++◌, length, take, drop}
+use Rattle.std.proofs.Common.{Some, None, Result, Ok, Err, refl, sym, ◌∙◌, ap, subst, arith, append_assoc}
+use Rattle.std.proofs.lemmas.List.{append-nil, length-take-le, take-take, get_or-take, get_or_past, drop-drop}
+use Rattle.std.proofs.lemmas.Bool.{cases_lt, lt-leb}
 use Rattle.clfs_lsn.specs.Lsn.{lsn_number}
 use Rattle.clfs_lsn.specs.Size.{IsShape}
 use Rattle.clfs_lsn.specs.declared.entry.LogEntry.{LogEntry}
 use Rattle.clfs_lsn.specs.declared.shape.Shape.{Shape}
-use Rattle.clfs_disk.specs.Files.{Files}
-use Rattle.clfs_container.specs.OpenBlocks.{block_sectors, BeginsWith, Opens, EndsCleanly, AreWhole, total}
+use Rattle.clfs_container.specs.OpenBlocks.{block_sectors, BeginsWith, Opens, Ends, EndsCleanly, AreOpen, total}
 use Rattle.clfs_base.specs.declared.image.Row.{Row}
 use Rattle.clfs_block.specs.Frame.{AreBytes}
 use Rattle.clfs_block.specs.Checks.{left_from, frame_at, HasFrame, IsEnough}
@@ -17,33 +15,28 @@ use Rattle.clfs_block.specs.Judging.{AreJudgedAlone, AreReadAsWritten}
 use Rattle.clfs_block.specs.declared.head.BlockHead.{BlockHead}
 use Rattle.clfs_block.specs.declared.head.BlockRefusal.{BlockRefusal}
 use Rattle.clfs_block.specs.declared.head.BlockRefusal.TheVariants as blocks
-use Rattle.clfs_recover.specs.Records.{◌>>=◌, told_as, block_records}
-use Rattle.clfs_recover.specs.Walk.{damage_at}
-use Rattle.clfs_recover.specs.Stored.{HaveBlocks, stored_in, stored_records, stored_end}
+use Rattle.clfs_recover.specs.Records.{told_as, block_records}
+use Rattle.clfs_recover.specs.Walk.{damage_at, end_at, blocks_end, blocks_records, container_records}
+use Rattle.clfs_recover.specs.Stored.{stored_in}
 use Rattle.clfs_recover.specs.Logs.{LieIn}
-use Rattle.clfs_recover.specs.Gathering.{HasTaken, GathersBlock, TakesContainer, TakesListed}
+use Rattle.clfs_recover.specs.Gathering.{HasTaken, GathersBlock, RefusesAs, TakesContainer}
 use Rattle.clfs_recover.specs.Fronts.{IsFrontOf}
 use Rattle.clfs_recover.specs.declared.refusal.LoadRefusal.{LoadRefusal}
-use Rattle.clfs_recover.proofs.Containers.{block_same, front_frame, sectors_said, left_here, frame_closed, closed_gate, unread_gate}
+use Rattle.clfs_recover.specs.declared.refusal.LoadRefusal.TheVariants.{NoBase, Damaged, DiskFault, NoMemory}
+use Rattle.clfs_recover.proofs.Blocks.{block_refused}
+use Rattle.clfs_recover.proofs.Joined.{Records, joined, joined_nil, joined_assoc}
+use Rattle.clfs_recover.proofs.Containers.{block_same, front_frame, front_block, sectors_said, left_here, one_refusal, frame_closed, closed_gate, unread_gate}
 
-abbrev Records : Type 0
-Records = Result (List LogEntry) LoadRefusal
+abbrev none : Records
+none = Ok []
+
+abbrev damage : ℕ → ℕ → ℕ → Records
+damage container offset at = Err (Damaged container offset at)
+
+abbrev refused : BlockRefusal → Result BlockHead BlockRefusal
+refused refusal = Err refusal
 
 -- ---- records of blocks, and those of more blocks behind them
-
--- records with others behind them
-abbrev joined : Records → Records → Records
-joined r s = r >>= λ (entries : List LogEntry). (s >>= λ (others : List LogEntry). Ok (entries ++ others))
-
-joined_nil : (r : Records) → joined (Ok []) r ≡ r
-joined_nil (Ok entries) = refl
-joined_nil (Err refusal) = refl
-
-joined_assoc : (r s t : Records) → joined r (joined s t) ≡ joined (joined r s) t
-joined_assoc (Err refusal) s t = refl
-joined_assoc (Ok a) (Err refusal) t = refl
-joined_assoc (Ok a) (Ok b) (Err refusal) = refl
-joined_assoc (Ok a) (Ok b) (Ok c) = ap (λ (l : List LogEntry). Ok l) (sym (append_assoc a b c))
 
 module _ (shape : Shape) (streams : ℕ) where
   stored_append : (id offset : ℕ) (some more : List (List ℕ))
@@ -59,6 +52,21 @@ module _ (shape : Shape) (streams : ℕ) where
       ∙ joined_assoc own (stored_in shape streams id (offset + length block) others) (stored_in shape streams id (offset + length block + total others) more)
       ∙ ap (λ (n : ℕ). joined (joined own (stored_in shape streams id (offset + length block) others)) (stored_in shape streams id n more)) e
 
+  -- what the walk gives of some blocks and of those behind them
+  walked_append : (id : ℕ) (past : List ℕ) (offset : ℕ) (some more : List (List ℕ))
+      → blocks_records shape streams id past offset (some ++ more)
+      ≡ joined (stored_in shape streams id offset some) (blocks_records shape streams id past (offset + total some) more)
+  walked_append id past offset [] more =
+      let e : offset ≡ offset + 0 = omega arith in
+      ap (λ (n : ℕ). blocks_records shape streams id past n more) e ∙ sym (joined_nil (blocks_records shape streams id past (offset + 0) more))
+  walked_append id past offset (block ∷ others) more =
+      let e : offset + length block + total others ≡ offset + (length block + total others) = omega arith in
+      let own : Records = told_as (damage_at id offset) (block_records shape streams (lsn_number id offset 0) block) in
+      ap (joined own) (walked_append id past (offset + length block) others more)
+      ∙ joined_assoc own (stored_in shape streams id (offset + length block) others)
+      (blocks_records shape streams id past (offset + length block + total others) more)
+      ∙ ap (λ (n : ℕ). joined (joined own (stored_in shape streams id (offset + length block) others)) (blocks_records shape streams id past n more)) e
+
   -- a block more
   pub stored_more : (id : ℕ) (some : List (List ℕ)) (block : List ℕ) (entries es : List LogEntry) → stored_in shape streams id 0 some ≡ Ok entries
       → block_records shape streams (lsn_number id (total some) 0) block ≡ Ok es
@@ -69,29 +77,6 @@ module _ (shape : Shape) (streams : ℕ) where
       ∙ ap (λ (r : Records). joined r (stored_in shape streams id (0 + total some) (block ∷ []))) so_far
       ∙ ap (λ (n : ℕ). joined (Ok entries) (stored_in shape streams id n (block ∷ []))) place
       ∙ ap (λ (r : Result (List LogEntry) BlockRefusal). joined (Ok entries) (joined (told_as (damage_at id (total some)) r) (Ok []))) is
-      ∙ ap (λ (l : List LogEntry). Ok (entries ++ l)) (append-nil es)
-
-  containers_append : (id : ℕ) (some more : List (List (List ℕ)))
-      → stored_records shape streams id (some ++ more)
-      ≡ joined (stored_records shape streams id some) (stored_records shape streams (id + length some) more)
-  containers_append id [] more =
-      let e : id ≡ id + 0 = omega arith in
-      ap (λ (n : ℕ). stored_records shape streams n more) e ∙ sym (joined_nil (stored_records shape streams (id + 0) more))
-  containers_append id (container ∷ others) more =
-      let e : id + 1 + length others ≡ id + suc (length others) = omega arith in
-      let own : Records = stored_in shape streams id 0 container in
-      ap (joined own) (containers_append (id + 1) others more)
-      ∙ joined_assoc own (stored_records shape streams (id + 1) others) (stored_records shape streams (id + 1 + length others) more)
-      ∙ ap (λ (n : ℕ). joined (joined own (stored_records shape streams (id + 1) others)) (stored_records shape streams n more)) e
-
-  -- a container more
-  pub containers_more : (id : ℕ) (some : List (List (List ℕ))) (container : List (List ℕ)) (entries es : List LogEntry)
-      → stored_records shape streams id some ≡ Ok entries → stored_in shape streams (id + length some) 0 container ≡ Ok es
-      → stored_records shape streams id (some ++ container ∷ []) ≡ Ok (entries ++ es)
-  containers_more id some container entries es so_far is =
-      containers_append id some (container ∷ [])
-      ∙ ap (λ (r : Records). joined r (joined (stored_in shape streams (id + length some) 0 container) (Ok []))) so_far
-      ∙ ap (λ (r : Records). joined (Ok entries) (joined r (Ok []))) is
       ∙ ap (λ (l : List LogEntry). Ok (entries ++ l)) (append-nil es)
 
 -- ---- a block more in its container
@@ -110,6 +95,33 @@ opens_more left bytes (own ∷ others) block rest opens first =
       subst (λ (l : List ℕ). Opens (left - block_sectors bytes) (drop n bytes) (others ++ block ∷ []) (rest - block_sectors l)) place
           (opens_more (left - block_sectors bytes) (drop n bytes) others block rest opens.1 (subst (λ (l : List ℕ). BeginsWith rest l block) (sym place) first)),
     )
+
+-- All open blocks are those that were met, and more behind them.
+record GoOn (left : ℕ) (bytes : List ℕ) (some all : List (List ℕ)) (here rest : ℕ) : Type 0 where
+  more : List (List ℕ)
+  is : all ≡ some ++ more
+  opens : Opens here (drop (total some) bytes) more rest
+
+opens_go_on : (left : ℕ) (bytes : List ℕ) (some all : List (List ℕ)) (here rest : ℕ) → Opens left bytes some here → Opens left bytes all rest
+    → Ends rest (drop (total all) bytes) → GoOn left bytes some all here rest
+opens_go_on left bytes [] all here rest opens all_open ends =
+    record { more = all; is = refl; opens = subst (λ (n : ℕ). Opens n bytes all rest) opens all_open }
+opens_go_on left bytes (block ∷ others) [] here rest opens all_open ends =
+    absurd (⊎_elim (λ (none : rest ≡ 0). omega (arith, none, all_open, opens.0.some, opens.0.fits))
+    (λ more. ⊎_elim (λ closed. closed opens.0.gate)
+    (λ more. ⊎_elim (λ (none : block_sectors bytes ≡ 0). omega (arith, none, opens.0.some))
+    (λ more. ⊎_elim (λ (many : rest < block_sectors bytes). omega (arith, many, all_open, opens.0.fits))
+    (λ (short : length bytes < 512 * block_sectors bytes). omega (arith, short, opens.0.whole)) more) more) more) ends)
+opens_go_on left bytes (block ∷ others) (first ∷ rest_of) here rest opens all_open ends =
+    let n : ℕ = 512 * block_sectors bytes in
+    let place = λ (own : List ℕ) (l : List (List ℕ)) (is : own ≡ take n bytes).
+    drop-drop (total l) n bytes ∙ ap (λ (k : ℕ). drop (k + total l) bytes) (sym (ap length is ∙ length-take-le n bytes opens.0.whole)) in
+    let next = opens_go_on (left - block_sectors bytes) (drop n bytes) others rest_of here rest opens.1 all_open.1
+    (subst (λ (l : List ℕ). Ends rest l) (sym (place first rest_of all_open.0.is)) ends) in record {
+      more = next.more;
+      is = λ i. (all_open.0.is ∙ sym opens.0.is) i ∷ next.is i;
+      opens = subst (λ (l : List ℕ). Opens here l next.more rest) (place block others opens.0.is) next.opens;
+    }
 
 lie_more : (left : ℕ) (some : List (List ℕ)) (block : List ℕ) → LieIn left some → AreBytes block → BeginsWith (left - total some / 512) block block
     → LieIn left (some ++ block ∷ [])
@@ -172,7 +184,7 @@ module _ (shape : Shape) (streams id : ℕ) (told : Type 0) (bytes : List ℕ) w
     is_full far = ends_here has bases at.taken (λ is_told. inl (omega (arith, far)))
 
     module _ (judged : AreJudgedAlone) (written : AreReadAsWritten) (good : IsShape shape) (whole : offset % 512 ≡ 0)
-        (near : offset < 512 * shape.container_sectors) (front : List ℕ) (are_bytes : AreBytes front)
+        (near : offset < 512 * shape.container_sectors) (front : List ℕ)
         (shown : told → IsFrontOf (512 * shape.block_sectors) (drop offset bytes) front) where
       abbrev start : ℕ
       start = lsn_number id offset 0
@@ -208,11 +220,11 @@ module _ (shape : Shape) (streams id : ℕ) (told : Type 0) (bytes : List ℕ) w
           inr (unread_gate shape start here there, λ open_gate. closed_gate shape start here open_gate there))
 
       -- a block that was taken in
-      pub goes_on : (sectors : ℕ) (now : List LogEntry → Type 0) (moved : List ℕ)
+      pub goes_on : AreBytes front → (sectors : ℕ) (now : List LogEntry → Type 0) (moved : List ℕ)
           → GathersBlock now rows moved (before ++ at.entries) id offset (Ok (Some sectors)) (block_records shape streams start front)
           → (head : BlockHead) → frame_at shape start front ≡ Ok head → head.sectors ≡ sectors
           → IsBehind now rows moved before (offset + 512 * sectors)
-      goes_on sectors now moved gathers head is same = subst (λ (n : ℕ). IsBehind now rows moved before (offset + 512 * n)) same (record {
+      goes_on are_bytes sectors now moved gathers head is same = subst (λ (n : ℕ). IsBehind now rows moved before (offset + 512 * n)) same (record {
         blocks = at.blocks ++ block ∷ [];
         entries = at.entries ++ gathers.0;
         lie = lie_more shape.container_sectors at.blocks block at.lie block_bytes
@@ -269,73 +281,71 @@ module _ (shape : Shape) (streams id : ℕ) (told : Type 0) (bytes : List ℕ) w
           total_more [] = omega arith
           total_more (b ∷ bs) = let e = total_more bs in omega (arith, e)
 
--- what was taken in of a container, where the same is named otherwise
-pub taken_otherwise : (shape : Shape) (id streams others : ℕ) (told still : Type 0) (bytes same : List ℕ) (has : List LogEntry → Type 0) (rows : List Row)
-    (bases : List ℕ) (before : List LogEntry) (end : ℕ) → streams ≡ others → (still → told) → bytes ≡ same
-    → TakesContainer shape streams id told bytes has rows bases before end → TakesContainer shape others id still same has rows bases before end
-taken_otherwise shape id streams others told still bytes same has rows bases before end p tells q one = record {
-  blocks = one.blocks;
-  entries = one.entries;
-  lie = one.lie;
-  records = subst (λ (n : ℕ). stored_in shape n id 0 one.blocks ≡ Ok one.entries) p one.records;
-  ends = one.ends;
-  stand = λ is_told. subst (λ (l : List ℕ). AreWhole shape.container_sectors l one.blocks) q (one.stand (tells is_told));
-  taken = one.taken;
-}
+      -- no block whose frame is right begins where the open blocks end
+      not_ended : (head : BlockHead) → frame_at shape start here ≡ Ok head → Ends sectors_left here → ⊥
+      not_ended head is ends =
+          let first = begins_with here head is in
+          ⊎_elim (λ (none : sectors_left ≡ 0). omega (arith, none, first.some, first.fits))
+          (λ more. ⊎_elim (λ closed. closed first.gate)
+          (λ more. ⊎_elim (λ (none : block_sectors here ≡ 0). omega (arith, none, first.some))
+          (λ more. ⊎_elim (λ (many : sectors_left < block_sectors here). omega (arith, many, first.fits))
+          (λ (short : length here < 512 * block_sectors here). omega (arith, short, first.whole)) more) more) more) ends
 
--- ---- a container more
+      module _ (is_told : told) (all : List (List ℕ)) (open_blocks : AreOpen shape.container_sectors bytes all) where
+        abbrev past_all : List ℕ
+        past_all = drop (total all) bytes
 
-have_more : (sectors : ℕ) (files : Files) (numbers : List ℕ) (some : List (List (List ℕ))) (number : ℕ) (container : List (List ℕ))
-    → HaveBlocks sectors files numbers some → AreWhole sectors (files number) container
-    → HaveBlocks sectors files (numbers ++ number ∷ []) (some ++ container ∷ [])
-have_more sectors files [] [] number container have whole = (whole, tt)
-have_more sectors files [] (c ∷ cs) number container have whole = absurd have
-have_more sectors files (n ∷ ns) [] number container have whole = absurd have
-have_more sectors files (n ∷ ns) (c ∷ cs) number container have whole = (have.0, have_more sectors files ns cs number container have.1 whole)
+        abbrev all_records : Records
+        all_records = container_records shape streams id (record { bytes = bytes; blocks = all })
 
-end_more : (some : List (List (List ℕ))) (container : List (List ℕ)) → stored_end (some ++ container ∷ []) ≡ total container
-end_more [] container = refl
-end_more (c ∷ []) container = refl
-end_more (c ∷ d ∷ cs) container = end_more (d ∷ cs) container
+        go_on : GoOn shape.container_sectors bytes at.blocks all sectors_left open_blocks.0
+        go_on = opens_go_on shape.container_sectors bytes at.blocks all sectors_left open_blocks.0 (at.opens is_told) open_blocks.1 open_blocks.2
 
-module _ (shape : Shape) (streams first : ℕ) (told : Type 0) (files : Files) (numbers : List ℕ) where
-  -- the containers in the first of these files were taken in
-  abbrev pub HaveTaken : (List LogEntry → Type 0) → List Row → List ℕ → List LogEntry → ℕ → ℕ → Type 0
-  HaveTaken has rows bases before i end = TakesListed shape streams first told files (take i numbers) has rows bases before end
+        is_here : drop (total at.blocks) bytes ≡ here
+        is_here = ap (λ (n : ℕ). drop n bytes) at.ends
 
-  pub starts_listed : (has : List LogEntry → Type 0) (rows : List Row) (bases : List ℕ) (before : List LogEntry) → HasTaken has rows bases before
-      → HaveTaken has rows bases before 0 0
-  starts_listed has rows bases before taken = record {
-    blocks = [];
-    entries = [];
-    listed = refl;
-    lie = All-nil (LieIn shape.container_sectors);
-    records = refl;
-    ends = refl;
-    stand = λ is_told. tt;
-    taken = subst (λ (l : List LogEntry). HasTaken has rows bases l) (sym (append-nil before)) taken;
-  }
+        -- a wrong byte is told
+        damaged : (wrong : ℕ) → block_records shape streams start front ≡ Err (blocks.BadByte wrong) → all_records ≡ Err (Damaged id offset wrong)
+        damaged wrong is =
+            let place : 0 + total at.blocks ≡ offset = omega (arith, at.ends) in
+            ap (blocks_records shape streams id past_all 0) go_on.is ∙ walked_append shape streams id past_all 0 at.blocks go_on.more
+            ∙ ap (λ (r : Records). joined r (blocks_records shape streams id past_all (0 + total at.blocks) go_on.more)) at.records
+            ∙ ap (λ (n : ℕ). joined (Ok at.entries) (blocks_records shape streams id past_all n go_on.more)) place
+            ∙ ap (joined (Ok at.entries)) (by_more go_on.more go_on.is go_on.opens)
+          where
+            here_wrong : block_records shape streams start here ≡ Err (blocks.BadByte wrong)
+            here_wrong = sym (front_block judged written shape streams start good.some_sectors here front (shown is_told)) ∙ is
 
-  module _ (has : List LogEntry → Type 0) (rows : List Row) (bases : List ℕ) (before : List LogEntry) (i end : ℕ)
-      (at : HaveTaken has rows bases before i end) where
-    pub all_listed : length numbers ≤ i → TakesListed shape streams first told files numbers has rows bases before end
-    all_listed far = subst (λ (l : List ℕ). TakesListed shape streams first told files l has rows bases before end) (take_all i numbers far) at
+            by_more : (more : List (List ℕ)) → all ≡ at.blocks ++ more → Opens sectors_left (drop (total at.blocks) bytes) more open_blocks.0
+                → blocks_records shape streams id past_all offset more ≡ Err (Damaged id offset wrong)
+            by_more (block ∷ others) e opens =
+                let first = subst (λ (l : List ℕ). BeginsWith sectors_left l block) is_here opens.0 in
+                let same = ap (block_records shape streams start) first.is
+                ∙ block_same judged written shape streams start here (512 * block_sectors here)
+                (record { first = omega (arith, first.some); all = inl (let e = sectors_said here in omega (arith, e)) }) in
+                ap (λ (r : Result (List LogEntry) BlockRefusal).
+                joined (told_as (damage_at id offset) r) (blocks_records shape streams id past_all (offset + length block) others)) (same ∙ here_wrong)
+            by_more [] e opens = by_answer (frame_at shape start here) refl
+              where
+                past_is : past_all ≡ here
+                past_is = ap (λ (l : List (List ℕ)). drop (total l) bytes) (e ∙ append-nil at.blocks) ∙ is_here
 
-    pub goes_on_listed : i < length numbers → (now : List LogEntry → Type 0) (moved : List ℕ) (stop : ℕ)
-        → TakesContainer shape streams (first + i) told (files (get_or numbers i 0)) now rows moved (before ++ at.entries) stop
-        → HaveTaken now rows moved before (i + 1) stop
-    goes_on_listed near now moved stop one =
-        let number : ℕ = get_or numbers i 0 in
-        let more : take (i + 1) numbers ≡ take i numbers ++ number ∷ [] = take_more numbers i 0 near in
-        let count : length at.blocks ≡ i = at.listed ∙ length-take-le i numbers (omega (arith, near)) in
-        subst (λ (l : List ℕ). TakesListed shape streams first told files l now rows moved before stop) (sym more) (record {
-          blocks = at.blocks ++ one.blocks ∷ [];
-          entries = at.entries ++ one.entries;
-          listed = length-append at.blocks (one.blocks ∷ []) ∙ ap (λ (n : ℕ). n + 1) at.listed ∙ sym (length-append (take i numbers) (number ∷ []));
-          lie = All-push (LieIn shape.container_sectors) at.blocks one.blocks at.lie one.lie;
-          records = containers_more shape streams first at.blocks one.blocks at.entries one.entries at.records
-              (ap (λ (n : ℕ). stored_in shape streams (first + n) 0 one.blocks) count ∙ one.records);
-          ends = end_more at.blocks one.blocks ∙ one.ends;
-          stand = λ is_told. have_more shape.container_sectors files (take i numbers) at.blocks number one.blocks (at.stand is_told) (one.stand is_told);
-          taken = subst (λ (l : List LogEntry). HasTaken now rows moved l) (append_assoc before at.entries one.entries) one.taken;
-        })
+                by_answer : (r : Result BlockHead BlockRefusal) → frame_at shape start here ≡ r
+                    → blocks_end shape id past_all offset ≡ Err (Damaged id offset wrong)
+                by_answer (Ok head) f =
+                    absurd (not_ended head f (subst (λ (n : ℕ). Ends n here) (sym opens) (subst (λ (l : List ℕ). Ends open_blocks.0 l) past_is open_blocks.2)))
+                by_answer (Err refusal) f =
+                    let same : refusal ≡ blocks.BadByte wrong = one_refusal refusal (blocks.BadByte wrong)
+                    (sym (block_refused shape streams start here refusal f) ∙ here_wrong) in
+                    ap (λ b. cond b none (end_at id offset (frame_at shape start past_all)))
+                    (lt-leb shape.container_sectors (offset / 512) (omega (arith, near)))
+                    ∙ ap (λ (l : List ℕ). end_at id offset (frame_at shape start l)) past_is ∙ ap (end_at id offset) (f ∙ ap refused same)
+
+        -- what is refused here, the container is refused for
+        pub is_refused : (now : List LogEntry → Type 0) (moved : List ℕ) (refusal : LoadRefusal)
+            → GathersBlock now rows moved (before ++ at.entries) id offset (Err refusal) (block_records shape streams start front)
+            → RefusesAs refusal all_records
+        is_refused now moved NoBase gathers = absurd gathers
+        is_refused now moved (Damaged c o wrong) gathers = damaged wrong gathers.2 ∙ (λ i. damage (sym gathers.0 i) (sym gathers.1 i) wrong)
+        is_refused now moved DiskFault gathers = tt
+        is_refused now moved NoMemory gathers = tt

@@ -66,13 +66,6 @@ GathersBlock has rows bases before container offset (Err (Damaged c o at)) read 
 GathersBlock has rows bases before container offset (Err DiskFault) read = Unit {0}
 GathersBlock has rows bases before container offset (Err NoMemory) read = Unit {0}
 
--- A container's records are taken in and its blocks end at a byte, or its first damage is told.
-abbrev pub GathersContainer : (List LogEntry → Type 0) → List Row → List ℕ → List LogEntry → Result ℕ LoadRefusal
-    → Result (List LogEntry) LoadRefusal → ℕ → Type 0
-GathersContainer has rows bases before (Ok end) read size =
-    (end ≡ size) × ((entries : List LogEntry) × (read ≡ Ok entries) × HasTaken has rows bases (before ++ entries))
-GathersContainer has rows bases before (Err refusal) read size = RefusesAs refusal read
-
 -- a place at which the blocks of a container can end
 abbrev pub IsEnd : Shape → ℕ → Type 0
 IsEnd shape end = (end % sector_bytes ≡ 0) × (end ≤ sector_bytes * shape.container_sectors)

@@ -7,7 +7,6 @@ use Rattle.clfs_base.specs.declared.image.BaseImage.{BaseImage}
 use Rattle.clfs_recover.specs.Files.{Finds, IsDamaged, HasNoBase}
 use Rattle.clfs_recover.specs.Stored.{HaveBlocks}
 use Rattle.clfs_recover.specs.Logs.{IsLogOf}
-use Rattle.clfs_recover.specs.Gathering.{RefusesAs}
 use Rattle.clfs_recover.specs.declared.opening.Walked.{Walked}
 use Rattle.clfs_recover.specs.declared.parts.Parts.{Parts}
 use Rattle.clfs_recover.specs.declared.parts.HeadParts.{HeadParts}
@@ -30,11 +29,6 @@ IsRefused files NoBase = HasNoBase files
 IsRefused files (Damaged container offset at) = IsDamaged files container offset at
 IsRefused files DiskFault = Unit {0}
 IsRefused files NoMemory = Unit {0}
-
--- The walk behind a base copy gives this, and the gatherer has taken its records.
-abbrev pub IsWalkOf : (List LogEntry → Type 0) → Result Walked LoadRefusal → Result Parts LoadRefusal → Type 0
-IsWalkOf has (Ok walked) read = (entries : List LogEntry) × has entries × (read ≡ Ok (parts_of walked entries))
-IsWalkOf has (Err refusal) read = RefusesAs refusal read
 
 -- The walk behind a base copy left a log whose records the gatherer has. Where the contents of the files are told, its blocks are their open ones.
 pub record IsWalkedLog (has : List LogEntry → Type 0) (told : Type 0) (files : Files) (slot : ℕ) (image : BaseImage) (walked : Walked) : Type 0 where

@@ -1,15 +1,15 @@
 // The blocks of one container, one behind the other, from its first byte up to a closed gate or its end.
-ghost use Rattle.std.specs.Prelude.{◌≡◌, ◌*◌, ◌^◌, ◌<◌, ◌≤◌, ℕ, List, IsOk, IfOk, OnOk, OnErr, IsErrOf, vec_len};
+ghost use Rattle.std.specs.Prelude.{◌≡◌, ◌*◌, ◌^◌, ◌<◌, ◌≤◌, ℕ, List, IsOk, IfOk, IfErr, OnOk, OnErr, IsErrOf, vec_len};
 ghost use Rattle.clfs_lsn.specs.Format.{sector_bytes};
 ghost use Rattle.clfs_lsn.specs.Size.{IsShape};
 ghost use Rattle.clfs_lsn.specs.declared.entry.LogEntry.{LogEntry};
 ghost use Rattle.clfs_disk.specs.Files.{Unchanged};
 ghost use Rattle.clfs_disk.specs.State.{TellsContents, IsSteady, Passes, Rises};
-ghost use Rattle.clfs_container.specs.OpenBlocks.{AreOpen, total};
+ghost use Rattle.clfs_container.specs.OpenBlocks.{AreOpen};
 ghost use Rattle.clfs_base.specs.declared.image.Row.{Row};
 ghost use Rattle.clfs_recover.specs.Walk.{container_records};
 ghost use Rattle.clfs_recover.specs.Fronts.{Shows, Reaches};
-ghost use Rattle.clfs_recover.specs.Gathering.{HasTaken, GathersContainer, TakesContainer, IsEnd};
+ghost use Rattle.clfs_recover.specs.Gathering.{HasTaken, RefusesAs, TakesContainer, IsEnd};
 
 use crate::block::gather_block;
 use crate::gatherer::Gatherer;
@@ -68,15 +68,14 @@ pub(crate) fn gather_container<D: Disk, G: Gatherer>(
     requires shape { IsShape shape.now }
     requires room { sector_bytes * shape.now.block_sectors ≤ piece.old.room }
     requires streams { vec_len bases.old < 2 ^ 16 }
-    ensures exact { TellsContents (D.state disk.old) → (rows : List Row) (before : List LogEntry) (blocks : List (List ℕ))
-        → HasTaken (G.has gatherer.old) rows bases.old.items before
-        → AreOpen shape.now.container_sectors ((D.state disk.old).files listed.now.file) blocks
-        → GathersContainer (G.has gatherer.new) rows bases.new.items before result
-        (container_records shape.now (vec_len bases.old) listed.now.id
-        (record { bytes = (D.state disk.old).files listed.now.file; blocks = blocks })) (total blocks) }
     ensures taken { (rows : List Row) (before : List LogEntry) → HasTaken (G.has gatherer.old) rows bases.old.items before
         → IfOk result (λ end. TakesContainer shape.now (vec_len bases.old) listed.now.id (TellsContents (D.state disk.old))
         ((D.state disk.old).files listed.now.file) (G.has gatherer.new) rows bases.new.items before end) }
+    ensures refused { TellsContents (D.state disk.old) → (rows : List Row) (before : List LogEntry) (blocks : List (List ℕ))
+        → HasTaken (G.has gatherer.old) rows bases.old.items before
+        → AreOpen shape.now.container_sectors ((D.state disk.old).files listed.now.file) blocks
+        → IfErr result (λ refusal. RefusesAs refusal (container_records shape.now (vec_len bases.old) listed.now.id
+        (record { bytes = (D.state disk.old).files listed.now.file; blocks = blocks }))) }
     ensures end { IfOk result (λ end. IsEnd shape.now end) }
     ensures room { piece.new.room ≡ piece.old.room }
     ensures streams { vec_len bases.new ≡ vec_len bases.old }

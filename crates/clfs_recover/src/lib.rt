@@ -7,13 +7,16 @@
 //! a gate is opened.
 //!
 //! There is one walk. It judges a block's frame, its records in turn, and what stands behind them, and hands each record on to a
-//! `Gatherer` by its head and where its data stand: `load` keeps records, `load_heads` their heads, which is what a log that is open keeps.
+//! `Gatherer` by its head and where its data stand: `load` keeps records, `load_heads` their heads, which is what a log that is open keeps,
+//! and `Counts` only counts them. Each block is judged in memory before it counts, so what is opened is a log over any disk, also one that
+//! doesn't tell what its files hold (specs/Logs.antt); where it tells, this log is the one that its files have.
 //! Files are read ahead in pieces of 1 MiB, or of a container where that is shorter; the memory for a piece and for a block's payload is
 //! taken once.
 #![tactic(auto)]
 
 mod block;
 mod container;
+mod counts;
 mod gatherer;
 mod laws;
 mod listed;
@@ -26,9 +29,10 @@ mod records;
 mod refusal;
 mod rows;
 
+pub use counts::Counts;
 pub use gatherer::Gatherer;
 pub use laws::{copies_and_blocks_decide, files_have_one_meaning, written_blocks_are_read};
-pub use logs::logs_are_found_in_files;
+pub use logs::{logs_are_found_in_files, logs_have_few_records};
 pub use opened::{opened_states_are_cut, opened_states_are_valid};
 pub use opening::{Walked, load, load_heads, walk};
 pub use parts::{Bases, Entries, HeadParts, Heads, Parts};

@@ -1,20 +1,21 @@
 // The walk over the listed containers, in their order: one way through the files of a log for whoever wants its records, their heads, or
 // only their number.
-ghost use Rattle.std.specs.Prelude.{◌≡◌, ◌+◌, ◌-◌, ◌*◌, ◌^◌, ◌<◌, ◌≤◌, ℕ, List, length, slice_index, vec_len, IfOk, IsErrOf};
+ghost use Rattle.std.specs.Prelude.{◌≡◌, ◌+◌, ◌-◌, ◌*◌, ◌^◌, ◌<◌, ◌≤◌, ℕ, List, length, slice_index, vec_len, IfOk, IfErr, IsErrOf};
 ghost use Rattle.clfs_lsn.specs.Format.{sector_bytes};
 ghost use Rattle.clfs_lsn.specs.Size.{IsShape};
 ghost use Rattle.clfs_lsn.specs.declared.entry.LogEntry.{LogEntry};
 ghost use Rattle.clfs_disk.specs.Files.{Unchanged};
 ghost use Rattle.clfs_disk.specs.State.{TellsContents, IsSteady, Passes, Rises};
 ghost use Rattle.clfs_base.specs.declared.image.Row.{Row};
-ghost use Rattle.clfs_recover.specs.Walk.{Container, listed_records, last_end};
+ghost use Rattle.clfs_recover.specs.Walk.{Container, listed_records};
 ghost use Rattle.clfs_recover.specs.Files.{AreListed};
-ghost use Rattle.clfs_recover.specs.Gathering.{HasTaken, GathersContainer, TakesListed, IsEnd};
+ghost use Rattle.clfs_recover.specs.Gathering.{HasTaken, RefusesAs, TakesListed, IsEnd};
 
 use crate::container::{Listed, gather_container};
 use crate::gatherer::Gatherer;
 use crate::piece::Ahead;
 use crate::refusal::LoadRefusal;
+use clfs_container::open_blocks_are_one_list;
 use clfs_disk::{Disk, calls_join};
 use clfs_lsn::{Bytes, Lsn, Shape};
 use std::alloc::Global;
@@ -36,14 +37,13 @@ pub(crate) fn gather_listed<D: Disk, G: Gatherer>(
     requires shape { IsShape shape.now }
     requires room { sector_bytes * shape.now.block_sectors ≤ piece.old.room }
     requires streams { vec_len bases.old < 2 ^ 16 }
-    ensures exact { TellsContents (D.state disk.old) → (rows : List Row) (before : List LogEntry) (listed : List Container)
-        → HasTaken (G.has gatherer.old) rows bases.old.items before
-        → AreListed shape.now.container_sectors (D.state disk.old).files files.now listed
-        → GathersContainer (G.has gatherer.new) rows bases.new.items before result
-        (listed_records shape.now (vec_len bases.old) first listed) (last_end listed) }
     ensures taken { (rows : List Row) (before : List LogEntry) → HasTaken (G.has gatherer.old) rows bases.old.items before
         → IfOk result (λ end. TakesListed shape.now (vec_len bases.old) first (TellsContents (D.state disk.old)) (D.state disk.old).files files.now
         (G.has gatherer.new) rows bases.new.items before end) }
+    ensures refused { TellsContents (D.state disk.old) → (rows : List Row) (before : List LogEntry) (listed : List Container)
+        → HasTaken (G.has gatherer.old) rows bases.old.items before
+        → AreListed shape.now.container_sectors (D.state disk.old).files files.now listed
+        → IfErr result (λ refusal. RefusesAs refusal (listed_records shape.now (vec_len bases.old) first listed)) }
     ensures end { IfOk result (λ end. IsEnd shape.now end) }
     ensures streams { vec_len bases.new ≡ vec_len bases.old }
     ensures same { Unchanged (D.state disk.old).files (D.state disk.new).files }
@@ -53,6 +53,7 @@ pub(crate) fn gather_listed<D: Disk, G: Gatherer>(
         × ((D.state disk.new).faults ≡ (D.state disk.old).faults) }
 {
     calls_join::<D>();
+    open_blocks_are_one_list();
     let mut payload = Bytes::new(alloc);
     let mut end = 0;
     for (i, file) in files.iter().enumerate() {

@@ -1,11 +1,12 @@
-// What holds of a log that was opened over any disk. The function does nothing; a caller cites its clauses.
-ghost use Rattle.std.specs.Prelude.{ℕ, Ok};
+// What holds of a log that was opened over any disk. The functions do nothing; a caller cites their clauses.
+ghost use Rattle.std.specs.Prelude.{◌^◌, ◌<◌, ℕ, length, Ok};
 ghost use Rattle.clfs_disk.specs.Files.{Files};
 ghost use Rattle.clfs_recover.specs.Files.{Finds, StandsFor, state_of};
 ghost use Rattle.clfs_recover.specs.Logs.{IsLogOf};
 ghost use Rattle.clfs_recover.specs.declared.parts.Parts.{Parts};
 
 use clfs_base::copies_are_read_as_written;
+use clfs_block::blocks_are_read_as_written;
 use clfs_container::open_blocks_are_one_list;
 
 /// The parts of a log are what opening finds in some files, which stand for its state. So what is known of every state for which files stand is
@@ -16,4 +17,11 @@ pub fn logs_are_found_in_files()
 {
     copies_are_read_as_written();
     open_blocks_are_one_list();
+}
+
+/// A log has so few records that a count of them fits its type.
+pub fn logs_have_few_records()
+    ensures { (parts : Parts) → IsLogOf parts → length parts.entries < 2 ^ 31 }
+{
+    blocks_are_read_as_written();
 }

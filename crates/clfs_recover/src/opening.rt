@@ -1,5 +1,5 @@
 // Opening: a sync, the newest base copy, the walk, and what hangs on the records in the base copy.
-ghost use Rattle.std.specs.Prelude.{◌≡◌, ◌+◌, ◌-◌, ◌*◌, ◌^◌, ◌<◌, ◌≤◌, nat_lt, ℕ, List, [], length, map, position, OnOk, IfOk, IsErrOf, Ok};
+ghost use Rattle.std.specs.Prelude.{◌≡◌, ◌+◌, ◌-◌, ◌*◌, ◌^◌, ◌<◌, ◌≤◌, nat_lt, ℕ, List, [], length, map, position, OnOk, IfOk, IfErr, IsErrOf, Ok};
 ghost use Rattle.clfs_lsn.specs.Head.{head_of};
 ghost use Rattle.clfs_lsn.specs.Format.{sector_bytes};
 ghost use Rattle.clfs_lsn.specs.Place.{IsSmall, frontier};
@@ -12,8 +12,8 @@ ghost use Rattle.clfs_base.specs.Layout.{version_one, row_place};
 ghost use Rattle.clfs_base.specs.Spelling.{IsImage};
 ghost use Rattle.clfs_recover.specs.Walk.{Container, walked, shape_of, image_fault, is_wrong_tail};
 ghost use Rattle.clfs_recover.specs.Files.{AreListed};
-ghost use Rattle.clfs_recover.specs.Gathering.{IsEnd};
-ghost use Rattle.clfs_recover.specs.Opening.{parts_of, told_parts, IsWalkOf, IsWalked, IsWalkedLog, IsLoaded, AreHeadsLoaded};
+ghost use Rattle.clfs_recover.specs.Gathering.{RefusesAs, IsEnd};
+ghost use Rattle.clfs_recover.specs.Opening.{parts_of, told_parts, IsWalked, IsWalkedLog, IsLoaded, AreHeadsLoaded};
 ghost use Rattle.clfs_recover.specs.Logs.{IsOpenedFrom};
 ghost use Rattle.clfs_recover.specs.declared.parts.Parts.{Parts};
 
@@ -111,17 +111,18 @@ fn walk_image<D: Disk, G: Gatherer>(
 ) -> Result<Walked, LoadRefusal>
     requires slot { slot ≤ 1 }
     requires image { IsImage version_one image }
-    ensures exact { TellsContents (D.state disk.old) → G.has gatherer.old [] → (listed : List Container)
-        → AreListed image.container_sectors (D.state disk.old).files image.files listed
-        → IsWalkOf (G.has gatherer.new) result (walked slot image listed) }
     ensures log { G.has gatherer.old [] → IfOk result (λ walked.
         IsWalkedLog (G.has gatherer.new) (TellsContents (D.state disk.old)) (D.state disk.old).files slot image walked) }
+    ensures refused { TellsContents (D.state disk.old) → G.has gatherer.old [] → (listed : List Container)
+        → AreListed image.container_sectors (D.state disk.old).files image.files listed
+        → IfErr result (λ refusal. RefusesAs refusal (walked slot image listed)) }
     ensures same { Unchanged (D.state disk.old).files (D.state disk.new).files }
     ensures time { Passes Unchanged (D.state disk.old) (D.state disk.new) }
     ensures cause { IsErrOf result LoadRefusal.DiskFault → Rises (D.state disk.old).faults (D.state disk.new).faults }
     ensures steady { IsSteady (D.state disk.old) → (IsErrOf result LoadRefusal.DiskFault → ⊥)
         × ((D.state disk.new).faults ≡ (D.state disk.old).faults) }
 {
+    open_blocks_are_one_list();
     let shape = Shape {
         block_sectors: image.block_sectors,
         container_sectors: image.container_sectors,

@@ -39,7 +39,7 @@ fn log(alloc: Global) -> Result<Steady, Fail> {
 }
 
 #[test]
-fn a_log_is_loaded_with_records_or_heads(rt: HostRuntime) -> Result<(), Fail> {
+fn a_log_is_loaded_with_records_or_heads_or_counted(rt: HostRuntime) -> Result<(), Fail> {
     let alloc = rt.alloc();
     let mut disk = log(alloc)?;
     let parts = load(alloc, &mut disk)?;
@@ -63,6 +63,9 @@ fn a_log_is_loaded_with_records_or_heads(rt: HostRuntime) -> Result<(), Fail> {
     assert!(rt;
         heads.heads.as_slice()[1].lsn == entries[1].lsn && heads.heads.as_slice()[1].len == 10
     );
+    let mut counts = Counts::new();
+    let walked = walk(alloc, &mut disk, &mut counts)?;
+    assert!(rt; counts.records == 2 && walked.place == place);
     Ok(())
 }
 

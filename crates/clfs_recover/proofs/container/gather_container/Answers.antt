@@ -1,4 +1,4 @@
-use Rattle.std.proofs.Common.{ℕ, ◌*◌, List, ◌++◌, Option, Some, None, Result, Ok, Err, drop, vec_len, refl, rules, sym, ◌∙◌, ap, subst, arith}
+use Rattle.std.proofs.Common.{ℕ, ◌*◌, ◌++◌, Option, Some, None, Result, Ok, Err, vec_len, refl, rules, ◌∙◌, ap, subst, arith}
 use Rattle.std.proofs.lemmas.Result.{err_from_is_err_and}
 use Rattle.clfs_lsn.specs.Lsn.{lsn_number}
 use Rattle.clfs_disk.specs.Files.{Unchanged}
@@ -6,11 +6,10 @@ use Rattle.clfs_disk.specs.State.{TellsContents}
 use Rattle.clfs_block.specs.Frame.{AreBytes}
 use Rattle.clfs_recover.specs.Records.{block_records}
 use Rattle.clfs_recover.specs.Gathering.{GathersBlock}
-use Rattle.clfs_recover.specs.Fronts.{IsFrontOf}
 use Rattle.clfs_recover.specs.declared.refusal.LoadRefusal.{LoadRefusal}
-use Rattle.clfs_recover.proofs.Containers.{begins, went_on, was_closed, was_refused, was_done, block_end}
-use Rattle.clfs_recover.proofs.Taken.{starts, goes_on, is_closed, is_full}
-use Rattle.clfs_recover.proofs.Pieces.{shown_front, shows_still}
+use Rattle.clfs_recover.proofs.Containers.{block_end}
+use Rattle.clfs_recover.proofs.Taken.{starts, goes_on, is_closed, is_full, is_refused}
+use Rattle.clfs_recover.proofs.Pieces.{shows_still, front_still}
 use Rattle.clfs_recover.proofs.Disks.{tells_still, steady_still}
 use Rattle.clfs_recover.proofs.container.gather_container.Goals as goal
 
@@ -28,9 +27,6 @@ loop-offset-init g c =
       time = c.in_ok-read.ensures.time;
       steady = λ steady. (c.in_ok-read.ensures.steady steady).1;
       shows = c.in_ok-read.ensures.shows;
-      taken = λ tells rows before blocks has listed.
-          begins c.args.shape.now (vec_len c.args.bases.now) c.args.listed.now.id (first.files c.args.listed.now.file) blocks
-          (g.G.Gatherer.has c.args.gatherer.now) rows c.args.bases.now.items before listed has;
       behind = λ rows before has.
           starts c.args.shape.now (vec_len c.args.bases.now) c.args.listed.now.id (TellsContents first) (first.files c.args.listed.now.file)
           (g.G.Gatherer.has c.args.gatherer.now) rows c.args.bases.now.items before has;
@@ -57,67 +53,38 @@ loop-offset-smaller g c =
     c.requires.shape c.loop-offset.invariant.whole c.loop-offset-test.true framed.1 in
     omega (arith, end.0, end.1, framed.2)
 
-pub returns-in_err-sectors-clause-exact : goal.returns-in_err-sectors-clause-exact
-returns-in_err-sectors-clause-exact g c tells rows before blocks has listed =
+pub returns-in_err-sectors-clause-refused : goal.returns-in_err-sectors-clause-refused
+returns-in_err-sectors-clause-refused g c tells rows before blocks has listed =
     let p = err_from_is_err_and c.from_residual-in_err-sectors.result c.from_residual-in_err-sectors.ensures.1 in
     let now = g.D.Disk.state c.loop-offset.disk in
     let first = g.D.Disk.state c.args.disk.now in
     let file = c.args.listed.now.file in
-    let at = c.loop-offset.invariant.taken tells rows before blocks has listed in
-    let shows = λ (tells : TellsContents first).
-    shows_still (now.files file) (first.files file) c.loop-offset.piece c.cover.new.piece (c.loop-offset.invariant.same file)
-    (c.in_ok-cover.ensures.shows (tells_still Unchanged first now c.loop-offset.invariant.time tells)) (c.loop-offset.invariant.shows tells) in
+    let at = c.loop-offset.invariant.behind rows before has in
     let shown = λ (tells : TellsContents first).
-    subst (λ (l : List ℕ). IsFrontOf (512 * c.args.shape.now.block_sectors) (drop c.loop-offset.offset (first.files file)) l) (sym c.bytes_from-bytes.ensures)
-    (shown_front (first.files file) c.cover.new.piece c.loop-offset.offset (512 * c.args.shape.now.block_sectors) (shows tells) c.in_ok-cover.ensures.reach) in
+    front_still (now.files file) (first.files file) c.loop-offset.piece c.cover.new.piece c.loop-offset.offset (512 * c.args.shape.now.block_sectors)
+    c.bytes_from-bytes.result.now (c.loop-offset.invariant.same file)
+    (c.in_ok-cover.ensures.shows (tells_still Unchanged first now c.loop-offset.invariant.time tells)) (c.loop-offset.invariant.shows tells)
+    c.in_ok-cover.ensures.reach c.bytes_from-bytes.ensures in
     let gathers = subst (λ (n : ℕ). GathersBlock (g.G.Gatherer.has c.gather_block.new.gatherer) rows c.gather_block.new.bases.items (before ++ at.entries)
     c.args.listed.now.id c.loop-offset.offset (Err c.in_err-sectors.field-0.0)
     (block_records c.args.shape.now n (lsn_number c.args.listed.now.id c.loop-offset.offset 0) c.bytes_from-bytes.result.now))
     c.loop-offset.invariant.same_streams (c.in_err-sectors.ensures.exact rows (before ++ at.entries) at.taken) in
-    rw (p.1, p.2) (was_refused c.args.shape.now (vec_len c.args.bases.now) c.args.listed.now.id (first.files file) blocks
-    c.blocks_are_judged_alone.ensures c.blocks_are_read_as_written.ensures c.requires.shape c.loop-offset.offset c.loop-offset.invariant.whole
-    c.loop-offset-test.true c.bytes_from-bytes.result.now (shown tells) (g.G.Gatherer.has c.loop-offset.gatherer) rows c.loop-offset.bases.items before at
-    (g.G.Gatherer.has c.gather_block.new.gatherer) c.gather_block.new.bases.items c.in_err-sectors.field-0.0 gathers)
-
-pub returns-after-loop-offset-clause-exact : goal.returns-after-loop-offset-clause-exact
-returns-after-loop-offset-clause-exact g c tells rows before blocks has listed =
-    let first = g.D.Disk.state c.args.disk.now in
-    was_done c.args.shape.now (vec_len c.args.bases.now) c.args.listed.now.id (first.files c.args.listed.now.file) blocks c.loop-offset.offset
-    (omega (arith, c.loop-offset-test.false)) (g.G.Gatherer.has c.loop-offset.gatherer) rows c.loop-offset.bases.items before
-    (c.loop-offset.invariant.taken tells rows before blocks has listed)
-
-pub returns-in-None-clause-exact : goal.returns-in-None-clause-exact
-returns-in-None-clause-exact g c tells rows before blocks has listed =
-    let now = g.D.Disk.state c.loop-offset.disk in
-    let first = g.D.Disk.state c.args.disk.now in
-    let file = c.args.listed.now.file in
-    let at = c.loop-offset.invariant.taken tells rows before blocks has listed in
-    let shows = λ (tells : TellsContents first).
-    shows_still (now.files file) (first.files file) c.loop-offset.piece c.cover.new.piece (c.loop-offset.invariant.same file)
-    (c.in_ok-cover.ensures.shows (tells_still Unchanged first now c.loop-offset.invariant.time tells)) (c.loop-offset.invariant.shows tells) in
-    let shown = λ (tells : TellsContents first).
-    subst (λ (l : List ℕ). IsFrontOf (512 * c.args.shape.now.block_sectors) (drop c.loop-offset.offset (first.files file)) l) (sym c.bytes_from-bytes.ensures)
-    (shown_front (first.files file) c.cover.new.piece c.loop-offset.offset (512 * c.args.shape.now.block_sectors) (shows tells) c.in_ok-cover.ensures.reach) in
-    let gathers = subst (λ (n : ℕ). GathersBlock (g.G.Gatherer.has c.gather_block.new.gatherer) rows c.gather_block.new.bases.items (before ++ at.entries)
-    c.args.listed.now.id c.loop-offset.offset (found None)
-    (block_records c.args.shape.now n (lsn_number c.args.listed.now.id c.loop-offset.offset 0) c.bytes_from-bytes.result.now))
-    c.loop-offset.invariant.same_streams (rw c.in-None.is at (c.in_ok-sectors.ensures.exact rows (before ++ at.entries) at.taken)) in
-    was_closed c.args.shape.now (vec_len c.args.bases.now) c.args.listed.now.id (first.files file) blocks
-    c.blocks_are_judged_alone.ensures c.blocks_are_read_as_written.ensures c.requires.shape c.loop-offset.offset c.loop-offset.invariant.whole
-    c.loop-offset-test.true c.bytes_from-bytes.result.now (shown tells) (g.G.Gatherer.has c.loop-offset.gatherer) rows c.loop-offset.bases.items before at
-    (g.G.Gatherer.has c.gather_block.new.gatherer) c.gather_block.new.bases.items gathers
+    rw (p.1, p.2) (is_refused c.args.shape.now (vec_len c.args.bases.now) c.args.listed.now.id (TellsContents first) (first.files file)
+    (g.G.Gatherer.has c.loop-offset.gatherer) rows c.loop-offset.bases.items before c.loop-offset.offset at
+    c.blocks_are_judged_alone.ensures c.blocks_are_read_as_written.ensures c.requires.shape c.loop-offset.invariant.whole
+    c.loop-offset-test.true c.bytes_from-bytes.result.now shown tells blocks listed (g.G.Gatherer.has c.gather_block.new.gatherer)
+    c.gather_block.new.bases.items c.in_err-sectors.field-0.0 gathers)
 
 pub loop-offset-preserved : goal.loop-offset-preserved
 loop-offset-preserved g c =
     let now = g.D.Disk.state c.loop-offset.disk in
     let first = g.D.Disk.state c.args.disk.now in
     let file = c.args.listed.now.file in
-    let shows = λ (tells : TellsContents first).
-    shows_still (now.files file) (first.files file) c.loop-offset.piece c.cover.new.piece (c.loop-offset.invariant.same file)
-    (c.in_ok-cover.ensures.shows (tells_still Unchanged first now c.loop-offset.invariant.time tells)) (c.loop-offset.invariant.shows tells) in
     let shown = λ (tells : TellsContents first).
-    subst (λ (l : List ℕ). IsFrontOf (512 * c.args.shape.now.block_sectors) (drop c.loop-offset.offset (first.files file)) l) (sym c.bytes_from-bytes.ensures)
-    (shown_front (first.files file) c.cover.new.piece c.loop-offset.offset (512 * c.args.shape.now.block_sectors) (shows tells) c.in_ok-cover.ensures.reach) in
+    front_still (now.files file) (first.files file) c.loop-offset.piece c.cover.new.piece c.loop-offset.offset (512 * c.args.shape.now.block_sectors)
+    c.bytes_from-bytes.result.now (c.loop-offset.invariant.same file)
+    (c.in_ok-cover.ensures.shows (tells_still Unchanged first now c.loop-offset.invariant.time tells)) (c.loop-offset.invariant.shows tells)
+    c.in_ok-cover.ensures.reach c.bytes_from-bytes.ensures in
     let framed = c.gather_block.ensures.framed c.in-Some.sectors (c.in_ok-sectors.was ∙ ap found c.in-Some.is) in
     let end = block_end c.blocks_are_read_as_written.ensures c.args.shape.now c.args.listed.now.id c.loop-offset.offset c.bytes_from-bytes.result.now framed.0
     c.requires.shape c.loop-offset.invariant.whole c.loop-offset-test.true framed.1 in record {
@@ -129,17 +96,9 @@ loop-offset-preserved g c =
       time = c.calls_join.ensures.reads c.args.disk.now c.loop-offset.disk c.cover.new.disk c.loop-offset.invariant.time c.in_ok-cover.ensures.time;
       steady = λ steady. (c.in_ok-cover.ensures.steady (steady_still Unchanged first now c.loop-offset.invariant.time steady)).1
           ∙ c.loop-offset.invariant.steady steady;
-      shows = shows;
-      taken = λ tells rows before blocks has listed.
-          let at = c.loop-offset.invariant.taken tells rows before blocks has listed in
-          let gathers = subst (λ (n : ℕ). GathersBlock (g.G.Gatherer.has c.gather_block.new.gatherer) rows c.gather_block.new.bases.items (before ++ at.entries)
-          c.args.listed.now.id c.loop-offset.offset (found (Some c.in-Some.sectors))
-          (block_records c.args.shape.now n (lsn_number c.args.listed.now.id c.loop-offset.offset 0) c.bytes_from-bytes.result.now))
-          c.loop-offset.invariant.same_streams (rw c.in-Some.is at (c.in_ok-sectors.ensures.exact rows (before ++ at.entries) at.taken)) in
-          went_on c.args.shape.now (vec_len c.args.bases.now) c.args.listed.now.id (first.files file) blocks
-          c.blocks_are_judged_alone.ensures c.blocks_are_read_as_written.ensures c.requires.shape c.loop-offset.offset c.loop-offset.invariant.whole
-          c.loop-offset-test.true c.bytes_from-bytes.result.now (shown tells) (g.G.Gatherer.has c.loop-offset.gatherer) rows c.loop-offset.bases.items before at
-          c.in-Some.sectors (g.G.Gatherer.has c.gather_block.new.gatherer) c.gather_block.new.bases.items gathers framed.0 framed.1 framed.2;
+      shows = λ tells.
+          shows_still (now.files file) (first.files file) c.loop-offset.piece c.cover.new.piece (c.loop-offset.invariant.same file)
+          (c.in_ok-cover.ensures.shows (tells_still Unchanged first now c.loop-offset.invariant.time tells)) (c.loop-offset.invariant.shows tells);
       behind = λ rows before has.
           let at = c.loop-offset.invariant.behind rows before has in
           let bytes : AreBytes c.bytes_from-bytes.result.now = search rules in
@@ -150,7 +109,7 @@ loop-offset-preserved g c =
           goes_on c.args.shape.now (vec_len c.args.bases.now) c.args.listed.now.id (TellsContents first) (first.files file)
           (g.G.Gatherer.has c.loop-offset.gatherer) rows c.loop-offset.bases.items before c.loop-offset.offset at
           c.blocks_are_judged_alone.ensures c.blocks_are_read_as_written.ensures c.requires.shape c.loop-offset.invariant.whole
-          c.loop-offset-test.true c.bytes_from-bytes.result.now bytes shown c.in-Some.sectors (g.G.Gatherer.has c.gather_block.new.gatherer)
+          c.loop-offset-test.true c.bytes_from-bytes.result.now shown bytes c.in-Some.sectors (g.G.Gatherer.has c.gather_block.new.gatherer)
           c.gather_block.new.bases.items gathers framed.0 framed.1 framed.2;
     }
 
@@ -160,13 +119,11 @@ returns-in-None-clause-taken g c rows before has =
     let first = g.D.Disk.state c.args.disk.now in
     let file = c.args.listed.now.file in
     let at = c.loop-offset.invariant.behind rows before has in
-    let bytes : AreBytes c.bytes_from-bytes.result.now = search rules in
-    let shows = λ (tells : TellsContents first).
-    shows_still (now.files file) (first.files file) c.loop-offset.piece c.cover.new.piece (c.loop-offset.invariant.same file)
-    (c.in_ok-cover.ensures.shows (tells_still Unchanged first now c.loop-offset.invariant.time tells)) (c.loop-offset.invariant.shows tells) in
     let shown = λ (tells : TellsContents first).
-    subst (λ (l : List ℕ). IsFrontOf (512 * c.args.shape.now.block_sectors) (drop c.loop-offset.offset (first.files file)) l) (sym c.bytes_from-bytes.ensures)
-    (shown_front (first.files file) c.cover.new.piece c.loop-offset.offset (512 * c.args.shape.now.block_sectors) (shows tells) c.in_ok-cover.ensures.reach) in
+    front_still (now.files file) (first.files file) c.loop-offset.piece c.cover.new.piece c.loop-offset.offset (512 * c.args.shape.now.block_sectors)
+    c.bytes_from-bytes.result.now (c.loop-offset.invariant.same file)
+    (c.in_ok-cover.ensures.shows (tells_still Unchanged first now c.loop-offset.invariant.time tells)) (c.loop-offset.invariant.shows tells)
+    c.in_ok-cover.ensures.reach c.bytes_from-bytes.ensures in
     let gathers = subst (λ (n : ℕ). GathersBlock (g.G.Gatherer.has c.gather_block.new.gatherer) rows c.gather_block.new.bases.items (before ++ at.entries)
     c.args.listed.now.id c.loop-offset.offset (found None)
     (block_records c.args.shape.now n (lsn_number c.args.listed.now.id c.loop-offset.offset 0) c.bytes_from-bytes.result.now))
@@ -174,7 +131,7 @@ returns-in-None-clause-taken g c rows before has =
     is_closed c.args.shape.now (vec_len c.args.bases.now) c.args.listed.now.id (TellsContents first) (first.files file)
     (g.G.Gatherer.has c.loop-offset.gatherer) rows c.loop-offset.bases.items before c.loop-offset.offset at
     c.blocks_are_judged_alone.ensures c.blocks_are_read_as_written.ensures c.requires.shape c.loop-offset.invariant.whole
-    c.loop-offset-test.true c.bytes_from-bytes.result.now bytes shown (g.G.Gatherer.has c.gather_block.new.gatherer) c.gather_block.new.bases.items gathers
+    c.loop-offset-test.true c.bytes_from-bytes.result.now shown (g.G.Gatherer.has c.gather_block.new.gatherer) c.gather_block.new.bases.items gathers
 
 pub returns-after-loop-offset-clause-taken : goal.returns-after-loop-offset-clause-taken
 returns-after-loop-offset-clause-taken g c rows before has =

@@ -1,12 +1,10 @@
-use Rattle.std.proofs.Common.{◌≡◌, ℕ, ◌-◌, ◌*◌, ◌%◌, ◌≤◌, List, vec_len}
+use Rattle.std.proofs.Common.{◌≡◌, ◌-◌, ◌*◌, ◌%◌, ◌≤◌, List, vec_len}
 use Rattle.clfs_lsn.specs.declared.entry.LogEntry.{LogEntry}
 use Rattle.clfs_base.specs.declared.image.Row.{Row}
 use Rattle.clfs_disk.specs.Files.{Unchanged}
 use Rattle.clfs_disk.specs.State.{TellsContents, IsSteady, Passes}
-use Rattle.clfs_container.specs.OpenBlocks.{AreOpen}
 use Rattle.clfs_recover.specs.Fronts.{Shows}
 use Rattle.clfs_recover.specs.Gathering.{HasTaken}
-use Rattle.clfs_recover.proofs.Containers.{IsReached}
 use Rattle.clfs_recover.proofs.Taken.{IsBehind}
 use Rattle.clfs_recover.proofs.container.gather_container.Given as goal
 
@@ -23,11 +21,6 @@ invariant-loop-offset g l =
       time : Passes Unchanged first now;
       steady : IsSteady first → now.faults ≡ first.faults;
       shows : TellsContents first → Shows (first.files l.listed.file) l.piece;
-      taken : TellsContents first → (rows : List Row) (before : List LogEntry) (blocks : List (List ℕ))
-          → HasTaken (g.G.Gatherer.has l.fn.gatherer) rows l.fn.bases.items before
-          → AreOpen l.shape.container_sectors (first.files l.listed.file) blocks
-          → IsReached l.shape (vec_len l.fn.bases) l.listed.id (first.files l.listed.file) blocks (g.G.Gatherer.has l.gatherer) rows l.bases.items before
-          l.offset;
       behind : (rows : List Row) (before : List LogEntry) → HasTaken (g.G.Gatherer.has l.fn.gatherer) rows l.fn.bases.items before
           → IsBehind l.shape (vec_len l.fn.bases) l.listed.id (TellsContents first) (first.files l.listed.file) (g.G.Gatherer.has l.gatherer) rows
           l.bases.items before l.offset;

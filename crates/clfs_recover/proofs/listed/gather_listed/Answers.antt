@@ -1,9 +1,8 @@
-use Rattle.std.proofs.Common.{◌+◌, ◌++◌, get_or, Ok, Err, vec_len, refl, ◌∙◌, arith}
+use Rattle.std.proofs.Common.{◌+◌, ◌++◌, get_or, vec_len, refl, ◌∙◌, arith}
 use Rattle.std.proofs.lemmas.Result.{err_from_is_err_and}
 use Rattle.clfs_disk.specs.Files.{Unchanged}
 use Rattle.clfs_disk.specs.State.{TellsContents}
-use Rattle.clfs_recover.proofs.Listing.{begins, done, went_on, was_refused, named_otherwise}
-use Rattle.clfs_recover.proofs.Taken.{starts_listed, all_listed, goes_on_listed, taken_otherwise}
+use Rattle.clfs_recover.proofs.Listing.{starts_listed, all_listed, goes_on_listed, taken_otherwise, refused_otherwise, listed_refused}
 use Rattle.clfs_recover.proofs.Disks.{tells_still, steady_still, no_time}
 use Rattle.clfs_recover.proofs.listed.gather_listed.Goals as goal
 
@@ -16,19 +15,10 @@ loop-i-init g c =
       same = λ file. refl;
       time = no_time first;
       steady = λ steady. refl;
-      taken = λ tells rows before listed has are.
-          begins c.args.shape.now (vec_len c.args.bases.now) c.args.first first.files c.args.files.now listed (g.G.Gatherer.has c.args.gatherer.now) rows
-          c.args.bases.now.items before are has;
       behind = λ rows before has.
           starts_listed c.args.shape.now (vec_len c.args.bases.now) c.args.first (TellsContents first) first.files c.args.files.now
           (g.G.Gatherer.has c.args.gatherer.now) rows c.args.bases.now.items before has;
     }
-
-pub returns-clause-exact : goal.returns-clause-exact
-returns-clause-exact g c tells rows before listed has are =
-    let first = g.D.Disk.state c.args.disk.now in
-    done c.args.shape.now (vec_len c.args.bases.now) c.args.first first.files c.args.files.now listed (g.G.Gatherer.has c.loop-i.gatherer) rows
-    c.loop-i.bases.items before c.loop-i.i c.loop-i.end (omega (arith, c.loop-i-test.false)) (c.loop-i.invariant.taken tells rows before listed has are)
 
 pub returns-clause-taken : goal.returns-clause-taken
 returns-clause-taken g c rows before has =
@@ -37,21 +27,20 @@ returns-clause-taken g c rows before has =
     (g.G.Gatherer.has c.loop-i.gatherer) rows c.loop-i.bases.items before c.loop-i.i c.loop-i.end (c.loop-i.invariant.behind rows before has)
     (omega (arith, c.loop-i-test.false))
 
-pub returns-in_err-end-clause-exact : goal.returns-in_err-end-clause-exact
-returns-in_err-end-clause-exact g c tells rows before listed has are =
+pub returns-in_err-end-clause-refused : goal.returns-in_err-end-clause-refused
+returns-in_err-end-clause-refused g c tells rows before listed has are =
     let p = err_from_is_err_and c.from_residual.result c.from_residual.ensures.1 in
     let first = g.D.Disk.state c.args.disk.now in
     let now = g.D.Disk.state c.loop-i.disk in
     let told = tells_still Unchanged first now c.loop-i.invariant.time tells in
-    let at = c.loop-i.invariant.taken tells rows before listed has are in
+    let at = c.loop-i.invariant.behind rows before has in
     let number = get_or c.args.files.now c.loop-i.i 0 in
-    rw (p.1, p.2) (was_refused c.args.shape.now (vec_len c.args.bases.now) c.args.first first.files c.args.files.now listed
-    (g.G.Gatherer.has c.loop-i.gatherer) rows c.loop-i.bases.items before c.loop-i.i c.loop-i.end c.loop-i-test.true at
-    (g.G.Gatherer.has c.gather_container.new.gatherer) c.gather_container.new.bases.items c.in_err-end.field-0.0
-    (named_otherwise (g.G.Gatherer.has c.gather_container.new.gatherer) rows c.gather_container.new.bases.items (before ++ at.entries)
-    (Err c.in_err-end.field-0.0) c.args.shape.now (c.args.first + c.loop-i.i) (vec_len c.loop-i.bases) (vec_len c.args.bases.now)
+    rw (p.1, p.2) (listed_refused c.open_blocks_are_one_list.ensures.one c.open_blocks_are_one_list.ensures.whole c.args.shape.now
+    (vec_len c.args.bases.now) first.files c.in_err-end.field-0.0 c.args.files.now c.loop-i.i c.args.first at.blocks at.entries listed (at.stand tells)
+    at.records c.loop-i-test.true are
+    (refused_otherwise c.in_err-end.field-0.0 c.args.shape.now (c.args.first + c.loop-i.i) (vec_len c.loop-i.bases) (vec_len c.args.bases.now)
     (now.files number) (first.files number) c.loop-i.invariant.same_streams (c.loop-i.invariant.same number)
-    (λ blocks are_open. c.in_err-end.ensures.exact told rows (before ++ at.entries) blocks at.taken are_open)))
+    (λ blocks are_open. c.in_err-end.ensures.refused told rows (before ++ at.entries) blocks at.taken are_open)))
 
 pub loop-i-preserved : goal.loop-i-preserved
 loop-i-preserved g c = record {
@@ -62,19 +51,6 @@ loop-i-preserved g c = record {
   time = c.calls_join.ensures.reads c.args.disk.now c.loop-i.disk c.gather_container.new.disk c.loop-i.invariant.time c.in_ok-end.ensures.time;
   steady = λ steady. (c.in_ok-end.ensures.steady (steady_still Unchanged (g.D.Disk.state c.args.disk.now) (g.D.Disk.state c.loop-i.disk) c.loop-i.invariant.time steady)).1
       ∙ c.loop-i.invariant.steady steady;
-  taken = λ tells rows before listed has are.
-      let first = g.D.Disk.state c.args.disk.now in
-      let now = g.D.Disk.state c.loop-i.disk in
-      let told = tells_still Unchanged first now c.loop-i.invariant.time tells in
-      let at = c.loop-i.invariant.taken tells rows before listed has are in
-      let number = get_or c.args.files.now c.loop-i.i 0 in
-      went_on c.args.shape.now (vec_len c.args.bases.now) c.args.first first.files c.args.files.now listed (g.G.Gatherer.has c.loop-i.gatherer) rows
-      c.loop-i.bases.items before c.loop-i.i c.loop-i.end c.loop-i-test.true at (g.G.Gatherer.has c.gather_container.new.gatherer)
-      c.gather_container.new.bases.items c.in_ok-end.end
-      (named_otherwise (g.G.Gatherer.has c.gather_container.new.gatherer) rows c.gather_container.new.bases.items (before ++ at.entries)
-      (Ok c.in_ok-end.end) c.args.shape.now (c.args.first + c.loop-i.i) (vec_len c.loop-i.bases) (vec_len c.args.bases.now)
-      (now.files number) (first.files number) c.loop-i.invariant.same_streams (c.loop-i.invariant.same number)
-      (λ blocks are_open. c.in_ok-end.ensures.exact told rows (before ++ at.entries) blocks at.taken are_open));
   behind = λ rows before has.
       let first = g.D.Disk.state c.args.disk.now in
       let now = g.D.Disk.state c.loop-i.disk in

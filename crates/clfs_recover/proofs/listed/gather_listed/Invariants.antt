@@ -3,11 +3,8 @@ use Rattle.clfs_lsn.specs.declared.entry.LogEntry.{LogEntry}
 use Rattle.clfs_base.specs.declared.image.Row.{Row}
 use Rattle.clfs_disk.specs.Files.{Unchanged}
 use Rattle.clfs_disk.specs.State.{TellsContents, IsSteady, Passes}
-use Rattle.clfs_recover.specs.Walk.{Container}
-use Rattle.clfs_recover.specs.Files.{AreListed}
 use Rattle.clfs_recover.specs.Gathering.{HasTaken, IsEnd}
-use Rattle.clfs_recover.proofs.Listing.{IsListed}
-use Rattle.clfs_recover.proofs.Taken.{HaveTaken}
+use Rattle.clfs_recover.proofs.Listing.{HaveTaken}
 use Rattle.clfs_recover.proofs.listed.gather_listed.Given as goal
 
 abbrev pub invariant-loop-i : goal.invariant-loop-i
@@ -21,10 +18,6 @@ invariant-loop-i g l =
       same : Unchanged first.files now.files;
       time : Passes Unchanged first now;
       steady : IsSteady first → now.faults ≡ first.faults;
-      taken : TellsContents first → (rows : List Row) (before : List LogEntry) (listed : List Container)
-          → HasTaken (g.G.Gatherer.has l.fn.gatherer) rows l.fn.bases.items before
-          → AreListed l.shape.container_sectors first.files l.files listed
-          → IsListed l.shape (vec_len l.fn.bases) l.first first.files l.files listed (g.G.Gatherer.has l.gatherer) rows l.bases.items before l.i l.end;
       behind : (rows : List Row) (before : List LogEntry) → HasTaken (g.G.Gatherer.has l.fn.gatherer) rows l.fn.bases.items before
           → HaveTaken l.shape (vec_len l.fn.bases) l.first (TellsContents first) first.files l.files (g.G.Gatherer.has l.gatherer) rows l.bases.items
           before l.i l.end;

@@ -4,27 +4,8 @@ use Rattle.clfs_disk.specs.State.{TellsContents}
 use Rattle.clfs_base.specs.Slots.{newest_of}
 use Rattle.clfs_recover.proofs.Disks.{tells_still, settled_still, always}
 use Rattle.clfs_recover.proofs.Finding.{by_copy, listed_same}
-use Rattle.clfs_recover.proofs.OpenedLogs.{walked_is_opened}
+use Rattle.clfs_recover.proofs.OpenedLogs.{walked_is_opened, opened_is_found}
 use Rattle.clfs_recover.proofs.opening.walk.Goals as goal
-
-pub returns-clause-exact : goal.returns-clause-exact
-returns-clause-exact g c tells has =
-    let first = g.D.Disk.state c.args.disk.now in
-    let synced = g.D.Disk.state c.sync.new.self in
-    let read = g.D.Disk.state c.read_newest.new.disk in
-    let image = c.in_ok-slot.image in
-    let told = tells_still Unchanged first synced c.sync.ensures.time tells in
-    let still = tells_still Unchanged synced read c.in_ok-slot.ensures.time told in
-    by_copy (g.G.Gatherer.has c.walk_image.new.gatherer) first.files c.in_ok-slot.slot image c.walk_image.result
-    (ap newest_of (sym (c.sync.ensures.same 0)) ∙ c.in_ok-slot.ensures.newest told)
-    (λ listed are. c.walk_image.ensures.exact still has listed
-    (listed_same image.container_sectors first.files read.files image.files listed (λ file. c.in_ok-slot.ensures.same file ∙ c.sync.ensures.same file) are))
-
-pub returns-clause-settled : goal.returns-clause-settled
-returns-clause-settled g c = always c.walk_image.result (λ honest.
-    settled_still g.D.Disk.state c.calls_join.ensures c.sync.new.self c.walk_image.new.disk (c.in_ok-sync.ensures.settled honest)
-    (c.calls_join.ensures.reads c.sync.new.self c.read_newest.new.disk c.walk_image.new.disk c.in_ok-slot.ensures.time c.walk_image.ensures.time)
-    (λ file. c.walk_image.ensures.same file ∙ c.in_ok-slot.ensures.same file))
 
 pub returns-clause-log : goal.returns-clause-log
 returns-clause-log g c has =
@@ -37,3 +18,23 @@ returns-clause-log g c has =
     (λ file. c.in_ok-slot.ensures.same file ∙ c.sync.ensures.same file)
     (λ tells. ap newest_of (sym (c.sync.ensures.same 0)) ∙ c.in_ok-slot.ensures.newest (tells_still Unchanged first synced c.sync.ensures.time tells))
     (c.walk_image.ensures.log has)
+
+pub returns-clause-exact : goal.returns-clause-exact
+returns-clause-exact g c tells has =
+    let first = g.D.Disk.state c.args.disk.now in
+    let synced = g.D.Disk.state c.sync.new.self in
+    let read = g.D.Disk.state c.read_newest.new.disk in
+    let image = c.in_ok-slot.image in
+    let told = tells_still Unchanged first synced c.sync.ensures.time tells in
+    let still = tells_still Unchanged synced read c.in_ok-slot.ensures.time told in
+    by_copy (g.G.Gatherer.has c.walk_image.new.gatherer) first.files c.in_ok-slot.slot image c.walk_image.result
+    (ap newest_of (sym (c.sync.ensures.same 0)) ∙ c.in_ok-slot.ensures.newest told)
+    (opened_is_found (g.G.Gatherer.has c.walk_image.new.gatherer) first c.walk_image.result tells (returns-clause-log g c has))
+    (λ listed are. c.walk_image.ensures.refused still has listed
+    (listed_same image.container_sectors first.files read.files image.files listed (λ file. c.in_ok-slot.ensures.same file ∙ c.sync.ensures.same file) are))
+
+pub returns-clause-settled : goal.returns-clause-settled
+returns-clause-settled g c = always c.walk_image.result (λ honest.
+    settled_still g.D.Disk.state c.calls_join.ensures c.sync.new.self c.walk_image.new.disk (c.in_ok-sync.ensures.settled honest)
+    (c.calls_join.ensures.reads c.sync.new.self c.read_newest.new.disk c.walk_image.new.disk c.in_ok-slot.ensures.time c.walk_image.ensures.time)
+    (λ file. c.walk_image.ensures.same file ∙ c.in_ok-slot.ensures.same file))
