@@ -9,7 +9,7 @@ use Rattle.clfs_base.specs.Spelling.{row_in}
 use Rattle.clfs_model.specs.declared.state.State.{State}
 use Rattle.clfs_model.specs.declared.state.Stream.{Stream}
 use Rattle.clfs_recover.specs.Files.{state_of}
-use Rattle.clfs_recover.specs.Logs.{IsLogOf}
+use Rattle.clfs_recover.specs.KnownLogs.{IsLogOf}
 use Rattle.clfs_recover.specs.Opening.{told_parts}
 use Rattle.clfs_recover.specs.declared.parts.HeadParts.{HeadParts}
 

@@ -16,7 +16,7 @@ use Rattle.clfs_block.specs.declared.head.BlockRefusal.TheVariants as blocks
 use Rattle.clfs_recover.specs.Records.{◌>>=◌, told_as, records_from, block_records}
 use Rattle.clfs_recover.specs.Walk.{shape_of, damage_at}
 use Rattle.clfs_recover.specs.Stored.{stored_in, stored_records}
-use Rattle.clfs_recover.specs.Logs.{LieIn, IsLogOf}
+use Rattle.clfs_recover.specs.KnownLogs.{LieIn, IsLogOf}
 use Rattle.clfs_recover.specs.declared.parts.Parts.{Parts}
 use Rattle.clfs_recover.proofs.Joined.{AreBoth, both_there}
 use Rattle.clfs_recover.proofs.Blocks.{block_refused}

@@ -16,7 +16,7 @@ use Rattle.clfs_base.specs.Checks.{image_at}
 use Rattle.clfs_base.specs.Slots.{front_of, slot_by, slot_of, copy_in, copy_of, newest_of}
 use Rattle.clfs_recover.specs.Files.{Finds}
 use Rattle.clfs_recover.specs.Stored.{HaveBlocks, HasLog}
-use Rattle.clfs_recover.specs.Logs.{LieIn, IsLogOf}
+use Rattle.clfs_recover.specs.KnownLogs.{LieIn, IsLogOf}
 use Rattle.clfs_recover.specs.declared.parts.Parts.{Parts}
 use Rattle.clfs_recover.proofs.Meanings.{WholeAreOpen, stored_found}
 

@@ -10,7 +10,7 @@ use Rattle.clfs_container.specs.OpenBlocks.{AreOpen, AreWhole, total}
 use Rattle.clfs_recover.specs.Walk.{Container, container_records, listed_records, last_end}
 use Rattle.clfs_recover.specs.Files.{AreListed}
 use Rattle.clfs_recover.specs.Stored.{HaveBlocks, stored_in, stored_records, stored_end}
-use Rattle.clfs_recover.specs.Logs.{LieIn}
+use Rattle.clfs_recover.specs.KnownLogs.{LieIn}
 use Rattle.clfs_recover.specs.Gathering.{HasTaken, TakesContainer, TakesListed, RefusesAs}
 use Rattle.clfs_recover.specs.declared.refusal.LoadRefusal.{LoadRefusal}
 use Rattle.clfs_recover.specs.declared.refusal.LoadRefusal.TheVariants.{NoBase, Damaged, DiskFault, NoMemory}

@@ -14,7 +14,7 @@ use Rattle.clfs_recover.specs.Walk.{Container, shape_of, slot_offset, image_faul
 use Rattle.clfs_recover.specs.Files.{AreListed, Finds}
 use Rattle.clfs_recover.specs.Stored.{HaveBlocks, HasLog, stored_place}
 use Rattle.clfs_recover.specs.Gathering.{TakesListed}
-use Rattle.clfs_recover.specs.Logs.{IsOpenedFrom}
+use Rattle.clfs_recover.specs.KnownLogs.{IsOpenedFrom}
 use Rattle.clfs_recover.specs.Opening.{parts_of, IsWalkedLog}
 use Rattle.clfs_recover.specs.declared.opening.Walked.{Walked}
 use Rattle.clfs_recover.specs.declared.parts.Parts.{Parts}

@@ -18,7 +18,7 @@ use Rattle.clfs_block.specs.declared.head.BlockRefusal.TheVariants as blocks
 use Rattle.clfs_recover.specs.Records.{told_as, block_records}
 use Rattle.clfs_recover.specs.Walk.{damage_at, end_at, blocks_end, blocks_records, container_records}
 use Rattle.clfs_recover.specs.Stored.{stored_in}
-use Rattle.clfs_recover.specs.Logs.{LieIn}
+use Rattle.clfs_recover.specs.KnownLogs.{LieIn}
 use Rattle.clfs_recover.specs.Gathering.{HasTaken, GathersBlock, RefusesAs, TakesContainer}
 use Rattle.clfs_recover.specs.Fronts.{IsFrontOf}
 use Rattle.clfs_recover.specs.declared.refusal.LoadRefusal.{LoadRefusal}

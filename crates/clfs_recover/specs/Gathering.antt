@@ -13,7 +13,7 @@ use Rattle.clfs_record.specs.declared.refusal.RecordRefusal.{RecordRefusal}
 use Rattle.clfs_record.specs.declared.refusal.RecordRefusal.TheVariants as records
 use Rattle.clfs_recover.specs.Walk.{bases_with}
 use Rattle.clfs_recover.specs.Stored.{HaveBlocks, stored_in, stored_records, stored_end}
-use Rattle.clfs_recover.specs.Logs.{LieIn}
+use Rattle.clfs_recover.specs.KnownLogs.{LieIn}
 use Rattle.clfs_recover.specs.declared.refusal.LoadRefusal.{LoadRefusal}
 use Rattle.clfs_recover.specs.declared.refusal.LoadRefusal.TheVariants.{NoBase, Damaged, DiskFault, NoMemory}
 

@@ -6,7 +6,7 @@ use Rattle.clfs_disk.specs.Files.{Files}
 use Rattle.clfs_base.specs.declared.image.BaseImage.{BaseImage}
 use Rattle.clfs_recover.specs.Files.{Finds, IsDamaged, HasNoBase}
 use Rattle.clfs_recover.specs.Stored.{HaveBlocks}
-use Rattle.clfs_recover.specs.Logs.{IsLogOf}
+use Rattle.clfs_recover.specs.KnownLogs.{IsLogOf}
 use Rattle.clfs_recover.specs.declared.opening.Walked.{Walked}
 use Rattle.clfs_recover.specs.declared.parts.Parts.{Parts}
 use Rattle.clfs_recover.specs.declared.parts.HeadParts.{HeadParts}

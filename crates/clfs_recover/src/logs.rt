@@ -2,7 +2,7 @@
 ghost use Rattle.std.specs.Prelude.{◌^◌, ◌<◌, ℕ, length, Ok};
 ghost use Rattle.clfs_disk.specs.Files.{Files};
 ghost use Rattle.clfs_recover.specs.Files.{Finds, StandsFor, state_of};
-ghost use Rattle.clfs_recover.specs.Logs.{IsLogOf};
+ghost use Rattle.clfs_recover.specs.KnownLogs.{IsLogOf};
 ghost use Rattle.clfs_recover.specs.declared.parts.Parts.{Parts};
 
 use clfs_base::copies_are_read_as_written;

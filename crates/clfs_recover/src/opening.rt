@@ -14,7 +14,7 @@ ghost use Rattle.clfs_recover.specs.Walk.{Container, walked, shape_of, image_fau
 ghost use Rattle.clfs_recover.specs.Files.{AreListed};
 ghost use Rattle.clfs_recover.specs.Gathering.{RefusesAs, IsEnd};
 ghost use Rattle.clfs_recover.specs.Opening.{parts_of, told_parts, IsWalked, IsWalkedLog, IsLoaded, AreHeadsLoaded};
-ghost use Rattle.clfs_recover.specs.Logs.{IsOpenedFrom};
+ghost use Rattle.clfs_recover.specs.KnownLogs.{IsOpenedFrom};
 ghost use Rattle.clfs_recover.specs.declared.parts.Parts.{Parts};
 
 use crate::gatherer::Gatherer;
