@@ -1,7 +1,7 @@
 -- The bases with records: at least those of the rows and the new ones of the records, and no further than both go.
-use Rattle.std.proofs.Common.{◌≡◌, ◌⊎◌, inl, inr, ℕ, ◌+◌, ◌-◌, ◌<◌, ◌≤◌, Bool, true, false, eqb, max, List, [], ◌∷◌, length, get_or, map, refl, sym, ◌∙◌, ap, subst, arith}
-use Rattle.std.specs.List.{All, AllByRecursion, fold, filter}
-use Rattle.std.proofs.lemmas.Bool.{cases_Bool, eq-eqb}
+use Rattle.std.proofs.Common.{◌≡◌, ◌⊎◌, inl, inr, ⊎_elim, ℕ, suc, ◌+◌, ◌-◌, ◌<◌, ◌≤◌, Bool, true, false, eqb, max, List, [], ◌∷◌, length, get_or, map, refl, sym, ◌∙◌, ap, subst, arith}
+use Rattle.std.specs.List.{All, Any, AllByRecursion, fold, filter}
+use Rattle.std.proofs.lemmas.Bool.{cases_Bool, cases_lt, eq-eqb, eqb-true}
 use Rattle.std.proofs.lemmas.List.Elements.{All-from_recursion}
 use Rattle.clfs_lsn.specs.Spelling.{BaseFits}
 use Rattle.clfs_lsn.specs.declared.entry.LogEntry.{LogEntry}
@@ -75,3 +75,61 @@ module _ (rows : List Row) (entries : List LogEntry) where
   pub base_to : (bound i : ℕ) → (row_in rows i).base ≤ bound → AllByRecursion (λ (entry : LogEntry). entry.new_base ≤ bound) entries
       → base_with rows entries i ≤ bound
   base_to bound i le all = greatest_below bound (row_in rows i).base (new_bases i entries) le (of_stream (λ n. n ≤ bound) i entries all)
+
+-- ---- whence a base is
+
+-- the greatest of a base and the new bases of a stream's records is the base, or that of a record above it
+abbrev IsGreatest : ℕ → ℕ → ℕ → LogEntry → Type 0
+IsGreatest i base most entry = (entry.stream ≡ i + 1) × (base < entry.new_base) × (entry.new_base ≡ most)
+
+further : (P : LogEntry → Type 0) (first : LogEntry) (entries : List LogEntry) → Any P entries → Any P (first ∷ entries)
+further P first entries some = (suc some.0, some.1, omega (arith, some.2), some.3, some.4)
+
+weaker : (P Q : LogEntry → Type 0) (entries : List LogEntry) → ((entry : LogEntry) → P entry → Q entry) → Any P entries → Any Q entries
+weaker P Q entries weak some = (some.0, some.1, some.2, some.3, weak some.1 some.4)
+
+abbrev IsFromSome : ℕ → ℕ → ℕ → List LogEntry → Type 0
+IsFromSome i base most entries = (most ≡ base) ⊎ Any (IsGreatest i base most) entries
+
+from_some : (i base : ℕ) (entries : List LogEntry) → IsFromSome i base (fold max base (new_bases i entries)) entries
+from_some i base [] = inl refl
+from_some i base (entry ∷ entries) = elim (cases_Bool (is_of i entry)) [
+  | inl here ↦ rw here (elim (cases_lt base entry.new_base) [
+    | inl higher ↦ raised here higher (fold max (max base entry.new_base) (new_bases i entries)) (subst (λ (n : ℕ). IsFromSome i entry.new_base
+        (fold max n (new_bases i entries)) entries) (let most : entry.new_base ≡ max base entry.new_base = omega (arith, higher) in most)
+        (from_some i entry.new_base entries))
+    | inr lower ↦ kept (fold max (max base entry.new_base) (new_bases i entries)) (subst (λ (n : ℕ). IsFromSome i base
+        (fold max n (new_bases i entries)) entries) (let most : base ≡ max base entry.new_base = omega (arith, lower) in most)
+        (from_some i base entries))
+  ])
+  | inr other ↦ rw other (kept (fold max base (new_bases i entries)) (from_some i base entries))
+]
+  where
+    kept : (most : ℕ) → IsFromSome i base most entries → IsFromSome i base most (entry ∷ entries)
+    kept most (inl same) = inl same
+    kept most (inr some) = inr (further (IsGreatest i base most) entry entries some)
+
+    raised : is_of i entry ≡ true → base < entry.new_base → (most : ℕ) → IsFromSome i entry.new_base most entries → IsFromSome i base most (entry ∷ entries)
+    raised here higher most (inl same) = inr (0, entry, omega arith, refl, (eqb-true entry.stream (i + 1) here, higher, sym same))
+    raised here higher most (inr some) = inr (further (IsGreatest i base most) entry entries
+        (weaker (IsGreatest i entry.new_base most) (IsGreatest i base most) entries (λ other is. (is.0, (let more = is.1 in omega (arith, higher, more)), is.2)) some))
+
+-- a record with a base of its own is a restart area
+is_restart : (kind : Kind) (lsn base low : ℕ) → BaseFits kind lsn base → low < base → kind ≡ Restart
+is_restart Plain lsn base low fits more = absurd (omega (arith, fits, more))
+is_restart Restart lsn base low fits more = refl
+
+-- a base with records is the row's, or that of one of the stream's restart areas
+pub base_of_some : (rows : List Row) (entries : List LogEntry) (i : ℕ)
+    → All (λ (entry : LogEntry). BaseFits entry.kind entry.lsn entry.new_base) entries → (base_with rows entries i ≡ (row_in rows i).base)
+    ⊎ Any (λ (entry : LogEntry). (entry.stream ≡ i + 1) × (entry.kind ≡ Restart) × (entry.new_base ≡ base_with rows entries i)) entries
+base_of_some rows entries i fits = by_case (from_some i (row_in rows i).base entries)
+  where
+    by_case : IsFromSome i (row_in rows i).base (base_with rows entries i) entries → (base_with rows entries i ≡ (row_in rows i).base)
+        ⊎ Any (λ (entry : LogEntry). (entry.stream ≡ i + 1) × (entry.kind ≡ Restart) × (entry.new_base ≡ base_with rows entries i)) entries
+    by_case (inl same) = inl same
+    by_case (inr some) =
+        let entry : LogEntry = some.1 in
+        let own : BaseFits entry.kind entry.lsn entry.new_base =
+        subst (λ (e : LogEntry). BaseFits e.kind e.lsn e.new_base) some.3 (fits some.0 entry some.2) in
+        inr (some.0, entry, some.2, some.3, (some.4.0, is_restart entry.kind entry.lsn entry.new_base (row_in rows i).base own some.4.1, some.4.2))

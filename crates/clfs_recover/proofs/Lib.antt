@@ -18,3 +18,4 @@ pub mod FoundStreams
 pub mod FoundRecords
 pub mod ValidStates
 pub mod StorableStates
+pub mod PartsInOrder

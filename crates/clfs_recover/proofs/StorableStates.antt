@@ -45,7 +45,7 @@ module _ (parts : Parts) (buffers : ℕ) (is : AreOpened parts) where
         omega (arith, at, base, further);
   }
 
-  goes_on : BeginsAt (behind_all before_all parts.entries) parts.place.container parts.place.offset → GoesOnAt (behind_all before_all parts.entries) parts.place
+  pub goes_on : BeginsAt (behind_all before_all parts.entries) parts.place.container parts.place.offset → GoesOnAt (behind_all before_all parts.entries) parts.place
   goes_on (inl here) = inr (inl (λ i. record { container = sym here.0 i; offset = here.1 i; used = is.closed.0 i; records = is.closed.1 i }))
   goes_on (inr further) =
       inr (inr (further.0, λ i. record { container = parts.place.container; offset = further.1 i; used = is.closed.0 i; records = is.closed.1 i }))

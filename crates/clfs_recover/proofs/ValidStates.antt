@@ -23,7 +23,7 @@ use Rattle.clfs_model.specs.declared.state.Stream.{Stream}
 use Rattle.clfs_model.specs.Flush.{flushed}
 use Rattle.clfs_model.specs.Live.{is_live, least_or, live_lsns, hold}
 use Rattle.clfs_model.specs.Valid.{IsValid, HasRanges, HasPolicies, HasTables, HasRecords, HasStable, HasWaiting, HasSpace, IsArea, IsRecord, IsWaiting, open_sequences}
-use Rattle.clfs_recover.specs.Walk.{base_with, bases_with}
+use Rattle.clfs_recover.specs.Walk.{shape_of, base_with, bases_with}
 use Rattle.clfs_recover.specs.Files.{policy_of, streams_with, state_of}
 use Rattle.clfs_recover.specs.declared.parts.Parts.{Parts}
 use Rattle.clfs_recover.proofs.LaidBlocks.{FitTheirs}
@@ -126,7 +126,7 @@ module _ (parts : Parts) (buffers : ℕ) (is : AreOpened parts) where
   image = parts.image
 
   -- the place's LSN, below which all records lie
-  abbrev here : ℕ
+  abbrev pub here : ℕ
   here = lsn_number parts.place.container parts.place.offset 0
 
   pub frontier_is : frontier parts.place ≡ here
@@ -138,7 +138,7 @@ module _ (parts : Parts) (buffers : ℕ) (is : AreOpened parts) where
   pub below : AllByRecursion (λ (entry : LogEntry). entry.lsn < here) parts.entries
   below = all_below (lsn_number image.first 0 0) here parts.entries is.laid.rise
 
-  above : AllByRecursion (λ (entry : LogEntry). lsn_number image.first 0 0 ≤ entry.lsn) parts.entries
+  pub above : AllByRecursion (λ (entry : LogEntry). lsn_number image.first 0 0 ≤ entry.lsn) parts.entries
   above = all_above (lsn_number image.first 0 0) here parts.entries is.laid.rise
 
   pub same_length : length parts.bases ≡ length image.streams
@@ -182,6 +182,14 @@ module _ (parts : Parts) (buffers : ℕ) (is : AreOpened parts) where
   tail_above true on = (let low = (is.tail on).1 in omega (arith, low), tt)
   tail_above false off = tt
 
+  pub place_within : IsWithin (shape_of image) parts.place
+  place_within = record {
+    container = omega (arith, is.container_is, is.image_is.first, is.image_is.some_listed);
+    offset = is.laid.whole;
+    end = let none = is.closed.0 in omega (arith, none, is.laid.within, is.laid.whole);
+    block = inl is.closed;
+  }
+
   ranges : 1 ≤ buffers → buffers ≤ 64 → HasRanges s
   ranges some few = record {
     shape = is.image_is.shape;
@@ -189,12 +197,7 @@ module _ (parts : Parts) (buffers : ℕ) (is : AreOpened parts) where
     few_containers = omega (arith, is.image_is.containers_made, is.image_is.few_made);
     some_buffers = some;
     few_buffers = few;
-    place = record {
-      container = omega (arith, is.container_is, is.image_is.first, is.image_is.some_listed);
-      offset = is.laid.whole;
-      end = let none = is.closed.0 in omega (arith, none, is.laid.within, is.laid.whole);
-      block = inl is.closed;
-    };
+    place = place_within;
   }
 
   pub valid : 1 ≤ buffers → buffers ≤ 64 → IsValid s

@@ -27,7 +27,10 @@ mod rows;
 
 pub use gatherer::Gatherer;
 pub use laws::{copies_and_blocks_decide, files_have_one_meaning, written_blocks_are_read};
-pub use opened::{opened_states_are_cut, opened_states_are_valid};
+pub use opened::{
+    opened_bases_are_moved_by_records, opened_copies_fit, opened_records_lie_in_order,
+    opened_states_are_cut, opened_states_are_valid,
+};
 pub use opening::{Walked, load, load_heads, walk};
 pub use parts::{Bases, Entries, HeadParts, Heads, Parts};
 pub use refusal::LoadRefusal;
