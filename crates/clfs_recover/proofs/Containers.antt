@@ -112,7 +112,7 @@ past_gate : (b : Bool) (r : Result BlockHead BlockRefusal) → b ≡ false → c
 past_gate true r p e = absurd (cc p)
 past_gate false r p e = e
 
-closed_gate : (shape : Shape) (start : ℕ) (bytes : List ℕ) → get_or bytes 0 0 ≡ 165 → frame_at shape start bytes ≡ Err blocks.Closed → ⊥
+pub closed_gate : (shape : Shape) (start : ℕ) (bytes : List ℕ) → get_or bytes 0 0 ≡ 165 → frame_at shape start bytes ≡ Err blocks.Closed → ⊥
 unfolding frame_at sectors_at
 closed_gate shape start bytes gate e =
     let sum = (head_of bytes).sectors in

@@ -66,7 +66,7 @@ module _ (slot : ℕ) (image : BaseImage) (listed : List Container) where
 -- ---- open blocks
 
 -- bytes have a list of open blocks
-open_exist : (fuel left : ℕ) (bytes : List ℕ) → left ≤ fuel → (blocks : List (List ℕ)) × AreOpen left bytes blocks
+pub open_exist : (fuel left : ℕ) (bytes : List ℕ) → left ≤ fuel → (blocks : List (List ℕ)) × AreOpen left bytes blocks
 open_exist zero left bytes le = ([], (left, refl, inl (omega (arith, le))))
 open_exist (suc fuel) left bytes le =
     ⊎_elim (λ (none : left ≡ 0). ends (inl none))

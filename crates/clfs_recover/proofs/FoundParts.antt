@@ -98,7 +98,7 @@ newest_read base slot image is = by_slot (used_slot base) is
 
 -- ---- what of a copy fits the records
 
-both_none : (one other : Option ℕ) → option_or one other ≡ None → (one ≡ None) × (other ≡ None)
+pub both_none : (one other : Option ℕ) → option_or one other ≡ None → (one ≡ None) × (other ≡ None)
 both_none None other is = (refl, is)
 both_none (Some at) other is = absurd (cc is)
 
@@ -114,7 +114,7 @@ not_found false at is = refl
 abbrev pub AreRowsBelow : List Row → ℕ → Type 0
 AreRowsBelow rows lsn = (i : ℕ) → i < length rows → (row_in rows i).base ≤ lsn
 
-rows_below : (rows : List Row) (lsn : ℕ) → high_row rows lsn ≡ None → AreRowsBelow rows lsn
+pub rows_below : (rows : List Row) (lsn : ℕ) → high_row rows lsn ≡ None → AreRowsBelow rows lsn
 rows_below rows lsn none i lt =
     let p : Row → Bool = λ row. ltb lsn row.base in
     let far = ltb-false _ _ (not_found _ _ (mapped_none (λ i. row_place version_one i + 8) (position p rows) none)) in
@@ -124,7 +124,7 @@ rows_below rows lsn none i lt =
 abbrev pub IsTailWithin : BaseImage → ℕ → Type 0
 IsTailWithin image lsn = image.archiving ≡ true → (image.tail ≤ lsn) × (image.first ≤ container_of image.tail)
 
-tail_within : (image : BaseImage) (lsn : ℕ) → told (is_wrong_tail image lsn) 32 ≡ None → IsTailWithin image lsn
+pub tail_within : (image : BaseImage) (lsn : ℕ) → told (is_wrong_tail image lsn) 32 ≡ None → IsTailWithin image lsn
 tail_within image lsn none on =
     let tests : Bool = ltb lsn image.tail || ltb (container_of image.tail) image.first in
     let fails : tests ≡ false = ap (λ b. b && tests) (sym on) ∙ not_found (is_wrong_tail image lsn) 32 none in
@@ -182,6 +182,10 @@ pub record IsFoundIn (files : Files) (parts : Parts) : Type 0 where
   pub newest : newest_of (files 0) ≡ Ok (parts.slot, parts.image)
   pub slot : parts.slot ≤ 1
   pub opened : AreOpened parts
+  pub listed : List Container
+  pub are : AreListed parts.image.container_sectors files parts.image.files listed
+  pub read : listed_records (shape_of parts.image) (length parts.image.streams) parts.image.first listed ≡ Ok parts.entries
+  pub is : parts ≡ parts_with parts.slot parts.image listed parts.entries
 
 abbrev found_is : Parts → Result Parts LoadRefusal
 found_is parts = Ok parts
@@ -227,6 +231,10 @@ module _ (images : AreImagesRead) (written : AreReadAsWritten) (reads : ReadsFit
             newest = e;
             slot = newest_slot (files 0) slot image e;
             opened = walked_opened files slot image listed all.first (newest_read (files 0) slot image e) found.1 all.is right.0;
+            listed = listed;
+            are = found.1;
+            read = all.is;
+            is = refl;
           })
 
   pub found_opened : (files : Files) (parts : Parts) → Finds files (Ok parts) → AreOpened parts

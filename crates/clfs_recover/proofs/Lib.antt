@@ -19,3 +19,5 @@ pub mod FoundRecords
 pub mod ValidStates
 pub mod StorableStates
 pub mod PartsInOrder
+pub mod CleanEnds
+pub mod StoredLogs

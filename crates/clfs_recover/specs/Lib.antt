@@ -7,3 +7,4 @@ pub mod Bases
 pub mod Fronts
 pub mod Opening
 pub mod Stored
+pub mod Logs

@@ -24,6 +24,7 @@ mod piece;
 mod records;
 mod refusal;
 mod rows;
+mod stored;
 
 pub use gatherer::Gatherer;
 pub use laws::{copies_and_blocks_decide, files_have_one_meaning, written_blocks_are_read};
@@ -35,6 +36,7 @@ pub use opening::{Walked, load, load_heads, walk};
 pub use parts::{Bases, Entries, HeadParts, Heads, Parts};
 pub use refusal::LoadRefusal;
 pub use rows::walks_of_a_small_log;
+pub use stored::{copies_without_fault_fit, logs_are_copies_and_blocks};
 
 #[cfg(test)]
 mod tests;
