@@ -21,3 +21,4 @@ pub mod StorableStates
 pub mod PartsInOrder
 pub mod CleanEnds
 pub mod StoredLogs
+pub mod ReadStored

@@ -1,6 +1,7 @@
 -- A log as its newest base copy and the open blocks of the containers that this one lists: what its files come to, step by step, as blocks and
 -- copies are written.
 use Rattle.std.specs.Prelude.{◌≡◌, ◌≢◌, ℕ, ◌+◌, ◌-◌, ◌*◌, ◌<◌, ◌≤◌, true, List, [], ◌∷◌, ◌++◌, length, map, All, slice_index, Ok, None}
+use Rattle.std.specs.List.{flat_map}
 use Rattle.clfs_lsn.specs.Format.{sector_bytes}
 use Rattle.clfs_lsn.specs.Lsn.{lsn_number, container_of}
 use Rattle.clfs_lsn.specs.Place.{frontier}
@@ -63,3 +64,7 @@ pub record HaveEmpty (image : BaseImage) (file : ℕ) (old new : ℕ → List (L
   pub unlisted : (i : ℕ) → i < length image.files → slice_index image.files i ≢ file
   pub empty : new file ≡ []
   pub others : (other : ℕ) → other ≢ file → new other ≡ old other
+
+-- the records of groups, one behind the other
+abbrev pub all_records : List (List LogEntry) → List LogEntry
+all_records groups = flat_map (λ (entries : List LogEntry). entries) groups
