@@ -22,3 +22,4 @@ pub mod PartsInOrder
 pub mod CleanEnds
 pub mod StoredLogs
 pub mod ReadStored
+pub mod StoredSteps

@@ -13,6 +13,7 @@
 #![tactic(auto)]
 
 mod block;
+mod changes;
 mod container;
 mod gatherer;
 mod laws;
@@ -26,6 +27,7 @@ mod refusal;
 mod rows;
 mod stored;
 
+pub use changes::{further_containers_begin_empty, groups_come_behind_the_last_block};
 pub use gatherer::Gatherer;
 pub use laws::{copies_and_blocks_decide, files_have_one_meaning, written_blocks_are_read};
 pub use opened::{
