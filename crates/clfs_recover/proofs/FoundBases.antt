@@ -18,21 +18,21 @@ base_low Plain lsn base is = omega (arith, is)
 base_low Restart lsn base is = is
 
 -- the greatest of some numbers is at least each
-greatest_first : (n : ℕ) (ns : List ℕ) → n ≤ fold max n ns
+pub greatest_first : (n : ℕ) (ns : List ℕ) → n ≤ fold max n ns
 greatest_first n [] = omega arith
 greatest_first n (m ∷ ms) = omega (arith, greatest_first (max n m) ms)
 
-greatest_above : (n : ℕ) (ns : List ℕ) → AllByRecursion (λ m. m ≤ fold max n ns) ns
+pub greatest_above : (n : ℕ) (ns : List ℕ) → AllByRecursion (λ m. m ≤ fold max n ns) ns
 greatest_above n [] = tt
 greatest_above n (m ∷ ms) = (omega (arith, greatest_first (max n m) ms), greatest_above (max n m) ms)
 
 -- and at most what each is
-greatest_below : (bound n : ℕ) (ns : List ℕ) → n ≤ bound → AllByRecursion (λ m. m ≤ bound) ns → fold max n ns ≤ bound
+pub greatest_below : (bound n : ℕ) (ns : List ℕ) → n ≤ bound → AllByRecursion (λ m. m ≤ bound) ns → fold max n ns ≤ bound
 greatest_below bound n [] le all = le
 greatest_below bound n (m ∷ ms) le all = greatest_below bound (max n m) ms (omega (arith, le, all.0)) all.1
 
 -- the new bases of the records of a stream
-abbrev new_bases : ℕ → List LogEntry → List ℕ
+abbrev pub new_bases : ℕ → List LogEntry → List ℕ
 new_bases i entries = map (λ (entry : LogEntry). entry.new_base) (filter (is_of i) entries)
 
 -- what is so of the new bases of all records is so of those of a stream's

@@ -68,7 +68,7 @@ laid_both : (shape : Shape) (place : Place) (front rest : List LogEntry) → Lie
 laid_both shape place [] rest laid more = more
 laid_both shape place (entry ∷ entries) rest laid more = (laid.0, (laid.1.0, laid_both shape (behind place entry) entries rest laid.1.1 more))
 
-fit_both : (streams : ℕ) (front rest : List LogEntry) → FitTheirs streams front → FitTheirs streams rest → FitTheirs streams (front ++ rest)
+pub fit_both : (streams : ℕ) (front rest : List LogEntry) → FitTheirs streams front → FitTheirs streams rest → FitTheirs streams (front ++ rest)
 fit_both streams [] rest fit more = more
 fit_both streams (entry ∷ entries) rest fit more = (fit.0, fit_both streams entries rest fit.1 more)
 

@@ -23,3 +23,6 @@ pub mod CleanEnds
 pub mod StoredLogs
 pub mod ReadStored
 pub mod StoredSteps
+pub mod RowBases
+pub mod StoredRecords
+pub mod ChangedCopies

@@ -81,6 +81,7 @@ pub record HasRead (shape : Shape) (streams start : ℕ) (entries : List LogEntr
   pub sectors_are : sectors (16 + taken_bytes entries) ≡ block_sectors block
   pub largest : block_sectors block ≤ shape.block_sectors
   pub left : block_sectors block ≤ left_from shape start
+  pub long : 512 ≤ length block
 
 pub block_read : AreReadAsWritten → ReadsFit → (shape : Shape) → shape.block_sectors ≤ 128 → (streams start : ℕ) (entries : List LogEntry) (block : List ℕ)
     → block_records shape streams start block ≡ Ok entries → HasRead shape streams start entries block
@@ -108,4 +109,5 @@ block_read written reads shape small streams start entries block is =
       sectors_are = ap sectors all ∙ frame.used ∙ said;
       largest = omega (arith, frame.largest, said);
       left = omega (arith, frame.left, said);
+      long = omega (arith, frame.whole, frame.some);
     })

@@ -144,6 +144,5 @@ module _ (image : BaseImage) (good : IsImage version_one image) where
           within = subst (All Fits) (sym empty_are) (All-push Fits (map old image.files) [] with.within (omega arith));
           read = subst (λ (l : List (List (List ℕ))). stored_records shape streams image.first l ≡ Ok entries) (sym empty_are)
               (read_with_empty shape streams image.first (map old image.files) entries with.read);
-          right = let F : BaseImage → Type 0 = λ i. image_fault i (frontier (stored_place next (map new next.files))) ≡ None in
-              fits_further image (frontier (stored_place image (map old image.files))) (frontier (stored_place next (map new next.files))) further with.right;
+          right = fits_further image (frontier (stored_place image (map old image.files))) (frontier (stored_place next (map new next.files))) further with.right;
         }

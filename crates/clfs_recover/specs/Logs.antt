@@ -1,6 +1,6 @@
 -- A log as its newest base copy and the open blocks of the containers that this one lists: what its files come to, step by step, as blocks and
 -- copies are written.
-use Rattle.std.specs.Prelude.{◌≡◌, ◌≢◌, ℕ, ◌+◌, ◌-◌, ◌*◌, ◌<◌, ◌≤◌, true, List, [], ◌∷◌, ◌++◌, length, map, All, slice_index, Ok, None}
+use Rattle.std.specs.Prelude.{◌≡◌, ◌≢◌, ℕ, ◌+◌, ◌-◌, ◌*◌, ◌<◌, ◌≤◌, true, List, [], ◌∷◌, ◌++◌, length, map, All, slice_index, slice_set, Ok, None}
 use Rattle.std.specs.List.{flat_map}
 use Rattle.clfs_lsn.specs.Format.{sector_bytes}
 use Rattle.clfs_lsn.specs.Lsn.{lsn_number, container_of}
@@ -68,3 +68,8 @@ pub record HaveEmpty (image : BaseImage) (file : ℕ) (old new : ℕ → List (L
 -- the records of groups, one behind the other
 abbrev pub all_records : List (List LogEntry) → List LogEntry
 all_records groups = flat_map (λ (entries : List LogEntry). entries) groups
+
+-- a copy with another base in the row of the stream of this number
+abbrev pub with_row_base : ℕ → ℕ → BaseImage → BaseImage
+with_row_base stream base image =
+    record image { streams = slice_set image.streams (stream - 1) (record (row_in image.streams (stream - 1)) { base = base }) }
