@@ -44,11 +44,20 @@ of_stream P i (entry ∷ entries) all = elim (cases_Bool (is_of i entry)) [
   | inr other ↦ rw other (of_stream P i entries all.1)
 ]
 
+-- the same where it is so of the stream's own records alone
+pub of_its_stream : (P : ℕ → Type 0) (i : ℕ) (entries : List LogEntry) → AllByRecursion (λ (entry : LogEntry). is_of i entry ≡ true → P entry.new_base) entries
+    → AllByRecursion P (new_bases i entries)
+of_its_stream P i [] all = tt
+of_its_stream P i (entry ∷ entries) all = elim (cases_Bool (is_of i entry)) [
+  | inl here ↦ rw here (all.0 here, of_its_stream P i entries all.1)
+  | inr other ↦ rw other (of_its_stream P i entries all.1)
+]
+
 absurd_test : {A : Type 0} (b : Bool) → b ≡ false → b ≡ true → A
 absurd_test b fails passes = absurd (cc)
 
 -- and the other way round
-of_records : (P : ℕ → Type 0) (i : ℕ) (entries : List LogEntry) → AllByRecursion P (new_bases i entries)
+pub of_records : (P : ℕ → Type 0) (i : ℕ) (entries : List LogEntry) → AllByRecursion P (new_bases i entries)
     → AllByRecursion (λ (entry : LogEntry). is_of i entry ≡ true → P entry.new_base) entries
 of_records P i [] all = tt
 of_records P i (entry ∷ entries) all = elim (cases_Bool (is_of i entry)) [
@@ -79,7 +88,7 @@ module _ (rows : List Row) (entries : List LogEntry) where
 -- ---- whence a base is
 
 -- the greatest of a base and the new bases of a stream's records is the base, or that of a record above it
-abbrev IsGreatest : ℕ → ℕ → ℕ → LogEntry → Type 0
+abbrev pub IsGreatest : ℕ → ℕ → ℕ → LogEntry → Type 0
 IsGreatest i base most entry = (entry.stream ≡ i + 1) × (base < entry.new_base) × (entry.new_base ≡ most)
 
 further : (P : LogEntry → Type 0) (first : LogEntry) (entries : List LogEntry) → Any P entries → Any P (first ∷ entries)
@@ -88,10 +97,10 @@ further P first entries some = (suc some.0, some.1, omega (arith, some.2), some.
 weaker : (P Q : LogEntry → Type 0) (entries : List LogEntry) → ((entry : LogEntry) → P entry → Q entry) → Any P entries → Any Q entries
 weaker P Q entries weak some = (some.0, some.1, some.2, some.3, weak some.1 some.4)
 
-abbrev IsFromSome : ℕ → ℕ → ℕ → List LogEntry → Type 0
+abbrev pub IsFromSome : ℕ → ℕ → ℕ → List LogEntry → Type 0
 IsFromSome i base most entries = (most ≡ base) ⊎ Any (IsGreatest i base most) entries
 
-from_some : (i base : ℕ) (entries : List LogEntry) → IsFromSome i base (fold max base (new_bases i entries)) entries
+pub from_some : (i base : ℕ) (entries : List LogEntry) → IsFromSome i base (fold max base (new_bases i entries)) entries
 from_some i base [] = inl refl
 from_some i base (entry ∷ entries) = elim (cases_Bool (is_of i entry)) [
   | inl here ↦ rw here (elim (cases_lt base entry.new_base) [

@@ -26,3 +26,5 @@ pub mod StoredSteps
 pub mod RowBases
 pub mod StoredRecords
 pub mod ChangedCopies
+pub mod HoldOrder
+pub mod LowContainers

@@ -1,6 +1,6 @@
 -- A log as its newest base copy and the open blocks of the containers that this one lists: what its files come to, step by step, as blocks and
 -- copies are written.
-use Rattle.std.specs.Prelude.{◌≡◌, ◌≢◌, ℕ, ◌+◌, ◌-◌, ◌*◌, ◌<◌, ◌≤◌, true, List, [], ◌∷◌, ◌++◌, length, map, All, slice_index, slice_set, Ok, None}
+use Rattle.std.specs.Prelude.{◌≡◌, ◌≢◌, ℕ, ◌+◌, ◌-◌, ◌*◌, ◌<◌, ◌≤◌, true, List, [], ◌∷◌, ◌++◌, length, drop, map, filter, nat_le, All, slice_index, slice_set, Ok, None}
 use Rattle.std.specs.List.{flat_map}
 use Rattle.clfs_lsn.specs.Format.{sector_bytes}
 use Rattle.clfs_lsn.specs.Lsn.{lsn_number, container_of}
@@ -73,3 +73,11 @@ all_records groups = flat_map (λ (entries : List LogEntry). entries) groups
 abbrev pub with_row_base : ℕ → ℕ → BaseImage → BaseImage
 with_row_base stream base image =
     record image { streams = slice_set image.streams (stream - 1) (record (row_in image.streams (stream - 1)) { base = base }) }
+
+-- a copy that lists no container below this one
+abbrev pub from_container : ℕ → BaseImage → BaseImage
+from_container first image = record image { first = first; files = drop (first - image.first) image.files }
+
+-- the records from the first byte of a container on
+abbrev pub records_from_container : ℕ → List LogEntry → List LogEntry
+records_from_container first entries = filter (λ (entry : LogEntry). nat_le (lsn_number first 0 0) entry.lsn) entries

@@ -11,9 +11,11 @@ ghost use Rattle.clfs_base.specs.declared.image.Row.{Row};
 ghost use Rattle.clfs_base.specs.Layout.{version_one};
 ghost use Rattle.clfs_base.specs.Spelling.{IsImage};
 ghost use Rattle.clfs_model.specs.State.{base_of, set_base};
+ghost use Rattle.clfs_model.specs.Flush.{IsSame};
+ghost use Rattle.clfs_model.specs.Live.{hold};
 ghost use Rattle.clfs_recover.specs.Bases.{raised};
 ghost use Rattle.clfs_recover.specs.Files.{policy_of, streams_with};
-ghost use Rattle.clfs_recover.specs.Logs.{IsLogWith, HaveMore, HaveEmpty, file_at_end, stored_state, with_row_base};
+ghost use Rattle.clfs_recover.specs.Logs.{IsLogWith, HaveMore, HaveEmpty, file_at_end, stored_state, with_row_base, from_container, records_from_container};
 ghost use Rattle.clfs_recover.specs.Stored.{stored_in, stored_place};
 ghost use Rattle.clfs_recover.specs.Walk.{shape_of, bases_with};
 
@@ -99,3 +101,27 @@ pub fn records_move_bases()
         → streams_with rows (raised bases stream base)
         ≡ set_base stream (max (slice_index bases (stream - 1)) base) (streams_with rows bases) }
 {}
+
+/// Containers below the hold's that are listed no more: the records of the others are left, the log goes on where it did, and it is the same
+/// to every reply. Where only records are asked for, any container from the first listed one up to the last, and up to the tail's with
+/// archiving on, may be the first one that is left.
+pub fn low_containers_are_left_out()
+    ensures log { (image : BaseImage) (blocks : ℕ → List (List ℕ)) (entries : List LogEntry) (first : ℕ) → IsImage version_one image
+        → image.first ≤ first → first + 1 ≤ image.first + length image.files → (image.archiving ≡ true → first ≤ container_of image.tail)
+        → IsLogWith image (map blocks image.files) entries
+        → IsLogWith (from_container first image) (map blocks (from_container first image).files) (records_from_container first entries) }
+    ensures place { (image : BaseImage) (blocks : ℕ → List (List ℕ)) (first : ℕ) → IsImage version_one image
+        → image.first ≤ first → first + 1 ≤ image.first + length image.files
+        → stored_place (from_container first image) (map blocks (from_container first image).files) ≡ stored_place image (map blocks image.files) }
+    ensures held { (image : BaseImage) (blocks : ℕ → List (List ℕ)) (entries : List LogEntry) (buffers first : ℕ) → IsImage version_one image
+        → IsLogWith image (map blocks image.files) entries → first ≤ container_of (hold (stored_state image (map blocks image.files) entries buffers))
+        → (first + 1 ≤ image.first + length image.files) × (image.archiving ≡ true → first ≤ container_of image.tail) }
+    ensures same { (image : BaseImage) (blocks : ℕ → List (List ℕ)) (entries : List LogEntry) (buffers first : ℕ) → IsImage version_one image
+        → IsLogWith image (map blocks image.files) entries → image.first ≤ first
+        → first ≤ container_of (hold (stored_state image (map blocks image.files) entries buffers))
+        → IsSame (stored_state image (map blocks image.files) entries buffers)
+            (stored_state (from_container first image) (map blocks (from_container first image).files) (records_from_container first entries) buffers) }
+{
+    blocks_are_read_as_written();
+    records_are_read_as_written();
+}

@@ -29,7 +29,7 @@ mod stored;
 
 pub use changes::{
     bases_of_rows_move, further_containers_begin_empty, groups_come_behind_the_last_block,
-    records_move_bases, settings_leave_the_records, streams_come_last,
+    low_containers_are_left_out, records_move_bases, settings_leave_the_records, streams_come_last,
 };
 pub use gatherer::Gatherer;
 pub use laws::{copies_and_blocks_decide, files_have_one_meaning, written_blocks_are_read};
