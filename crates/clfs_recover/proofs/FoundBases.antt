@@ -10,6 +10,7 @@ use Rattle.clfs_lsn.specs.declared.entry.Kind.TheVariants.{Plain, Restart}
 use Rattle.clfs_base.specs.declared.image.Row.{Row}
 use Rattle.clfs_base.specs.Spelling.{row_in}
 use Rattle.clfs_recover.specs.Walk.{base_with, bases_with}
+use Rattle.clfs_recover.proofs.KeptRecords.{weaker, numbers_of_kept, of_numbers}
 use Rattle.clfs_recover.proofs.Raising.{is_of, base_at, length-bases_with}
 
 -- a new base is at most its record's LSN
@@ -31,41 +32,13 @@ pub greatest_below : (bound n : ℕ) (ns : List ℕ) → n ≤ bound → AllByRe
 greatest_below bound n [] le all = le
 greatest_below bound n (m ∷ ms) le all = greatest_below bound (max n m) ms (omega (arith, le, all.0)) all.1
 
--- the new bases of the records of a stream
+-- the base that a record moves its stream's to
+abbrev pub new_base_of : LogEntry → ℕ
+new_base_of entry = entry.new_base
+
+-- those of the records of a stream
 abbrev pub new_bases : ℕ → List LogEntry → List ℕ
 new_bases i entries = map (λ (entry : LogEntry). entry.new_base) (filter (is_of i) entries)
-
--- what is so of the new bases of all records is so of those of a stream's
-of_stream : (P : ℕ → Type 0) (i : ℕ) (entries : List LogEntry) → AllByRecursion (λ (entry : LogEntry). P entry.new_base) entries
-    → AllByRecursion P (new_bases i entries)
-of_stream P i [] all = tt
-of_stream P i (entry ∷ entries) all = elim (cases_Bool (is_of i entry)) [
-  | inl here ↦ rw here (all.0, of_stream P i entries all.1)
-  | inr other ↦ rw other (of_stream P i entries all.1)
-]
-
--- the same where it is so of the stream's own records alone
-pub of_its_stream : (P : ℕ → Type 0) (i : ℕ) (entries : List LogEntry) → AllByRecursion (λ (entry : LogEntry). is_of i entry ≡ true → P entry.new_base) entries
-    → AllByRecursion P (new_bases i entries)
-of_its_stream P i [] all = tt
-of_its_stream P i (entry ∷ entries) all = elim (cases_Bool (is_of i entry)) [
-  | inl here ↦ rw here (all.0 here, of_its_stream P i entries all.1)
-  | inr other ↦ rw other (of_its_stream P i entries all.1)
-]
-
-absurd_test : {A : Type 0} (b : Bool) → b ≡ false → b ≡ true → A
-absurd_test b fails passes = absurd (cc)
-
--- and the other way round
-pub of_records : (P : ℕ → Type 0) (i : ℕ) (entries : List LogEntry) → AllByRecursion P (new_bases i entries)
-    → AllByRecursion (λ (entry : LogEntry). is_of i entry ≡ true → P entry.new_base) entries
-of_records P i [] all = tt
-of_records P i (entry ∷ entries) all = elim (cases_Bool (is_of i entry)) [
-  | inl here ↦
-      let them = rw here at all in
-      (λ passes. them.0, of_records P i entries them.1)
-  | inr other ↦ (λ passes. absurd_test (is_of i entry) other passes, of_records P i entries (rw other at all))
-]
 
 module _ (rows : List Row) (entries : List LogEntry) where
   -- a base with records is at least the row's
@@ -76,14 +49,15 @@ module _ (rows : List Row) (entries : List LogEntry) where
   pub base_from_records : All (λ (entry : LogEntry). 1 ≤ entry.stream → entry.new_base ≤ base_with rows entries (entry.stream - 1)) entries
   base_from_records k d lt some =
       let i : ℕ = (get_or entries k d).stream - 1 in
-      let all = of_records (λ n. n ≤ base_with rows entries i) i entries (greatest_above (row_in rows i).base (new_bases i entries)) in
+      let all = of_numbers (λ n. n ≤ base_with rows entries i) new_base_of (is_of i) entries (greatest_above (row_in rows i).base (new_bases i entries)) in
       All-from_recursion (λ (entry : LogEntry). is_of i entry ≡ true → entry.new_base ≤ base_with rows entries i) entries all k d lt
       (eq-eqb (get_or entries k d).stream (i + 1) (omega (arith, some)))
 
   -- and no further than the row's and the new ones go
   pub base_to : (bound i : ℕ) → (row_in rows i).base ≤ bound → AllByRecursion (λ (entry : LogEntry). entry.new_base ≤ bound) entries
       → base_with rows entries i ≤ bound
-  base_to bound i le all = greatest_below bound (row_in rows i).base (new_bases i entries) le (of_stream (λ n. n ≤ bound) i entries all)
+  base_to bound i le all = greatest_below bound (row_in rows i).base (new_bases i entries) le (numbers_of_kept (λ n. n ≤ bound) new_base_of (is_of i) entries
+      (weaker (λ (entry : LogEntry). entry.new_base ≤ bound) (λ (entry : LogEntry). is_of i entry ≡ true → entry.new_base ≤ bound) entries (λ entry low here. low) all))
 
 -- ---- whence a base is
 
@@ -94,8 +68,8 @@ IsGreatest i base most entry = (entry.stream ≡ i + 1) × (base < entry.new_bas
 further : (P : LogEntry → Type 0) (first : LogEntry) (entries : List LogEntry) → Any P entries → Any P (first ∷ entries)
 further P first entries some = (suc some.0, some.1, omega (arith, some.2), some.3, some.4)
 
-weaker : (P Q : LogEntry → Type 0) (entries : List LogEntry) → ((entry : LogEntry) → P entry → Q entry) → Any P entries → Any Q entries
-weaker P Q entries weak some = (some.0, some.1, some.2, some.3, weak some.1 some.4)
+some_weaker : (P Q : LogEntry → Type 0) (entries : List LogEntry) → ((entry : LogEntry) → P entry → Q entry) → Any P entries → Any Q entries
+some_weaker P Q entries weak some = (some.0, some.1, some.2, some.3, weak some.1 some.4)
 
 abbrev pub IsFromSome : ℕ → ℕ → ℕ → List LogEntry → Type 0
 IsFromSome i base most entries = (most ≡ base) ⊎ Any (IsGreatest i base most) entries
@@ -121,7 +95,7 @@ from_some i base (entry ∷ entries) = elim (cases_Bool (is_of i entry)) [
     raised : is_of i entry ≡ true → base < entry.new_base → (most : ℕ) → IsFromSome i entry.new_base most entries → IsFromSome i base most (entry ∷ entries)
     raised here higher most (inl same) = inr (0, entry, omega arith, refl, (eqb-true entry.stream (i + 1) here, higher, sym same))
     raised here higher most (inr some) = inr (further (IsGreatest i base most) entry entries
-        (weaker (IsGreatest i entry.new_base most) (IsGreatest i base most) entries (λ other is. (is.0, (let more = is.1 in omega (arith, higher, more)), is.2)) some))
+        (some_weaker (IsGreatest i entry.new_base most) (IsGreatest i base most) entries (λ other is. (is.0, (let more = is.1 in omega (arith, higher, more)), is.2)) some))
 
 -- a record with a base of its own is a restart area
 is_restart : (kind : Kind) (lsn base low : ℕ) → BaseFits kind lsn base → low < base → kind ≡ Restart

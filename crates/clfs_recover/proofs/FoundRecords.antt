@@ -60,18 +60,6 @@ none_of_block container offset (entry ∷ entries) whole low all = elim (cases_B
   | inr outside ↦ rw outside (none_of_block container offset entries whole low all.1)
 ]
 
--- all stay where those below an LSN are kept
-pub all_kept : (bound : ℕ) (entries : List LogEntry) → AllByRecursion (λ (entry : LogEntry). entry.lsn < bound) entries
-    → filter (λ (entry : LogEntry). ltb entry.lsn bound) entries ≡ entries
-all_kept bound [] all = refl
-all_kept bound (entry ∷ entries) all = rw (lt-ltb entry.lsn bound all.0) (ap (λ (es : List LogEntry). entry ∷ es) (all_kept bound entries all.1))
-
--- what is so of each record by two facts
-pub from_both : (P Q R : LogEntry → Type 0) (entries : List LogEntry) → ((entry : LogEntry) → P entry → Q entry → R entry)
-    → AllByRecursion P entries → AllByRecursion Q entries → AllByRecursion R entries
-from_both P Q R [] both first second = tt
-from_both P Q R (entry ∷ entries) both first second = (both entry first.0 second.0, from_both P Q R entries both first.1 second.1)
-
 -- ---- sequences
 
 -- behind a record the next one of its block has the LSN next to its own

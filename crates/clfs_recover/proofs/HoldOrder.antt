@@ -1,4 +1,4 @@
--- The hold of a log is at most what it needs, and in no later container than the place.
+-- The hold of a log is the least of what it needs.
 use Rattle.std.proofs.Common.{◌≡◌, inl, inr, ℕ, ◌<◌, ◌≤◌, min, Bool, true, false, List, [], ◌∷◌, ◌++◌, map, Option, Some, None, arith}
 use Rattle.std.specs.List.{AllByRecursion, fold, filter}
 use Rattle.std.specs.Option.{option_to_list}
@@ -7,6 +7,7 @@ use Rattle.clfs_lsn.specs.Place.{frontier}
 use Rattle.clfs_lsn.specs.declared.entry.LogEntry.{LogEntry}
 use Rattle.clfs_model.specs.declared.state.State.{State}
 use Rattle.clfs_model.specs.Live.{is_live, least_or, live_lsns, hold}
+use Rattle.clfs_recover.proofs.KeptRecords.{weaker, numbers_of_kept, of_numbers}
 
 least_first : (n : ℕ) (ns : List ℕ) → fold min n ns ≤ n
 least_first n [] = omega arith
@@ -26,6 +27,16 @@ least_under : (bound other : ℕ) (ns : List ℕ) → other < bound → AllByRec
 least_under bound other [] lt all = lt
 least_under bound other (n ∷ ns) lt all = let least = least_first n ns in let first = all.0 in omega (arith, least, first)
 
+-- and at least what each is
+fold_above : (bound n : ℕ) (ns : List ℕ) → bound ≤ n → AllByRecursion (λ m. bound ≤ m) ns → bound ≤ fold min n ns
+fold_above bound n [] le all = le
+fold_above bound n (m ∷ ms) le all = fold_above bound (min n m) ms (omega (arith, le, all.0)) all.1
+
+least_above : (bound other : ℕ) (ns : List ℕ) → bound ≤ other → AllByRecursion (λ m. bound ≤ m) ns → bound ≤ least_or other ns
+least_above bound other [] le all = le
+least_above bound other (n ∷ ns) le all = fold_above bound n ns all.0 all.1
+
+-- what is so of the numbers of two lists
 numbers_both : (P : ℕ → Type 0) (front rest : List ℕ) → AllByRecursion P front → AllByRecursion P rest → AllByRecursion P (front ++ rest)
 numbers_both P [] rest all more = more
 numbers_both P (n ∷ ns) rest all more = (all.0, numbers_both P ns rest all.1 more)
@@ -38,31 +49,17 @@ numbers_rest : (P : ℕ → Type 0) (front rest : List ℕ) → AllByRecursion P
 numbers_rest P [] rest all = all
 numbers_rest P (n ∷ ns) rest all = numbers_rest P ns rest all.1
 
-absurd_test : {A : Type 0} (b : Bool) → b ≡ false → b ≡ true → A
-absurd_test b fails passes = absurd (cc)
+abbrev lsn_of : LogEntry → ℕ
+lsn_of entry = entry.lsn
 
--- what is so of the LSNs of records that pass is so of these records
-of_passed : (P : ℕ → Type 0) (p : LogEntry → Bool) (entries : List LogEntry) → AllByRecursion P (map (λ (entry : LogEntry). entry.lsn) (filter p entries))
-    → AllByRecursion (λ (entry : LogEntry). p entry ≡ true → P entry.lsn) entries
-of_passed P p [] all = tt
-of_passed P p (entry ∷ entries) all = elim (cases_Bool (p entry)) [
-  | inl passes ↦
-      let them = rw passes at all in
-      (λ again. them.0, of_passed P p entries them.1)
-  | inr fails ↦ (λ passes. absurd_test (p entry) fails passes, of_passed P p entries (rw fails at all))
-]
-
-passed_of : (P : ℕ → Type 0) (p : LogEntry → Bool) (entries : List LogEntry) → AllByRecursion (λ (entry : LogEntry). P entry.lsn) entries
-    → AllByRecursion P (map (λ (entry : LogEntry). entry.lsn) (filter p entries))
-passed_of P p [] all = tt
-passed_of P p (entry ∷ entries) all = elim (cases_Bool (p entry)) [
-  | inl passes ↦ rw passes (all.0, passed_of P p entries all.1)
-  | inr fails ↦ rw fails (passed_of P p entries all.1)
-]
+-- what is so of the LSNs of all records is so of those of the live ones
+live_lsns_are : (P : ℕ → Type 0) (s : State) → AllByRecursion (λ (entry : LogEntry). P entry.lsn) s.records → AllByRecursion P (live_lsns s)
+live_lsns_are P s all = numbers_of_kept P lsn_of (is_live s) s.records
+    (weaker (λ (entry : LogEntry). P entry.lsn) (λ (entry : LogEntry). is_live s entry ≡ true → P entry.lsn) s.records (λ entry is live. is) all)
 
 -- the hold is at most the LSN of each live record
 pub hold_live : (s : State) → AllByRecursion (λ (entry : LogEntry). is_live s entry ≡ true → hold s ≤ entry.lsn) s.records
-hold_live s = of_passed (λ lsn. hold s ≤ lsn) (is_live s) s.records (numbers_rest (λ lsn. hold s ≤ lsn) (option_to_list s.archive) (live_lsns s)
+hold_live s = of_numbers (λ lsn. hold s ≤ lsn) lsn_of (is_live s) s.records (numbers_rest (λ lsn. hold s ≤ lsn) (option_to_list s.archive) (live_lsns s)
     (least_below (frontier s.place) (option_to_list s.archive ++ live_lsns s)))
 
 -- and at most the tail
@@ -74,4 +71,10 @@ hold_tail s = numbers_front (λ lsn. hold s ≤ lsn) (option_to_list s.archive) 
 pub hold_under : (bound : ℕ) (s : State) → frontier s.place < bound → AllByRecursion (λ lsn. lsn < bound) (option_to_list s.archive)
     → AllByRecursion (λ (entry : LogEntry). entry.lsn < bound) s.records → hold s < bound
 hold_under bound s lt tail all = least_under bound (frontier s.place) (option_to_list s.archive ++ live_lsns s) lt
-    (numbers_both (λ lsn. lsn < bound) (option_to_list s.archive) (live_lsns s) tail (passed_of (λ lsn. lsn < bound) (is_live s) s.records all))
+    (numbers_both (λ lsn. lsn < bound) (option_to_list s.archive) (live_lsns s) tail (live_lsns_are (λ lsn. lsn < bound) s all))
+
+-- and at least what they are
+pub hold_above : (bound : ℕ) (s : State) → bound ≤ frontier s.place → AllByRecursion (λ lsn. bound ≤ lsn) (option_to_list s.archive)
+    → AllByRecursion (λ (entry : LogEntry). bound ≤ entry.lsn) s.records → bound ≤ hold s
+hold_above bound s le tail all = least_above bound (frontier s.place) (option_to_list s.archive ++ live_lsns s) le
+    (numbers_both (λ lsn. bound ≤ lsn) (option_to_list s.archive) (live_lsns s) tail (live_lsns_are (λ lsn. bound ≤ lsn) s all))

@@ -12,6 +12,8 @@ pub mod Binding
 pub mod ReadBlocks
 pub mod LaidBlocks
 pub mod LaidContainers
+pub mod KeptRecords
+pub mod HoldOrder
 pub mod FoundParts
 pub mod FoundBases
 pub mod FoundStreams
@@ -26,5 +28,4 @@ pub mod StoredSteps
 pub mod RowBases
 pub mod StoredRecords
 pub mod ChangedCopies
-pub mod HoldOrder
 pub mod LowContainers

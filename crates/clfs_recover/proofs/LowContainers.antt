@@ -27,67 +27,17 @@ use Rattle.clfs_recover.specs.Files.{streams_with}
 use Rattle.clfs_recover.specs.Logs.{IsLogWith, stored_state, file_at_end, from_container, records_from_container}
 use Rattle.clfs_recover.specs.Stored.{stored_records, stored_end, stored_place}
 use Rattle.clfs_recover.specs.Walk.{shape_of, base_with, bases_with}
-use Rattle.clfs_recover.proofs.FoundBases.{base_low, new_bases, greatest_first, greatest_above, greatest_below, of_records, of_its_stream, IsFromSome, IsGreatest, from_some, base_from_records}
+use Rattle.clfs_recover.proofs.FoundBases.{base_low, new_base_of, new_bases, greatest_first, greatest_above, greatest_below, IsFromSome, from_some}
 use Rattle.clfs_recover.proofs.FoundRecords.{all_below, all_above}
 use Rattle.clfs_recover.proofs.FoundStreams.{base_there}
 use Rattle.clfs_recover.proofs.HoldOrder.{hold_live, hold_tail, hold_under}
+use Rattle.clfs_recover.proofs.KeptRecords.{weaker, kept_all, kept_none, kept_passed, all_of_kept, of_kept, numbers_of_kept, of_numbers}
 use Rattle.clfs_recover.proofs.Raising.{is_of, base_at, length-bases_with}
 use Rattle.clfs_recover.proofs.ReadBlocks.{ReadsFit}
 use Rattle.clfs_recover.proofs.ReadStored.{parted}
 use Rattle.clfs_recover.proofs.StoredLogs.{fault_fits, fits_right}
 use Rattle.clfs_recover.proofs.StoredRecords.{Rise, containers_rise}
 use Rattle.clfs_recover.proofs.StoredSteps.{end_is}
-
--- ---- lists of which some are kept
-
--- where each passes all are kept, and where each fails none
-kept_all : (p : LogEntry → Bool) (entries : List LogEntry) → AllByRecursion (λ (entry : LogEntry). p entry ≡ true) entries → filter p entries ≡ entries
-kept_all p [] all = refl
-kept_all p (entry ∷ entries) all = rw all.0 (ap (λ (es : List LogEntry). entry ∷ es) (kept_all p entries all.1))
-
-kept_none : (p : LogEntry → Bool) (entries : List LogEntry) → AllByRecursion (λ (entry : LogEntry). p entry ≡ false) entries → filter p entries ≡ []
-kept_none p [] all = refl
-kept_none p (entry ∷ entries) all = rw all.0 (kept_none p entries all.1)
-
-clash : {A : Type 0} (b : Bool) → b ≡ true → b ≡ false → A
-clash b passes fails = absurd (cc)
-
--- those that pass a test are the same among the kept ones, where each of them is kept
-kept_passed : (keep p q : LogEntry → Bool) (entries : List LogEntry) → ((entry : LogEntry) → q entry ≡ p entry)
-    → AllByRecursion (λ (entry : LogEntry). p entry ≡ true → keep entry ≡ true) entries → filter q (filter keep entries) ≡ filter p entries
-kept_passed keep p q [] same all = refl
-kept_passed keep p q (entry ∷ entries) same all = elim (cases_Bool (keep entry)) [
-  | inl kept ↦ rw kept (elim (cases_Bool (p entry)) [
-    | inl passes ↦ rw (same entry ∙ passes) (rw passes (ap (λ (es : List LogEntry). entry ∷ es) (kept_passed keep p q entries same all.1)))
-    | inr fails ↦ rw (same entry ∙ fails) (rw fails (kept_passed keep p q entries same all.1))
-  ])
-  | inr dropped ↦ rw dropped (elim (cases_Bool (p entry)) [
-    | inl passes ↦ clash (keep entry) (all.0 passes) dropped
-    | inr fails ↦ rw fails (kept_passed keep p q entries same all.1)
-  ])
-]
-
--- what is so of all is so of the kept ones, and what is so of the kept ones is so of those that pass
-all_kept : (P : LogEntry → Type 0) (p : LogEntry → Bool) (entries : List LogEntry) → AllByRecursion P entries → AllByRecursion P (filter p entries)
-all_kept P p [] all = tt
-all_kept P p (entry ∷ entries) all = elim (cases_Bool (p entry)) [
-  | inl passes ↦ rw passes (all.0, all_kept P p entries all.1)
-  | inr fails ↦ rw fails (all_kept P p entries all.1)
-]
-
-of_kept : (P : LogEntry → Type 0) (p : LogEntry → Bool) (entries : List LogEntry) → AllByRecursion P (filter p entries)
-    → AllByRecursion (λ (entry : LogEntry). p entry ≡ true → P entry) entries
-of_kept P p [] all = tt
-of_kept P p (entry ∷ entries) all = elim (cases_Bool (p entry)) [
-  | inl passes ↦
-      let them = rw passes at all in
-      (λ again. them.0, of_kept P p entries them.1)
-  | inr fails ↦ (λ passes. clash (p entry) passes fails, of_kept P p entries (rw fails at all))
-]
-
-weaker : (P Q : LogEntry → Type 0) (entries : List LogEntry) → ((entry : LogEntry) → P entry → Q entry) → AllByRecursion P entries → AllByRecursion Q entries
-weaker P Q [] weak all = tt
-weaker P Q (entry ∷ entries) weak all = (weak entry all.0, weaker P Q entries weak all.1)
 
 -- the end of the last container is that of the last of the later ones
 end_of_rest : (n : ℕ) (containers : List (List (List ℕ))) → n < length containers → stored_end (drop n containers) ≡ stored_end containers
@@ -272,7 +222,7 @@ module _ (written : AreReadAsWritten) (reads : ReadsFit) (image : BaseImage) (go
               (All-from_recursion (λ (e : LogEntry). is_live s e ≡ true → keeps e ≡ true) entries live_kept some.0 entry some.2) live in
               let Reaches : LogEntry → Type 0 = λ e. is_of i e ≡ true → e.new_base ≤ base_with image.streams rest i in
               let reaches = of_kept Reaches keeps entries
-              (of_records (λ k. k ≤ base_with image.streams rest i) i rest (greatest_above (row_in image.streams i).base (new_bases i rest))) in
+              (of_numbers (λ k. k ≤ base_with image.streams rest i) new_base_of (is_of i) rest (greatest_above (row_in image.streams i).base (new_bases i rest))) in
               let here = subst (λ (e : LogEntry). keeps e ≡ true → Reaches e) some.3
               (All-from_recursion (λ (e : LogEntry). keeps e ≡ true → Reaches e) entries reaches some.0 entry some.2) kept_is
               (eq-eqb entry.stream (i + 1) of_stream) in
@@ -283,8 +233,8 @@ module _ (written : AreReadAsWritten) (reads : ReadsFit) (image : BaseImage) (go
           let Reaches : LogEntry → Type 0 = λ e. is_of i e ≡ true → e.new_base ≤ base_with image.streams entries i in
           greatest_below (base_with image.streams entries i) (row_in image.streams i).base (new_bases i rest)
           (greatest_first (row_in image.streams i).base (new_bases i entries))
-          (of_its_stream (λ k. k ≤ base_with image.streams entries i) i rest (all_kept Reaches keeps entries
-          (of_records (λ k. k ≤ base_with image.streams entries i) i entries (greatest_above (row_in image.streams i).base (new_bases i entries)))))
+          (numbers_of_kept (λ k. k ≤ base_with image.streams entries i) new_base_of (is_of i) rest (all_of_kept Reaches keeps entries
+          (of_numbers (λ k. k ≤ base_with image.streams entries i) new_base_of (is_of i) entries (greatest_above (row_in image.streams i).base (new_bases i entries)))))
 
       bases_same : bases_with image.streams rest ≡ bases_with image.streams entries
       bases_same =

@@ -13,7 +13,7 @@ use Rattle.clfs_recover.specs.Walk.{base_with}
 use Rattle.clfs_recover.specs.declared.parts.Parts.{Parts}
 use Rattle.clfs_recover.proofs.FoundBases.{base_from_row, base_from_records, base_of_some}
 use Rattle.clfs_recover.proofs.FoundParts.{AreOpened}
-use Rattle.clfs_recover.proofs.FoundRecords.{from_both}
+use Rattle.clfs_recover.proofs.KeptRecords.{from_both}
 use Rattle.clfs_recover.proofs.ValidStates.{here, frontier_is, below, above, base_is, base_below}
 
 module _ (parts : Parts) (is : AreOpened parts) where

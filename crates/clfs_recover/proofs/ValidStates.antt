@@ -29,8 +29,10 @@ use Rattle.clfs_recover.specs.declared.parts.Parts.{Parts}
 use Rattle.clfs_recover.proofs.LaidBlocks.{FitTheirs}
 use Rattle.clfs_recover.proofs.FoundBases.{base_low, base_to}
 use Rattle.clfs_recover.proofs.FoundParts.{IsTailWithin, AreOpened}
-use Rattle.clfs_recover.proofs.FoundRecords.{all_below, all_above, all_rise, none_of_block, from_both}
+use Rattle.clfs_recover.proofs.FoundRecords.{all_below, all_above, all_rise, none_of_block}
 use Rattle.clfs_recover.proofs.FoundStreams.{length-streams_with, all_streams, different_streams, has_stream}
+use Rattle.clfs_recover.proofs.HoldOrder.{hold_above}
+use Rattle.clfs_recover.proofs.KeptRecords.{from_both}
 use Rattle.clfs_recover.proofs.Raising.{base_at, length-bases_with}
 
 -- ---- policies
@@ -87,34 +89,6 @@ policies_hold image is s maximum_is minimum_is growth_is = record {
       | inl none ↦ inl (eqb-true value 0 none)
       | inr there ↦ inr (let other = eqb-false value 0 there in omega (arith, other), le)
     ]
-
--- ---- the hold
-
-fold_above : (x n : ℕ) (ns : List ℕ) → x ≤ n → AllByRecursion (λ m. x ≤ m) ns → x ≤ fold min n ns
-fold_above x n [] le all = le
-fold_above x n (m ∷ ms) le all = fold_above x (min n m) ms (omega (arith, le, all.0)) all.1
-
-least_above : (x other : ℕ) (ns : List ℕ) → x ≤ other → AllByRecursion (λ m. x ≤ m) ns → x ≤ least_or other ns
-least_above x other [] le all = le
-least_above x other (n ∷ ns) le all = fold_above x n ns all.0 all.1
-
-numbers_both : (P : ℕ → Type 0) (front rest : List ℕ) → AllByRecursion P front → AllByRecursion P rest → AllByRecursion P (front ++ rest)
-numbers_both P [] rest all more = more
-numbers_both P (n ∷ ns) rest all more = (all.0, numbers_both P ns rest all.1 more)
-
-lsns_above : (x : ℕ) (p : LogEntry → Bool) (entries : List LogEntry) → AllByRecursion (λ (entry : LogEntry). x ≤ entry.lsn) entries
-    → AllByRecursion (λ lsn. x ≤ lsn) (map (λ (entry : LogEntry). entry.lsn) (filter p entries))
-lsns_above x p [] all = tt
-lsns_above x p (entry ∷ entries) all = elim (cases_Bool (p entry)) [
-  | inl passes ↦ rw passes (all.0, lsns_above x p entries all.1)
-  | inr fails ↦ rw fails (lsns_above x p entries all.1)
-]
-
--- the hold is at least what the tail, all records and the frontier are
-hold_above : (x : ℕ) (s : State) → x ≤ frontier s.place → AllByRecursion (λ lsn. x ≤ lsn) (option_to_list s.archive)
-    → AllByRecursion (λ (entry : LogEntry). x ≤ entry.lsn) s.records → x ≤ hold s
-hold_above x s le tail all = least_above x (frontier s.place) (option_to_list s.archive ++ live_lsns s) le
-    (numbers_both (λ lsn. x ≤ lsn) (option_to_list s.archive) (live_lsns s) tail (lsns_above x (is_live s) s.records all))
 
 -- ---- the state
 
