@@ -21,16 +21,10 @@ use Rattle.clfs_recover.specs.Walk.{Container, damage_at, end_at, blocks_end, bl
 use Rattle.clfs_recover.specs.Files.{AreListed}
 use Rattle.clfs_recover.specs.Stored.{HaveBlocks, stored_in, stored_records}
 use Rattle.clfs_recover.specs.declared.refusal.LoadRefusal.{LoadRefusal}
-use Rattle.clfs_recover.proofs.Binding.{bound}
+use Rattle.clfs_recover.proofs.Binding.{read, bound}
 use Rattle.clfs_recover.proofs.Containers.{sectors_said, left_here, closed_gate}
 use Rattle.clfs_recover.proofs.Finding.{open_exist}
 use Rattle.clfs_recover.proofs.Meanings.{OneList, opens_rest, whole_is}
-
-abbrev Records : Type 0
-Records = Result (List LogEntry) LoadRefusal
-
-abbrev read : List LogEntry → Records
-read entries = Ok entries
 
 -- a gate that isn't there is no closed one
 no_gate : (shape : Shape) (start : ℕ) (bytes : List ℕ) → length bytes ≡ 0 → frame_at shape start bytes ≡ Err blocks.Closed → ⊥

@@ -19,16 +19,10 @@ use Rattle.clfs_recover.specs.Records.{◌>>=◌, told_as, block_records}
 use Rattle.clfs_recover.specs.Walk.{Container, damage_at, end_at, blocks_end, blocks_records, container_records, listed_records, last_end}
 use Rattle.clfs_recover.specs.Files.{AreListed}
 use Rattle.clfs_recover.specs.declared.refusal.LoadRefusal.{LoadRefusal}
-use Rattle.clfs_recover.proofs.Binding.{bound, one_value, told_value}
+use Rattle.clfs_recover.proofs.Binding.{read, bound, one_value, told_value}
 use Rattle.clfs_recover.proofs.Listing.{end_behind, ends_on}
 use Rattle.clfs_recover.proofs.ReadBlocks.{ReadsFit, block_read}
 use Rattle.clfs_recover.proofs.LaidBlocks.{BeginsAt, AreLaid, laid_on, block_laid}
-
-abbrev Records : Type 0
-Records = Result (List LogEntry) LoadRefusal
-
-abbrev read : List LogEntry → Records
-read entries = Ok entries
 
 -- behind the last block nothing is read
 nothing_at : (id offset : ℕ) (r : Result BlockHead BlockRefusal) (entries : List LogEntry) → end_at id offset r ≡ Ok entries → entries ≡ []

@@ -19,17 +19,11 @@ use Rattle.clfs_block.specs.declared.head.BlockRefusal.{BlockRefusal}
 use Rattle.clfs_block.specs.declared.head.BlockRefusal.TheVariants as blocks
 use Rattle.clfs_recover.specs.Records.{◌>>=◌, told_as, records_from, block_records}
 use Rattle.clfs_recover.specs.Walk.{damage_at}
-use Rattle.clfs_recover.specs.Stored.{stored_in, stored_records, stored_end}
+use Rattle.clfs_recover.specs.Stored.{FitFrom, stored_in, stored_records, stored_end}
 use Rattle.clfs_recover.specs.Logs.{HaveRecords, all_records}
 use Rattle.clfs_recover.specs.declared.refusal.LoadRefusal.{LoadRefusal}
-use Rattle.clfs_recover.proofs.Binding.{bound, one_value, told_value}
+use Rattle.clfs_recover.proofs.Binding.{Records, read, bound, one_value, told_value}
 use Rattle.clfs_recover.proofs.Writings.{ReadsRecords, HaveSizes, block_written}
-
-abbrev Records : Type 0
-Records = Result (List LogEntry) LoadRefusal
-
-abbrev read : List LogEntry → Records
-read entries = Ok entries
 
 -- the bytes of two lists of blocks
 pub total-append : (front more : List (List ℕ)) → total (front ++ more) ≡ total front + total more
@@ -193,6 +187,38 @@ record_more lsn streams more bytes x le is =
     (ap (λ (o : Option ℕ). unless_wrong (λ at. at) o rest) (header_more lsn streams more h le c.0) ∙ c.1))
 
 module _ (shape : Shape) (streams more : ℕ) (le : streams ≤ more) where
+  -- records that fit a log of some streams fit one of more
+  fit_more : (lsn : ℕ) (entries : List LogEntry) → FitFrom lsn streams entries → FitFrom lsn more entries
+  fit_more lsn [] fit = tt
+  fit_more lsn (entry ∷ entries) fit = (
+    record {
+      at = fit.0.at;
+      some_stream = fit.0.some_stream;
+      stream = let few = fit.0.stream in omega (arith, few, le);
+      bytes = fit.0.bytes;
+      previous = fit.0.previous;
+      undo_next = fit.0.undo_next;
+      new_base = fit.0.new_base;
+    },
+    fit_more (lsn + 1) entries fit.1,
+  )
+
+  pub have_more : (id offset : ℕ) (groups : List (List LogEntry)) (front : List (List ℕ)) → HaveRecords shape streams id offset groups front
+      → HaveRecords shape more id offset groups front
+  have_more id offset [] [] have = tt
+  have_more id offset [] (block ∷ front) have = absurd have
+  have_more id offset (entries ∷ groups) [] have = absurd have
+  have_more id offset (entries ∷ groups) (block ∷ front) have = (
+    record {
+      some = have.0.some;
+      few = have.0.few;
+      fit = fit_more (lsn_number id offset 0) entries have.0.fit;
+      count = have.0.count;
+      spelled = have.0.spelled;
+    },
+    have_more id (offset + length block) groups front have.1,
+  )
+
   records_more : (payload : List ℕ) (count lsn p : ℕ) (entries : List LogEntry) → records_from streams payload count lsn p ≡ Ok entries
       → records_from more payload count lsn p ≡ Ok entries
   records_more payload zero lsn p entries is = is

@@ -12,12 +12,9 @@ use Rattle.clfs_recover.specs.Records.{◌>>=◌, told_as, block_records}
 use Rattle.clfs_recover.specs.Walk.{damage_at}
 use Rattle.clfs_recover.specs.Stored.{FitFrom, stored_in, stored_records, stored_end}
 use Rattle.clfs_recover.specs.declared.refusal.LoadRefusal.{LoadRefusal}
-use Rattle.clfs_recover.proofs.Binding.{bound, one_value, told_value}
+use Rattle.clfs_recover.proofs.Binding.{read, bound, one_value, told_value}
 use Rattle.clfs_recover.proofs.LaidBlocks.{RiseWithin, FitTheirs, rise_both, fit_both}
 use Rattle.clfs_recover.proofs.ReadBlocks.{ReadsFit, block_read}
-
-abbrev read : List LogEntry → Result (List LogEntry) LoadRefusal
-read entries = Ok entries
 
 -- records whose LSNs rise from one on to another, and fit
 pub record Rise (streams low high : ℕ) (entries : List LogEntry) : Type 0 where

@@ -35,6 +35,24 @@ fits_further image lsn further le right =
       tail = λ on. let within = fits.tail on in let low = within.0 in (omega (arith, low, le), within.1);
     })
 
+-- a copy that lists one file more
+abbrev with_file : ℕ → BaseImage → BaseImage
+with_file file image = record image { files = image.files ++ file ∷ [] }
+
+module _ (image : BaseImage) (file : ℕ) (old new : ℕ → List (List ℕ)) (have : HaveEmpty image file old new) where
+  empty_are : map new (image.files ++ file ∷ []) ≡ map old image.files ++ [] ∷ []
+  empty_are =
+      let front = map_as new old image.files (λ i lt. have.others (get_or image.files i 0) (have.unlisted i lt)) in
+      map-append new image.files (file ∷ []) ∙ (λ i. front i ++ have.empty i ∷ [])
+
+  pub place_next : stored_place (with_file file image) (map new (image.files ++ file ∷ []))
+      ≡ record { container = image.first + length image.files; offset = 0; used = 0; records = 0 }
+  place_next =
+      let long : length (image.files ++ file ∷ []) ≡ length image.files + 1 = length-append image.files (file ∷ []) in
+      let container : image.first + length (image.files ++ file ∷ []) - 1 ≡ image.first + length image.files = omega (arith, long) in
+      let end : stored_end (map new (image.files ++ file ∷ [])) ≡ 0 = ap stored_end empty_are ∙ end_of_last (map old image.files) [] in
+      λ i. record { container = container i; offset = end i; used = 0; records = 0 }
+
 module _ (image : BaseImage) (good : IsImage version_one image) where
   abbrev count : ℕ
   count = length image.files
@@ -116,19 +134,7 @@ module _ (image : BaseImage) (good : IsImage version_one image) where
 
   module _ (file : ℕ) (old new : ℕ → List (List ℕ)) (have : HaveEmpty image file old new) where
     abbrev next : BaseImage
-    next = record image { files = image.files ++ file ∷ [] }
-
-    empty_are : map new next.files ≡ map old image.files ++ [] ∷ []
-    empty_are =
-        let front = map_as new old image.files (λ i lt. have.others (get_or image.files i 0) (have.unlisted i lt)) in
-        map-append new image.files (file ∷ []) ∙ (λ i. front i ++ have.empty i ∷ [])
-
-    pub place_next : stored_place next (map new next.files) ≡ record { container = image.first + count; offset = 0; used = 0; records = 0 }
-    place_next =
-        let long : length next.files ≡ count + 1 = length-append image.files (file ∷ []) in
-        let container : image.first + length next.files - 1 ≡ image.first + count = omega (arith, long) in
-        let end : stored_end (map new next.files) ≡ 0 = ap stored_end empty_are ∙ end_of_last (map old image.files) [] in
-        λ i. record { container = container i; offset = end i; used = 0; records = 0 }
+    next = with_file file image
 
     pub log_next : (entries : List LogEntry) → IsLogWith image (map old image.files) entries → IsLogWith next (map new next.files) entries
     log_next entries with =
@@ -140,9 +146,9 @@ module _ (image : BaseImage) (good : IsImage version_one image) where
         subst Fits (get_or-map old image.files (count - 1) 0 [] (omega (arith, good.some_listed)))
         (with.within (count - 1) [] (omega (arith, length-map image.files old, good.some_listed))) in
         let further : frontier (stored_place image (map old image.files)) ≤ frontier (stored_place next (map new next.files)) =
-        let place = ap frontier place_next in omega (arith, place, end, room, good.shape.largest_container, good.some_listed) in record {
-          within = subst (All Fits) (sym empty_are) (All-push Fits (map old image.files) [] with.within (omega arith));
-          read = subst (λ (l : List (List (List ℕ))). stored_records shape streams image.first l ≡ Ok entries) (sym empty_are)
+        let place = ap frontier (place_next image file old new have) in omega (arith, place, end, room, good.shape.largest_container, good.some_listed) in record {
+          within = subst (All Fits) (sym (empty_are image file old new have)) (All-push Fits (map old image.files) [] with.within (omega arith));
+          read = subst (λ (l : List (List (List ℕ))). stored_records shape streams image.first l ≡ Ok entries) (sym (empty_are image file old new have))
               (read_with_empty shape streams image.first (map old image.files) entries with.read);
           right = fits_further image (frontier (stored_place image (map old image.files))) (frontier (stored_place next (map new next.files))) further with.right;
         }

@@ -41,7 +41,7 @@ pub fn further_containers_begin_empty()
     ensures log { (image : BaseImage) (file : ℕ) (old new : ℕ → List (List ℕ)) (entries : List LogEntry) → IsImage version_one image
         → HaveEmpty image file old new → IsLogWith image (map old image.files) entries
         → IsLogWith (record image { files = image.files ++ file ∷ [] }) (map new (image.files ++ file ∷ [])) entries }
-    ensures place { (image : BaseImage) (file : ℕ) (old new : ℕ → List (List ℕ)) → IsImage version_one image → HaveEmpty image file old new
+    ensures place { (image : BaseImage) (file : ℕ) (old new : ℕ → List (List ℕ)) → HaveEmpty image file old new
         → stored_place (record image { files = image.files ++ file ∷ [] }) (map new (image.files ++ file ∷ []))
         ≡ record { container = image.first + length image.files; offset = 0; used = 0; records = 0 } }
 {}
@@ -110,8 +110,7 @@ pub fn low_containers_are_left_out()
         → image.first ≤ first → first + 1 ≤ image.first + length image.files → (image.archiving ≡ true → first ≤ container_of image.tail)
         → IsLogWith image (map blocks image.files) entries
         → IsLogWith (from_container first image) (map blocks (from_container first image).files) (records_from_container first entries) }
-    ensures place { (image : BaseImage) (blocks : ℕ → List (List ℕ)) (first : ℕ) → IsImage version_one image
-        → image.first ≤ first → first + 1 ≤ image.first + length image.files
+    ensures place { (image : BaseImage) (blocks : ℕ → List (List ℕ)) (first : ℕ) → image.first ≤ first → first + 1 ≤ image.first + length image.files
         → stored_place (from_container first image) (map blocks (from_container first image).files) ≡ stored_place image (map blocks image.files) }
     ensures held { (image : BaseImage) (blocks : ℕ → List (List ℕ)) (entries : List LogEntry) (buffers first : ℕ) → IsImage version_one image
         → IsLogWith image (map blocks image.files) entries → first ≤ container_of (hold (stored_state image (map blocks image.files) entries buffers))

@@ -43,7 +43,7 @@ pub fn copies_without_fault_fit()
 {}
 
 /// What is read of blocks is what they were written with, one behind the other; what is read of more blocks, or of more containers, comes
-/// behind what was read before; and a log of more streams is read as before.
+/// behind what was read before; and what fits a log of some streams fits one of more, and is read in it as before.
 pub fn blocks_are_read_in_order()
     ensures written { (shape : Shape) (streams id offset : ℕ) (groups : List (List LogEntry)) (blocks : List (List ℕ))
         → IsShape shape → streams < 2 ^ 16 → id < 2 ^ 32 → offset + total blocks ≤ sector_bytes * shape.container_sectors
@@ -51,6 +51,8 @@ pub fn blocks_are_read_in_order()
     ensures joined { (shape : Shape) (streams id offset : ℕ) (groups others : List (List LogEntry)) (blocks more : List (List ℕ))
         → HaveRecords shape streams id offset groups blocks → HaveRecords shape streams id (offset + total blocks) others more
         → HaveRecords shape streams id offset (groups ++ others) (blocks ++ more) }
+    ensures further { (shape : Shape) (streams more id offset : ℕ) (groups : List (List LogEntry)) (blocks : List (List ℕ)) → streams ≤ more
+        → HaveRecords shape streams id offset groups blocks → HaveRecords shape more id offset groups blocks }
     ensures behind { (shape : Shape) (streams id offset : ℕ) (blocks more : List (List ℕ)) (entries others : List LogEntry)
         → stored_in shape streams id offset blocks ≡ Ok entries → stored_in shape streams id (offset + total blocks) more ≡ Ok others
         → stored_in shape streams id offset (blocks ++ more) ≡ Ok (entries ++ others) }

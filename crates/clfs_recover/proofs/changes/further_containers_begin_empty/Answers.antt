@@ -4,5 +4,5 @@ use Rattle.clfs_recover.proofs.changes.further_containers_begin_empty.Goals as g
 pub returns : goal.returns
 returns c = record {
   log = λ image file old new entries good have with. log_next image good file old new have entries with;
-  place = λ image file old new good have. place_next image good file old new have;
+  place = place_next;
 }

@@ -7,7 +7,7 @@ returns c =
     let reads = c.records_are_read_as_written.ensures.fits in
     record {
       log = λ image blocks entries first good from to tail with. log_left written reads image good blocks entries with first from to tail;
-      place = λ image blocks first good from to. place_left image blocks first from to;
+      place = place_left;
       held = λ image blocks entries buffers first good with below. held written reads image good blocks entries with buffers first below;
       same = λ image blocks entries buffers first good with from below. same_left written reads image good blocks entries with buffers first from below;
     }
