@@ -1,14 +1,13 @@
 -- A log whose copy has another base in a row, a stream more, or other settings.
-use Rattle.std.proofs.Common.{◌≡◌, ◌≢◌, ⊎_elim, ℕ, suc, ◌+◌, ◌-◌, ◌*◌, ◌<◌, ◌≤◌, Bool, true, max, List, [], ◌∷◌, ◌++◌, length, get_or, set}
-use Rattle.std.proofs.Common.{None, refl, sym, ◌∙◌, ap, subst, arith, length-append, length-set, get_or-set_same, get_or-set_other}
+use Rattle.std.proofs.Common.{◌≡◌, ◌≢◌, ⊎_elim, ℕ, ◌+◌, ◌-◌, ◌*◌, ◌<◌, ◌≤◌, Bool, true, max, List, [], ◌∷◌, ◌++◌, length, get_or}
+use Rattle.std.proofs.Common.{refl, ◌∙◌, ap, arith, length-append, length-set, get_or-set_same, get_or-set_other}
 use Rattle.std.specs.List.{AllByRecursion}
 use Rattle.std.proofs.Math.Seq.{get_or-append_seam}
 use Rattle.std.proofs.lemmas.Bool.{cases_eq}
 use Rattle.std.proofs.lemmas.List.{get_or_append_left}
 use Rattle.std.proofs.lemmas.List.Elements.{recursion_from_All}
-use Rattle.clfs_lsn.specs.Lsn.{lsn_number, container_of}
+use Rattle.clfs_lsn.specs.Lsn.{container_of}
 use Rattle.clfs_lsn.specs.Place.{frontier}
-use Rattle.clfs_lsn.specs.Spelling.{FitsAt}
 use Rattle.clfs_lsn.specs.declared.entry.LogEntry.{LogEntry}
 use Rattle.clfs_container.specs.OpenBlocks.{total}
 use Rattle.clfs_block.specs.Judging.{AreReadAsWritten}
@@ -16,13 +15,12 @@ use Rattle.clfs_base.specs.declared.image.BaseImage.{BaseImage}
 use Rattle.clfs_base.specs.declared.image.Row.{Row}
 use Rattle.clfs_base.specs.Layout.{version_one}
 use Rattle.clfs_base.specs.Spelling.{IsImage, row_in}
-use Rattle.clfs_model.specs.declared.state.Stream.{Stream}
 use Rattle.clfs_model.specs.State.{base_of, set_base}
 use Rattle.clfs_recover.specs.Bases.{raised}
 use Rattle.clfs_recover.specs.Files.{streams_with}
-use Rattle.clfs_recover.specs.Logs.{IsLogWith, FitsUpTo, stored_state, with_row_base}
+use Rattle.clfs_recover.specs.Logs.{IsLogWith, stored_state, with_row_base}
 use Rattle.clfs_recover.specs.Stored.{stored_place}
-use Rattle.clfs_recover.specs.Walk.{shape_of, base_with, bases_with, image_fault}
+use Rattle.clfs_recover.specs.Walk.{shape_of, bases_with}
 use Rattle.clfs_recover.proofs.FoundStreams.{base_there}
 use Rattle.clfs_recover.proofs.LaidBlocks.{FitTheirs}
 use Rattle.clfs_recover.proofs.Raising.{base_at, length-bases_with}

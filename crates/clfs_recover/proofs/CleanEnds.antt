@@ -1,5 +1,5 @@
 -- Where containers are read, the open blocks of each end cleanly, and are all that its records come of.
-use Rattle.std.proofs.Common.{◌≡◌, ◌≢◌, ◌⊎◌, inl, inr, ⊎_elim, ℕ, zero, suc, ◌+◌, ◌-◌, ◌*◌, ◌/◌, ◌%◌, ◌<◌, ◌≤◌, Bool, cond, leb, eqb, List, [], ◌∷◌, ◌++◌, length, get_or, take, drop, map}
+use Rattle.std.proofs.Common.{◌≡◌, ◌⊎◌, inl, inr, ⊎_elim, ℕ, zero, suc, ◌+◌, ◌*◌, ◌/◌, ◌<◌, ◌≤◌, cond, eqb, List, [], ◌∷◌, ◌++◌, length, get_or, drop, map}
 use Rattle.std.proofs.Common.{Result, Ok, Err, refl, sym, ◌∙◌, ap, subst, arith}
 use Rattle.std.specs.Prelude.{All}
 use Rattle.std.specs.List.{AllByRecursion}
@@ -10,7 +10,7 @@ use Rattle.clfs_lsn.specs.Size.{IsShape}
 use Rattle.clfs_lsn.specs.declared.entry.LogEntry.{LogEntry}
 use Rattle.clfs_lsn.specs.declared.shape.Shape.{Shape}
 use Rattle.clfs_disk.specs.Files.{Files}
-use Rattle.clfs_container.specs.OpenBlocks.{block_sectors, Opens, Ends, EndsCleanly, AreOpen, AreWhole, total}
+use Rattle.clfs_container.specs.OpenBlocks.{block_sectors, Ends, EndsCleanly, AreOpen, AreWhole, total}
 use Rattle.clfs_block.specs.Checks.{frame_at}
 use Rattle.clfs_block.specs.Judging.{AreReadAsWritten}
 use Rattle.clfs_block.specs.declared.head.BlockHead.{BlockHead}
@@ -20,7 +20,6 @@ use Rattle.clfs_recover.specs.Records.{◌>>=◌, told_as, block_records}
 use Rattle.clfs_recover.specs.Walk.{Container, damage_at, end_at, blocks_end, blocks_records, container_records, listed_records}
 use Rattle.clfs_recover.specs.Files.{AreListed}
 use Rattle.clfs_recover.specs.Stored.{HaveBlocks, stored_in, stored_records}
-use Rattle.clfs_recover.specs.declared.refusal.LoadRefusal.{LoadRefusal}
 use Rattle.clfs_recover.proofs.Binding.{read, bound}
 use Rattle.clfs_recover.proofs.Containers.{sectors_said, left_here, closed_gate}
 use Rattle.clfs_recover.proofs.Finding.{open_exist}

@@ -1,8 +1,8 @@
 -- What is known of the parts that opening finds: the newest copy is one that a log can have, the records lie in blocks up to the place, and the
 -- copy's bases and its tail fit them.
-use Rattle.std.proofs.Common.{◌≡◌, ◌⊎◌, inl, inr, ℕ, suc, ◌+◌, ◌-◌, ◌*◌, ◌%◌, ◌^◌, ◌<◌, ◌≤◌, Bool, true, false, cond, eqb, ltb, ◌&&◌, ◌||◌, List, [], ◌∷◌, length, Option, Some, None, Result, Ok, Err}
+use Rattle.std.proofs.Common.{◌≡◌, ℕ, ◌+◌, ◌-◌, ◌*◌, ◌%◌, ◌^◌, ◌<◌, ◌≤◌, Bool, true, false, cond, eqb, ltb, ◌&&◌, ◌||◌, List, [], ◌∷◌, length, Option, Some, None, Result, Ok, Err}
 use Rattle.std.proofs.Common.{refl, sym, ◌∙◌, ap, subst, arith}
-use Rattle.std.specs.List.{position, position_or_len}
+use Rattle.std.specs.List.{position}
 use Rattle.std.specs.Option.{option_map, option_or}
 use Rattle.std.proofs.lemmas.Bool.{ltb-false, or_parts, cond_both}
 use Rattle.std.proofs.lemmas.List.Sums.{fails_before_first}
@@ -14,7 +14,6 @@ use Rattle.clfs_lsn.specs.declared.entry.LogEntry.{LogEntry}
 use Rattle.clfs_lsn.specs.declared.place.Place.{Place}
 use Rattle.clfs_lsn.specs.declared.shape.Shape.{Shape}
 use Rattle.clfs_disk.specs.Files.{Files}
-use Rattle.clfs_container.specs.OpenBlocks.{total}
 use Rattle.clfs_block.specs.Judging.{AreReadAsWritten}
 use Rattle.clfs_base.specs.declared.image.BaseImage.{BaseImage}
 use Rattle.clfs_base.specs.declared.image.Row.{Row}
@@ -26,9 +25,8 @@ use Rattle.clfs_base.specs.Spelling.{IsImage, row_in}
 use Rattle.clfs_base.specs.Checks.{told, image_at}
 use Rattle.clfs_base.specs.Slots.{slot_of, newer_slot, front_of, slot_by, used_slot, copy_in, copy_of, newest_of}
 use Rattle.clfs_model.specs.Storable.{before_all}
-use Rattle.clfs_recover.specs.Records.{◌>>=◌}
-use Rattle.clfs_recover.specs.Walk.{Container, shape_of, listed_records, last_end, place_behind, bases_with, high_row, is_wrong_tail, image_fault, slot_offset, parts_with, walked}
-use Rattle.clfs_recover.specs.Files.{AreListed, without_copy, FindsBehind, Finds}
+use Rattle.clfs_recover.specs.Walk.{Container, shape_of, listed_records, last_end, place_behind, bases_with, high_row, is_wrong_tail, image_fault, slot_offset, parts_with}
+use Rattle.clfs_recover.specs.Files.{AreListed, FindsBehind, Finds}
 use Rattle.clfs_recover.specs.declared.parts.Parts.{Parts}
 use Rattle.clfs_recover.specs.declared.refusal.LoadRefusal.{LoadRefusal}
 use Rattle.clfs_recover.specs.declared.refusal.LoadRefusal.TheVariants.{Damaged}

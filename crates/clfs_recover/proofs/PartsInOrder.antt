@@ -1,5 +1,5 @@
 -- The records and the bases of parts that opening finds, place by place.
-use Rattle.std.proofs.Common.{◌≡◌, ◌⊎◌, inl, inr, ℕ, ◌+◌, ◌-◌, ◌*◌, ◌/◌, ◌^◌, ◌<◌, ◌≤◌, List, length, get_or, refl, sym, ◌∙◌, ap, subst, arith}
+use Rattle.std.proofs.Common.{◌≡◌, ◌⊎◌, ℕ, ◌+◌, ◌-◌, ◌<◌, ◌≤◌, length, get_or, sym, subst, arith}
 use Rattle.std.specs.Prelude.{All, Any}
 use Rattle.std.proofs.lemmas.List.Elements.{All-from_recursion, All-weaker}
 use Rattle.clfs_lsn.specs.Lsn.{lsn_number, container_of}
@@ -9,7 +9,6 @@ use Rattle.clfs_lsn.specs.declared.entry.Kind.TheVariants.{Restart}
 use Rattle.clfs_lsn.specs.declared.entry.LogEntry.{LogEntry}
 use Rattle.clfs_base.specs.declared.image.BaseImage.{BaseImage}
 use Rattle.clfs_base.specs.Spelling.{row_in}
-use Rattle.clfs_recover.specs.Walk.{base_with}
 use Rattle.clfs_recover.specs.declared.parts.Parts.{Parts}
 use Rattle.clfs_recover.proofs.FoundBases.{base_from_row, base_from_records, base_of_some}
 use Rattle.clfs_recover.proofs.FoundParts.{AreOpened}

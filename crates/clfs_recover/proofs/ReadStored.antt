@@ -1,7 +1,6 @@
 -- What is read of blocks and of containers, part by part.
-use Rattle.std.proofs.Common.{◌≡◌, ◌≢◌, ℕ, zero, suc, ◌+◌, ◌-◌, ◌*◌, ◌^◌, ◌<◌, ◌≤◌, Bool, eqb, ltb, ◌||◌, List, [], ◌∷◌, ◌++◌, length, get_or, take, drop, map}
-use Rattle.std.proofs.Common.{Option, None, Result, Ok, Err, refl, sym, ◌∙◌, ap, subst, arith, append_assoc}
-use Rattle.std.specs.List.{flat_map}
+use Rattle.std.proofs.Common.{◌≡◌, ℕ, zero, suc, ◌+◌, ◌*◌, ◌^◌, ◌<◌, ◌≤◌, eqb, ltb, ◌||◌, List, [], ◌∷◌, ◌++◌, length, drop}
+use Rattle.std.proofs.Common.{Option, None, Result, Ok, refl, sym, ◌∙◌, ap, subst, arith, append_assoc}
 use Rattle.std.proofs.lemmas.Bool.{ltb-false, le-ltb, or_parts, or_from}
 use Rattle.std.proofs.lemmas.List.{append-nil}
 use Rattle.clfs_lsn.specs.Lsn.{lsn_number}
@@ -21,7 +20,6 @@ use Rattle.clfs_recover.specs.Records.{◌>>=◌, told_as, records_from, block_r
 use Rattle.clfs_recover.specs.Walk.{damage_at}
 use Rattle.clfs_recover.specs.Stored.{FitFrom, stored_in, stored_records, stored_end}
 use Rattle.clfs_recover.specs.Logs.{HaveRecords, all_records}
-use Rattle.clfs_recover.specs.declared.refusal.LoadRefusal.{LoadRefusal}
 use Rattle.clfs_recover.proofs.Binding.{Records, read, bound, one_value, told_value}
 use Rattle.clfs_recover.proofs.Writings.{ReadsRecords, HaveSizes, block_written}
 
@@ -42,9 +40,11 @@ records_both shape streams id offset [] [] others more have behind =
 records_both shape streams id offset [] (block ∷ front) others more have behind = absurd have
 records_both shape streams id offset (entries ∷ groups) [] others more have behind = absurd have
 records_both shape streams id offset (entries ∷ groups) (block ∷ front) others more have behind =
-    let sum : offset + (length block + total front) ≡ offset + length block + total front = omega arith in
-    (have.0, records_both shape streams id (offset + length block) groups front others more have.1
-    (subst (λ (n : ℕ). HaveRecords shape streams id n others more) sum behind))
+    let sum : offset + (length block + total front) ≡ offset + length block + total front = omega arith in (
+      have.0,
+      records_both shape streams id (offset + length block) groups front others more have.1
+          (subst (λ (n : ℕ). HaveRecords shape streams id n others more) sum behind),
+    )
 
 -- and are read as these
 pub written_read : AreReadAsWritten → ReadsRecords → HaveSizes → (shape : Shape) (streams id : ℕ) → IsShape shape → streams < 2 ^ 16 → id < 2 ^ 32

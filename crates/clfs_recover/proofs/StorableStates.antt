@@ -1,13 +1,11 @@
 -- The state of parts that opening finds is one that files can hold, and its own flushed part.
-use Rattle.std.proofs.Common.{◌≡◌, ◌⊎◌, inl, inr, ℕ, ◌+◌, ◌-◌, ◌*◌, ◌/◌, ◌%◌, ◌^◌, ◌<◌, ◌≤◌, true, ltb, List, [], ◌∷◌, length, get_or, None, refl, sym, ◌∙◌, ap, subst, arith}
-use Rattle.std.specs.Prelude.{All}
+use Rattle.std.proofs.Common.{◌≡◌, inl, inr, ℕ, ◌-◌, ◌<◌, ◌≤◌, true, ltb, [], length, None, refl, sym, subst, arith}
 use Rattle.std.proofs.lemmas.Bool.{lt-ltb}
 use Rattle.std.proofs.lemmas.List.Elements.{All-from_recursion, recursion_from_All}
-use Rattle.clfs_lsn.specs.Lsn.{lsn_number, container_of, offset_of}
-use Rattle.clfs_lsn.specs.Place.{block_end, frontier}
+use Rattle.clfs_lsn.specs.Lsn.{container_of, offset_of}
+use Rattle.clfs_lsn.specs.Place.{frontier}
 use Rattle.clfs_lsn.specs.Spelling.{FitsAt}
 use Rattle.clfs_lsn.specs.declared.entry.LogEntry.{LogEntry}
-use Rattle.clfs_lsn.specs.declared.place.Place.{Place}
 use Rattle.clfs_disk.specs.Files.{Files}
 use Rattle.clfs_block.specs.Judging.{AreReadAsWritten}
 use Rattle.clfs_base.specs.declared.image.BaseImage.{BaseImage}
@@ -18,7 +16,7 @@ use Rattle.clfs_model.specs.Refusals.{name_fault}
 use Rattle.clfs_model.specs.Storable.{before_all, behind_all, GoesOnAt, HasMovedBase, IsAreaWithinLimits, IsStorable}
 use Rattle.clfs_model.specs.Valid.{IsValid}
 use Rattle.clfs_recover.specs.Walk.{base_with}
-use Rattle.clfs_recover.specs.Files.{streams_with, state_of, StandsFor}
+use Rattle.clfs_recover.specs.Files.{state_of, StandsFor}
 use Rattle.clfs_recover.specs.declared.parts.Parts.{Parts}
 use Rattle.clfs_recover.proofs.FoundBases.{base_from_records}
 use Rattle.clfs_recover.proofs.FoundParts.{AreImagesRead, AreOpened, found_opened}

@@ -1,6 +1,6 @@
 -- Logs as copies and blocks, and the files that they are found in.
-use Rattle.std.proofs.Common.{◌≡◌, ◌⊎◌, inl, inr, ℕ, ◌+◌, ◌-◌, ◌<◌, ◌≤◌, Bool, true, false, cond, ltb, not, ◌&&◌, ◌||◌, List, [], ◌∷◌, length, get_or, map}
-use Rattle.std.proofs.Common.{Option, Some, None, Result, Ok, Err, refl, sym, ◌∙◌, ap, subst, arith}
+use Rattle.std.proofs.Common.{◌≡◌, inl, inr, ℕ, ◌+◌, ◌-◌, ◌<◌, ◌≤◌, Bool, true, false, cond, ltb, ◌&&◌, ◌||◌, List, [], length, map}
+use Rattle.std.proofs.Common.{Option, Some, None, Ok, refl, sym, ◌∙◌, ap, subst, arith}
 use Rattle.std.specs.List.{position, position_or_len}
 use Rattle.std.specs.Option.{option_map, option_or}
 use Rattle.std.proofs.lemmas.Bool.{cases_Bool, le-ltb, or_from}
@@ -9,17 +9,15 @@ use Rattle.clfs_lsn.specs.Lsn.{container_of}
 use Rattle.clfs_lsn.specs.Place.{frontier}
 use Rattle.clfs_lsn.specs.declared.entry.LogEntry.{LogEntry}
 use Rattle.clfs_disk.specs.Files.{Files}
-use Rattle.clfs_container.specs.OpenBlocks.{AreWhole}
 use Rattle.clfs_block.specs.Judging.{AreReadAsWritten}
 use Rattle.clfs_base.specs.declared.image.BaseImage.{BaseImage}
 use Rattle.clfs_base.specs.declared.image.Row.{Row}
 use Rattle.clfs_base.specs.Layout.{version_one, row_place}
 use Rattle.clfs_base.specs.Spelling.{row_in}
 use Rattle.clfs_base.specs.Checks.{told}
-use Rattle.clfs_base.specs.Slots.{newest_of}
-use Rattle.clfs_recover.specs.Walk.{Container, shape_of, last_end, bases_with, high_row, is_wrong_tail, image_fault, parts_with}
-use Rattle.clfs_recover.specs.Files.{Finds, state_of, StandsFor}
-use Rattle.clfs_recover.specs.Stored.{HaveBlocks, HasLog, stored_records, stored_end, stored_place, stored_parts}
+use Rattle.clfs_recover.specs.Walk.{Container, shape_of, last_end, high_row, is_wrong_tail, image_fault, parts_with}
+use Rattle.clfs_recover.specs.Files.{Finds, StandsFor}
+use Rattle.clfs_recover.specs.Stored.{HaveBlocks, HasLog, stored_records, stored_end, stored_parts}
 use Rattle.clfs_recover.specs.Logs.{IsLogWith, IsStoredIn, FitsUpTo, stored_state}
 use Rattle.clfs_recover.specs.declared.parts.Parts.{Parts}
 use Rattle.clfs_recover.proofs.CleanEnds.{open_in, listed_whole, listed_by_file, each_whole, blocks_within}

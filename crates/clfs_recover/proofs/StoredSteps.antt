@@ -1,9 +1,10 @@
 -- A log with a group of blocks more, and with a container more.
-use Rattle.std.proofs.Common.{◌≡◌, ◌≢◌, ℕ, zero, suc, ◌+◌, ◌-◌, ◌*◌, ◌^◌, ◌<◌, ◌≤◌, List, [], ◌∷◌, ◌++◌, length, get_or, take, map}
-use Rattle.std.proofs.Common.{None, Result, Ok, refl, sym, ◌∙◌, ap, subst, arith, length-append}
+use Rattle.std.proofs.Common.{◌≡◌, ◌≢◌, ℕ, suc, ◌+◌, ◌-◌, ◌*◌, ◌<◌, ◌≤◌, cond, eqb, List, [], ◌∷◌, ◌++◌, length, get_or, take, map}
+use Rattle.std.proofs.Common.{None, Ok, refl, sym, ◌∙◌, ap, subst, arith, length-append}
 use Rattle.std.specs.Prelude.{All}
+use Rattle.std.proofs.lemmas.Bool.{eq-eqb, ne_eqb, cond-true, cond-false}
 use Rattle.std.proofs.lemmas.List.{take_more, take_all, take_at, length-take, get_or-take, get_or-map, map-append, length-map}
-use Rattle.std.proofs.lemmas.List.Elements.{All-push, All-from_get_or, All-get_or, All-append, All-take}
+use Rattle.std.proofs.lemmas.List.Elements.{All-push, All-append, All-take}
 use Rattle.clfs_lsn.specs.Place.{frontier}
 use Rattle.clfs_lsn.specs.declared.entry.LogEntry.{LogEntry}
 use Rattle.clfs_lsn.specs.declared.place.Place.{Place}
@@ -13,9 +14,28 @@ use Rattle.clfs_base.specs.Layout.{version_one}
 use Rattle.clfs_base.specs.Spelling.{IsImage}
 use Rattle.clfs_recover.specs.Walk.{shape_of, image_fault}
 use Rattle.clfs_recover.specs.Stored.{stored_in, stored_records, stored_end, stored_place}
-use Rattle.clfs_recover.specs.Logs.{IsLogWith, HaveMore, HaveEmpty, FitsUpTo, file_at_end}
+use Rattle.clfs_recover.specs.Logs.{IsLogWith, HaveMore, HaveEmpty, file_at_end}
 use Rattle.clfs_recover.proofs.ReadStored.{total-append, read_in_last, read_with_empty, end_of_last}
 use Rattle.clfs_recover.proofs.StoredLogs.{fault_fits, fits_right}
+
+-- blocks that are told by a test of the file's number
+pub more_by_file : (image : BaseImage) (more : List (List ℕ)) (old : ℕ → List (List ℕ))
+    → HaveMore image more old (λ (file : ℕ). cond (eqb file (file_at_end image)) (old (file_at_end image) ++ more) (old file))
+more_by_file image more old = record {
+  last = cond-true (eqb (file_at_end image) (file_at_end image)) (old (file_at_end image) ++ more) (old (file_at_end image))
+      (eq-eqb (file_at_end image) (file_at_end image) refl);
+  others = λ file other.
+      cond-false (eqb file (file_at_end image)) (old (file_at_end image) ++ more) (old file) (ne_eqb file (file_at_end image) other);
+}
+
+pub empty_by_file : (image : BaseImage) (file : ℕ) (old : ℕ → List (List ℕ))
+    → ((i : ℕ) → i < length image.files → get_or image.files i 0 ≢ file)
+    → HaveEmpty image file old (λ (other : ℕ). cond (eqb other file) [] (old other))
+empty_by_file image file old unlisted = record {
+  unlisted = unlisted;
+  empty = cond-true (eqb file file) [] (old file) (eq-eqb file file refl);
+  others = λ other apart. cond-false (eqb other file) [] (old other) (ne_eqb other file apart);
+}
 
 -- equal values at each number of a list are equal lists
 pub map_as : {X : Type 0} (f g : ℕ → X) (numbers : List ℕ) → ((i : ℕ) → i < length numbers → f (get_or numbers i 0) ≡ g (get_or numbers i 0))

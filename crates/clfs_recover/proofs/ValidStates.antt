@@ -1,36 +1,30 @@
 -- The state of parts that opening finds is one that a log can have.
-use Rattle.std.proofs.Common.{◌≡◌, ◌⊎◌, inl, inr, ℕ, ◌+◌, ◌-◌, ◌*◌, ◌/◌, ◌%◌, ◌^◌, ◌<◌, ◌≤◌, min, Bool, true, false, cond, eqb, List, [], ◌∷◌, ◌++◌, length, get_or, map}
+use Rattle.std.proofs.Common.{◌≡◌, inl, inr, ℕ, ◌<◌, ◌≤◌, Bool, true, false, cond, eqb, List, [], length, get_or, map}
 use Rattle.std.proofs.Common.{Option, Some, None, refl, sym, ◌∙◌, ap, subst, arith}
 use Rattle.std.specs.Prelude.{All, IfSome}
-use Rattle.std.specs.List.{AllByRecursion, fold, filter, range_with_len}
+use Rattle.std.specs.List.{AllByRecursion, range_with_len}
 use Rattle.std.specs.Option.{option_to_list}
 use Rattle.std.proofs.lemmas.Bool.{cases_Bool, eq-eqb, eqb-true, eqb-false}
-use Rattle.std.proofs.lemmas.List.Elements.{All-from_recursion, recursion_from_All, All-weaker}
-use Rattle.clfs_lsn.specs.Lsn.{lsn_number, container_of, sequence_of}
+use Rattle.std.proofs.lemmas.List.Elements.{All-from_recursion}
+use Rattle.clfs_lsn.specs.Lsn.{lsn_number, sequence_of}
 use Rattle.clfs_lsn.specs.Limits.{most_containers}
-use Rattle.clfs_lsn.specs.Size.{IsShape}
 use Rattle.clfs_lsn.specs.Place.{IsWithin, frontier}
 use Rattle.clfs_lsn.specs.Spelling.{FitsAt}
 use Rattle.clfs_lsn.specs.declared.entry.LogEntry.{LogEntry}
 use Rattle.clfs_lsn.specs.declared.entry.Kind.TheVariants.{Restart}
-use Rattle.clfs_lsn.specs.declared.place.Place.{Place}
 use Rattle.clfs_base.specs.declared.image.BaseImage.{BaseImage}
-use Rattle.clfs_base.specs.declared.image.Row.{Row}
 use Rattle.clfs_base.specs.Layout.{version_one, most_minimum}
-use Rattle.clfs_base.specs.Spelling.{IsImage, IsPolicy, row_in}
+use Rattle.clfs_base.specs.Spelling.{IsImage, IsPolicy}
 use Rattle.clfs_model.specs.declared.state.State.{State}
 use Rattle.clfs_model.specs.declared.state.Stream.{Stream}
-use Rattle.clfs_model.specs.Flush.{flushed}
-use Rattle.clfs_model.specs.Live.{is_live, least_or, live_lsns, hold}
-use Rattle.clfs_model.specs.Valid.{IsValid, HasRanges, HasPolicies, HasTables, HasRecords, HasStable, HasWaiting, HasSpace, IsArea, IsRecord, IsWaiting, open_sequences}
-use Rattle.clfs_recover.specs.Walk.{shape_of, base_with, bases_with}
-use Rattle.clfs_recover.specs.Files.{policy_of, streams_with, state_of}
+use Rattle.clfs_model.specs.Valid.{IsValid, HasRanges, HasPolicies, IsArea, IsRecord, IsWaiting}
+use Rattle.clfs_recover.specs.Walk.{shape_of, base_with}
+use Rattle.clfs_recover.specs.Files.{policy_of, state_of}
 use Rattle.clfs_recover.specs.declared.parts.Parts.{Parts}
-use Rattle.clfs_recover.proofs.LaidBlocks.{FitTheirs}
 use Rattle.clfs_recover.proofs.FoundBases.{base_low, base_to}
-use Rattle.clfs_recover.proofs.FoundParts.{IsTailWithin, AreOpened}
+use Rattle.clfs_recover.proofs.FoundParts.{AreOpened}
 use Rattle.clfs_recover.proofs.FoundRecords.{all_below, all_above, all_rise, none_of_block}
-use Rattle.clfs_recover.proofs.FoundStreams.{length-streams_with, all_streams, different_streams, has_stream}
+use Rattle.clfs_recover.proofs.FoundStreams.{all_streams, different_streams, has_stream}
 use Rattle.clfs_recover.proofs.HoldOrder.{hold_above}
 use Rattle.clfs_recover.proofs.KeptRecords.{from_both}
 use Rattle.clfs_recover.proofs.Raising.{base_at, length-bases_with}

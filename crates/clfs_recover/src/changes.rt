@@ -1,6 +1,6 @@
 // Laws of what a step of writing makes of a log: a group of blocks, a further container, a changed copy. Their functions do nothing; a caller
 // cites their clauses.
-ghost use Rattle.std.specs.Prelude.{◌≡◌, ◌+◌, ◌-◌, ◌*◌, ◌≤◌, max, ℕ, Bool, true, if◌then◌else◌, List, [], ◌∷◌, ◌++◌, length, map, slice_index, All, Some, None, Ok};
+ghost use Rattle.std.specs.Prelude.{◌≡◌, ◌≢◌, ◌==◌, ◌+◌, ◌-◌, ◌*◌, ◌<◌, ◌≤◌, max, ℕ, Bool, true, if◌then◌else◌, List, [], ◌∷◌, ◌++◌, length, map, slice_index, All, Some, None, Ok};
 ghost use Rattle.clfs_lsn.specs.Format.{sector_bytes};
 ghost use Rattle.clfs_lsn.specs.Lsn.{container_of};
 ghost use Rattle.clfs_lsn.specs.Place.{frontier};
@@ -24,6 +24,8 @@ use clfs_record::records_are_read_as_written;
 
 /// A group of blocks that was written behind the last one: its records come behind those of before, and the log goes on behind it.
 pub fn groups_come_behind_the_last_block()
+    ensures by_file { (image : BaseImage) (more : List (List ℕ)) (old : ℕ → List (List ℕ))
+        → HaveMore image more old (λ (file : ℕ). if file == file_at_end image then old (file_at_end image) ++ more else old file) }
     ensures at { (image : BaseImage) (blocks : ℕ → List (List ℕ)) → IsImage version_one image
         → (stored_place image (map blocks image.files)).offset ≡ total (blocks (file_at_end image)) }
     ensures log { (image : BaseImage) (old new : ℕ → List (List ℕ)) (more : List (List ℕ)) (entries others : List LogEntry) → IsImage version_one image
@@ -38,6 +40,9 @@ pub fn groups_come_behind_the_last_block()
 /// A further container that is listed behind the others, and has no blocks: the records are those of before, and the log goes on at its first
 /// byte.
 pub fn further_containers_begin_empty()
+    ensures by_file { (image : BaseImage) (file : ℕ) (old : ℕ → List (List ℕ))
+        → ((i : ℕ) → i < length image.files → slice_index image.files i ≢ file)
+        → HaveEmpty image file old (λ (other : ℕ). if other == file then [] else old other) }
     ensures log { (image : BaseImage) (file : ℕ) (old new : ℕ → List (List ℕ)) (entries : List LogEntry) → IsImage version_one image
         → HaveEmpty image file old new → IsLogWith image (map old image.files) entries
         → IsLogWith (record image { files = image.files ++ file ∷ [] }) (map new (image.files ++ file ∷ [])) entries }
@@ -65,7 +70,8 @@ pub fn streams_come_last()
         → IsLogWith image blocks entries
         → stored_state (record image { streams = image.streams ++ row ∷ [] }) blocks entries buffers
         ≡ record (stored_state image blocks entries buffers) {
-            streams = (stored_state image blocks entries buffers).streams ++ record { name = row.name; base = row.base } ∷ []; } }
+          streams = (stored_state image blocks entries buffers).streams ++ record { name = row.name; base = row.base } ∷ [];
+        } }
 {
     blocks_are_read_as_written();
     records_are_read_as_written();
@@ -75,14 +81,33 @@ pub fn streams_come_last()
 pub fn settings_leave_the_records()
     ensures log { (image : BaseImage) (blocks : List (List (List ℕ))) (entries : List LogEntry) (turn containers files_made maximum minimum growth : ℕ)
         (automatic : Bool) → IsLogWith image blocks entries
-        → IsLogWith (record image { turn = turn; containers = containers; files_made = files_made; automatic = automatic; maximum = maximum;
-            minimum = minimum; growth = growth; }) blocks entries }
+        → IsLogWith (record image {
+          turn = turn;
+          containers = containers;
+          files_made = files_made;
+          automatic = automatic;
+          maximum = maximum;
+          minimum = minimum;
+          growth = growth;
+        }) blocks entries }
     ensures state { (image : BaseImage) (blocks : List (List (List ℕ))) (entries : List LogEntry)
         (buffers turn containers files_made maximum minimum growth : ℕ) (automatic : Bool)
-        → stored_state (record image { turn = turn; containers = containers; files_made = files_made; automatic = automatic; maximum = maximum;
-            minimum = minimum; growth = growth; }) blocks entries buffers
-        ≡ record (stored_state image blocks entries buffers) { containers = containers; automatic = automatic; maximum = policy_of maximum;
-            minimum = policy_of minimum; growth = policy_of growth; } }
+        → stored_state (record image {
+          turn = turn;
+          containers = containers;
+          files_made = files_made;
+          automatic = automatic;
+          maximum = maximum;
+          minimum = minimum;
+          growth = growth;
+        }) blocks entries buffers
+        ≡ record (stored_state image blocks entries buffers) {
+          containers = containers;
+          automatic = automatic;
+          maximum = policy_of maximum;
+          minimum = policy_of minimum;
+          growth = policy_of growth;
+        } }
     ensures archived { (image : BaseImage) (blocks : List (List (List ℕ))) (entries : List LogEntry) (archiving : Bool) (tail : ℕ)
         → (archiving ≡ true → (tail ≤ frontier (stored_place image blocks)) × (image.first ≤ container_of tail))
         → IsLogWith image blocks entries → IsLogWith (record image { archiving = archiving; tail = tail }) blocks entries }
@@ -119,7 +144,7 @@ pub fn low_containers_are_left_out()
         → IsLogWith image (map blocks image.files) entries → image.first ≤ first
         → first ≤ container_of (hold (stored_state image (map blocks image.files) entries buffers))
         → IsSame (stored_state image (map blocks image.files) entries buffers)
-            (stored_state (from_container first image) (map blocks (from_container first image).files) (records_from_container first entries) buffers) }
+        (stored_state (from_container first image) (map blocks (from_container first image).files) (records_from_container first entries) buffers) }
 {
     blocks_are_read_as_written();
     records_are_read_as_written();

@@ -40,7 +40,7 @@ pub use opened::{
 pub use opening::{Walked, load, load_heads, walk};
 pub use parts::{Bases, Entries, HeadParts, Heads, Parts};
 pub use refusal::LoadRefusal;
-pub use rows::walks_of_a_small_log;
+pub use rows::{changes_of_a_small_log, walks_of_a_small_log};
 pub use stored::{blocks_are_read_in_order, copies_without_fault_fit, logs_are_copies_and_blocks};
 
 #[cfg(test)]
