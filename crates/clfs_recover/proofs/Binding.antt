@@ -1,6 +1,15 @@
 -- Answers that come of earlier ones.
-use Rattle.std.proofs.Common.{◌≡◌, Option, Some, None, Result, Ok, Err, refl, sym, ◌∙◌}
+use Rattle.std.proofs.Common.{◌≡◌, List, Result, Ok, Err, refl, sym, ◌∙◌}
+use Rattle.clfs_lsn.specs.declared.entry.LogEntry.{LogEntry}
 use Rattle.clfs_recover.specs.Records.{◌>>=◌, told_as}
+use Rattle.clfs_recover.specs.declared.refusal.LoadRefusal.{LoadRefusal}
+
+-- what is read of a container, and an answer that these records are read
+abbrev pub Records : Type 0
+Records = Result (List LogEntry) LoadRefusal
+
+abbrev pub read : List LogEntry → Records
+read entries = Ok entries
 
 -- where a later answer is a value, the earlier one was
 pub record IsBound {A B E : Type 0} (r : Result A E) (next : A → Result B E) (value : B) : Type 0 where

@@ -39,7 +39,7 @@ walk_refused slot image listed NoMemory is = tt
 -- ---- open blocks
 
 -- bytes have a list of open blocks
-open_exist : (fuel left : ℕ) (bytes : List ℕ) → left ≤ fuel → (blocks : List (List ℕ)) × AreOpen left bytes blocks
+pub open_exist : (fuel left : ℕ) (bytes : List ℕ) → left ≤ fuel → (blocks : List (List ℕ)) × AreOpen left bytes blocks
 open_exist zero left bytes le = ([], (left, refl, inl (omega (arith, le))))
 open_exist (suc fuel) left bytes le =
     ⊎_elim (λ (none : left ≡ 0). ends (inl none))

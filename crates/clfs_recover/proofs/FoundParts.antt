@@ -1,10 +1,10 @@
 -- What is known of the parts that opening finds: the newest copy is one that a log can have, the records lie in blocks up to the place, and the
 -- copy's bases and its tail fit them.
-use Rattle.std.proofs.Common.{◌≡◌, ◌⊎◌, inl, inr, ℕ, suc, ◌+◌, ◌-◌, ◌*◌, ◌^◌, ◌<◌, ◌≤◌, Bool, true, false, cond, ltb, ◌&&◌, ◌||◌, List, [], ◌∷◌, length, Option, Some, None, Result, Ok, Err}
+use Rattle.std.proofs.Common.{◌≡◌, ℕ, ◌+◌, ◌-◌, ◌*◌, ◌%◌, ◌^◌, ◌<◌, ◌≤◌, Bool, true, false, cond, eqb, ltb, ◌&&◌, ◌||◌, List, [], ◌∷◌, length, Option, Some, None, Result, Ok, Err}
 use Rattle.std.proofs.Common.{refl, sym, ◌∙◌, ap, subst, arith}
-use Rattle.std.specs.List.{position, position_or_len}
+use Rattle.std.specs.List.{position}
 use Rattle.std.specs.Option.{option_map, option_or}
-use Rattle.std.proofs.lemmas.Bool.{ltb-false, or_parts}
+use Rattle.std.proofs.lemmas.Bool.{ltb-false, or_parts, cond_both}
 use Rattle.std.proofs.lemmas.List.Sums.{fails_before_first}
 use Rattle.clfs_lsn.specs.Lsn.{lsn_number, container_of}
 use Rattle.clfs_lsn.specs.Size.{IsShape}
@@ -14,19 +14,19 @@ use Rattle.clfs_lsn.specs.declared.entry.LogEntry.{LogEntry}
 use Rattle.clfs_lsn.specs.declared.place.Place.{Place}
 use Rattle.clfs_lsn.specs.declared.shape.Shape.{Shape}
 use Rattle.clfs_disk.specs.Files.{Files}
-use Rattle.clfs_container.specs.OpenBlocks.{total}
 use Rattle.clfs_block.specs.Judging.{AreReadAsWritten}
 use Rattle.clfs_base.specs.declared.image.BaseImage.{BaseImage}
 use Rattle.clfs_base.specs.declared.image.Row.{Row}
+use Rattle.clfs_base.specs.declared.newest.Front.{Front}
 use Rattle.clfs_base.specs.declared.refusal.NewestRefusal.{NewestRefusal}
+use Rattle.clfs_base.specs.declared.refusal.NewestRefusal.TheVariants.{NoBase, BadByte}
 use Rattle.clfs_base.specs.Layout.{version_one, row_place}
 use Rattle.clfs_base.specs.Spelling.{IsImage, row_in}
 use Rattle.clfs_base.specs.Checks.{told, image_at}
-use Rattle.clfs_base.specs.Slots.{slot_of, used_slot, copy_in, copy_of, newest_of}
+use Rattle.clfs_base.specs.Slots.{slot_of, newer_slot, front_of, slot_by, used_slot, copy_in, copy_of, newest_of}
 use Rattle.clfs_model.specs.Storable.{before_all}
-use Rattle.clfs_recover.specs.Records.{◌>>=◌}
-use Rattle.clfs_recover.specs.Walk.{Container, shape_of, listed_records, last_end, place_behind, bases_with, high_row, is_wrong_tail, image_fault, slot_offset, parts_with, walked}
-use Rattle.clfs_recover.specs.Files.{AreListed, without_copy, FindsBehind, Finds}
+use Rattle.clfs_recover.specs.Walk.{Container, shape_of, listed_records, last_end, place_behind, bases_with, high_row, is_wrong_tail, image_fault, slot_offset, parts_with}
+use Rattle.clfs_recover.specs.Files.{AreListed, FindsBehind, Finds}
 use Rattle.clfs_recover.specs.declared.parts.Parts.{Parts}
 use Rattle.clfs_recover.specs.declared.refusal.LoadRefusal.{LoadRefusal}
 use Rattle.clfs_recover.specs.declared.refusal.LoadRefusal.TheVariants.{Damaged}
@@ -48,6 +48,39 @@ IsReadFrom image = (bytes : List ℕ) × (image_at version_one bytes ≡ Ok imag
 abbrev copied : ℕ × BaseImage → Copy
 copied copy = Ok copy
 
+-- the slot that counts is one of the two
+abbrev IsSlot : Result ℕ NewestRefusal → Type 0
+IsSlot (Ok slot) = slot ≤ 1
+IsSlot (Err refusal) = Unit {0}
+
+newer_is_slot : (first second : ℕ) → IsSlot (newer_slot first second)
+newer_is_slot first second = cond_both (eqb first second) (Err (BadByte 1 2)) (cond (eqb second ((first + 1) % 3)) (Ok 1) (Ok 0)) IsSlot (λ same. tt)
+    (λ other. cond_both (eqb second ((first + 1) % 3)) (Ok 1) (Ok 0) IsSlot (λ newer. omega arith) (λ older. omega arith))
+
+used_is_slot : (first second : Front) → IsSlot (slot_by first second)
+used_is_slot first second =
+    let newer : Result ℕ NewestRefusal = newer_slot first.turn second.turn in
+    let later : Result ℕ NewestRefusal = cond second.is_wrong_turn (Err (BadByte 1 2)) newer in
+    let only : Result ℕ NewestRefusal = cond second.is_open (Ok 1) (Err NoBase) in
+    cond_both (first.is_open && second.is_open) (cond first.is_wrong_turn (Err (BadByte 0 2)) later) (cond first.is_open (Ok 0) only) IsSlot
+    (λ both. cond_both first.is_wrong_turn (Err (BadByte 0 2)) later IsSlot (λ wrong. tt)
+    (λ right. cond_both second.is_wrong_turn (Err (BadByte 1 2)) newer IsSlot (λ wrong. tt) (λ turns. newer_is_slot first.turn second.turn)))
+    (λ one. cond_both first.is_open (Ok 0) only IsSlot (λ here. omega arith)
+    (λ closed. cond_both second.is_open (Ok 1) (Err NoBase) IsSlot (λ there. omega arith) (λ none. tt)))
+
+newest_slot : (base : List ℕ) (slot : ℕ) (image : BaseImage) → newest_of base ≡ Ok (slot, image) → slot ≤ 1
+newest_slot base slot image is = by_slot (used_slot base) (used_is_slot (front_of base 0) (front_of base 1)) is
+  where
+    by_image : (k : ℕ) (r : Result BaseImage ℕ) → k ≤ 1 → copy_in k r ≡ Ok (slot, image) → slot ≤ 1
+    by_image k (Ok found) small is =
+        let same : k ≡ slot = ap (λ (copy : ℕ × BaseImage). copy.0) (one_value (copied (k, found)) (k, found) (slot, image) refl is) in
+        omega (arith, same, small)
+    by_image k (Err at) small is = absurd (cc is)
+
+    by_slot : (r : Result ℕ NewestRefusal) → IsSlot r → copy_of base r ≡ Ok (slot, image) → slot ≤ 1
+    by_slot (Ok k) small is = by_image k (image_at version_one (slot_of base k)) small is
+    by_slot (Err refusal) small is = absurd (cc is)
+
 newest_read : (base : List ℕ) (slot : ℕ) (image : BaseImage) → newest_of base ≡ Ok (slot, image) → IsReadFrom image
 newest_read base slot image is = by_slot (used_slot base) is
   where
@@ -63,7 +96,7 @@ newest_read base slot image is = by_slot (used_slot base) is
 
 -- ---- what of a copy fits the records
 
-both_none : (one other : Option ℕ) → option_or one other ≡ None → (one ≡ None) × (other ≡ None)
+pub both_none : (one other : Option ℕ) → option_or one other ≡ None → (one ≡ None) × (other ≡ None)
 both_none None other is = (refl, is)
 both_none (Some at) other is = absurd (cc is)
 
@@ -79,7 +112,7 @@ not_found false at is = refl
 abbrev pub AreRowsBelow : List Row → ℕ → Type 0
 AreRowsBelow rows lsn = (i : ℕ) → i < length rows → (row_in rows i).base ≤ lsn
 
-rows_below : (rows : List Row) (lsn : ℕ) → high_row rows lsn ≡ None → AreRowsBelow rows lsn
+pub rows_below : (rows : List Row) (lsn : ℕ) → high_row rows lsn ≡ None → AreRowsBelow rows lsn
 rows_below rows lsn none i lt =
     let p : Row → Bool = λ row. ltb lsn row.base in
     let far = ltb-false _ _ (not_found _ _ (mapped_none (λ i. row_place version_one i + 8) (position p rows) none)) in
@@ -89,7 +122,7 @@ rows_below rows lsn none i lt =
 abbrev pub IsTailWithin : BaseImage → ℕ → Type 0
 IsTailWithin image lsn = image.archiving ≡ true → (image.tail ≤ lsn) × (image.first ≤ container_of image.tail)
 
-tail_within : (image : BaseImage) (lsn : ℕ) → told (is_wrong_tail image lsn) 32 ≡ None → IsTailWithin image lsn
+pub tail_within : (image : BaseImage) (lsn : ℕ) → told (is_wrong_tail image lsn) 32 ≡ None → IsTailWithin image lsn
 tail_within image lsn none on =
     let tests : Bool = ltb lsn image.tail || ltb (container_of image.tail) image.first in
     let fails : tests ≡ false = ap (λ b. b && tests) (sym on) ∙ not_found (is_wrong_tail image lsn) 32 none in
@@ -140,6 +173,17 @@ pub record AreOpened (parts : Parts) : Type 0 where
   pub bases_are : parts.bases ≡ bases_with parts.image.streams parts.entries
   pub container_is : parts.place.container + 1 ≡ parts.image.first + length parts.image.files
   pub closed : IsClosed parts.place
+  pub right : image_fault parts.image (frontier parts.place) ≡ None
+
+-- what is known of files in which opening finds these parts
+pub record IsFoundIn (files : Files) (parts : Parts) : Type 0 where
+  pub newest : newest_of (files 0) ≡ Ok (parts.slot, parts.image)
+  pub slot : parts.slot ≤ 1
+  pub opened : AreOpened parts
+  pub listed : List Container
+  pub are : AreListed parts.image.container_sectors files parts.image.files listed
+  pub read : listed_records (shape_of parts.image) (length parts.image.streams) parts.image.first listed ≡ Ok parts.entries
+  pub is : parts ≡ parts_with parts.slot parts.image listed parts.entries
 
 abbrev found_is : Parts → Result Parts LoadRefusal
 found_is parts = Ok parts
@@ -165,12 +209,13 @@ module _ (images : AreImagesRead) (written : AreReadAsWritten) (reads : ReadsFit
         bases_are = refl;
         container_is = omega (arith, good.first, good.some_listed);
         closed = (refl, refl);
+        right = right;
       }
 
-  pub found_opened : (files : Files) (parts : Parts) → Finds files (Ok parts) → AreOpened parts
-  found_opened files parts found = by_copy (newest_of (files 0)) refl found
+  pub found_in : (files : Files) (parts : Parts) → Finds files (Ok parts) → IsFoundIn files parts
+  found_in files parts found = by_copy (newest_of (files 0)) refl found
     where
-      by_copy : (r : Copy) → newest_of (files 0) ≡ r → FindsBehind files (Ok parts) r → AreOpened parts
+      by_copy : (r : Copy) → newest_of (files 0) ≡ r → FindsBehind files (Ok parts) r → IsFoundIn files parts
       by_copy (Err refusal) e found = absurd (cc found)
       by_copy (Ok (slot, image)) e found =
           let listed : List Container = found.0 in
@@ -179,5 +224,16 @@ module _ (images : AreImagesRead) (written : AreReadAsWritten) (reads : ReadsFit
           parts (sym found.2) in
           let right = unless_ok (λ at. Damaged 0 (slot_offset slot) at) (image_fault image (frontier (place_behind image listed)))
           (Ok (parts_with slot image listed all.first)) parts all.then in
-          subst AreOpened (one_value (found_is (parts_with slot image listed all.first)) (parts_with slot image listed all.first) parts refl right.1)
-          (walked_opened files slot image listed all.first (newest_read (files 0) slot image e) found.1 all.is right.0)
+          subst (IsFoundIn files) (one_value (found_is (parts_with slot image listed all.first)) (parts_with slot image listed all.first) parts refl right.1)
+          (record {
+            newest = e;
+            slot = newest_slot (files 0) slot image e;
+            opened = walked_opened files slot image listed all.first (newest_read (files 0) slot image e) found.1 all.is right.0;
+            listed = listed;
+            are = found.1;
+            read = all.is;
+            is = refl;
+          })
+
+  pub found_opened : (files : Files) (parts : Parts) → Finds files (Ok parts) → AreOpened parts
+  found_opened files parts found = (found_in files parts found).opened

@@ -1,12 +1,17 @@
 -- What follows of records whose LSNs rise from one on and stay below another.
-use Rattle.std.proofs.Common.{◌≡◌, inl, inr, ℕ, zero, suc, ◌+◌, ◌*◌, ◌/◌, ◌%◌, ◌^◌, ◌<◌, ◌≤◌, Bool, true, false, ◌&&◌, eqb, ltb, List, [], ◌∷◌, length, get_or, map}
-use Rattle.std.proofs.Common.{refl, sym, ◌∙◌, ap, subst, arith}
+use Rattle.std.proofs.Common.{◌≡◌, ◌⊎◌, inl, inr, ⊎_elim, ℕ, zero, suc, ◌+◌, ◌-◌, ◌%◌, ◌^◌, ◌<◌, ◌≤◌, Bool, ◌&&◌, eqb, List, [], ◌∷◌, length, map}
+use Rattle.std.proofs.Common.{refl, ◌∙◌, ap, subst, arith}
 use Rattle.std.specs.Prelude.{slice_index}
 use Rattle.std.specs.List.{AllByRecursion, filter}
 use Rattle.std.specs.List.Sorted.{IsStrictlyIncreasing}
-use Rattle.std.proofs.lemmas.Bool.{cases_Bool, eqb-true, and_parts, lt-ltb}
-use Rattle.clfs_lsn.specs.Lsn.{lsn_number, container_of, offset_of}
+use Rattle.std.proofs.lemmas.Bool.{cases_Bool, eqb-true, eqb-false, and_parts}
+use Rattle.clfs_lsn.specs.Lsn.{lsn_number, container_of, offset_of, sequence_of}
+use Rattle.clfs_lsn.specs.Size.{size}
+use Rattle.clfs_lsn.specs.Place.{frontier}
 use Rattle.clfs_lsn.specs.declared.entry.LogEntry.{LogEntry}
+use Rattle.clfs_lsn.specs.declared.place.Place.{Place}
+use Rattle.clfs_lsn.specs.declared.shape.Shape.{Shape}
+use Rattle.clfs_model.specs.Storable.{before_all, behind, LiesBehind, LieInBlocks}
 use Rattle.clfs_recover.proofs.LaidBlocks.{RiseWithin}
 
 -- the lower LSN is at most the higher one
@@ -55,14 +60,55 @@ none_of_block container offset (entry ∷ entries) whole low all = elim (cases_B
   | inr outside ↦ rw outside (none_of_block container offset entries whole low all.1)
 ]
 
--- all stay where those below an LSN are kept
-pub all_kept : (bound : ℕ) (entries : List LogEntry) → AllByRecursion (λ (entry : LogEntry). entry.lsn < bound) entries
-    → filter (λ (entry : LogEntry). ltb entry.lsn bound) entries ≡ entries
-all_kept bound [] all = refl
-all_kept bound (entry ∷ entries) all = rw (lt-ltb entry.lsn bound all.0) (ap (λ (es : List LogEntry). entry ∷ es) (all_kept bound entries all.1))
+-- ---- sequences
 
--- what is so of each record by two facts
-pub from_both : (P Q R : LogEntry → Type 0) (entries : List LogEntry) → ((entry : LogEntry) → P entry → Q entry → R entry)
-    → AllByRecursion P entries → AllByRecursion Q entries → AllByRecursion R entries
-from_both P Q R [] both first second = tt
-from_both P Q R (entry ∷ entries) both first second = (both entry first.0 second.0, from_both P Q R entries both first.1 second.1)
+-- behind a record the next one of its block has the LSN next to its own
+next_lsn : (place : Place) (entry : LogEntry) → LiesBehind place entry → frontier (behind place entry) ≡ entry.lsn + 1
+next_lsn place entry lies = elim (cases_Bool (eqb (sequence_of entry.lsn) 0)) [
+  | inl first ↦ rw first (let none = eqb-true (sequence_of entry.lsn) 0 first in omega (arith, none))
+  | inr other ↦ rw other (by_case (eqb-false (sequence_of entry.lsn) 0 other) lies)
+]
+  where
+    by_case : (sequence_of entry.lsn ≡ 0 → ⊥) → LiesBehind place entry
+        → frontier (record place { used = place.used + size (length entry.bytes); records = place.records + 1 }) ≡ entry.lsn + 1
+    by_case other (inl joins) = let at = joins.1 in omega (arith, at)
+    by_case other (inr (inl begins)) = absurd (other (omega (arith, begins)))
+    by_case other (inr (inr further)) = absurd (other (let at = further.1 in omega (arith, at)))
+
+-- the LSNs of records
+abbrev pub lsns_of : List LogEntry → List ℕ
+lsns_of entries = map (λ (entry : LogEntry). entry.lsn) entries
+
+-- each record but the first begins a block, or has the LSN next to that of the one before it
+numbered : (shape : Shape) (place : Place) (entries : List LogEntry) (i : ℕ) → LieInBlocks shape place entries → suc i < length entries
+    → (sequence_of (slice_index (lsns_of entries) (suc i)) ≡ 0) ⊎ (slice_index (lsns_of entries) (suc i) ≡ slice_index (lsns_of entries) i + 1)
+numbered shape place [] i laid within = absurd (omega (arith, within))
+numbered shape place (entry ∷ []) i laid within = absurd (omega (arith, within))
+numbered shape place (entry ∷ next ∷ entries) zero laid within = by_case laid.1.1.0
+  where
+    by_case : LiesBehind (behind place entry) next → (sequence_of next.lsn ≡ 0) ⊎ (next.lsn ≡ entry.lsn + 1)
+    by_case (inl joins) = inr (joins.1 ∙ next_lsn place entry laid.0)
+    by_case (inr (inl begins)) = inl (omega (arith, begins))
+    by_case (inr (inr further)) = inl (let at = further.1 in omega (arith, at))
+numbered shape place (entry ∷ next ∷ entries) (suc i) laid within =
+    numbered shape (behind place entry) (next ∷ entries) i laid.1.1 (omega (arith, within))
+
+-- and the first begins one
+first_begins : (shape : Shape) (entries : List LogEntry) → LieInBlocks shape before_all entries → 0 < length entries
+    → sequence_of (slice_index (lsns_of entries) 0) ≡ 0
+first_begins shape [] laid some = absurd (omega (arith, some))
+first_begins shape (entry ∷ entries) laid some = by_case laid.0
+  where
+    by_case : LiesBehind before_all entry → sequence_of entry.lsn ≡ 0
+    by_case (inl joins) = absurd (let none = joins.0 in omega (arith, none))
+    by_case (inr (inl begins)) = omega (arith, begins)
+    by_case (inr (inr further)) = let at = further.1 in omega (arith, at)
+
+-- in a block sequences are 0, 1 and so on
+pub sequences : (shape : Shape) (entries : List LogEntry) (i : ℕ) → LieInBlocks shape before_all entries → i < length entries
+    → (sequence_of (slice_index (lsns_of entries) i) ≡ 0)
+    ⊎ ((1 ≤ i) × (slice_index (lsns_of entries) i ≡ slice_index (lsns_of entries) (i - 1) + 1))
+sequences shape entries zero laid within = inl (first_begins shape entries laid within)
+sequences shape entries (suc i) laid within = ⊎_elim (λ first. inl first) (λ (next : slice_index (lsns_of entries) (suc i) ≡ slice_index (lsns_of entries) i + 1).
+    inr (omega arith, next ∙ (let at : i ≡ suc i - 1 = omega arith in ap (λ (k : ℕ). slice_index (lsns_of entries) k + 1) at)))
+    (numbered shape before_all entries i laid within)

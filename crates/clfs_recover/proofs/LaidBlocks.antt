@@ -1,5 +1,5 @@
 -- Records that were read from blocks lie in blocks one behind the other, as those of a state that files hold.
-use Rattle.std.proofs.Common.{◌≡◌, ◌⊎◌, inl, inr, ℕ, ◌+◌, ◌-◌, ◌*◌, ◌/◌, ◌%◌, ◌^◌, ◌<◌, ◌≤◌, List, [], ◌∷◌, ◌++◌, length, refl, sym, ◌∙◌, ap, subst, arith}
+use Rattle.std.proofs.Common.{◌≡◌, ◌⊎◌, inl, inr, ℕ, ◌+◌, ◌*◌, ◌/◌, ◌%◌, ◌<◌, ◌≤◌, List, [], ◌∷◌, ◌++◌, length, refl, sym, ◌∙◌, ap, subst, arith}
 use Rattle.std.specs.List.{AllByRecursion}
 use Rattle.std.proofs.lemmas.Bool.{eq-eqb, ne_eqb}
 use Rattle.clfs_lsn.specs.Lsn.{lsn_number, container_of, offset_of, sequence_of}
@@ -10,7 +10,6 @@ use Rattle.clfs_lsn.specs.declared.entry.LogEntry.{LogEntry}
 use Rattle.clfs_lsn.specs.declared.place.Place.{Place}
 use Rattle.clfs_lsn.specs.declared.shape.Shape.{Shape}
 use Rattle.clfs_container.specs.OpenBlocks.{block_sectors}
-use Rattle.clfs_block.specs.Checks.{left_from}
 use Rattle.clfs_model.specs.Storable.{behind, behind_all, LiesBehind, LieInBlocks}
 use Rattle.clfs_recover.specs.Stored.{FitFrom}
 use Rattle.clfs_recover.proofs.Containers.{left_here}
@@ -68,7 +67,7 @@ laid_both : (shape : Shape) (place : Place) (front rest : List LogEntry) → Lie
 laid_both shape place [] rest laid more = more
 laid_both shape place (entry ∷ entries) rest laid more = (laid.0, (laid.1.0, laid_both shape (behind place entry) entries rest laid.1.1 more))
 
-fit_both : (streams : ℕ) (front rest : List LogEntry) → FitTheirs streams front → FitTheirs streams rest → FitTheirs streams (front ++ rest)
+pub fit_both : (streams : ℕ) (front rest : List LogEntry) → FitTheirs streams front → FitTheirs streams rest → FitTheirs streams (front ++ rest)
 fit_both streams [] rest fit more = more
 fit_both streams (entry ∷ entries) rest fit more = (fit.0, fit_both streams entries rest fit.1 more)
 

@@ -1,5 +1,5 @@
 -- The records that the walk meets in containers lie in blocks one behind the other.
-use Rattle.std.proofs.Common.{◌≡◌, inl, inr, ℕ, suc, ◌+◌, ◌-◌, ◌*◌, ◌/◌, ◌%◌, ◌<◌, ◌≤◌, Bool, true, false, cond, leb, List, [], ◌∷◌, ◌++◌, length, get_or, take, drop, Result, Ok, Err}
+use Rattle.std.proofs.Common.{◌≡◌, inl, inr, ℕ, ◌+◌, ◌-◌, ◌*◌, ◌/◌, ◌%◌, ◌<◌, ◌≤◌, Bool, true, false, cond, leb, List, [], ◌∷◌, ◌++◌, length, take, drop, Result, Ok, Err}
 use Rattle.std.proofs.Common.{refl, sym, ◌∙◌, ap, subst, arith, append_assoc}
 use Rattle.std.proofs.lemmas.List.{append-nil, length-take-le, get_or-take}
 use Rattle.clfs_lsn.specs.Lsn.{lsn_number}
@@ -18,17 +18,10 @@ use Rattle.clfs_model.specs.Storable.{behind_all}
 use Rattle.clfs_recover.specs.Records.{◌>>=◌, told_as, block_records}
 use Rattle.clfs_recover.specs.Walk.{Container, damage_at, end_at, blocks_end, blocks_records, container_records, listed_records, last_end}
 use Rattle.clfs_recover.specs.Files.{AreListed}
-use Rattle.clfs_recover.specs.declared.refusal.LoadRefusal.{LoadRefusal}
-use Rattle.clfs_recover.proofs.Binding.{bound, one_value, told_value}
+use Rattle.clfs_recover.proofs.Binding.{read, bound, one_value, told_value}
 use Rattle.clfs_recover.proofs.Listing.{end_behind, ends_on}
 use Rattle.clfs_recover.proofs.ReadBlocks.{ReadsFit, block_read}
 use Rattle.clfs_recover.proofs.LaidBlocks.{BeginsAt, AreLaid, laid_on, block_laid}
-
-abbrev Records : Type 0
-Records = Result (List LogEntry) LoadRefusal
-
-abbrev read : List LogEntry → Records
-read entries = Ok entries
 
 -- behind the last block nothing is read
 nothing_at : (id offset : ℕ) (r : Result BlockHead BlockRefusal) (entries : List LogEntry) → end_at id offset r ≡ Ok entries → entries ≡ []

@@ -15,6 +15,8 @@ pub mod Binding
 pub mod ReadBlocks
 pub mod LaidBlocks
 pub mod LaidContainers
+pub mod KeptRecords
+pub mod HoldOrder
 pub mod FoundParts
 pub mod FoundBases
 pub mod FoundStreams
@@ -23,3 +25,12 @@ pub mod ValidStates
 pub mod StorableStates
 pub mod Laid
 pub mod Counting
+pub mod PartsInOrder
+pub mod CleanEnds
+pub mod StoredLogs
+pub mod ReadStored
+pub mod StoredSteps
+pub mod RowBases
+pub mod StoredRecords
+pub mod ChangedCopies
+pub mod LowContainers

@@ -118,7 +118,7 @@ module _ (shape : Shape) (streams : ℕ) where
   abbrev nothing : Records
   nothing = Ok []
 
-  end_clean : (id : ℕ) (behind : List ℕ) (size rest : ℕ) → 512 * shape.container_sectors ≡ 512 * rest + size → EndsCleanly rest behind
+  pub end_clean : (id : ℕ) (behind : List ℕ) (size rest : ℕ) → 512 * shape.container_sectors ≡ 512 * rest + size → EndsCleanly rest behind
       → blocks_end shape id behind size ≡ nothing
   end_clean id behind size rest sum ends =
       ⊎_elim (λ (none : rest ≡ 0). full (omega (arith, none, sum)))
@@ -130,7 +130,7 @@ module _ (shape : Shape) (streams : ℕ) where
       full : shape.container_sectors ≤ size / 512 → blocks_end shape id behind size ≡ nothing
       full le = ap (λ b. cond b nothing (end_at id size (frame_at shape (lsn_number id size 0) behind))) (le-leb shape.container_sectors (size / 512) le)
 
-  stored_same : (id : ℕ) (behind : List ℕ) (offset : ℕ) (open_blocks : List (List ℕ)) → blocks_end shape id behind (offset + total open_blocks) ≡ nothing
+  pub stored_same : (id : ℕ) (behind : List ℕ) (offset : ℕ) (open_blocks : List (List ℕ)) → blocks_end shape id behind (offset + total open_blocks) ≡ nothing
       → blocks_records shape streams id behind offset open_blocks ≡ stored_in shape streams id offset open_blocks
   stored_same id behind offset [] ends = (let e : offset ≡ offset + 0 = omega arith in ap (blocks_end shape id behind) e) ∙ ends
   stored_same id behind offset (block ∷ others) ends =
@@ -149,13 +149,13 @@ module _ (shape : Shape) (streams : ℕ) where
       (opens_rest shape.container_sectors bytes open_blocks whole.0 whole.1) whole.2)
 
   -- listed containers with these blocks
-  record IsStored (files : Files) (numbers : List ℕ) (stored : List (List (List ℕ))) : Type 0 where
+  pub record IsStored (files : Files) (numbers : List ℕ) (stored : List (List (List ℕ))) : Type 0 where
     listed : List Container
     are : AreListed shape.container_sectors files numbers listed
     blocks_are : map (λ (c : Container). c.blocks) listed ≡ stored
     read : (id : ℕ) → listed_records shape streams id listed ≡ stored_records shape streams id stored
 
-  is_stored : WholeAreOpen → (files : Files) (numbers : List ℕ) (stored : List (List (List ℕ))) → HaveBlocks shape.container_sectors files numbers stored
+  pub is_stored : WholeAreOpen → (files : Files) (numbers : List ℕ) (stored : List (List (List ℕ))) → HaveBlocks shape.container_sectors files numbers stored
       → IsStored files numbers stored
   is_stored open_too files [] [] have = record { listed = []; are = tt; blocks_are = refl; read = λ id. refl }
   is_stored open_too files [] (b ∷ bs) have = absurd have
@@ -172,7 +172,7 @@ module _ (shape : Shape) (streams : ℕ) where
             λ i. one i >>= λ (entries : List LogEntry). (rest i >>= λ (more : List LogEntry). Ok (entries ++ more));
       }
 
-last_end_is : (listed : List Container) → last_end listed ≡ stored_end (map (λ (c : Container). c.blocks) listed)
+pub last_end_is : (listed : List Container) → last_end listed ≡ stored_end (map (λ (c : Container). c.blocks) listed)
 last_end_is [] = refl
 last_end_is (c ∷ []) = refl
 last_end_is (c ∷ d ∷ cs) = last_end_is (d ∷ cs)

@@ -1,6 +1,6 @@
 -- The records that are read from a block: each fits its LSN, and with the header they take the bytes that the block says to use.
-use Rattle.std.proofs.Common.{◌≡◌, ℕ, zero, suc, ◌+◌, ◌-◌, ◌*◌, ◌^◌, ◌<◌, ◌≤◌, Bool, true, false, cond, eqb, List, [], ◌∷◌, ◌++◌, length, drop, Result, Ok, Err}
-use Rattle.std.proofs.Common.{refl, sym, ◌∙◌, ap, subst, arith, length-drop}
+use Rattle.std.proofs.Common.{◌≡◌, ℕ, zero, suc, ◌+◌, ◌^◌, ◌<◌, ◌≤◌, Bool, true, false, cond, eqb, List, [], ◌∷◌, length, drop, Result, Ok, Err}
+use Rattle.std.proofs.Common.{refl, ◌∙◌, ap, subst, arith, length-drop}
 use Rattle.std.proofs.lemmas.Bool.{eqb-true}
 use Rattle.std.proofs.lemmas.List.FromFn.{length-map-range_with_len}
 use Rattle.std.specs.Prelude.{slice_index}
@@ -81,6 +81,7 @@ pub record HasRead (shape : Shape) (streams start : ℕ) (entries : List LogEntr
   pub sectors_are : sectors (16 + taken_bytes entries) ≡ block_sectors block
   pub largest : block_sectors block ≤ shape.block_sectors
   pub left : block_sectors block ≤ left_from shape start
+  pub long : 512 ≤ length block
 
 pub block_read : AreReadAsWritten → ReadsFit → (shape : Shape) → shape.block_sectors ≤ 128 → (streams start : ℕ) (entries : List LogEntry) (block : List ℕ)
     → block_records shape streams start block ≡ Ok entries → HasRead shape streams start entries block
@@ -108,4 +109,5 @@ block_read written reads shape small streams start entries block is =
       sectors_are = ap sectors all ∙ frame.used ∙ said;
       largest = omega (arith, frame.largest, said);
       left = omega (arith, frame.left, said);
+      long = omega (arith, frame.whole, frame.some);
     })

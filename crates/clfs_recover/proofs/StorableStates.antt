@@ -1,12 +1,11 @@
 -- The state of parts that opening finds is one that files can hold, and its own flushed part.
-use Rattle.std.proofs.Common.{◌≡◌, ◌⊎◌, inl, inr, ℕ, ◌+◌, ◌-◌, ◌*◌, ◌/◌, ◌%◌, ◌^◌, ◌<◌, ◌≤◌, List, [], ◌∷◌, length, get_or, None, refl, sym, ◌∙◌, ap, subst, arith}
-use Rattle.std.specs.Prelude.{All}
+use Rattle.std.proofs.Common.{◌≡◌, inl, inr, ℕ, ◌-◌, ◌<◌, ◌≤◌, true, ltb, [], length, None, refl, sym, subst, arith}
+use Rattle.std.proofs.lemmas.Bool.{lt-ltb}
 use Rattle.std.proofs.lemmas.List.Elements.{All-from_recursion, recursion_from_All}
-use Rattle.clfs_lsn.specs.Lsn.{lsn_number, container_of, offset_of}
-use Rattle.clfs_lsn.specs.Place.{block_end, frontier}
+use Rattle.clfs_lsn.specs.Lsn.{container_of, offset_of}
+use Rattle.clfs_lsn.specs.Place.{frontier}
 use Rattle.clfs_lsn.specs.Spelling.{FitsAt}
 use Rattle.clfs_lsn.specs.declared.entry.LogEntry.{LogEntry}
-use Rattle.clfs_lsn.specs.declared.place.Place.{Place}
 use Rattle.clfs_disk.specs.Files.{Files}
 use Rattle.clfs_block.specs.Judging.{AreReadAsWritten}
 use Rattle.clfs_base.specs.declared.image.BaseImage.{BaseImage}
@@ -17,12 +16,12 @@ use Rattle.clfs_model.specs.Refusals.{name_fault}
 use Rattle.clfs_model.specs.Storable.{before_all, behind_all, GoesOnAt, HasMovedBase, IsAreaWithinLimits, IsStorable}
 use Rattle.clfs_model.specs.Valid.{IsValid}
 use Rattle.clfs_recover.specs.Walk.{base_with}
-use Rattle.clfs_recover.specs.Files.{streams_with, state_of, StandsFor}
+use Rattle.clfs_recover.specs.Files.{state_of, StandsFor}
 use Rattle.clfs_recover.specs.declared.parts.Parts.{Parts}
 use Rattle.clfs_recover.proofs.FoundBases.{base_from_records}
 use Rattle.clfs_recover.proofs.FoundParts.{AreImagesRead, AreOpened, found_opened}
-use Rattle.clfs_recover.proofs.FoundRecords.{all_kept, from_both}
 use Rattle.clfs_recover.proofs.FoundStreams.{length-streams_with, all_streams, legal_name, base_there}
+use Rattle.clfs_recover.proofs.KeptRecords.{weaker, from_both, kept_all}
 use Rattle.clfs_recover.proofs.LaidBlocks.{BeginsAt}
 use Rattle.clfs_recover.proofs.ReadBlocks.{ReadsFit}
 use Rattle.clfs_recover.proofs.ValidStates.{frontier_is, below, same_length, base_is, valid}
@@ -45,7 +44,7 @@ module _ (parts : Parts) (buffers : ℕ) (is : AreOpened parts) where
         omega (arith, at, base, further);
   }
 
-  goes_on : BeginsAt (behind_all before_all parts.entries) parts.place.container parts.place.offset → GoesOnAt (behind_all before_all parts.entries) parts.place
+  pub goes_on : BeginsAt (behind_all before_all parts.entries) parts.place.container parts.place.offset → GoesOnAt (behind_all before_all parts.entries) parts.place
   goes_on (inl here) = inr (inl (λ i. record { container = sym here.0 i; offset = here.1 i; used = is.closed.0 i; records = is.closed.1 i }))
   goes_on (inr further) =
       inr (inr (further.0, λ i. record { container = parts.place.container; offset = further.1 i; used = is.closed.0 i; records = is.closed.1 i }))
@@ -80,7 +79,9 @@ module _ (parts : Parts) (buffers : ℕ) (is : AreOpened parts) where
       let low : parts.place.offset ≤ 8388608 = omega (arith, is.laid.within, is.image_is.shape.largest_container) in
       let container : container_of (flushed s) ≡ parts.place.container = omega (arith, low) in
       let offset : offset_of (flushed s) ≡ parts.place.offset = omega (arith, low, is.laid.whole) in
-      let kept = all_kept (flushed s) parts.entries (below parts buffers is) in
+      let kept = kept_all (λ (entry : LogEntry). ltb entry.lsn (flushed s)) parts.entries
+      (weaker (λ (entry : LogEntry). entry.lsn < flushed s) (λ (entry : LogEntry). ltb entry.lsn (flushed s) ≡ true) parts.entries
+      (λ entry low. lt-ltb entry.lsn (flushed s) low) (below parts buffers is)) in
       λ i. record s {
         records = kept i;
         place = record { container = container i; offset = offset i; used = sym is.closed.0 i; records = sym is.closed.1 i };

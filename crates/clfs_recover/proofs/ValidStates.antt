@@ -1,36 +1,32 @@
 -- The state of parts that opening finds is one that a log can have.
-use Rattle.std.proofs.Common.{◌≡◌, ◌⊎◌, inl, inr, ℕ, ◌+◌, ◌-◌, ◌*◌, ◌/◌, ◌%◌, ◌^◌, ◌<◌, ◌≤◌, min, Bool, true, false, cond, eqb, List, [], ◌∷◌, ◌++◌, length, get_or, map}
+use Rattle.std.proofs.Common.{◌≡◌, inl, inr, ℕ, ◌<◌, ◌≤◌, Bool, true, false, cond, eqb, List, [], length, get_or, map}
 use Rattle.std.proofs.Common.{Option, Some, None, refl, sym, ◌∙◌, ap, subst, arith}
 use Rattle.std.specs.Prelude.{All, IfSome}
-use Rattle.std.specs.List.{AllByRecursion, fold, filter, range_with_len}
+use Rattle.std.specs.List.{AllByRecursion, range_with_len}
 use Rattle.std.specs.Option.{option_to_list}
 use Rattle.std.proofs.lemmas.Bool.{cases_Bool, eq-eqb, eqb-true, eqb-false}
-use Rattle.std.proofs.lemmas.List.Elements.{All-from_recursion, recursion_from_All, All-weaker}
-use Rattle.clfs_lsn.specs.Lsn.{lsn_number, container_of, sequence_of}
+use Rattle.std.proofs.lemmas.List.Elements.{All-from_recursion}
+use Rattle.clfs_lsn.specs.Lsn.{lsn_number, sequence_of}
 use Rattle.clfs_lsn.specs.Limits.{most_containers}
-use Rattle.clfs_lsn.specs.Size.{IsShape}
 use Rattle.clfs_lsn.specs.Place.{IsWithin, frontier}
 use Rattle.clfs_lsn.specs.Spelling.{FitsAt}
 use Rattle.clfs_lsn.specs.declared.entry.LogEntry.{LogEntry}
 use Rattle.clfs_lsn.specs.declared.entry.Kind.TheVariants.{Restart}
-use Rattle.clfs_lsn.specs.declared.place.Place.{Place}
 use Rattle.clfs_base.specs.declared.image.BaseImage.{BaseImage}
-use Rattle.clfs_base.specs.declared.image.Row.{Row}
 use Rattle.clfs_base.specs.Layout.{version_one, most_minimum}
-use Rattle.clfs_base.specs.Spelling.{IsImage, IsPolicy, row_in}
+use Rattle.clfs_base.specs.Spelling.{IsImage, IsPolicy}
 use Rattle.clfs_model.specs.declared.state.State.{State}
 use Rattle.clfs_model.specs.declared.state.Stream.{Stream}
-use Rattle.clfs_model.specs.Flush.{flushed}
-use Rattle.clfs_model.specs.Live.{is_live, least_or, live_lsns, hold}
-use Rattle.clfs_model.specs.Valid.{IsValid, HasRanges, HasPolicies, HasTables, HasRecords, HasStable, HasWaiting, HasSpace, IsArea, IsRecord, IsWaiting, open_sequences}
-use Rattle.clfs_recover.specs.Walk.{base_with, bases_with}
-use Rattle.clfs_recover.specs.Files.{policy_of, streams_with, state_of}
+use Rattle.clfs_model.specs.Valid.{IsValid, HasRanges, HasPolicies, IsArea, IsRecord, IsWaiting}
+use Rattle.clfs_recover.specs.Walk.{shape_of, base_with}
+use Rattle.clfs_recover.specs.Files.{policy_of, state_of}
 use Rattle.clfs_recover.specs.declared.parts.Parts.{Parts}
-use Rattle.clfs_recover.proofs.LaidBlocks.{FitTheirs}
 use Rattle.clfs_recover.proofs.FoundBases.{base_low, base_to}
-use Rattle.clfs_recover.proofs.FoundParts.{IsTailWithin, AreOpened}
-use Rattle.clfs_recover.proofs.FoundRecords.{all_below, all_above, all_rise, none_of_block, from_both}
-use Rattle.clfs_recover.proofs.FoundStreams.{length-streams_with, all_streams, different_streams, has_stream}
+use Rattle.clfs_recover.proofs.FoundParts.{AreOpened}
+use Rattle.clfs_recover.proofs.FoundRecords.{all_below, all_above, all_rise, none_of_block}
+use Rattle.clfs_recover.proofs.FoundStreams.{all_streams, different_streams, has_stream}
+use Rattle.clfs_recover.proofs.HoldOrder.{hold_above}
+use Rattle.clfs_recover.proofs.KeptRecords.{from_both}
 use Rattle.clfs_recover.proofs.Raising.{base_at, length-bases_with}
 
 -- ---- policies
@@ -88,34 +84,6 @@ policies_hold image is s maximum_is minimum_is growth_is = record {
       | inr there ↦ inr (let other = eqb-false value 0 there in omega (arith, other), le)
     ]
 
--- ---- the hold
-
-fold_above : (x n : ℕ) (ns : List ℕ) → x ≤ n → AllByRecursion (λ m. x ≤ m) ns → x ≤ fold min n ns
-fold_above x n [] le all = le
-fold_above x n (m ∷ ms) le all = fold_above x (min n m) ms (omega (arith, le, all.0)) all.1
-
-least_above : (x other : ℕ) (ns : List ℕ) → x ≤ other → AllByRecursion (λ m. x ≤ m) ns → x ≤ least_or other ns
-least_above x other [] le all = le
-least_above x other (n ∷ ns) le all = fold_above x n ns all.0 all.1
-
-numbers_both : (P : ℕ → Type 0) (front rest : List ℕ) → AllByRecursion P front → AllByRecursion P rest → AllByRecursion P (front ++ rest)
-numbers_both P [] rest all more = more
-numbers_both P (n ∷ ns) rest all more = (all.0, numbers_both P ns rest all.1 more)
-
-lsns_above : (x : ℕ) (p : LogEntry → Bool) (entries : List LogEntry) → AllByRecursion (λ (entry : LogEntry). x ≤ entry.lsn) entries
-    → AllByRecursion (λ lsn. x ≤ lsn) (map (λ (entry : LogEntry). entry.lsn) (filter p entries))
-lsns_above x p [] all = tt
-lsns_above x p (entry ∷ entries) all = elim (cases_Bool (p entry)) [
-  | inl passes ↦ rw passes (all.0, lsns_above x p entries all.1)
-  | inr fails ↦ rw fails (lsns_above x p entries all.1)
-]
-
--- the hold is at least what the tail, all records and the frontier are
-hold_above : (x : ℕ) (s : State) → x ≤ frontier s.place → AllByRecursion (λ lsn. x ≤ lsn) (option_to_list s.archive)
-    → AllByRecursion (λ (entry : LogEntry). x ≤ entry.lsn) s.records → x ≤ hold s
-hold_above x s le tail all = least_above x (frontier s.place) (option_to_list s.archive ++ live_lsns s) le
-    (numbers_both (λ lsn. x ≤ lsn) (option_to_list s.archive) (live_lsns s) tail (lsns_above x (is_live s) s.records all))
-
 -- ---- the state
 
 module _ (parts : Parts) (buffers : ℕ) (is : AreOpened parts) where
@@ -126,7 +94,7 @@ module _ (parts : Parts) (buffers : ℕ) (is : AreOpened parts) where
   image = parts.image
 
   -- the place's LSN, below which all records lie
-  abbrev here : ℕ
+  abbrev pub here : ℕ
   here = lsn_number parts.place.container parts.place.offset 0
 
   pub frontier_is : frontier parts.place ≡ here
@@ -138,7 +106,7 @@ module _ (parts : Parts) (buffers : ℕ) (is : AreOpened parts) where
   pub below : AllByRecursion (λ (entry : LogEntry). entry.lsn < here) parts.entries
   below = all_below (lsn_number image.first 0 0) here parts.entries is.laid.rise
 
-  above : AllByRecursion (λ (entry : LogEntry). lsn_number image.first 0 0 ≤ entry.lsn) parts.entries
+  pub above : AllByRecursion (λ (entry : LogEntry). lsn_number image.first 0 0 ≤ entry.lsn) parts.entries
   above = all_above (lsn_number image.first 0 0) here parts.entries is.laid.rise
 
   pub same_length : length parts.bases ≡ length image.streams
@@ -182,6 +150,14 @@ module _ (parts : Parts) (buffers : ℕ) (is : AreOpened parts) where
   tail_above true on = (let low = (is.tail on).1 in omega (arith, low), tt)
   tail_above false off = tt
 
+  pub place_within : IsWithin (shape_of image) parts.place
+  place_within = record {
+    container = omega (arith, is.container_is, is.image_is.first, is.image_is.some_listed);
+    offset = is.laid.whole;
+    end = let none = is.closed.0 in omega (arith, none, is.laid.within, is.laid.whole);
+    block = inl is.closed;
+  }
+
   ranges : 1 ≤ buffers → buffers ≤ 64 → HasRanges s
   ranges some few = record {
     shape = is.image_is.shape;
@@ -189,12 +165,7 @@ module _ (parts : Parts) (buffers : ℕ) (is : AreOpened parts) where
     few_containers = omega (arith, is.image_is.containers_made, is.image_is.few_made);
     some_buffers = some;
     few_buffers = few;
-    place = record {
-      container = omega (arith, is.container_is, is.image_is.first, is.image_is.some_listed);
-      offset = is.laid.whole;
-      end = let none = is.closed.0 in omega (arith, none, is.laid.within, is.laid.whole);
-      block = inl is.closed;
-    };
+    place = place_within;
   }
 
   pub valid : 1 ≤ buffers → buffers ≤ 64 → IsValid s

@@ -8,3 +8,4 @@ pub mod Fronts
 pub mod Opening
 pub mod Stored
 pub mod KnownLogs
+pub mod Logs

@@ -15,6 +15,7 @@
 #![tactic(auto)]
 
 mod block;
+mod changes;
 mod container;
 mod counts;
 mod gatherer;
@@ -28,16 +29,25 @@ mod piece;
 mod records;
 mod refusal;
 mod rows;
+mod stored;
 
+pub use changes::{
+    bases_of_rows_move, further_containers_begin_empty, groups_come_behind_the_last_block,
+    low_containers_are_left_out, records_move_bases, settings_leave_the_records, streams_come_last,
+};
 pub use counts::Counts;
 pub use gatherer::Gatherer;
 pub use laws::{copies_and_blocks_decide, files_have_one_meaning, written_blocks_are_read};
 pub use logs::{logs_are_found_in_files, logs_have_few_records};
-pub use opened::{opened_states_are_cut, opened_states_are_valid};
+pub use opened::{
+    opened_bases_are_moved_by_records, opened_copies_fit, opened_records_lie_in_order,
+    opened_states_are_cut, opened_states_are_valid,
+};
 pub use opening::{Walked, load, load_heads, walk};
 pub use parts::{Bases, Entries, HeadParts, Heads, Parts};
 pub use refusal::LoadRefusal;
-pub use rows::walks_of_a_small_log;
+pub use rows::{changes_of_a_small_log, walks_of_a_small_log};
+pub use stored::{blocks_are_read_in_order, copies_without_fault_fit, logs_are_copies_and_blocks};
 
 #[cfg(test)]
 mod tests;
