@@ -7,13 +7,13 @@ use Rattle.clfs_lsn.specs.declared.shape.Shape.{Shape}
 use Rattle.clfs_base.specs.declared.image.Row.{Row}
 use Rattle.clfs_disk.specs.Files.{Files}
 use Rattle.clfs_container.specs.OpenBlocks.{AreOpen, total}
-use Rattle.clfs_recover.specs.Records.{◌>>=◌}
+use Rattle.clfs_block.specs.Records.{◌>>=◌}
 use Rattle.clfs_recover.specs.Walk.{Container, container_records, listed_records, last_end}
 use Rattle.clfs_recover.specs.Files.{AreListed}
 use Rattle.clfs_recover.specs.Gathering.{HasTaken, GathersContainer, RefusesAs}
 use Rattle.clfs_recover.specs.declared.refusal.LoadRefusal.{LoadRefusal}
 use Rattle.clfs_recover.specs.declared.refusal.LoadRefusal.TheVariants.{NoBase, Damaged, DiskFault, NoMemory}
-use Rattle.clfs_recover.proofs.Steps.{behind, behind-append, behind-nil}
+use Rattle.clfs_block.specs.RecordLaws.{behind, behind-append, behind-nil}
 
 abbrev Records : Type 0
 Records = Result (List LogEntry) LoadRefusal

@@ -2,7 +2,7 @@ use Rattle.std.proofs.Common.{ℕ, ◌*◌, List, ◌++◌, Option, Some, None, 
 use Rattle.std.proofs.lemmas.Result.{err_from_is_err_and}
 use Rattle.clfs_lsn.specs.Lsn.{lsn_number}
 use Rattle.clfs_disk.specs.Files.{Unchanged}
-use Rattle.clfs_recover.specs.Records.{block_records}
+use Rattle.clfs_block.specs.Records.{block_records}
 use Rattle.clfs_recover.specs.Gathering.{GathersBlock}
 use Rattle.clfs_recover.specs.Fronts.{IsFrontOf, Shows}
 use Rattle.clfs_recover.specs.declared.refusal.LoadRefusal.{LoadRefusal}
