@@ -9,8 +9,8 @@ use Rattle.clfs_lsn.specs.Spelling.{record_at}
 use Rattle.clfs_lsn.specs.declared.entry.LogEntry.{LogEntry}
 use Rattle.clfs_lsn.specs.declared.shape.Shape.{Shape}
 use Rattle.clfs_block.specs.Frame.{place_of, payload_of}
-use Rattle.clfs_block.specs.Checks.{head_of, frame_at, rest_at, IsEnough}
-use Rattle.clfs_block.specs.Judging.{AreJudgedAlone, AreReadAsWritten}
+use Rattle.clfs_block.specs.Checks.{head_of, frame_at, rest_at, HasFrame, IsEnough}
+use Rattle.clfs_block.specs.Judging.{AreJudgedAlone}
 use Rattle.clfs_block.specs.Records.{◌>>=◌, told_as, records_from, block_records}
 use Rattle.clfs_block.specs.declared.head.BlockHead.{BlockHead}
 use Rattle.clfs_block.specs.declared.head.BlockRefusal.{BlockRefusal}
@@ -161,7 +161,11 @@ module _ (streams : ℕ) (payload : List ℕ) (count start : ℕ) where
 
 -- ---- by which bytes they are judged
 
-module _ (judged : AreJudgedAlone) (written : AreReadAsWritten) (shape : Shape) (streams start : ℕ) where
+-- what the checks of a block's frame say where they hold
+abbrev pub Holds : Type 0
+Holds = (shape : Shape) (start : ℕ) (bytes : List ℕ) (head : BlockHead) → frame_at shape start bytes ≡ Ok head → HasFrame shape start bytes head
+
+module _ (judged : AreJudgedAlone) (holds : Holds) (shape : Shape) (streams start : ℕ) where
   -- The records of a block are judged by its own bytes: what follows them, or that nothing does, changes nothing.
   pub block_same : (bytes : List ℕ) (count : ℕ) → IsEnough shape bytes count
       → block_records shape streams start (take count bytes) ≡ block_records shape streams start bytes
@@ -175,7 +179,7 @@ module _ (judged : AreJudgedAlone) (written : AreReadAsWritten) (shape : Shape) 
       by_answer (Err refusal) is =
           block_refused shape streams start (take count bytes) refusal (same ∙ is) ∙ sym (block_refused shape streams start bytes refusal is)
       by_answer (Ok head) is =
-          let frame = written.holds shape start bytes head is in
+          let frame = holds shape start bytes head is in
           let said : head.sectors ≡ (head_of bytes).sectors = ap (λ (h : BlockHead). h.sectors) frame.numbers in
           let all : sector_bytes * head.sectors ≤ count = ⊎_elim (λ (own : sector_bytes * (head_of bytes).sectors ≤ count). omega (arith, own, said))
           (λ (largest : sector_bytes * shape.block_sectors ≤ count). omega (arith, largest, frame.largest)) enough.all in

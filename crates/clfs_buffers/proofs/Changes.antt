@@ -54,12 +54,12 @@ module _ (container : ℕ) where
   forgot_one [] place e = absurd (cc e)
   forgot_one (x ∷ es) place e = (elim (is_in x.0) as (λ b. is_in x.0 ≡ b → cond b (Some x.0) (find is_in (keys_of es)) ≡ Some place
       → without_container container (remove_entry (is_same_place place) (x ∷ es)) ≡ without_container container (x ∷ es)) [
-    | true ↦ λ b h. let same : x.0 ≡ place = cc h in
-        let gone : is_same_place place x.0 ≡ true = ap (is_same_place place) same ∙ same_place place in
-        rw (gone, b) refl
-    | false ↦ λ b h. let stays = other_place place x.0 container (found_in (keys_of es) place h) b in
-        rw (stays, b) (ap (λ (l : Buffered). x ∷ l) (forgot_one es place h))
-  ]) refl e
+        | true ↦ λ b h. let same : x.0 ≡ place = cc h in
+            let gone : is_same_place place x.0 ≡ true = ap (is_same_place place) same ∙ same_place place in
+            rw (gone, b) refl
+        | false ↦ λ b h. let stays = other_place place x.0 container (found_in (keys_of es) place h) b in
+            rw (stays, b) (ap (λ (l : Buffered). x ∷ l) (forgot_one es place h))
+      ]) refl e
 
   -- and there is one fewer
   pub one_fewer : (es : Buffered) (place : BlockPlace) → find is_in (keys_of es) ≡ Some place
@@ -67,22 +67,22 @@ module _ (container : ℕ) where
   one_fewer [] place e = absurd (cc e)
   one_fewer (x ∷ es) place e = (elim (is_in x.0) as (λ b. is_in x.0 ≡ b → cond b (Some x.0) (find is_in (keys_of es)) ≡ Some place
       → length (remove_entry (is_same_place place) (x ∷ es)) + 1 ≡ length (x ∷ es)) [
-    | true ↦ λ b h. let same : x.0 ≡ place = cc h in
-        let gone : is_same_place place x.0 ≡ true = ap (is_same_place place) same ∙ same_place place in
-        rw gone (omega arith)
-    | false ↦ λ b h. let stays = other_place place x.0 container (found_in (keys_of es) place h) b in
-        let fewer = one_fewer es place h in
-        rw stays (omega (arith, fewer))
-  ]) refl e
+        | true ↦ λ b h. let same : x.0 ≡ place = cc h in
+            let gone : is_same_place place x.0 ≡ true = ap (is_same_place place) same ∙ same_place place in
+            rw gone (omega arith)
+        | false ↦ λ b h. let stays = other_place place x.0 container (found_in (keys_of es) place h) b in
+            let fewer = one_fewer es place h in
+            rw stays (omega (arith, fewer))
+      ]) refl e
 
   -- where none is found, none goes
   pub none_goes : (es : Buffered) → find is_in (keys_of es) ≡ None → without_container container es ≡ es
   none_goes [] e = refl
   none_goes (x ∷ es) e = (elim (is_in x.0) as (λ b. is_in x.0 ≡ b → cond b (Some x.0) (find is_in (keys_of es)) ≡ None
       → without_container container (x ∷ es) ≡ x ∷ es) [
-    | true ↦ λ b h. absurd (cc h)
-    | false ↦ λ b h. rw b (ap (λ (l : Buffered). x ∷ l) (none_goes es h))
-  ]) refl e
+        | true ↦ λ b h. absurd (cc h)
+        | false ↦ λ b h. rw b (ap (λ (l : Buffered). x ∷ l) (none_goes es h))
+      ]) refl e
 
 -- a test of places passes for one place alone
 pub one_place : (a b : BlockPlace) → is_same_place a b ≡ true → a ≡ b
@@ -161,15 +161,15 @@ module _ (other place : BlockPlace) where
       → cond (is_same_place other x.0) (Some x.1) (cond (is_same_place other y.0) (Some y.1) rest) ≡ cond (is_same_place other y.0) (Some y.1) all
   past_another x y rest all found another is = (elim (is_same_place other y.0) as (λ b. is_same_place other y.0 ≡ b
       → cond (is_same_place other x.0) (Some x.1) (cond b (Some y.1) rest) ≡ cond b (Some y.1) all) [
-    | true ↦ λ at_y. (elim (is_same_place other x.0) as (λ b. is_same_place other x.0 ≡ b → cond b (Some x.1) (Some y.1) ≡ Some y.1) [
-      | true ↦ λ at_x.
-          let here : is_same_place place y.0 ≡ true =
-          ap (is_same_place place) (sym (one_place other y.0 at_y) ∙ one_place other x.0 at_x) ∙ found in
-          let clash = sym here ∙ another in absurd (cc clash)
-      | false ↦ λ at_x. refl
-    ]) refl
-    | false ↦ λ at_y. is
-  ]) refl
+        | true ↦ λ at_y. (elim (is_same_place other x.0) as (λ b. is_same_place other x.0 ≡ b → cond b (Some x.1) (Some y.1) ≡ Some y.1) [
+          | true ↦ λ at_x.
+              let here : is_same_place place y.0 ≡ true =
+              ap (is_same_place place) (sym (one_place other y.0 at_y) ∙ one_place other x.0 at_x) ∙ found in
+              let clash = sym here ∙ another in absurd (cc clash)
+          | false ↦ λ at_x. refl
+        ]) refl
+        | false ↦ λ at_y. is
+      ]) refl
 
   -- so what is kept of a place is as it was
   moved_first : (es : Buffered) (x : BlockPlace × List LogEntry) → lookup_entry (is_same_place place) es ≡ Some x
@@ -178,10 +178,10 @@ module _ (other place : BlockPlace) where
   moved_first (y ∷ es) x e = (elim (is_same_place place y.0) as (λ b. is_same_place place y.0 ≡ b
       → cond b (Some y) (lookup_entry (is_same_place place) es) ≡ Some x
       → kept_at other (x ∷ cond b es (y ∷ remove_entry (is_same_place place) es)) ≡ kept_at other (y ∷ es)) [
-    | true ↦ λ b h. let same : y ≡ x = cc h in ap (λ (z : BlockPlace × List LogEntry). kept_at other (z ∷ es)) (sym same)
-    | false ↦ λ b h. past_another x y (kept_at other (remove_entry (is_same_place place) es)) (kept_at other es)
-        (Contains-lookup_entry (is_same_place place) es x h).1 b (moved_first es x h)
-  ]) refl e
+        | true ↦ λ b h. let same : y ≡ x = cc h in ap (λ (z : BlockPlace × List LogEntry). kept_at other (z ∷ es)) (sym same)
+        | false ↦ λ b h. past_another x y (kept_at other (remove_entry (is_same_place place) es)) (kept_at other es)
+            (Contains-lookup_entry (is_same_place place) es x h).1 b (moved_first es x h)
+      ]) refl e
 
   pub used_same : (blocks : Buffered) → kept_at other (with_used place blocks) ≡ kept_at other blocks
   used_same blocks = by_entry (lookup_entry (is_same_place place) blocks) refl
@@ -197,18 +197,18 @@ module _ (other place : BlockPlace) where
   among_first (suc n) [] found e = absurd (cc e)
   among_first (suc n) (x ∷ blocks) found e = (elim (is_same_place other x.0) as (λ b. cond b (Some x.1) (kept_at other (take n blocks)) ≡ Some found
       → cond b (Some x.1) (kept_at other blocks) ≡ Some found) [
-    | true ↦ λ h. h
-    | false ↦ λ h. among_first n blocks found h
-  ]) e
+        | true ↦ λ h. h
+        | false ↦ λ h. among_first n blocks found h
+      ]) e
 
   pub joined_or_before : (blocks : Buffered) (records found : List LogEntry) → kept_at other (with_block place records blocks) ≡ Some found
       → ((other ≡ place) × (found ≡ records)) ⊎ (kept_at other blocks ≡ Some found)
   joined_or_before blocks records found e = (elim (is_same_place other place) as (λ b. is_same_place other place ≡ b
       → cond b (Some records) (kept_at other (take (most_blocks - 1) blocks)) ≡ Some found
       → ((other ≡ place) × (found ≡ records)) ⊎ (kept_at other blocks ≡ Some found)) [
-    | true ↦ λ b h. inl (one_place other place b, cc h)
-    | false ↦ λ b h. inr (among_first (most_blocks - 1) blocks found h)
-  ]) refl e
+        | true ↦ λ b h. inl (one_place other place b, cc h)
+        | false ↦ λ b h. inr (among_first (most_blocks - 1) blocks found h)
+      ]) refl e
 
 -- a block that is added is kept
 pub added_is_kept : (blocks : Buffered) (place : BlockPlace) (records : List LogEntry) → kept_at place (with_block place records blocks) ≡ Some records
@@ -219,13 +219,13 @@ pub forgotten_or_before : (blocks : Buffered) (container : ℕ) (other : BlockPl
     → (other.container ≢ container) × (kept_at other blocks ≡ Some found)
 forgotten_or_before blocks container other found e = (elim (eqb other.container container) as (λ b. eqb other.container container ≡ b
     → (other.container ≢ container) × (kept_at other blocks ≡ Some found)) [
-  | true ↦ λ b. let none = filtered false (λ k t. ap (λ (p : BlockPlace). not (eqb p.container container)) (sym (one_place other k t)) ∙ ap not b) in
-      let clash = sym e ∙ none in absurd (cc clash)
-  | false ↦ λ b. (
-    λ same. let is : eqb other.container container ≡ true = eq-eqb other.container container same in let clash = sym is ∙ b in cc clash,
-    sym (filtered true (λ k t. ap (λ (p : BlockPlace). not (eqb p.container container)) (sym (one_place other k t)) ∙ ap not b)) ∙ e,
-  )
-]) refl
+      | true ↦ λ b. let none = filtered false (λ k t. ap (λ (p : BlockPlace). not (eqb p.container container)) (sym (one_place other k t)) ∙ ap not b) in
+          let clash = sym e ∙ none in absurd (cc clash)
+      | false ↦ λ b. (
+        λ same. let is : eqb other.container container ≡ true = eq-eqb other.container container same in let clash = sym is ∙ b in cc clash,
+        sym (filtered true (λ k t. ap (λ (p : BlockPlace). not (eqb p.container container)) (sym (one_place other k t)) ∙ ap not b)) ∙ e,
+      )
+    ]) refl
   where
     filtered : (b : Bool) → ((k : BlockPlace) → is_same_place other k ≡ true → not (eqb k.container container) ≡ b)
         → kept_at other (without_container container blocks) ≡ cond b (kept_at other blocks) None

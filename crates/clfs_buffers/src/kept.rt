@@ -81,7 +81,13 @@ impl KeptBlock {
         } = self;
         let head = check_frame(shape, place.lsn(0), bytes)?;
         fill_payload(alloc, bytes, head, &mut payload)?;
-        find_starts(payload.as_slice(), head.records, place, streams, &mut starts)?;
+        find_starts(
+            payload.as_slice(),
+            head.records,
+            place,
+            streams,
+            &mut starts,
+        )?;
         check_rest(bytes, head)?;
         Ok(KeptBlock {
             place,
@@ -102,7 +108,13 @@ impl KeptBlock {
         }
         let at = self.starts[sequence as usize] as usize;
         let bytes = self.payload.as_slice().split_at(at).1;
-        match decode(alloc, bytes, place.lsn(sequence), stream_of(bytes), self.streams) {
+        match decode(
+            alloc,
+            bytes,
+            place.lsn(sequence),
+            stream_of(bytes),
+            self.streams,
+        ) {
             Ok((entry, _)) => Ok(entry),
             Err(RecordRefusal::NoMemory) => Err(ReadRefusal::NoMemory),
             // Not reached: the record was judged when the block was read.

@@ -21,3 +21,6 @@ pub use buffers::{Buffers, MOST_BLOCKS};
 pub use laws::changes_keep_blocks;
 pub use place::BlockPlace;
 pub use refusal::ReadRefusal;
+
+#[cfg(test)]
+mod tests;

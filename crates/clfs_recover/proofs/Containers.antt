@@ -56,7 +56,7 @@ module _ (judged : AreJudgedAlone) (written : AreReadAsWritten) (shape : Shape) 
 
     pub front_block : block_records shape streams start front ≡ block_records shape streams start all
     front_block = ⊎_elim (λ (e : front ≡ all). ap (block_records shape streams start) e)
-        (λ long. ap (block_records shape streams start) is.is ∙ block_same judged written shape streams start all (length front) (front_enough long)) is.long
+        (λ long. ap (block_records shape streams start) is.is ∙ block_same judged written.holds shape streams start all (length front) (front_enough long)) is.long
 
 -- the sectors that a block says to have
 sectors_said : (bytes : List ℕ) → (head_of bytes).sectors ≡ block_sectors bytes
@@ -202,7 +202,7 @@ module _ (shape : Shape) (streams id : ℕ) (bytes : List ℕ) (open_blocks : Li
     -- an open block is judged as what begins with it
     block_is : (left : ℕ) (block : List ℕ) → BeginsWith left here block → block_records shape streams start block ≡ block_records shape streams start here
     block_is left block first = ap (block_records shape streams start) first.is
-        ∙ block_same judged written shape streams start here (512 * block_sectors here)
+        ∙ block_same judged written.holds shape streams start here (512 * block_sectors here)
         (record { first = omega (arith, first.some); all = inl (let e = sectors_said here in omega (arith, e)) })
 
     module _ (has : List LogEntry → Type 0) (rows : List Row) (bases : List ℕ) (before : List LogEntry)

@@ -23,9 +23,9 @@ read_front n room len out items file at size len_is count is =
     let within : n ≤ length out = omega (arith, count, size) in
     take-take n len (out ++ drop (length out) items) fits ∙ take-append-le n out (drop (length out) items) within ∙ is
     ∙ ⊎_elim (λ (short : length file - at < room).
-        let all : length (drop at file) ≤ n = omega (arith, count, short, long) in
-        let none : length (drop at file) ≤ room = omega (arith, short, long) in
-        take_all n (drop at file) all ∙ sym (take_all room (drop at file) none))
+    let all : length (drop at file) ≤ n = omega (arith, count, short, long) in
+    let none : length (drop at file) ≤ room = omega (arith, short, long) in
+    take_all n (drop at file) all ∙ sym (take_all room (drop at file) none))
     (λ (full : room ≤ length file - at). let same : n ≡ room = omega (arith, count, full) in ap (λ (k : ℕ). take k (drop at file)) same)
     (cases_lt (length file - at) room)
 
@@ -33,7 +33,7 @@ read_front n room len out items file at size len_is count is =
 read_there : AreJudgedAlone → AreReadAsWritten → (shape : Shape) (streams start : ℕ) (there front : List ℕ) → IsShape shape
     → front ≡ take (512 * shape.block_sectors) there → block_records shape streams start front ≡ block_records shape streams start there
 read_there judged written shape streams start there front good is =
-    ap (block_records shape streams start) is ∙ block_same judged written shape streams start there (512 * shape.block_sectors)
+    ap (block_records shape streams start) is ∙ block_same judged written.holds shape streams start there (512 * shape.block_sectors)
     (record { first = omega (arith, good.some_sectors); all = inr (omega arith) })
 
 -- the refusal of a block is that of a record in it
