@@ -7,3 +7,4 @@ mod Searches
 mod Spellings
 mod Splices
 pub mod Fronts
+mod RecordsRead

@@ -2,3 +2,5 @@ pub mod Frame
 pub mod Checks
 pub mod Building
 pub mod Judging
+pub mod Records
+pub mod RecordLaws

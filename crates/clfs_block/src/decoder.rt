@@ -234,6 +234,14 @@ fn push_payload(out: &mut Vec<u8>, bytes: &[u8], used: usize)
     push_reserved(out, &bytes[from..from + used % PAYLOAD]);
 }
 
+/// The byte of a block that holds a byte of its payload.
+pub fn byte_of(p: u32) -> u32
+    requires { p < 2 ^ 31 }
+    ensures { result ≡ place_of p }
+{
+    SECTOR as u32 * (p / PAYLOAD as u32) + p % PAYLOAD as u32
+}
+
 /// The last check of a block: the payload behind its used bytes is zero.
 pub fn check_rest(bytes: &[u8], head: BlockHead) -> Result<BlockHead, BlockRefusal>
     requires whole { sector_bytes * head.sectors ≤ length bytes.now }

@@ -14,11 +14,11 @@ mod head;
 mod laws;
 
 pub use builder::BlockBuilder;
-pub use decoder::{check_frame, check_rest, decode_block, fill_payload};
+pub use decoder::{byte_of, check_frame, check_rest, decode_block, fill_payload};
 pub use head::{BlockHead, BlockRefusal};
 pub use laws::{
     blocks_are_judged_alone, blocks_are_read_as_written, blocks_have_one_spelling,
-    blocks_say_their_sectors,
+    blocks_say_their_sectors, records_are_read_of_their_block,
 };
 
 // The sizes of the format, as numbers of bytes in memory.

@@ -27,6 +27,16 @@ pub fn stream_of(bytes: &[u8]) -> u16
     LittleEndian::read_u16(&bytes[4..])
 }
 
+/// The same of the record at the front of bytes, or 0 where no header is there.
+pub fn stream_in(bytes: &[u8]) -> u16
+    ensures { record_header ≤ length bytes.now → result ≡ (header_of bytes.now).stream }
+{
+    if bytes.len() < HEADER {
+        return 0;
+    }
+    stream_of(bytes)
+}
+
 /// The record that a front of the bytes spells at this LSN in a log of so many streams, and how many bytes spell it.
 /// `stream` is the number that `stream_of` reads there.
 pub fn decode(

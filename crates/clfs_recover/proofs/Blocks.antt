@@ -9,49 +9,12 @@ use Rattle.clfs_block.specs.Checks.{frame_at, rest_at, other_byte, payload_place
 use Rattle.clfs_block.specs.declared.head.BlockHead.{BlockHead}
 use Rattle.clfs_block.specs.declared.head.BlockRefusal.{BlockRefusal}
 use Rattle.clfs_block.specs.declared.head.BlockRefusal.TheVariants as blocks
-use Rattle.clfs_recover.specs.Records.{◌>>=◌, told_as, records_from, block_records}
+use Rattle.clfs_block.specs.Records.{told_as, records_from, block_records}
+use Rattle.clfs_block.specs.RecordLaws.{block_refused, records_refused, rest_refused}
 use Rattle.clfs_recover.specs.Walk.{damage_at}
 use Rattle.clfs_recover.specs.Gathering.{GivesFrame, GathersBlock, RefusesAs}
 use Rattle.clfs_recover.specs.declared.refusal.LoadRefusal.{LoadRefusal}
 use Rattle.clfs_recover.specs.declared.refusal.LoadRefusal.TheVariants.{NoBase, Damaged, DiskFault, NoMemory}
-
-module _ (shape : Shape) (streams start : ℕ) (bytes : List ℕ) where
-  -- a frame that is refused
-  pub block_refused : (refusal : BlockRefusal) → frame_at shape start bytes ≡ Err refusal → block_records shape streams start bytes ≡ Err refusal
-  unfolding block_records
-  block_refused refusal is = rw is refl
-
-  module _ (head : BlockHead) (is : frame_at shape start bytes ≡ Ok head) where
-    records : Result (List LogEntry) ℕ
-    records = records_from streams (payload_of head.used bytes) head.records start 16
-
-    -- a record that is wrong
-    pub records_refused : (at : ℕ) → records_from streams (payload_of head.used bytes) head.records start 16 ≡ Err at
-        → block_records shape streams start bytes ≡ Err (blocks.BadByte at)
-    unfolding block_records
-    records_refused at wrong = rw (is, wrong) refl
-
-    -- a byte behind the records that is wrong
-    pub rest_refused : (entries : List LogEntry) (refusal : BlockRefusal)
-        → records_from streams (payload_of head.used bytes) head.records start 16 ≡ Ok entries
-        → rest_at bytes head ≡ Err refusal → block_records shape streams start bytes ≡ Err refusal
-    unfolding block_records
-    rest_refused entries refusal right wrong =
-        let told : Result (List LogEntry) ℕ → Result (List LogEntry) BlockRefusal = λ r.
-        told_as blocks.BadByte r >>= λ (es : List LogEntry). (rest_at bytes head >>= λ (clean : BlockHead). Ok es) in
-        let behind : Result BlockHead BlockRefusal → Result (List LogEntry) BlockRefusal = λ r. r >>= λ (clean : BlockHead). Ok entries in
-        rw is (ap told right ∙ ap behind wrong)
-
-    -- nothing is wrong
-    pub block_read : (entries : List LogEntry) (other : BlockHead)
-        → records_from streams (payload_of head.used bytes) head.records start 16 ≡ Ok entries
-        → rest_at bytes head ≡ Ok other → block_records shape streams start bytes ≡ Ok entries
-    unfolding block_records
-    block_read entries other right clean_is =
-        let told : Result (List LogEntry) ℕ → Result (List LogEntry) BlockRefusal = λ r.
-        told_as blocks.BadByte r >>= λ (es : List LogEntry). (rest_at bytes head >>= λ (clean : BlockHead). Ok es) in
-        let behind : Result BlockHead BlockRefusal → Result (List LogEntry) BlockRefusal = λ r. r >>= λ (clean : BlockHead). Ok entries in
-        rw is (ap told right ∙ ap behind clean_is)
 
 -- the zeros behind the records are no gate
 pub rest_has_no_gate : (bytes : List ℕ) (head : BlockHead) → rest_at bytes head ≡ Err blocks.Closed → ⊥
@@ -99,5 +62,5 @@ module _ (has : List LogEntry → Type 0) (rows : List Row) (bases : List ℕ) (
         → rest_at bytes head ≡ Err refusal → Gathered (Err (damage_at container offset refusal))
     rest_refusal entries blocks.Closed right wrong = absurd (rest_has_no_gate bytes head wrong)
     rest_refusal entries (blocks.BadByte at) right wrong =
-        (refl, refl, rest_refused shape streams start bytes head is entries (blocks.BadByte at) right wrong)
+        (refl, refl, rest_refused shape streams start bytes head is entries right (blocks.BadByte at) wrong)
     rest_refusal entries blocks.NoMemory right wrong = tt

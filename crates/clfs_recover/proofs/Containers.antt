@@ -15,9 +15,10 @@ use Rattle.clfs_block.specs.Judging.{AreJudgedAlone, AreReadAsWritten}
 use Rattle.clfs_block.specs.declared.head.BlockHead.{BlockHead}
 use Rattle.clfs_block.specs.declared.head.BlockRefusal.{BlockRefusal}
 use Rattle.clfs_block.specs.declared.head.BlockRefusal.TheVariants as blocks
-use Rattle.clfs_recover.specs.Records.{◌>>=◌, told_as, records_from, block_records}
+use Rattle.clfs_block.specs.Records.{◌>>=◌, told_as, records_from, block_records}
+use Rattle.clfs_block.specs.RecordLaws.{block_refused, block_framed, block_same}
 use Rattle.clfs_recover.specs.Fronts.{IsFrontOf}
-use Rattle.clfs_recover.proofs.Blocks.{block_refused, rest_has_no_gate}
+use Rattle.clfs_recover.proofs.Blocks.{rest_has_no_gate}
 
 abbrev BlockRecords : Type 0
 BlockRecords = Result (List LogEntry) BlockRefusal
@@ -33,38 +34,7 @@ no_records refusal = Err refusal
 
 -- ---- a block and a front of what begins with it
 
--- the records of a block whose frame is right, by its payload and what is found behind the used bytes
-abbrev body : ℕ → ℕ → BlockHead → List ℕ → Result BlockHead BlockRefusal → BlockRecords
-body streams start head payload rest =
-    told_as blocks.BadByte (records_from streams payload head.records start 16) >>= λ (entries : List LogEntry). (rest >>= λ (clean : BlockHead). Ok entries)
-
-pub by_frame : (shape : Shape) (streams start : ℕ) (bytes : List ℕ) (head : BlockHead) → frame_at shape start bytes ≡ Ok head
-    → block_records shape streams start bytes ≡ body streams start head (payload_of head.used bytes) (rest_at bytes head)
-unfolding block_records
-by_frame shape streams start bytes head is = rw is refl
-
 module _ (judged : AreJudgedAlone) (written : AreReadAsWritten) (shape : Shape) (streams start : ℕ) where
-  pub block_same : (bytes : List ℕ) (count : ℕ) → IsEnough shape bytes count
-      → block_records shape streams start (take count bytes) ≡ block_records shape streams start bytes
-  block_same bytes count enough = by_answer (frame_at shape start bytes) refl
-    where
-      same : frame_at shape start (take count bytes) ≡ frame_at shape start bytes
-      same = judged.frame shape start bytes count enough
-
-      by_answer : (r : Result BlockHead BlockRefusal) → frame_at shape start bytes ≡ r
-          → block_records shape streams start (take count bytes) ≡ block_records shape streams start bytes
-      by_answer (Err refusal) is =
-          block_refused shape streams start (take count bytes) refusal (same ∙ is) ∙ sym (block_refused shape streams start bytes refusal is)
-      by_answer (Ok head) is =
-          let frame = written.holds shape start bytes head is in
-          let said : head.sectors ≡ (head_of bytes).sectors = ap (λ (h : BlockHead). h.sectors) frame.numbers in
-          let all : 512 * head.sectors ≤ count = ⊎_elim (λ (own : 512 * (head_of bytes).sectors ≤ count). omega (arith, own, said))
-          (λ (largest : 512 * shape.block_sectors ≤ count). omega (arith, largest, frame.largest)) enough.all in
-          by_frame shape streams start (take count bytes) head (same ∙ is)
-          ∙ ap (λ (l : List ℕ). body streams start head l (rest_at (take count bytes) head)) (judged.payload bytes head count frame.used all)
-          ∙ ap (body streams start head (payload_of head.used bytes)) (judged.rest bytes head count frame.used all)
-          ∙ sym (by_frame shape streams start bytes head is)
-
   module _ (some : 1 ≤ shape.block_sectors) (all front : List ℕ) (is : IsFrontOf (512 * shape.block_sectors) all front) where
     front_enough : 512 * shape.block_sectors ≤ length front → IsEnough shape all (length front)
     front_enough long = record { first = omega (arith, long, some); all = inr long }
@@ -75,7 +45,7 @@ module _ (judged : AreJudgedAlone) (written : AreReadAsWritten) (shape : Shape) 
 
     pub front_block : block_records shape streams start front ≡ block_records shape streams start all
     front_block = ⊎_elim (λ (e : front ≡ all). ap (block_records shape streams start) e)
-        (λ long. ap (block_records shape streams start) is.is ∙ block_same all (length front) (front_enough long)) is.long
+        (λ long. ap (block_records shape streams start) is.is ∙ block_same judged written.holds shape streams start all (length front) (front_enough long)) is.long
 
 -- the sectors that a block says to have
 pub sectors_said : (bytes : List ℕ) → (head_of bytes).sectors ≡ block_sectors bytes
@@ -151,7 +121,7 @@ frame_closed shape streams start bytes is = by_answer (frame_at shape start byte
     by_answer (Err refusal) e = e ∙ ap refused (one_refusal refusal blocks.Closed (sym (block_refused shape streams start bytes refusal e) ∙ is))
     by_answer (Ok head) e = absurd (rest_has_no_gate bytes head
         (gate_behind (records_from streams (payload_of head.used bytes) head.records start 16) (rest_at bytes head)
-        (sym (by_frame shape streams start bytes head e) ∙ is)))
+        (sym (block_framed shape streams start bytes head e) ∙ is)))
 
 -- ---- a block in its container
 

@@ -13,14 +13,13 @@ use Rattle.clfs_block.specs.Judging.{AreReadAsWritten}
 use Rattle.clfs_block.specs.declared.head.BlockHead.{BlockHead}
 use Rattle.clfs_block.specs.declared.head.BlockRefusal.{BlockRefusal}
 use Rattle.clfs_block.specs.declared.head.BlockRefusal.TheVariants as blocks
-use Rattle.clfs_recover.specs.Records.{◌>>=◌, told_as, records_from, block_records}
+use Rattle.clfs_block.specs.Records.{◌>>=◌, told_as, records_from, block_records}
 use Rattle.clfs_recover.specs.Walk.{shape_of, damage_at}
 use Rattle.clfs_recover.specs.Stored.{stored_in, stored_records}
 use Rattle.clfs_recover.specs.KnownLogs.{LieIn, IsLogOf}
 use Rattle.clfs_recover.specs.declared.parts.Parts.{Parts}
 use Rattle.clfs_recover.proofs.Joined.{AreBoth, both_there}
-use Rattle.clfs_recover.proofs.Blocks.{block_refused}
-use Rattle.clfs_recover.proofs.Containers.{by_frame}
+use Rattle.clfs_block.specs.RecordLaws.{block_framed, block_refused}
 
 -- ---- of a block
 
@@ -67,7 +66,7 @@ block_count written shape streams start bytes entries is = by_answer (frame_at s
     by_answer (Err refusal) frame = let e = sym (block_refused shape streams start bytes refusal frame) ∙ is in absurd (cc e)
     by_answer (Ok head) frame =
         let count = by_records head (records_from streams (payload_of head.used bytes) head.records start 16) (rest_at bytes head)
-        (records_count streams (payload_of head.used bytes) head.records start 16) (sym (by_frame shape streams start bytes head frame) ∙ is) in
+        (records_count streams (payload_of head.used bytes) head.records start 16) (sym (block_framed shape streams start bytes head frame) ∙ is) in
         omega (arith, count, (written.holds shape start bytes head frame).records.1)
 
 -- ---- of a log

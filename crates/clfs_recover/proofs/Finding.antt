@@ -14,7 +14,7 @@ use Rattle.clfs_base.specs.declared.refusal.NewestRefusal.{NewestRefusal}
 use Rattle.clfs_base.specs.declared.refusal.NewestRefusal.TheVariants as newest
 use Rattle.clfs_base.specs.Decoding.{GivesNewest}
 use Rattle.clfs_base.specs.Slots.{newest_of}
-use Rattle.clfs_recover.specs.Records.{◌>>=◌}
+use Rattle.clfs_block.specs.Records.{◌>>=◌}
 use Rattle.clfs_recover.specs.Walk.{Container, shape_of, listed_records, place_behind, image_fault, slot_offset, parts_with, walked}
 use Rattle.clfs_recover.specs.Files.{AreListed, without_copy, FindsBehind, Finds}
 use Rattle.clfs_recover.specs.Gathering.{RefusesAs}

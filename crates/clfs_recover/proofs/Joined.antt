@@ -1,7 +1,7 @@
 -- Records of some blocks with those of others behind them.
 use Rattle.std.proofs.Common.{◌≡◌, List, [], ◌++◌, Result, Ok, Err, refl, sym, ap, append_assoc}
 use Rattle.clfs_lsn.specs.declared.entry.LogEntry.{LogEntry}
-use Rattle.clfs_recover.specs.Records.{◌>>=◌}
+use Rattle.clfs_block.specs.Records.{◌>>=◌}
 use Rattle.clfs_recover.specs.declared.refusal.LoadRefusal.{LoadRefusal}
 
 abbrev pub Records : Type 0

@@ -15,7 +15,7 @@ use Rattle.clfs_block.specs.declared.head.BlockHead.{BlockHead}
 use Rattle.clfs_block.specs.declared.head.BlockRefusal.{BlockRefusal}
 use Rattle.clfs_block.specs.declared.head.BlockRefusal.TheVariants as blocks
 use Rattle.clfs_model.specs.Storable.{behind_all}
-use Rattle.clfs_recover.specs.Records.{◌>>=◌, told_as, block_records}
+use Rattle.clfs_block.specs.Records.{◌>>=◌, told_as, block_records}
 use Rattle.clfs_recover.specs.Walk.{Container, damage_at, end_at, blocks_end, blocks_records, container_records, listed_records, last_end}
 use Rattle.clfs_recover.specs.Files.{AreListed}
 use Rattle.clfs_recover.proofs.Binding.{read, bound, one_value, told_value}

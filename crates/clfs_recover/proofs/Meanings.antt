@@ -17,7 +17,7 @@ use Rattle.clfs_base.specs.declared.image.BaseImage.{BaseImage}
 use Rattle.clfs_base.specs.declared.refusal.NewestRefusal.{NewestRefusal}
 use Rattle.clfs_base.specs.Slots.{newest_of}
 use Rattle.clfs_model.specs.declared.state.State.{State}
-use Rattle.clfs_recover.specs.Records.{◌>>=◌, told_as, block_records}
+use Rattle.clfs_block.specs.Records.{◌>>=◌, told_as, block_records}
 use Rattle.clfs_recover.specs.Walk.{Container, shape_of, damage_at, end_at, blocks_end, blocks_records, container_records, listed_records, last_end, walked}
 use Rattle.clfs_recover.specs.Walk.{image_fault, slot_offset}
 use Rattle.clfs_recover.specs.Files.{AreListed, without_copy, FindsBehind, Finds, state_of, StandsFor, IsDamaged, HasNoBase}

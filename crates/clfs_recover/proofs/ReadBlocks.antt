@@ -15,7 +15,7 @@ use Rattle.clfs_block.specs.Judging.{AreReadAsWritten}
 use Rattle.clfs_block.specs.declared.head.BlockHead.{BlockHead}
 use Rattle.clfs_block.specs.declared.head.BlockRefusal.{BlockRefusal}
 use Rattle.clfs_block.specs.declared.head.BlockRefusal.TheVariants as blocks
-use Rattle.clfs_recover.specs.Records.{◌>>=◌, told_as, records_from, block_records}
+use Rattle.clfs_block.specs.Records.{◌>>=◌, told_as, records_from, block_records}
 use Rattle.clfs_recover.specs.Stored.{FitFrom}
 use Rattle.clfs_recover.proofs.Binding.{bound, one_value, told_value}
 use Rattle.clfs_recover.proofs.Containers.{sectors_said}

@@ -16,7 +16,7 @@ use Rattle.clfs_block.specs.Judging.{AreReadAsWritten}
 use Rattle.clfs_block.specs.declared.head.BlockHead.{BlockHead}
 use Rattle.clfs_block.specs.declared.head.BlockRefusal.{BlockRefusal}
 use Rattle.clfs_block.specs.declared.head.BlockRefusal.TheVariants as blocks
-use Rattle.clfs_recover.specs.Records.{◌>>=◌, told_as, records_from, block_records}
+use Rattle.clfs_block.specs.Records.{◌>>=◌, told_as, records_from, block_records}
 use Rattle.clfs_recover.specs.Walk.{damage_at}
 use Rattle.clfs_recover.specs.Stored.{FitFrom, stored_in, stored_records, stored_end}
 use Rattle.clfs_recover.specs.Logs.{HaveRecords, all_records}

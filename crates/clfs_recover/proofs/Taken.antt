@@ -15,7 +15,8 @@ use Rattle.clfs_block.specs.Judging.{AreJudgedAlone, AreReadAsWritten}
 use Rattle.clfs_block.specs.declared.head.BlockHead.{BlockHead}
 use Rattle.clfs_block.specs.declared.head.BlockRefusal.{BlockRefusal}
 use Rattle.clfs_block.specs.declared.head.BlockRefusal.TheVariants as blocks
-use Rattle.clfs_recover.specs.Records.{told_as, block_records}
+use Rattle.clfs_block.specs.RecordLaws.{block_refused, block_same}
+use Rattle.clfs_block.specs.Records.{told_as, block_records}
 use Rattle.clfs_recover.specs.Walk.{damage_at, end_at, blocks_end, blocks_records, container_records}
 use Rattle.clfs_recover.specs.Stored.{stored_in}
 use Rattle.clfs_recover.specs.KnownLogs.{LieIn}
@@ -23,9 +24,8 @@ use Rattle.clfs_recover.specs.Gathering.{HasTaken, GathersBlock, RefusesAs, Take
 use Rattle.clfs_recover.specs.Fronts.{IsFrontOf}
 use Rattle.clfs_recover.specs.declared.refusal.LoadRefusal.{LoadRefusal}
 use Rattle.clfs_recover.specs.declared.refusal.LoadRefusal.TheVariants.{NoBase, Damaged, DiskFault, NoMemory}
-use Rattle.clfs_recover.proofs.Blocks.{block_refused}
 use Rattle.clfs_recover.proofs.Joined.{Records, joined, joined_nil, joined_assoc}
-use Rattle.clfs_recover.proofs.Containers.{block_same, front_frame, front_block, sectors_said, left_here, one_refusal, frame_closed, closed_gate, unread_gate}
+use Rattle.clfs_recover.proofs.Containers.{front_frame, front_block, sectors_said, left_here, one_refusal, frame_closed, closed_gate, unread_gate}
 
 abbrev none : Records
 none = Ok []
@@ -270,7 +270,7 @@ module _ (shape : Shape) (streams id : ℕ) (told : Type 0) (bytes : List ℕ) w
               (begins_with block head (judged.frame shape start front count enough ∙ is))
 
           read : block_records shape streams start block ≡ Ok gathers.0
-          read = block_same judged written shape streams start front count enough ∙ gathers.1
+          read = block_same judged written.holds shape streams start front count enough ∙ gathers.1
 
           block_bytes : AreBytes block
           block_bytes i = ⊎_elim (λ (within : i < count). subst (λ (n : ℕ). n < 256) (sym (get_or-take count front i 0 within)) (are_bytes i))
@@ -321,7 +321,7 @@ module _ (shape : Shape) (streams id : ℕ) (told : Type 0) (bytes : List ℕ) w
             by_more (block ∷ others) e opens =
                 let first = subst (λ (l : List ℕ). BeginsWith sectors_left l block) is_here opens.0 in
                 let same = ap (block_records shape streams start) first.is
-                ∙ block_same judged written shape streams start here (512 * block_sectors here)
+                ∙ block_same judged written.holds shape streams start here (512 * block_sectors here)
                 (record { first = omega (arith, first.some); all = inl (let e = sectors_said here in omega (arith, e)) }) in
                 ap (λ (r : Result (List LogEntry) BlockRefusal).
                 joined (told_as (damage_at id offset) r) (blocks_records shape streams id past_all (offset + length block) others)) (same ∙ here_wrong)

@@ -11,10 +11,9 @@ use Rattle.clfs_block.specs.Frame.{payload_of, used_bytes, used_payload}
 use Rattle.clfs_block.specs.Checks.{frame_at, rest_at, head_for}
 use Rattle.clfs_block.specs.Judging.{AreReadAsWritten}
 use Rattle.clfs_block.specs.declared.head.BlockHead.{BlockHead}
-use Rattle.clfs_recover.specs.Records.{records_from, block_records}
+use Rattle.clfs_block.specs.Records.{records_from, block_records}
 use Rattle.clfs_recover.specs.Stored.{FitFrom, HasRecords}
-use Rattle.clfs_recover.proofs.Steps.{behind, record_taken}
-use Rattle.clfs_recover.proofs.Blocks.{block_read}
+use Rattle.clfs_block.specs.RecordLaws.{behind, record_taken, block_read}
 
 -- a record that was written is read
 abbrev pub ReadsRecords : Type 0
@@ -60,4 +59,4 @@ block_written written reads sized shape streams start entries block few_streams 
     let records = subst (λ (l : List ℕ). records_from streams l (length entries) start 16 ≡ Ok entries) (sym payload)
     (written_records reads sized streams few_streams (used_payload 165 (length entries) content) entries start 16 refl (omega arith) has.fit
     (omega (arith, small, has.few))) in
-    block_read shape streams start block head frame entries head records rest
+    block_read shape streams start block head frame entries records head rest

@@ -1,4 +1,3 @@
-pub mod Records
 pub mod Walk
 pub mod Files
 pub mod Vector

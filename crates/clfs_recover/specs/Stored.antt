@@ -15,7 +15,7 @@ use Rattle.clfs_block.specs.Frame.{used_bytes, SpellsBlock}
 use Rattle.clfs_block.specs.Checks.{IsCount}
 use Rattle.clfs_base.specs.declared.image.BaseImage.{BaseImage}
 use Rattle.clfs_base.specs.Slots.{newest_of}
-use Rattle.clfs_recover.specs.Records.{◌>>=◌, told_as, block_records}
+use Rattle.clfs_block.specs.Records.{◌>>=◌, told_as, block_records}
 use Rattle.clfs_recover.specs.Walk.{damage_at, bases_with}
 use Rattle.clfs_recover.specs.declared.parts.Parts.{Parts}
 use Rattle.clfs_recover.specs.declared.refusal.LoadRefusal.{LoadRefusal}

@@ -19,7 +19,7 @@ use Rattle.clfs_base.specs.declared.image.Row.{Row}
 use Rattle.clfs_base.specs.Layout.{version_one, slot_bytes, row_place}
 use Rattle.clfs_base.specs.Spelling.{row_in}
 use Rattle.clfs_base.specs.Checks.{told}
-use Rattle.clfs_recover.specs.Records.{◌>>=◌, told_as, block_records}
+use Rattle.clfs_block.specs.Records.{◌>>=◌, told_as, block_records}
 use Rattle.clfs_recover.specs.declared.parts.Parts.{Parts}
 use Rattle.clfs_recover.specs.declared.refusal.LoadRefusal.{LoadRefusal}
 use Rattle.clfs_recover.specs.declared.refusal.LoadRefusal.TheVariants.{Damaged, NoMemory}

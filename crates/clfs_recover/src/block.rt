@@ -8,7 +8,7 @@ ghost use Rattle.clfs_base.specs.declared.image.Row.{Row};
 ghost use Rattle.clfs_block.specs.Frame.{payload_of};
 ghost use Rattle.clfs_block.specs.Checks.{frame_at, IsFramed};
 ghost use Rattle.clfs_block.specs.declared.head.BlockHead.{BlockHead};
-ghost use Rattle.clfs_recover.specs.Records.{block_records};
+ghost use Rattle.clfs_block.specs.Records.{block_records};
 ghost use Rattle.clfs_recover.specs.Walk.{damage_at};
 ghost use Rattle.clfs_recover.specs.Gathering.{HasTaken, GivesFrame, GathersBlock};
 

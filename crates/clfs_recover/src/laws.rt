@@ -7,7 +7,7 @@ ghost use Rattle.clfs_lsn.specs.declared.entry.LogEntry.{LogEntry};
 ghost use Rattle.clfs_disk.specs.Files.{Files};
 ghost use Rattle.clfs_base.specs.declared.image.BaseImage.{BaseImage};
 ghost use Rattle.clfs_model.specs.declared.state.State.{State};
-ghost use Rattle.clfs_recover.specs.Records.{block_records};
+ghost use Rattle.clfs_block.specs.Records.{block_records};
 ghost use Rattle.clfs_recover.specs.Walk.{shape_of, image_fault};
 ghost use Rattle.clfs_recover.specs.Files.{Finds, StandsFor, IsDamaged, HasNoBase};
 ghost use Rattle.clfs_recover.specs.Stored.{HasLog, HasRecords, stored_records, stored_place, stored_parts};

@@ -8,15 +8,16 @@ ghost use Rattle.clfs_lsn.specs.Spelling.{record_at, header_of};
 ghost use Rattle.clfs_lsn.specs.declared.entry.LogEntry.{LogEntry};
 ghost use Rattle.clfs_base.specs.declared.image.Row.{Row};
 ghost use Rattle.clfs_block.specs.Frame.{place_of};
-ghost use Rattle.clfs_recover.specs.Records.{told_as, records_from};
+ghost use Rattle.clfs_block.specs.Records.{told_as, records_from};
 ghost use Rattle.clfs_recover.specs.Gathering.{HasTaken, Gathers, GathersOne, IsNear};
 ghost use Rattle.clfs_recover.specs.Bases.{raised};
 ghost use Rattle.clfs_recover.specs.declared.refusal.LoadRefusal.TheVariants.{Damaged};
 
 use crate::gatherer::Gatherer;
 use crate::refusal::LoadRefusal;
-use clfs_lsn::{BLOCK_HEADER, Head, Lsn, RECORD_HEADER, SECTOR, SECTOR_PAYLOAD};
-use clfs_record::{HeadRefusal, RecordRefusal, decode_head, stream_of};
+use clfs_block::byte_of;
+use clfs_lsn::{BLOCK_HEADER, Head, Lsn, RECORD_HEADER};
+use clfs_record::{HeadRefusal, RecordRefusal, decode_head, stream_in};
 use std::alloc::{AllocError, Global};
 
 // The bytes of a record's header.
@@ -62,16 +63,6 @@ fn raise_base(bases: &mut Vec<Lsn>, head: &Head)
     bases[at] = bases[at].max(head.new_base);
 }
 
-// The number of the stream of the record at the front of bytes, or 0 where no header is there.
-fn stream_in(bytes: &[u8]) -> u16
-    ensures { record_header ≤ length bytes.now → result ≡ (header_of bytes.now).stream }
-{
-    if bytes.len() < HEADER {
-        return 0;
-    }
-    stream_of(bytes)
-}
-
 // Hands on the record at the front of bytes, and answers how many bytes spell it.
 fn gather_record<G: Gatherer>(
     alloc: Global,
@@ -94,14 +85,6 @@ fn gather_record<G: Gatherer>(
     gatherer.gather(alloc, &head, data)?;
     raise_base(bases, &head);
     Ok(size)
-}
-
-// The byte of a block that holds a byte of its payload.
-fn byte_of(p: u32) -> u32
-    requires { p < 2 ^ 31 }
-    ensures { result ≡ place_of p }
-{
-    SECTOR * (p / SECTOR_PAYLOAD) + p % SECTOR_PAYLOAD
 }
 
 // Hands on so many records of a block's used payload, which stand one behind the other and end where it ends.

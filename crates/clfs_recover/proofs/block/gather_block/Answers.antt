@@ -2,10 +2,11 @@ use Rattle.std.proofs.Common.{◌≡◌, ℕ, List, vec_len, Ok, sym, ◌∙◌,
 use Rattle.std.proofs.lemmas.Result.{err_from_is_err_and}
 use Rattle.clfs_lsn.specs.Lsn.{lsn_number}
 use Rattle.clfs_block.specs.declared.head.BlockRefusal.TheVariants.{Closed}
-use Rattle.clfs_recover.specs.Records.{told_as, records_from}
+use Rattle.clfs_block.specs.Records.{told_as, records_from}
 use Rattle.clfs_recover.specs.Gathering.{RefusesAs}
 use Rattle.clfs_recover.specs.declared.refusal.LoadRefusal.TheVariants.{Damaged}
-use Rattle.clfs_recover.proofs.Blocks.{block_refused, block_read, frame_refusal, records_refusal, rest_refusal, told_records}
+use Rattle.clfs_block.specs.RecordLaws.{block_refused, block_read}
+use Rattle.clfs_recover.proofs.Blocks.{frame_refusal, records_refusal, rest_refusal, told_records}
 use Rattle.clfs_recover.proofs.block.gather_block.Goals as goal
 
 pub returns-in_err-head-clause-exact : goal.returns-in_err-head-clause-exact
@@ -57,6 +58,6 @@ returns-clause-exact g c rows before taken =
     (told_records c.args.place.now.container c.args.place.now.offset read.0 (records_from streams c.as_slice.result.now head.records start 16) read.1) in (
       read.0,
       block_read c.args.shape.now streams start c.args.bytes.now head (rw c.in-Some.is at c.in_ok-head.ensures.exact) read.0
-          c.in_default-check_rest.field-0 right (sym c.check_rest.ensures ∙ c.in_default-check_rest.is),
+          right c.in_default-check_rest.field-0 (sym c.check_rest.ensures ∙ c.in_default-check_rest.is),
       read.2,
     )

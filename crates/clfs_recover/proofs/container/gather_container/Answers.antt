@@ -4,7 +4,7 @@ use Rattle.clfs_lsn.specs.Lsn.{lsn_number}
 use Rattle.clfs_disk.specs.Files.{Unchanged}
 use Rattle.clfs_disk.specs.State.{TellsContents}
 use Rattle.clfs_block.specs.Frame.{AreBytes}
-use Rattle.clfs_recover.specs.Records.{block_records}
+use Rattle.clfs_block.specs.Records.{block_records}
 use Rattle.clfs_recover.specs.Gathering.{GathersBlock}
 use Rattle.clfs_recover.specs.declared.refusal.LoadRefusal.{LoadRefusal}
 use Rattle.clfs_recover.proofs.Containers.{block_end}

@@ -4,11 +4,11 @@ use Rattle.clfs_lsn.specs.Lsn.{lsn_number}
 use Rattle.clfs_lsn.specs.Spelling.{record_at}
 use Rattle.clfs_lsn.specs.declared.entry.LogEntry.{LogEntry}
 use Rattle.clfs_block.specs.Frame.{place_of}
-use Rattle.clfs_recover.specs.Records.{told_as, records_from}
+use Rattle.clfs_block.specs.Records.{told_as, records_from}
 use Rattle.clfs_recover.specs.Gathering.{HasTaken, RefusesAs}
 use Rattle.clfs_recover.specs.declared.refusal.LoadRefusal.{LoadRefusal}
 use Rattle.clfs_recover.specs.declared.refusal.LoadRefusal.TheVariants.{Damaged}
-use Rattle.clfs_recover.proofs.Steps.{behind-nil, no_header, record_wrong, records_step, records_stop, records_done, records_uneven}
+use Rattle.clfs_block.specs.RecordLaws.{behind-nil, no_header, record_wrong, records_step, records_stop, records_done, records_uneven}
 use Rattle.clfs_recover.proofs.records.gather_records.Goals as goal
 
 abbrev told : ℕ → ℕ → Result (List LogEntry) ℕ → Result (List LogEntry) LoadRefusal

@@ -2,7 +2,7 @@ use Rattle.std.proofs.Common.{◌≡◌, ◌+◌, ◌-◌, ◌≤◌, List, leng
 use Rattle.clfs_lsn.specs.Lsn.{lsn_number}
 use Rattle.clfs_lsn.specs.declared.entry.LogEntry.{LogEntry}
 use Rattle.clfs_base.specs.declared.image.Row.{Row}
-use Rattle.clfs_recover.specs.Records.{records_from}
+use Rattle.clfs_block.specs.Records.{records_from}
 use Rattle.clfs_recover.specs.Gathering.{HasTaken}
 use Rattle.clfs_recover.proofs.Steps.{Reached}
 use Rattle.clfs_recover.proofs.records.gather_records.Given as goal

@@ -1,7 +1,7 @@
 use Rattle.std.proofs.Common.{refl}
 use Rattle.clfs_lsn.specs.Spelling.{record_at}
 use Rattle.clfs_block.specs.Checks.{frame_at, sectors_at}
-use Rattle.clfs_recover.specs.Records.{block_records}
+use Rattle.clfs_block.specs.Records.{block_records}
 use Rattle.clfs_recover.proofs.rows.walks_of_a_small_log.Goals as goal
 
 pub returns : goal.returns

@@ -1,0 +1,232 @@
+-- What a change of the table of blocks leaves in it.
+use Rattle.std.proofs.Common.{◌≡◌, ◌≢◌, ◌⊎◌, inl, inr, ⊎_elim, ℕ, zero, suc, ◌+◌, ◌-◌, Bool, true, false, cond, eqb, not, ◌&&◌, List, [], ◌∷◌, length, take, Option, Some, None, refl, sym, ◌∙◌, ap, subst, arith}
+use Rattle.std.specs.Prelude.{find, filter, Contains, IsSome}
+use Rattle.std.specs.Map.{keys_of, lookup, lookup_entry, remove_entry}
+use Rattle.std.specs.Option.{option_map_or}
+use Rattle.std.proofs.lemmas.Bool.Decides.{nat_tests}
+use Rattle.std.proofs.lemmas.Bool.{eq-eqb}
+use Rattle.std.proofs.lemmas.Map.Entries.{lookup-filter-keys}
+use Rattle.std.proofs.lemmas.List.Elements.{All-contains, All-contains_itself, All-filter, Contains-append_cases, Contains-push_cases}
+use Rattle.lru.specs.LruCache.{LruCache, lru_cache, promoted, put_entries}
+use Rattle.lru.proofs.CallerLemmas.{Contains-take, Contains-lookup_entry, Contains-lookup, Contains-promoted}
+use Rattle.clfs_lsn.specs.declared.entry.LogEntry.{LogEntry}
+use Rattle.clfs_buffers.specs.declared.place.BlockPlace.{BlockPlace}
+use Rattle.clfs_buffers.specs.Reading.{first_lsn}
+use Rattle.clfs_buffers.specs.Kept.{HaveLsns}
+use Rattle.clfs_buffers.specs.Buffered.{Buffered, most_blocks, is_same_place, kept_at, with_used, with_block, without_container, IsBuffered}
+
+-- where nothing is found, no entry is there
+pub no_entry : {K V : Type 0} (test : K → Bool) (es : List (K × V)) → lookup test es ≡ None → lookup_entry test es ≡ None
+no_entry test [] e = refl
+no_entry {V = V} test (x ∷ es) e = (elim (test x.0) as (λ b. cond b (Some x.1) (lookup test es) ≡ None → cond b (Some x) (lookup_entry test es) ≡ None) [
+  | true ↦ λ h. absurd (cc h)
+  | false ↦ λ h. no_entry test es h
+]) e
+
+-- what is new goes first
+pub put_first : {K V : Type 0} (eq : K → K → Bool) (c : LruCache K V) (k : K) (v : V) → lookup (eq k) c.entries ≡ None
+    → put_entries eq c k v ≡ (k, v) ∷ take (c.cap - 1) c.entries
+put_first eq c k v e = ap (λ o. option_map_or (λ x. (x.0, v) ∷ remove_entry (eq k) c.entries) o ((k, v) ∷ take (c.cap - 1) c.entries)) (no_entry (eq k) c.entries e)
+
+-- a place is its own
+pub same_place : (place : BlockPlace) → is_same_place place place ≡ true
+same_place place = grind (arith, nat_tests)
+
+-- places in two containers are two
+other_place : (a b : BlockPlace) (container : ℕ) → eqb a.container container ≡ true → eqb b.container container ≡ false → is_same_place a b ≡ false
+other_place a b container p q = grind (arith, nat_tests)
+
+module _ (container : ℕ) where
+  abbrev is_in : BlockPlace → Bool
+  is_in place = eqb place.container container
+
+  -- what is found passes
+  found_in : (places : List BlockPlace) (place : BlockPlace) → find is_in places ≡ Some place → is_in place ≡ true
+  found_in [] place e = absurd (cc e)
+  found_in (x ∷ places) place e = (elim (is_in x) as (λ b. is_in x ≡ b → cond b (Some x) (find is_in places) ≡ Some place → is_in place ≡ true) [
+    | true ↦ λ b h. let same : x ≡ place = cc h in ap is_in (sym same) ∙ b
+    | false ↦ λ b h. found_in places place h
+  ]) refl e
+
+  -- the others stay where one of the container's goes
+  pub forgot_one : (es : Buffered) (place : BlockPlace) → find is_in (keys_of es) ≡ Some place
+      → without_container container (remove_entry (is_same_place place) es) ≡ without_container container es
+  forgot_one [] place e = absurd (cc e)
+  forgot_one (x ∷ es) place e = (elim (is_in x.0) as (λ b. is_in x.0 ≡ b → cond b (Some x.0) (find is_in (keys_of es)) ≡ Some place
+      → without_container container (remove_entry (is_same_place place) (x ∷ es)) ≡ without_container container (x ∷ es)) [
+        | true ↦ λ b h. let same : x.0 ≡ place = cc h in
+            let gone : is_same_place place x.0 ≡ true = ap (is_same_place place) same ∙ same_place place in
+            rw (gone, b) refl
+        | false ↦ λ b h. let stays = other_place place x.0 container (found_in (keys_of es) place h) b in
+            rw (stays, b) (ap (λ (l : Buffered). x ∷ l) (forgot_one es place h))
+      ]) refl e
+
+  -- and there is one fewer
+  pub one_fewer : (es : Buffered) (place : BlockPlace) → find is_in (keys_of es) ≡ Some place
+      → length (remove_entry (is_same_place place) es) + 1 ≡ length es
+  one_fewer [] place e = absurd (cc e)
+  one_fewer (x ∷ es) place e = (elim (is_in x.0) as (λ b. is_in x.0 ≡ b → cond b (Some x.0) (find is_in (keys_of es)) ≡ Some place
+      → length (remove_entry (is_same_place place) (x ∷ es)) + 1 ≡ length (x ∷ es)) [
+        | true ↦ λ b h. let same : x.0 ≡ place = cc h in
+            let gone : is_same_place place x.0 ≡ true = ap (is_same_place place) same ∙ same_place place in
+            rw gone (omega arith)
+        | false ↦ λ b h. let stays = other_place place x.0 container (found_in (keys_of es) place h) b in
+            let fewer = one_fewer es place h in
+            rw stays (omega (arith, fewer))
+      ]) refl e
+
+  -- where none is found, none goes
+  pub none_goes : (es : Buffered) → find is_in (keys_of es) ≡ None → without_container container es ≡ es
+  none_goes [] e = refl
+  none_goes (x ∷ es) e = (elim (is_in x.0) as (λ b. is_in x.0 ≡ b → cond b (Some x.0) (find is_in (keys_of es)) ≡ None
+      → without_container container (x ∷ es) ≡ x ∷ es) [
+        | true ↦ λ b h. absurd (cc h)
+        | false ↦ λ b h. rw b (ap (λ (l : Buffered). x ∷ l) (none_goes es h))
+      ]) refl e
+
+-- a test of places passes for one place alone
+pub one_place : (a b : BlockPlace) → is_same_place a b ≡ true → a ≡ b
+one_place a b e =
+    let container : a.container ≡ b.container = grind (arith, nat_tests) in
+    let offset : a.offset ≡ b.offset = grind (arith, nat_tests) in
+    λ i. record { container = container i; offset = offset i }
+
+-- what is found in a table is what is kept at the place that is meant
+pub kept_is : (inside now : Buffered) (place meant : BlockPlace) (found : Option (List LogEntry)) → inside ≡ now → place ≡ meant
+    → found ≡ lookup (is_same_place place) inside → kept_at meant now ≡ found
+kept_is inside now place meant found same is at = (λ i. kept_at (sym is i) (sym same i)) ∙ sym at
+
+-- a block is kept or not
+pub not_both : (blocks : Buffered) (place : BlockPlace) (records : List LogEntry) → kept_at place blocks ≡ Some records → kept_at place blocks ≡ None → ⊥
+not_both blocks place records some none = let clash = sym some ∙ none in absurd (cc clash)
+
+pub not_some : (blocks : Buffered) (place : BlockPlace) → kept_at place blocks ≡ None → IsSome (kept_at place blocks) → ⊥
+not_some blocks place none some = let clash = subst IsSome none some in cc clash
+
+-- of one place the records of one block are kept
+pub one_block : (blocks : Buffered) (place : BlockPlace) (a b : List LogEntry) → kept_at place blocks ≡ Some a → kept_at place blocks ≡ Some b → a ≡ b
+one_block blocks place a b p q = let same = sym p ∙ q in cc same
+
+-- the records of a block that is found have the LSNs of its place
+pub found_lsns : (table : LruCache BlockPlace (List LogEntry)) (place : BlockPlace) (records : List LogEntry) → IsBuffered table
+    → lookup (is_same_place place) table.entries ≡ Some records → HaveLsns (first_lsn place) records
+found_lsns table place records is found =
+    let at = Contains-lookup (is_same_place place) table.entries records found in
+    subst (λ (p : BlockPlace). HaveLsns (first_lsn p) records) (sym (one_place place at.0 at.2)) (is.lsns at.0 records at.1)
+
+-- a block that was used is kept as before
+pub used_stays : (table new : LruCache BlockPlace (List LogEntry)) (place : BlockPlace) → IsBuffered table
+    → new ≡ lru_cache (promoted (is_same_place place) table.entries) table.cap → IsBuffered new
+used_stays table new place is change = subst IsBuffered (sym change) (record {
+  room = is.room;
+  lsns = λ p records has. is.lsns p records (Contains-promoted (is_same_place place) table.entries (p, records) has);
+})
+
+-- with another block the table is one still
+pub joined_stays : (table new : LruCache BlockPlace (List LogEntry)) (place : BlockPlace) (block : List LogEntry) → IsBuffered table → HaveLsns (first_lsn place) block
+    → new ≡ lru_cache ((place, block) ∷ take (table.cap - 1) table.entries) table.cap → IsBuffered new
+joined_stays table new place block is lsns change = subst IsBuffered (sym change) (record { room = is.room; lsns = among })
+  where
+    among : (p : BlockPlace) (records : List LogEntry) → Contains ((place, block) ∷ take (table.cap - 1) table.entries) (p, records) → HaveLsns (first_lsn p) records
+    among p records has = ⊎_elim
+        (λ first. ⊎_elim (λ none. absurd (omega (arith, none.1)))
+        (λ (e : (place, block) ≡ (p, records)). subst (λ (x : BlockPlace × List LogEntry). HaveLsns (first_lsn x.0) x.1) e lsns)
+        (Contains-push_cases [] (place, block) (p, records) first))
+        (λ later. is.lsns p records (Contains-take (table.cap - 1) table.entries (p, records) later))
+        (Contains-append_cases ((place, block) ∷ []) (take (table.cap - 1) table.entries) (p, records) has)
+
+-- it has that block first, and of the others as many as there is room for
+pub joined_is : (table new : LruCache BlockPlace (List LogEntry)) (now : Buffered) (place meant : BlockPlace) (block : List LogEntry) → table.cap ≡ most_blocks
+    → table.entries ≡ now → place ≡ meant → new ≡ lru_cache ((place, block) ∷ take (table.cap - 1) table.entries) table.cap
+    → new.entries ≡ with_block meant block now
+joined_is table new now place meant block room same is change =
+    ap (λ (t : LruCache BlockPlace (List LogEntry)). t.entries) change ∙ (λ i. (is i, block) ∷ take (room i - 1) (same i))
+
+-- and so it is without some
+pub forgotten_stays : (table new : LruCache BlockPlace (List LogEntry)) (container : ℕ) → IsBuffered table
+    → new ≡ lru_cache (without_container container table.entries) table.cap → IsBuffered new
+forgotten_stays table new container is change = subst IsBuffered (sym change) (record {
+  room = is.room;
+  lsns = λ p records has. is.lsns p records (All-contains (Contains table.entries) (without_container container table.entries) (p, records)
+      (All-filter (λ (block : BlockPlace × List LogEntry). not (eqb block.0.container container)) (Contains table.entries) table.entries
+      (All-contains_itself table.entries)) has);
+})
+
+-- ---- what is kept of a place after a change
+
+module _ (other place : BlockPlace) where
+  -- the block that is found goes first, past one that is not it
+  past_another : (x y : BlockPlace × List LogEntry) (rest all : Option (List LogEntry)) → is_same_place place x.0 ≡ true → is_same_place place y.0 ≡ false
+      → cond (is_same_place other x.0) (Some x.1) rest ≡ all
+      → cond (is_same_place other x.0) (Some x.1) (cond (is_same_place other y.0) (Some y.1) rest) ≡ cond (is_same_place other y.0) (Some y.1) all
+  past_another x y rest all found another is = (elim (is_same_place other y.0) as (λ b. is_same_place other y.0 ≡ b
+      → cond (is_same_place other x.0) (Some x.1) (cond b (Some y.1) rest) ≡ cond b (Some y.1) all) [
+        | true ↦ λ at_y. (elim (is_same_place other x.0) as (λ b. is_same_place other x.0 ≡ b → cond b (Some x.1) (Some y.1) ≡ Some y.1) [
+          | true ↦ λ at_x.
+              let here : is_same_place place y.0 ≡ true =
+              ap (is_same_place place) (sym (one_place other y.0 at_y) ∙ one_place other x.0 at_x) ∙ found in
+              let clash = sym here ∙ another in absurd (cc clash)
+          | false ↦ λ at_x. refl
+        ]) refl
+        | false ↦ λ at_y. is
+      ]) refl
+
+  -- so what is kept of a place is as it was
+  moved_first : (es : Buffered) (x : BlockPlace × List LogEntry) → lookup_entry (is_same_place place) es ≡ Some x
+      → kept_at other (x ∷ remove_entry (is_same_place place) es) ≡ kept_at other es
+  moved_first [] x e = absurd (cc e)
+  moved_first (y ∷ es) x e = (elim (is_same_place place y.0) as (λ b. is_same_place place y.0 ≡ b
+      → cond b (Some y) (lookup_entry (is_same_place place) es) ≡ Some x
+      → kept_at other (x ∷ cond b es (y ∷ remove_entry (is_same_place place) es)) ≡ kept_at other (y ∷ es)) [
+        | true ↦ λ b h. let same : y ≡ x = cc h in ap (λ (z : BlockPlace × List LogEntry). kept_at other (z ∷ es)) (sym same)
+        | false ↦ λ b h. past_another x y (kept_at other (remove_entry (is_same_place place) es)) (kept_at other es)
+            (Contains-lookup_entry (is_same_place place) es x h).1 b (moved_first es x h)
+      ]) refl e
+
+  pub used_same : (blocks : Buffered) → kept_at other (with_used place blocks) ≡ kept_at other blocks
+  used_same blocks = by_entry (lookup_entry (is_same_place place) blocks) refl
+    where
+      by_entry : (o : Option (BlockPlace × List LogEntry)) → lookup_entry (is_same_place place) blocks ≡ o
+          → kept_at other (option_map_or (λ e. e ∷ remove_entry (is_same_place place) blocks) o blocks) ≡ kept_at other blocks
+      by_entry None e = refl
+      by_entry (Some x) e = moved_first blocks x e
+
+  -- what is found among the first blocks of a table is kept in it
+  among_first : (n : ℕ) (blocks : Buffered) (found : List LogEntry) → kept_at other (take n blocks) ≡ Some found → kept_at other blocks ≡ Some found
+  among_first zero blocks found e = absurd (cc e)
+  among_first (suc n) [] found e = absurd (cc e)
+  among_first (suc n) (x ∷ blocks) found e = (elim (is_same_place other x.0) as (λ b. cond b (Some x.1) (kept_at other (take n blocks)) ≡ Some found
+      → cond b (Some x.1) (kept_at other blocks) ≡ Some found) [
+        | true ↦ λ h. h
+        | false ↦ λ h. among_first n blocks found h
+      ]) e
+
+  pub joined_or_before : (blocks : Buffered) (records found : List LogEntry) → kept_at other (with_block place records blocks) ≡ Some found
+      → ((other ≡ place) × (found ≡ records)) ⊎ (kept_at other blocks ≡ Some found)
+  joined_or_before blocks records found e = (elim (is_same_place other place) as (λ b. is_same_place other place ≡ b
+      → cond b (Some records) (kept_at other (take (most_blocks - 1) blocks)) ≡ Some found
+      → ((other ≡ place) × (found ≡ records)) ⊎ (kept_at other blocks ≡ Some found)) [
+        | true ↦ λ b h. inl (one_place other place b, cc h)
+        | false ↦ λ b h. inr (among_first (most_blocks - 1) blocks found h)
+      ]) refl e
+
+-- a block that is added is kept
+pub added_is_kept : (blocks : Buffered) (place : BlockPlace) (records : List LogEntry) → kept_at place (with_block place records blocks) ≡ Some records
+added_is_kept blocks place records = rw (same_place place) refl
+
+-- what is kept without a container's blocks is of another one, and was kept before
+pub forgotten_or_before : (blocks : Buffered) (container : ℕ) (other : BlockPlace) (found : List LogEntry) → kept_at other (without_container container blocks) ≡ Some found
+    → (other.container ≢ container) × (kept_at other blocks ≡ Some found)
+forgotten_or_before blocks container other found e = (elim (eqb other.container container) as (λ b. eqb other.container container ≡ b
+    → (other.container ≢ container) × (kept_at other blocks ≡ Some found)) [
+      | true ↦ λ b. let none = filtered false (λ k t. ap (λ (p : BlockPlace). not (eqb p.container container)) (sym (one_place other k t)) ∙ ap not b) in
+          let clash = sym e ∙ none in absurd (cc clash)
+      | false ↦ λ b. (
+        λ same. let is : eqb other.container container ≡ true = eq-eqb other.container container same in let clash = sym is ∙ b in cc clash,
+        sym (filtered true (λ k t. ap (λ (p : BlockPlace). not (eqb p.container container)) (sym (one_place other k t)) ∙ ap not b)) ∙ e,
+      )
+    ]) refl
+  where
+    filtered : (b : Bool) → ((k : BlockPlace) → is_same_place other k ≡ true → not (eqb k.container container) ≡ b)
+        → kept_at other (without_container container blocks) ≡ cond b (kept_at other blocks) None
+    filtered b answers = lookup-filter-keys (is_same_place other) (λ (p : BlockPlace). not (eqb p.container container)) b answers blocks

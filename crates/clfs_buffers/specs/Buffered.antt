@@ -1,0 +1,48 @@
+-- The blocks that are kept: where each lies and the records that were read there, the one used last first.
+use Rattle.std.specs.Prelude.{◌≡◌, ℕ, ◌+◌, ◌-◌, ◌==◌, ◌&&◌, Bool, not, List, [], ◌∷◌, take, filter, Contains, Option, Ok}
+use Rattle.std.specs.Map.{lookup}
+use Rattle.lru.specs.LruCache.{LruCache, promoted}
+use Rattle.clfs_lsn.specs.declared.entry.LogEntry.{LogEntry}
+use Rattle.clfs_lsn.specs.declared.shape.Shape.{Shape}
+use Rattle.clfs_block.specs.Records.{block_records}
+use Rattle.clfs_buffers.specs.declared.place.BlockPlace.{BlockPlace}
+use Rattle.clfs_buffers.specs.Reading.{first_lsn}
+use Rattle.clfs_buffers.specs.Kept.{HaveLsns}
+
+-- the most blocks that are kept
+abbrev pub most_blocks : ℕ
+most_blocks = 32
+
+-- what is kept
+abbrev pub Buffered : Type 0
+Buffered = List (BlockPlace × List LogEntry)
+
+-- two places are the same one
+abbrev pub is_same_place : BlockPlace → BlockPlace → Bool
+is_same_place a b = (a.container == b.container) && (a.offset == b.offset)
+
+-- the records of the block that is kept of a place
+abbrev pub kept_at : BlockPlace → Buffered → Option (List LogEntry)
+kept_at place blocks = lookup (is_same_place place) blocks
+
+-- a block was used
+abbrev pub with_used : BlockPlace → Buffered → Buffered
+with_used place blocks = promoted (is_same_place place) blocks
+
+-- another block is kept, and where there are too many, the one that wasn't used for longest goes
+abbrev pub with_block : BlockPlace → List LogEntry → Buffered → Buffered
+with_block place records blocks = (place, records) ∷ take (most_blocks - 1) blocks
+
+-- no block of a container is kept
+abbrev pub without_container : ℕ → Buffered → Buffered
+without_container container blocks = filter (λ (block : BlockPlace × List LogEntry). not (block.0.container == container)) blocks
+
+-- Bytes were read of a place, and these are the records of the block in them, in a log of this shape and of so many streams.
+pub record IsRead (shape : Shape) (streams : ℕ) (place : BlockPlace) (records : List LogEntry) : Type 0 where
+  pub bytes : List ℕ
+  pub is : block_records shape streams (first_lsn place) bytes ≡ Ok records
+
+-- What a table of blocks is: there is room for so many, and each block's records have the LSNs of its place.
+pub record IsBuffered (table : LruCache BlockPlace (List LogEntry)) : Type 0 where
+  pub room : table.cap ≡ most_blocks
+  pub lsns : (place : BlockPlace) (records : List LogEntry) → Contains table.entries (place, records) → HaveLsns (first_lsn place) records

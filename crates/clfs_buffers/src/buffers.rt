@@ -1,0 +1,182 @@
+// The blocks that are kept, by their places. The memory of a block that goes serves the next one that is read, and that of the bytes as the
+// disk gives them serves all reads.
+ghost use Rattle.std.specs.Prelude.{◌≡◌, ◌-◌, ◌≤◌, ◌==◌, ◌∷◌, List, [], drop, take, find, None, Some, Ok, IsSome, IfOk, OnOk, OnErr, IsErrOf};
+ghost use Rattle.std.specs.Map.{keys_of, lookup};
+ghost use Rattle.lru.specs.LruCache.{lru_cache};
+ghost use Rattle.std.specs.Option.{ok_or};
+ghost use Rattle.clfs_lsn.specs.Limits.{most_block_records};
+ghost use Rattle.clfs_lsn.specs.Lsn.{offset_of};
+ghost use Rattle.clfs_lsn.specs.Size.{IsShape};
+ghost use Rattle.clfs_lsn.specs.declared.entry.LogEntry.{LogEntry};
+ghost use Rattle.clfs_disk.specs.Files.{Unchanged};
+ghost use Rattle.clfs_disk.specs.State.{TellsContents, IsSteady, Passes, Rises, raised};
+ghost use Rattle.clfs_block.specs.Records.{block_records};
+ghost use Rattle.clfs_buffers.specs.Reading.{block_place, first_lsn, record_in, record_by, Gives};
+ghost use Rattle.clfs_buffers.specs.Kept.{HaveLsns};
+ghost use Rattle.clfs_buffers.specs.Buffered.{is_same_place, kept_at, with_used, with_block, without_container, IsRead};
+
+use crate::kept::KeptBlock;
+use crate::place::BlockPlace;
+use crate::reading::read_kept;
+use crate::refusal::ReadRefusal;
+use clfs_disk::Disk;
+use clfs_lsn::{LogEntry, Lsn, Shape};
+use lru::LruCache;
+use std::alloc::{AllocError, Global};
+use std::marker::Model;
+use std::mem;
+use std::num::NonZeroUsize;
+
+/// The most blocks that are kept.
+pub const MOST_BLOCKS: usize = 32;
+
+/// The blocks that were read. A contract sees where each lies and its records, the one used last first.
+#[derive(Drop)]
+pub struct Buffers {
+    alloc: Global,
+    table: LruCache<BlockPlace, KeptBlock>,
+    spare: KeptBlock,
+    bytes: Vec<u8>,
+}
+
+impl Model for Buffers {
+    ghost use Rattle.clfs_buffers.specs.Buffered.{Buffered};
+
+    ghost Value = { Buffered };
+
+    ghost use Rattle.clfs_buffers.specs.Buffered.{IsBuffered};
+
+    ghost view = { λ b. b.table.entries };
+
+    ghost invariant = { λ b. IsBuffered b.table };
+}
+
+impl Buffers {
+    /// No blocks. The memory of the table is taken here.
+    pub fn new(alloc: Global) -> Result<Buffers, AllocError>
+        ensures { IfOk result (λ buffers. buffers ≡ []) }
+    {
+        let most = NonZeroUsize::new(MOST_BLOCKS).unwrap();
+        Ok(Buffers {
+            alloc,
+            table: LruCache::new(alloc, most)?,
+            spare: KeptBlock::new(alloc),
+            bytes: Vec::new(alloc),
+        })
+    }
+
+    /// The record at an LSN of a log of so many streams, whose container lies in this file.
+    pub fn read<D: Disk>(
+        &mut self,
+        disk: &mut D,
+        shape: &Shape,
+        streams: u16,
+        file: u16,
+        lsn: Lsn,
+    ) -> Result<LogEntry, ReadRefusal>
+        requires shape { IsShape shape.now }
+        requires file { file ≤ 256 }
+
+        // A block that is kept answers from its records, and is then the one used last. The disk isn't called.
+        ensures kept { (records : List LogEntry) → kept_at (block_place lsn) self.old ≡ Some records → Gives result (record_in lsn records) }
+        ensures used { IsSome (kept_at (block_place lsn) self.old) → OnOk result (self.new ≡ with_used (block_place lsn) self.old) }
+        ensures quiet { IsSome (kept_at (block_place lsn) self.old) → disk.new ≡ disk.old }
+
+        // One that isn't kept answers what the file has there, and is kept.
+        ensures read { kept_at (block_place lsn) self.old ≡ None → TellsContents (D.state disk.old)
+            → Gives result (record_by shape.now streams lsn (drop (offset_of lsn) ((D.state disk.old).files file))) }
+        ensures joins { kept_at (block_place lsn) self.old ≡ None → IfOk result (λ entry. (records : List LogEntry)
+            × (self.new ≡ with_block (block_place lsn) records self.old) × (record_in lsn records ≡ Ok entry)
+            × IsRead shape.now streams (block_place lsn) records
+            × (TellsContents (D.state disk.old)
+            → block_records shape.now streams (first_lsn (block_place lsn)) (drop (offset_of lsn) ((D.state disk.old).files file)) ≡ Ok records)) }
+
+        // After a refusal the blocks that are kept are as before.
+        ensures refused { OnErr result (self.new ≡ self.old) }
+        ensures lsn { IfOk result (λ entry. entry.lsn ≡ lsn) }
+        ensures same { Unchanged (D.state disk.old).files (D.state disk.new).files }
+        ensures time { Passes Unchanged (D.state disk.old) (D.state disk.new) }
+        ensures calls { kept_at (block_place lsn) self.old ≡ None → OnOk result ((D.state disk.new).calls ≡ raised 1 (D.state disk.old).calls) }
+        ensures calls_at_most { raised 0 (D.state disk.new).calls ≤ raised 1 (D.state disk.old).calls }
+        ensures cause { IsErrOf result ReadRefusal.DiskFault → Rises (D.state disk.old).faults (D.state disk.new).faults }
+        ensures steady { IsSteady (D.state disk.old) → (IsErrOf result ReadRefusal.DiskFault → ⊥)
+            × ((D.state disk.new).faults ≡ (D.state disk.old).faults) }
+    {
+        let place = BlockPlace::of(lsn);
+        if let Some(block) = self.table.peek(&place) {
+            let entry = block.entry(self.alloc, lsn.sequence())?;
+            self.table.promote(&place);
+            return Ok(entry);
+        }
+        let spare = mem::replace(&mut self.spare, KeptBlock::new(self.alloc));
+        let block = read_kept(
+            self.alloc,
+            disk,
+            shape,
+            streams,
+            file,
+            place,
+            &mut self.bytes,
+            spare,
+        )?;
+        let entry = block.entry(self.alloc, lsn.sequence())?;
+        keep(&mut self.table, place, block, &mut self.spare)?;
+        Ok(entry)
+    }
+
+    /// Forgets the blocks of a container, whose file is taken for another. It takes no memory.
+    pub fn forget_container(&mut self, container: u32)
+        ensures { self.new ≡ without_container container self.old }
+    {
+        forget_blocks(&mut self.table, container);
+    }
+
+    /// Forgets all blocks, for a log that is opened anew. It takes no memory.
+    pub fn clear(&mut self)
+        ensures { self.new ≡ [] }
+    {
+        self.table.clear();
+    }
+}
+
+// The place of a block of a container, if one is kept.
+fn place_in(table: &LruCache<BlockPlace, KeptBlock>, container: u32) -> Option<BlockPlace>
+    ensures { result ≡ find (λ (place : BlockPlace). place.container == container) (keys_of table.now.entries) }
+{
+    table
+        .iter()
+        .map(|(place, _)| *place)
+        .find(|place| place.container == container)
+}
+
+// Forgets the blocks of a container.
+fn forget_blocks(table: &mut LruCache<BlockPlace, KeptBlock>, container: u32)
+    ensures { table.new ≡ lru_cache (without_container container table.old.entries) table.old.cap }
+{
+    while let Some(place) = place_in(table, container) {
+        table.pop(&place);
+    }
+}
+
+// Keeps one more block. The memory of the one that goes for it becomes the spare one.
+fn keep(
+    table: &mut LruCache<BlockPlace, KeptBlock>,
+    place: BlockPlace,
+    block: KeptBlock,
+    spare: &mut KeptBlock,
+) -> Result<(), AllocError>
+    requires new { lookup (is_same_place place) table.old.entries ≡ None }
+    ensures ok { OnOk result (table.new ≡ lru_cache ((place, block) ∷ take (table.old.cap - 1) table.old.entries) table.old.cap) }
+    ensures err { OnErr result (table.new ≡ table.old) }
+{
+    match table.push(place, block) {
+        Ok(Some((_, old))) => *spare = old,
+        Ok(None) => {}
+        Err(failed) => {
+            let (_, block) = failed.value;
+            *spare = block;
+            return Err(AllocError);
+        }
+    }
+    Ok(())
+}
