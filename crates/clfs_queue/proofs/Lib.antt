@@ -1,3 +1,6 @@
 pub mod InRow
 pub mod Contents
 pub mod Holding
+pub mod Blocks
+pub mod Keeping
+pub mod Sealing

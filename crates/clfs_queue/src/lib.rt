@@ -9,8 +9,12 @@
 //! container begins. A crash loses what the queue holds; whatever is written of it is a whole group or none of it.
 #![tactic(auto)]
 
+mod laws;
 mod placing;
+mod queue;
 mod reading;
 mod writing;
 
+pub use laws::a_record_goes_where_it_went;
 pub use placing::Placing;
+pub use queue::Queue;
