@@ -4,3 +4,4 @@ pub mod Holding
 pub mod Blocks
 pub mod Keeping
 pub mod Sealing
+pub mod Taking

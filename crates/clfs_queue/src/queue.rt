@@ -15,13 +15,13 @@ ghost use Rattle.clfs_queue.specs.Group.{IsGroupOf};
 
 use crate::placing::Placing;
 use crate::reading::read_record;
-use crate::writing::{begin_block, push_record};
+use crate::writing::{open_block, push_record};
 use clfs_block::seal_block;
 use clfs_lsn::{
-    BLOCK_HEADER, Bytes, LogEntry, Lsn, OPEN_GATE, Place, SECTOR, Shape, place_after, push_zeros,
+    Bytes, LogEntry, Lsn, OPEN_GATE, Place, SECTOR, Shape, place_after, push_zeros,
     sealed,
 };
-use clfs_record::Fields;
+use clfs_record::{Fields, records_are_read_as_written};
 use clfs_told::Told;
 use std::alloc::{AllocError, Global};
 use std::collections::LinkedList;
@@ -148,11 +148,9 @@ impl Queue {
         ensures lsn { result ≡ next_lsn self.old (length bytes.now) }
         ensures pushed { self.new ≡ pushed self.old fields.now bytes.now }
     {
+        records_are_read_as_written();
         let (lsn, after) = place_after(&self.shape, &self.place, bytes.len() as u32);
-        let used = match self.place.records {
-            0 => begin_block(&mut self.bytes),
-            _ => self.place.used as usize,
-        };
+        let used = open_block(&mut self.bytes, &self.place);
         push_record(&mut self.bytes, self.sealed, used, fields, bytes);
         self.place = after;
         self.records = self.records.next(&(lsn, *fields, bytes));

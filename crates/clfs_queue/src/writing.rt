@@ -8,17 +8,20 @@ ghost use Rattle.clfs_block.specs.Frame.{place_of, payload_of};
 ghost use Rattle.clfs_record.specs.Fields.{placed_record};
 
 use clfs_block::push_payload;
-use clfs_lsn::{BLOCK_HEADER, RECORD_HEADER, push_zeros, size_of_record};
+use clfs_lsn::{BLOCK_HEADER, Place, RECORD_HEADER, push_zeros, size_of_record};
 use clfs_record::{Fields, spell_header};
 
-/// Makes room for the header of a block that begins here; the closed gate that stands there is its first byte. Answers the used bytes of
-/// its payload.
-pub(crate) fn begin_block(bytes: &mut Vec<u8>) -> usize
-    requires { length bytes.old.items + (block_header - 1) ≤ vec_capacity bytes.old }
-    ensures used { result ≡ block_header }
-    ensures items { bytes.new.items ≡ bytes.old.items ++ replicate (block_header - 1) 0 }
+/// Begins a block behind the bytes where none is open: makes room for its header, of which the closed gate that stands there is the first
+/// byte. Answers the used bytes of the open block's payload.
+pub(crate) fn open_block(bytes: &mut Vec<u8>, place: &Place) -> usize
+    requires { place.now.records ≡ 0 → length bytes.old.items + (block_header - 1) ≤ vec_capacity bytes.old }
+    ensures begun { place.now.records ≡ 0 → (result ≡ block_header) × (bytes.new.items ≡ bytes.old.items ++ replicate (block_header - 1) 0) }
+    ensures open { 1 ≤ place.now.records → (result ≡ place.now.used) × (bytes.new.items ≡ bytes.old.items) }
     ensures capacity { vec_capacity bytes.old ≤ vec_capacity bytes.new }
 {
+    if place.records > 0 {
+        return place.used as usize;
+    }
     push_zeros(bytes, BLOCK_HEADER as usize - 1);
     BLOCK_HEADER as usize
 }
