@@ -5,3 +5,4 @@ pub mod Blocks
 pub mod Keeping
 pub mod Sealing
 pub mod Taking
+pub mod Grouping

@@ -16,7 +16,7 @@ ghost use Rattle.clfs_queue.specs.Group.{IsGroupOf};
 use crate::placing::Placing;
 use crate::reading::read_record;
 use crate::writing::{open_block, push_record};
-use clfs_block::seal_block;
+use clfs_block::{blocks_say_their_sectors, seal_block};
 use clfs_lsn::{
     Bytes, LogEntry, Lsn, OPEN_GATE, Place, SECTOR, Shape, place_after, push_zeros,
     sealed,
@@ -185,13 +185,15 @@ impl Queue {
         requires { IsClosed self.now.place }
         ensures { IsGroupOf self.now result.0 result.1.now }
     {
+        blocks_say_their_sectors();
         let at = self.place.offset - self.sealed as u32;
         if self.sealed == 0 {
             return (at, &[]);
         }
-        let gate = self.place.offset < SECTOR * self.shape.container_sectors;
-        let end = if gate { self.sealed + 1 } else { self.sealed };
-        (at, &self.bytes[1..end])
+        if self.place.offset == SECTOR * self.shape.container_sectors {
+            return (at, &self.bytes[1..self.sealed]);
+        }
+        (at, &self.bytes[1..self.sealed + 1])
     }
 
     /// What waited is on the disk. The log goes on where it was.
