@@ -6,3 +6,4 @@ pub mod Keeping
 pub mod Sealing
 pub mod Taking
 pub mod Grouping
+pub mod Locating

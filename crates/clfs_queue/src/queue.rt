@@ -16,7 +16,7 @@ ghost use Rattle.clfs_queue.specs.Group.{IsGroupOf};
 use crate::placing::Placing;
 use crate::reading::read_record;
 use crate::writing::{open_block, push_record};
-use clfs_block::{blocks_say_their_sectors, seal_block};
+use clfs_block::{blocks_are_read_as_written, blocks_say_their_sectors, seal_block};
 use clfs_lsn::{
     Bytes, LogEntry, Lsn, OPEN_GATE, Place, SECTOR, Shape, place_after, push_zeros,
     sealed,
@@ -224,6 +224,7 @@ impl Queue {
         requires { IsSome (data_at lsn self.now.records) }
         ensures { IfOk result (λ bytes. data_at lsn self.now.records ≡ Some bytes) }
     {
+        blocks_are_read_as_written();
         let first = self.place.offset as usize - self.sealed;
         let block = &self.bytes[lsn.offset() as usize - first..];
         read_record(alloc, block, lsn.sequence())
