@@ -1,6 +1,6 @@
 -- What a queue shows: where its log goes on, and the records that aren't on the disk yet. They lie in sealed blocks, which wait to be
 -- written, and in the open block.
-use Rattle.std.specs.Prelude.{◌≡◌, ◌⊎◌, ℕ, ◌≤◌, ◌==◌, Bool, true, nat_lt, if◌then◌else◌, List, [], ◌∷◌, ◌++◌, length, find, Option}
+use Rattle.std.specs.Prelude.{◌≡◌, ◌⊎◌, ℕ, ◌+◌, ◌≤◌, ◌==◌, Bool, true, nat_lt, if◌then◌else◌, List, [], ◌∷◌, ◌++◌, length, find, Option}
 use Rattle.std.specs.Option.{option_map}
 use Rattle.clfs_lsn.specs.Lsn.{lsn_number}
 use Rattle.clfs_lsn.specs.Place.{IsClosed, joins, begins_here, place_after, sealed}
@@ -48,6 +48,10 @@ seal q =
     if nat_lt 0 q.place.records
     then record q { waiting = q.waiting ++ lsn_number q.place.container q.place.offset 0 ∷ []; place = sealed q.place }
     else q
+
+-- the place at the first byte of the next container
+abbrev pub turned : Place → Place
+turned place = record { container = place.container + 1; offset = 0; used = 0; records = 0 }
 
 -- the data of the record at an LSN, where there is one
 abbrev pub data_at : ℕ → List LogEntry → Option (List ℕ)

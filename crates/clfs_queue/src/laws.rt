@@ -1,20 +1,18 @@
-// Laws of the rule for places, for who seals or turns before a record is put. The function does nothing.
-ghost use Rattle.std.specs.Prelude.{◌≡◌, ◌+◌, ◌*◌, ◌≤◌, ◌%◌, true, false, ℕ};
-ghost use Rattle.clfs_lsn.specs.Format.{sector_bytes};
+// Laws of the rule for places, for who seals or turns before a record is put. Their function does nothing.
+ghost use Rattle.std.specs.Prelude.{◌≡◌, ◌+◌, ◌≤◌, true, false, ℕ};
 ghost use Rattle.clfs_lsn.specs.Place.{joins, begins_here, place_after, sealed};
-ghost use Rattle.clfs_lsn.specs.Size.{own};
+ghost use Rattle.clfs_lsn.specs.Size.{IsShape, longest};
 ghost use Rattle.clfs_lsn.specs.declared.place.Place.{Place};
 ghost use Rattle.clfs_lsn.specs.declared.shape.Shape.{Shape};
+ghost use Rattle.clfs_queue.specs.Queued.{turned};
 
-/// A record goes where it would have gone: sealing the block before it changes nothing of its LSN and of the place behind it, and neither does
-/// turning to the container that it begins.
+/// A record goes where it would have gone: sealing the block before the one that it begins changes nothing of its LSN and of the place
+/// behind it, and neither does turning to the container that it begins. There it begins a block.
 pub fn a_record_goes_where_it_went()
     ensures sealed { (shape : Shape) (place : Place) (n : ℕ) → joins shape place n ≡ false → begins_here shape place n ≡ true
         → place_after shape (sealed place) n ≡ place_after shape place n }
-    ensures begins { (shape : Shape) (place : Place) (n : ℕ) → begins_here shape place n ≡ true → begins_here shape (sealed place) n ≡ true }
-    ensures turned { (shape : Shape) (place : Place) (n : ℕ) → joins shape place n ≡ false → begins_here shape place n ≡ false
-        → own n ≤ shape.container_sectors
-        → place_after shape (record place { container = place.container + 1; offset = 0; used = 0; records = 0 }) n ≡ place_after shape place n }
-    ensures turned_begins { (shape : Shape) (place : Place) (n : ℕ) → own n ≤ shape.container_sectors
-        → begins_here shape (record place { container = place.container + 1; offset = 0; used = 0; records = 0 }) n ≡ true }
+    ensures sealed_begins { (shape : Shape) (place : Place) (n : ℕ) → begins_here shape place n ≡ true → begins_here shape (sealed place) n ≡ true }
+    ensures turned { (shape : Shape) (place : Place) (n : ℕ) → IsShape shape → n ≤ longest shape
+        → joins shape place n ≡ false → begins_here shape place n ≡ false → place_after shape (turned place) n ≡ place_after shape place n }
+    ensures turned_begins { (shape : Shape) (place : Place) (n : ℕ) → IsShape shape → n ≤ longest shape → begins_here shape (turned place) n ≡ true }
 {}

@@ -10,7 +10,7 @@ ghost use Rattle.clfs_lsn.specs.Spelling.{BaseFits};
 ghost use Rattle.clfs_lsn.specs.Place.{IsWithin, IsClosed, joins, begins_here};
 ghost use Rattle.clfs_lsn.specs.declared.entry.LogEntry.{LogEntry};
 ghost use Rattle.clfs_record.specs.Fields.{placed_record};
-ghost use Rattle.clfs_queue.specs.Queued.{Queued, placing, next_lsn, HasRoomFor, pushed, seal, data_at};
+ghost use Rattle.clfs_queue.specs.Queued.{Queued, placing, next_lsn, HasRoomFor, pushed, seal, turned, data_at};
 ghost use Rattle.clfs_queue.specs.Group.{IsGroupOf};
 
 use crate::placing::Placing;
@@ -33,11 +33,11 @@ pub struct Queue {
     shape: Shape,
     buffers: u32,
     place: Place,
-    /// The sealed blocks, and behind them the open one or a closed gate.
-    bytes: Vec<u8>,
-    /// The bytes of the sealed blocks.
-    sealed: usize,
-    /// The LSNs at which they begin.
+    // The sealed blocks, and behind them the open one or a closed gate.
+    buffer: Vec<u8>,
+    // The bytes of the sealed blocks.
+    sealed_len: usize,
+    // The LSNs at which they begin.
     waiting: Vec<Lsn>,
     records: Told<LinkedList<LogEntry>>,
 }
@@ -60,7 +60,7 @@ impl Model for Queue {
 
     ghost invariant = { λ q. IsKept
       (record { shape = q.shape; buffers = q.buffers; place = q.place; waiting = q.waiting.items; records = q.records.value })
-      q.bytes.items q.sealed (vec_capacity q.bytes) (vec_capacity q.waiting) };
+      q.buffer.items q.sealed_len (vec_capacity q.buffer) (vec_capacity q.waiting) };
 }
 
 impl Queue {
@@ -78,15 +78,15 @@ impl Queue {
         ensures { IfOk result (λ q.
             q ≡ record { shape = shape.now; buffers = write_buffers; place = place.now; waiting = []; records = [] }) }
     {
-        let mut bytes = Vec::with_capacity(alloc, room_of(shape, write_buffers))?;
+        let mut buffer = Vec::with_capacity(alloc, room_of(shape, write_buffers))?;
         let waiting = Vec::with_capacity(alloc, write_buffers as usize + 1)?;
-        push_zeros(&mut bytes, 1);
+        push_zeros(&mut buffer, 1);
         Ok(Queue {
             shape: *shape,
             buffers: write_buffers,
             place: *place,
-            bytes,
-            sealed: 0,
+            buffer,
+            sealed_len: 0,
             waiting,
             records: Told::pick(&alloc),
         })
@@ -150,8 +150,8 @@ impl Queue {
     {
         records_are_read_as_written();
         let (lsn, after) = place_after(&self.shape, &self.place, bytes.len() as u32);
-        let used = open_block(&mut self.bytes, &self.place);
-        push_record(&mut self.bytes, self.sealed, used, fields, bytes);
+        let used = open_block(&mut self.buffer, &self.place);
+        push_record(&mut self.buffer, self.sealed_len, used, fields, bytes);
         self.place = after;
         self.records = self.records.next(&(lsn, *fields, bytes));
         lsn
@@ -166,15 +166,15 @@ impl Queue {
         }
         let start = block_start(&self.place);
         seal_block(
-            &mut self.bytes,
-            self.sealed,
+            &mut self.buffer,
+            self.sealed_len,
             start,
             OPEN_GATE,
             self.place.records,
             self.place.used as usize,
         );
-        self.sealed = self.bytes.len();
-        push_zeros(&mut self.bytes, 1);
+        self.sealed_len = self.buffer.len();
+        push_zeros(&mut self.buffer, 1);
         self.place = sealed(&self.place);
         self.waiting.push_reserved(start);
     }
@@ -186,14 +186,14 @@ impl Queue {
         ensures { IsGroupOf self.now result.0 result.1.now }
     {
         blocks_say_their_sectors();
-        let at = self.place.offset - self.sealed as u32;
-        if self.sealed == 0 {
+        let at = self.place.offset - self.sealed_len as u32;
+        if self.sealed_len == 0 {
             return (at, &[]);
         }
         if self.place.offset == SECTOR * self.shape.container_sectors {
-            return (at, &self.bytes[1..self.sealed]);
+            return (at, &self.buffer[1..self.sealed_len]);
         }
-        (at, &self.bytes[1..self.sealed + 1])
+        (at, &self.buffer[1..self.sealed_len + 1])
     }
 
     /// What waited is on the disk. The log goes on where it was.
@@ -201,11 +201,11 @@ impl Queue {
         requires { IsClosed self.old.place }
         ensures { self.new ≡ record self.old { waiting = []; records = [] } }
     {
-        self.bytes.clear();
-        push_zeros(&mut self.bytes, 1);
-        self.sealed = 0;
+        self.buffer.clear();
+        push_zeros(&mut self.buffer, 1);
+        self.sealed_len = 0;
         self.waiting.clear();
-        self.records = self.records.next(&self.sealed);
+        self.records = self.records.next(&self.sealed_len);
     }
 
     /// The log goes on in the next container, from its first byte on.
@@ -213,10 +213,14 @@ impl Queue {
         requires closed { IsClosed self.old.place }
         requires nothing { self.old.waiting ≡ [] }
         requires container { self.old.place.container < 2 ^ 32 - 1 }
-        ensures { self.new ≡ record self.old { place = record self.old.place { container = self.old.place.container + 1; offset = 0 } } }
+        ensures { self.new ≡ record self.old { place = turned self.old.place } }
     {
-        self.place.container += 1;
-        self.place.offset = 0;
+        self.place = Place {
+            container: self.place.container + 1,
+            offset: 0,
+            used: 0,
+            records: 0,
+        };
     }
 
     /// The data of a record that waits or is in the open block. Memory is taken for it alone.
@@ -225,8 +229,8 @@ impl Queue {
         ensures { IfOk result (λ bytes. data_at lsn self.now.records ≡ Some bytes) }
     {
         blocks_are_read_as_written();
-        let first = self.place.offset as usize - self.sealed;
-        let block = &self.bytes[lsn.offset() as usize - first..];
+        let first = self.place.offset as usize - self.sealed_len;
+        let block = &self.buffer[lsn.offset() as usize - first..];
         read_record(alloc, block, lsn.sequence())
     }
 }

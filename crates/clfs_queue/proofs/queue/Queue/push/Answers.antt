@@ -18,7 +18,7 @@ open_block-used-requires c =
     let q : Queued = record { shape = i.shape; buffers = i.buffers; place = i.place; waiting = i.waiting.items; records = i.records.value } in
     let long : n ≤ longest q.shape = subst (λ (v : Queued). n ≤ longest v.shape) (sym c.self.view_is) c.requires.len in
     let room : HasRoomFor q n = subst (λ (v : Queued). HasRoomFor v n) (sym c.self.view_is) c.requires.room in
-    header_room q i.bytes.items i.sealed _ _ n c.self.invariant long room
+    header_room q i.buffer.items i.sealed_len _ _ n c.self.invariant long room
 
 pub push_record-requires-clause-place : goal.push_record-requires-clause-place
 push_record-requires-clause-place c =
@@ -27,7 +27,7 @@ push_record-requires-clause-place c =
     let q : Queued = record { shape = i.shape; buffers = i.buffers; place = i.place; waiting = i.waiting.items; records = i.records.value } in
     let long : n ≤ longest q.shape = subst (λ (v : Queued). n ≤ longest v.shape) (sym c.self.view_is) c.requires.len in
     let room : HasRoomFor q n = subst (λ (v : Queued). HasRoomFor v n) (sym c.self.view_is) c.requires.room in
-    (taking q i.bytes.items i.sealed _ _ n c.self.invariant long room _ _ _ c.open_block-used.ensures.begun c.open_block-used.ensures.open
+    (taking q i.buffer.items i.sealed_len _ _ n c.self.invariant long room _ _ _ c.open_block-used.ensures.begun c.open_block-used.ensures.open
     c.open_block-used.ensures.capacity).1.length_is
 
 pub push_record-requires-clause-room : goal.push_record-requires-clause-room
@@ -37,7 +37,7 @@ push_record-requires-clause-room c =
     let q : Queued = record { shape = i.shape; buffers = i.buffers; place = i.place; waiting = i.waiting.items; records = i.records.value } in
     let long : n ≤ longest q.shape = subst (λ (v : Queued). n ≤ longest v.shape) (sym c.self.view_is) c.requires.len in
     let room : HasRoomFor q n = subst (λ (v : Queued). HasRoomFor v n) (sym c.self.view_is) c.requires.room in
-    (taking q i.bytes.items i.sealed _ _ n c.self.invariant long room _ _ _ c.open_block-used.ensures.begun c.open_block-used.ensures.open
+    (taking q i.buffer.items i.sealed_len _ _ n c.self.invariant long room _ _ _ c.open_block-used.ensures.begun c.open_block-used.ensures.open
     c.open_block-used.ensures.capacity).1.room
 
 pub invariant_of-self : goal.invariant_of-self
@@ -54,7 +54,7 @@ invariant_of-self c =
     let undo_next : fields.undo_next < next_lsn q n = subst (λ (v : Queued). fields.undo_next < next_lsn v n) (sym c.self.view_is) c.requires.undo_next in
     let base : BaseFits fields.kind (next_lsn q n) fields.new_base =
     subst (λ (v : Queued). BaseFits fields.kind (next_lsn v n) fields.new_base) (sym c.self.view_is) c.requires.new_base in
-    let taken = taking q i.bytes.items i.sealed _ _ n c.self.invariant long room _ _ _ c.open_block-used.ensures.begun c.open_block-used.ensures.open
+    let taken = taking q i.buffer.items i.sealed_len _ _ n c.self.invariant long room _ _ _ c.open_block-used.ensures.begun c.open_block-used.ensures.open
     c.open_block-used.ensures.capacity in
     let place : place_after q.shape q.place n ≡ next_place q.place used n = taken.1.place in
     let value : c.place_after-lsn.result ≡ next_place q.place used n = c.place_after-lsn.ensures.value ∙ place in
@@ -70,7 +70,7 @@ invariant_of-self c =
       undo_next = omega (arith, undo_next, own);
       new_base = subst (λ (k : ℕ). BaseFits fields.kind k fields.new_base) own base;
     } in
-    let all = kept_pushed q i.bytes.items i.sealed _ _ n c.self.invariant long room used _ taken.0 c.open_block-used.new.bytes.items c.push_record.new.buffer.items entry taken.1
+    let all = kept_pushed q i.buffer.items i.sealed_len _ _ n c.self.invariant long room used _ taken.0 c.open_block-used.new.bytes.items c.push_record.new.buffer.items entry taken.1
     c.push_record.ensures.place c.push_record.ensures.before (c.push_record.ensures.payload c.place_after-lsn.result.0) _ c.push_record.ensures.capacity
     c.open_block-used.ensures.capacity (subst (λ (k : ℕ). FitsAt k entry.stream entry) lsn fits)
     (subst (λ (p : Place). IsWithin q.shape p) (ap (λ (x : ℕ × Place). x.1) value) c.place_after-lsn.ensures.within) in

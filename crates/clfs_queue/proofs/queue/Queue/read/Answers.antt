@@ -13,7 +13,7 @@ pub overflow_sub-block : goal.overflow_sub-block
 overflow_sub-block c =
     let i = c.self.inside in
     let q : Queued = record { shape = i.shape; buffers = i.buffers; place = i.place; waiting = i.waiting.items; records = i.records.value } in
-    let found = found_at c.blocks_are_read_as_written.ensures q i.bytes.items i.sealed _ _ c.args.lsn c.self.invariant
+    let found = found_at c.blocks_are_read_as_written.ensures q i.buffer.items i.sealed_len _ _ c.args.lsn c.self.invariant
     (subst (λ (v : Queued). IsSome (data_at c.args.lsn v.records)) (sym c.self.view_is) c.requires) in
     omega (arith, found.low, c.offset.ensures.value)
 
@@ -21,7 +21,7 @@ pub slice_bounds-block-count : goal.slice_bounds-block-count
 slice_bounds-block-count c =
     let i = c.self.inside in
     let q : Queued = record { shape = i.shape; buffers = i.buffers; place = i.place; waiting = i.waiting.items; records = i.records.value } in
-    let found = found_at c.blocks_are_read_as_written.ensures q i.bytes.items i.sealed _ _ c.args.lsn c.self.invariant
+    let found = found_at c.blocks_are_read_as_written.ensures q i.buffer.items i.sealed_len _ _ c.args.lsn c.self.invariant
     (subst (λ (v : Queued). IsSome (data_at c.args.lsn v.records)) (sym c.self.view_is) c.requires) in
     omega (arith, found.high, c.offset.ensures.value, c.deref.ensures.len)
 
@@ -29,7 +29,7 @@ pub slice_bounds-block-start : goal.slice_bounds-block-start
 slice_bounds-block-start c =
     let i = c.self.inside in
     let q : Queued = record { shape = i.shape; buffers = i.buffers; place = i.place; waiting = i.waiting.items; records = i.records.value } in
-    let found = found_at c.blocks_are_read_as_written.ensures q i.bytes.items i.sealed _ _ c.args.lsn c.self.invariant
+    let found = found_at c.blocks_are_read_as_written.ensures q i.buffer.items i.sealed_len _ _ c.args.lsn c.self.invariant
     (subst (λ (v : Queued). IsSome (data_at c.args.lsn v.records)) (sym c.self.view_is) c.requires) in
     omega (arith, found.high, c.offset.ensures.value, c.deref.ensures.len)
 
@@ -46,9 +46,9 @@ pub read_record-requires : goal.read_record-requires
 read_record-requires c =
     let i = c.self.inside in
     let q : Queued = record { shape = i.shape; buffers = i.buffers; place = i.place; waiting = i.waiting.items; records = i.records.value } in
-    let found = found_at c.blocks_are_read_as_written.ensures q i.bytes.items i.sealed _ _ c.args.lsn c.self.invariant
+    let found = found_at c.blocks_are_read_as_written.ensures q i.buffer.items i.sealed_len _ _ c.args.lsn c.self.invariant
     (subst (λ (v : Queued). IsSome (data_at c.args.lsn v.records)) (sym c.self.view_is) c.requires) in
-    (found.entry, passed (i.place.offset - i.sealed) c.offset.result c.args.lsn c.sequence.result i.bytes.items c.deref.result.now q.records found
+    (found.entry, passed (i.place.offset - i.sealed_len) c.offset.result c.args.lsn c.sequence.result i.buffer.items c.deref.result.now q.records found
     c.offset.ensures.value c.deref.ensures.value c.sequence.ensures.value)
 
 -- the data of that record are those that are found
@@ -61,9 +61,9 @@ pub returns : goal.returns
 returns c =
     let i = c.self.inside in
     let q : Queued = record { shape = i.shape; buffers = i.buffers; place = i.place; waiting = i.waiting.items; records = i.records.value } in
-    let found = found_at c.blocks_are_read_as_written.ensures q i.bytes.items i.sealed _ _ c.args.lsn c.self.invariant
+    let found = found_at c.blocks_are_read_as_written.ensures q i.buffer.items i.sealed_len _ _ c.args.lsn c.self.invariant
     (subst (λ (v : Queued). IsSome (data_at c.args.lsn v.records)) (sym c.self.view_is) c.requires) in
-    let held = passed (i.place.offset - i.sealed) c.offset.result c.args.lsn c.sequence.result i.bytes.items c.deref.result.now q.records found
+    let held = passed (i.place.offset - i.sealed_len) c.offset.result c.args.lsn c.sequence.result i.buffer.items c.deref.result.now q.records found
     c.offset.ensures.value c.deref.ensures.value c.sequence.ensures.value in
     let is : data_at c.args.lsn c.args.self.now.records ≡ Some found.entry.bytes =
     ap (λ (v : Queued). data_at c.args.lsn v.records) (sym c.self.view_is) ∙ found.data_is in

@@ -17,10 +17,10 @@ invariant_of-self c =
     let i = c.self.inside in
     let some : 1 ≤ i.place.records = omega (arith, c.if-self-eq0.false) in
     let s = c.seal_block.ensures.sealed in
-    let front : length (take i.sealed i.bytes.items) ≡ i.sealed =
-    length-take-le i.sealed i.bytes.items (omega (arith, open_length _ _ _ _ _ c.self.invariant some)) in
-    let size : c.len-self-inside.result ≡ i.sealed + length s.0 =
-    omega (arith, c.len-self-inside.ensures, front, length-append (take i.sealed i.bytes.items) s.0, ap (λ (l : List ℕ). length l) s.1) in
+    let front : length (take i.sealed_len i.buffer.items) ≡ i.sealed_len =
+    length-take-le i.sealed_len i.buffer.items (omega (arith, open_length _ _ _ _ _ c.self.invariant some)) in
+    let size : c.len-self-inside.result ≡ i.sealed_len + length s.0 =
+    omega (arith, c.len-self-inside.ensures, front, length-append (take i.sealed_len i.buffer.items) s.0, ap (λ (l : List ℕ). length l) s.1) in
     rw (size, c.sealed-self-inside.ensures, c.push_reserved.ensures.items)
     (kept_sealed _ _ _ _ _ c.self.invariant some c.block_start-start.result s.0 c.push_zeros.new.out.items _ _ c.block_start-start.ensures s.2
     (c.push_zeros.ensures.items ∙ ap (λ (l : List ℕ). l ++ 0 ∷ []) s.1)
