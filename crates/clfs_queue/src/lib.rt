@@ -15,6 +15,9 @@ mod queue;
 mod reading;
 mod writing;
 
-pub use laws::a_record_goes_where_it_went;
+pub use laws::{a_record_goes_where_it_went, the_next_lsn_is_above_all};
 pub use placing::Placing;
 pub use queue::Queue;
+
+#[cfg(test)]
+mod tests;

@@ -159,7 +159,8 @@ impl Queue {
 
     /// Ends the open block, where there is one: it waits from here on.
     pub fn seal(&mut self)
-        ensures { self.new ≡ seal self.old }
+        ensures sealed { self.new ≡ seal self.old }
+        ensures closed { IsClosed self.new.place }
     {
         if self.place.records == 0 {
             return;
