@@ -5,7 +5,7 @@ use Rattle.std.proofs.Common.{length-append, length-drop}
 use Rattle.std.proofs.lemmas.List.{ext_get_or, length-take-le, get_or-take, get_or-drop, get_or_append_left, get_or-append_right}
 use Rattle.std.proofs.lemmas.List.FromFn.{length-map-range_with_len, get_or-map-range_with_len}
 use Rattle.std.proofs.lemmas.Bool.{cases_lt}
-use Rattle.clfs_block.specs.Frame.{place_of, payload_of}
+use Rattle.clfs_block.specs.Frame.{place_of, payload_of, payload_from}
 
 pub length-payload_of : (count : ℕ) (block : List ℕ) → length (payload_of count block) ≡ count
 length-payload_of count block = length-map-range_with_len (λ p. get_or block (place_of p) 0) 0 count
@@ -19,23 +19,34 @@ pub payload_is : (count : ℕ) (block now : List ℕ) → length now ≡ count �
 payload_is count block now long each = ext_get_or 0 now (payload_of count block) (long ∙ sym (length-payload_of count block))
     (λ p lt. each p (omega (arith, lt, long)) ∙ sym (get_or-payload_of count block p (omega (arith, lt, long))))
 
--- so many bytes of a sector are the next bytes of the payload
-pub payload_more : (sector count : ℕ) (block : List ℕ) → count ≤ 504 → 512 * sector + count ≤ length block
-    → payload_of (504 * sector) block ++ take count (drop (512 * sector) block) ≡ payload_of (504 * sector + count) block
-payload_more sector count block few room =
-    let front = payload_of (504 * sector) block in
-    let back = take count (drop (512 * sector) block) in
-    let size : length back ≡ count = length-take-le count (drop (512 * sector) block) (omega (arith, room, length-drop (512 * sector) block)) in
-    payload_is (504 * sector + count) block (front ++ back) (omega (arith, size, length-append front back, length-payload_of (504 * sector) block))
-    (λ p lt. ⊎_elim
-    (λ (low : p < 504 * sector). get_or_append_left front back 0 p (omega (arith, low, length-payload_of (504 * sector) block))
-    ∙ get_or-payload_of (504 * sector) block p low)
-    (λ (high : 504 * sector ≤ p).
-    let place : 512 * sector + (p - 504 * sector) ≡ place_of p = omega (arith, high, lt, few) in
-    get_or-append_right front back (504 * sector) p 0 (length-payload_of (504 * sector) block) high
-    ∙ get_or-take count (drop (512 * sector) block) (p - 504 * sector) 0 (omega (arith, high, lt))
-    ∙ get_or-drop (512 * sector) block (p - 504 * sector) 0 ∙ ap (λ (k : ℕ). get_or block k 0) place)
-    (cases_lt p (504 * sector)))
+pub length-payload_from : (first count : ℕ) (block : List ℕ) → length (payload_from first count block) ≡ count
+length-payload_from first count block = length-map-range_with_len (λ p. get_or block (place_of p) 0) first count
+
+pub get_or-payload_from : (first count : ℕ) (block : List ℕ) (p : ℕ) → p < count
+    → get_or (payload_from first count block) p 0 ≡ get_or block (place_of (first + p)) 0
+get_or-payload_from first count block p lt = get_or-map-range_with_len (λ q. get_or block (place_of q) 0) first count p (first + p) 0 lt refl
+
+-- bytes of one sector are the next bytes of the payload
+pub payload_more : (first count part : ℕ) (block : List ℕ) → (first + count) % 504 + part ≤ 504 → place_of (first + count) + part ≤ length block
+    → payload_from first count block ++ take part (drop (place_of (first + count)) block) ≡ payload_from first (count + part) block
+payload_more first count part block few room =
+    let front = payload_from first count block in
+    let place = place_of (first + count) in
+    let back = take part (drop place block) in
+    let size : length back ≡ part = length-take-le part (drop place block) (omega (arith, room, length-drop place block)) in
+    ext_get_or 0 (front ++ back) (payload_from first (count + part) block)
+    (omega (arith, size, length-append front back, length-payload_from first count block, length-payload_from first (count + part) block))
+    (λ p lt.
+    let within : p < count + part = omega (arith, lt, size, length-append front back, length-payload_from first count block) in
+    ⊎_elim
+    (λ (low : p < count). get_or_append_left front back 0 p (omega (arith, low, length-payload_from first count block))
+    ∙ get_or-payload_from first count block p low)
+    (λ (high : count ≤ p).
+    let index : place + (p - count) ≡ place_of (first + p) = omega (arith, high, within, few) in
+    get_or-append_right front back count p 0 (length-payload_from first count block) high
+    ∙ get_or-take part (drop place block) (p - count) 0 (omega (arith, high, within))
+    ∙ get_or-drop place block (p - count) 0 ∙ ap (λ (k : ℕ). get_or block k 0) index)
+    (cases_lt p count) ∙ sym (get_or-payload_from first (count + part) block p within))
 
 -- bytes that are put behind a payload, in the sector of its end, go on with it
 pub payload_pushed : (used : ℕ) (buffer part now : List ℕ) → length buffer ≡ place_of used → used % 504 + length part ≤ 504

@@ -2,7 +2,7 @@
 use Rattle.std.proofs.Common.{◌≡◌, ℕ, zero, suc, ◌+◌, ◌-◌, ◌*◌, ◌^◌, ◌<◌, ◌≤◌, List, ◌++◌, length, get_or}
 use Rattle.std.proofs.Common.{take, drop}
 use Rattle.std.proofs.Common.{refl, sym, ◌∙◌, ap, arith, append_assoc, length-append, length-drop}
-use Rattle.std.proofs.lemmas.List.{length-take-le, get_or-take, get_or-drop, get_or_append_left, get_or-append_right, drop_at}
+use Rattle.std.proofs.lemmas.List.{length-take-le, get_or-take, get_or-drop, get_or_append_left, get_or-append_right, drop_at, take-append-le, take-take}
 use Rattle.byteorder.specs.Endian.{little_bytes, little_number, little_from}
 use Rattle.byteorder.specs.Numbers.{little_number-reads_back}
 use Rattle.clfs_block.specs.Frame.{address_in}
@@ -35,6 +35,11 @@ module _ (old : List ℕ) (at number : ℕ) (room : at + 8 ≤ length old) (new 
   number_spliced small = ap (λ (l : List ℕ). little_number 8 (drop at l)) is
       ∙ ap (λ (l : List ℕ). little_number 8 l) (drop_at (take at old) (little_bytes 8 number ++ drop (at + 8) old) at front_length)
       ∙ little_number-reads_back 8 number (drop (at + 8) old) small
+
+  -- what stands before them stays
+  pub take_spliced : (n : ℕ) → n ≤ at → take n new ≡ take n old
+  take_spliced n le = ap (λ (l : List ℕ). take n l) is
+      ∙ take-append-le n (take at old) (little_bytes 8 number ++ drop (at + 8) old) (omega (arith, le, front_length)) ∙ take-take n at old le
 
 -- a number of the same bytes is the same
 same_from : (i n : ℕ) (xs ys : List ℕ) → ((j : ℕ) → i ≤ j → j < i + n → get_or xs j 0 ≡ get_or ys j 0) → little_from i n xs ≡ little_from i n ys

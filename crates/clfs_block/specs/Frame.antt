@@ -15,6 +15,10 @@ place_of p = sector_bytes * (p / sector_payload) + p % sector_payload
 abbrev pub payload_of : ℕ → List ℕ → List ℕ
 payload_of count block = map (λ p. slice_index block (place_of p)) (range_with_len 0 count)
 
+-- So many of them from another one on.
+abbrev pub payload_from : ℕ → ℕ → List ℕ → List ℕ
+payload_from first count block = map (λ p. slice_index block (place_of p)) (range_with_len first count)
+
 -- The address of a sector of the block that begins at an LSN: the sector's own container and offset.
 abbrev pub address : ℕ → ℕ → ℕ
 address start sector = lsn_number (container_of start) (offset_of start + sector_bytes * sector) 0

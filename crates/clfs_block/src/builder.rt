@@ -1,5 +1,4 @@
-// Building a block in memory that is taken once. The records' bytes are put at their places in the sectors as they come, so
-// that sealing only writes the header, the zeros behind the records and the addresses. The gate of a sealed block is closed:
+// Building a block in memory that is taken once: a buffer with one block, from its first byte on. The gate of a sealed block is closed:
 // who writes the block opens it last, on the disk. The byte behind the block is a closed gate as well.
 ghost use Rattle.std.specs.Prelude.{◌≡◌, ◌+◌, ◌-◌, ◌*◌, ◌/◌, ◌%◌, ◌^◌, ◌<◌, ◌≤◌, ◌++◌, ◌∷◌, [], nat_le, ◌&&◌, nat_lt, ℕ, List, length, take, drop, replicate, slice_index, Some, None, IsSome, IfOk, vec_len, vec_capacity};
 ghost use Rattle.byteorder.specs.Endian.{little_bytes};
@@ -10,16 +9,11 @@ ghost use Rattle.clfs_lsn.specs.Size.{IsShape, size, sectors};
 ghost use Rattle.clfs_block.specs.Frame.{place_of, payload_of, address, address_in, used_bytes, head_bytes, SpellsBlock};
 ghost use Rattle.clfs_block.specs.Building.{Building, fits, SealsAt};
 
-use crate::{HEADER, PAYLOAD, SECTOR};
-use byteorder::{ByteOrder, LittleEndian};
-use clfs_lsn::{
-    Lsn, MOST_BLOCK_RECORDS, Shape, push_reserved, push_zeros, sectors_of, size_of_record,
-};
+use crate::framing::{push_payload, seal_block};
+use crate::{HEADER, SECTOR};
+use clfs_lsn::{Lsn, MOST_BLOCK_RECORDS, Shape, push_zeros, sectors_of, size_of_record};
 use std::alloc::{AllocError, Global};
 use std::marker::Model;
-
-// The bytes of a sector's address.
-const ADDRESS: usize = SECTOR - PAYLOAD;
 
 /// A block that takes records until it is sealed.
 #[derive(Drop)]
@@ -83,7 +77,7 @@ impl BlockBuilder {
         requires room { sectors (used_bytes self.old.content + length spelling.now) ≤ self.old.room }
         ensures { self.new ≡ record self.old { records = self.old.records + 1; content = self.old.content ++ spelling.now } }
     {
-        push_payload(&mut self.buffer, self.used, spelling);
+        push_payload(&mut self.buffer, 0, self.used, spelling);
         self.used += spelling.len();
         self.records += 1;
     }
@@ -98,7 +92,7 @@ impl BlockBuilder {
         ensures sealed { SealsAt start self.old self.new }
     {
         let count = sectors_of(self.used as u64) as u32;
-        seal_buffer(&mut self.buffer, start, count, self.records, self.used);
+        seal_buffer(&mut self.buffer, start, self.records, self.used);
         self.is_sealed = true;
         count
     }
@@ -143,110 +137,19 @@ fn begin(buffer: &mut Vec<u8>)
     buffer.resize(HEADER, 0).unwrap();
 }
 
-// Puts bytes at their places behind so many bytes of payload.
-fn push_payload(buffer: &mut Vec<u8>, used: usize, more: &[u8])
-    requires place { length buffer.old.items ≡ place_of used }
-    requires room { place_of (used + length more.now) ≤ vec_capacity buffer.old }
-    ensures place { length buffer.new.items ≡ place_of (used + length more.now) }
-    ensures payload { payload_of (used + length more.now) buffer.new.items ≡ payload_of used buffer.old.items ++ more.now }
-    ensures capacity { vec_capacity buffer.old ≤ vec_capacity buffer.new }
-{
-    let mut rest = more;
-    let mut at = used;
-    while !rest.is_empty() {
-        let count = rest.len().min(PAYLOAD - at % PAYLOAD);
-        let (now, later) = rest.split_at(count);
-        push_part(buffer, at, now);
-        at += count;
-        rest = later;
-    }
-}
-
-// Puts bytes behind so many bytes of payload in their sector. Behind a full sector comes the room of its address.
-fn push_part(buffer: &mut Vec<u8>, used: usize, part: &[u8])
-    requires place { length buffer.old.items ≡ place_of used }
-    requires sector { used % sector_payload + length part.now ≤ sector_payload }
-    requires room { place_of (used + length part.now) ≤ vec_capacity buffer.old }
-    ensures place { length buffer.new.items ≡ place_of (used + length part.now) }
-    ensures payload { payload_of (used + length part.now) buffer.new.items ≡ payload_of used buffer.old.items ++ part.now }
-    ensures capacity { vec_capacity buffer.old ≤ vec_capacity buffer.new }
-{
-    push_reserved(buffer, part);
-    if used % PAYLOAD + part.len() == PAYLOAD {
-        push_zeros(buffer, ADDRESS);
-    }
-}
-
-// Writes the header, zeros, the addresses and a closed gate behind them.
-fn seal_buffer(buffer: &mut Vec<u8>, start: Lsn, count: u32, records: u32, used: usize)
+// Ends the block behind a closed gate, and puts a closed gate behind it.
+fn seal_buffer(buffer: &mut Vec<u8>, start: Lsn, records: u32, used: usize)
     requires place { length buffer.old.items ≡ place_of used }
     requires used { block_header ≤ used }
-    requires count { count ≡ sectors used }
-    requires few { count ≤ most_block_sectors }
+    requires few { sectors used ≤ most_block_sectors }
     requires records { records ≤ most_block_records }
-    requires room { sector_bytes * count + 1 ≤ vec_capacity buffer.old }
-    requires container { offset_of start / sector_bytes + count ≤ most_container_sectors }
+    requires room { sector_bytes * sectors used + 1 ≤ vec_capacity buffer.old }
+    requires container { offset_of start / sector_bytes + sectors used ≤ most_container_sectors }
     ensures sealed { (bytes : List ℕ) × (buffer.new.items ≡ bytes ++ 0 ∷ [])
         × SpellsBlock start 0 records (drop block_header (payload_of used buffer.old.items)) bytes }
     ensures payload { drop block_header (payload_of used buffer.new.items) ≡ drop block_header (payload_of used buffer.old.items) }
     ensures capacity { vec_capacity buffer.old ≤ vec_capacity buffer.new }
 {
-    let zeros = SECTOR * count as usize - buffer.len();
-    push_zeros(buffer, zeros);
-    write_header(buffer, count, records, used as u32);
-    write_addresses(buffer, start, count);
+    seal_block(buffer, 0, start, 0, records, used);
     push_zeros(buffer, 1);
-}
-
-// Writes the header with a closed gate.
-fn write_header(buffer: &mut Vec<u8>, count: u32, records: u32, used: u32)
-    requires long { block_header ≤ vec_len buffer.old }
-    requires count { count < 2 ^ 16 }
-    requires records { records < 2 ^ 16 }
-    ensures items { buffer.new.items ≡ head_bytes 0 count records used ++ drop block_header buffer.old.items }
-    ensures capacity { vec_capacity buffer.new ≡ vec_capacity buffer.old }
-{
-    let header = header_of(count as u16, records as u16, used);
-    buffer[0..HEADER].copy_from_slice(&header);
-}
-
-// The header behind a closed gate.
-fn header_of(count: u16, records: u16, used: u32) -> [u8; HEADER]
-    ensures { result ≡ head_bytes 0 count records used }
-{
-    let mut header = [0; HEADER];
-    header[1] = 1;
-    LittleEndian::write_u16(&mut header[2..], count);
-    LittleEndian::write_u16(&mut header[4..], records);
-    LittleEndian::write_u32(&mut header[8..], used);
-    header
-}
-
-// Writes in each sector its address.
-fn write_addresses(buffer: &mut Vec<u8>, start: Lsn, count: u32)
-    requires length { length buffer.old.items ≡ sector_bytes * count }
-    requires count { count ≤ most_block_sectors }
-    requires container { offset_of start / sector_bytes + count ≤ most_container_sectors }
-    ensures length { length buffer.new.items ≡ sector_bytes * count }
-    ensures payload { (k : ℕ) → k % sector_bytes < sector_payload → slice_index buffer.new.items k ≡ slice_index buffer.old.items k }
-    ensures addresses { (i : ℕ) → i < count → address_in buffer.new.items i ≡ address start i }
-    ensures capacity { vec_capacity buffer.new ≡ vec_capacity buffer.old }
-{
-    let first = Lsn::from_parts(start.container(), start.offset(), 0).number();
-    for sector in 0..count {
-        put_number(
-            buffer,
-            SECTOR * sector as usize + PAYLOAD,
-            first + SECTOR as u64 * sector as u64,
-        );
-    }
-}
-
-// Puts a number of eight bytes in its place.
-fn put_number(out: &mut Vec<u8>, at: usize, number: u64)
-    requires { at + 8 ≤ length out.old.items }
-    ensures items { out.new.items ≡ take at out.old.items ++ little_bytes 8 number ++ drop (at + 8) out.old.items }
-    ensures capacity { vec_capacity out.new ≡ vec_capacity out.old }
-{
-    LittleEndian::write_u64(&mut out[at..at + ADDRESS], number);
 }

@@ -8,10 +8,11 @@ ghost use Rattle.clfs_block.specs.Frame.{place_of, payload_of, address, address_
 ghost use Rattle.clfs_block.specs.Checks.{head_of, is_wrong_count, is_wrong_records, head_fault, head_for, IsCount, wrong_sector, first_failing, sectors_at, frame_at, rest_at, block_at, IsFramed, IsWrongBehind};
 ghost use Rattle.clfs_block.specs.declared.head.BlockRefusal.TheVariants.{NoMemory, BadByte, Closed};
 
+use crate::framing::copy_payload;
 use crate::head::{BlockHead, BlockRefusal};
 use crate::{PAYLOAD, SECTOR};
 use byteorder::{ByteOrder, LittleEndian};
-use clfs_lsn::{Bytes, Lsn, MOST_BLOCK_RECORDS, OPEN_GATE, Shape, push_reserved, sectors_of};
+use clfs_lsn::{Bytes, Lsn, MOST_BLOCK_RECORDS, OPEN_GATE, Shape, sectors_of};
 use std::alloc::{AllocError, Global};
 use std::mem;
 
@@ -214,24 +215,8 @@ fn fill_vec(out: &mut Vec<u8>, bytes: &[u8], used: usize) -> Result<(), AllocErr
 {
     out.reserve(used.saturating_sub(out.len()))?;
     out.clear();
-    push_payload(out, bytes, used);
+    copy_payload(out, bytes, 0, used);
     Ok(())
-}
-
-// Appends so many bytes of the payload, sector by sector.
-fn push_payload(out: &mut Vec<u8>, bytes: &[u8], used: usize)
-    requires place { place_of used ≤ length bytes.now }
-    requires none { out.old.items ≡ [] }
-    requires room { used ≤ vec_capacity out.old }
-    ensures { out.new.items ≡ payload_of used bytes.now }
-{
-    let full = used / PAYLOAD;
-    for sector in 0..full {
-        let from = SECTOR * sector;
-        push_reserved(out, &bytes[from..from + PAYLOAD]);
-    }
-    let from = SECTOR * full;
-    push_reserved(out, &bytes[from..from + used % PAYLOAD]);
 }
 
 /// The byte of a block that holds a byte of its payload.

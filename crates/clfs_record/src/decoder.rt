@@ -37,6 +37,17 @@ pub fn stream_in(bytes: &[u8]) -> u16
     stream_of(bytes)
 }
 
+/// The length of the data in a record's header, of which the first four bytes are enough.
+pub fn len_of(bytes: &[u8]) -> u32
+    requires { 4 ≤ length bytes.now }
+    ensures value { result ≡ (header_of bytes.now).len }
+
+    // It is the length of the data of a record that is spelled there.
+    ensures spelled { (entry : LogEntry) → length entry.bytes < 2 ^ 32 → take 4 bytes.now ≡ take 4 (record_bytes entry) → result ≡ length entry.bytes }
+{
+    LittleEndian::read_u32(bytes)
+}
+
 /// The record that a front of the bytes spells at this LSN in a log of so many streams, and how many bytes spell it.
 /// `stream` is the number that `stream_of` reads there.
 pub fn decode(

@@ -1,7 +1,9 @@
 // Writing a record. All memory is taken before the first byte is written, so an `Err` leaves the bytes as they were.
-ghost use Rattle.std.specs.Prelude.{◌≡◌, ◌^◌, ◌<◌, ◌++◌, length, OnOk, OnErr};
+ghost use Rattle.std.specs.Prelude.{◌≡◌, ◌^◌, ◌<◌, ◌++◌, ℕ, List, length, OnOk, OnErr};
 ghost use Rattle.clfs_lsn.specs.Spelling.{FitsAt, record_bytes, header_bytes, kind_byte};
+ghost use Rattle.clfs_record.specs.Fields.{placed_record};
 
+use crate::fields::Fields;
 use byteorder::{ByteOrder, LittleEndian};
 use clfs_lsn::{Bytes, Kind, LogEntry, RECORD_HEADER, push_reserved, push_zeros, size_of_record};
 use std::alloc::{AllocError, Global};
@@ -51,12 +53,27 @@ fn header_of(entry: &LogEntry, len: u32) -> [u8; HEADER]
     requires { len ≡ length entry.now.bytes }
     ensures { result ≡ header_bytes entry.now }
 {
+    let fields = Fields {
+        stream: entry.stream,
+        kind: entry.kind,
+        previous: entry.previous,
+        undo_next: entry.undo_next,
+        new_base: entry.new_base,
+    };
+    spell_header(&fields, len)
+}
+
+/// The header of a record with these fields and so many bytes of data, wherever it lies: a record's LSN isn't spelled. Behind it come the
+/// data, and zeros up to the record's size.
+pub fn spell_header(fields: &Fields, len: u32) -> [u8; HEADER]
+    ensures { (lsn : ℕ) (bytes : List ℕ) → length bytes ≡ len → result ≡ header_bytes (placed_record lsn fields.now bytes) }
+{
     let mut header = [0; HEADER];
     LittleEndian::write_u32(&mut header, len);
-    LittleEndian::write_u16(&mut header[4..], entry.stream);
-    header[6] = byte_of(entry.kind);
-    LittleEndian::write_u64(&mut header[8..], entry.previous.number());
-    LittleEndian::write_u64(&mut header[16..], entry.undo_next.number());
-    LittleEndian::write_u64(&mut header[24..], entry.new_base.number());
+    LittleEndian::write_u16(&mut header[4..], fields.stream);
+    header[6] = byte_of(fields.kind);
+    LittleEndian::write_u64(&mut header[8..], fields.previous.number());
+    LittleEndian::write_u64(&mut header[16..], fields.undo_next.number());
+    LittleEndian::write_u64(&mut header[24..], fields.new_base.number());
     header
 }

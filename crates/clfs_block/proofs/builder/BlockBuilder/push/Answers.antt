@@ -1,4 +1,4 @@
-use Rattle.std.proofs.Common.{◌+◌, ◌*◌, ℕ, List, cond, length, drop, ap, sym, ◌∙◌, arith}
+use Rattle.std.proofs.Common.{zero-add, ◌+◌, ◌*◌, ℕ, List, cond, length, drop, ap, sym, ◌∙◌, arith}
 use Rattle.clfs_lsn.specs.Size.{sectors}
 use Rattle.clfs_block.specs.Frame.{place_of}
 use Rattle.clfs_block.specs.Building.{Building}
@@ -27,7 +27,7 @@ invariant_of-self c =
       header = omega (arith, c.self.invariant.header);
       fits = omega (arith, used_is, room_is, c.requires.room);
       few = omega (arith, records_is, c.requires.records);
-      place = c.push_payload.ensures.place ∙ sym (ap (λ b. cond b (512 * sectors used + 1) (place_of used)) is_open);
+      place = c.push_payload.ensures.place ∙ zero-add (place_of used) ∙ sym (ap (λ b. cond b (512 * sectors used + 1) (place_of used)) is_open);
     }
 
 pub returns : goal.returns
