@@ -2,30 +2,17 @@
 //!
 //! Everything that matters is `clfs_engine::run`, which is proved over any source, sink and disk. Here the two standard streams
 //! become a source and a sink, the folder a disk, and the words behind it the command. A word that isn't text, or no folder, is
-//! no command. `--help` and `--version` are words in the folder's place; they are answered here. Why a run ended without its work
-//! done is said on standard error where standard output doesn't say it.
+//! no command. `--help` and `--version` are words in the folder's place; they are answered here, the help by a text that clap makes of
+//! the command line. Why a run ended without its work done is said on standard error where standard output doesn't say it.
 #![tactic(auto)]
 
+use clfs_command::help_text;
 use clfs_engine::{DONE, NO_MEMORY, SINK_FAULT, SOURCE_FAULT, run};
 use clfs_files::{Folder, ReaderSource, WriterSink};
 use std::alloc::{AllocError, Global};
 use std::process::ExitCode;
 use std::rt::Env;
 use std::{env, io};
-
-/// What `--help` prints: the commands that are built, one line each.
-const HELP: &str = "\
-usage: clfs FOLDER COMMAND ..
-       clfs --help
-       clfs --version
-
-A log manager: several clients share one log, and each sees its own stream of records.
-
-Commands:
-  format --block-sectors B --container-sectors S --containers N
-          makes a log of N containers of S sectors in FOLDER, with blocks of B sectors at most
-  serve   answers the lines of a script on standard input, one reply a line (docs/SCRIPT.md)
-";
 
 /// What `--version` prints.
 const VERSION: &str = "clfs 0.1\n";
@@ -52,12 +39,13 @@ fn folder_path(alloc: Global, words: &[String]) -> Result<String, AllocError> {
 }
 
 // The text that a word in the folder's place asks for, where it is alone.
-fn own_text(words: &[String]) -> Option<&'static str> {
-    match words {
-        [_, word] if word.as_str() == "--help" => Some(HELP),
-        [_, word] if word.as_str() == "--version" => Some(VERSION),
-        _ => None,
-    }
+fn own_text(alloc: Global, words: &[String]) -> Result<Option<String>, AllocError> {
+    let text = match words {
+        [_, word] if word.as_str() == "--help" => help_text(alloc)?,
+        [_, word] if word.as_str() == "--version" => String::from_str(alloc, VERSION)?,
+        _ => return Ok(None),
+    };
+    Ok(Some(text))
 }
 
 // Why a run with this status did less than it was asked for, where standard output doesn't say it.
@@ -95,28 +83,34 @@ impl Ending {
     }
 }
 
-// A run over standard input and output and the folder.
-fn run_words(rt: &HostRuntime) -> Ending {
-    let Ok(words) = all_words(rt) else {
-        return Ending::before(NO_MEMORY);
-    };
-    if let Some(text) = own_text(&words) {
-        return match rt.print(text) {
-            Ok(()) => Ending::before(DONE),
-            Err(_) => Ending::before(SINK_FAULT),
-        };
-    }
-    let Ok(path) = folder_path(rt.alloc(), &words) else {
+// A run of the command over standard input and output and the folder.
+fn run_command(rt: &HostRuntime, words: &[String]) -> Ending {
+    let Ok(path) = folder_path(rt.alloc(), words) else {
         return Ending::before(NO_MEMORY);
     };
     let mut source = ReaderSource::new(rt.reader());
     let mut sink = WriterSink::new(io::writer(rt));
     let folder = Folder::new(*rt, path);
-    let command = command_words(&words);
+    let command = command_words(words);
     let outcome = run(rt.alloc(), command, &mut source, &mut sink, folder);
     Ending {
         status: outcome.status,
         is_taken: outcome.disk.is_taken(),
+    }
+}
+
+// What the words ask for: one of the program's own texts, or a command.
+fn run_words(rt: &HostRuntime) -> Ending {
+    let Ok(words) = all_words(rt) else {
+        return Ending::before(NO_MEMORY);
+    };
+    match own_text(rt.alloc(), &words) {
+        Ok(None) => run_command(rt, &words),
+        Ok(Some(text)) => match rt.print(text.as_str()) {
+            Ok(()) => Ending::before(DONE),
+            Err(_) => Ending::before(SINK_FAULT),
+        },
+        Err(_) => Ending::before(NO_MEMORY),
     }
 }
 

@@ -5,6 +5,5 @@ pub mod MemoryLog
 pub mod Taken
 pub mod Ends
 pub mod Serve
-pub mod Command
 pub mod Format
 pub mod Worked

@@ -111,10 +111,12 @@ pub record EndsServing (status : ℕ) (left left_after written written_after : O
   pub source_count : source ≤ source_after
   pub sink_count : sink ≤ sink_after
 
--- How a run ends whose words are no command: the line that says so was written, or the sink failed and took a front of it.
+-- How a run ends whose words are no command: the line that says so was written, or the sink failed and took a front of it, or memory ran out
+-- before the words were read, and nothing was written.
 pub record EndsByUsage (status : ℕ) (written written_after : Option (List ℕ)) (sink sink_after : ℕ) : Type 0 where
-  pub statuses : (status ≡ 1) ⊎ (status ≡ 3)
+  pub statuses : (status ≡ 1) ⊎ ((status ≡ 3) ⊎ (status ≡ 5))
   pub line : status ≡ 1 → Appends written written_after usage_text
   pub sink_fault : status ≡ 3 → Rises sink sink_after
   pub sink_fault_front : status ≡ 3 → AppendsFront written written_after usage_text
+  pub no_memory_silence : status ≡ 5 → Appends written written_after []
   pub sink_count : sink ≤ sink_after

@@ -8,7 +8,6 @@
 
 mod answering;
 mod asking;
-mod command;
 mod formatting;
 mod input;
 mod lines;

@@ -2,24 +2,22 @@
 ghost use Rattle.std.specs.Prelude.{◌≡◌, ◌≢◌, ℕ, map, Some, None};
 ghost use Rattle.std.specs.String.{string_bytes};
 ghost use Rattle.clfs_lsn.specs.declared.shape.Shape.{Shape};
-ghost use Rattle.clfs_engine.specs.Command.{command_of};
+ghost use Rattle.clfs_command.specs.Command.{command_of};
+ghost use Rattle.clfs_command.specs.declared.words.Command.TheVariants.{Format, Serve};
 ghost use Rattle.clfs_engine.specs.Format.{EndsFormat};
 ghost use Rattle.clfs_engine.specs.Serve.{EndsServing, EndsByUsage};
-ghost use Rattle.clfs_engine.specs.declared.command.Command.TheVariants.{Format, Serve};
 
-use crate::command::{Command, command_of};
 use crate::formatting::format;
 use crate::output::printed;
 use crate::serving::serve;
-use crate::status::{Outcome, USAGE};
+use crate::status::{NO_MEMORY, Outcome, USAGE};
+use clfs_command::{Command, WordsRefusal, read_command};
 use clfs_disk::Disk;
 use clfs_ports::{Sink, Source};
 use std::alloc::Global;
 
-/// The write buffers of a log that is served.
-const WRITE_BUFFERS: u32 = 4;
-
-/// Runs the command that the words name: `serve`, or `format` with the sizes of the log.
+/// Runs the command that the words name: `serve` with its write buffers, or `format` with the sizes of the log. The words are those
+/// behind the folder.
 pub fn run<S: Source, K: Sink, D: Disk + Drop>(
     alloc: Global,
     words: &[String],
@@ -27,7 +25,8 @@ pub fn run<S: Source, K: Sink, D: Disk + Drop>(
     sink: &mut K,
     disk: D,
 ) -> Outcome<D>
-    ensures serves { command_of (map string_bytes words.now) ≡ Some Serve → EndsServing result.status (S.left source.old) (S.left source.new)
+    ensures serves { (buffers : ℕ) → command_of (map string_bytes words.now) ≡ Some (Serve buffers)
+        → EndsServing result.status (S.left source.old) (S.left source.new)
         (K.written sink.old) (K.written sink.new) (S.faults source.old) (S.faults source.new) (K.faults sink.old) (K.faults sink.new) }
     ensures formats { (shape : Shape) (containers : ℕ) → command_of (map string_bytes words.now) ≡ Some (Format shape containers)
         → EndsFormat result.status shape containers (D.state disk) (D.state result.disk)
@@ -35,20 +34,24 @@ pub fn run<S: Source, K: Sink, D: Disk + Drop>(
     ensures usage { command_of (map string_bytes words.now) ≡ None → EndsByUsage result.status (K.written sink.old) (K.written sink.new)
         (K.faults sink.old) (K.faults sink.new) }
     // Only a script is read from the source, and only a log that is made calls the disk.
-    ensures unread { command_of (map string_bytes words.now) ≢ Some Serve → source.new ≡ source.old }
+    ensures unread { ((buffers : ℕ) → command_of (map string_bytes words.now) ≢ Some (Serve buffers)) → source.new ≡ source.old }
     ensures unmade { ((shape : Shape) (containers : ℕ) → command_of (map string_bytes words.now) ≢ Some (Format shape containers)) → result.disk ≡ disk }
 {
-    match command_of(words) {
-        Some(Command::Serve) => serve(alloc, WRITE_BUFFERS, source, sink, disk),
-        Some(Command::Format { shape, containers }) => {
+    match read_command(alloc, words) {
+        Ok(Command::Serve { write_buffers }) => serve(alloc, write_buffers, source, sink, disk),
+        Ok(Command::Format { shape, containers }) => {
             format(alloc, shape, containers, sink, disk)
         }
-        None => {
+        Err(WordsRefusal::Usage) => {
             let line = b"usage: clfs FOLDER format, serve, race, trial or crew\n";
             Outcome {
                 status: printed(sink, line, USAGE),
                 disk,
             }
         }
+        Err(WordsRefusal::NoMemory) => Outcome {
+            status: NO_MEMORY,
+            disk,
+        },
     }
 }

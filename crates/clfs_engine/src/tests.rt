@@ -89,12 +89,26 @@ fn scripts_and_their_replies(rt: HostRuntime) -> Result<(), Fail> {
 #[test]
 fn statuses_and_their_causes(rt: HostRuntime) -> Result<(), Fail> {
     let alloc = rt.alloc();
-    let cases: [(&[&str], u64, u64, u8, &[u8]); 8] = [
+    let cases: [(&[&str], u64, u64, u8, &[u8]); 10] = [
         (&["serve"], 9, 99, DONE, b"1 lsn 1:0:0\n1 lsn 1:0:1\n"),
         (&["serve"], 1, 99, SOURCE_FAULT, b""),
         (&["serve"], 2, 99, SOURCE_FAULT, b""),
         (&["serve"], 3, 99, SOURCE_FAULT, b"1 lsn 1:0:0\n"),
         (&["serve"], 9, 2, SINK_FAULT, b"1 lsn 1:0:"),
+        (
+            &["serve", "--write-buffers", "64"],
+            9,
+            99,
+            DONE,
+            b"1 lsn 1:0:0\n1 lsn 1:0:1\n",
+        ),
+        (
+            &["serve", "--write-buffers", "65"],
+            9,
+            99,
+            USAGE,
+            USAGE_LINE,
+        ),
         (&["serves"], 9, 99, USAGE, USAGE_LINE),
         (&["serve", "x"], 9, 99, USAGE, USAGE_LINE),
         (&[], 9, 3, SINK_FAULT, b"usage: clfs FOLDER f"),

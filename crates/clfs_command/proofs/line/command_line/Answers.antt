@@ -1,0 +1,28 @@
+use Rattle.std.proofs.Common.{◌≡◌, ◌∙◌, ap, ap₂, refl, true, false, arith}
+use Rattle.std.proofs.lemmas.Result.{IfOk-weaker}
+use Rattle.clap.specs.Words.{App, app_of, shape_of, with_subcommand}
+use Rattle.clap.specs.Simple.{app_of_fields, on_top}
+use Rattle.clap.specs.declared.builder.command.Command.{Command}
+use Rattle.clap.specs.declared.builder.command.Command.TheViews.{out-Command}
+use Rattle.clfs_command.specs.Line.{format_line, serve_line}
+use Rattle.clfs_command.proofs.line.command_line.Goals as goal
+
+-- a command that uses none of the settings that change how words are read has no option for all levels
+has_no_globals : (a : Command) → (shape_of a).is_plain ≡ true → (out-Command a).has_globals ≡ false
+has_no_globals a plain = grind arith
+
+-- a command that is made like a line of this shape takes its place below another one
+joined : (a : Command) (line : App) → app_of a ≡ line → line.top.is_plain ≡ true → (out-Command a).has_globals ≡ false
+joined a line same plain = has_no_globals a (ap (λ (x : App). x.top.is_plain) same ∙ plain)
+
+pub returns : goal.returns
+returns c =
+    let named = c.command_named.ensures in
+    let unnamed = ap app_of_fields c.no_binary_name.ensures ∙ ap (on_top (λ s. record s { no_binary_name = true })) named in
+    let unhelped = ap app_of_fields c.disable_help_subcommand.ensures ∙ ap (on_top (λ s. record s { disable_help_subcommand = true })) unnamed in
+    let base = ap app_of_fields c.subcommand_required.ensures ∙ ap (on_top (λ s. record s { subcommand_required = true })) unhelped in
+    let format : app_of c.in_ok-format_line.field-0 ≡ format_line = c.in_ok-format_line.ensures in
+    let serve : app_of c.in_ok-serve_line.field-0 ≡ serve_line = c.in_ok-serve_line.ensures in
+    let first = c.in_ok-subcommand.ensures.shape (joined _ _ format refl) ∙ ap₂ with_subcommand base (ap (λ (x : App). x.top) format) in
+    IfOk-weaker c.subcommand-2.result _ _
+    (λ r added. added.shape (joined _ _ serve refl) ∙ ap₂ with_subcommand first (ap (λ (x : App). x.top) serve)) c.subcommand-2.ensures

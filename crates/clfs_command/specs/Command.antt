@@ -1,0 +1,51 @@
+-- The command that the words behind FOLDER name: what clap finds in them, with numbers that a log can have.
+use Rattle.std.specs.Prelude.{ℕ, Bool, ◌&&◌, ◌*◌, ◌≤◌, nat_le, if◌then◌else◌, List, codes, Option, Some, None}
+use Rattle.std.specs.Option.{option_and_then}
+use Rattle.std.specs.Str.{bytes_eq}
+use Rattle.clap.specs.Walk.{Row, Text, first_of, is_empty}
+use Rattle.clap.specs.Simple.{subcommand_of}
+use Rattle.clap.specs.Faults.{fault_of}
+use Rattle.clfs_lsn.specs.Limits.{most_block_sectors, most_container_sectors, most_containers, most_write_buffers}
+use Rattle.clfs_lsn.specs.Size.{IsShape}
+use Rattle.clfs_lsn.specs.Words.{decimal_number}
+use Rattle.clfs_command.specs.Line.{command_line}
+use Rattle.clfs_command.specs.declared.words.Command.{Command}
+use Rattle.clfs_command.specs.declared.words.Command.TheVariants.{Format, Serve}
+
+-- the decimal number of 32 bits that an option has, without a sign or a leading zero
+abbrev pub number_of : Text → List Row → Option ℕ
+number_of name options = option_and_then (decimal_number 4294967295) (first_of name options)
+
+-- the sizes that a log can have: its blocks, two of which fit into a container, and its containers
+abbrev pub is_size : ℕ → ℕ → ℕ → Bool
+is_size block container containers =
+    nat_le 1 block && nat_le block most_block_sectors && nat_le (2 * block) container && nat_le container most_container_sectors
+    && nat_le 1 containers && nat_le containers most_containers
+
+-- making a log of these sizes, where a log can have them
+abbrev pub format_of : Option ℕ → Option ℕ → Option ℕ → Option Command
+format_of (Some block) (Some container) (Some containers) =
+    if is_size block container containers
+    then Some (Format (record { block_sectors = block; container_sectors = container }) containers) else None
+format_of _ _ _ = None
+
+-- serving with so many write buffers, where a log can have them
+abbrev pub serve_of : Option ℕ → Option Command
+serve_of (Some buffers) = if nat_le 1 buffers && nat_le buffers most_write_buffers then Some (Serve buffers) else None
+serve_of None = None
+
+-- the command that a subcommand and its options stand for
+abbrev pub with_options : Text × List Row → Option Command
+with_options (name, options) =
+    if bytes_eq name (codes "format")
+    then format_of (number_of (codes "block-sectors") options) (number_of (codes "container-sectors") options) (number_of (codes "containers") options)
+    else if bytes_eq name (codes "serve") then serve_of (number_of (codes "write-buffers") options) else None
+
+-- The command that words name. They name none where clap finds a fault in them, or a number isn't one that a log can have.
+abbrev pub command_of : List Text → Option Command
+command_of words = if is_empty (fault_of command_line words) then option_and_then with_options (subcommand_of command_line words) else None
+
+-- the numbers of a command are such
+abbrev pub HasItsRanges : Command → Type 0
+HasItsRanges (Format shape containers) = IsShape shape × (1 ≤ containers) × (containers ≤ most_containers)
+HasItsRanges (Serve buffers) = (1 ≤ buffers) × (buffers ≤ most_write_buffers)

@@ -1,0 +1,36 @@
+-- The program's command line behind FOLDER, as clap reads it: one command whose subcommands have options with a value each. There is no help
+-- among the words that it takes.
+use Rattle.std.specs.Prelude.{true, [], ◌∷◌, codes, Some}
+use Rattle.clap.specs.Simple.{App, on_top, new_app, new_rule, with_rule, with_subcommand}
+use Rattle.clap.specs.Walk.{Rule, Text}
+
+-- the option `--name`, which has one value
+abbrev pub option : Text → Rule
+option name = record (new_rule name) { long = Some name; value_names = 1 }
+
+-- an option that has to be there
+abbrev pub needed : Text → Rule
+needed name = record (option name) { required = true }
+
+-- an option that has this value where it isn't there
+abbrev pub with_default : Text → Text → Rule
+with_default name value = record (option name) { defaults = value ∷ [] }
+
+-- a command of this name that no word asks for help
+abbrev pub command_named : Text → App
+command_named name = on_top (λ s. record s { disable_help_flag = true }) (new_app name)
+
+-- `format --block-sectors B --container-sectors S --containers N`
+abbrev pub format_line : App
+format_line = with_rule (with_rule (with_rule (command_named (codes "format")) (needed (codes "block-sectors"))) (needed (codes "container-sectors")))
+    (needed (codes "containers"))
+
+-- `serve [--write-buffers W]`
+abbrev pub serve_line : App
+serve_line = with_rule (command_named (codes "serve")) (with_default (codes "write-buffers") (codes "4"))
+
+-- the words behind FOLDER, of which the first names the subcommand
+abbrev pub command_line : App
+command_line = with_subcommand (with_subcommand (on_top
+    (λ s. record s { no_binary_name = true; disable_help_subcommand = true; subcommand_required = true }) (command_named (codes "clfs")))
+    format_line.top) serve_line.top

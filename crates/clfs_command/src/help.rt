@@ -1,0 +1,26 @@
+// What `clfs --help` prints: the commands, and the options of each.
+use crate::line::{command_line, format_line, serve_line};
+use std::alloc::{AllocError, Global};
+
+// How the program is called.
+const USAGE: &str = "\
+clfs FOLDER <COMMAND>
+       clfs --help
+       clfs --version";
+
+/// The help of the program: what it is, how it is called, which commands there are, and the options of each. Its text is clap's for
+/// the command line that `read_command` reads.
+pub fn help_text(alloc: Global) -> Result<String, AllocError> {
+    let mut text = command_line(alloc)?.override_usage(USAGE).render_help()?;
+    let format = format_line(alloc)?
+        .bin_name("clfs FOLDER format")?
+        .render_help()?;
+    let serve = serve_line(alloc)?
+        .bin_name("clfs FOLDER serve")?
+        .render_help()?;
+    for part in [&format, &serve] {
+        text.push('\n')?;
+        text.push_str(part.as_str())?;
+    }
+    Ok(text)
+}

@@ -1,0 +1,72 @@
+// The command line behind FOLDER, as clap takes it.
+ghost use Rattle.std.specs.Prelude.{◌≡◌, IfOk, false};
+ghost use Rattle.clap.specs.Words.{app_of, rule_of};
+ghost use Rattle.clfs_command.specs.Line.{option, needed, with_default, command_named, format_line, serve_line, command_line};
+
+use clap::{Arg, Command};
+use std::alloc::{AllocError, Global};
+
+// A command that takes no word that asks for help: the help is the program's own.
+fn command_named<'a>(alloc: Global, name: &'a str, about: &'a str) -> Command<'a>
+    ensures { app_of result ≡ command_named name.entry.now }
+{
+    Command::new(alloc, name)
+        .about(about)
+        .disable_help_flag(true)
+}
+
+// The option `--name`. The help says what it is, and what its value is called.
+fn option<'a>(alloc: Global, name: &'a str, value: &'a str, help: &'a str) -> Arg<'a>
+    ensures rule { rule_of result ≡ option name.entry.now }
+    ensures local { result.global ≡ false }
+{
+    Arg::new(alloc, name)
+        .long(name)
+        .value_name(value)
+        .help(help)
+}
+
+// An option that has to be there.
+fn needed<'a>(alloc: Global, name: &'a str, value: &'a str, help: &'a str) -> Arg<'a>
+    ensures rule { rule_of result ≡ needed name.entry.now }
+    ensures local { result.global ≡ false }
+{
+    option(alloc, name, value, help).required(true)
+}
+
+/// The line of `format`.
+pub fn format_line<'a>(alloc: Global) -> Result<Command<'a>, AllocError>
+    ensures { IfOk result (λ r. app_of r ≡ format_line) }
+{
+    let block = "Sectors of the largest block, 1 to 128; a sector has 512 bytes";
+    let container = "Sectors of a container, twice B to 16384";
+    let containers = "Containers of the log, 1 to 256";
+    command_named(alloc, "format", "Makes a log in FOLDER")
+        .arg(needed(alloc, "block-sectors", "B", block))?
+        .arg(needed(alloc, "container-sectors", "S", container))?
+        .arg(needed(alloc, "containers", "N", containers))
+}
+
+/// The line of `serve`.
+pub fn serve_line<'a>(alloc: Global) -> Result<Command<'a>, AllocError>
+    ensures { IfOk result (λ r. app_of r ≡ serve_line) }
+{
+    let about = "Answers the lines of a script on standard input, one reply a line";
+    let help = "Full blocks that may wait before all are written, 1 to 64";
+    let buffers = option(alloc, "write-buffers", "W", help).default_value("4");
+    command_named(alloc, "serve", about).arg(buffers)
+}
+
+/// All of the line, of which the first word names the subcommand.
+pub fn command_line<'a>(alloc: Global) -> Result<Command<'a>, AllocError>
+    ensures { IfOk result (λ r. app_of r ≡ command_line) }
+{
+    let about =
+        "A log manager: several clients share one log, and each sees its own stream of records";
+    command_named(alloc, "clfs", about)
+        .no_binary_name(true)
+        .disable_help_subcommand(true)
+        .subcommand_required(true)
+        .subcommand(format_line(alloc)?)?
+        .subcommand(serve_line(alloc)?)
+}

@@ -1,0 +1,182 @@
+use super::*;
+use clfs_lsn::Shape;
+use std::alloc::{AllocError, Global};
+use std::test::Fail;
+
+fn owned(alloc: Global, line: &str) -> Result<Vec<String>, AllocError> {
+    let mut words = Vec::new(alloc);
+    if !line.is_empty() {
+        for word in line.split(' ') {
+            words.push(String::from_str(alloc, word)?)?;
+        }
+    }
+    Ok(words)
+}
+
+fn format(block_sectors: u32, container_sectors: u32, containers: u32) -> Option<Command> {
+    Some(Command::Format {
+        shape: Shape {
+            block_sectors,
+            container_sectors,
+        },
+        containers,
+    })
+}
+
+fn serve(write_buffers: u32) -> Option<Command> {
+    Some(Command::Serve { write_buffers })
+}
+
+// Words beside the command that they name, or none. Two spaces in a row stand for an empty word between them.
+#[test]
+fn words_and_their_commands(rt: HostRuntime) -> Result<(), Fail> {
+    let alloc = rt.alloc();
+    let cases = [
+        (
+            "format --block-sectors 2 --container-sectors 8 --containers 2",
+            format(2, 8, 2),
+        ),
+        (
+            "format --containers 2 --container-sectors 8 --block-sectors 2",
+            format(2, 8, 2),
+        ),
+        (
+            "format --block-sectors=128 --container-sectors=16384 --containers=256",
+            format(128, 16384, 256),
+        ),
+        (
+            "format --block-sectors 1 --container-sectors 2 --containers 1 --",
+            format(1, 2, 1),
+        ),
+        ("format --block-sectors 2 --container-sectors 8", None),
+        ("format --block-sectors 2 --containers 2", None),
+        ("format --container-sectors 8 --containers 2", None),
+        (
+            "format --block-sectors 2 --container-sectors 8 --containers 2 --containers 2",
+            None,
+        ),
+        (
+            "format --block-sectors 2 --container-sectors 8 --containers 0",
+            None,
+        ),
+        (
+            "format --block-sectors 2 --container-sectors 8 --containers 257",
+            None,
+        ),
+        (
+            "format --block-sectors 2 --container-sectors 3 --containers 2",
+            None,
+        ),
+        (
+            "format --block-sectors 0 --container-sectors 8 --containers 2",
+            None,
+        ),
+        (
+            "format --block-sectors 129 --container-sectors 16384 --containers 2",
+            None,
+        ),
+        (
+            "format --block-sectors 2 --container-sectors 16385 --containers 2",
+            None,
+        ),
+        (
+            "format --block-sectors 2 --container-sectors 8 --containers 02",
+            None,
+        ),
+        (
+            "format --block-sectors 2 --container-sectors 8 --containers +2",
+            None,
+        ),
+        (
+            "format --block-sectors 2 --container-sectors 8 --containers -2",
+            None,
+        ),
+        (
+            "format --block-sectors 2 --container-sectors 8 --containers 4294967298",
+            None,
+        ),
+        (
+            "format --block-sectors 2 --container-sectors 8 --containers=",
+            None,
+        ),
+        (
+            "format --block-sectors 2 --container-sectors 8 --containers ",
+            None,
+        ),
+        (
+            "format --block-sectors 2 --container-sectors 8 --containers",
+            None,
+        ),
+        (
+            "format --block 2 --container-sectors 8 --containers 2",
+            None,
+        ),
+        ("format 2 8 2", None),
+        ("serve", serve(4)),
+        ("serve --", serve(4)),
+        ("serve --write-buffers 1", serve(1)),
+        ("serve --write-buffers=64", serve(64)),
+        ("serve --write-buffers 0", None),
+        ("serve --write-buffers 65", None),
+        ("serve --write-buffers 4 --write-buffers 4", None),
+        ("serve --write-buffers", None),
+        ("serve --write-buffers -- 4", None),
+        ("serve --containers 2", None),
+        ("serve x", None),
+        ("serve -- x", None),
+        ("serve serve", None),
+        ("serve --help", None),
+        ("-- serve", None),
+        ("--write-buffers 4 serve", None),
+        ("Serve", None),
+        ("serv", None),
+        ("race", None),
+        ("trial 1 5", None),
+        ("crew 2 5", None),
+        ("help", None),
+        ("--help", None),
+        ("-h", None),
+        ("--version", None),
+        ("", None),
+        (" ", None),
+    ];
+    for (line, want) in cases {
+        let command = read_command(alloc, &owned(alloc, line)?);
+        assert_eq!(rt; command, want.ok_or(WordsRefusal::Usage));
+    }
+    Ok(())
+}
+
+#[test]
+fn what_the_help_says(rt: HostRuntime) -> Result<(), Fail> {
+    let text = help_text(rt.alloc())?;
+    let want = "\
+A log manager: several clients share one log, and each sees its own stream of records
+
+Usage: clfs FOLDER <COMMAND>
+       clfs --help
+       clfs --version
+
+Commands:
+  format  Makes a log in FOLDER
+  serve   Answers the lines of a script on standard input, one reply a line
+
+Makes a log in FOLDER
+
+Usage: clfs FOLDER format --block-sectors <B> --container-sectors <S> --containers <N>
+
+Options:
+      --block-sectors <B>      Sectors of the largest block, 1 to 128; a sector has 512 bytes
+      --container-sectors <S>  Sectors of a container, twice B to 16384
+      --containers <N>         Containers of the log, 1 to 256
+
+Answers the lines of a script on standard input, one reply a line
+
+Usage: clfs FOLDER serve [OPTIONS]
+
+Options:
+      --write-buffers <W>  Full blocks that may wait before all are written, 1 to 64 [default: 4]
+";
+    assert_eq!(rt; text.as_str(), want);
+    Ok(())
+}

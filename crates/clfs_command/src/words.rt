@@ -1,0 +1,149 @@
+// Which command the words behind FOLDER name.
+ghost use Rattle.std.specs.Prelude.{◌≡◌, ◌≢◌, map, Some, None, IfSome, IfOk, IfErr};
+ghost use Rattle.std.specs.Option.{option_and_then};
+ghost use Rattle.std.specs.String.{string_bytes};
+ghost use Rattle.clap.specs.Words.{rows_of, found_of, subcommand_rows_of};
+ghost use Rattle.clfs_lsn.specs.Limits.{most_containers, most_write_buffers};
+ghost use Rattle.clfs_command.specs.Command.{number_of, is_size, format_of, serve_of, with_options, command_of, HasItsRanges};
+
+use crate::line::command_line;
+use clap::ArgMatches;
+use clap::error::ErrorKind;
+use clfs_lsn::{MOST_CONTAINERS, Shape};
+use clfs_text::decimal_number;
+use std::alloc::{AllocError, Global};
+use thiserror::Error;
+
+/// What a user can ask the program for.
+#[derive(Clone, Copy, Debug, PartialEq, Eq)]
+pub enum Command {
+    /// To make a log.
+    Format {
+        /// The sizes of its blocks and containers.
+        shape: Shape,
+        /// How many containers it has, 1 to 256.
+        containers: u32,
+    },
+    /// To answer a script.
+    Serve {
+        /// The write buffers of the log, 1 to 64.
+        write_buffers: u32,
+    },
+}
+
+/// Why no command was read.
+#[derive(Clone, Copy, Debug, PartialEq, Eq, Error)]
+pub enum WordsRefusal {
+    /// The words are no command.
+    #[error("the words are no command")]
+    Usage,
+    /// No memory was left to read them.
+    #[error("out of memory")]
+    NoMemory,
+}
+
+impl From<AllocError> for WordsRefusal {
+    ghost use Rattle.clfs_command.specs.declared.words.WordsRefusal.TheVariants.{NoMemory};
+
+    ghost from_gives = { λ _ e. e ≡ NoMemory };
+
+    fn from(_e: AllocError) -> WordsRefusal {
+        WordsRefusal::NoMemory
+    }
+}
+
+// The most sectors of a block.
+const MOST_BLOCK_SECTORS: u32 = 128;
+
+// The most sectors of a container.
+const MOST_CONTAINER_SECTORS: u32 = 16384;
+
+// The most write buffers of a log.
+const MOST_WRITE_BUFFERS: u32 = 64;
+
+fn is_size(block: u32, container: u32, containers: u32) -> bool
+    ensures { result ≡ is_size block container containers }
+{
+    (1..=MOST_BLOCK_SECTORS).contains(&block)
+        && 2 * block <= container
+        && container <= MOST_CONTAINER_SECTORS
+        && (1..=MOST_CONTAINERS as u32).contains(&containers)
+}
+
+// The number that an option has.
+fn number_of(name: &str, options: &ArgMatches) -> Option<u32>
+    ensures { result ≡ number_of name.now (rows_of (found_of options.now)) }
+{
+    decimal_number(u32::MAX, options.get_str(name)?.as_bytes())
+}
+
+fn format_of(block: Option<u32>, container: Option<u32>, containers: Option<u32>) -> Option<Command>
+    ensures command { result ≡ format_of block container containers }
+    ensures ranges { IfSome result HasItsRanges }
+{
+    let block_sectors = block?;
+    let container_sectors = container?;
+    let containers = containers?;
+    if !is_size(block_sectors, container_sectors, containers) {
+        return None;
+    }
+    Some(Command::Format {
+        shape: Shape {
+            block_sectors,
+            container_sectors,
+        },
+        containers,
+    })
+}
+
+fn serve_of(write_buffers: Option<u32>) -> Option<Command>
+    ensures command { result ≡ serve_of write_buffers }
+    ensures ranges { IfSome result HasItsRanges }
+{
+    let write_buffers = write_buffers?;
+    if !(1..=MOST_WRITE_BUFFERS).contains(&write_buffers) {
+        return None;
+    }
+    Some(Command::Serve { write_buffers })
+}
+
+// The command that a subcommand and its options stand for.
+fn with_options(name: &str, options: &ArgMatches) -> Option<Command>
+    ensures command { result ≡ with_options (name.now, rows_of (found_of options.now)) }
+    ensures ranges { IfSome result HasItsRanges }
+{
+    match name {
+        "format" => format_of(
+            number_of("block-sectors", options),
+            number_of("container-sectors", options),
+            number_of("containers", options),
+        ),
+        "serve" => serve_of(number_of("write-buffers", options)),
+        _ => None,
+    }
+}
+
+// The command that was found.
+fn found_command(matches: &ArgMatches) -> Option<Command>
+    ensures command { result ≡ option_and_then with_options (subcommand_rows_of matches.now) }
+    ensures ranges { IfSome result HasItsRanges }
+{
+    let (name, options) = matches.subcommand()?;
+    with_options(name, options)
+}
+
+/// The command that the words name, COMMAND first.
+pub fn read_command(alloc: Global, words: &[String]) -> Result<Command, WordsRefusal>
+    ensures command { IfOk result (λ command. command_of (map string_bytes words.now) ≡ Some command) }
+    ensures usage { IfErr result (λ refusal. refusal ≡ WordsRefusal.Usage → command_of (map string_bytes words.now) ≡ None) }
+    ensures ranges { IfOk result HasItsRanges }
+{
+    let line = command_line(alloc)?;
+    match line.try_get_matches_from(words) {
+        Ok(matches) => found_command(&matches).ok_or(WordsRefusal::Usage),
+        Err(error) => match error.kind() {
+            ErrorKind::OutOfMemory => Err(WordsRefusal::NoMemory),
+            _ => Err(WordsRefusal::Usage),
+        },
+    }
+}
