@@ -1,6 +1,7 @@
--- A log whose copy has another base in a row, a stream more, or other settings.
-use Rattle.std.proofs.Common.{◌≡◌, ◌≢◌, ⊎_elim, ℕ, ◌+◌, ◌-◌, ◌*◌, ◌<◌, ◌≤◌, Bool, true, max, List, [], ◌∷◌, ◌++◌, length, get_or}
-use Rattle.std.proofs.Common.{refl, ◌∙◌, ap, arith, length-append, length-set, get_or-set_same, get_or-set_other}
+-- A log that has more blocks or containers, or whose copy has another base in a row, a stream more, or other settings.
+use Rattle.std.proofs.Common.{◌≡◌, ◌≢◌, ⊎_elim, ℕ, ◌+◌, ◌-◌, ◌*◌, ◌<◌, ◌≤◌, Bool, true, max, List, [], ◌∷◌, ◌++◌, length, get_or, map}
+use Rattle.std.proofs.Common.{refl, sym, ◌∙◌, ap, arith, append_assoc, length-append, length-set, get_or-set_same, get_or-set_other}
+use Rattle.std.specs.Prelude.{All}
 use Rattle.std.specs.List.{AllByRecursion}
 use Rattle.std.proofs.Math.Seq.{get_or-append_seam}
 use Rattle.std.proofs.lemmas.Bool.{cases_eq}
@@ -9,26 +10,29 @@ use Rattle.std.proofs.lemmas.List.Elements.{recursion_from_All}
 use Rattle.clfs_lsn.specs.Lsn.{container_of}
 use Rattle.clfs_lsn.specs.Place.{frontier}
 use Rattle.clfs_lsn.specs.declared.entry.LogEntry.{LogEntry}
+use Rattle.clfs_lsn.specs.declared.place.Place.{Place}
 use Rattle.clfs_container.specs.OpenBlocks.{total}
 use Rattle.clfs_block.specs.Judging.{AreReadAsWritten}
 use Rattle.clfs_base.specs.declared.image.BaseImage.{BaseImage}
 use Rattle.clfs_base.specs.declared.image.Row.{Row}
 use Rattle.clfs_base.specs.Layout.{version_one}
 use Rattle.clfs_base.specs.Spelling.{IsImage, row_in}
+use Rattle.clfs_model.specs.declared.state.State.{State}
 use Rattle.clfs_model.specs.State.{base_of, set_base}
 use Rattle.clfs_recover.specs.Bases.{raised}
 use Rattle.clfs_recover.specs.Files.{streams_with}
-use Rattle.clfs_recover.specs.Logs.{IsLogWith, stored_state, with_row_base}
+use Rattle.clfs_recover.specs.Logs.{IsLogWith, HaveMore, HaveEmpty, file_at_end, stored_state, with_row_base}
 use Rattle.clfs_recover.specs.Stored.{stored_place}
 use Rattle.clfs_recover.specs.Walk.{shape_of, bases_with}
 use Rattle.clfs_recover.proofs.FoundStreams.{base_there}
 use Rattle.clfs_recover.proofs.LaidBlocks.{FitTheirs}
-use Rattle.clfs_recover.proofs.Raising.{base_at, length-bases_with}
+use Rattle.clfs_recover.proofs.Raising.{base_at, bases_more, length-bases_with}
 use Rattle.clfs_recover.proofs.ReadBlocks.{ReadsFit}
 use Rattle.clfs_recover.proofs.ReadStored.{stored_more}
-use Rattle.clfs_recover.proofs.RowBases.{streams_moved, streams_raised, streams_more, bases_set, bases_more_rows}
+use Rattle.clfs_recover.proofs.RowBases.{streams_moved, streams_raised, streams_more, bases_set, bases_more_rows, bases_stay}
 use Rattle.clfs_recover.proofs.StoredLogs.{fault_fits, fits_right}
 use Rattle.clfs_recover.proofs.StoredRecords.{containers_rise}
+use Rattle.clfs_recover.proofs.StoredSteps.{place_more, place_next}
 
 module _ (image : BaseImage) (blocks : List (List (List ℕ))) (entries : List LogEntry) where
   abbrev end : ℕ
@@ -152,3 +156,47 @@ streams_with_raised rows bases stream base same some few =
     let number : stream - 1 + 1 ≡ stream = omega (arith, some) in
     streams_raised rows bases (stream - 1) (max (get_or bases (stream - 1) 0) base) same (omega (arith, some, few))
     ∙ ap (λ (n : ℕ). set_base n (max (get_or bases (stream - 1) 0) base) (streams_with rows bases)) number
+
+-- ---- more blocks and containers
+
+module _ (image : BaseImage) (old new : ℕ → List (List ℕ)) (entries : List LogEntry) (buffers : ℕ) where
+  abbrev before : State
+  before = stored_state image (map old image.files) entries buffers
+
+  abbrev end_with : List (List ℕ) → Place
+  end_with more = record (stored_place image (map old image.files)) { offset = total (old (file_at_end image)) + total more }
+
+  -- a group whose records have no new bases
+  pub state_more_blocks : (more : List (List ℕ)) (others : List LogEntry) → IsImage version_one image → HaveMore image more old new
+      → All (λ (entry : LogEntry). entry.new_base ≡ 0) others
+      → stored_state image (map new image.files) (entries ++ others) buffers ≡ record before { records = entries ++ others; place = end_with more }
+  state_more_blocks more others good have zeros =
+      let place = place_more image good old new more have in
+      let streams_are = ap (streams_with image.streams) (bases_stay image.streams entries others zeros) in
+      λ i. record before { records = entries ++ others; place = place i; streams = streams_are i }
+
+  -- a group whose last record alone may have one
+  pub state_moved_blocks : (more : List (List ℕ)) (others : List LogEntry) (entry : LogEntry) → IsImage version_one image → HaveMore image more old new
+      → All (λ (other : LogEntry). other.new_base ≡ 0) others → 1 ≤ entry.stream → entry.stream ≤ length image.streams
+      → base_of before entry.stream ≤ entry.new_base
+      → stored_state image (map new image.files) (entries ++ (others ++ entry ∷ [])) buffers
+      ≡ record before { records = entries ++ (others ++ entry ∷ []); place = end_with more; streams = set_base entry.stream entry.new_base before.streams }
+  state_moved_blocks more others entry good have zeros some few least =
+      let rows : List Row = image.streams in
+      let bases : List ℕ = bases_with rows entries in
+      let same = length-bases_with rows entries in
+      let place = place_more image good old new more have in
+      let at = base_there rows bases same before refl entry.stream some few in
+      let highest : max (get_or bases (entry.stream - 1) 0) entry.new_base ≡ entry.new_base = omega (arith, at, least) in
+      let bases_are : bases_with rows (entries ++ (others ++ entry ∷ [])) ≡ raised bases entry.stream entry.new_base =
+      ap (bases_with rows) (sym (append_assoc entries others (entry ∷ []))) ∙ sym (bases_more rows (entries ++ others) entry some few)
+      ∙ ap (λ (l : List ℕ). raised l entry.stream entry.new_base) (bases_stay rows entries others zeros) in
+      let streams_are = ap (streams_with rows) bases_are ∙ streams_with_raised rows bases entry.stream entry.new_base same some few
+      ∙ ap (λ (n : ℕ). set_base entry.stream n (streams_with rows bases)) highest in
+      λ i. record before { records = entries ++ (others ++ entry ∷ []); place = place i; streams = streams_are i }
+
+  -- a container more
+  pub state_next : (file : ℕ) → HaveEmpty image file old new
+      → stored_state (record image { files = image.files ++ file ∷ [] }) (map new (image.files ++ file ∷ [])) entries buffers
+      ≡ record before { place = record { container = image.first + length image.files; offset = 0; used = 0; records = 0 } }
+  state_next file have = let place = place_next image file old new have in λ i. record before { place = place i }

@@ -22,7 +22,8 @@ ghost use Rattle.clfs_recover.specs.Walk.{shape_of, bases_with};
 use clfs_block::blocks_are_read_as_written;
 use clfs_record::records_are_read_as_written;
 
-/// A group of blocks that was written behind the last one: its records come behind those of before, and the log goes on behind it.
+/// A group of blocks that was written behind the last one: its records come behind those of before, and the log goes on behind it. Where the
+/// last of them is a restart area whose new base isn't below its stream's, this has moved there.
 pub fn groups_come_behind_the_last_block()
     ensures by_file { (image : BaseImage) (more : List (List ℕ)) (old : ℕ → List (List ℕ))
         → HaveMore image more old (λ (file : ℕ). if file == file_at_end image then old (file_at_end image) ++ more else old file) }
@@ -35,6 +36,23 @@ pub fn groups_come_behind_the_last_block()
     ensures place { (image : BaseImage) (old new : ℕ → List (List ℕ)) (more : List (List ℕ)) → IsImage version_one image → HaveMore image more old new
         → stored_place image (map new image.files)
         ≡ record (stored_place image (map old image.files)) { offset = total (old (file_at_end image)) + total more } }
+    ensures state { (image : BaseImage) (old new : ℕ → List (List ℕ)) (more : List (List ℕ)) (entries others : List LogEntry) (buffers : ℕ)
+        → IsImage version_one image → HaveMore image more old new → All (λ (entry : LogEntry). entry.new_base ≡ 0) others
+        → stored_state image (map new image.files) (entries ++ others) buffers
+        ≡ record (stored_state image (map old image.files) entries buffers) {
+          records = entries ++ others;
+          place = record (stored_place image (map old image.files)) { offset = total (old (file_at_end image)) + total more };
+        } }
+    ensures moved { (image : BaseImage) (old new : ℕ → List (List ℕ)) (more : List (List ℕ)) (entries others : List LogEntry) (entry : LogEntry)
+        (buffers : ℕ) → IsImage version_one image → HaveMore image more old new → All (λ (other : LogEntry). other.new_base ≡ 0) others
+        → 1 ≤ entry.stream → entry.stream ≤ length image.streams
+        → base_of (stored_state image (map old image.files) entries buffers) entry.stream ≤ entry.new_base
+        → stored_state image (map new image.files) (entries ++ (others ++ entry ∷ [])) buffers
+        ≡ record (stored_state image (map old image.files) entries buffers) {
+          records = entries ++ (others ++ entry ∷ []);
+          place = record (stored_place image (map old image.files)) { offset = total (old (file_at_end image)) + total more };
+          streams = set_base entry.stream entry.new_base (stored_state image (map old image.files) entries buffers).streams;
+        } }
 {}
 
 /// A further container that is listed behind the others, and has no blocks: the records are those of before, and the log goes on at its first
@@ -49,6 +67,12 @@ pub fn further_containers_begin_empty()
     ensures place { (image : BaseImage) (file : ℕ) (old new : ℕ → List (List ℕ)) → HaveEmpty image file old new
         → stored_place (record image { files = image.files ++ file ∷ [] }) (map new (image.files ++ file ∷ []))
         ≡ record { container = image.first + length image.files; offset = 0; used = 0; records = 0 } }
+    ensures state { (image : BaseImage) (file : ℕ) (old new : ℕ → List (List ℕ)) (entries : List LogEntry) (buffers : ℕ)
+        → HaveEmpty image file old new
+        → stored_state (record image { files = image.files ++ file ∷ [] }) (map new (image.files ++ file ∷ [])) entries buffers
+        ≡ record (stored_state image (map old image.files) entries buffers) {
+          place = record { container = image.first + length image.files; offset = 0; used = 0; records = 0 };
+        } }
 {}
 
 /// The base of a row that moves to where the records don't reach past it: the records are those of before, and it is the stream's base.

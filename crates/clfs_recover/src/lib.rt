@@ -6,6 +6,10 @@
 //! open blocks alone, so whoever writes blocks behind closed gates, and copies into the slot that doesn't count, changes nothing of it before
 //! a gate is opened.
 //!
+//! What is found is always a state that a log can be in, with all of it stable (`opened.rt`). For whoever writes, laws say what each step
+//! makes of the log in these terms, copies and open blocks (specs/Logs.antt, `stored.rt`, `changes.rt`): a group of blocks behind the last
+//! one, a further container, and each change of a copy.
+//!
 //! There is one walk. It judges a block's frame, its records in turn, and what stands behind them, and hands each record on to a
 //! `Gatherer` by its head and where its data stand: `load` keeps records, `load_heads` their heads, which is what a log that is open keeps,
 //! and `Counts` only counts them. Each block is judged in memory before it counts, so what is opened is a log over any disk, also one that
