@@ -1,24 +1,25 @@
 -- Blocks that wait, one behind the other.
-use Rattle.std.proofs.Common.{◌≡◌, ◌⊎◌, inl, inr, ⊎_elim, ℕ, zero, suc, ◌+◌, ◌-◌, ◌*◌, ◌/◌, ◌%◌, ◌<◌, ◌≤◌, ◌^◌, List, [], ◌∷◌, ◌++◌, length, get_or, take, drop}
-use Rattle.std.proofs.Common.{refl, sym, ◌∙◌, ap, subst, arith, append_assoc, length-append, length-drop}
-use Rattle.std.specs.List.{flat_map, concat}
+use Rattle.std.proofs.Common.{◌≡◌, ℕ, ◌+◌, ◌*◌, ◌%◌, ◌≤◌, List, [], ◌∷◌, ◌++◌, length}
+use Rattle.std.proofs.Common.{refl, sym, ◌∙◌, ap, arith, append_assoc, length-append}
+use Rattle.std.specs.List.{concat}
 use Rattle.std.proofs.lemmas.List.{append-nil}
 use Rattle.clfs_lsn.specs.Lsn.{lsn_number}
-use Rattle.clfs_lsn.specs.Size.{sectors}
 use Rattle.clfs_lsn.specs.declared.shape.Shape.{Shape}
 use Rattle.clfs_lsn.specs.declared.entry.LogEntry.{LogEntry}
 use Rattle.clfs_container.specs.OpenBlocks.{total}
 use Rattle.clfs_queue.specs.Rows.{IsBlock, AreBlocks}
 
+-- the length of blocks together
 pub length-concat : (blocks : List (List ℕ)) → length (concat blocks) ≡ total blocks
 length-concat [] = refl
 length-concat (block ∷ blocks) = length-append block (concat blocks) ∙ ap (λ (n : ℕ). length block + n) (length-concat blocks)
 
--- one more block
+-- the bytes with one more block
 pub concat_push : (blocks : List (List ℕ)) (block : List ℕ) → concat (blocks ++ block ∷ []) ≡ concat blocks ++ block
 concat_push [] block = append-nil block
 concat_push (first ∷ blocks) block = ap (λ (l : List ℕ). first ++ l) (concat_push blocks block) ∙ sym (append_assoc first (concat blocks) block)
 
+-- and their length
 pub total_push : (blocks : List (List ℕ)) (block : List ℕ) → total (blocks ++ block ∷ []) ≡ total blocks + length block
 total_push [] block = omega arith
 total_push (first ∷ blocks) block = omega (arith, total_push blocks block)
@@ -32,15 +33,17 @@ blocks_push shape id offset [] done [] start own block none is new =
 blocks_push shape id offset [] done (b ∷ blocks) start own block none is new = absurd none
 blocks_push shape id offset (s ∷ starts) done [] start own block none is new = absurd none
 blocks_push shape id offset (s ∷ starts) done (b ∷ blocks) start own block all is new =
-    let others : List LogEntry = all.1.1 in
-    (all.0, (
-      all.1.0,
-      others ++ own,
-      ap (λ (l : List LogEntry). l ++ own) all.1.2 ∙ append_assoc all.1.0 others own,
-      all.1.3,
-      blocks_push shape id (offset + length b) starts others blocks start own block all.1.4
-          (is ∙ ap (λ (n : ℕ). lsn_number id n 0) (omega arith)) new,
-    ))
+    let others : List LogEntry = all.1.1 in (
+      all.0,
+      (
+        all.1.0,
+        others ++ own,
+        ap (λ (l : List LogEntry). l ++ own) all.1.2 ∙ append_assoc all.1.0 others own,
+        all.1.3,
+        blocks_push shape id (offset + length b) starts others blocks start own block all.1.4
+            (is ∙ ap (λ (n : ℕ). lsn_number id n 0) (omega arith)) new,
+      ),
+    )
 
 -- they have no more bytes than as many largest blocks
 pub total_few : (shape : Shape) (id offset : ℕ) (starts : List ℕ) (done : List LogEntry) (blocks : List (List ℕ)) → AreBlocks shape id offset starts done blocks
@@ -62,14 +65,7 @@ total_whole shape id offset (s ∷ starts) done [] none = absurd none
 total_whole shape id offset (s ∷ starts) done (b ∷ blocks) all =
     omega (arith, total_whole shape id (offset + length b) starts all.1.1 blocks all.1.4, all.1.3.spelled.whole)
 
--- where none waits there are no bytes and no records
-pub none_wait : (shape : Shape) (id offset : ℕ) (starts : List ℕ) (done : List LogEntry) (blocks : List (List ℕ)) → AreBlocks shape id offset starts done blocks
-    → starts ≡ [] → (blocks ≡ []) × (done ≡ [])
-none_wait shape id offset [] done [] none is = (refl, none)
-none_wait shape id offset [] done (b ∷ blocks) none is = absurd none
-none_wait shape id offset (s ∷ starts) done blocks none is = absurd (cc is)
-
--- and where there are no bytes none waits
+-- where there are no bytes none waits
 pub no_bytes : (shape : Shape) (id offset : ℕ) (starts : List ℕ) (done : List LogEntry) (blocks : List (List ℕ)) → AreBlocks shape id offset starts done blocks
     → total blocks ≡ 0 → (starts ≡ []) × (blocks ≡ [])
 no_bytes shape id offset [] done [] none is = (refl, refl)

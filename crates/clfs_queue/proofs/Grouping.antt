@@ -1,8 +1,8 @@
 -- The bytes of the blocks that wait are those of a group.
-use Rattle.std.proofs.Common.{◌≡◌, ◌≢◌, ◌⊎◌, inl, inr, ⊎_elim, ℕ, zero, suc, ◌+◌, ◌-◌, ◌*◌, ◌/◌, ◌%◌, ◌<◌, ◌≤◌, ◌^◌, List, [], ◌∷◌, ◌++◌, length, get_or, take, drop}
+use Rattle.std.proofs.Common.{◌≡◌, ◌≢◌, inl, inr, ℕ, ◌+◌, ◌-◌, ◌*◌, ◌/◌, ◌%◌, ◌<◌, ◌≤◌, ◌^◌, List, [], ◌∷◌, ◌++◌, length, get_or, take, drop}
 use Rattle.std.proofs.Common.{refl, sym, ◌∙◌, ap, subst, arith, append_assoc, length-append, length-drop}
 use Rattle.std.specs.List.{flat_map, concat}
-use Rattle.std.proofs.lemmas.List.{append-nil, get_or_append_left, get_or-append_right, take_at, take_all, drop_at, drop_more, get_or_at}
+use Rattle.std.proofs.lemmas.List.{append-nil, get_or_append_left, take_at, take_all, drop_at, drop_more, get_or_at}
 use Rattle.clfs_lsn.specs.Place.{IsClosed}
 use Rattle.clfs_lsn.specs.Size.{sectors}
 use Rattle.clfs_lsn.specs.Spelling.{record_bytes}
@@ -10,11 +10,10 @@ use Rattle.clfs_lsn.specs.declared.shape.Shape.{Shape}
 use Rattle.clfs_lsn.specs.declared.entry.LogEntry.{LogEntry}
 use Rattle.clfs_block.specs.Frame.{used_bytes, SpellsBlock}
 use Rattle.clfs_container.specs.OpenBlocks.{block_sectors, BeginsWith, Opens, total}
-use Rattle.clfs_container.specs.Writing.{IsGroup}
 use Rattle.clfs_queue.specs.Queued.{Queued}
 use Rattle.clfs_queue.specs.Rows.{IsBlock, AreBlocks}
 use Rattle.clfs_queue.specs.Group.{EndsAt, IsGroupOf}
-use Rattle.clfs_queue.specs.Kept.{EndsWith, IsKept}
+use Rattle.clfs_queue.specs.Kept.{IsKept}
 use Rattle.clfs_queue.proofs.Blocks.{length-concat, total_whole, no_bytes}
 use Rattle.clfs_queue.proofs.Keeping.{closed_end, kept_length}
 
@@ -39,8 +38,7 @@ module _ (gate_said : (start gate records : ℕ) (content block : List ℕ) → 
         get_or_append_left block rest 0 3 (omega (arith, whole, some)),
         sectors_said start 165 (length own) content block is.spelled is.count.field,
       ) in
-      let size : 512 * block_sectors (block ++ rest) ≡ length block = omega (arith, whole, count) in
-      (
+      let size : 512 * block_sectors (block ++ rest) ≡ length block = omega (arith, whole, count) in (
         size,
         record {
           gate = gate;
@@ -70,10 +68,12 @@ module _ (gate_said : (start gate records : ℕ) (content block : List ℕ) → 
       let step : shape.container_sectors - (offset + length b) / 512 ≡ left - block_sectors (b ++ rest) = omega (arith, whole, first.0, within) in
       let behind : drop (512 * block_sectors (b ++ rest)) (b ++ rest) ≡ rest = drop_at b rest (512 * block_sectors (b ++ rest)) (sym first.0) in
       let last : offset + length b + total blocks ≡ offset + total (b ∷ blocks) = omega arith in
-      subst (λ (l : List ℕ). Opens left l (b ∷ blocks) (shape.container_sectors - (offset + total (b ∷ blocks)) / 512)) regrouped
-      (first.1, subst (λ (l : List ℕ). Opens (left - block_sectors (b ++ rest)) l blocks (shape.container_sectors - (offset + total (b ∷ blocks)) / 512)) (sym behind)
-      (subst (λ (n : ℕ). Opens n rest blocks (shape.container_sectors - (offset + total (b ∷ blocks)) / 512)) step
-      (subst (λ (n : ℕ). Opens (shape.container_sectors - (offset + length b) / 512) rest blocks (shape.container_sectors - n / 512)) last others)))
+      subst (λ (l : List ℕ). Opens left l (b ∷ blocks) (shape.container_sectors - (offset + total (b ∷ blocks)) / 512)) regrouped (
+        first.1,
+        subst (λ (l : List ℕ). Opens (left - block_sectors (b ++ rest)) l blocks (shape.container_sectors - (offset + total (b ∷ blocks)) / 512)) (sym behind)
+            (subst (λ (n : ℕ). Opens n rest blocks (shape.container_sectors - (offset + total (b ∷ blocks)) / 512)) step
+            (subst (λ (n : ℕ). Opens (shape.container_sectors - (offset + length b) / 512) rest blocks (shape.container_sectors - n / 512)) last others)),
+      )
 
   -- the first of their bytes is an open gate
   first_gate : (shape : Shape) (id offset : ℕ) (starts : List ℕ) (done : List LogEntry) (blocks : List (List ℕ))
@@ -98,6 +98,7 @@ module _ (gate_said : (start gate records : ℕ) (content block : List ℕ) → 
         sym (kept.records ∙ ap (λ (l : List LogEntry). kept.done ++ l) end.1 ∙ append-nil kept.done) in
         subst (λ (l : List LogEntry). AreBlocks q.shape q.place.container (q.place.offset - sealed_bytes) q.waiting l kept.blocks) records kept.waiting
 
+    -- they end at the place
     ends_at : q.place.offset - sealed_bytes + total kept.blocks ≡ q.place.offset
     ends_at = omega (arith, kept.sealed_is, kept.behind)
 
@@ -107,8 +108,11 @@ module _ (gate_said : (start gate records : ℕ) (content block : List ℕ) → 
       blocks = kept.blocks;
       waiting = all_blocks;
       end = ends_at;
-      bytes = inl (refl, (no_bytes q.shape q.place.container (q.place.offset - sealed_bytes) q.waiting q.records kept.blocks all_blocks
-          (omega (arith, none, kept.sealed_is))).1);
+      bytes = inl (
+        refl,
+        (no_bytes q.shape q.place.container (q.place.offset - sealed_bytes) q.waiting q.records kept.blocks all_blocks
+            (omega (arith, none, kept.sealed_is))).1,
+      );
     }
 
     -- the length of what is kept, and its bytes behind the first gate
@@ -120,26 +124,31 @@ module _ (gate_said : (start gate records : ℕ) (content block : List ℕ) → 
     )
 
     module _ (some : 0 < sealed_bytes) where
-      rest : List ℕ
-      rest = drop 1 (concat kept.blocks)
-
+      -- the first of their bytes is an open gate
       first_is : concat kept.blocks ≡ 165 ∷ drop 1 (concat kept.blocks)
       first_is = first_gate q.shape q.place.container (q.place.offset - sealed_bytes) q.waiting q.records kept.blocks all_blocks (omega (arith, some, kept.sealed_is))
 
+      -- the bytes behind it
       rest_length : length (drop 1 (concat kept.blocks)) ≡ sealed_bytes - 1
       rest_length = omega (arith, length-drop 1 (concat kept.blocks), length-concat kept.blocks, kept.sealed_is)
 
+      -- with the closed gate behind the blocks
       bytes_behind : drop 1 bytes ≡ drop 1 (concat kept.blocks) ++ 0 ∷ []
       bytes_behind = ap (λ (l : List ℕ). drop 1 l) (kept.bytes_are
           ∙ ap (λ (l : List ℕ). concat kept.blocks ++ l) (closed_end q.place kept.opened kept.part kept.end closed.1).2
           ∙ ap (λ (l : List ℕ). l ++ 0 ∷ []) first_is)
 
+      -- once that gate is open, these begin with the waiting blocks, whatever follows
       opened : (tail : List ℕ) → Opens (q.shape.container_sectors - (q.place.offset - sealed_bytes) / 512) (165 ∷ (drop 1 (concat kept.blocks) ++ tail)) kept.blocks
           (q.shape.container_sectors - q.place.offset / 512)
       opened tail =
           let base = q.place.offset - sealed_bytes in
-          let whole : base % 512 ≡ 0 = omega (arith, kept.place.offset, kept.sealed_is,
-          total_whole q.shape q.place.container base q.waiting q.records kept.blocks all_blocks) in
+          let whole : base % 512 ≡ 0 = omega (
+            arith,
+            kept.place.offset,
+            kept.sealed_is,
+            total_whole q.shape q.place.container base q.waiting q.records kept.blocks all_blocks,
+          ) in
           subst (λ (n : ℕ). Opens (q.shape.container_sectors - base / 512) (165 ∷ (drop 1 (concat kept.blocks) ++ tail)) kept.blocks (q.shape.container_sectors - n / 512)) ends_at
           (subst (λ (l : List ℕ). Opens (q.shape.container_sectors - base / 512) (l ++ tail) kept.blocks (q.shape.container_sectors - (base + total kept.blocks) / 512)) first_is
           (opens_all q.shape q.place.container base q.waiting q.records kept.blocks tail all_blocks whole (omega (arith, ends_at, kept.place.end, kept.place.offset))))

@@ -1,5 +1,5 @@
 -- What a queue keeps while nothing waits, and how much memory it has left.
-use Rattle.std.proofs.Common.{◌≡◌, ◌⊎◌, inl, inr, ⊎_elim, ℕ, ◌+◌, ◌-◌, ◌*◌, ◌/◌, ◌%◌, ◌<◌, ◌≤◌, List, [], ◌∷◌, ◌++◌, length, take, drop}
+use Rattle.std.proofs.Common.{◌≡◌, inl, inr, ℕ, ◌+◌, ◌-◌, ◌*◌, ◌≤◌, List, [], ◌∷◌, length, take, drop}
 use Rattle.std.proofs.Common.{refl, sym, ◌∙◌, ap, subst, arith, length-append}
 use Rattle.std.proofs.Math.Nat.{mul-le-mul_left}
 use Rattle.std.specs.List.{concat}
@@ -8,7 +8,6 @@ use Rattle.clfs_lsn.specs.Place.{IsWithin, IsClosed}
 use Rattle.clfs_lsn.specs.Size.{IsShape}
 use Rattle.clfs_lsn.specs.declared.place.Place.{Place}
 use Rattle.clfs_lsn.specs.declared.entry.LogEntry.{LogEntry}
-use Rattle.clfs_container.specs.OpenBlocks.{total}
 use Rattle.clfs_queue.specs.Queued.{Queued}
 use Rattle.clfs_queue.specs.Rows.{AreBlocks}
 use Rattle.clfs_queue.specs.Kept.{IsOpenPart, EndsWith, IsKept}
@@ -55,10 +54,12 @@ module _ (q : Queued) (bytes : List ℕ) (sealed memory starts_memory : ℕ) (ke
   pub kept_length : length bytes ≡ sealed + length kept.part
   kept_length = ap (λ (l : List ℕ). length l) kept.bytes_are ∙ omega (arith, length-append (concat kept.blocks) kept.part, length-concat kept.blocks, kept.sealed_is)
 
+  -- what stands behind the waiting blocks
   pub kept_part : drop sealed bytes ≡ kept.part
   kept_part = ap (λ (l : List ℕ). drop sealed l) kept.bytes_are
       ∙ drop_at (concat kept.blocks) kept.part sealed (length-concat kept.blocks ∙ sym kept.sealed_is)
 
+  -- the bytes of the waiting blocks
   pub kept_front : take sealed bytes ≡ concat kept.blocks
   kept_front = ap (λ (l : List ℕ). take sealed l) kept.bytes_are
       ∙ take_at (concat kept.blocks) kept.part sealed (length-concat kept.blocks ∙ sym kept.sealed_is)

@@ -1,3 +1,4 @@
+pub mod Shown
 pub mod InRow
 pub mod Contents
 pub mod Holding

@@ -1,7 +1,7 @@
 -- Where a record lies in the bytes of a queue, by its LSN.
-use Rattle.std.proofs.Common.{◌≡◌, ◌⊎◌, inl, inr, ⊎_elim, ℕ, ◌+◌, ◌-◌, ◌*◌, ◌/◌, ◌%◌, ◌<◌, ◌≤◌, ◌^◌, ◌==◌, true, false, List, [], ◌∷◌, ◌++◌, length, take, drop}
+use Rattle.std.proofs.Common.{◌≡◌, ◌⊎◌, inl, inr, ⊎_elim, ℕ, ◌+◌, ◌-◌, ◌*◌, ◌%◌, ◌<◌, ◌≤◌, ◌==◌, List, [], ◌∷◌, ◌++◌, length, drop}
 use Rattle.std.proofs.Common.{refl, sym, ◌∙◌, ap, subst, arith, append_assoc, length-append}
-use Rattle.std.specs.Prelude.{Some, None, IsSome}
+use Rattle.std.specs.Prelude.{Some, IsSome}
 use Rattle.std.specs.List.{flat_map, concat}
 use Rattle.std.proofs.lemmas.Bool.{cases_Bool}
 use Rattle.std.proofs.lemmas.Bool.Decides.{nat_tests}
@@ -12,7 +12,7 @@ use Rattle.clfs_lsn.specs.Spelling.{record_bytes}
 use Rattle.clfs_lsn.specs.declared.shape.Shape.{Shape}
 use Rattle.clfs_lsn.specs.declared.place.Place.{Place}
 use Rattle.clfs_lsn.specs.declared.entry.LogEntry.{LogEntry}
-use Rattle.clfs_block.specs.Frame.{place_of, payload_of, used_bytes, head_bytes}
+use Rattle.clfs_block.specs.Frame.{used_bytes, head_bytes}
 use Rattle.clfs_block.specs.Judging.{AreReadAsWritten}
 use Rattle.clfs_container.specs.OpenBlocks.{total}
 use Rattle.clfs_queue.specs.Queued.{Queued, data_at}
@@ -40,17 +40,18 @@ pub record IsFound (first : ℕ) (bytes : List ℕ) (lsn : ℕ) (records : List 
   pub high : offset_of lsn - first ≤ length bytes
   pub held : IsHeld (drop (offset_of lsn - first) bytes) (sequence_of lsn) entry
 
+-- a record whose data are found is among the records
 pub among : (lsn : ℕ) (records : List LogEntry) → IsSome (data_at lsn records) → IsAmong lsn records
 among lsn [] some = absurd (cc some)
 among lsn (entry ∷ records) some = elim (cases_Bool (entry.lsn == lsn)) [
   | inl is ↦ record {
-      before = [];
-      entry = entry;
-      behind = records;
-      split = refl;
-      lsn_is = grind (arith, nat_tests);
-      found = rw is refl;
-    }
+    before = [];
+    entry = entry;
+    behind = records;
+    split = refl;
+    lsn_is = grind (arith, nat_tests);
+    found = rw is refl;
+  }
   | inr apart ↦
       let later = among lsn records (rw apart at some) in
       record {
@@ -130,14 +131,13 @@ module _ (read : AreReadAsWritten) where
       let regrouped : b ++ rest ≡ b ++ concat blocks ++ tail = sym (append_assoc b (concat blocks) tail) in
       let block_whole : length b % 512 ≡ 0 = omega (arith, all.1.3.spelled.whole) in
       ⊎_elim {C = (offset ≤ offset_of entry.lsn) × (offset_of entry.lsn - offset ≤ length b + total blocks)
-          × IsHeld (drop (offset_of entry.lsn - offset) (b ++ concat blocks ++ tail)) (sequence_of entry.lsn) entry}
+      × IsHeld (drop (offset_of entry.lsn - offset) (b ++ concat blocks ++ tail)) (sequence_of entry.lsn) entry}
       (λ here.
       let new : IsBlock shape s (before ++ entry ∷ here.0) b = subst (λ (l : List LogEntry). IsBlock shape s l b) here.1 all.1.3 in
       let parts = parts_of id offset entry.lsn (length before) whole (omega (arith, low))
       (omega (arith, new.few, length-append before (entry ∷ here.0)))
       ((row_at s before here.0 entry new.row).at ∙ ap (λ (n : ℕ). n + length before) all.0) in
-      let none : offset_of entry.lsn - offset ≡ 0 = omega (arith, parts.0) in
-      (
+      let none : offset_of entry.lsn - offset ≡ 0 = omega (arith, parts.0) in (
         omega (arith, parts.0),
         omega (arith, none),
         subst (λ (n : ℕ). IsHeld (drop n (b ++ concat blocks ++ tail)) (sequence_of entry.lsn) entry) (sym none)
@@ -151,8 +151,7 @@ module _ (read : AreReadAsWritten) where
       let index : length b + n ≡ offset_of entry.lsn - offset = omega (arith, further.0) in
       let there : drop (offset_of entry.lsn - offset) (b ++ concat blocks ++ tail) ≡ drop n rest =
       ap (λ (k : ℕ). drop k (b ++ concat blocks ++ tail)) (sym index) ∙ ap (λ (l : List ℕ). drop (length b + n) l) (sym regrouped)
-      ∙ sym (drop-drop n (length b) (b ++ rest)) ∙ ap (λ (l : List ℕ). drop n l) (drop_at b rest (length b) refl) in
-      (
+      ∙ sym (drop-drop n (length b) (b ++ rest)) ∙ ap (λ (l : List ℕ). drop n l) (drop_at b rest (length b) refl) in (
         omega (arith, further.0),
         omega (arith, further.1, index),
         subst (λ (l : List ℕ). IsHeld l (sequence_of entry.lsn) entry) (sym there) further.2,
@@ -167,8 +166,7 @@ module _ (read : AreReadAsWritten) where
       let start = lsn_number place.container place.offset 0 in
       let row : AreInRow start (before ++ entry ∷ behind) = subst (λ (l : List LogEntry). AreInRow start l) is here.row in
       let count : length opened ≡ length before + (1 + length behind) = ap (λ (l : List LogEntry). length l) is ∙ omega (arith, length-append before (entry ∷ behind)) in
-      let parts = parts_of place.container place.offset entry.lsn (length before) whole low (omega (arith, count, here.count, few)) (row_at start before behind entry row).at in
-      (
+      let parts = parts_of place.container place.offset entry.lsn (length before) whole low (omega (arith, count, here.count, few)) (row_at start before behind entry row).at in (
         parts.0,
         record {
           before = before;
@@ -194,11 +192,14 @@ module _ (read : AreReadAsWritten) where
       ap (λ (l : List ℕ). length l) kept.bytes_are ∙ omega (arith, length-append (concat kept.blocks) kept.part, length-concat kept.blocks) in
       ⊎_elim {C = (first ≤ offset_of entry.lsn) × (offset_of entry.lsn - first ≤ length bytes) × IsHeld (drop (offset_of entry.lsn - first) bytes) (sequence_of entry.lsn) entry}
       (λ here.
-      let whole : first % 512 ≡ 0 = omega (arith, kept.place.offset, kept.sealed_is,
-      total_whole q.shape q.place.container first q.waiting kept.done kept.blocks kept.waiting) in
+      let whole : first % 512 ≡ 0 = omega (
+        arith,
+        kept.place.offset,
+        kept.sealed_is,
+        total_whole q.shape q.place.container first q.waiting kept.done kept.blocks kept.waiting,
+      ) in
       let found = located_sealed q.shape q.place.container first q.waiting kept.done kept.blocks kept.part before here.0 entry kept.waiting here.1 whole
-      (omega (arith, low, kept.behind, kept.sealed_is)) in
-      (
+      (omega (arith, low, kept.behind, kept.sealed_is)) in (
         found.0,
         omega (arith, found.1, size),
         subst (λ (l : List ℕ). IsHeld (drop (offset_of entry.lsn - first) l) (sequence_of entry.lsn) entry) (sym kept.bytes_are) found.2,
@@ -210,8 +211,7 @@ module _ (read : AreReadAsWritten) where
       let index : offset_of entry.lsn - first ≡ total kept.blocks = omega (arith, found.0, kept.behind, kept.sealed_is) in
       let there : drop (offset_of entry.lsn - first) bytes ≡ kept.part =
       ap (λ (n : ℕ). drop n bytes) index ∙ ap (λ (l : List ℕ). drop (total kept.blocks) l) kept.bytes_are
-      ∙ drop_at (concat kept.blocks) kept.part (total kept.blocks) (length-concat kept.blocks) in
-      (
+      ∙ drop_at (concat kept.blocks) kept.part (total kept.blocks) (length-concat kept.blocks) in (
         omega (arith, found.0),
         omega (arith, index, size),
         subst (λ (l : List ℕ). IsHeld l (sequence_of entry.lsn) entry) (sym there) found.1,

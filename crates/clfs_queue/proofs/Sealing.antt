@@ -1,11 +1,11 @@
 -- The open block becomes one that waits.
-use Rattle.std.proofs.Common.{◌≡◌, ◌⊎◌, inl, inr, ⊎_elim, ℕ, ◌+◌, ◌-◌, ◌*◌, ◌/◌, ◌%◌, ◌<◌, ◌≤◌, ◌^◌, List, [], ◌∷◌, ◌++◌, length, take, drop}
-use Rattle.std.proofs.Common.{refl, sym, ◌∙◌, ap, subst, arith, append_assoc, length-append, length-drop}
-use Rattle.std.specs.List.{flat_map, concat}
+use Rattle.std.proofs.Common.{◌≡◌, inl, ⊎_elim, ℕ, ◌+◌, ◌-◌, ◌*◌, ◌≤◌, List, [], ◌∷◌, ◌++◌, length, take, drop}
+use Rattle.std.proofs.Common.{refl, sym, ◌∙◌, ap, subst, arith, length-drop}
+use Rattle.std.specs.List.{flat_map}
 use Rattle.std.proofs.lemmas.List.{append-nil, length_push}
 use Rattle.clfs_lsn.specs.Lsn.{lsn_number, offset_of}
-use Rattle.clfs_lsn.specs.Place.{block_end, IsWithin, IsClosed, IsOpen, sealed}
-use Rattle.clfs_lsn.specs.Size.{IsShape, sectors}
+use Rattle.clfs_lsn.specs.Place.{IsWithin, IsOpen, sealed}
+use Rattle.clfs_lsn.specs.Size.{sectors}
 use Rattle.clfs_lsn.specs.Spelling.{record_bytes}
 use Rattle.clfs_lsn.specs.declared.shape.Shape.{Shape}
 use Rattle.clfs_lsn.specs.declared.place.Place.{Place}
@@ -14,8 +14,8 @@ use Rattle.clfs_container.specs.OpenBlocks.{total}
 use Rattle.clfs_block.specs.Frame.{place_of, payload_of, used_bytes, SpellsBlock}
 use Rattle.clfs_queue.specs.Queued.{Queued}
 use Rattle.clfs_queue.specs.Rows.{AreInRow, IsBlock, AreBlocks}
-use Rattle.clfs_queue.specs.Kept.{IsOpenPart, EndsWith, IsKept}
-use Rattle.clfs_queue.proofs.Blocks.{length-concat, concat_push, total_push, blocks_push}
+use Rattle.clfs_queue.specs.Kept.{IsOpenPart, IsKept}
+use Rattle.clfs_queue.proofs.Blocks.{concat_push, total_push, blocks_push}
 use Rattle.clfs_queue.proofs.Contents.{length-payload}
 use Rattle.clfs_queue.proofs.Keeping.{open_end, kept_front, kept_part, kept_length, room_left}
 
@@ -45,6 +45,7 @@ sealed_within shape place within = record {
 
 module _ (q : Queued) (bytes : List ℕ) (sealed_bytes memory starts_memory : ℕ) (kept : IsKept q bytes sealed_bytes memory starts_memory)
     (some : 1 ≤ q.place.records) where
+  -- the open block among the bytes
   here : IsOpenPart q.place kept.opened kept.part
   here = open_end q.place kept.opened kept.part kept.end some
 
@@ -63,12 +64,15 @@ module _ (q : Queued) (bytes : List ℕ) (sealed_bytes memory starts_memory : �
   module _ (start : ℕ) (block new : List ℕ) (more_memory more_starts : ℕ) (start_is : start ≡ lsn_number q.place.container q.place.offset 0)
       (spelled : SpellsBlock start 165 q.place.records (drop 16 (payload_of q.place.used (drop sealed_bytes bytes))) block)
       (new_is : new ≡ take sealed_bytes bytes ++ block ++ 0 ∷ []) (memory_le : memory ≤ more_memory) (starts_le : starts_memory ≤ more_starts) where
+    -- its records' bytes
     content_is : drop 16 (payload_of q.place.used (drop sealed_bytes bytes)) ≡ flat_map record_bytes kept.opened
     content_is = ap (λ (l : List ℕ). drop 16 (payload_of q.place.used l)) (kept_part q bytes sealed_bytes memory starts_memory kept) ∙ here.content
 
+    -- its offset in the container
     offset_is : offset_of start ≡ q.place.offset
     offset_is = omega (arith, start_is, kept.place.offset, kept.place.end, kept.shape.largest_container)
 
+    -- the sealed bytes are a block with its records
     is_block : IsBlock q.shape start kept.opened block
     is_block =
         let size : used_bytes (flat_map record_bytes kept.opened) ≡ q.place.used = used_is q.place kept.opened kept.part here in
@@ -86,10 +90,12 @@ module _ (q : Queued) (bytes : List ℕ) (sealed_bytes memory starts_memory : �
               (subst (λ (l : List ℕ). SpellsBlock start 165 q.place.records l block) content_is spelled);
         }
 
+    -- they are whole sectors
     block_length : length block ≡ 512 * sectors q.place.used
     block_length = spelled.whole ∙ ap (λ (n : ℕ). 512 * sectors n)
         (ap (λ (l : List ℕ). used_bytes l) content_is ∙ used_is q.place kept.opened kept.part here)
 
+    -- the queue once they wait
     pub kept_sealed : IsKept (record q { waiting = q.waiting ++ start ∷ []; place = sealed q.place }) new (sealed_bytes + length block) more_memory more_starts
     kept_sealed =
         let base = q.place.offset - sealed_bytes in

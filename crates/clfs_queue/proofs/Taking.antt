@@ -1,5 +1,5 @@
 -- A record that there is room for is put behind the open block's payload.
-use Rattle.std.proofs.Common.{◌≡◌, ◌⊎◌, inl, inr, ⊎_elim, ℕ, ◌+◌, ◌-◌, ◌*◌, ◌/◌, ◌%◌, ◌<◌, ◌≤◌, ◌^◌, Bool, true, false, List, [], ◌∷◌, ◌++◌, length, take, drop, replicate}
+use Rattle.std.proofs.Common.{◌≡◌, inr, ⊎_elim, ℕ, ◌+◌, ◌*◌, ◌%◌, ◌≤◌, true, false, List, [], ◌∷◌, ◌++◌, length, take, drop, replicate}
 use Rattle.std.proofs.Common.{refl, sym, ◌∙◌, ap, subst, arith, append_assoc, length-append, length-drop, take-append-drop}
 use Rattle.std.proofs.lemmas.Bool.{cases_lt}
 use Rattle.std.proofs.lemmas.Bool.Decides.{nat_tests}
@@ -7,8 +7,8 @@ use Rattle.std.proofs.lemmas.List.{append-nil, take-append-le, drop-append-le, d
 use Rattle.std.proofs.lemmas.List.Concat.{flat_map-append}
 use Rattle.std.specs.List.{flat_map, concat}
 use Rattle.clfs_lsn.specs.Lsn.{lsn_number}
-use Rattle.clfs_lsn.specs.Place.{block_end, IsWithin, IsClosed, IsOpen, joins, begins_here, begun, place_after}
-use Rattle.clfs_lsn.specs.Size.{IsShape, size, sectors, own, longest}
+use Rattle.clfs_lsn.specs.Place.{block_end, IsWithin, IsClosed, joins, begins_here, begun, place_after}
+use Rattle.clfs_lsn.specs.Size.{size, sectors, longest}
 use Rattle.clfs_lsn.specs.Spelling.{FitsAt, record_bytes}
 use Rattle.clfs_lsn.specs.declared.shape.Shape.{Shape}
 use Rattle.clfs_lsn.specs.declared.place.Place.{Place}
@@ -16,7 +16,7 @@ use Rattle.clfs_lsn.specs.declared.entry.LogEntry.{LogEntry}
 use Rattle.clfs_block.specs.Frame.{place_of, payload_of}
 use Rattle.clfs_queue.specs.Queued.{Queued, HasRoomFor}
 use Rattle.clfs_queue.specs.Rows.{AreInRow}
-use Rattle.clfs_queue.specs.Kept.{IsOpenPart, EndsWith, IsKept}
+use Rattle.clfs_queue.specs.Kept.{IsKept}
 use Rattle.clfs_queue.proofs.InRow.{row_push}
 use Rattle.clfs_queue.proofs.Contents.{length-payload}
 use Rattle.clfs_queue.proofs.Keeping.{open_end, closed_end, kept_front, kept_part, kept_length, room_left}
@@ -26,6 +26,7 @@ abbrev pub next_place : Place → ℕ → ℕ → ℕ × Place
 next_place place used n =
     (lsn_number place.container place.offset place.records, record place { used = used + size n; records = place.records + 1 })
 
+-- where a record goes that joins
 joined_place : (shape : Shape) (place : Place) (n : ℕ) → joins shape place n ≡ true → place_after shape place n ≡ next_place place place.used n
 joined_place shape place n is = rw is refl
 
@@ -34,6 +35,7 @@ abbrev begun_at : ℕ → ℕ → ℕ → ℕ → ℕ × Place
 begun_at container offset records n =
     (lsn_number container offset records, record { container = container; offset = offset; used = 16 + size n; records = records + 1 })
 
+-- where a record goes that begins a block
 begun_place : (shape : Shape) (place : Place) (n : ℕ) → IsClosed place → place.offset % 512 ≡ 0 → begins_here shape place n ≡ true
     → place_after shape place n ≡ next_place place 16 n
 begun_place shape place n closed whole is =
@@ -42,6 +44,7 @@ begun_place shape place n closed whole is =
     let c = place.container in
     rw (apart, is) (ap (λ (o : ℕ). begun_at c o 0 n) offset_is ∙ ap (λ (r : ℕ). begun_at c place.offset r n) (sym closed.1))
 
+-- a record joins an open block, and the largest block has the sectors of both
 joins_some : (shape : Shape) (place : Place) (n : ℕ) → joins shape place n ≡ true
     → (1 ≤ place.records) × (sectors (place.used + size n) ≤ shape.block_sectors)
 joins_some shape place n is = grind (arith, nat_tests)
@@ -83,7 +86,8 @@ module _ (q : Queued) (bytes : List ℕ) (sealed_bytes memory starts_memory n : 
         kept.shape.some_sectors,
       )
 
-  pub taking_begun : (now : List ℕ) (used more : ℕ) → q.place.records ≡ 0 → used ≡ 16 → now ≡ bytes ++ replicate 15 0 → memory ≤ more
+  -- what it is put behind where a block begins
+  taking_begun : (now : List ℕ) (used more : ℕ) → q.place.records ≡ 0 → used ≡ 16 → now ≡ bytes ++ replicate 15 0 → memory ≤ more
       → IsTaking q sealed_bytes more n used kept.done [] (concat kept.blocks) now
   taking_begun now used more none used_is is le =
       let end = closed_end q.place kept.opened kept.part kept.end none in
@@ -104,7 +108,8 @@ module _ (q : Queued) (bytes : List ℕ) (sealed_bytes memory starts_memory n : 
         place = begun_place q.shape q.place n here.1.0 kept.place.offset here.0 ∙ ap (λ (u : ℕ). next_place q.place u n) (sym used_is);
       }
 
-  pub taking_open : (now : List ℕ) (used more : ℕ) → 1 ≤ q.place.records → used ≡ q.place.used → now ≡ bytes → memory ≤ more
+  -- and where one is open
+  taking_open : (now : List ℕ) (used more : ℕ) → 1 ≤ q.place.records → used ≡ q.place.used → now ≡ bytes → memory ≤ more
       → IsTaking q sealed_bytes more n used kept.done kept.opened (concat kept.blocks) now
   taking_open now used more some used_is is le =
       let here = open_end q.place kept.opened kept.part kept.end some in
@@ -124,6 +129,7 @@ module _ (q : Queued) (bytes : List ℕ) (sealed_bytes memory starts_memory n : 
         place = joined_place q.shape q.place n (joining some) ∙ ap (λ (u : ℕ). next_place q.place u n) (sym used_is);
       }
 
+  -- and so in both cases
   pub taking : (now : List ℕ) (used more : ℕ) → (q.place.records ≡ 0 → (used ≡ 16) × (now ≡ bytes ++ replicate 15 0))
       → (1 ≤ q.place.records → (used ≡ q.place.used) × (now ≡ bytes)) → memory ≤ more
       → (opened : List LogEntry) × IsTaking q sealed_bytes more n used kept.done opened (concat kept.blocks) now
@@ -173,6 +179,7 @@ module _ (q : Queued) (bytes : List ℕ) (sealed_bytes memory starts_memory n : 
     });
   }
     where
+      -- its bytes go on with those of the records before
       content_one : flat_map record_bytes opened ++ record_bytes entry ≡ flat_map record_bytes (opened ++ entry ∷ [])
       content_one = ap (λ (l : List ℕ). flat_map record_bytes opened ++ l) (sym (append-nil (record_bytes entry)))
           ∙ sym (flat_map-append record_bytes opened (entry ∷ []))

@@ -1,6 +1,6 @@
 -- What a queue shows: where its log goes on, and the records that aren't on the disk yet. They lie in sealed blocks, which wait to be
 -- written, and in the open block.
-use Rattle.std.specs.Prelude.{◌≡◌, ◌⊎◌, ℕ, ◌+◌, ◌≤◌, ◌==◌, Bool, true, nat_lt, if◌then◌else◌, List, [], ◌∷◌, ◌++◌, length, find, Option}
+use Rattle.std.specs.Prelude.{◌≡◌, ◌⊎◌, ℕ, ◌+◌, ◌≤◌, ◌==◌, true, nat_lt, if◌then◌else◌, List, [], ◌∷◌, ◌++◌, length, find, Option}
 use Rattle.std.specs.Option.{option_map}
 use Rattle.clfs_lsn.specs.Lsn.{lsn_number}
 use Rattle.clfs_lsn.specs.Place.{IsClosed, joins, begins_here, place_after, sealed}

@@ -1,15 +1,14 @@
 // The queue: one buffer with the sealed blocks one behind the other, and behind them the open block, or where none is open a closed
-// gate. It is the bytes of the group that is written next, but for the gate of the first block. Which records it has is a value that
-// clauses alone read: the bytes tell it, and nothing else needs a list of them.
-ghost use Rattle.std.specs.Prelude.{◌≡◌, ◌⊎◌, ◌+◌, ◌-◌, ◌*◌, ◌/◌, ◌^◌, ◌<◌, ◌≤◌, ◌++◌, ◌∷◌, [], ℕ, List, false, length, take, drop, replicate, Some, IfOk, IsSome, vec_len, vec_capacity};
-ghost use Rattle.clfs_lsn.specs.Format.{sector_bytes, block_header};
-ghost use Rattle.clfs_lsn.specs.Limits.{most_write_buffers, most_block_sectors};
+// gate. So the buffer is the group that is written next, with all its gates open and the closed one behind it: who writes it leaves the
+// first gate out, and a crash leaves the whole group or none of it. Which records the queue has is a value that clauses alone read: the
+// bytes tell it, and no code needs a list of them.
+ghost use Rattle.std.specs.Prelude.{◌≡◌, ◌+◌, ◌-◌, ◌*◌, ◌^◌, ◌<◌, ◌≤◌, ◌∷◌, [], ℕ, List, false, length, Some, IfOk, IsSome};
+ghost use Rattle.clfs_lsn.specs.Format.{sector_bytes};
+ghost use Rattle.clfs_lsn.specs.Limits.{most_write_buffers};
 ghost use Rattle.clfs_lsn.specs.Lsn.{lsn_number};
 ghost use Rattle.clfs_lsn.specs.Size.{IsShape, longest};
 ghost use Rattle.clfs_lsn.specs.Spelling.{BaseFits};
 ghost use Rattle.clfs_lsn.specs.Place.{IsWithin, IsClosed, joins, begins_here};
-ghost use Rattle.clfs_lsn.specs.declared.entry.LogEntry.{LogEntry};
-ghost use Rattle.clfs_record.specs.Fields.{placed_record};
 ghost use Rattle.clfs_queue.specs.Queued.{Queued, placing, next_lsn, HasRoomFor, pushed, seal, turned, data_at};
 ghost use Rattle.clfs_queue.specs.Group.{IsGroupOf};
 
@@ -18,8 +17,7 @@ use crate::reading::read_record;
 use crate::writing::{open_block, push_record};
 use clfs_block::{blocks_are_read_as_written, blocks_say_their_sectors, seal_block};
 use clfs_lsn::{
-    Bytes, LogEntry, Lsn, OPEN_GATE, Place, SECTOR, Shape, place_after, push_zeros,
-    sealed,
+    Bytes, LogEntry, Lsn, OPEN_GATE, Place, SECTOR, Shape, place_after, push_zeros, sealed,
 };
 use clfs_record::{Fields, records_are_read_as_written};
 use clfs_told::Told;
@@ -33,12 +31,13 @@ pub struct Queue {
     shape: Shape,
     buffers: u32,
     place: Place,
-    // The sealed blocks, and behind them the open one or a closed gate.
+    // The sealed blocks, which end at the place's offset or where the open block begins; behind them that block, or a closed gate.
     buffer: Vec<u8>,
-    // The bytes of the sealed blocks.
+    // How many of its bytes are those of the sealed blocks.
     sealed_len: usize,
-    // The LSNs at which they begin.
+    // The LSNs at which these begin.
     waiting: Vec<Lsn>,
+    // The records of all, which only clauses read.
     records: Told<LinkedList<LogEntry>>,
 }
 
@@ -59,8 +58,8 @@ impl Model for Queue {
     } };
 
     ghost invariant = { λ q. IsKept
-      (record { shape = q.shape; buffers = q.buffers; place = q.place; waiting = q.waiting.items; records = q.records.value })
-      q.buffer.items q.sealed_len (vec_capacity q.buffer) (vec_capacity q.waiting) };
+        (record { shape = q.shape; buffers = q.buffers; place = q.place; waiting = q.waiting.items; records = q.records.value })
+        q.buffer.items q.sealed_len (vec_capacity q.buffer) (vec_capacity q.waiting) };
 }
 
 impl Queue {
@@ -108,8 +107,8 @@ impl Queue {
         self.waiting.len()
     }
 
-    /// The LSN below which nothing waits: the start of the first block that does, or where none does that of the open block, or of the next
-    /// one.
+    /// The LSN below which every record is on the disk: the start of the first block that waits; where none does, that of the open block,
+    /// or of the next one.
     pub fn flushed(&self) -> Lsn
         ensures first { (start : ℕ) (others : List ℕ) → self.now.waiting ≡ start ∷ others → result ≡ start }
         ensures none { self.now.waiting ≡ [] → result ≡ lsn_number self.now.place.container self.now.place.offset 0 }
@@ -137,7 +136,7 @@ impl Queue {
         }
     }
 
-    /// Puts a record at the place that the rule gives it, and answers its LSN. It takes no memory.
+    /// Puts a record at the place that the rule gives it, and answers its LSN. Where it begins a block, the one before is to be sealed.
     pub fn push(&mut self, fields: &Fields, bytes: &[u8]) -> Lsn
         requires len { length bytes.now ≤ longest self.old.shape }
         requires room { HasRoomFor self.old (length bytes.now) }
@@ -180,8 +179,9 @@ impl Queue {
         self.waiting.push_reserved(start);
     }
 
-    /// The bytes of the blocks that wait, to be written as one group, and the byte of the container at which its first gate is. They are all
-    /// but that gate, and behind them a closed gate where the container has a sector there. Where nothing waits there are none.
+    /// The bytes of the blocks that wait, to be written as one group, and the byte of their container at which the group begins. The bytes
+    /// are all but its first one, the gate of its first block, and behind them a closed gate where the container has a sector there. Where
+    /// nothing waits there are none.
     pub fn group(&self) -> (u32, &[u8])
         requires { IsClosed self.now.place }
         ensures { IsGroupOf self.now result.0 result.1.now }

@@ -1,24 +1,18 @@
 // Reading a record's data back out of the block that it waits in, sealed or still open. A block has no table of its records: each
 // header says how long its record is, so a record is found by going over those before it.
-ghost use Rattle.std.specs.Prelude.{◌≡◌, ◌+◌, ◌*◌, ◌/◌, ◌%◌, ◌<◌, ◌≤◌, ◌^◌, ◌++◌, ℕ, List, length, take, drop, IfOk};
+ghost use Rattle.std.specs.Prelude.{◌≡◌, ◌+◌, ◌%◌, ◌<◌, ◌≤◌, ◌^◌, length, take, IfOk};
 ghost use Rattle.clfs_lsn.specs.Spelling.{record_bytes};
 ghost use Rattle.clfs_lsn.specs.declared.entry.LogEntry.{LogEntry};
-ghost use Rattle.clfs_block.specs.Frame.{place_of, payload_of, payload_from};
+ghost use Rattle.clfs_block.specs.Frame.{place_of, payload_from};
 ghost use Rattle.clfs_queue.specs.Held.{IsHeld, payload_before};
 
 use clfs_block::copy_payload;
-use clfs_lsn::{
-    BLOCK_HEADER, Bytes, RECORD_HEADER, SECTOR, SECTOR_PAYLOAD, size_of_record,
-};
+use clfs_lsn::{BLOCK_HEADER, Bytes, RECORD_HEADER, SECTOR, SECTOR_PAYLOAD, size_of_record};
 use clfs_record::{len_of, records_are_read_as_written};
 use std::alloc::{AllocError, Global};
 
 /// The data of the record at a position of the block that the bytes begin with.
-pub(crate) fn read_record(
-    alloc: Global,
-    block: &[u8],
-    position: u32,
-) -> Result<Bytes, AllocError>
+pub(crate) fn read_record(alloc: Global, block: &[u8], position: u32) -> Result<Bytes, AllocError>
     requires { (entry : LogEntry) × IsHeld block.now position entry }
     ensures { (entry : LogEntry) → IsHeld block.now position entry → IfOk result (λ bytes. bytes ≡ entry.bytes) }
 {

@@ -108,7 +108,13 @@ fn three_largest_records_wait_as_three_blocks(rt: HostRuntime) -> Result<(), Fai
     for (start, byte) in [(0, 7), (1024, 8), (2048, 9)] {
         let start = Lsn::of_number((1 << 32) + start);
         let head = decode_block(alloc, &SHAPE, start, rest, &mut payload);
-        assert!(rt; head == Ok(BlockHead { sectors: 2, records: 1, used: 1008 }));
+        assert!(rt;
+            head == Ok(BlockHead {
+                sectors: 2,
+                records: 1,
+                used: 1008
+            })
+        );
         assert!(rt; payload.as_slice().ends_with(&[byte; 960]));
         rest = rest.get(1024..).unwrap_or(&[]);
     }

@@ -1,5 +1,5 @@
-use Rattle.std.proofs.Common.{◌≡◌, ◌+◌, ◌-◌, ◌*◌, ◌≤◌, ◌++◌, ◌∙◌, ℕ, List, length, take, drop, replicate, sym, ap, arith, length-drop, length-append, take-append-drop}
-use Rattle.std.proofs.lemmas.List.{drop-append-le, take-append-le, length-replicate}
+use Rattle.std.proofs.Common.{◌≡◌, ◌+◌, ◌-◌, ◌*◌, ◌++◌, ◌∙◌, ℕ, List, length, take, drop, replicate, sym, ap, arith, length-drop, take-append-drop}
+use Rattle.std.proofs.lemmas.List.{drop-append-le, take-append-le}
 use Rattle.clfs_block.specs.Frame.{place_of, head_bytes}
 use Rattle.clfs_block.proofs.Sealing.{spells}
 use Rattle.clfs_block.proofs.framing.seal_block.Goals as goal
@@ -24,8 +24,7 @@ returns-clause-sealed c =
     let last = c.write_addresses.new.buffer.items in
     let before : take from last ≡ take from old =
     c.write_addresses.ensures.before ∙ c.write_header.ensures.before ∙ ap (λ (l : List ℕ). take from l) c.push_zeros.ensures.items
-    ∙ take-append-le from old zeros (omega (arith, place)) in
-    (
+    ∙ take-append-le from old zeros (omega (arith, place)) in (
       drop from last,
       sym (take-append-drop from last) ∙ ap (λ (l : List ℕ). l ++ drop from last) before,
       spells c.args.start c.args.gate c.args.records used count m own (drop from c.write_header.new.buffer.items) (drop from last) long c.requires.header

@@ -1,11 +1,11 @@
-use Rattle.std.proofs.Common.{◌≡◌, ◌+◌, ◌<◌, ◌≤◌, ◌^◌, ◌++◌, ◌∷◌, [], ℕ, List, length, get_or, take, ◌∙◌, ap, arith, sym}
+use Rattle.std.proofs.Common.{◌≡◌, ◌+◌, ◌<◌, ◌≤◌, ◌^◌, ◌++◌, ◌∷◌, [], ℕ, List, length, get_or, take, ◌∙◌, ap, arith}
 use Rattle.std.specs.List.{flat_map}
 use Rattle.std.proofs.lemmas.List.{take_more, take_all}
 use Rattle.clfs_lsn.specs.Spelling.{record_bytes}
 use Rattle.clfs_lsn.specs.Size.{size}
 use Rattle.clfs_lsn.specs.declared.entry.LogEntry.{LogEntry}
 use Rattle.clfs_block.specs.Frame.{place_of, payload_from}
-use Rattle.clfs_queue.specs.Held.{IsHeld, payload_before}
+use Rattle.clfs_queue.specs.Held.{IsHeld}
 use Rattle.clfs_queue.proofs.Contents.{content_aligned, content_more, place_grows}
 use Rattle.clfs_queue.proofs.Holding.{held_small, held_before, held_within, held_bytes}
 use Rattle.clfs_queue.proofs.reading.place_of_record.Goals as goal
@@ -38,8 +38,11 @@ len_at-requires-clause-place c =
 pub len_at-requires-clause-there : goal.len_at-requires-clause-there
 len_at-requires-clause-there c =
     let held = c.requires.1 in
-    omega (arith, next_within c.records_are_read_as_written.ensures.length c.args.block.now c.args.position c.requires.0 held c.loop-skipped.at c.loop-skipped.skipped
-    c.loop-skipped-test.true (c.loop-skipped.invariant c.requires.0 held))
+    omega (
+      arith,
+      next_within c.records_are_read_as_written.ensures.length c.args.block.now c.args.position c.requires.0 held c.loop-skipped.at c.loop-skipped.skipped
+          c.loop-skipped-test.true (c.loop-skipped.invariant c.requires.0 held),
+    )
 
 pub overflow_add-at : goal.overflow_add-at
 overflow_add-at c =
@@ -64,8 +67,14 @@ loop-skipped-preserved c = λ entry held.
     len_is c.args.block.now c.args.position entry held c.loop-skipped.at i c.len_at.result sized c.loop-skipped-test.true here c.len_at.ensures in
     let near : i < length held.before = omega (arith, c.loop-skipped-test.true, held.position_is) in
     let more : take (i + 1) held.before ≡ take i held.before ++ own ∷ [] = take_more held.before i entry near in
-    omega (arith, here, c.size_of_record.ensures, ap size long, content_more sized (take i held.before) own,
-    ap (λ (l : List LogEntry). length (flat_map record_bytes l)) more)
+    omega (
+      arith,
+      here,
+      c.size_of_record.ensures,
+      ap size long,
+      content_more sized (take i held.before) own,
+      ap (λ (l : List LogEntry). length (flat_map record_bytes l)) more,
+    )
 
 pub returns : goal.returns
 returns c = λ entry held.

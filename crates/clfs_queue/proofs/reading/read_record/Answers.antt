@@ -1,4 +1,4 @@
-use Rattle.std.proofs.Common.{◌≡◌, ◌+◌, ◌<◌, ◌≤◌, ◌^◌, ◌++◌, [], ℕ, List, length, take, ◌∙◌, ap, arith, sym}
+use Rattle.std.proofs.Common.{◌≡◌, ◌+◌, ◌<◌, ◌≤◌, ◌^◌, ◌++◌, ℕ, List, length, take, ◌∙◌, ap, arith}
 use Rattle.clfs_lsn.specs.Size.{size}
 use Rattle.clfs_lsn.specs.Spelling.{record_bytes}
 use Rattle.clfs_lsn.specs.declared.entry.LogEntry.{LogEntry}
@@ -29,13 +29,19 @@ len_at-len-requires-clause-place c =
 
 pub len_at-len-requires-clause-there : goal.len_at-len-requires-clause-there
 len_at-len-requires-clause-there c =
-    omega (arith, c.place_of_record-at.ensures c.requires.0 c.requires.1,
-    held_ends c.records_are_read_as_written.ensures.length c.args.block.now c.args.position c.requires.0 c.requires.1)
+    omega (
+      arith,
+      c.place_of_record-at.ensures c.requires.0 c.requires.1,
+      held_ends c.records_are_read_as_written.ensures.length c.args.block.now c.args.position c.requires.0 c.requires.1,
+    )
 
 pub overflow_add-at : goal.overflow_add-at
 overflow_add-at c =
-    omega (arith, c.place_of_record-at.ensures c.requires.0 c.requires.1,
-    held_ends c.records_are_read_as_written.ensures.length c.args.block.now c.args.position c.requires.0 c.requires.1)
+    omega (
+      arith,
+      c.place_of_record-at.ensures c.requires.0 c.requires.1,
+      held_ends c.records_are_read_as_written.ensures.length c.args.block.now c.args.position c.requires.0 c.requires.1,
+    )
 
 pub copy_payload-requires-clause-place : goal.copy_payload-requires-clause-place
 copy_payload-requires-clause-place c =

@@ -1,6 +1,6 @@
 use Rattle.std.proofs.Common.{◌≡◌, ◌+◌, ◌++◌, ◌∙◌, ℕ, List, length, drop, replicate, refl, sym, ap, arith, append_assoc}
 use Rattle.clfs_lsn.specs.Size.{size}
-use Rattle.clfs_lsn.specs.Spelling.{header_bytes, filling, record_bytes}
+use Rattle.clfs_lsn.specs.Spelling.{header_bytes, filling}
 use Rattle.clfs_lsn.specs.declared.entry.LogEntry.{LogEntry}
 use Rattle.clfs_block.specs.Frame.{payload_of}
 use Rattle.clfs_record.specs.Fields.{placed_record}

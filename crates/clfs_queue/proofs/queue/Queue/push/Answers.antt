@@ -1,4 +1,4 @@
-use Rattle.std.proofs.Common.{◌≡◌, ℕ, ◌+◌, ◌<◌, ◌≤◌, List, [], ◌∷◌, ◌++◌, length, refl, ap, sym, ◌∙◌, subst, arith}
+use Rattle.std.proofs.Common.{◌≡◌, ℕ, ◌<◌, ◌≤◌, length, refl, ap, sym, ◌∙◌, subst, arith}
 use Rattle.clfs_lsn.specs.Lsn.{lsn_number}
 use Rattle.clfs_lsn.specs.Place.{IsWithin, place_after}
 use Rattle.clfs_lsn.specs.Size.{longest}
@@ -6,16 +6,16 @@ use Rattle.clfs_lsn.specs.Spelling.{FitsAt, BaseFits}
 use Rattle.clfs_lsn.specs.declared.entry.LogEntry.{LogEntry}
 use Rattle.clfs_lsn.specs.declared.place.Place.{Place}
 use Rattle.clfs_record.specs.Fields.{placed_record}
-use Rattle.clfs_record.specs.declared.fields.Fields.{Fields}
+use Rattle.clfs_queue.proofs.Shown.{shown}
 use Rattle.clfs_queue.specs.Queued.{Queued, HasRoomFor, next_lsn}
-use Rattle.clfs_queue.proofs.Taking.{next_place, IsTaking, header_room, taking, kept_pushed}
+use Rattle.clfs_queue.proofs.Taking.{next_place, header_room, taking, kept_pushed}
 use Rattle.clfs_queue.proofs.queue.Queue.push.Goals as goal
 
 pub open_block-used-requires : goal.open_block-used-requires
 open_block-used-requires c =
     let i = c.self.inside in
     let n = length c.args.bytes.now in
-    let q : Queued = record { shape = i.shape; buffers = i.buffers; place = i.place; waiting = i.waiting.items; records = i.records.value } in
+    let q : Queued = shown i in
     let long : n ≤ longest q.shape = subst (λ (v : Queued). n ≤ longest v.shape) (sym c.self.view_is) c.requires.len in
     let room : HasRoomFor q n = subst (λ (v : Queued). HasRoomFor v n) (sym c.self.view_is) c.requires.room in
     header_room q i.buffer.items i.sealed_len _ _ n c.self.invariant long room
@@ -24,7 +24,7 @@ pub push_record-requires-clause-place : goal.push_record-requires-clause-place
 push_record-requires-clause-place c =
     let i = c.self.inside in
     let n = length c.args.bytes.now in
-    let q : Queued = record { shape = i.shape; buffers = i.buffers; place = i.place; waiting = i.waiting.items; records = i.records.value } in
+    let q : Queued = shown i in
     let long : n ≤ longest q.shape = subst (λ (v : Queued). n ≤ longest v.shape) (sym c.self.view_is) c.requires.len in
     let room : HasRoomFor q n = subst (λ (v : Queued). HasRoomFor v n) (sym c.self.view_is) c.requires.room in
     (taking q i.buffer.items i.sealed_len _ _ n c.self.invariant long room _ _ _ c.open_block-used.ensures.begun c.open_block-used.ensures.open
@@ -34,7 +34,7 @@ pub push_record-requires-clause-room : goal.push_record-requires-clause-room
 push_record-requires-clause-room c =
     let i = c.self.inside in
     let n = length c.args.bytes.now in
-    let q : Queued = record { shape = i.shape; buffers = i.buffers; place = i.place; waiting = i.waiting.items; records = i.records.value } in
+    let q : Queued = shown i in
     let long : n ≤ longest q.shape = subst (λ (v : Queued). n ≤ longest v.shape) (sym c.self.view_is) c.requires.len in
     let room : HasRoomFor q n = subst (λ (v : Queued). HasRoomFor v n) (sym c.self.view_is) c.requires.room in
     (taking q i.buffer.items i.sealed_len _ _ n c.self.invariant long room _ _ _ c.open_block-used.ensures.begun c.open_block-used.ensures.open
@@ -47,7 +47,7 @@ invariant_of-self c =
     let fields = c.args.fields.now in
     let n = length bytes in
     let used = c.open_block-used.result in
-    let q : Queued = record { shape = i.shape; buffers = i.buffers; place = i.place; waiting = i.waiting.items; records = i.records.value } in
+    let q : Queued = shown i in
     let long : n ≤ longest q.shape = subst (λ (v : Queued). n ≤ longest v.shape) (sym c.self.view_is) c.requires.len in
     let room : HasRoomFor q n = subst (λ (v : Queued). HasRoomFor v n) (sym c.self.view_is) c.requires.room in
     let previous : fields.previous < next_lsn q n = subst (λ (v : Queued). fields.previous < next_lsn v n) (sym c.self.view_is) c.requires.previous in

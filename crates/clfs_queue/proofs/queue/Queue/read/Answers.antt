@@ -4,6 +4,7 @@ use Rattle.std.proofs.lemmas.List.{take_rest}
 use Rattle.std.specs.declared.alloc.AllocError.{AllocError}
 use Rattle.clfs_lsn.specs.Lsn.{offset_of, sequence_of}
 use Rattle.clfs_lsn.specs.declared.entry.LogEntry.{LogEntry}
+use Rattle.clfs_queue.proofs.Shown.{shown}
 use Rattle.clfs_queue.specs.Queued.{Queued, data_at}
 use Rattle.clfs_queue.specs.Held.{IsHeld}
 use Rattle.clfs_queue.proofs.Locating.{IsFound, found_at}
@@ -12,7 +13,7 @@ use Rattle.clfs_queue.proofs.queue.Queue.read.Goals as goal
 pub overflow_sub-block : goal.overflow_sub-block
 overflow_sub-block c =
     let i = c.self.inside in
-    let q : Queued = record { shape = i.shape; buffers = i.buffers; place = i.place; waiting = i.waiting.items; records = i.records.value } in
+    let q : Queued = shown i in
     let found = found_at c.blocks_are_read_as_written.ensures q i.buffer.items i.sealed_len _ _ c.args.lsn c.self.invariant
     (subst (λ (v : Queued). IsSome (data_at c.args.lsn v.records)) (sym c.self.view_is) c.requires) in
     omega (arith, found.low, c.offset.ensures.value)
@@ -20,7 +21,7 @@ overflow_sub-block c =
 pub slice_bounds-block-count : goal.slice_bounds-block-count
 slice_bounds-block-count c =
     let i = c.self.inside in
-    let q : Queued = record { shape = i.shape; buffers = i.buffers; place = i.place; waiting = i.waiting.items; records = i.records.value } in
+    let q : Queued = shown i in
     let found = found_at c.blocks_are_read_as_written.ensures q i.buffer.items i.sealed_len _ _ c.args.lsn c.self.invariant
     (subst (λ (v : Queued). IsSome (data_at c.args.lsn v.records)) (sym c.self.view_is) c.requires) in
     omega (arith, found.high, c.offset.ensures.value, c.deref.ensures.len)
@@ -28,7 +29,7 @@ slice_bounds-block-count c =
 pub slice_bounds-block-start : goal.slice_bounds-block-start
 slice_bounds-block-start c =
     let i = c.self.inside in
-    let q : Queued = record { shape = i.shape; buffers = i.buffers; place = i.place; waiting = i.waiting.items; records = i.records.value } in
+    let q : Queued = shown i in
     let found = found_at c.blocks_are_read_as_written.ensures q i.buffer.items i.sealed_len _ _ c.args.lsn c.self.invariant
     (subst (λ (v : Queued). IsSome (data_at c.args.lsn v.records)) (sym c.self.view_is) c.requires) in
     omega (arith, found.high, c.offset.ensures.value, c.deref.ensures.len)
@@ -45,11 +46,13 @@ passed first at lsn position bytes all records found at_is is position_is =
 pub read_record-requires : goal.read_record-requires
 read_record-requires c =
     let i = c.self.inside in
-    let q : Queued = record { shape = i.shape; buffers = i.buffers; place = i.place; waiting = i.waiting.items; records = i.records.value } in
+    let q : Queued = shown i in
     let found = found_at c.blocks_are_read_as_written.ensures q i.buffer.items i.sealed_len _ _ c.args.lsn c.self.invariant
-    (subst (λ (v : Queued). IsSome (data_at c.args.lsn v.records)) (sym c.self.view_is) c.requires) in
-    (found.entry, passed (i.place.offset - i.sealed_len) c.offset.result c.args.lsn c.sequence.result i.buffer.items c.deref.result.now q.records found
-    c.offset.ensures.value c.deref.ensures.value c.sequence.ensures.value)
+    (subst (λ (v : Queued). IsSome (data_at c.args.lsn v.records)) (sym c.self.view_is) c.requires) in (
+      found.entry,
+      passed (i.place.offset - i.sealed_len) c.offset.result c.args.lsn c.sequence.result i.buffer.items c.deref.result.now q.records found
+          c.offset.ensures.value c.deref.ensures.value c.sequence.ensures.value,
+    )
 
 -- the data of that record are those that are found
 told : (result : Result (List ℕ) AllocError) (here : List ℕ) (found : Option (List ℕ)) → found ≡ Some here → IfOk result (λ bytes. bytes ≡ here)
@@ -60,7 +63,7 @@ told (Err e) here found is same = tt
 pub returns : goal.returns
 returns c =
     let i = c.self.inside in
-    let q : Queued = record { shape = i.shape; buffers = i.buffers; place = i.place; waiting = i.waiting.items; records = i.records.value } in
+    let q : Queued = shown i in
     let found = found_at c.blocks_are_read_as_written.ensures q i.buffer.items i.sealed_len _ _ c.args.lsn c.self.invariant
     (subst (λ (v : Queued). IsSome (data_at c.args.lsn v.records)) (sym c.self.view_is) c.requires) in
     let held = passed (i.place.offset - i.sealed_len) c.offset.result c.args.lsn c.sequence.result i.buffer.items c.deref.result.now q.records found
