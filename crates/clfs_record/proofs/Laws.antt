@@ -4,7 +4,7 @@ use Rattle.std.proofs.Common.{None, Result, Ok}
 use Rattle.std.proofs.Common.{refl, sym, ◌∙◌, ap, subst, arith, append_assoc, length-append, length-drop, take-append-drop}
 use Rattle.std.specs.Option.{option_map}
 use Rattle.std.specs.List.{position}
-use Rattle.std.proofs.lemmas.List.{take_at, drop_at, length-take-le, length-take, drop-drop, length-replicate, append_cancel_left}
+use Rattle.std.proofs.lemmas.List.{take_at, drop_at, length-take-le, drop-drop, length-replicate, append_cancel_left}
 use Rattle.std.proofs.lemmas.Bool.{ltb-false, le-ltb}
 use Rattle.byteorder.specs.Numbers.{little_number-reads_back, little_from-lt}
 use Rattle.clfs_lsn.specs.Format.{record_header}
