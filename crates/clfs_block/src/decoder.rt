@@ -1,6 +1,7 @@
 // Reading a block. The checks go from the first byte on, and the payload is filled before its
 // unused end is checked, so that a caller can judge the records first.
 ghost use Rattle.std.specs.Prelude.{◌≡◌, ◌⊎◌, ◌+◌, ◌-◌, ◌*◌, ◌/◌, ◌%◌, ◌^◌, ◌<◌, ◌≤◌, ◌++◌, ◌==◌, ◌||◌, ℕ, List, [], length, take, drop, slice_index, Some, None, IfOk, IfSome, OnOk, OnErr, Ok, Err, vec_capacity};
+ghost use Rattle.std.specs.List.{list_all};
 ghost use Rattle.clfs_lsn.specs.Format.{sector_bytes, block_header, open_gate};
 ghost use Rattle.clfs_lsn.specs.Limits.{most_block_records};
 ghost use Rattle.clfs_lsn.specs.Size.{sectors};
@@ -244,12 +245,26 @@ pub fn check_rest(bytes: &[u8], head: BlockHead) -> Result<BlockHead, BlockRefus
     }
 }
 
+// Whether all bytes are 0. No test stands between them, so that many are taken in one step.
+fn are_zeros(bytes: &[u8]) -> bool
+    ensures { result ≡ list_all (λ byte. byte == 0) bytes.now }
+{
+    let mut joined = 0;
+    for byte in bytes {
+        joined |= *byte;
+    }
+    joined == 0
+}
+
 // The first byte in a range that isn't 0.
 fn first_other_byte(bytes: &[u8], from: u32, end: u32) -> Option<u32>
     requires range { from ≤ end }
     requires whole { end ≤ length bytes.now }
     ensures { result ≡ first_failing (λ at. slice_index bytes.now at == 0) from (end - from) }
 {
+    if are_zeros(&bytes[from as usize..end as usize]) {
+        return None;
+    }
     for at in from..end {
         if bytes[at as usize] != 0 {
             return Some(at);

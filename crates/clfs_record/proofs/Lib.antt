@@ -1,3 +1,4 @@
 mod Checks
+mod Fillings
 mod Headers
 mod Laws

@@ -1,6 +1,7 @@
 // Reading a record from the front of bytes. The checks go from the first byte on, and the data are copied once, when all
 // else is right.
 ghost use Rattle.std.specs.Prelude.{◌≡◌, ◌+◌, ◌-◌, ◌*◌, ◌/◌, ◌^◌, ◌<◌, ◌≤◌, ◌++◌, ◌==◌, ◌||◌, ◌↔◌, not, nat_lt, if◌then◌else◌, ℕ, List, length, take, drop, position, IfOk, IfErr, IfSome, Ok, Err};
+ghost use Rattle.std.specs.List.{list_all, slice_range};
 ghost use Rattle.byteorder.specs.Endian.{little_number};
 ghost use Rattle.clfs_lsn.specs.Format.{record_header};
 ghost use Rattle.clfs_lsn.specs.Size.{size};
@@ -213,9 +214,26 @@ fn wrong_filling(bytes: &[u8], len: u32) -> Option<u32>
     ensures near { IfSome result (λ at. at ≤ length bytes.now) }
 {
     let end = HEADER + len as usize;
-    let zeros = &bytes[end..size_of_record(len) as usize];
+    let size = size_of_record(len) as usize;
+    if are_zeros(bytes, end, size) {
+        return None;
+    }
+    let zeros = &bytes[end..size];
     let at = first_nonzero(zeros)?;
     Some((end + at) as u32)
+}
+
+// Whether the bytes in a range of fewer than 8 are 0. They are the high bytes of the word that ends there, so no branch hangs on their
+// number, which differs from record to record.
+fn are_zeros(bytes: &[u8], from: usize, end: usize) -> bool
+    requires word { 8 ≤ end }
+    requires whole { end ≤ length bytes.now }
+    requires range { from ≤ end }
+    requires few { end < from + 8 }
+    ensures { result ≡ list_all (λ byte. byte == 0) (slice_range bytes.now from end) }
+{
+    let word = LittleEndian::read_u64(&bytes[end - 8..]);
+    word <= u64::MAX >> (8 * (end - from))
 }
 
 // The place of the first byte that isn't 0.
