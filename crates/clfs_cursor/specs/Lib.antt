@@ -1,2 +1,5 @@
 pub mod Rows
 pub mod Searching
+pub mod Keys
+pub mod Kept
+pub mod Table

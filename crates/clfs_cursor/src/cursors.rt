@@ -1,136 +1,186 @@
-// The cursors of one area.
-ghost use Rattle.std.specs.Prelude.{◌≡◌, ◌+◌, ◌^◌, ◌<◌, ◌≤◌, [], ◌∷◌, ◌++◌, ◌==◌, ◌&&◌, not, if◌then◌else◌, length, find, option_copied, IfOk};
-ghost use Rattle.clfs_model.specs.declared.state.Cursor.{Cursor};
+// The cursors of all areas.
+ghost use Rattle.std.specs.Prelude.{◌≡◌, ◌<◌, ◌≤◌, ◌∷◌, ◌++◌, [], length, nat_le, OnOk, OnErr};
+ghost use Rattle.std.specs.List.{remove};
 ghost use Rattle.clfs_model.specs.declared.state.Area.{Area};
-ghost use Rattle.clfs_model.specs.Reading.{is_over_restarts, record_cursor, restart_cursor, is_cursor_number, unused_cursor, with_cursor_at, without_cursor};
+ghost use Rattle.clfs_model.specs.Reading.{is_over_restarts, cursor_of, record_cursor, restart_cursor, unused_cursor, with_cursor_at, without_cursor};
+ghost use Rattle.clfs_cursor.specs.Rows.{area_at, with_cursors, HasRoom, HaveDifferentNumbers};
 
+use crate::keys::AreaKeys;
+use crate::standing::{Standing, free, move_standing};
 use clfs_lsn::Lsn;
 use clfs_model::{Cursor, CursorKind};
+use slab::Slab;
 use std::alloc::{AllocError, Global};
 use std::marker::Model;
 
-/// The cursors of an area. A contract sees them in the order of their making, and how many more there is room for.
+/// The cursors of all areas. An area is told by its place among those that are there, in the order in which they were added, from 0 on.
 #[derive(Drop)]
 pub struct Cursors {
-    rows: Vec<Cursor>,
+    slots: Slab<Standing>,
+    rows: Vec<AreaKeys>,
 }
 
 impl Model for Cursors {
-    ghost use Rattle.clfs_cursor.specs.Rows.{Rows};
+    ghost use Rattle.clfs_cursor.specs.Rows.{Table};
 
-    ghost Value = { Rows };
+    ghost Value = { Table };
 
-    ghost use Rattle.std.specs.Prelude.{◌-◌, vec_len, vec_capacity};
+    ghost use Rattle.clfs_cursor.specs.Table.{table_of, IsOwned};
 
-    ghost view = { λ s. record { cursors = s.rows.items; room = vec_capacity s.rows - vec_len s.rows } };
+    ghost view = { table_of };
+
+    ghost invariant = { IsOwned };
 }
 
 impl Cursors {
-    /// No cursors, and room for so many.
-    pub fn new(alloc: Global, reads: u16) -> Result<Cursors, AllocError>
-        ensures cursors { IfOk result (λ made. made.cursors ≡ []) }
-        ensures room { IfOk result (λ made. reads ≤ made.room) }
+    /// No areas.
+    pub fn new(alloc: Global) -> Cursors
+        ensures { result.areas ≡ [] }
     {
-        Ok(Cursors {
-            rows: Vec::with_capacity(alloc, reads as usize)?,
-        })
+        Cursors {
+            slots: Slab::new(alloc),
+            rows: Vec::new(alloc),
+        }
     }
 
-    /// How many cursors there are.
-    pub fn len(&self) -> usize
-        ensures { result ≡ length self.now.cursors }
+    /// One more area, behind the others, which may have so many cursors and has none. Memory is taken for their keys.
+    pub fn add_area(&mut self, reads: u16) -> Result<(), AllocError>
+        ensures areas { OnOk result (self.new.areas ≡ self.old.areas ++ record { cursors = []; reads = reads } ∷ []) }
+        ensures err { OnErr result (self.new.areas ≡ self.old.areas) }
+        ensures capacity { self.new.capacity ≡ self.old.capacity }
     {
-        self.rows.len()
+        let row = AreaKeys::new(*self.rows.allocator(), reads)?;
+        self.rows.push(row)?;
+        Ok(())
     }
 
-    /// A new cursor at a record that was read, of the least number that none has. It takes no memory.
-    pub fn start(&mut self, kind: CursorKind, last: Lsn) -> u16
-        requires room { 1 ≤ self.old.room }
-        requires few { length self.old.cursors + 1 < 2 ^ 16 }
-        ensures number { result ≡ unused_cursor self.old.cursors }
-        ensures cursors { self.new.cursors ≡ self.old.cursors ++ record { number = result; kind = kind; last = last } ∷ [] }
-        ensures room { self.new.room + 1 ≡ self.old.room }
+    /// An area goes with its cursors, and those behind it move down by one place. It takes no memory.
+    pub fn remove_area(&mut self, place: usize)
+        requires { place < length self.old.areas }
+        ensures areas { self.new.areas ≡ remove self.old.areas place }
+        ensures capacity { self.new.capacity ≡ self.old.capacity }
     {
-        let number = least_unused(&self.rows);
-        self.rows.push_reserved(Cursor { number, kind, last });
+        let row = self.rows.remove(place);
+        free(&mut self.slots, row.as_slice());
+    }
+
+    /// All areas go with their cursors. It takes no memory.
+    pub fn clear(&mut self)
+        ensures areas { self.new.areas ≡ [] }
+        ensures capacity { self.new.capacity ≡ self.old.capacity }
+    {
+        self.slots.clear();
+        self.rows.clear();
+    }
+
+    /// How many cursors an area has.
+    pub fn count(&self, place: usize) -> usize
+        requires { place < length self.now.areas }
+        ensures { result ≡ length (area_at place self.now.areas).cursors }
+    {
+        self.rows[place].len()
+    }
+
+    /// Whether an area has as many cursors as it may.
+    pub fn is_full(&self, place: usize) -> bool
+        requires { place < length self.now.areas }
+        ensures { result ≡ nat_le (area_at place self.now.areas).reads (length (area_at place self.now.areas).cursors) }
+    {
+        self.rows[place].is_full()
+    }
+
+    /// Takes memory for one more cursor.
+    pub fn reserve(&mut self) -> Result<(), AllocError>
+        ensures areas { self.new.areas ≡ self.old.areas }
+        ensures room { OnOk result (HasRoom self.new) }
+        ensures capacity { self.old.capacity ≤ self.new.capacity }
+    {
+        self.slots.reserve(1)
+    }
+
+    /// A new cursor of an area at a record that was read, of the least number that none of the area has. It takes no memory.
+    pub fn start(&mut self, place: usize, kind: CursorKind, last: Lsn) -> u16
+        requires there { place < length self.old.areas }
+        requires few { length (area_at place self.old.areas).cursors < (area_at place self.old.areas).reads }
+        requires room { HasRoom self.old }
+        ensures number { result ≡ unused_cursor (area_at place self.old.areas).cursors }
+        ensures areas { self.new.areas ≡ with_cursors place ((area_at place self.old.areas).cursors ++ record { number = result; kind = kind; last = last } ∷ []) self.old.areas }
+        ensures capacity { self.new.capacity ≡ self.old.capacity }
+    {
+        let number = self.rows[place].unused_number();
+        let key = self.slots.insert_reserved(Standing { kind, last });
+        let row = &mut self.rows[place];
+        row.push(number, key);
         number
     }
 
-    /// The cursor of a number that goes over records.
-    pub fn over_records(&self, number: u16) -> Option<Cursor>
-        ensures { (area : Area) → area.cursors ≡ self.now.cursors → result ≡ record_cursor area number }
+    /// The cursor of a number of an area, whatever it goes over.
+    pub fn cursor(&self, place: usize, number: u16) -> Option<Cursor>
+        requires { place < length self.now.areas }
+        ensures cursor { (area : Area) → area.cursors ≡ (area_at place self.now.areas).cursors → result ≡ cursor_of area number }
+        ensures different { HaveDifferentNumbers (area_at place self.now.areas).cursors }
     {
-        found_over_records(&self.rows, number).copied()
+        let key = self.rows[place].key(number)?;
+        let standing = self.slots.get(key)?;
+        Some(Cursor {
+            number,
+            kind: standing.kind,
+            last: standing.last,
+        })
+    }
+
+    /// The cursor of a number that goes over records.
+    pub fn over_records(&self, place: usize, number: u16) -> Option<Cursor>
+        requires { place < length self.now.areas }
+        ensures { (area : Area) → area.cursors ≡ (area_at place self.now.areas).cursors → result ≡ record_cursor area number }
+    {
+        let cursor = self.cursor(place, number)?;
+        if is_over_restarts(cursor.kind) {
+            return None;
+        }
+        Some(cursor)
     }
 
     /// The cursor of a number that goes over restart areas.
-    pub fn over_restarts(&self, number: u16) -> Option<Cursor>
-        ensures { (area : Area) → area.cursors ≡ self.now.cursors → result ≡ restart_cursor area number }
+    pub fn over_restarts(&self, place: usize, number: u16) -> Option<Cursor>
+        requires { place < length self.now.areas }
+        ensures { (area : Area) → area.cursors ≡ (area_at place self.now.areas).cursors → result ≡ restart_cursor area number }
     {
-        found_over_restarts(&self.rows, number).copied()
+        let cursor = self.cursor(place, number)?;
+        if is_over_restarts(cursor.kind) {
+            return Some(cursor);
+        }
+        None
     }
 
     /// The cursor of a number is at another record from now on.
-    pub fn move_to(&mut self, number: u16, lsn: Lsn)
-        ensures cursors { (area : Area) → area.cursors ≡ self.old.cursors → self.new.cursors ≡ (with_cursor_at number lsn area).cursors }
-        ensures room { self.new.room ≡ self.old.room }
+    pub fn move_to(&mut self, place: usize, number: u16, lsn: Lsn)
+        requires { place < length self.old.areas }
+        ensures areas { (area : Area) → area.cursors ≡ (area_at place self.old.areas).cursors
+            → self.new.areas ≡ with_cursors place (with_cursor_at number lsn area).cursors self.old.areas }
+        ensures places { length self.new.areas ≡ length self.old.areas }
+        ensures capacity { self.new.capacity ≡ self.old.capacity }
     {
-        for cursor in self.rows.iter_mut() {
-            *cursor = moved(*cursor, number, lsn);
-        }
+        let Some(key) = self.rows[place].key(number) else {
+            return;
+        };
+        move_standing(&mut self.slots, key, lsn);
     }
 
-    /// The cursor of a number ends.
-    pub fn end(&mut self, number: u16)
-        ensures cursors { (area : Area) → area.cursors ≡ self.old.cursors → self.new.cursors ≡ (without_cursor number area).cursors }
-        ensures room { self.old.room ≤ self.new.room }
+    /// The cursor of a number ends. It takes no memory.
+    pub fn end(&mut self, place: usize, number: u16)
+        requires { place < length self.old.areas }
+        ensures areas { (area : Area) → area.cursors ≡ (area_at place self.old.areas).cursors
+            → self.new.areas ≡ with_cursors place (without_cursor number area).cursors self.old.areas }
+        ensures places { length self.new.areas ≡ length self.old.areas }
+        ensures capacity { self.new.capacity ≡ self.old.capacity }
     {
-        self.rows.retain(|cursor| cursor.number != number);
-    }
-}
-
-// The cursor of a number that goes over records.
-fn found_over_records(rows: &[Cursor], number: u16) -> Option<&Cursor>
-    ensures { option_copied result ≡ find (λ (cursor : Cursor). (cursor.number == number) && not (is_over_restarts cursor.kind)) rows.now }
-{
-    rows.iter()
-        .find(|cursor| is_over_records_at(cursor, number))
-}
-
-// The cursor of a number that goes over restart areas.
-fn found_over_restarts(rows: &[Cursor], number: u16) -> Option<&Cursor>
-    ensures { option_copied result ≡ find (λ (cursor : Cursor). (cursor.number == number) && is_over_restarts cursor.kind) rows.now }
-{
-    rows.iter()
-        .find(|cursor| is_over_restarts_at(cursor, number))
-}
-
-// Whether a cursor has a number and goes over records.
-fn is_over_records_at(cursor: &Cursor, number: u16) -> bool
-    ensures { result ≡ ((cursor.now.number == number) && not (is_over_restarts cursor.now.kind)) }
-{
-    cursor.number == number && !is_over_restarts(cursor.kind)
-}
-
-// Whether a cursor has a number and goes over restart areas.
-fn is_over_restarts_at(cursor: &Cursor, number: u16) -> bool
-    ensures { result ≡ ((cursor.now.number == number) && is_over_restarts cursor.now.kind) }
-{
-    cursor.number == number && is_over_restarts(cursor.kind)
-}
-
-// A cursor at another record, where it has the number.
-fn moved(cursor: Cursor, number: u16, lsn: Lsn) -> Cursor
-    ensures { result ≡ (if cursor.number == number then record cursor { last = lsn } else cursor) }
-{
-    if cursor.number == number {
-        Cursor {
-            number,
-            kind: cursor.kind,
-            last: lsn,
-        }
-    } else {
-        cursor
+        let Some(key) = self.rows[place].key(number) else {
+            return;
+        };
+        let row = &mut self.rows[place];
+        row.remove(number);
+        let _ended = self.slots.remove(key);
     }
 }
 
@@ -142,24 +192,4 @@ fn is_over_restarts(kind: CursorKind) -> bool
         CursorKind::Records(_) => false,
         CursorKind::RestartAreas => true,
     }
-}
-
-// The least number from 1 on that no cursor has.
-fn least_unused(rows: &[Cursor]) -> u16
-    requires { length rows.now + 1 < 2 ^ 16 }
-    ensures { result ≡ unused_cursor rows.now }
-{
-    for before in 0..rows.len() {
-        if !is_used(rows, before as u16 + 1) {
-            return before as u16 + 1;
-        }
-    }
-    rows.len() as u16 + 1
-}
-
-// Whether a cursor has a number.
-fn is_used(rows: &[Cursor], number: u16) -> bool
-    ensures { result ≡ is_cursor_number rows.now number }
-{
-    rows.iter().any(|cursor| cursor.number == number)
 }

@@ -10,7 +10,9 @@
 #![tactic(auto)]
 
 mod cursors;
+mod keys;
 mod search;
+mod standing;
 
 pub use cursors::Cursors;
 pub use search::{Search, search_from};

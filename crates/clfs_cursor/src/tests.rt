@@ -3,22 +3,38 @@ use clfs_lsn::{Head, Kind, Lsn};
 use clfs_model::{CursorKind, Mode};
 use std::test::Fail;
 
+const FORWARD: CursorKind = CursorKind::Records(Mode::Forward);
+
+// Two areas share the slab: what starts, moves and ends in the one changes nothing of the other.
 #[test]
-fn cursors_by_number(rt: HostRuntime) -> Result<(), Fail> {
-    let mut cursors = Cursors::new(rt.alloc(), 4)?;
+fn cursors_of_two_areas(rt: HostRuntime) -> Result<(), Fail> {
+    let mut cursors = Cursors::new(rt.alloc());
     let lsn = Lsn::of_number(1 << 32);
-    assert_eq!(rt; cursors.start(CursorKind::Records(Mode::Forward), lsn), 1);
-    assert_eq!(rt; cursors.start(CursorKind::RestartAreas, lsn), 2);
-    assert!(rt; cursors.over_records(2).is_none());
-    assert!(rt; cursors.over_restarts(2).is_some());
-    cursors.end(1);
-    cursors.move_to(2, Lsn::null());
+    cursors.add_area(2)?;
+    cursors.add_area(4)?;
+    cursors.reserve()?;
+    assert_eq!(rt; cursors.start(1, FORWARD, lsn), 1);
+    cursors.reserve()?;
+    assert_eq!(rt; cursors.start(0, FORWARD, lsn), 1);
+    cursors.reserve()?;
+    assert_eq!(rt; cursors.start(1, CursorKind::RestartAreas, lsn), 2);
+    assert!(rt; cursors.over_records(1, 2).is_none());
+    assert!(rt; cursors.over_restarts(1, 2).is_some());
+    cursors.end(1, 1);
+    cursors.move_to(1, 2, Lsn::null());
     assert_eq!(rt;
-        cursors.over_restarts(2).map(|cursor| cursor.last),
+        cursors.cursor(1, 2).map(|cursor| cursor.last),
         Some(Lsn::null())
     );
-    assert_eq!(rt; cursors.len(), 1);
-    assert_eq!(rt; cursors.start(CursorKind::Records(Mode::Forward), lsn), 1);
+    assert_eq!(rt; cursors.cursor(0, 1).map(|cursor| cursor.last), Some(lsn));
+    assert!(rt; !cursors.is_full(1));
+    cursors.reserve()?;
+    assert_eq!(rt; cursors.start(1, FORWARD, lsn), 1);
+    cursors.remove_area(0);
+    assert_eq!(rt; cursors.count(0), 2);
+    cursors.clear();
+    cursors.add_area(1)?;
+    assert_eq!(rt; cursors.count(0), 0);
     Ok(())
 }
 

@@ -1,21 +1,35 @@
-use Rattle.std.proofs.Common.{◌≡◌, ◌∙◌, length, sym, ap, arith}
-use Rattle.std.specs.Prelude.{if◌then◌else◌, ◌==◌}
-use Rattle.std.proofs.lemmas.List.Edits.{map_over_more}
+use Rattle.std.proofs.Common.{◌≡◌, ap, sym, List, Option, Some}
+use Rattle.std.specs.Prelude.{map}
+use Rattle.slab.specs.Slab.{get}
 use Rattle.clfs_model.specs.declared.state.Cursor.{Cursor}
-use Rattle.clfs_cursor.specs.Rows.{Rows}
-use Rattle.clfs_cursor.proofs.Moves.{moved_all}
+use Rattle.clfs_cursor.specs.Kept.{area_by}
+use Rattle.clfs_cursor.proofs.Opened.{row_there, no_move, there_by_number, change_seen}
+use Rattle.clfs_cursor.proofs.Owned.{value_there}
+use Rattle.clfs_cursor.proofs.Moved.{moved_areas, moved_owned, moved_to}
 use Rattle.clfs_cursor.proofs.cursors.Cursors.move_to.Goals as goal
 
-pub loop-cursor-preserved : goal.loop-cursor-preserved
-loop-cursor-preserved c =
-    rw (c.moved.ensures, ← c.cursor-item.is) (map_over_more (λ (cursor : Cursor). if cursor.number == c.args.number then record cursor { last = c.args.lsn } else cursor)
-    c.deref_mut-cursor-items.result.now c.loop-cursor.cursor-items c.loop-cursor.cursor-index c.cursor-item.result c.loop-cursor-test.true
-    c.loop-cursor.invariant c.cursor-item.is)
+pub returns-in_default-clause-areas : goal.returns-in_default-clause-areas
+returns-in_default-clause-areas c =
+    no_move c.self.inside c.args.self.now c.self.view_is c.args.place c.requires c.index.result.now c.index.ensures c.args.number c.args.lsn c.in_default.ensures.key
 
-pub returns-clause-cursors : goal.returns-clause-cursors
-returns-clause-cursors c = λ area same.
-    let long : c.self.inside.rows.len ≡ length c.self.inside.rows.items = omega arith in
-    moved_all (λ (cursor : Cursor). if cursor.number == c.args.number then record cursor { last = c.args.lsn } else cursor)
-    c.self.inside.rows.items c.deref_mut-cursor-items.result.now c.loop-cursor.cursor-items area.cursors c.loop-cursor.cursor-index
-    c.self.inside.rows.len c.deref_mut-cursor-items.ensures.value (same ∙ ap (λ (r : Rows). r.cursors) (sym c.self.view_is)) long
-    c.loop-cursor.auto.cursor-items c.loop-cursor-test.false c.loop-cursor.invariant
+pub returns-clause-areas : goal.returns-clause-areas
+returns-clause-areas c = λ area same.
+    let there = row_there c.self.inside c.args.self.now c.self.view_is c.args.place c.requires in
+    let was = value_there (get c.self.inside.slots c.in-Some.key)
+    (there_by_number c.self.inside c.args.self.now c.self.view_is c.args.place c.requires c.index.result.now c.index.ensures c.self.invariant
+    c.args.number c.in-Some.key c.in-Some.ensures.key) in
+    change_seen c.self.inside c.args.self.now c.self.view_is c.args.place c.requires (map (area_by c.move_standing.new.slots) c.self.inside.rows.items)
+    (λ (cursors : List Cursor). map (moved_to c.args.number c.args.lsn) cursors)
+    (moved_areas c.self.inside.slots c.move_standing.new.slots c.args.number c.in-Some.key c.args.lsn was.0 was.1
+    (c.move_standing.ensures.moved was.0 was.1) c.move_standing.ensures.others c.self.inside.rows.items c.args.place c.index.result.now
+    there c.index.ensures c.self.invariant c.in-Some.ensures.different c.in-Some.ensures.key) area.cursors same
+
+pub invariant_of-self : goal.invariant_of-self
+invariant_of-self c =
+    let there = row_there c.self.inside c.args.self.now c.self.view_is c.args.place c.requires in
+    let was = value_there (get c.self.inside.slots c.in-Some.key)
+    (there_by_number c.self.inside c.args.self.now c.self.view_is c.args.place c.requires c.index.result.now c.index.ensures c.self.invariant
+    c.args.number c.in-Some.key c.in-Some.ensures.key) in
+    moved_owned c.self.inside.slots c.move_standing.new.slots c.args.number c.in-Some.key c.args.lsn was.0 was.1
+    (c.move_standing.ensures.moved was.0 was.1) c.move_standing.ensures.others c.self.inside.rows.items c.args.place c.index.result.now
+    there c.index.ensures c.self.invariant c.in-Some.ensures.different c.in-Some.ensures.key c.move_standing.ensures.len
