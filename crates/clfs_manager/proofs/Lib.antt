@@ -1,7 +1,3 @@
 pub mod Joining
 pub mod Copies
 pub mod Made
-pub mod Kept
-pub mod StreamRows
-pub mod TableSteps
-pub mod Tabling

@@ -1,3 +1,2 @@
 pub mod Formatting
-pub mod Tables
 pub mod Loading

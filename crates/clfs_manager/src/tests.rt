@@ -124,3 +124,33 @@ fn a_crash_leaves_no_log_or_the_whole_one(rt: HostRuntime) -> Result<(), Fail> {
     }
     Ok(())
 }
+
+#[test]
+fn a_log_is_opened_and_closed(rt: HostRuntime) -> Result<(), Fail> {
+    let alloc = rt.alloc();
+    let Ok(disk) = Manager::format(alloc, Memory::new(alloc, 64, 65536, &[])?, SHAPE, 2) else {
+        return Err("no log was made".into());
+    };
+    let Ok(manager) = Manager::load(alloc, disk, 4) else {
+        return Err("the log wasn't opened".into());
+    };
+    let mut disk = manager.close();
+    assert!(rt; find_log(alloc, &mut disk)? == Found::Log);
+
+    // Another version of the base copy is damage at its byte, and a disk without a log has none.
+    disk.write(0, 1, &[2])?;
+    let Err(refused) = Manager::load(alloc, disk, 4) else {
+        return Err("a damaged log was opened".into());
+    };
+    let damaged = LoadRefusal::Damaged {
+        container: 0,
+        offset: 0,
+        at: 1,
+    };
+    assert!(rt; refused.cause == damaged);
+    let Err(refused) = Manager::load(alloc, Memory::new(alloc, 8, 8, &[])?, 1) else {
+        return Err("a log was opened where none is".into());
+    };
+    assert!(rt; refused.cause == LoadRefusal::NoBase);
+    Ok(())
+}

@@ -1,5 +1,0 @@
-use Rattle.std.proofs.Common.{[]}
-use Rattle.clfs_manager.proofs.tables.no_heads.Given as goal
-
-abbrev pub ghost-pick : goal.ghost-pick
-ghost-pick a = []

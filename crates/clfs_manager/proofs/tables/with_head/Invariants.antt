@@ -1,5 +1,0 @@
-use Rattle.std.proofs.Common.{[], ◌∷◌, ◌++◌}
-use Rattle.clfs_manager.proofs.tables.with_head.Given as goal
-
-abbrev pub ghost-next : goal.ghost-next
-ghost-next a = a.self.now.value ++ a.with.now ∷ []

@@ -1,0 +1,4 @@
+pub mod Kept
+pub mod StreamRows
+pub mod TableSteps
+pub mod Tabling

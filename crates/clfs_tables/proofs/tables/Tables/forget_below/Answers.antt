@@ -1,0 +1,52 @@
+use Rattle.std.proofs.Common.{◌≡◌, ◌∙◌, ◌-◌, ◌<◌, ap, arith, inl, inr, length, get_or, sym}
+use Rattle.std.specs.Vec.{with_items}
+use Rattle.std.proofs.lemmas.Bool.{cases_eq}
+use Rattle.std.proofs.lemmas.List.{get_or-set_other, get_or-set_same, get_or_default, length-set, with_items_is}
+use Rattle.clfs_tables.specs.Tables.{base_in}
+use Rattle.clfs_tables.proofs.TableSteps.{Forgets, forgets_more, row_less}
+use Rattle.clfs_tables.proofs.tables.Tables.forget_below.Goals as goal
+
+pub loop-row-preserved : goal.loop-row-preserved
+loop-row-preserved c =
+    let items = c.loop-row.row-items in
+    let place = c.loop-row.row-index in
+    let initial = c.deref_mut-row-items.result.now in
+    let before = c.loop-row.invariant in
+    let one : Forgets c.args.lsn c.row-item.result c.forget_row.new.row = (let e = c.forget_row.ensures in record {
+      index_base = rw c.row-item.is e.index_base;
+      restarts_base = rw c.row-item.is e.restarts_base;
+      index = rw c.row-item.is e.index;
+      restarts = rw c.row-item.is e.restarts;
+    }) in (
+      length-set items place c.forget_row.new.row ∙ before.0,
+      λ k d inside. elim (cases_eq k place) [
+        | inl same ↦
+            let there : get_or items place d ≡ c.row-item.result = get_or_default items place d c.row-item.result (omega (arith, c.loop-row-test.true, before.0)) ∙ sym c.row-item.is in
+            rw same (rw (get_or-set_same items place c.forget_row.new.row d (omega (arith, c.loop-row-test.true, before.0)))
+            (forgets_more c.args.lsn (get_or initial place d) c.row-item.result c.forget_row.new.row (rw there at (before.1 place d c.loop-row-test.true)) one))
+        | inr other ↦ rw (get_or-set_other items place k c.forget_row.new.row d other) (before.1 k d inside)
+      ],
+    )
+
+pub invariant_of-self : goal.invariant_of-self
+invariant_of-self c =
+    let v = c.self.invariant in
+    let i = c.self.inside in
+    let initial = c.deref_mut-row-items.result.now in
+    let same : initial ≡ i.rows.items = c.deref_mut-row-items.ensures.value in
+    let forgot = c.loop-row.invariant in
+    let dead = rw (← c.self.view_is) at c.requires.dead in
+    let up = rw (← c.self.view_is) at c.requires.up in
+    let items : (with_items i.rows c.loop-row.row-items).items ≡ c.loop-row.row-items
+    = with_items_is i.rows c.loop-row.row-items (omega (arith, forgot.0, c.deref_mut-row-items.ensures.len)) in
+    record {
+      few = v.few;
+      rows_long = rw items (forgot.0 ∙ ap length same ∙ v.rows_long);
+      firsts_long = v.firsts_long;
+      heads = λ k d inside. (let is = v.heads k d inside in record { previous = is.previous; undo_next = is.undo_next; dead = dead k d inside });
+      firsts = v.firsts;
+      rows = λ stream d some within.
+          let there : stream - 1 < length initial = (let long = ap length same in omega (arith, some, within, v.rows_long, long)) in
+          let less = forgot.1 (stream - 1) d there in
+          rw items (row_less (base_in i.streams.streams stream) i.low c.args.lsn stream i.heads.value _ _ up (v.rows stream d some within) (rw same at less));
+    }
