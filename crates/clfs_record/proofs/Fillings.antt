@@ -20,6 +20,7 @@ alike a b h there back =
       | inr fails ↦ fails.0 ∙ sym (ne_eqb h 0 (λ e. omega (arith, fails.1, back e)))
     ]
 
+-- a byte with a number above it is 0 where both are
 both_zero : (x rest : ℕ) → eqb (x + 256 * rest) 0 ≡ (eqb x 0 && eqb rest 0)
 both_zero zero rest = alike_zero rest
   where
@@ -29,6 +30,7 @@ both_zero zero rest = alike_zero rest
 both_zero (suc x) rest =
     ne_eqb (suc x + 256 * rest) 0 (λ e. omega (arith, e)) ∙ ap (λ other. other && eqb rest 0) (sym (ne_eqb (suc x) 0 (λ e. omega (arith, e))))
 
+-- the next place, as lists and as sums write it
 next : (n : ℕ) → suc n ≡ n + 1
 next n = omega arith
 
@@ -42,17 +44,22 @@ number_zero bytes from (suc n) le =
     ∙ ap (λ (l : List ℕ). eqb (get_or bytes from 0) 0 && list_all (λ byte. eqb byte 0) (take n l)) (ap (λ (k : ℕ). drop k bytes) (next from))
     ∙ sym (ap (λ (l : List ℕ). list_all (λ byte. eqb byte 0) (take (suc n) l)) (drop_more bytes from 0 (omega (arith, le))))
 
+-- the eight bytes of a word are below 256
+eight_bytes : (bytes : List ℕ) → IsBytes bytes → (get_or bytes 0 0 < 256) × (get_or bytes 1 0 < 256) × (get_or bytes 2 0 < 256) × (get_or bytes 3 0 < 256)
+    × (get_or bytes 4 0 < 256) × (get_or bytes 5 0 < 256) × (get_or bytes 6 0 < 256) × (get_or bytes 7 0 < 256)
+eight_bytes bytes fits = (fits 0, fits 1, fits 2, fits 3, fits 4, fits 5, fits 6, fits 7)
+
 -- the word is small where its high bytes are 0
 small : (bytes : List ℕ) → IsBytes bytes → (count : ℕ) → count < 8
     → leb (little_number 8 bytes) (18446744073709551615 / 2 ^ (8 * count)) ≡ eqb (little_from (8 - count) count bytes) 0
-small bytes fits zero lt = alike _ _ _ (λ _. refl) (λ _. omega (arith, fits 0, fits 1, fits 2, fits 3, fits 4, fits 5, fits 6, fits 7))
-small bytes fits (suc zero) lt = alike _ _ _ (λ le. omega (arith, le)) (λ none. omega (arith, fits 0, fits 1, fits 2, fits 3, fits 4, fits 5, fits 6, fits 7, none))
-small bytes fits (suc (suc zero)) lt = alike _ _ _ (λ le. omega (arith, le)) (λ none. omega (arith, fits 0, fits 1, fits 2, fits 3, fits 4, fits 5, fits 6, fits 7, none))
-small bytes fits (suc (suc (suc zero))) lt = alike _ _ _ (λ le. omega (arith, le)) (λ none. omega (arith, fits 0, fits 1, fits 2, fits 3, fits 4, fits 5, fits 6, fits 7, none))
-small bytes fits (suc (suc (suc (suc zero)))) lt = alike _ _ _ (λ le. omega (arith, le)) (λ none. omega (arith, fits 0, fits 1, fits 2, fits 3, fits 4, fits 5, fits 6, fits 7, none))
-small bytes fits (suc (suc (suc (suc (suc zero))))) lt = alike _ _ _ (λ le. omega (arith, le)) (λ none. omega (arith, fits 0, fits 1, fits 2, fits 3, fits 4, fits 5, fits 6, fits 7, none))
-small bytes fits (suc (suc (suc (suc (suc (suc zero)))))) lt = alike _ _ _ (λ le. omega (arith, le)) (λ none. omega (arith, fits 0, fits 1, fits 2, fits 3, fits 4, fits 5, fits 6, fits 7, none))
-small bytes fits (suc (suc (suc (suc (suc (suc (suc zero))))))) lt = alike _ _ _ (λ le. omega (arith, le)) (λ none. omega (arith, fits 0, fits 1, fits 2, fits 3, fits 4, fits 5, fits 6, fits 7, none))
+small bytes fits zero lt = alike _ _ _ (λ _. refl) (λ _. omega (arith, eight_bytes bytes fits))
+small bytes fits (suc zero) lt = alike _ _ _ (λ le. omega (arith, le)) (λ none. omega (arith, eight_bytes bytes fits, none))
+small bytes fits (suc (suc zero)) lt = alike _ _ _ (λ le. omega (arith, le)) (λ none. omega (arith, eight_bytes bytes fits, none))
+small bytes fits (suc (suc (suc zero))) lt = alike _ _ _ (λ le. omega (arith, le)) (λ none. omega (arith, eight_bytes bytes fits, none))
+small bytes fits (suc (suc (suc (suc zero)))) lt = alike _ _ _ (λ le. omega (arith, le)) (λ none. omega (arith, eight_bytes bytes fits, none))
+small bytes fits (suc (suc (suc (suc (suc zero))))) lt = alike _ _ _ (λ le. omega (arith, le)) (λ none. omega (arith, eight_bytes bytes fits, none))
+small bytes fits (suc (suc (suc (suc (suc (suc zero)))))) lt = alike _ _ _ (λ le. omega (arith, le)) (λ none. omega (arith, eight_bytes bytes fits, none))
+small bytes fits (suc (suc (suc (suc (suc (suc (suc zero))))))) lt = alike _ _ _ (λ le. omega (arith, le)) (λ none. omega (arith, eight_bytes bytes fits, none))
 small bytes fits (suc (suc (suc (suc (suc (suc (suc (suc n)))))))) lt = absurd (omega (arith, lt))
 
 -- the word that ends with a range of bytes is small where these are 0
