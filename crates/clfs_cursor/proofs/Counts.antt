@@ -1,6 +1,6 @@
 -- How many cursors of an area have a number.
-use Rattle.std.proofs.Common.{◌≡◌, ℕ, ◌+◌, ◌<◌, ◌≤◌, Bool, true, false, cond, refl, sym, ap, ◌∙◌, arith, zero, suc, List, [], ◌∷◌, ◌++◌, length, add-one, zero-add, below_more}
-use Rattle.std.specs.Prelude.{not, ◌==◌, filter, count_by}
+use Rattle.std.proofs.Common.{◌≡◌, ℕ, ◌+◌, ◌<◌, ◌≤◌, Bool, true, false, cond, refl, ap, ◌∙◌, arith, zero, suc, List, [], ◌∷◌, ◌++◌, length, add-one, zero-add, below_more}
+use Rattle.std.specs.Prelude.{not, filter, count_by}
 use Rattle.std.specs.List.{list_any}
 use Rattle.std.proofs.lemmas.Bool.Decides.{nat_tests}
 use Rattle.std.proofs.lemmas.List.Sums.{sum_by-cons, sum_by_push}

@@ -1,5 +1,5 @@
 -- The cursor of a number, where no number stands twice.
-use Rattle.std.proofs.Common.{◌≡◌, ℕ, ◌+◌, ◌≤◌, Bool, true, false, not, cond, refl, sym, ap, ◌∙◌, subst, arith, List, [], ◌∷◌, length, map, Option, Some, None}
+use Rattle.std.proofs.Common.{◌≡◌, ℕ, ◌+◌, ◌≤◌, Bool, true, false, not, cond, refl, sym, ap, ◌∙◌, arith, List, [], ◌∷◌, map, Some, None}
 use Rattle.std.specs.Prelude.{◌==◌, ◌&&◌, find, filter, count_by, sum_by}
 use Rattle.std.proofs.lemmas.List.Filters.{sum_by-filter_both}
 use Rattle.slab.specs.Slab.{Slab}

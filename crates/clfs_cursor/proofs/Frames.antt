@@ -1,13 +1,13 @@
 -- What a change of the slab leaves of the areas.
-use Rattle.std.proofs.Common.{◌≡◌, ℕ, ◌+◌, ◌-◌, ◌<◌, ◌≤◌, Bool, true, false, cond, refl, sym, ap, ap₂, ◌∙◌, arith, zero, suc, List, [], ◌∷◌, ◌++◌, length, map, get_or}
-use Rattle.std.specs.Prelude.{count_by, sum_by, slice_set}
+use Rattle.std.proofs.Common.{◌≡◌, ℕ, ◌+◌, ◌<◌, ◌≤◌, true, refl, ap, ap₂, arith, zero, suc, List, [], ◌∷◌, length, map, get_or}
+use Rattle.std.specs.Prelude.{count_by, slice_set}
 use Rattle.std.proofs.lemmas.Bool.Decides.{nat_tests}
 use Rattle.std.proofs.lemmas.List.Sums.{sum_by-cons, get_or-le-sum_by}
 use Rattle.slab.specs.Slab.{Slab, get}
 use Rattle.clfs_model.specs.declared.state.Cursor.{Cursor}
 use Rattle.clfs_cursor.specs.Rows.{AreaCursors}
 use Rattle.clfs_cursor.specs.Keys.{Keys}
-use Rattle.clfs_cursor.specs.Kept.{cursor_by, area_by, has_key, uses_in, uses, kind_of, last_of}
+use Rattle.clfs_cursor.specs.Kept.{cursor_by, area_by, has_key, uses_in, uses}
 use Rattle.clfs_cursor.specs.declared.keys.Numbered.{Numbered}
 use Rattle.clfs_cursor.specs.declared.standing.Standing.{Standing}
 use Rattle.clfs_cursor.proofs.Counts.{counted_more, counted_le}

@@ -1,6 +1,6 @@
 -- Cursors of one kind, where no number stands twice.
-use Rattle.std.proofs.Common.{◌≡◌, ℕ, ◌∙◌, Bool, true, false, not, cond, sym, ap, subst, List, Some, None}
-use Rattle.std.specs.Prelude.{◌==◌, find}
+use Rattle.std.proofs.Common.{◌≡◌, ℕ, ◌∙◌, Bool, not, cond, ap, Some, None}
+use Rattle.std.specs.Prelude.{◌==◌}
 use Rattle.clfs_model.specs.declared.state.Area.{Area}
 use Rattle.clfs_model.specs.declared.state.Cursor.{Cursor}
 use Rattle.clfs_model.specs.Reading.{is_over_restarts, cursor_of, record_cursor, restart_cursor}

@@ -1,5 +1,5 @@
 -- The table of cursors, and its parts.
-use Rattle.std.proofs.Common.{◌≡◌, ℕ, ◌<◌, ◌≤◌, ◌∙◌, ap, sym, subst, true, length, map, get_or, List, Option, Some, None, is_some}
+use Rattle.std.proofs.Common.{◌≡◌, ℕ, ◌<◌, ◌∙◌, ap, sym, subst, true, length, map, get_or, List, Option, Some, None, is_some}
 use Rattle.std.specs.Prelude.{◌==◌, find}
 use Rattle.std.specs.Option.{option_map}
 use Rattle.std.proofs.lemmas.List.{length-map, set-get_or, get_or_default}

@@ -1,11 +1,10 @@
 -- An area that went with its cursors.
-use Rattle.std.proofs.Common.{◌≡◌, ℕ, ◌+◌, ◌<◌, ◌≤◌, Bool, true, false, cond, refl, sym, ap, ap₂, ◌∙◌, subst, arith, zero, suc, List, [], ◌∷◌, length, map, get_or, Option, Some, None, is_some, ◌⊎◌, inl, inr}
-use Rattle.std.specs.Prelude.{count_by, sum_by}
+use Rattle.std.proofs.Common.{◌≡◌, ℕ, ◌+◌, ◌<◌, ◌≤◌, Bool, true, false, cond, refl, sym, ap, ◌∙◌, arith, zero, suc, List, [], ◌∷◌, length, map, get_or, Option, None, is_some, ◌⊎◌, inl, inr}
+use Rattle.std.specs.Prelude.{count_by}
 use Rattle.std.specs.List.{remove}
 use Rattle.std.proofs.lemmas.Bool.{cases_lt}
 use Rattle.std.proofs.lemmas.List.Sums.{sum_by-remove}
 use Rattle.slab.specs.Slab.{Slab, get, slab_len}
-use Rattle.clfs_cursor.specs.Rows.{AreaCursors}
 use Rattle.clfs_cursor.specs.Keys.{Keys}
 use Rattle.clfs_cursor.specs.Kept.{area_by, has_key, uses_in, uses, AreOwned}
 use Rattle.clfs_cursor.specs.declared.standing.Standing.{Standing}

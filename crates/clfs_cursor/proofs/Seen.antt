@@ -1,5 +1,5 @@
 -- What contracts see of the keys of an area.
-use Rattle.std.proofs.Common.{◌≡◌, ℕ, ◌+◌, Bool, true, false, not, cond, refl, ap, ◌∙◌, List, [], ◌∷◌, length, map, Option, Some, None}
+use Rattle.std.proofs.Common.{◌≡◌, ℕ, ◌+◌, Bool, true, false, not, refl, ap, ◌∙◌, List, [], ◌∷◌, length, map, Option}
 use Rattle.std.specs.Prelude.{◌==◌, ◌||◌, find, filter, unwrap_or}
 use Rattle.std.specs.List.{range_with_len}
 use Rattle.std.specs.Option.{option_map}

@@ -1,7 +1,6 @@
-use Rattle.std.proofs.Common.{◌≡◌, ℕ, ◌≤◌, ◌∙◌, ap, sym, subst, arith, cond, List, length, take, get_or, true, is_some}
+use Rattle.std.proofs.Common.{◌≡◌, ◌≤◌, ◌∙◌, ap, sym, subst, arith, cond, List, take, get_or, is_some}
 use Rattle.std.specs.Prelude.{count_by}
 use Rattle.std.proofs.lemmas.List.{take_all}
-use Rattle.slab.specs.Slab.{get, slab_len}
 use Rattle.clfs_cursor.specs.Kept.{has_key}
 use Rattle.clfs_cursor.specs.declared.keys.Numbered.{Numbered}
 use Rattle.clfs_cursor.proofs.Freed.{there_by_count, counted_there, first_time, gone_more, others_more}

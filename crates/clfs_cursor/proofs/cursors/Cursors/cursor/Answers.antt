@@ -1,4 +1,4 @@
-use Rattle.std.proofs.Common.{◌≡◌, ◌∙◌, ap, sym, Option, Some, is_some}
+use Rattle.std.proofs.Common.{◌∙◌, ap, sym, Option, Some, is_some}
 use Rattle.std.specs.Option.{option_map}
 use Rattle.clfs_cursor.specs.Kept.{cursor_by, kind_of, last_of}
 use Rattle.clfs_cursor.specs.declared.keys.Numbered.{Numbered}

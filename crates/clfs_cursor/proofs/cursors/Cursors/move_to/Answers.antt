@@ -1,4 +1,4 @@
-use Rattle.std.proofs.Common.{◌≡◌, ap, sym, List, Option, Some}
+use Rattle.std.proofs.Common.{List}
 use Rattle.std.specs.Prelude.{map}
 use Rattle.slab.specs.Slab.{get}
 use Rattle.clfs_model.specs.declared.state.Cursor.{Cursor}

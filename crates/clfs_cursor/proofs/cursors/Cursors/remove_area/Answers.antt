@@ -1,4 +1,4 @@
-use Rattle.std.proofs.Common.{◌≡◌, ℕ, ◌+◌, ◌<◌, ◌≤◌, ◌∙◌, ap, sym, subst, refl, List, length, map, None, is_some, cond}
+use Rattle.std.proofs.Common.{◌≡◌, ℕ, ◌+◌, ◌≤◌, ◌∙◌, ap, sym, subst, refl, List, length, map, None, is_some, cond}
 use Rattle.std.specs.Prelude.{count_by}
 use Rattle.std.specs.List.{remove}
 use Rattle.slab.specs.Slab.{get, slab_len}

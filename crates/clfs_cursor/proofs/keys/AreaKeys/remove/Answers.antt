@@ -1,8 +1,7 @@
-use Rattle.std.proofs.Common.{◌≡◌, ap, refl, rules, tests, arith}
+use Rattle.std.proofs.Common.{◌≡◌, refl, rules, tests, arith}
 use Rattle.std.specs.Prelude.{not, ◌==◌, filter}
 use Rattle.std.proofs.lemmas.Fn.{filter_same}
 use Rattle.clfs_cursor.specs.declared.keys.Numbered.{Numbered}
-use Rattle.clfs_cursor.specs.Keys.{Keys}
 use Rattle.clfs_cursor.proofs.Counts.{filter_is_different}
 use Rattle.clfs_cursor.proofs.keys.AreaKeys.remove.Goals as goal
 
