@@ -10,7 +10,8 @@ mod encoder;
 mod refusal;
 
 pub use decoder::{
-    decode, decode_head, no_spelling_begins_another, records_are_read_as_written, stream_in, stream_of,
+    decode, decode_head, no_spelling_begins_another, records_are_read_as_written, stream_in,
+    stream_of,
 };
 pub use encoder::encode;
 pub use refusal::{HeadRefusal, RecordRefusal};

@@ -1,5 +1,5 @@
 -- The open blocks of a container as the walk meets them.
-use Rattle.std.proofs.Common.{◌≡◌, inl, inr, ⊎_elim, ℕ, ◌+◌, ◌-◌, ◌*◌, ◌/◌, ◌%◌, ◌^◌, ◌<◌, ◌≤◌, Bool, true, false, cond, not, eqb, ltb, List, [], ◌∷◌, ◌++◌, length, get_or, take, drop}
+use Rattle.std.proofs.Common.{◌≡◌, inl, inr, ⊎_elim, ℕ, ◌+◌, ◌-◌, ◌*◌, ◌/◌, ◌%◌, ◌^◌, ◌<◌, ◌≤◌, Bool, true, false, cond, not, eqb, ltb, List, [], ◌∷◌, ◌++◌, length, get_or, drop}
 use Rattle.std.proofs.Common.{Option, Some, None, Result, Ok, Err, refl, sym, ◌∙◌, ap, subst, arith, append_assoc}
 use Rattle.std.proofs.lemmas.List.{append-nil, length-take-le, get_or-drop, drop-drop}
 use Rattle.std.proofs.lemmas.Bool.{le-leb, lt-leb, eq-eqb}
@@ -17,7 +17,7 @@ use Rattle.clfs_block.specs.declared.head.BlockHead.{BlockHead}
 use Rattle.clfs_block.specs.declared.head.BlockRefusal.{BlockRefusal}
 use Rattle.clfs_block.specs.declared.head.BlockRefusal.TheVariants as blocks
 use Rattle.clfs_block.specs.Records.{◌>>=◌, told_as, records_from, block_records}
-use Rattle.clfs_block.specs.RecordLaws.{framed_records, block_refused, block_framed, behind, behind-append, behind-nil, block_same}
+use Rattle.clfs_block.specs.RecordLaws.{block_refused, block_framed, behind, behind-append, behind-nil, block_same}
 use Rattle.clfs_recover.specs.Walk.{damage_at, end_at, blocks_records}
 use Rattle.clfs_recover.specs.Gathering.{HasTaken, GathersBlock, GathersContainer, RefusesAs}
 use Rattle.clfs_recover.specs.Fronts.{IsFrontOf}
