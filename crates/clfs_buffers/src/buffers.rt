@@ -3,16 +3,12 @@
 ghost use Rattle.std.specs.Prelude.{◌≡◌, ◌-◌, ◌≤◌, ◌==◌, ◌∷◌, List, [], drop, take, find, None, Some, Ok, IsSome, IfOk, OnOk, OnErr, IsErrOf};
 ghost use Rattle.std.specs.Map.{keys_of, lookup};
 ghost use Rattle.lru.specs.LruCache.{lru_cache};
-ghost use Rattle.std.specs.Option.{ok_or};
-ghost use Rattle.clfs_lsn.specs.Limits.{most_block_records};
 ghost use Rattle.clfs_lsn.specs.Lsn.{offset_of};
 ghost use Rattle.clfs_lsn.specs.Size.{IsShape};
 ghost use Rattle.clfs_lsn.specs.declared.entry.LogEntry.{LogEntry};
 ghost use Rattle.clfs_disk.specs.Files.{Unchanged};
 ghost use Rattle.clfs_disk.specs.State.{TellsContents, IsSteady, Passes, Rises, raised};
-ghost use Rattle.clfs_block.specs.Records.{block_records};
-ghost use Rattle.clfs_buffers.specs.Reading.{block_place, first_lsn, record_in, record_by, Gives};
-ghost use Rattle.clfs_buffers.specs.Kept.{HaveLsns};
+ghost use Rattle.clfs_buffers.specs.Reading.{block_place, record_in, record_by, Gives};
 ghost use Rattle.clfs_buffers.specs.Buffered.{is_same_place, kept_at, with_used, without_container, IsAdded};
 
 use crate::kept::KeptBlock;
