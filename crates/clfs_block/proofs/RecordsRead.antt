@@ -1,5 +1,5 @@
 -- What is known of the records that are read of a block.
-use Rattle.std.proofs.Common.{◌≡◌, ℕ, zero, suc, ◌+◌, ◌-◌, ◌*◌, ◌/◌, ◌<◌, ◌≤◌, Bool, true, false, cond, eqb, ltb, leb, not, ◌||◌, List, [], ◌∷◌, ◌++◌, length, take, drop, Option, Some, None, Result, Ok, Err}
+use Rattle.std.proofs.Common.{◌≡◌, ℕ, zero, suc, ◌+◌, ◌≤◌, Bool, true, false, cond, eqb, ltb, leb, not, ◌||◌, List, [], ◌∷◌, length, take, drop, Option, Some, None, Result, Ok, Err}
 use Rattle.std.proofs.Common.{refl, sym, ◌∙◌, ap, subst, arith, length-drop}
 use Rattle.std.specs.Prelude.{slice_get, if◌then◌else◌}
 use Rattle.std.proofs.lemmas.List.{length-take}
@@ -7,14 +7,14 @@ use Rattle.std.proofs.lemmas.Option.{slice_get_within}
 use Rattle.std.proofs.lemmas.Bool.{ltb-false}
 use Rattle.std.proofs.lemmas.Bool.Decides.{nat_tests}
 use Rattle.clfs_lsn.specs.Checks.{unless_wrong, unless_ok, no_fault, pass_check, guard_ok}
-use Rattle.clfs_lsn.specs.Size.{sectors, size, longest}
+use Rattle.clfs_lsn.specs.Size.{size, longest}
 use Rattle.clfs_lsn.specs.Spelling.{Header, record_at, header_of, header_fault, filling_fault, is_wrong_base, entry_of}
 use Rattle.clfs_lsn.specs.declared.entry.LogEntry.{LogEntry}
 use Rattle.clfs_lsn.specs.declared.shape.Shape.{Shape}
-use Rattle.clfs_block.specs.Frame.{place_of, payload_of}
-use Rattle.clfs_block.specs.Checks.{frame_at, rest_at, HasFrame}
+use Rattle.clfs_block.specs.Frame.{payload_of}
+use Rattle.clfs_block.specs.Checks.{frame_at, rest_at}
 use Rattle.clfs_block.specs.Records.{◌>>=◌, told_as, records_from, block_records}
-use Rattle.clfs_block.specs.RecordLaws.{behind, framed_records, block_refused, block_framed, block_read, record_taken, record_wrong}
+use Rattle.clfs_block.specs.RecordLaws.{behind, block_refused, block_framed, block_read, record_taken, record_wrong}
 use Rattle.clfs_block.specs.declared.head.BlockHead.{BlockHead}
 use Rattle.clfs_block.specs.declared.head.BlockRefusal.{BlockRefusal}
 use Rattle.clfs_block.specs.declared.head.BlockRefusal.TheVariants.{BadByte}

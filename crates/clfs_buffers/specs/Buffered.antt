@@ -1,12 +1,12 @@
 -- The blocks that are kept: where each lies and the records that were read there, the one used last first.
-use Rattle.std.specs.Prelude.{◌≡◌, ℕ, ◌+◌, ◌-◌, ◌==◌, ◌&&◌, Bool, not, List, [], ◌∷◌, take, filter, Contains, Option, Ok}
+use Rattle.std.specs.Prelude.{◌≡◌, ℕ, ◌-◌, ◌==◌, ◌&&◌, Bool, not, List, ◌∷◌, take, filter, Contains, Option, Ok}
 use Rattle.std.specs.Map.{lookup}
 use Rattle.lru.specs.LruCache.{LruCache, promoted}
 use Rattle.clfs_lsn.specs.declared.entry.LogEntry.{LogEntry}
 use Rattle.clfs_lsn.specs.declared.shape.Shape.{Shape}
 use Rattle.clfs_block.specs.Records.{block_records}
 use Rattle.clfs_buffers.specs.declared.place.BlockPlace.{BlockPlace}
-use Rattle.clfs_buffers.specs.Reading.{first_lsn}
+use Rattle.clfs_buffers.specs.Reading.{block_place, first_lsn, record_in}
 use Rattle.clfs_buffers.specs.Kept.{HaveLsns}
 
 -- the most blocks that are kept
@@ -41,6 +41,15 @@ without_container container blocks = filter (λ (block : BlockPlace × List LogE
 pub record IsRead (shape : Shape) (streams : ℕ) (place : BlockPlace) (records : List LogEntry) : Type 0 where
   pub bytes : List ℕ
   pub is : block_records shape streams (first_lsn place) bytes ≡ Ok records
+
+-- A block was read for the record at an LSN, and is kept: these are its records, and the record is among them. Where it is told what the file
+-- has there, they are those that it has.
+pub record IsAdded (shape : Shape) (streams lsn : ℕ) (told : Type 0) (there : List ℕ) (entry : LogEntry) (old new : Buffered) : Type 0 where
+  pub records : List LogEntry
+  pub kept : new ≡ with_block (block_place lsn) records old
+  pub found : record_in lsn records ≡ Ok entry
+  pub read : IsRead shape streams (block_place lsn) records
+  pub same : told → block_records shape streams (first_lsn (block_place lsn)) there ≡ Ok records
 
 -- What a table of blocks is: there is room for so many, and each block's records have the LSNs of its place.
 pub record IsBuffered (table : LruCache BlockPlace (List LogEntry)) : Type 0 where

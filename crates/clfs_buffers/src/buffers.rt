@@ -3,17 +3,13 @@
 ghost use Rattle.std.specs.Prelude.{◌≡◌, ◌-◌, ◌≤◌, ◌==◌, ◌∷◌, List, [], drop, take, find, None, Some, Ok, IsSome, IfOk, OnOk, OnErr, IsErrOf};
 ghost use Rattle.std.specs.Map.{keys_of, lookup};
 ghost use Rattle.lru.specs.LruCache.{lru_cache};
-ghost use Rattle.std.specs.Option.{ok_or};
-ghost use Rattle.clfs_lsn.specs.Limits.{most_block_records};
 ghost use Rattle.clfs_lsn.specs.Lsn.{offset_of};
 ghost use Rattle.clfs_lsn.specs.Size.{IsShape};
 ghost use Rattle.clfs_lsn.specs.declared.entry.LogEntry.{LogEntry};
 ghost use Rattle.clfs_disk.specs.Files.{Unchanged};
 ghost use Rattle.clfs_disk.specs.State.{TellsContents, IsSteady, Passes, Rises, raised};
-ghost use Rattle.clfs_block.specs.Records.{block_records};
-ghost use Rattle.clfs_buffers.specs.Reading.{block_place, first_lsn, record_in, record_by, Gives};
-ghost use Rattle.clfs_buffers.specs.Kept.{HaveLsns};
-ghost use Rattle.clfs_buffers.specs.Buffered.{is_same_place, kept_at, with_used, with_block, without_container, IsRead};
+ghost use Rattle.clfs_buffers.specs.Reading.{block_place, record_in, record_by, Gives};
+ghost use Rattle.clfs_buffers.specs.Buffered.{is_same_place, kept_at, with_used, without_container, IsAdded};
 
 use crate::kept::KeptBlock;
 use crate::place::BlockPlace;
@@ -27,10 +23,11 @@ use std::marker::Model;
 use std::mem;
 use std::num::NonZeroUsize;
 
-/// The most blocks that are kept.
-pub const MOST_BLOCKS: usize = 32;
+// The most blocks that are kept.
+const MOST_BLOCKS: usize = 32;
 
-/// The blocks that were read. A contract sees where each lies and its records, the one used last first.
+/// The blocks that were read and are kept. A contract sees where each lies and its records, the one used last first. Besides them it has the
+/// memory of one more block, and that of a largest block's bytes, which are taken when a block is first read and serve all later reads.
 #[derive(Drop)]
 pub struct Buffers {
     alloc: Global,
@@ -65,7 +62,7 @@ impl Buffers {
         })
     }
 
-    /// The record at an LSN of a log of so many streams, whose container lies in this file.
+    /// The record at an LSN of a log of this shape and of so many streams. `file` is the number of the file that the LSN's container lies in.
     pub fn read<D: Disk>(
         &mut self,
         disk: &mut D,
@@ -77,19 +74,16 @@ impl Buffers {
         requires shape { IsShape shape.now }
         requires file { file ≤ 256 }
 
-        // A block that is kept answers from its records, and is then the one used last. The disk isn't called.
+        // A block that is kept answers from its records, and is then the one used last. The disk isn't called, so it is no fault of its.
         ensures kept { (records : List LogEntry) → kept_at (block_place lsn) self.old ≡ Some records → Gives result (record_in lsn records) }
         ensures used { IsSome (kept_at (block_place lsn) self.old) → OnOk result (self.new ≡ with_used (block_place lsn) self.old) }
-        ensures quiet { IsSome (kept_at (block_place lsn) self.old) → disk.new ≡ disk.old }
+        ensures quiet { IsSome (kept_at (block_place lsn) self.old) → (disk.new ≡ disk.old) × (IsErrOf result ReadRefusal.DiskFault → ⊥) }
 
         // One that isn't kept answers what the file has there, and is kept.
         ensures read { kept_at (block_place lsn) self.old ≡ None → TellsContents (D.state disk.old)
             → Gives result (record_by shape.now streams lsn (drop (offset_of lsn) ((D.state disk.old).files file))) }
-        ensures joins { kept_at (block_place lsn) self.old ≡ None → IfOk result (λ entry. (records : List LogEntry)
-            × (self.new ≡ with_block (block_place lsn) records self.old) × (record_in lsn records ≡ Ok entry)
-            × IsRead shape.now streams (block_place lsn) records
-            × (TellsContents (D.state disk.old)
-            → block_records shape.now streams (first_lsn (block_place lsn)) (drop (offset_of lsn) ((D.state disk.old).files file)) ≡ Ok records)) }
+        ensures joins { kept_at (block_place lsn) self.old ≡ None → IfOk result (λ entry. IsAdded shape.now streams lsn (TellsContents (D.state disk.old))
+            (drop (offset_of lsn) ((D.state disk.old).files file)) entry self.old self.new) }
 
         // After a refusal the blocks that are kept are as before.
         ensures refused { OnErr result (self.new ≡ self.old) }

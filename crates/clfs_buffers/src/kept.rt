@@ -1,6 +1,6 @@
 // One block that is kept: its used payload, in which each record stands in one piece, and the bytes at which the records begin. So a
 // record is found at once, wherever in the block it stands, and its data is copied once.
-ghost use Rattle.std.specs.Prelude.{◌≡◌, ◌+◌, ◌^◌, ◌<◌, ◌≤◌, [], slice_get, IfOk, IsErrOf};
+ghost use Rattle.std.specs.Prelude.{◌≡◌, ◌+◌, ◌^◌, ◌<◌, [], slice_get, IfOk, IsErrOf};
 ghost use Rattle.std.specs.Option.{ok_or};
 ghost use Rattle.clfs_lsn.specs.Limits.{most_block_records};
 ghost use Rattle.clfs_lsn.specs.Size.{IsShape};

@@ -17,7 +17,7 @@ mod reading;
 mod refusal;
 mod starts;
 
-pub use buffers::{Buffers, MOST_BLOCKS};
+pub use buffers::Buffers;
 pub use laws::changes_keep_blocks;
 pub use place::BlockPlace;
 pub use refusal::ReadRefusal;

@@ -1,13 +1,12 @@
 // The records of one block's payload, each handed on once all of it but its data was judged, and the bases of the streams, which restart
 // areas raise.
-ghost use Rattle.std.specs.Prelude.{◌≡◌, ◌+◌, ◌-◌, ◌*◌, ◌/◌, ◌%◌, ◌^◌, ◌<◌, ◌≤◌, max, ℕ, List, [], ◌∷◌, ◌++◌, length, slice_index, vec_len, IfOk, IfErr, IsErrOf, Ok, Err};
-ghost use Rattle.clfs_lsn.specs.Format.{sector_payload, block_header, record_header};
+ghost use Rattle.std.specs.Prelude.{◌≡◌, ◌+◌, ◌-◌, ◌^◌, ◌<◌, ◌≤◌, max, ℕ, List, [], ◌∷◌, ◌++◌, length, vec_len, IfOk, IfErr, IsErrOf, Ok, Err};
+ghost use Rattle.clfs_lsn.specs.Format.{block_header};
 ghost use Rattle.clfs_lsn.specs.Limits.{most_block_records};
 ghost use Rattle.clfs_lsn.specs.Lsn.{lsn_number};
-ghost use Rattle.clfs_lsn.specs.Spelling.{record_at, header_of};
+ghost use Rattle.clfs_lsn.specs.Spelling.{record_at};
 ghost use Rattle.clfs_lsn.specs.declared.entry.LogEntry.{LogEntry};
 ghost use Rattle.clfs_base.specs.declared.image.Row.{Row};
-ghost use Rattle.clfs_block.specs.Frame.{place_of};
 ghost use Rattle.clfs_block.specs.Records.{told_as, records_from};
 ghost use Rattle.clfs_recover.specs.Gathering.{HasTaken, Gathers, GathersOne, IsNear};
 ghost use Rattle.clfs_recover.specs.Bases.{raised};

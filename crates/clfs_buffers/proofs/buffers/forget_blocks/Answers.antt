@@ -1,10 +1,9 @@
-use Rattle.std.proofs.Common.{◌≡◌, ℕ, List, Some, sym, ◌∙◌, ap, arith}
-use Rattle.std.specs.Prelude.{find, length}
-use Rattle.std.specs.Map.{keys_of, remove_entry}
+use Rattle.std.proofs.Common.{ℕ, List, sym, ◌∙◌, ap, arith}
+use Rattle.std.specs.Prelude.{length}
 use Rattle.lru.specs.LruCache.{LruCache, lru_cache}
 use Rattle.clfs_lsn.specs.declared.entry.LogEntry.{LogEntry}
 use Rattle.clfs_buffers.specs.declared.place.BlockPlace.{BlockPlace}
-use Rattle.clfs_buffers.specs.Buffered.{Buffered, is_same_place, without_container}
+use Rattle.clfs_buffers.specs.Buffered.{Buffered, without_container}
 use Rattle.clfs_buffers.proofs.Changes.{forgot_one, one_fewer, none_goes}
 use Rattle.clfs_buffers.proofs.buffers.forget_blocks.Goals as goal
 

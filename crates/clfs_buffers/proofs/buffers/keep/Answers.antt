@@ -1,4 +1,4 @@
-use Rattle.std.proofs.Common.{◌∙◌, ap, List}
+use Rattle.std.proofs.Common.{◌∙◌, ap}
 use Rattle.lru.specs.LruCache.{lru_cache}
 use Rattle.clfs_buffers.specs.Buffered.{Buffered, is_same_place}
 use Rattle.clfs_buffers.proofs.Changes.{put_first}

@@ -1,4 +1,4 @@
-use Rattle.std.proofs.Common.{◌≡◌, ◌⊎◌, inl, inr, ⊎_elim, ℕ, ◌+◌, ◌-◌, ◌*◌, ◌<◌, ◌≤◌, List, ◌++◌, length, take, drop, Result, Ok, Err, refl, sym, ◌∙◌, ap, subst, arith, length-drop}
+use Rattle.std.proofs.Common.{◌≡◌, inr, ⊎_elim, ℕ, ◌-◌, ◌*◌, ◌<◌, ◌≤◌, List, ◌++◌, length, take, drop, Result, Err, sym, ◌∙◌, ap, subst, arith, length-drop}
 use Rattle.std.proofs.lemmas.List.{take-take, take-append-le, take_all}
 use Rattle.std.proofs.lemmas.Bool.{cases_lt}
 use Rattle.clfs_lsn.specs.Size.{IsShape}
@@ -29,11 +29,18 @@ read_front n room len out items file at size len_is count is =
     (λ (full : room ≤ length file - at). let same : n ≡ room = omega (arith, count, full) in ap (λ (k : ℕ). take k (drop at file)) same)
     (cases_lt (length file - at) room)
 
--- A block is read of the front that a read gives.
-read_there : AreJudgedAlone → AreReadAsWritten → (shape : Shape) (streams start : ℕ) (there front : List ℕ) → IsShape shape
-    → front ≡ take (512 * shape.block_sectors) there → block_records shape streams start front ≡ block_records shape streams start there
-read_there judged written shape streams start there front good is =
-    ap (block_records shape streams start) is ∙ block_same judged written.holds shape streams start there (512 * shape.block_sectors)
+-- A block is read of what a read into a buffer gives.
+read_there : AreJudgedAlone → AreReadAsWritten → (shape : Shape) (streams start : ℕ) (file : List ℕ) (at count len : ℕ) (buffer out items front : List ℕ)
+    → IsShape shape → length buffer ≡ 512 * shape.block_sectors → length out ≡ length buffer → len ≡ 512 * shape.block_sectors
+    → front ≡ take len (out ++ drop (length out) items)
+    → (count ≡ found_count file at (length buffer)) × (take count out ≡ take count (drop at file))
+    → block_records shape streams start (take count front) ≡ block_records shape streams start (drop at file)
+read_there judged written shape streams start file at count len buffer out items front good whole same_room len_is front_is found =
+    let room = 512 * shape.block_sectors in
+    let first : take count front ≡ take room (drop at file) =
+    ap (λ (l : List ℕ). take count l) front_is
+    ∙ read_front count room len out items file at (same_room ∙ whole) len_is (found.0 ∙ ap (λ (n : ℕ). found_count file at n) whole) found.1 in
+    ap (block_records shape streams start) first ∙ block_same judged written.holds shape streams start (drop at file) room
     (record { first = omega (arith, good.some_sectors); all = inr (omega arith) })
 
 -- the refusal of a block is that of a record in it
@@ -45,37 +52,17 @@ told_refusal NoMemory read is = tt
 
 pub returns-in-Ok-clause-exact : goal.returns-in-Ok-clause-exact
 returns-in-Ok-clause-exact g c tells =
-    let file = (g.D.Disk.state c.args.disk.now).files c.args.file in
-    let there = drop c.args.place.offset file in
-    let start = first_lsn c.args.place in
-    let room = 512 * c.args.shape.now.block_sectors in
-    let found = c.in_ok-count.ensures.found tells in
-    let buffer : length c.deref_mut.result.now ≡ room = omega (arith, c.deref_mut.ensures.len, c.in_ok-resize.ensures.len) in
-    let out : length c.read_block.new.out ≡ room = omega (arith, buffer, c.read_block.auto.out) in
-    let len : c.resize.new.self.len ≡ room = omega (arith, c.resize.new.self.ok.0, c.in_ok-resize.ensures.len) in
-    let front : take c.in_ok-count.count c.deref.result.now ≡ take room there =
-    ap (λ (l : List ℕ). take c.in_ok-count.count l) c.deref.ensures.value
-    ∙ read_front c.in_ok-count.count room c.resize.new.self.len c.read_block.new.out c.resize.new.self.items file c.args.place.offset out len
-    (found.0 ∙ ap (λ (n : ℕ). found_count file c.args.place.offset n) buffer) found.1 in
-    let same = read_there c.blocks_are_judged_alone.ensures c.blocks_are_read_as_written.ensures c.args.shape.now c.args.streams start there
-    (take c.in_ok-count.count c.deref.result.now) c.requires.shape front in
+    let same = read_there c.blocks_are_judged_alone.ensures c.blocks_are_read_as_written.ensures c.args.shape.now c.args.streams (first_lsn c.args.place)
+    ((g.D.Disk.state c.args.disk.now).files c.args.file) c.args.place.offset c.in_ok-count.count c.resize.new.self.len c.deref_mut.result.now
+    c.read_block.new.out c.resize.new.self.items c.deref.result.now c.requires.shape (c.deref_mut.ensures.len ∙ c.in_ok-resize.ensures.len)
+    c.read_block.auto.out c.in_ok-resize.ensures.len c.deref.ensures.value (c.in_ok-count.ensures.found tells) in
     ap (λ (r : Result (List LogEntry) BlockRefusal). told_as refused_at r) (sym same ∙ c.in-Ok.ensures.exact)
 
 pub returns-in-Err-clause-exact : goal.returns-in-Err-clause-exact
 returns-in-Err-clause-exact g c tells =
-    let file = (g.D.Disk.state c.args.disk.now).files c.args.file in
-    let there = drop c.args.place.offset file in
-    let start = first_lsn c.args.place in
-    let room = 512 * c.args.shape.now.block_sectors in
-    let found = c.in_ok-count.ensures.found tells in
-    let buffer : length c.deref_mut.result.now ≡ room = omega (arith, c.deref_mut.ensures.len, c.in_ok-resize.ensures.len) in
-    let out : length c.read_block.new.out ≡ room = omega (arith, buffer, c.read_block.auto.out) in
-    let len : c.resize.new.self.len ≡ room = omega (arith, c.resize.new.self.ok.0, c.in_ok-resize.ensures.len) in
-    let front : take c.in_ok-count.count c.deref.result.now ≡ take room there =
-    ap (λ (l : List ℕ). take c.in_ok-count.count l) c.deref.ensures.value
-    ∙ read_front c.in_ok-count.count room c.resize.new.self.len c.read_block.new.out c.resize.new.self.items file c.args.place.offset out len
-    (found.0 ∙ ap (λ (n : ℕ). found_count file c.args.place.offset n) buffer) found.1 in
-    let same = read_there c.blocks_are_judged_alone.ensures c.blocks_are_read_as_written.ensures c.args.shape.now c.args.streams start there
-    (take c.in_ok-count.count c.deref.result.now) c.requires.shape front in
-    rw c.refused.ensures (told_refusal c.in-Err.refusal (block_records c.args.shape.now c.args.streams start there)
+    let same = read_there c.blocks_are_judged_alone.ensures c.blocks_are_read_as_written.ensures c.args.shape.now c.args.streams (first_lsn c.args.place)
+    ((g.D.Disk.state c.args.disk.now).files c.args.file) c.args.place.offset c.in_ok-count.count c.resize.new.self.len c.deref_mut.result.now
+    c.read_block.new.out c.resize.new.self.items c.deref.result.now c.requires.shape (c.deref_mut.ensures.len ∙ c.in_ok-resize.ensures.len)
+    c.read_block.auto.out c.in_ok-resize.ensures.len c.deref.ensures.value (c.in_ok-count.ensures.found tells) in
+    rw c.refused.ensures (told_refusal c.in-Err.refusal _
     (subst (λ (r : Result (List LogEntry) BlockRefusal). RefusesAs c.in-Err.refusal r) same c.in-Err.ensures.exact))

@@ -1,5 +1,5 @@
 use Rattle.std.proofs.Common.{◌≡◌, ◌+◌, ◌-◌, ◌≤◌, length}
-use Rattle.std.specs.Prelude.{vec_len, vec_capacity}
+use Rattle.std.specs.Prelude.{vec_capacity}
 use Rattle.clfs_block.specs.Records.{records_from}
 use Rattle.clfs_block.specs.RecordLaws.{behind}
 use Rattle.clfs_buffers.specs.Reading.{first_lsn}

@@ -1,17 +1,15 @@
-use Rattle.std.proofs.Common.{◌≡◌, ℕ, ◌+◌, ◌-◌, ◌∷◌, List, drop, take, Option, Some, None, Result, Ok, Err, sym, ◌∙◌, ap, subst, arith}
+use Rattle.std.proofs.Common.{◌≡◌, ℕ, ◌+◌, List, drop, Option, Some, None, Result, Ok, Err, sym, ◌∙◌, ap, subst, arith}
 use Rattle.std.proofs.lemmas.Result.{err_from_is_err_and}
 use Rattle.std.specs.Prelude.{slice_get}
 use Rattle.std.specs.Option.{ok_or, option_copied}
-use Rattle.lru.specs.LruCache.{LruCache}
 use Rattle.clfs_lsn.specs.Lsn.{offset_of, sequence_of}
 use Rattle.clfs_lsn.specs.declared.entry.LogEntry.{LogEntry}
-use Rattle.clfs_lsn.specs.declared.shape.Shape.{Shape}
 use Rattle.clfs_block.specs.Records.{told_as, block_records}
 use Rattle.clfs_block.specs.declared.head.BlockRefusal.{BlockRefusal}
 use Rattle.clfs_buffers.specs.declared.place.BlockPlace.{BlockPlace}
 use Rattle.clfs_buffers.specs.Reading.{block_place, first_lsn, refused_at, Gives}
 use Rattle.clfs_buffers.specs.Kept.{HaveLsns}
-use Rattle.clfs_buffers.specs.Buffered.{Buffered, with_block, IsRead}
+use Rattle.clfs_buffers.specs.Buffered.{IsRead}
 use Rattle.clfs_buffers.proofs.Changes.{kept_is, not_both, not_some, one_block, found_lsns, used_stays, joined_stays, joined_is}
 use Rattle.clfs_buffers.proofs.buffers.Buffers.read.Goals as goal
 
@@ -121,13 +119,13 @@ pub returns-clause-joins : goal.returns-clause-joins
 returns-clause-joins g c none =
     let is = c.of-place.ensures.place in
     let block = c.in_ok-block.block in
-    let file = (g.D.Disk.state c.args.disk.now).files c.args.file in (
-      block,
-      joined_is c.self.inside.table c.keep.new.table c.args.self.now c.of-place.result (block_place c.args.lsn) block c.self.invariant.room c.self.view_is is
-          c.in_ok-keep.ensures.ok,
-      sym (λ i. ok_or {E = ℕ} (slice_get block (c.sequence-2.ensures.value i)) 4) ∙ c.in_ok-entry-2.ensures.exact,
-      subst (λ (p : BlockPlace). IsRead c.args.shape.now c.args.streams p block) is c.in_ok-block.ensures.read,
-      λ tells. told_ok (block_records c.args.shape.now c.args.streams (first_lsn (block_place c.args.lsn)) (drop (offset_of c.args.lsn) file)) block
+    let file = (g.D.Disk.state c.args.disk.now).files c.args.file in record {
+      records = block;
+      kept = joined_is c.self.inside.table c.keep.new.table c.args.self.now c.of-place.result (block_place c.args.lsn) block c.self.invariant.room c.self.view_is is
+          c.in_ok-keep.ensures.ok;
+      found = sym (λ i. ok_or {E = ℕ} (slice_get block (c.sequence-2.ensures.value i)) 4) ∙ c.in_ok-entry-2.ensures.exact;
+      read = subst (λ (p : BlockPlace). IsRead c.args.shape.now c.args.streams p block) is c.in_ok-block.ensures.read;
+      same = λ tells. told_ok (block_records c.args.shape.now c.args.streams (first_lsn (block_place c.args.lsn)) (drop (offset_of c.args.lsn) file)) block
           (sym (λ i. told_as refused_at (block_records c.args.shape.now c.args.streams (first_lsn (is i)) (drop (is i).offset file)))
-          ∙ c.in_ok-block.ensures.exact tells),
-    )
+          ∙ c.in_ok-block.ensures.exact tells);
+    }

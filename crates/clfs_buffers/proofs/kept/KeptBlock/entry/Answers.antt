@@ -1,4 +1,4 @@
-use Rattle.std.proofs.Common.{◌≡◌, ℕ, ◌+◌, List, length, Option, Some, None, Result, Ok, Err, get_or, drop, sym, ◌∙◌, ap, arith, length-drop}
+use Rattle.std.proofs.Common.{◌≡◌, ℕ, ◌+◌, List, length, Option, Some, Result, Ok, Err, get_or, drop, sym, ◌∙◌, ap, arith, length-drop}
 use Rattle.std.specs.Option.{ok_or}
 use Rattle.std.specs.Prelude.{slice_get}
 use Rattle.clfs_lsn.specs.Spelling.{record_at, entry_of}

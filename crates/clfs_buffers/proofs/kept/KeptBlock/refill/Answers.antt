@@ -1,9 +1,9 @@
-use Rattle.std.proofs.Common.{◌≡◌, ℕ, ◌+◌, List, length, Result, Ok, Err, sym, ◌∙◌, ap, subst, arith}
+use Rattle.std.proofs.Common.{◌≡◌, ℕ, ◌+◌, List, Result, Ok, Err, sym, ◌∙◌, ap, subst, arith}
 use Rattle.std.proofs.lemmas.Result.{err_from_is_err_and}
 use Rattle.clfs_lsn.specs.declared.entry.LogEntry.{LogEntry}
 use Rattle.clfs_lsn.specs.declared.shape.Shape.{Shape}
 use Rattle.clfs_block.specs.Frame.{payload_of}
-use Rattle.clfs_block.specs.Checks.{frame_at, rest_at}
+use Rattle.clfs_block.specs.Checks.{frame_at}
 use Rattle.clfs_block.specs.Records.{told_as, records_from, block_records}
 use Rattle.clfs_block.specs.RecordLaws.{block_refused, records_refused, rest_refused, block_read}
 use Rattle.clfs_block.specs.declared.head.BlockHead.{BlockHead}
@@ -13,6 +13,9 @@ use Rattle.clfs_buffers.specs.Reading.{first_lsn}
 use Rattle.clfs_buffers.specs.Kept.{RefusesAs, records_at}
 use Rattle.clfs_buffers.proofs.Positions.{have_lsns}
 use Rattle.clfs_buffers.proofs.kept.KeptBlock.refill.Goals as goal
+
+abbrev found : List LogEntry → Result (List LogEntry) BlockRefusal
+found records = Ok records
 
 -- a refusal that reading tells
 refuses : (refusal : BlockRefusal) (read : Result (List LogEntry) BlockRefusal) → read ≡ Err refusal → RefusesAs refusal read
@@ -45,60 +48,52 @@ refused_record shape streams start bytes payload head refusal frame filled refus
         (subst (λ (l : List ℕ). records_from streams l head.records start 16 ≡ Err at) filled (by_read (records_from streams payload head.records start 16) at is))
     by_case NoMemory is = tt
 
--- the first record of a block has the block's own LSN
-first : (place lsn : ℕ) → lsn ≡ place + 0 → lsn ≡ place
-first place lsn is = omega (arith, is)
+-- the head of a block's frame is that at the LSN of its first record
+framed_at : (shape : Shape) (lsn start : ℕ) (bytes : List ℕ) (answer : Result BlockHead BlockRefusal) → lsn ≡ start + 0 → answer ≡ frame_at shape lsn bytes
+    → frame_at shape start bytes ≡ answer
+framed_at shape lsn start bytes answer first is =
+    let same : start ≡ lsn = omega (arith, first) in ap (λ (n : ℕ). frame_at shape n bytes) same ∙ sym is
+
+-- records that begin at these places of a payload are those of the block
+right_records : (streams start : ℕ) (bytes payload : List ℕ) (head : BlockHead) (starts : List ℕ) → payload ≡ payload_of head.used bytes
+    → told_as BadByte (records_from streams payload head.records start 16) ≡ Ok (records_at payload start starts)
+    → records_from streams (payload_of head.used bytes) head.records start 16 ≡ Ok (records_at payload start starts)
+right_records streams start bytes payload head starts filled right = subst (λ (l : List ℕ). records_from streams l head.records start 16
+    ≡ Ok (records_at payload start starts)) filled (told_ok (records_from streams payload head.records start 16) (records_at payload start starts) right)
 
 pub returns-in_err-head-clause-exact : goal.returns-in_err-head-clause-exact
 returns-in_err-head-clause-exact c =
     let p = err_from_is_err_and c.from_residual.result c.from_residual.ensures.1 in
-    let start = first_lsn c.args.place in
-    let at = first start c.lsn.result c.lsn.ensures in
-    rw (p.1, p.2) (refuses c.in_err-head.field-0.0 (block_records c.args.shape.now c.args.streams start c.args.bytes.now)
-    (block_refused c.args.shape.now c.args.streams start c.args.bytes.now c.in_err-head.field-0.0
-    (ap (λ (n : ℕ). frame_at c.args.shape.now n c.args.bytes.now) (sym at) ∙ sym c.in_err-head.ensures.exact)))
+    let frame = framed_at c.args.shape.now c.lsn.result (first_lsn c.args.place) c.args.bytes.now _ c.lsn.ensures c.in_err-head.ensures.exact in
+    rw (p.1, p.2) (refuses c.in_err-head.field-0.0 _
+    (block_refused c.args.shape.now c.args.streams (first_lsn c.args.place) c.args.bytes.now c.in_err-head.field-0.0 frame))
 
 pub returns-in_err-find_starts-clause-exact : goal.returns-in_err-find_starts-clause-exact
 returns-in_err-find_starts-clause-exact c =
     let p = err_from_is_err_and c.from_residual-in_err-find_starts.result c.from_residual-in_err-find_starts.ensures.1 in
-    let start = first_lsn c.args.place in
-    let at = first start c.lsn.result c.lsn.ensures in
-    let frame = ap (λ (n : ℕ). frame_at c.args.shape.now n c.args.bytes.now) (sym at) ∙ sym c.in_ok-head.ensures.exact in
-    let filled = c.as_slice.ensures ∙ c.in_ok-fill_payload.ensures.ok in
-    rw (p.1, p.2) (refused_record c.args.shape.now c.args.streams start c.args.bytes.now c.as_slice.result.now c.in_ok-head.head
-    c.in_err-find_starts.field-0.0 frame filled c.in_err-find_starts.ensures.found)
+    let frame = framed_at c.args.shape.now c.lsn.result (first_lsn c.args.place) c.args.bytes.now _ c.lsn.ensures c.in_ok-head.ensures.exact in
+    rw (p.1, p.2) (refused_record c.args.shape.now c.args.streams (first_lsn c.args.place) c.args.bytes.now c.as_slice.result.now c.in_ok-head.head
+    c.in_err-find_starts.field-0.0 frame (c.as_slice.ensures ∙ c.in_ok-fill_payload.ensures.ok) c.in_err-find_starts.ensures.found)
 
 pub returns-in_err-check_rest-clause-exact : goal.returns-in_err-check_rest-clause-exact
 returns-in_err-check_rest-clause-exact c =
     let p = err_from_is_err_and c.from_residual-in_err-check_rest.result c.from_residual-in_err-check_rest.ensures.1 in
-    let start = first_lsn c.args.place in
-    let at = first start c.lsn.result c.lsn.ensures in
-    let frame = ap (λ (n : ℕ). frame_at c.args.shape.now n c.args.bytes.now) (sym at) ∙ sym c.in_ok-head.ensures.exact in
-    let filled = c.as_slice.ensures ∙ c.in_ok-fill_payload.ensures.ok in
-    let right = told_ok (records_from c.args.streams c.as_slice.result.now c.in_ok-head.head.records start 16)
-    (records_at c.as_slice.result.now start c.find_starts.new.starts.items) c.in_ok-find_starts.ensures.found.0 in
-    let read = subst (λ (l : List ℕ). records_from c.args.streams l c.in_ok-head.head.records start 16
-    ≡ Ok (records_at c.as_slice.result.now start c.find_starts.new.starts.items)) filled right in
-    rw (p.1, p.2) (refuses c.in_err-check_rest.field-0.0 (block_records c.args.shape.now c.args.streams start c.args.bytes.now)
-    (rest_refused c.args.shape.now c.args.streams start c.args.bytes.now c.in_ok-head.head frame
-    (records_at c.as_slice.result.now start c.find_starts.new.starts.items) read c.in_err-check_rest.field-0.0 (sym c.in_err-check_rest.ensures)))
+    let frame = framed_at c.args.shape.now c.lsn.result (first_lsn c.args.place) c.args.bytes.now _ c.lsn.ensures c.in_ok-head.ensures.exact in
+    let read = right_records c.args.streams (first_lsn c.args.place) c.args.bytes.now c.as_slice.result.now c.in_ok-head.head c.find_starts.new.starts.items
+    (c.as_slice.ensures ∙ c.in_ok-fill_payload.ensures.ok) c.in_ok-find_starts.ensures.found.0 in
+    rw (p.1, p.2) (refuses c.in_err-check_rest.field-0.0 _
+    (rest_refused c.args.shape.now c.args.streams (first_lsn c.args.place) c.args.bytes.now c.in_ok-head.head frame
+    (records_at c.as_slice.result.now (first_lsn c.args.place) c.find_starts.new.starts.items) read c.in_err-check_rest.field-0.0
+    (sym c.in_err-check_rest.ensures)))
 
 pub returns-clause-exact : goal.returns-clause-exact
 returns-clause-exact c =
-    let start = first_lsn c.args.place in
-    let at = first start c.lsn.result c.lsn.ensures in
-    let frame = ap (λ (n : ℕ). frame_at c.args.shape.now n c.args.bytes.now) (sym at) ∙ sym c.in_ok-head.ensures.exact in
-    let filled = c.as_slice.ensures ∙ c.in_ok-fill_payload.ensures.ok in
-    let right = told_ok (records_from c.args.streams c.as_slice.result.now c.in_ok-head.head.records start 16)
-    (records_at c.as_slice.result.now start c.find_starts.new.starts.items) c.in_ok-find_starts.ensures.found.0 in
-    let read = subst (λ (l : List ℕ). records_from c.args.streams l c.in_ok-head.head.records start 16
-    ≡ Ok (records_at c.as_slice.result.now start c.find_starts.new.starts.items)) filled right in
-    let same : records_at c.as_slice.result.now start c.find_starts.new.starts.items ≡ records_at c.fill_payload.new.payload start c.find_starts.new.starts.items =
-    ap (λ (l : List ℕ). records_at l start c.find_starts.new.starts.items) c.as_slice.ensures in
-    block_read c.args.shape.now c.args.streams start c.args.bytes.now c.in_ok-head.head frame
-    (records_at c.fill_payload.new.payload start c.find_starts.new.starts.items)
-    (subst (λ (l : List LogEntry). records_from c.args.streams (payload_of c.in_ok-head.head.used c.args.bytes.now) c.in_ok-head.head.records start 16 ≡ Ok l) same read)
-    c.in_ok-check_rest.field-0 (sym c.in_ok-check_rest.ensures)
+    let frame = framed_at c.args.shape.now c.lsn.result (first_lsn c.args.place) c.args.bytes.now _ c.lsn.ensures c.in_ok-head.ensures.exact in
+    let read = right_records c.args.streams (first_lsn c.args.place) c.args.bytes.now c.as_slice.result.now c.in_ok-head.head c.find_starts.new.starts.items
+    (c.as_slice.ensures ∙ c.in_ok-fill_payload.ensures.ok) c.in_ok-find_starts.ensures.found.0 in
+    block_read c.args.shape.now c.args.streams (first_lsn c.args.place) c.args.bytes.now c.in_ok-head.head frame
+    (records_at c.as_slice.result.now (first_lsn c.args.place) c.find_starts.new.starts.items) read c.in_ok-check_rest.field-0 (sym c.in_ok-check_rest.ensures)
+    ∙ ap (λ (l : List ℕ). found (records_at l (first_lsn c.args.place) c.find_starts.new.starts.items)) c.as_slice.ensures
 
 pub returns-clause-lsns : goal.returns-clause-lsns
 returns-clause-lsns c = have_lsns c.fill_payload.new.payload (first_lsn c.args.place) c.find_starts.new.starts.items
