@@ -36,7 +36,7 @@ module _ (bytes : List ℕ) (count : ℕ) where
   byte : (k : ℕ) → k < count → get_or (take count bytes) k 0 ≡ get_or bytes k 0
   byte k lt = get_or-take count bytes k 0 lt
 
-  two : (at : ℕ) → at + 2 ≤ count → little_number 2 (drop at (take count bytes)) ≡ little_number 2 (drop at bytes)
+  pub two : (at : ℕ) → at + 2 ≤ count → little_number 2 (drop at (take count bytes)) ≡ little_number 2 (drop at bytes)
   two at le = omega (arith, two_bytes (take count bytes) at, two_bytes bytes at, byte at (omega (arith, le)), byte (at + 1) (omega (arith, le)))
 
   four : (at : ℕ) → at + 4 ≤ count → little_number 4 (drop at (take count bytes)) ≡ little_number 4 (drop at bytes)

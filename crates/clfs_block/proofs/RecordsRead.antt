@@ -1,5 +1,5 @@
 -- What is known of the records that are read of a block.
-use Rattle.std.proofs.Common.{◌≡◌, ℕ, zero, suc, ◌+◌, ◌≤◌, Bool, true, false, cond, eqb, ltb, leb, not, ◌||◌, List, [], ◌∷◌, length, take, drop, Option, Some, None, Result, Ok, Err}
+use Rattle.std.proofs.Common.{◌≡◌, ℕ, zero, suc, ◌+◌, ◌*◌, ◌≤◌, inl, Bool, true, false, cond, eqb, ltb, leb, not, ◌||◌, List, [], ◌∷◌, length, take, drop, Option, Some, None, Result, Ok, Err}
 use Rattle.std.proofs.Common.{refl, sym, ◌∙◌, ap, subst, arith, length-drop}
 use Rattle.std.specs.Prelude.{slice_get, if◌then◌else◌}
 use Rattle.std.proofs.lemmas.List.{length-take}
@@ -12,9 +12,12 @@ use Rattle.clfs_lsn.specs.Spelling.{Header, record_at, header_of, header_fault, 
 use Rattle.clfs_lsn.specs.declared.entry.LogEntry.{LogEntry}
 use Rattle.clfs_lsn.specs.declared.shape.Shape.{Shape}
 use Rattle.clfs_block.specs.Frame.{payload_of}
-use Rattle.clfs_block.specs.Checks.{frame_at, rest_at}
+use Rattle.byteorder.specs.Endian.{little_number}
+use Rattle.clfs_block.specs.Judging.{AreJudgedAlone}
+use Rattle.clfs_block.specs.Checks.{head_of, frame_at, rest_at}
 use Rattle.clfs_block.specs.Records.{◌>>=◌, told_as, records_from, block_records}
-use Rattle.clfs_block.specs.RecordLaws.{behind, block_refused, block_framed, block_read, record_taken, record_wrong}
+use Rattle.clfs_block.proofs.Fronts.{two}
+use Rattle.clfs_block.specs.RecordLaws.{block_same, behind, block_refused, block_framed, block_read, record_taken, record_wrong}
 use Rattle.clfs_block.specs.declared.head.BlockHead.{BlockHead}
 use Rattle.clfs_block.specs.declared.head.BlockRefusal.{BlockRefusal}
 use Rattle.clfs_block.specs.declared.head.BlockRefusal.TheVariants.{BadByte}
@@ -227,3 +230,19 @@ block_each shape streams start bytes entries is i entry found =
     let one = records_each streams (payload_of read.head.used bytes) read.head.records start 16 entries read.records i entry found in
     let long = length-payload_of read.head.used bytes in
     (one.0, omega (arith, one.1, long, frame.used, frame.largest))
+
+-- they are read of any bytes that agree on the block's own
+pub block_agrees : AreJudgedAlone → (shape : Shape) (streams start : ℕ) (bytes other : List ℕ) (count : ℕ) (entries : List LogEntry)
+    → block_records shape streams start bytes ≡ Ok entries → 512 * (head_of bytes).sectors ≤ count → take count other ≡ take count bytes
+    → block_records shape streams start other ≡ Ok entries
+block_agrees judged shape streams start bytes other count entries is enough same =
+    let read = read_of shape streams start bytes entries is in
+    let frame = has_frame shape start bytes read.head read.frame in
+    let said : read.head.sectors ≡ (head_of bytes).sectors = ap (λ (h : BlockHead). h.sectors) frame.numbers in
+    let first : 512 ≤ count = omega (arith, frame.some, said, enough) in
+    let near : 2 + 2 ≤ count = omega (arith, first) in
+    let alike : (head_of other).sectors ≡ (head_of bytes).sectors =
+    sym (two other count 2 near) ∙ ap (λ (l : List ℕ). little_number 2 (drop 2 l)) same ∙ two bytes count 2 near in
+    sym (block_same judged has_frame shape streams start other count (record { first = first; all = inl (omega (arith, enough, alike)) }))
+    ∙ ap (block_records shape streams start) same
+    ∙ block_same judged has_frame shape streams start bytes count (record { first = first; all = inl enough }) ∙ is

@@ -1,11 +1,12 @@
 // What the bytes of a block say of it.
 ghost use Rattle.std.specs.Prelude.{◌≡◌, ◌+◌, ◌*◌, ◌^◌, ◌<◌, ◌≤◌, ℕ, List, length, take, slice_index, slice_get, Some, Ok};
+ghost use Rattle.clfs_lsn.specs.Format.{sector_bytes};
 ghost use Rattle.clfs_lsn.specs.Limits.{most_block_records};
 ghost use Rattle.clfs_lsn.specs.Size.{sectors, longest};
 ghost use Rattle.clfs_lsn.specs.declared.entry.LogEntry.{LogEntry};
 ghost use Rattle.clfs_lsn.specs.declared.shape.Shape.{Shape};
 ghost use Rattle.clfs_block.specs.Frame.{AreBytes, used_bytes, SpellsBlock};
-ghost use Rattle.clfs_block.specs.Checks.{IsEnough};
+ghost use Rattle.clfs_block.specs.Checks.{head_of, IsEnough};
 ghost use Rattle.clfs_block.specs.Records.{block_records};
 ghost use Rattle.clfs_block.specs.Judging.{AreJudgedAlone, AreReadAsWritten};
 
@@ -35,11 +36,14 @@ pub fn blocks_are_read_as_written()
 {}
 
 /// What is known of the records that are read of a block. They are read of the block's own bytes: what follows these, or that nothing does,
-/// changes nothing. A log of more streams has the same. There are 1 to 511 of them, and each has the LSN of its position and no more data
+/// changes nothing, so they are read of any bytes that begin with the block. A log of more streams has the same. There are 1 to 511 of them, and each has the LSN of its position and no more data
 /// than the longest record.
 pub fn records_are_read_of_their_block()
     ensures alone { (shape : Shape) (streams start : ℕ) (bytes : List ℕ) (count : ℕ) → IsEnough shape bytes count
         → block_records shape streams start (take count bytes) ≡ block_records shape streams start bytes }
+    ensures agree { (shape : Shape) (streams start : ℕ) (bytes other : List ℕ) (count : ℕ) (records : List LogEntry)
+        → block_records shape streams start bytes ≡ Ok records → sector_bytes * (head_of bytes).sectors ≤ count → take count other ≡ take count bytes
+        → block_records shape streams start other ≡ Ok records }
     ensures more { (shape : Shape) (streams more start : ℕ) (bytes : List ℕ) (records : List LogEntry) → streams ≤ more
         → block_records shape streams start bytes ≡ Ok records → block_records shape more start bytes ≡ Ok records }
     ensures count { (shape : Shape) (streams start : ℕ) (bytes : List ℕ) (records : List LogEntry) → block_records shape streams start bytes ≡ Ok records

@@ -74,7 +74,7 @@ impl Buffers {
         requires shape { IsShape shape.now }
         requires file { file ≤ 256 }
 
-        // A block that is kept answers from its records, and is then the one used last. The disk isn't called, so it is no fault of its.
+        // A block that is kept answers from its records, and is then the one used last. The disk isn't called, and no fault of it is told.
         ensures kept { (records : List LogEntry) → kept_at (block_place lsn) self.old ≡ Some records → Gives result (record_in lsn records) }
         ensures used { IsSome (kept_at (block_place lsn) self.old) → OnOk result (self.new ≡ with_used (block_place lsn) self.old) }
         ensures quiet { IsSome (kept_at (block_place lsn) self.old) → (disk.new ≡ disk.old) × (IsErrOf result ReadRefusal.DiskFault → ⊥) }

@@ -2,7 +2,7 @@ use Rattle.clfs_block.specs.Judging.{AreJudgedAlone}
 use Rattle.clfs_block.specs.RecordLaws.{block_same}
 use Rattle.clfs_block.proofs.Fronts.{frame_same, payload_same, rest_same}
 use Rattle.clfs_block.proofs.Reading.{has_frame}
-use Rattle.clfs_block.proofs.RecordsRead.{block_more, block_count, block_each}
+use Rattle.clfs_block.proofs.RecordsRead.{block_agrees, block_more, block_count, block_each}
 use Rattle.clfs_block.proofs.laws.records_are_read_of_their_block.Goals as goal
 
 judged : AreJudgedAlone
@@ -15,6 +15,7 @@ judged = record {
 pub returns : goal.returns
 returns c = record {
   alone = λ shape streams start bytes count enough. block_same judged has_frame shape streams start bytes count enough;
+  agree = λ shape streams start bytes other count records is enough same. block_agrees judged shape streams start bytes other count records is enough same;
   more = λ shape streams more start bytes records le is. block_more shape streams more start bytes records le is;
   count = λ shape streams start bytes records is. block_count shape streams start bytes records is;
   each = λ shape streams start bytes records is i entry found. block_each shape streams start bytes records is i entry found;
