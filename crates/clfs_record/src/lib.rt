@@ -11,8 +11,8 @@ mod fields;
 mod refusal;
 
 pub use decoder::{
-    decode, decode_head, len_of, no_spelling_begins_another, records_are_read_as_written, stream_in,
-    stream_of,
+    decode, decode_head, len_of, no_spelling_begins_another, records_are_read_as_written,
+    stream_in, stream_of,
 };
 pub use encoder::{encode, spell_header};
 pub use fields::Fields;

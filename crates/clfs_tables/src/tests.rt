@@ -38,9 +38,15 @@ fn records_are_found_by_streams(rt: HostRuntime) -> Result<(), Fail> {
     assert_eq!(rt; tables.live_at(1, Lsn::of_number(5)), None);
     assert_eq!(rt; tables.live_at(1, Lsn::of_number(7)), Some(heads[2]));
     assert_eq!(rt; tables.last(1), Some(heads[3]));
-    assert_eq!(rt; tables.next(1, Mode::Previous, Lsn::of_number(9)), Some(heads[2]));
+    assert_eq!(rt;
+        tables.next(1, Mode::Previous, Lsn::of_number(9)),
+        Some(heads[2])
+    );
     assert_eq!(rt; tables.next(1, Mode::Previous, Lsn::of_number(7)), None);
-    assert_eq!(rt; tables.next(1, Mode::Forward, Lsn::of_number(5)), Some(heads[2]));
+    assert_eq!(rt;
+        tables.next(1, Mode::Forward, Lsn::of_number(5)),
+        Some(heads[2])
+    );
     let place = Place {
         container: 1,
         offset: 0,
