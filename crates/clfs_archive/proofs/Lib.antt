@@ -1,4 +1,5 @@
 pub mod Among
 pub mod Extents
+pub mod Found
 pub mod Places
 pub mod Sealing

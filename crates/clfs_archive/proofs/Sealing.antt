@@ -14,7 +14,7 @@ use Rattle.clfs_model.specs.Heads.{block_end}
 use Rattle.clfs_archive.specs.declared.block.BlockEnd.{BlockEnd}
 use Rattle.clfs_archive.specs.Blocks.{IsBlock, AreBlocks, AreSealed, BlocksGoOn}
 
-and_both : (a b : Bool) → (a && b) ≡ true → (a ≡ true) × (b ≡ true)
+pub and_both : (a b : Bool) → (a && b) ≡ true → (a ≡ true) × (b ≡ true)
 and_both true true is = (refl, refl)
 and_both true false is = absurd (cc)
 and_both false b is = absurd (cc)
@@ -41,11 +41,11 @@ other_block block heads head other =
     = filter-append (λ (h : Head). is_in_block h.lsn block) heads (head ∷ []) ∙ rw other (append-nil _) in
     ap (λ (hs : List Head). offset_of block + sector_bytes * sectors (block_header + sum_by (λ (h : Head). size h.len) hs)) same
 
-not_true : (b : Bool) → (b ≡ true → ⊥) → b ≡ false
+pub not_true : (b : Bool) → (b ≡ true → ⊥) → b ≡ false
 not_true true isnt = absurd (isnt refl)
 not_true false isnt = refl
 
-rising_on : (heads : List Head) (head : Head) → AllPairs (λ (a b : Head). a.lsn < b.lsn) heads → All (λ (other : Head). other.lsn < head.lsn) heads
+pub rising_on : (heads : List Head) (head : Head) → AllPairs (λ (a b : Head). a.lsn < b.lsn) heads → All (λ (other : Head). other.lsn < head.lsn) heads
     → AllPairs (λ (a b : Head). a.lsn < b.lsn) (heads ++ head ∷ [])
 rising_on heads head rising above = λ i j d before within. elim (cases_lt j (length heads)) [
   | inl inside ↦
@@ -90,7 +90,7 @@ not_told next lsn block zero from below =
     let sequence : next % 512 ≡ 0 = zero in
     omega (arith, one, sequence, from, below))
 
-join : (from next : ℕ) (blocks : List BlockEnd) (heads : List Head) (head : Head) → AreSealed from next blocks heads → next ≤ head.lsn
+pub join : (from next : ℕ) (blocks : List BlockEnd) (heads : List Head) (head : Head) → AreSealed from next blocks heads → next ≤ head.lsn
     → All (λ (other : Head). other.lsn < head.lsn) heads → AreSealed from next blocks (heads ++ head ∷ [])
 join from next blocks heads head are above all = record {
   told = record {

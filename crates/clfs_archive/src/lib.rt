@@ -11,17 +11,19 @@
 //! disk when it asks for extents. What lies below the hold is never asked for again, whatever archiving is set to, so block ends go
 //! when the caller says so, in whole pieces, as `clfs_sorted` says.
 //!
-//! No call but `reserve` and `extents` takes memory. So an append can take all of its memory before it changes anything, and neither
+//! No call but `reserve` and `extents` takes memory, and `open_archive`, which finds the ends of the blocks of a log that was opened. So an append can take all of its memory before it changes anything, and neither
 //! setting the tail nor a flush fails for want of it.
 #![tactic(auto)]
 
 mod archive;
 mod block;
 mod laws;
+mod opening;
 
 pub use archive::Archive;
 pub use block::BlockEnd;
 pub use laws::ends_of_blocks_go_on;
+pub use opening::open_archive;
 
 #[cfg(test)]
 mod tests;

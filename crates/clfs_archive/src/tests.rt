@@ -1,14 +1,17 @@
 ghost use Rattle.std.specs.Prelude.{◌≡◌, ◌<◌, ◌≤◌, ℕ, All, [], length, IfOk};
+ghost use Rattle.clfs_lsn.specs.Lsn.{lsn_number};
 ghost use Rattle.clfs_archive.specs.declared.block.BlockEnd.{BlockEnd};
 
 use super::*;
-use clfs_lsn::Lsn;
+use clfs_lsn::{Head, Kind, Lsn};
 use clfs_model::{Extent, Refusal};
 use std::alloc::{AllocError, Global};
 use std::test::Fail;
 
 // The LSN of these parts.
-fn at(container: u32, offset: u16, sequence: u16) -> Lsn {
+fn at(container: u32, offset: u16, sequence: u16) -> Lsn
+    ensures { result ≡ lsn_number container offset sequence }
+{
     Lsn::from_parts(container, offset as u32, sequence as u32)
 }
 
@@ -78,5 +81,46 @@ fn archiving_is_set(rt: HostRuntime) -> Result<(), Fail> {
     assert!(rt; archive.tail_refusal(low, high).is_some());
     archive.set_archive(false, low);
     assert!(rt; archive.tail().is_none());
+    Ok(())
+}
+
+// The head of a record of stream 1 with 100 bytes.
+fn head(lsn: Lsn) -> Head
+    ensures lsn { result.lsn ≡ lsn }
+    ensures len { result.len ≡ 100 }
+{
+    Head {
+        lsn,
+        stream: 1,
+        kind: Kind::Plain,
+        previous: Lsn::null(),
+        undo_next: Lsn::null(),
+        new_base: Lsn::null(),
+        len: 100,
+    }
+}
+
+#[test]
+fn blocks_of_an_opened_log(rt: HostRuntime) -> Result<(), Fail> {
+    let tail = at(1, 0, 1);
+    let none = open_archive(rt.alloc(), Some(tail), &[], at(1, 0, 0))?;
+    assert!(rt;
+        none.extents(rt.alloc(), at(1, 0, 0), 1)?
+            .as_slice()
+            .is_empty()
+    );
+    let heads = [
+        head(at(1, 0, 0)),
+        head(at(1, 0, 1)),
+        head(at(1, 0, 2)),
+        head(at(1, 0, 3)),
+        head(at(1, 1024, 0)),
+        head(at(3, 0, 0)),
+    ];
+    let archive = open_archive(rt.alloc(), Some(tail), &heads, at(3, 512, 0))?;
+    let extents = archive.extents(rt.alloc(), at(3, 512, 0), 3)?;
+    assert!(rt; has(extents.as_slice(), &[(1, 0, 1536), (3, 0, 512)]));
+    let extents = archive.extents(rt.alloc(), at(1, 1024, 0), 3)?;
+    assert!(rt; has(extents.as_slice(), &[(1, 0, 1024)]));
     Ok(())
 }
