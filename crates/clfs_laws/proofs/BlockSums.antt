@@ -43,6 +43,7 @@ pub record IsPaid (shape : Shape) (place : Place) (before : List LogEntry) : Typ
   pub start : (before ≡ []) ⊎ (1 ≤ place.records)
   pub used : 1 ≤ place.records → place.used ≡ 16 + paid place.container place.offset before
   pub last : 1 ≤ place.records → IsOfBlock place.container place.offset before
+  pub newest : 1 ≤ place.records → (entry : LogEntry) × IsAmong entry before × (entry.lsn + 1 ≡ frontier place)
   pub below : AllByRecursion (λ (entry : LogEntry). entry.lsn < frontier place) before
   pub short : AllByRecursion (λ (entry : LogEntry). length entry.bytes ≤ longest shape) before
   pub ends : AllByRecursion (EndsWithin shape.container_sectors before) before
@@ -109,7 +110,7 @@ record IsPushed (shape : Shape) (place : Place) (before : List LogEntry) (entry 
   pub of_container : container_of entry.lsn ≡ place.container
   pub of_offset : offset_of entry.lsn ≡ place.offset
   pub above : AllByRecursion (λ (other : LogEntry). other.lsn < frontier place) before
-  pub below : entry.lsn < frontier place
+  pub next : entry.lsn + 1 ≡ frontier place
   pub size_fits : 16 + size (length entry.bytes) ≤ place.used
 
 -- the last of a list is among it
@@ -144,7 +145,8 @@ pushed shape place before entry is short ends =
       start = inr is.some;
       used = λ _. is.used;
       last = λ _. record { entry = entry; among = among_last before entry; of_container = is.of_container; of_offset = is.of_offset };
-      below = all_behind (λ (e : LogEntry). e.lsn < frontier place) before (entry ∷ []) is.above (is.below, tt);
+      newest = λ _. (entry, among_last before entry, is.next);
+      below = all_behind (λ (e : LogEntry). e.lsn < frontier place) before (entry ∷ []) is.above (omega (arith, is.next), tt);
       short = all_behind (λ (e : LogEntry). length e.bytes ≤ longest shape) before (entry ∷ []) short (omega (arith, is.size_fits, open_block.few_sectors), tt);
       ends = all_behind (EndsWithin most (before ++ entry ∷ [])) before (entry ∷ [])
           (weaker (EndsWithin most before) (EndsWithin most (before ++ entry ∷ [])) before
@@ -177,7 +179,7 @@ push_joined shape place before entry is has some at within =
       of_container = of_container;
       of_offset = of_offset;
       above = weaker (λ (e : LogEntry). e.lsn < frontier place) (λ (e : LogEntry). e.lsn < frontier after) before (λ e low. omega (arith, low)) has.below;
-      below = omega (arith, at);
+      next = omega (arith, at);
       size_fits = omega (arith, used);
     }) has.short has.ends)
 
@@ -207,7 +209,7 @@ push_begun shape place before entry container sector has at low above within =
       above =
           weaker (λ (e : LogEntry). e.lsn < frontier place) (λ (e : LogEntry). e.lsn < frontier after) before
           (λ e less. omega (arith, less, above, at)) has.below;
-      below = omega (arith, at);
+      next = omega (arith, at);
       size_fits = omega arith;
     }) has.short has.ends)
 
@@ -255,6 +257,7 @@ paid_last shape entries is laid = paid_all shape before_all [] entries is (recor
   start = inl refl;
   used = λ some. absurd (omega (arith, some));
   last = λ some. absurd (omega (arith, some));
+  newest = λ some. absurd (omega (arith, some));
   below = tt;
   short = tt;
   ends = tt;

@@ -78,4 +78,5 @@ pub mod StepBlocks
 pub mod Numbers
 pub mod Turns
 pub mod CutPlaces
+pub mod OpenEnds
 pub mod CutSurvives

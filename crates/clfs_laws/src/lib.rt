@@ -28,7 +28,8 @@ pub use steps::{
     refusals_are_the_calls_own, steps_only_add_records,
 };
 pub use storable::{
-    first_states_are_storable, numbers_fit_their_types, steps_keep_a_state_storable,
+    first_states_are_storable, numbers_fit_their_types, open_blocks_end_at_the_place,
+    steps_keep_a_state_storable,
 };
 pub use survivors::{
     opening_anew_survives_as_the_cut, quiet_calls_survive_as_the_cut,

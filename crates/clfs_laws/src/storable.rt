@@ -1,6 +1,8 @@
 // Which states files can hold: those that every step leaves whose call meets its condition. What their numbers are then.
-ghost use Rattle.std.specs.Prelude.{◌≤◌, ◌<◌, ◌*◌, ◌^◌, ℕ, Bool, List, length, All, IfSome};
-ghost use Rattle.clfs_lsn.specs.Place.{frontier};
+ghost use Rattle.std.specs.Prelude.{◌≡◌, ◌+◌, ◌≤◌, ◌<◌, ◌*◌, ◌^◌, ℕ, Bool, List, length, All, IfSome};
+ghost use Rattle.std.specs.List.{Any};
+ghost use Rattle.clfs_lsn.specs.Lsn.{container_of, offset_of};
+ghost use Rattle.clfs_lsn.specs.Place.{frontier, block_end};
 ghost use Rattle.clfs_lsn.specs.Limits.{most_containers, most_write_buffers};
 ghost use Rattle.clfs_lsn.specs.Size.{IsShape, longest};
 ghost use Rattle.clfs_lsn.specs.declared.entry.LogEntry.{LogEntry};
@@ -66,4 +68,13 @@ pub fn numbers_fit_their_types()
     ensures waiting { (s : State) → IsValid s → IsStorable s → All (λ (start : ℕ). start < 2 ^ 64) s.waiting }
     ensures cursors { (s : State) → IsValid s → IsStorable s
         → All (λ (area : Area). All (λ (cursor : Cursor). cursor.last < 2 ^ 64) area.cursors) s.areas }
+{}
+
+/// Where a block of such a state is open, it ends at the log's place, by its records, and the record that was put last lies right below the
+/// next one.
+pub fn open_blocks_end_at_the_place()
+    ensures newest { (s : State) → IsValid s → IsStorable s → 1 ≤ s.place.records
+        → Any (λ (entry : LogEntry). entry.lsn + 1 ≡ frontier s.place) s.records }
+    ensures end { (s : State) → IsValid s → IsStorable s → 1 ≤ s.place.records → (lsn : ℕ) → container_of lsn ≡ s.place.container
+        → offset_of lsn ≡ s.place.offset → end_of_block s.records lsn ≡ 512 * block_end s.place }
 {}
