@@ -1,3 +1,6 @@
+ghost use Rattle.std.specs.Prelude.{◌≡◌, [], ◌∷◌, IfOk};
+ghost use Rattle.clfs_lsn.specs.Lsn.{null_lsn};
+
 use super::*;
 use clfs_base::Row;
 use clfs_lsn::{Head, Kind, Lsn, Name, Place};
@@ -6,7 +9,10 @@ use std::alloc::{AllocError, Global};
 use std::test::Fail;
 
 // A row of a stream whose name is one letter.
-fn row(alloc: Global, letter: u8) -> Result<Row, AllocError> {
+fn row(alloc: Global, letter: u8) -> Result<Row, AllocError>
+    ensures name { IfOk result (λ row. row.name ≡ letter ∷ []) }
+    ensures base { IfOk result (λ row. row.base ≡ null_lsn) }
+{
     let mut bytes = Vec::new(alloc);
     bytes.push(letter)?;
     Ok(Row {
@@ -16,7 +22,12 @@ fn row(alloc: Global, letter: u8) -> Result<Row, AllocError> {
 }
 
 // A head with an LSN of this number, linked to another.
-fn head(number: u64, stream: u16, previous: u64) -> Head {
+fn head(number: u64, stream: u16, previous: u64) -> Head
+    ensures lsn { result.lsn ≡ number }
+    ensures stream { result.stream ≡ stream }
+    ensures previous { result.previous ≡ previous }
+    ensures undo_next { result.undo_next ≡ null_lsn }
+{
     Head {
         lsn: Lsn::of_number(number),
         stream,
