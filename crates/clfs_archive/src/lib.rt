@@ -11,8 +11,9 @@
 //! disk when it asks for extents. What lies below the hold is never asked for again, whatever archiving is set to, so block ends go
 //! when the caller says so, in whole pieces, as `clfs_sorted` says.
 //!
-//! No call but `reserve` and `extents` takes memory, and `open_archive`, which finds the ends of the blocks of a log that was opened. So an append can take all of its memory before it changes anything, and neither
-//! setting the tail nor a flush fails for want of it.
+//! No call but `reserve` and `extents` takes memory, and `open_archive`, which finds the ends of the blocks of a log that was
+//! opened. So an append can take all of its memory before it changes anything, and neither setting the tail nor a flush fails
+//! for want of it.
 #![tactic(auto)]
 
 mod archive;

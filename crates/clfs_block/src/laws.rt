@@ -36,8 +36,8 @@ pub fn blocks_are_read_as_written()
 {}
 
 /// What is known of the records that are read of a block. They are read of the block's own bytes: what follows these, or that nothing does,
-/// changes nothing, so they are read of any bytes that begin with the block. A log of more streams has the same. There are 1 to 511 of them, and each has the LSN of its position and no more data
-/// than the longest record.
+/// changes nothing, so they are read of any bytes that begin with the block. A log of more streams has the same. There are 1 to 511 of
+/// them, and each has the LSN of its position and no more data than the longest record.
 pub fn records_are_read_of_their_block()
     ensures alone { (shape : Shape) (streams start : ℕ) (bytes : List ℕ) (count : ℕ) → IsEnough shape bytes count
         → block_records shape streams start (take count bytes) ≡ block_records shape streams start bytes }

@@ -1,10 +1,11 @@
 //! Blocks: the records of a log framed in sectors, so that a reader knows where each block ends and that each of its
 //! sectors has its place's address.
 //!
-//! A block is a row of sectors of 512 bytes. Each has 504 bytes of payload and then its address, so a sector that the file held
-//! for an earlier container, or that belongs elsewhere, is told from one that belongs here. The payload is a header of 16
-//! bytes, the records and zeros. `push_payload` and `seal_block` make a block in place, in a buffer that may hold blocks before it;
-//! `BlockBuilder` makes one alone, with a closed gate, in memory that it takes once. `decode_block` checks all of a block but its records and gives their bytes in a row. Who reads many blocks makes its parts one by one,
+//! A block is a row of sectors of 512 bytes. Each has 504 bytes of payload and then its address, so a sector that the file
+//! held for an earlier container, or that belongs elsewhere, is told from one that belongs here. The payload is a header of
+//! 16 bytes, the records and zeros. `push_payload` and `seal_block` make a block in place, in a buffer that may hold blocks
+//! before it; `BlockBuilder` makes one alone, with a closed gate, in memory that it takes once. `decode_block` checks all
+//! of a block but its records and gives their bytes in a row. Who reads many blocks makes its parts one by one,
 //! `check_frame`, `fill_payload` and `check_rest`, and judges the records before the last.
 #![tactic(auto)]
 

@@ -27,7 +27,8 @@ use std::num::NonZeroUsize;
 const MOST_BLOCKS: usize = 32;
 
 /// The blocks that were read and are kept. A contract sees where each lies and its records, the one used last first. Besides them it has the
-/// memory of one more block, and that of a largest block's bytes, which are taken when a block is first read and serve all later reads.
+/// memory of one more block, and that of a largest block's bytes, which are taken when a block is first read and serve the
+/// reads after it; a read that is refused for want of memory leaves them to be taken anew.
 #[derive(Drop)]
 pub struct Buffers {
     alloc: Global,

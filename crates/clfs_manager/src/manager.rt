@@ -1,5 +1,5 @@
-// The manager of a log over any disk: making a log, and opening and closing one. The state that a manager stands for is told, for clauses alone: what it
-// holds of the log are the heads of its records, and their data are on the disk.
+// The manager of a log over any disk: making a log, and opening and closing one. The state that a manager stands for is told, for clauses
+// alone: what it holds of the log are the heads of its records, and their data are on the disk.
 ghost use Rattle.std.specs.Prelude.{◌≡◌, ◌≢◌, ◌≤◌, ℕ, Some, None, IfOk, IfErr};
 ghost use Rattle.clfs_lsn.specs.Limits.{most_containers, most_write_buffers};
 ghost use Rattle.clfs_lsn.specs.Size.{IsShape};

@@ -18,14 +18,14 @@ use crate::change::{Change, apply, apply_containers, apply_file, apply_stream};
 use crate::copy::store_copy;
 use crate::group::write_group;
 use crate::refusal::PhysicalRefusal;
-use clfs_base::{BaseImage, Row};
+use clfs_base::{BaseImage, Row, SLOT_BYTES};
 use clfs_container::{close_first, open_blocks_are_one_list};
 use clfs_disk::{Disk, Failed};
 use std::alloc::{AllocError, Global};
 use std::marker::Model;
 
 // The bytes of a copy behind its gate.
-const COPY: usize = 16383;
+const COPY: usize = SLOT_BYTES as usize - 1;
 
 /// The newest base copy, the slot that it is in, and the memory in which the next one is spelled.
 #[derive(Drop)]

@@ -13,7 +13,7 @@ mod opening;
 mod tables;
 
 pub use opening::open_tables;
-pub use tables::{StreamRow, Tables};
+pub use tables::Tables;
 
 #[cfg(test)]
 mod tests;

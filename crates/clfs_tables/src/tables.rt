@@ -25,11 +25,11 @@ use std::alloc::{AllocError, Global};
 use std::collections::LinkedList;
 use std::marker::Model;
 
-/// The rows of one stream: all of its records, and its restart areas among them.
+// The rows of one stream: all of its records, and its restart areas among them.
 #[derive(Drop)]
-pub struct StreamRow {
-    pub index: StreamIndex,
-    pub restarts: RestartAreas,
+struct StreamRow {
+    index: StreamIndex,
+    restarts: RestartAreas,
 }
 
 /// The tables of the records of all streams.
@@ -172,6 +172,7 @@ impl Tables {
         requires forgotten { last < self.now.low }
         ensures { result ≡ next_head (base_in self.now.streams stream) stream mode last self.now.heads }
     {
+        // What is true of the tables is known where a field is read.
         let _low = &self.low;
         match mode {
             Mode::Previous => None,
