@@ -34,3 +34,4 @@ pub mod RowBases
 pub mod StoredRecords
 pub mod ChangedCopies
 pub mod LowContainers
+pub mod RecordPlaces

@@ -8,3 +8,4 @@ pub mod Opening
 pub mod Stored
 pub mod KnownLogs
 pub mod Logs
+pub mod Reading

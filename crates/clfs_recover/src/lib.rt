@@ -8,7 +8,8 @@
 //!
 //! What is found is always a state that a log can be in, with all of it stable (`opened.rt`). For whoever writes, laws say what each step
 //! makes of the log in these terms, copies and open blocks (specs/Logs.antt, `stored.rt`, `changes.rt`): a group of blocks behind the last
-//! one, a further container, and each change of a copy.
+//! one, a further container, and each change of a copy. For whoever reads, a law says that each record is read at its LSN, in the file of its
+//! container (specs/Reading.antt, `reading.rt`).
 //!
 //! There is one walk. It judges a block's frame, its records in turn, and what stands behind them, and hands each record on to a
 //! `Gatherer` by its head and where its data stand: `load` keeps records, `load_heads` their heads, which is what a log that is open keeps,
@@ -30,6 +31,7 @@ mod opened;
 mod opening;
 mod parts;
 mod piece;
+mod reading;
 mod records;
 mod refusal;
 mod rows;
@@ -49,6 +51,7 @@ pub use opened::{
 };
 pub use opening::{Walked, load, load_heads, walk};
 pub use parts::{Bases, Entries, HeadParts, Heads, Parts};
+pub use reading::stored_records_are_read;
 pub use refusal::LoadRefusal;
 pub use rows::{changes_of_a_small_log, walks_of_a_small_log};
 pub use stored::{blocks_are_read_in_order, copies_without_fault_fit, logs_are_copies_and_blocks};
