@@ -1,5 +1,5 @@
 -- Which files the next copy lists.
-use Rattle.std.proofs.Common.{◌≡◌, ◌⊎◌, ℕ, ◌+◌, ◌-◌, ◌%◌, ◌<◌, List, length, get_or, drop, refl, sym, ◌∙◌, ap, subst, arith, length-drop}
+use Rattle.std.proofs.Common.{◌≡◌, ◌⊎◌, ℕ, ◌+◌, ◌-◌, ◌%◌, ◌<◌, Bool, true, List, length, get_or, drop, refl, sym, ◌∙◌, ap, subst, arith, length-drop}
 use Rattle.std.proofs.lemmas.List.{get_or-drop}
 use Rattle.clfs_disk.specs.Files.{Files}
 use Rattle.clfs_base.specs.declared.image.BaseImage.{BaseImage}
@@ -35,9 +35,10 @@ made_as image next files sectors made are = record {
   made = λ file from to. omega (arith, are.made file from (omega (arith, to, made)), sectors);
 }
 
-relisted : (image next : BaseImage) (blocks : Blocks) (files : Files) → Relists image next → Holds image blocks files → Holds next blocks files
-relisted image next blocks files relists holds = record {
-  made = made_as image next files relists.sectors relists.made holds.made;
+relisted : (whole : Bool) (image next : BaseImage) (blocks : Blocks) (files : Files) → Relists image next → Holds whole image blocks files
+    → Holds whole next blocks files
+relisted whole image next blocks files relists holds = record {
+  made = λ full. made_as image next files relists.sectors relists.made (holds.made full);
   opens = λ file listed. rw relists.sectors (holds.opens file (dropped_lists relists.gone image next file relists.files listed));
 }
 
@@ -47,9 +48,9 @@ relists first (changes.Base stream base) image = record { sectors = refl; made =
 relists first (changes.Archive archiving tail) image = record { sectors = refl; made = refl; gone = first - image.first; files = refl }
 relists first (changes.Policies automatic maximum minimum growth) image = record { sectors = refl; made = refl; gone = first - image.first; files = refl }
 
-pub next_holds : (first : ℕ) (change : Change) (image : BaseImage) (blocks : Blocks) (files : Files) → Holds image blocks files
-    → Holds (next_copy first change image) blocks files
-next_holds first change image blocks files holds = relisted image (next_copy first change image) blocks files (relists first change image) holds
+pub next_holds : (whole : Bool) (first : ℕ) (change : Change) (image : BaseImage) (blocks : Blocks) (files : Files) → Holds whole image blocks files
+    → Holds whole (next_copy first change image) blocks files
+next_holds whole first change image blocks files holds = relisted whole image (next_copy first change image) blocks files (relists first change image) holds
 
 pub next_turn : (first : ℕ) (change : Change) (image : BaseImage) → (next_copy first change image).turn ≡ (image.turn + 1) % 3
 next_turn first changes.Listing image = refl
@@ -58,54 +59,55 @@ next_turn first (changes.Archive archiving tail) image = refl
 next_turn first (changes.Policies automatic maximum minimum growth) image = refl
 
 -- a log under another copy that lists no other files and counts as many of them
-pub stream_holds : (first : ℕ) (row : Row) (image : BaseImage) (blocks : Blocks) (files : Files) → Holds image blocks files
-    → Holds (with_stream row (next_copy first changes.Listing image)) blocks files
-stream_holds first row image blocks files holds =
-    relisted image (with_stream row (next_copy first changes.Listing image)) blocks files
+pub stream_holds : (whole : Bool) (first : ℕ) (row : Row) (image : BaseImage) (blocks : Blocks) (files : Files) → Holds whole image blocks files
+    → Holds whole (with_stream row (next_copy first changes.Listing image)) blocks files
+stream_holds whole first row image blocks files holds =
+    relisted whole image (with_stream row (next_copy first changes.Listing image)) blocks files
     (record { sectors = refl; made = refl; gone = first - image.first; files = refl }) holds
 
 -- or more of them, where these were made
-pub containers_hold : (first containers : ℕ) (image : BaseImage) (blocks : Blocks) (files : Files) → Holds image blocks files
-    → AreMade (with_containers containers image) files → Holds (with_containers containers (next_copy first changes.Listing image)) blocks files
-containers_hold first containers image blocks files holds made = record {
-  made = record { base = made.base; made = made.made };
+pub containers_hold : (whole : Bool) (first containers : ℕ) (image : BaseImage) (blocks : Blocks) (files : Files) → Holds whole image blocks files
+    → (whole ≡ true → AreMade (with_containers containers image) files)
+    → Holds whole (with_containers containers (next_copy first changes.Listing image)) blocks files
+containers_hold whole first containers image blocks files holds made = record {
+  made = λ full. record { base = (made full).base; made = (made full).made };
   opens = λ file listed. holds.opens file
       (dropped_lists (first - image.first) image (with_containers containers (next_copy first changes.Listing image)) file refl listed);
 }
 
 -- ---- the next copy, written
 
-module _ (next_of : BaseImage → BaseImage) (turns : (image : BaseImage) → (next_of image).turn ≡ (image.turn + 1) % 3)
+module _ (whole : Bool) (next_of : BaseImage → BaseImage) (turns : (image : BaseImage) → (next_of image).turn ≡ (image.turn + 1) % 3)
     (slot : ℕ) (image next : BaseImage) (now : Newest) (view : record { slot = slot; image = image } ≡ now)
     (is : next ≡ next_of image) (image_is : IsImage version_one image) where
   turn_is : next.turn ≡ (image.turn + 1) % 3
   turn_is = ap (λ (n : BaseImage). n.turn) is ∙ turns image
 
-  holds_next : (blocks : Blocks) (files : Files) → (Holds image blocks files → Holds (next_of image) blocks files) → Holds image blocks files
-      → Holds next blocks files
-  holds_next blocks files then holds = subst (λ (n : BaseImage). Holds n blocks files) (sym is) (then holds)
+  holds_next : (blocks : Blocks) (files : Files) → (Holds whole image blocks files → Holds whole (next_of image) blocks files) → Holds whole image blocks files
+      → Holds whole next blocks files
+  holds_next blocks files then holds = subst (λ (n : BaseImage). Holds whole n blocks files) (sym is) (then holds)
 
-  pub copy_leaves : (a b : DiskState) → ((blocks : Blocks) → Holds now.image blocks a.files → Holds (next_of now.image) blocks a.files)
-      → ((before : BaseImage) (blocks : Blocks) → IsImage version_one before → next.turn ≡ (before.turn + 1) % 3 → IsLog slot before blocks a.files
-      → Holds next blocks a.files → Leaves (λ files. IsLog slot before blocks files ⊎ IsLog (1 - slot) next blocks files) a b)
-      → (blocks : Blocks) → Stores now blocks a.files
-      → Leaves (λ files. Stores now blocks files ⊎ Stores (record { slot = 1 - now.slot; image = next_of now.image }) blocks files) a b
+  pub copy_leaves : (a b : DiskState) → ((blocks : Blocks) → Holds whole now.image blocks a.files → Holds whole (next_of now.image) blocks a.files)
+      → ((before : BaseImage) (blocks : Blocks) → IsImage version_one before → next.turn ≡ (before.turn + 1) % 3 → IsLog whole slot before blocks a.files
+      → Holds whole next blocks a.files → Leaves (λ files. IsLog whole slot before blocks files ⊎ IsLog whole (1 - slot) next blocks files) a b)
+      → (blocks : Blocks) → Stores whole now blocks a.files
+      → Leaves (λ files. Stores whole now blocks files ⊎ Stores whole (record { slot = 1 - now.slot; image = next_of now.image }) blocks files) a b
   copy_leaves a b still leaves = subst
-      (λ (n : Newest). ((blocks : Blocks) → Holds n.image blocks a.files → Holds (next_of n.image) blocks a.files)
-      → (blocks : Blocks) → Stores n blocks a.files
-      → Leaves (λ files. Stores n blocks files ⊎ Stores (record { slot = 1 - n.slot; image = next_of n.image }) blocks files) a b) view
-      (λ here blocks log. subst (λ (n : BaseImage). Leaves (λ files. IsLog slot image blocks files ⊎ IsLog (1 - slot) n blocks files) a b) is
+      (λ (n : Newest). ((blocks : Blocks) → Holds whole n.image blocks a.files → Holds whole (next_of n.image) blocks a.files)
+      → (blocks : Blocks) → Stores whole n blocks a.files
+      → Leaves (λ files. Stores whole n blocks files ⊎ Stores whole (record { slot = 1 - n.slot; image = next_of n.image }) blocks files) a b) view
+      (λ here blocks log. subst (λ (n : BaseImage). Leaves (λ files. IsLog whole slot image blocks files ⊎ IsLog whole (1 - slot) n blocks files) a b) is
       (leaves image blocks image_is turn_is log (holds_next blocks a.files (here blocks) log.holds)))
       still
 
   pub copy_written : (used : ℕ) (old new : Files) → used ≡ 1 - slot
-      → ((blocks : Blocks) → Holds now.image blocks old → Holds (next_of now.image) blocks old)
-      → ((before : BaseImage) (blocks : Blocks) → IsImage version_one before → next.turn ≡ (before.turn + 1) % 3 → IsLog slot before blocks old
-      → Holds next blocks old → IsLog (1 - slot) next blocks new)
-      → (blocks : Blocks) → Stores now blocks old → IsLog used next blocks new
+      → ((blocks : Blocks) → Holds whole now.image blocks old → Holds whole (next_of now.image) blocks old)
+      → ((before : BaseImage) (blocks : Blocks) → IsImage version_one before → next.turn ≡ (before.turn + 1) % 3 → IsLog whole slot before blocks old
+      → Holds whole next blocks old → IsLog whole (1 - slot) next blocks new)
+      → (blocks : Blocks) → Stores whole now blocks old → IsLog whole used next blocks new
   copy_written used old new beside still written = subst
-      (λ (n : Newest). ((blocks : Blocks) → Holds n.image blocks old → Holds (next_of n.image) blocks old)
-      → (blocks : Blocks) → Stores n blocks old → IsLog used next blocks new) view
-      (λ here blocks log. subst (λ (k : ℕ). IsLog k next blocks new) (sym beside)
+      (λ (n : Newest). ((blocks : Blocks) → Holds whole n.image blocks old → Holds whole (next_of n.image) blocks old)
+      → (blocks : Blocks) → Stores whole n blocks old → IsLog whole used next blocks new) view
+      (λ here blocks log. subst (λ (k : ℕ). IsLog whole k next blocks new) (sym beside)
       (written image blocks image_is turn_is log (holds_next blocks old (here blocks) log.holds)))
       still

@@ -56,33 +56,33 @@ module _ (image : BaseImage) (old new : Files) (file : ℕ) (some : 1 ≤ file) 
   newest_same slot newest = ap newest_of base_same ∙ newest
 
   -- it has these blocks now
-  pub holds_with : (blocks : Blocks) (is : List (List ℕ)) → Holds image blocks old → AreWhole image.container_sectors (new file) is
-      → Holds image (with_blocks file is blocks) new
-  holds_with blocks is holds whole = record {
-    made = made_still image old new lengths holds.made;
+  pub holds_with : (whole : Bool) (blocks : Blocks) (is : List (List ℕ)) → Holds whole image blocks old → AreWhole image.container_sectors (new file) is
+      → Holds whole image (with_blocks file is blocks) new
+  holds_with whole blocks is holds clean = record {
+    made = λ full. made_still image old new lengths (holds.made full);
     opens = λ other listed. ⊎_elim
         (λ (same : other ≡ file). subst (AreWhole image.container_sectors (new other)) (sym (here file is blocks other same))
-        (subst (λ (k : ℕ). AreWhole image.container_sectors (new k) is) (sym same) whole))
+        (subst (λ (k : ℕ). AreWhole image.container_sectors (new k) is) (sym same) clean))
         (λ (apart : other ≢ file). subst (AreWhole image.container_sectors (new other)) (sym (elsewhere file is blocks other apart))
         (subst (λ (l : List ℕ). AreWhole image.container_sectors l (blocks other)) (sym (others other apart)) (holds.opens other listed)))
         (cases_eq other file);
   }
 
   -- it has the same blocks still
-  pub holds_still : (blocks : Blocks) → Holds image blocks old → AreWhole image.container_sectors (new file) (blocks file)
-      → Holds image blocks new
-  holds_still blocks holds whole = record {
-    made = made_still image old new lengths holds.made;
+  pub holds_still : (whole : Bool) (blocks : Blocks) → Holds whole image blocks old → AreWhole image.container_sectors (new file) (blocks file)
+      → Holds whole image blocks new
+  holds_still whole blocks holds clean = record {
+    made = λ full. made_still image old new lengths (holds.made full);
     opens = λ other listed. ⊎_elim
-        (λ (same : other ≡ file). subst (λ (k : ℕ). AreWhole image.container_sectors (new k) (blocks k)) (sym same) whole)
+        (λ (same : other ≡ file). subst (λ (k : ℕ). AreWhole image.container_sectors (new k) (blocks k)) (sym same) clean)
         (λ (apart : other ≢ file). subst (λ (l : List ℕ). AreWhole image.container_sectors l (blocks other)) (sym (others other apart)) (holds.opens other listed))
         (cases_eq other file);
   }
 
   -- no container is in it
-  pub holds_beside : (blocks : Blocks) → Holds image blocks old → (Lists image file → ⊥) → Holds image blocks new
-  holds_beside blocks holds free = record {
-    made = made_still image old new lengths holds.made;
+  pub holds_beside : (whole : Bool) (blocks : Blocks) → Holds whole image blocks old → (Lists image file → ⊥) → Holds whole image blocks new
+  holds_beside whole blocks holds free = record {
+    made = λ full. made_still image old new lengths (holds.made full);
     opens = λ other listed. ⊎_elim
         (λ (same : other ≡ file). absurd (free (subst (Lists image) same listed)))
         (λ (apart : other ≢ file). subst (λ (l : List ℕ). AreWhole image.container_sectors l (blocks other)) (sym (others other apart)) (holds.opens other listed))
@@ -91,30 +91,34 @@ module _ (image : BaseImage) (old new : Files) (file : ℕ) (some : 1 ≤ file) 
 
 -- ---- the base file has changed
 
-pub holds_beside_base : (image : BaseImage) (blocks : Blocks) (slot : ℕ) (copy : BaseImage) (old new : Files) → IsImage version_one image
-    → Holds image blocks old → HasNewest slot copy old new → Holds image blocks new
-holds_beside_base image blocks slot copy old new is holds has = record {
-  made = record {
-    base = omega (arith, has.same_length, holds.made.base);
-    made = λ file from to. omega (arith, ap (λ (l : List ℕ). length l) (has.elsewhere file (λ none. absurd (omega (arith, from, none)))), holds.made.made file from to);
-  };
+made_beside_base : (image : BaseImage) (slot : ℕ) (copy : BaseImage) (old new : Files) → HasNewest slot copy old new → AreMade image old
+    → AreMade image new
+made_beside_base image slot copy old new has made = record {
+  base = omega (arith, has.same_length, made.base);
+  made = λ file from to. omega (arith, ap (λ (l : List ℕ). length l) (has.elsewhere file (λ none. absurd (omega (arith, from, none)))), made.made file from to);
+}
+
+pub holds_beside_base : (whole : Bool) (image : BaseImage) (blocks : Blocks) (slot : ℕ) (copy : BaseImage) (old new : Files) → IsImage version_one image
+    → Holds whole image blocks old → HasNewest slot copy old new → Holds whole image blocks new
+holds_beside_base whole image blocks slot copy old new is holds has = record {
+  made = λ full. made_beside_base image slot copy old new has (holds.made full);
   opens = λ file listed. subst (λ (l : List ℕ). AreWhole image.container_sectors l (blocks file))
       (sym (has.elsewhere file (λ none. absurd (omega (arith, listed_some image file is listed, none))))) (holds.opens file listed);
 }
 
-pub log_by_copy : (image : BaseImage) (blocks : Blocks) (slot : ℕ) (old new : Files) → IsImage version_one image → Holds image blocks old
-    → HasNewest slot image old new → IsLog slot image blocks new
-log_by_copy image blocks slot old new is holds has = record {
+pub log_by_copy : (whole : Bool) (image : BaseImage) (blocks : Blocks) (slot : ℕ) (old new : Files) → IsImage version_one image
+    → Holds whole image blocks old → HasNewest slot image old new → IsLog whole slot image blocks new
+log_by_copy whole image blocks slot old new is holds has = record {
   newest = has.newest;
-  holds = holds_beside_base image blocks slot image old new is holds has;
+  holds = holds_beside_base whole image blocks slot image old new is holds has;
 }
 
-pub log_by_either : (image next : BaseImage) (blocks : Blocks) (used slot : ℕ) (old new : Files) → IsImage version_one image → IsImage version_one next
-    → Holds image blocks old → Holds next blocks old → EitherNewest slot used image next old new
-    → IsLog used image blocks new ⊎ IsLog slot next blocks new
-log_by_either image next blocks used slot old new is next_is holds next_holds either = ⊎_elim
-    (λ (has : HasNewest used image old new). inl (log_by_copy image blocks used old new is holds has))
-    (λ (has : HasNewest slot next old new). inr (log_by_copy next blocks slot old new next_is next_holds has)) either
+pub log_by_either : (whole : Bool) (image next : BaseImage) (blocks : Blocks) (used slot : ℕ) (old new : Files) → IsImage version_one image → IsImage version_one next
+    → Holds whole image blocks old → Holds whole next blocks old → EitherNewest slot used image next old new
+    → IsLog whole used image blocks new ⊎ IsLog whole slot next blocks new
+log_by_either whole image next blocks used slot old new is next_is holds next_holds either = ⊎_elim
+    (λ (has : HasNewest used image old new). inl (log_by_copy whole image blocks used old new is holds has))
+    (λ (has : HasNewest slot next old new). inr (log_by_copy whole next blocks slot old new next_is next_holds has)) either
 
 -- ---- a group
 
@@ -165,44 +169,44 @@ behind_whole sectors file blocks at files whole place some =
     whole.2
 
 -- where the group goes
-pub log_behind : (slot : ℕ) (image : BaseImage) (blocks : Blocks) (at : ℕ) (body : List ℕ) (more : List (List ℕ)) (old : Files) → IsImage version_one image
-    → IsLog slot image blocks old → (placed : IsPlaced image blocks at body more)
+pub log_behind : (whole : Bool) (slot : ℕ) (image : BaseImage) (blocks : Blocks) (at : ℕ) (body : List ℕ) (more : List (List ℕ)) (old : Files)
+    → IsImage version_one image → IsLog whole slot image blocks old → (placed : IsPlaced image blocks at body more)
     → IsBehind image.container_sectors (last_file image) (blocks (last_file image)) (image.container_sectors - at / 512) at old
-log_behind slot image blocks at body more old is log placed =
+log_behind whole slot image blocks at body more old is log placed =
     behind_whole image.container_sectors (last_file image) (blocks (last_file image)) at old
     (log.holds.opens (last_file image) (last_listed image is)) placed.place
     (group_room _ body more placed.left placed.group)
 
 -- all of the group is there
 pub log_with : ((sectors file : ℕ) (blocks : List (List ℕ)) (rest : ℕ) (files : Files) → HasBlocks sectors file blocks rest files → AreWhole sectors (files file) blocks)
-    → (slot : ℕ) (image : BaseImage) (blocks : Blocks) (more : List (List ℕ)) (left : ℕ) (old new : Files) → IsImage version_one image
-    → IsLog slot image blocks old → HasGroup image.container_sectors (last_file image) (blocks (last_file image)) more left old new
-    → IsLog slot image (with_group image more blocks) new
-log_with law slot image blocks more left old new is log has =
+    → (whole : Bool) (slot : ℕ) (image : BaseImage) (blocks : Blocks) (more : List (List ℕ)) (left : ℕ) (old new : Files) → IsImage version_one image
+    → IsLog whole slot image blocks old → HasGroup image.container_sectors (last_file image) (blocks (last_file image)) more left old new
+    → IsLog whole slot image (with_group image more blocks) new
+log_with law whole slot image blocks more left old new is log has =
     let some = listed_some image (last_file image) is (last_listed image is) in
     record {
       newest = newest_same image old new (last_file image) some has.others has.lengths slot log.newest;
-      holds = holds_with image old new (last_file image) some has.others has.lengths blocks (blocks (last_file image) ++ more) log.holds
+      holds = holds_with image old new (last_file image) some has.others has.lengths whole blocks (blocks (last_file image) ++ more) log.holds
           (law image.container_sectors (last_file image) (blocks (last_file image) ++ more) left new has.blocks_are);
     }
 
 -- none of it is
 pub log_still : ((sectors file : ℕ) (blocks : List (List ℕ)) (rest at : ℕ) (files : Files) → IsBehind sectors file blocks rest at files → AreWhole sectors (files file) blocks)
-    → (slot : ℕ) (image : BaseImage) (blocks : Blocks) (rest at : ℕ) (old new : Files) → IsImage version_one image
-    → IsLog slot image blocks old → HasNone image.container_sectors (last_file image) (blocks (last_file image)) rest at old new
-    → IsLog slot image blocks new
-log_still law slot image blocks rest at old new is log has =
+    → (whole : Bool) (slot : ℕ) (image : BaseImage) (blocks : Blocks) (rest at : ℕ) (old new : Files) → IsImage version_one image
+    → IsLog whole slot image blocks old → HasNone image.container_sectors (last_file image) (blocks (last_file image)) rest at old new
+    → IsLog whole slot image blocks new
+log_still law whole slot image blocks rest at old new is log has =
     let some = listed_some image (last_file image) is (last_listed image is) in
     record {
       newest = newest_same image old new (last_file image) some has.others has.lengths slot log.newest;
-      holds = holds_still image old new (last_file image) some has.others has.lengths blocks log.holds
+      holds = holds_still image old new (last_file image) some has.others has.lengths whole blocks log.holds
           (law image.container_sectors (last_file image) (blocks (last_file image)) rest at new has.behind);
     }
 
 -- where nothing waits
-pub log_no_group : (slot : ℕ) (image : BaseImage) (blocks : Blocks) (more : List (List ℕ)) (files : Files) → more ≡ [] → IsLog slot image blocks files
-    → IsLog slot image (with_group image more blocks) files
-log_no_group slot image blocks more files none log = record {
+pub log_no_group : (whole : Bool) (slot : ℕ) (image : BaseImage) (blocks : Blocks) (more : List (List ℕ)) (files : Files) → more ≡ []
+    → IsLog whole slot image blocks files → IsLog whole slot image (with_group image more blocks) files
+log_no_group whole slot image blocks more files none log = record {
   newest = log.newest;
   holds = record {
     made = log.holds.made;
@@ -218,18 +222,18 @@ log_no_group slot image blocks more files none log = record {
         (cases_eq other (last_file image))
 
 -- what waited, written
-module _ (slot : ℕ) (image : BaseImage) (blocks : Blocks) (at : ℕ) (body : List ℕ) (more : List (List ℕ)) (old : Files) (file : ℕ) (last : file ≡ last_file image)
-    (is : IsImage version_one image) (log : IsLog slot image blocks old) (placed : IsPlaced image blocks at body more) where
+module _ (whole : Bool) (slot : ℕ) (image : BaseImage) (blocks : Blocks) (at : ℕ) (body : List ℕ) (more : List (List ℕ)) (old : Files) (file : ℕ)
+    (last : file ≡ last_file image) (is : IsImage version_one image) (log : IsLog whole slot image blocks old) (placed : IsPlaced image blocks at body more) where
   behind_last : IsBehind image.container_sectors file (blocks (last_file image)) (image.container_sectors - at / 512) at old
   behind_last = subst (λ (k : ℕ). IsBehind image.container_sectors k (blocks (last_file image)) (image.container_sectors - at / 512) at old) (sym last)
-      (log_behind slot image blocks at body more old is log placed)
+      (log_behind whole slot image blocks at body more old is log placed)
 
   pub group_done : ((sectors file : ℕ) (blocks : List (List ℕ)) (rest : ℕ) (files : Files) → HasBlocks sectors file blocks rest files → AreWhole sectors (files file) blocks)
       → (new : Files)
       → ((sectors : ℕ) (blocks : List (List ℕ)) (rest : ℕ) (more : List (List ℕ)) (left : ℕ) → IsBehind sectors file blocks rest at old
       → IsGroup rest body more left → HasGroup sectors file blocks more left old new)
-      → IsLog slot image (with_group image more blocks) new
-  group_done law new written = log_with law slot image blocks more placed.left old new is log
+      → IsLog whole slot image (with_group image more blocks) new
+  group_done law new written = log_with law whole slot image blocks more placed.left old new is log
       (subst (λ (k : ℕ). HasGroup image.container_sectors k (blocks (last_file image)) more placed.left old new) last
       (written image.container_sectors (blocks (last_file image)) _ more placed.left behind_last placed.group))
 
@@ -238,16 +242,16 @@ module _ (slot : ℕ) (image : BaseImage) (blocks : Blocks) (at : ℕ) (body : L
       → (a b : DiskState)
       → ((sectors : ℕ) (blocks : List (List ℕ)) (rest : ℕ) (more : List (List ℕ)) (left : ℕ) → IsBehind sectors file blocks rest at old
       → IsGroup rest body more left → Leaves (λ f. HasNone sectors file blocks rest at old f ⊎ HasGroup sectors file blocks more left old f) a b)
-      → Leaves (λ f. IsLog slot image blocks f ⊎ IsLog slot image (with_group image more blocks) f) a b
+      → Leaves (λ f. IsLog whole slot image blocks f ⊎ IsLog whole slot image (with_group image more blocks) f) a b
   group_moments written behind a b leaves =
       let rest = image.container_sectors - at / 512 in
       let here = blocks (last_file image) in
       let sectors = image.container_sectors in
       leaves_weaker (λ f. HasNone sectors file here rest at old f ⊎ HasGroup sectors file here more placed.left old f)
-      (λ f. IsLog slot image blocks f ⊎ IsLog slot image (with_group image more blocks) f) a b
+      (λ f. IsLog whole slot image blocks f ⊎ IsLog whole slot image (with_group image more blocks) f) a b
       (λ f either. ⊎_elim
-      (λ (none : HasNone sectors file here rest at old f). inl (log_still behind slot image blocks rest at old f is log
+      (λ (none : HasNone sectors file here rest at old f). inl (log_still behind whole slot image blocks rest at old f is log
       (subst (λ (k : ℕ). HasNone sectors k here rest at old f) last none)))
-      (λ (has : HasGroup sectors file here more placed.left old f). inr (log_with written slot image blocks more placed.left old f is log
+      (λ (has : HasGroup sectors file here more placed.left old f). inr (log_with written whole slot image blocks more placed.left old f is log
       (subst (λ (k : ℕ). HasGroup sectors k here more placed.left old f) last has))) either)
       (leaves sectors here rest more placed.left behind_last placed.group)

@@ -82,9 +82,9 @@ file_image image file is free room = record {
 -- ---- the log
 
 -- blocks of a file that no container is in
-pub log_unlisted : (slot : ℕ) (image : BaseImage) (blocks : Blocks) (file : ℕ) (is : List (List ℕ)) (files : Files) → (Lists image file → ⊥)
-    → IsLog slot image (with_blocks file is blocks) files → IsLog slot image blocks files
-log_unlisted slot image blocks file is files free log = record {
+pub log_unlisted : (whole : Bool) (slot : ℕ) (image : BaseImage) (blocks : Blocks) (file : ℕ) (is : List (List ℕ)) (files : Files) → (Lists image file → ⊥)
+    → IsLog whole slot image (with_blocks file is blocks) files → IsLog whole slot image blocks files
+log_unlisted whole slot image blocks file is files free log = record {
   newest = log.newest;
   holds = record {
     made = log.holds.made;
@@ -94,26 +94,27 @@ log_unlisted slot image blocks file is files free log = record {
 }
 
 -- the file that is to be taken has changed
-pub log_beside : (slot : ℕ) (image : BaseImage) (blocks : Blocks) (file n : ℕ) (old new : Files) → IsFree image.files_made image.files file
-    → IsLog slot image blocks old → TornIn file 0 n old new → IsLog slot image blocks new
-log_beside slot image blocks file n old new free log torn = record {
+pub log_beside : (whole : Bool) (slot : ℕ) (image : BaseImage) (blocks : Blocks) (file n : ℕ) (old new : Files) → IsFree image.files_made image.files file
+    → IsLog whole slot image blocks old → TornIn file 0 n old new → IsLog whole slot image blocks new
+log_beside whole slot image blocks file n old new free log torn = record {
   newest = newest_same image old new file free.some torn.elsewhere (torn_lengths file 0 n old new torn) slot log.newest;
-  holds = holds_beside image old new file free.some torn.elsewhere (torn_lengths file 0 n old new torn) blocks log.holds free.free;
+  holds = holds_beside image old new file free.some torn.elsewhere (torn_lengths file 0 n old new torn) whole blocks log.holds free.free;
 }
 
 -- and its first gate is closed
-pub log_closed : (slot : ℕ) (image : BaseImage) (blocks : Blocks) (file n : ℕ) (old new : Files) → IsFree image.files_made image.files file
-    → IsLog slot image blocks old → TornIn file 0 n old new → AreWhole image.container_sectors (new file) [] → IsLog slot image (with_blocks file [] blocks) new
-log_closed slot image blocks file n old new free log torn none = record {
+pub log_closed : (whole : Bool) (slot : ℕ) (image : BaseImage) (blocks : Blocks) (file n : ℕ) (old new : Files) → IsFree image.files_made image.files file
+    → IsLog whole slot image blocks old → TornIn file 0 n old new → AreWhole image.container_sectors (new file) []
+    → IsLog whole slot image (with_blocks file [] blocks) new
+log_closed whole slot image blocks file n old new free log torn none = record {
   newest = newest_same image old new file free.some torn.elsewhere (torn_lengths file 0 n old new torn) slot log.newest;
-  holds = holds_with image old new file free.some torn.elsewhere (torn_lengths file 0 n old new torn) blocks [] log.holds none;
+  holds = holds_with image old new file free.some torn.elsewhere (torn_lengths file 0 n old new torn) whole blocks [] log.holds none;
 }
 
 -- the copy that lists it says what the files have
-pub holds_taken : (image : BaseImage) (blocks : Blocks) (file : ℕ) (files : Files) → Holds image (with_blocks file [] blocks) files
-    → AreWhole image.container_sectors (files file) [] → Holds (with_file file (with_next_turn image)) (with_blocks file [] blocks) files
-holds_taken image blocks file files holds none = record {
-  made = record { base = holds.made.base; made = holds.made.made };
+pub holds_taken : (whole : Bool) (image : BaseImage) (blocks : Blocks) (file : ℕ) (files : Files) → Holds whole image (with_blocks file [] blocks) files
+    → AreWhole image.container_sectors (files file) [] → Holds whole (with_file file (with_next_turn image)) (with_blocks file [] blocks) files
+holds_taken whole image blocks file files holds none = record {
+  made = λ full. record { base = (holds.made full).base; made = (holds.made full).made };
   opens = λ other listed. ⊎_elim
       (λ (same : other ≡ file). subst (AreWhole image.container_sectors (files other)) (sym (here file [] blocks other same))
       (subst (λ (k : ℕ). AreWhole image.container_sectors (files k) []) (sym same) none))
@@ -123,59 +124,59 @@ holds_taken image blocks file files holds none = record {
 
 -- ---- the file, taken
 
-module _ (slot : ℕ) (image next : BaseImage) (now : Newest) (view : record { slot = slot; image = image } ≡ now) (file : ℕ)
+module _ (whole : Bool) (slot : ℕ) (image next : BaseImage) (now : Newest) (view : record { slot = slot; image = image } ≡ now) (file : ℕ)
     (is : next ≡ with_file file (with_next_turn image)) (image_is : IsImage version_one image)
     (free_now : IsFree now.image.files_made now.image.files file) where
   free : IsFree image.files_made image.files file
   free = subst (λ (n : Newest). IsFree n.image.files_made n.image.files file) (sym view) free_now
 
-  log_of : (blocks : Blocks) (files : Files) → Stores now blocks files → IsLog slot image blocks files
-  log_of blocks files = subst (λ (n : Newest). Stores n blocks files) (sym view)
+  log_of : (blocks : Blocks) (files : Files) → Stores whole now blocks files → IsLog whole slot image blocks files
+  log_of blocks files = subst (λ (n : Newest). Stores whole n blocks files) (sym view)
 
-  of_log : (blocks : Blocks) (files : Files) → IsLog slot image blocks files → Stores now blocks files
-  of_log blocks files = subst (λ (n : Newest). Stores n blocks files) view
+  of_log : (blocks : Blocks) (files : Files) → IsLog whole slot image blocks files → Stores whole now blocks files
+  of_log blocks files = subst (λ (n : Newest). Stores whole n blocks files) view
 
   turn_is : next.turn ≡ (image.turn + 1) % 3
   turn_is = ap (λ (n : BaseImage). n.turn) is
 
-  holds_next : (blocks : Blocks) (files : Files) → Holds image (with_blocks file [] blocks) files → AreWhole image.container_sectors (files file) []
-      → Holds next (with_blocks file [] blocks) files
+  holds_next : (blocks : Blocks) (files : Files) → Holds whole image (with_blocks file [] blocks) files → AreWhole image.container_sectors (files file) []
+      → Holds whole next (with_blocks file [] blocks) files
   holds_next blocks files holds none =
-      subst (λ (n : BaseImage). Holds n (with_blocks file [] blocks) files) (sym is) (holds_taken image blocks file files holds none)
+      subst (λ (n : BaseImage). Holds whole n (with_blocks file [] blocks) files) (sym is) (holds_taken whole image blocks file files holds none)
 
-  pub taken_beside : (a b : DiskState) → Leaves (TornIn file 0 1 a.files) a b → (blocks : Blocks) → Stores now blocks a.files
-      → Leaves (λ f. Stores now blocks f ⊎ Stores (taken_of file now) (with_blocks file [] blocks) f) a b
+  pub taken_beside : (a b : DiskState) → Leaves (TornIn file 0 1 a.files) a b → (blocks : Blocks) → Stores whole now blocks a.files
+      → Leaves (λ f. Stores whole now blocks f ⊎ Stores whole (taken_of file now) (with_blocks file [] blocks) f) a b
   taken_beside a b torn blocks stores =
-      leaves_weaker (TornIn file 0 1 a.files) (λ f. Stores now blocks f ⊎ Stores (taken_of file now) (with_blocks file [] blocks) f) a b
-      (λ f changed. inl (of_log blocks f (log_beside slot image blocks file 1 a.files f free (log_of blocks a.files stores) changed))) torn
+      leaves_weaker (TornIn file 0 1 a.files) (λ f. Stores whole now blocks f ⊎ Stores whole (taken_of file now) (with_blocks file [] blocks) f) a b
+      (λ f changed. inl (of_log blocks f (log_beside whole slot image blocks file 1 a.files f free (log_of blocks a.files stores) changed))) torn
 
   pub taken_leaves : (a m b : DiskState) → TornIn file 0 1 a.files m.files → AreWhole image.container_sectors (m.files file) []
       → Leaves (TornIn file 0 1 a.files) a m
-      → ((before : BaseImage) (blocks : Blocks) → IsImage version_one before → next.turn ≡ (before.turn + 1) % 3 → IsLog slot before blocks m.files
-      → Holds next blocks m.files → Leaves (λ f. IsLog slot before blocks f ⊎ IsLog (1 - slot) next blocks f) m b)
-      → (blocks : Blocks) → Stores now blocks a.files
-      → Leaves (λ f. Stores now blocks f ⊎ Stores (taken_of file now) (with_blocks file [] blocks) f) a b
+      → ((before : BaseImage) (blocks : Blocks) → IsImage version_one before → next.turn ≡ (before.turn + 1) % 3 → IsLog whole slot before blocks m.files
+      → Holds whole next blocks m.files → Leaves (λ f. IsLog whole slot before blocks f ⊎ IsLog whole (1 - slot) next blocks f) m b)
+      → (blocks : Blocks) → Stores whole now blocks a.files
+      → Leaves (λ f. Stores whole now blocks f ⊎ Stores whole (taken_of file now) (with_blocks file [] blocks) f) a b
   taken_leaves a m b torn none first second blocks stores =
-      let closed = log_closed slot image blocks file 1 a.files m.files free (log_of blocks a.files stores) torn none in
-      leaves_then (λ f. Stores now blocks f ⊎ Stores (taken_of file now) (with_blocks file [] blocks) f) a m b
+      let closed = log_closed whole slot image blocks file 1 a.files m.files free (log_of blocks a.files stores) torn none in
+      leaves_then (λ f. Stores whole now blocks f ⊎ Stores whole (taken_of file now) (with_blocks file [] blocks) f) a m b
       (taken_beside a m first blocks stores)
-      (leaves_weaker (λ f. IsLog slot image (with_blocks file [] blocks) f ⊎ IsLog (1 - slot) next (with_blocks file [] blocks) f)
-      (λ f. Stores now blocks f ⊎ Stores (taken_of file now) (with_blocks file [] blocks) f) m b
+      (leaves_weaker (λ f. IsLog whole slot image (with_blocks file [] blocks) f ⊎ IsLog whole (1 - slot) next (with_blocks file [] blocks) f)
+      (λ f. Stores whole now blocks f ⊎ Stores whole (taken_of file now) (with_blocks file [] blocks) f) m b
       (λ f either. ⊎_elim
-      (λ (old : IsLog slot image (with_blocks file [] blocks) f). inl (of_log blocks f (log_unlisted slot image blocks file [] f free.free old)))
-      (λ (new : IsLog (1 - slot) next (with_blocks file [] blocks) f). inr (
-      subst (λ (n : Newest). Stores (taken_of file n) (with_blocks file [] blocks) f) view
-      (subst (λ (n : BaseImage). IsLog (1 - slot) n (with_blocks file [] blocks) f) is new)))
+      (λ (old : IsLog whole slot image (with_blocks file [] blocks) f). inl (of_log blocks f (log_unlisted whole slot image blocks file [] f free.free old)))
+      (λ (new : IsLog whole (1 - slot) next (with_blocks file [] blocks) f). inr (
+      subst (λ (n : Newest). Stores whole (taken_of file n) (with_blocks file [] blocks) f) view
+      (subst (λ (n : BaseImage). IsLog whole (1 - slot) n (with_blocks file [] blocks) f) is new)))
       either)
       (second image (with_blocks file [] blocks) image_is turn_is closed (holds_next blocks m.files closed.holds none)))
 
   pub taken_written : (used : ℕ) (old mid new : Files) → used ≡ 1 - slot → TornIn file 0 1 old mid → AreWhole image.container_sectors (mid file) []
-      → ((before : BaseImage) (blocks : Blocks) → IsImage version_one before → next.turn ≡ (before.turn + 1) % 3 → IsLog slot before blocks mid
-      → Holds next blocks mid → IsLog (1 - slot) next blocks new)
-      → (blocks : Blocks) → Stores now blocks old → IsLog used next (with_blocks file [] blocks) new
+      → ((before : BaseImage) (blocks : Blocks) → IsImage version_one before → next.turn ≡ (before.turn + 1) % 3 → IsLog whole slot before blocks mid
+      → Holds whole next blocks mid → IsLog whole (1 - slot) next blocks new)
+      → (blocks : Blocks) → Stores whole now blocks old → IsLog whole used next (with_blocks file [] blocks) new
   taken_written used old mid new beside torn none written blocks stores =
-      let closed = log_closed slot image blocks file 1 old mid free (log_of blocks old stores) torn none in
-      subst (λ (k : ℕ). IsLog k next (with_blocks file [] blocks) new) (sym beside)
+      let closed = log_closed whole slot image blocks file 1 old mid free (log_of blocks old stores) torn none in
+      subst (λ (k : ℕ). IsLog whole k next (with_blocks file [] blocks) new) (sym beside)
       (written image (with_blocks file [] blocks) image_is turn_is closed (holds_next blocks mid closed.holds none))
 
 -- ---- the copy without the low containers

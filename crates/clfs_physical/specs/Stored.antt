@@ -1,5 +1,5 @@
 -- What a log is on a disk: the newest copy in its base file, and the open blocks of the files that this copy lists.
-use Rattle.std.specs.Prelude.{◌≡◌, ◌⊎◌, ◌==◌, ℕ, ◌-◌, ◌*◌, ◌/◌, ◌<◌, ◌≤◌, if◌then◌else◌, List, [], ◌++◌, length, slice_index, Ok}
+use Rattle.std.specs.Prelude.{◌≡◌, ◌⊎◌, ◌==◌, Bool, true, ℕ, ◌-◌, ◌*◌, ◌/◌, ◌<◌, ◌≤◌, if◌then◌else◌, List, [], ◌++◌, length, slice_index, Ok}
 use Rattle.clfs_lsn.specs.Format.{sector_bytes}
 use Rattle.clfs_disk.specs.Files.{Files}
 use Rattle.clfs_container.specs.OpenBlocks.{total, AreWhole}
@@ -28,15 +28,17 @@ pub record AreMade (image : BaseImage) (files : Files) : Type 0 where
   pub base : 2 * slot_bytes ≤ length (files 0)
   pub made : (file : ℕ) → 1 ≤ file → file ≤ image.files_made → sector_bytes * image.container_sectors ≤ length (files file)
 
--- The files have what the copy says: their lengths, and in each listed file these open blocks, whose list ends cleanly.
-pub record Holds (image : BaseImage) (blocks : Blocks) (files : Files) : Type 0 where
-  pub made : AreMade image files
+-- The files have what the copy says: in each listed file these open blocks, whose list ends cleanly. With `whole` all files that it
+-- counts have their full lengths besides; without it nothing is said of lengths.
+pub record Holds (whole : Bool) (image : BaseImage) (blocks : Blocks) (files : Files) : Type 0 where
+  pub made : whole ≡ true → AreMade image files
   pub opens : (file : ℕ) → Lists image file → AreWhole image.container_sectors (files file) (blocks file)
 
--- The files are a log: this is the newest copy, in this slot, and the listed files have these open blocks.
-pub record IsLog (slot : ℕ) (image : BaseImage) (blocks : Blocks) (files : Files) : Type 0 where
+-- The files are a log: this is the newest copy, in this slot, and the listed files have these open blocks. With `whole` all files that
+-- the copy counts have their full lengths besides.
+pub record IsLog (whole : Bool) (slot : ℕ) (image : BaseImage) (blocks : Blocks) (files : Files) : Type 0 where
   pub newest : newest_of (files 0) ≡ Ok (slot, image)
-  pub holds : Holds image blocks files
+  pub holds : Holds whole image blocks files
 
 -- The same with these open blocks in one file.
 abbrev pub with_blocks : ℕ → List (List ℕ) → Blocks → Blocks
@@ -47,9 +49,10 @@ pub record Newest : Type 0 where
   pub slot : ℕ
   pub image : BaseImage
 
--- The files are a log whose newest copy this is, and the listed files have these open blocks.
-abbrev pub Stores : Newest → Blocks → Files → Type 0
-Stores newest blocks files = IsLog newest.slot newest.image blocks files
+-- The files are a log whose newest copy this is, and the listed files have these open blocks. With `whole` all files that the copy
+-- counts have their full lengths besides: a log that was opened may lie in shorter ones.
+abbrev pub Stores : Bool → Newest → Blocks → Files → Type 0
+Stores whole newest blocks files = IsLog whole newest.slot newest.image blocks files
 
 -- the file of the last listed container, in which the log goes on
 abbrev pub last_file : BaseImage → ℕ

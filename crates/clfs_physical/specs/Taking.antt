@@ -1,5 +1,5 @@
 -- Which file the next container takes, and what a turn leaves.
-use Rattle.std.specs.Prelude.{◌⊎◌, ◌==◌, ℕ, ◌+◌, ◌^◌, ◌<◌, ◌≤◌, if◌then◌else◌, List, [], length}
+use Rattle.std.specs.Prelude.{◌⊎◌, ◌==◌, Bool, ℕ, ◌+◌, ◌^◌, ◌<◌, ◌≤◌, if◌then◌else◌, List, [], length}
 use Rattle.clfs_disk.specs.Files.{Files}
 use Rattle.clfs_base.specs.declared.image.BaseImage.{BaseImage}
 use Rattle.clfs_base.specs.Writing.{older_of}
@@ -33,10 +33,11 @@ abbrev pub taken_of : ℕ → Newest → Newest
 taken_of file now = record { slot = older_of now.slot; image = with_file file (with_next_turn now.image) }
 
 -- While a log turns to its next container a crash leaves the log of before; or what waited is in it; or the copy lists no low
--- containers besides; or the next container is listed too, and has no open blocks.
-abbrev pub InTurn : Newest → ℕ → ℕ → List (List ℕ) → Blocks → Files → Type 0
-InTurn now first file more blocks files =
-    Stores now blocks files
-    ⊎ Stores now (with_group now.image more blocks) files
-    ⊎ Stores (low_of first now) (with_group now.image more blocks) files
-    ⊎ Stores (taken_of file (low_of first now)) (with_blocks file [] (with_group now.image more blocks)) files
+-- containers besides; or the next container is listed too, and has no open blocks. With `whole` all files that the copy counts have
+-- their full lengths besides.
+abbrev pub InTurn : Bool → Newest → ℕ → ℕ → List (List ℕ) → Blocks → Files → Type 0
+InTurn whole now first file more blocks files =
+    Stores whole now blocks files
+    ⊎ Stores whole now (with_group now.image more blocks) files
+    ⊎ Stores whole (low_of first now) (with_group now.image more blocks) files
+    ⊎ Stores whole (taken_of file (low_of first now)) (with_blocks file [] (with_group now.image more blocks)) files

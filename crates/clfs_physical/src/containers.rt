@@ -1,5 +1,5 @@
 // How many containers a log has: files that aren't there are made and synced, and then a copy counts them.
-ghost use Rattle.std.specs.Prelude.{◌≡◌, ◌⊎◌, ◌+◌, ◌≤◌, length, OnOk, IsErrOf};
+ghost use Rattle.std.specs.Prelude.{◌≡◌, ◌⊎◌, ◌+◌, ◌≤◌, Bool, length, OnOk, IsErrOf};
 ghost use Rattle.clfs_disk.specs.State.{TellsContents, IsSettled, IsSteady, Later, Leaves, Rises};
 ghost use Rattle.clfs_base.specs.Writing.{older_of};
 ghost use Rattle.clfs_physical.specs.Changes.{with_containers, next_copy, CanHave};
@@ -24,19 +24,19 @@ impl Physical {
         requires listed { first + 1 ≤ self.old.image.first + length self.old.image.files }
         requires containers { CanHave containers first self.old.image }
         ensures now { OnOk result (self.new ≡ record { slot = older_of self.old.slot; image = with_containers containers (next_copy first Change.Listing self.old.image) }) }
-        ensures written { OnOk result (TellsContents (D.state disk.old) → (blocks : Blocks)
-            → Stores self.old blocks (D.state disk.old).files → Stores self.new blocks (D.state disk.new).files) }
+        ensures written { OnOk result (TellsContents (D.state disk.old) → (whole : Bool) (blocks : Blocks)
+            → Stores whole self.old blocks (D.state disk.old).files → Stores whole self.new blocks (D.state disk.new).files) }
 
         // Also where memory was wanted half way, nothing is pending, and the copy and the open blocks are as before.
         ensures settled { (IsErrOf result PhysicalRefusal.DiskFault → ⊥) → IsSettled (D.state disk.old) → IsSettled (D.state disk.new) }
         ensures no_memory { IsErrOf result PhysicalRefusal.NoMemory → self.new ≡ self.old }
-        ensures kept { IsErrOf result PhysicalRefusal.NoMemory → (blocks : Blocks) → Stores self.old blocks (D.state disk.old).files
-            → Stores self.old blocks (D.state disk.new).files }
+        ensures kept { IsErrOf result PhysicalRefusal.NoMemory → (whole : Bool) (blocks : Blocks) → Stores whole self.old blocks (D.state disk.old).files
+            → Stores whole self.old blocks (D.state disk.new).files }
 
         // Whatever the answer, a crash at any moment leaves the same open blocks under the copy of before or under this one.
-        ensures moments { IsSettled (D.state disk.old) → (blocks : Blocks) → Stores self.old blocks (D.state disk.old).files
-            → Leaves (λ image. Stores self.old blocks image
-            ⊎ Stores (record { slot = older_of self.old.slot; image = with_containers containers (next_copy first Change.Listing self.old.image) }) blocks image)
+        ensures moments { IsSettled (D.state disk.old) → (whole : Bool) (blocks : Blocks) → Stores whole self.old blocks (D.state disk.old).files
+            → Leaves (λ image. Stores whole self.old blocks image
+            ⊎ Stores whole (record { slot = older_of self.old.slot; image = with_containers containers (next_copy first Change.Listing self.old.image) }) blocks image)
             (D.state disk.old) (D.state disk.new) }
 
         ensures time { Later (D.state disk.old) (D.state disk.new) }

@@ -1,5 +1,5 @@
 // A base copy, written over the older slot.
-ghost use Rattle.std.specs.Prelude.{◌≡◌, ◌⊎◌, ◌+◌, ◌-◌, ◌*◌, ◌%◌, ◌≤◌, ℕ, true, false, length, IfOk, OnOk, OnErr, IsOk};
+ghost use Rattle.std.specs.Prelude.{◌≡◌, ◌⊎◌, ◌+◌, ◌-◌, ◌*◌, ◌%◌, ◌≤◌, Bool, ℕ, true, false, length, IfOk, OnOk, OnErr, IsOk};
 ghost use Rattle.clfs_disk.specs.State.{TellsContents, IsHonest, IsSettled, IsSteady, Later, Leaves, Rises, raised};
 ghost use Rattle.clfs_base.specs.declared.image.BaseImage.{BaseImage};
 ghost use Rattle.clfs_base.specs.Layout.{slot_bytes, version_one};
@@ -55,15 +55,15 @@ pub fn store_copy<D: Disk>(
     requires room { length bytes.old ≡ slot_bytes - 1 }
     ensures slot { IfOk result (λ slot. slot ≡ older_of used) }
     ensures room { length bytes.new ≡ length bytes.old }
-    ensures written { OnOk result (TellsContents (D.state disk.old) → (image : BaseImage) (blocks : Blocks)
+    ensures written { OnOk result (TellsContents (D.state disk.old) → (whole : Bool) (image : BaseImage) (blocks : Blocks)
         → IsImage version_one image → next.now.turn ≡ (image.turn + 1) % 3
-        → IsLog used image blocks (D.state disk.old).files → Holds next.now blocks (D.state disk.old).files
-        → IsLog (older_of used) next.now blocks (D.state disk.new).files) }
+        → IsLog whole used image blocks (D.state disk.old).files → Holds whole next.now blocks (D.state disk.old).files
+        → IsLog whole (older_of used) next.now blocks (D.state disk.new).files) }
     ensures settled { OnOk result (IsHonest (D.state disk.old) → IsSettled (D.state disk.new)) }
-    ensures moments { IsSettled (D.state disk.old) → (image : BaseImage) (blocks : Blocks)
+    ensures moments { IsSettled (D.state disk.old) → (whole : Bool) (image : BaseImage) (blocks : Blocks)
         → IsImage version_one image → next.now.turn ≡ (image.turn + 1) % 3
-        → IsLog used image blocks (D.state disk.old).files → Holds next.now blocks (D.state disk.old).files
-        → Leaves (λ files. IsLog used image blocks files ⊎ IsLog (older_of used) next.now blocks files)
+        → IsLog whole used image blocks (D.state disk.old).files → Holds whole next.now blocks (D.state disk.old).files
+        → Leaves (λ files. IsLog whole used image blocks files ⊎ IsLog whole (older_of used) next.now blocks files)
         (D.state disk.old) (D.state disk.new) }
     ensures lengths { SameLengths (D.state disk.old).files (D.state disk.new).files }
     ensures time { Later (D.state disk.old) (D.state disk.new) }

@@ -8,6 +8,10 @@
 //! the log of before, or with all of what a part of it writes: for a group the gate of its first block decides, for a copy
 //! the gate of its slot.
 //!
+//! A log that was opened may lie in files that are shorter than their full lengths. What a call leaves is said of such a log as well
+//! as of one whose files all have their full lengths, which they then keep (`whole` of `Stores`). Only that a call over a steady disk
+//! never answers a fault is said of full lengths alone.
+//!
 //! A file that is used again still has the blocks of an earlier container in it. They don't come back: its first gate is closed before
 //! a copy lists it, so its open blocks are none (`take_file`), and each group closes the gate behind its last block, so
 //! the open blocks are then those of the group and no more (`flush`).

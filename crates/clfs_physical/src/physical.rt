@@ -1,7 +1,7 @@
 // The newest base copy of a log, with the slot that it is in, and the calls that write a group or a copy. The copy that follows is made of
 // it where it stands, so that no memory is wanted when the disk is written. What a crash leaves is said of two values: the one
 // before the call, and the one after an Ok.
-ghost use Rattle.std.specs.Prelude.{◌≡◌, ◌⊎◌, ◌+◌, ◌-◌, ◌*◌, ◌%◌, ◌≤◌, ◌∷◌, ◌++◌, [], List, ℕ, true, false, length, IfOk, OnOk, OnErr, IsOk, IsErrOf};
+ghost use Rattle.std.specs.Prelude.{◌≡◌, ◌⊎◌, ◌+◌, ◌-◌, ◌*◌, ◌%◌, ◌≤◌, ◌∷◌, ◌++◌, [], List, Bool, ℕ, true, false, length, IfOk, OnOk, OnErr, IsOk, IsErrOf};
 ghost use Rattle.clfs_lsn.specs.Format.{sector_bytes};
 ghost use Rattle.clfs_disk.specs.State.{TellsContents, IsHonest, IsSettled, IsSteady, Later, Leaves, Rises, raised};
 ghost use Rattle.clfs_base.specs.declared.image.BaseImage.{BaseImage};
@@ -79,15 +79,15 @@ impl Physical {
     /// the group but for its first byte, and a closed gate behind it where the container has a sector there; it is empty where nothing
     /// waits, and then nothing is written.
     pub fn flush<D: Disk>(&self, disk: &mut D, at: u32, body: &[u8]) -> Result<(), Failed>
-        ensures written { OnOk result (TellsContents (D.state disk.old) → (blocks : Blocks) (more : List (List ℕ))
-            → Stores self.now blocks (D.state disk.old).files → Waits self.now.image blocks at body.now more
-            → Stores self.now (with_group self.now.image more blocks) (D.state disk.new).files) }
+        ensures written { OnOk result (TellsContents (D.state disk.old) → (whole : Bool) (blocks : Blocks) (more : List (List ℕ))
+            → Stores whole self.now blocks (D.state disk.old).files → Waits self.now.image blocks at body.now more
+            → Stores whole self.now (with_group self.now.image more blocks) (D.state disk.new).files) }
         ensures settled { OnOk result (IsSettled (D.state disk.old) → IsSettled (D.state disk.new)) }
 
         // Whatever the answer, a crash at any moment leaves the blocks of before, or these and all of the group.
-        ensures moments { IsSettled (D.state disk.old) → (blocks : Blocks) (more : List (List ℕ))
-            → Stores self.now blocks (D.state disk.old).files → Waits self.now.image blocks at body.now more
-            → Leaves (λ image. Stores self.now blocks image ⊎ Stores self.now (with_group self.now.image more blocks) image)
+        ensures moments { IsSettled (D.state disk.old) → (whole : Bool) (blocks : Blocks) (more : List (List ℕ))
+            → Stores whole self.now blocks (D.state disk.old).files → Waits self.now.image blocks at body.now more
+            → Leaves (λ image. Stores whole self.now blocks image ⊎ Stores whole self.now (with_group self.now.image more blocks) image)
             (D.state disk.old) (D.state disk.new) }
 
         ensures nothing { body.now ≡ [] → IsOk result × (disk.new ≡ disk.old) }
@@ -129,14 +129,14 @@ impl Physical {
         requires listed { first + 1 ≤ self.old.image.first + length self.old.image.files }
         requires change { Suits change.now self.old.image }
         ensures now { OnOk result (self.new ≡ record { slot = older_of self.old.slot; image = next_copy first change.now self.old.image }) }
-        ensures written { OnOk result (TellsContents (D.state disk.old) → (blocks : Blocks)
-            → Stores self.old blocks (D.state disk.old).files → Stores self.new blocks (D.state disk.new).files) }
+        ensures written { OnOk result (TellsContents (D.state disk.old) → (whole : Bool) (blocks : Blocks)
+            → Stores whole self.old blocks (D.state disk.old).files → Stores whole self.new blocks (D.state disk.new).files) }
         ensures settled { OnOk result (IsSettled (D.state disk.old) → IsSettled (D.state disk.new)) }
 
         // Whatever the answer, a crash at any moment leaves the same open blocks under the copy of before or under this one.
-        ensures moments { IsSettled (D.state disk.old) → (blocks : Blocks) → Stores self.old blocks (D.state disk.old).files
-            → Leaves (λ image. Stores self.old blocks image
-            ⊎ Stores (record { slot = older_of self.old.slot; image = next_copy first change.now self.old.image }) blocks image)
+        ensures moments { IsSettled (D.state disk.old) → (whole : Bool) (blocks : Blocks) → Stores whole self.old blocks (D.state disk.old).files
+            → Leaves (λ image. Stores whole self.old blocks image
+            ⊎ Stores whole (record { slot = older_of self.old.slot; image = next_copy first change.now self.old.image }) blocks image)
             (D.state disk.old) (D.state disk.new) }
 
         ensures lengths { SameLengths (D.state disk.old).files (D.state disk.new).files }
@@ -160,13 +160,13 @@ impl Physical {
         requires first { self.old.image.first ≤ first }
         requires listed { first + 1 ≤ self.old.image.first + length self.old.image.files }
         ensures now { OnOk result (self.new ≡ low_of first self.old) }
-        ensures written { OnOk result (TellsContents (D.state disk.old) → (blocks : Blocks)
-            → Stores self.old blocks (D.state disk.old).files → Stores self.new blocks (D.state disk.new).files) }
+        ensures written { OnOk result (TellsContents (D.state disk.old) → (whole : Bool) (blocks : Blocks)
+            → Stores whole self.old blocks (D.state disk.old).files → Stores whole self.new blocks (D.state disk.new).files) }
         ensures settled { OnOk result (IsSettled (D.state disk.old) → IsSettled (D.state disk.new)) }
 
         // Whatever the answer, a crash at any moment leaves the same open blocks under the copy of before or under this one.
-        ensures moments { IsSettled (D.state disk.old) → (blocks : Blocks) → Stores self.old blocks (D.state disk.old).files
-            → Leaves (λ image. Stores self.old blocks image ⊎ Stores (low_of first self.old) blocks image)
+        ensures moments { IsSettled (D.state disk.old) → (whole : Bool) (blocks : Blocks) → Stores whole self.old blocks (D.state disk.old).files
+            → Leaves (λ image. Stores whole self.old blocks image ⊎ Stores whole (low_of first self.old) blocks image)
             (D.state disk.old) (D.state disk.new) }
 
         ensures lengths { SameLengths (D.state disk.old).files (D.state disk.new).files }
@@ -195,15 +195,15 @@ impl Physical {
         requires files { files.items ≡ self.old.image.files ++ file ∷ [] }
         requires room { HasRoom self.old.image }
         ensures now { OnOk result (self.new ≡ taken_of file self.old) }
-        ensures written { OnOk result (TellsContents (D.state disk.old) → (blocks : Blocks)
-            → Stores self.old blocks (D.state disk.old).files
-            → Stores self.new (with_blocks file [] blocks) (D.state disk.new).files) }
+        ensures written { OnOk result (TellsContents (D.state disk.old) → (whole : Bool) (blocks : Blocks)
+            → Stores whole self.old blocks (D.state disk.old).files
+            → Stores whole self.new (with_blocks file [] blocks) (D.state disk.new).files) }
         ensures settled { OnOk result (IsSettled (D.state disk.old) → IsSettled (D.state disk.new)) }
 
         // Whatever the answer, a crash at any moment leaves the log of before, or under the new copy the same open blocks and none in
         // the new container, whatever the file held.
-        ensures moments { IsSettled (D.state disk.old) → (blocks : Blocks) → Stores self.old blocks (D.state disk.old).files
-            → Leaves (λ image. Stores self.old blocks image ⊎ Stores (taken_of file self.old) (with_blocks file [] blocks) image)
+        ensures moments { IsSettled (D.state disk.old) → (whole : Bool) (blocks : Blocks) → Stores whole self.old blocks (D.state disk.old).files
+            → Leaves (λ image. Stores whole self.old blocks image ⊎ Stores whole (taken_of file self.old) (with_blocks file [] blocks) image)
             (D.state disk.old) (D.state disk.new) }
 
         ensures lengths { SameLengths (D.state disk.old).files (D.state disk.new).files }
@@ -235,14 +235,14 @@ impl Physical {
         requires listed { first + 1 ≤ self.old.image.first + length self.old.image.files }
         requires row { IsNewRow row self.old.image }
         ensures now { OnOk result (self.new ≡ record { slot = older_of self.old.slot; image = with_stream row (next_copy first Change.Listing self.old.image) }) }
-        ensures written { OnOk result (TellsContents (D.state disk.old) → (blocks : Blocks)
-            → Stores self.old blocks (D.state disk.old).files → Stores self.new blocks (D.state disk.new).files) }
+        ensures written { OnOk result (TellsContents (D.state disk.old) → (whole : Bool) (blocks : Blocks)
+            → Stores whole self.old blocks (D.state disk.old).files → Stores whole self.new blocks (D.state disk.new).files) }
         ensures settled { OnOk result (IsSettled (D.state disk.old) → IsSettled (D.state disk.new)) }
 
         // Whatever the answer, a crash at any moment leaves the same open blocks under the copy of before or under this one.
-        ensures moments { IsSettled (D.state disk.old) → (blocks : Blocks) → Stores self.old blocks (D.state disk.old).files
-            → Leaves (λ image. Stores self.old blocks image
-            ⊎ Stores (record { slot = older_of self.old.slot; image = with_stream row (next_copy first Change.Listing self.old.image) }) blocks image)
+        ensures moments { IsSettled (D.state disk.old) → (whole : Bool) (blocks : Blocks) → Stores whole self.old blocks (D.state disk.old).files
+            → Leaves (λ image. Stores whole self.old blocks image
+            ⊎ Stores whole (record { slot = older_of self.old.slot; image = with_stream row (next_copy first Change.Listing self.old.image) }) blocks image)
             (D.state disk.old) (D.state disk.new) }
 
         ensures no_memory { IsErrOf result PhysicalRefusal.NoMemory → (self.new ≡ self.old) × (disk.new ≡ disk.old) }
@@ -273,16 +273,17 @@ impl Physical {
         requires listed { first + 1 ≤ self.old.image.first + length self.old.image.files }
         requires containers { CanHave containers first self.old.image }
         ensures now { OnOk result (self.new ≡ record { slot = older_of self.old.slot; image = with_containers containers (next_copy first Change.Listing self.old.image) }) }
-        ensures written { OnOk result (TellsContents (D.state disk.old) → (blocks : Blocks)
-            → Stores self.old blocks (D.state disk.old).files → AreMade (with_containers containers self.old.image) (D.state disk.old).files
-            → Stores self.new blocks (D.state disk.new).files) }
+        ensures written { OnOk result (TellsContents (D.state disk.old) → (whole : Bool) (blocks : Blocks)
+            → Stores whole self.old blocks (D.state disk.old).files
+            → (whole ≡ true → AreMade (with_containers containers self.old.image) (D.state disk.old).files)
+            → Stores whole self.new blocks (D.state disk.new).files) }
         ensures settled { OnOk result (IsSettled (D.state disk.old) → IsSettled (D.state disk.new)) }
 
         // Whatever the answer, a crash at any moment leaves the same open blocks under the copy of before or under this one.
-        ensures moments { IsSettled (D.state disk.old) → (blocks : Blocks) → Stores self.old blocks (D.state disk.old).files
-            → AreMade (with_containers containers self.old.image) (D.state disk.old).files
-            → Leaves (λ image. Stores self.old blocks image
-            ⊎ Stores (record { slot = older_of self.old.slot; image = with_containers containers (next_copy first Change.Listing self.old.image) }) blocks image)
+        ensures moments { IsSettled (D.state disk.old) → (whole : Bool) (blocks : Blocks) → Stores whole self.old blocks (D.state disk.old).files
+            → (whole ≡ true → AreMade (with_containers containers self.old.image) (D.state disk.old).files)
+            → Leaves (λ image. Stores whole self.old blocks image
+            ⊎ Stores whole (record { slot = older_of self.old.slot; image = with_containers containers (next_copy first Change.Listing self.old.image) }) blocks image)
             (D.state disk.old) (D.state disk.new) }
 
         ensures lengths { SameLengths (D.state disk.old).files (D.state disk.new).files }

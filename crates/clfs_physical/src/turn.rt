@@ -1,7 +1,7 @@
 // A turn to the next container, in three parts: what waits is written, a copy without the low containers is written, and a file is
 // taken. All memory is taken first. What waits lies in the container that the log leaves, and is on the disk before a copy
 // lists the next one: so a crash never leaves a later container beside an earlier one that has lost blocks.
-ghost use Rattle.std.specs.Prelude.{◌≡◌, ◌⊎◌, ◌+◌, ◌*◌, ◌≤◌, ◌∷◌, ◌++◌, ℕ, List, [], length, IfOk, OnOk, OnErr, IsOk, IsErrOf};
+ghost use Rattle.std.specs.Prelude.{◌≡◌, ◌⊎◌, ◌+◌, ◌*◌, ◌≤◌, ◌∷◌, ◌++◌, Bool, ℕ, List, [], length, IfOk, OnOk, OnErr, IsOk, IsErrOf};
 ghost use Rattle.clfs_lsn.specs.Format.{sector_bytes};
 ghost use Rattle.clfs_disk.specs.State.{TellsContents, IsSettled, IsSteady, Later, Leaves, Rises, raised};
 ghost use Rattle.clfs_physical.specs.Joined.{SameLengths};
@@ -29,17 +29,17 @@ impl Physical {
         requires listed { first + 1 ≤ self.old.image.first + length self.old.image.files }
         requires room { HasRoom (low_of first self.old).image }
         ensures now { OnOk result ((file : ℕ) → IsNextFile (low_of first self.old).image file → self.new ≡ taken_of file (low_of first self.old)) }
-        ensures written { OnOk result (TellsContents (D.state disk.old) → (file : ℕ) (blocks : Blocks) (more : List (List ℕ))
-            → IsNextFile (low_of first self.old).image file → Stores self.old blocks (D.state disk.old).files
+        ensures written { OnOk result (TellsContents (D.state disk.old) → (whole : Bool) (file : ℕ) (blocks : Blocks) (more : List (List ℕ))
+            → IsNextFile (low_of first self.old).image file → Stores whole self.old blocks (D.state disk.old).files
             → Waits self.old.image blocks at body.now more
-            → Stores self.new (with_blocks file [] (with_group self.old.image more blocks)) (D.state disk.new).files) }
+            → Stores whole self.new (with_blocks file [] (with_group self.old.image more blocks)) (D.state disk.new).files) }
         ensures settled { OnOk result (IsSettled (D.state disk.old) → IsSettled (D.state disk.new)) }
 
         // Whatever the answer, a crash at any moment leaves the log of before, or one after each part.
-        ensures moments { IsSettled (D.state disk.old) → (file : ℕ) (blocks : Blocks) (more : List (List ℕ))
-            → IsNextFile (low_of first self.old).image file → Stores self.old blocks (D.state disk.old).files
+        ensures moments { IsSettled (D.state disk.old) → (whole : Bool) (file : ℕ) (blocks : Blocks) (more : List (List ℕ))
+            → IsNextFile (low_of first self.old).image file → Stores whole self.old blocks (D.state disk.old).files
             → Waits self.old.image blocks at body.now more
-            → Leaves (InTurn self.old first file more blocks) (D.state disk.old) (D.state disk.new) }
+            → Leaves (InTurn whole self.old first file more blocks) (D.state disk.old) (D.state disk.new) }
 
         ensures no_memory { IsErrOf result PhysicalRefusal.NoMemory → (self.new ≡ self.old) × (disk.new ≡ disk.old) }
         ensures lengths { SameLengths (D.state disk.old).files (D.state disk.new).files }
@@ -103,13 +103,13 @@ impl Physical {
         requires free { IsNextFile (low_of first self.old).image file }
         requires files { files.items ≡ (low_of first self.old).image.files ++ file ∷ [] }
         ensures now { OnOk result (self.new ≡ taken_of file (low_of first self.old)) }
-        ensures written { OnOk result (TellsContents (D.state disk.old) → (blocks : Blocks) (more : List (List ℕ))
-            → Stores self.old blocks (D.state disk.old).files → Waits self.old.image blocks at body.now more
-            → Stores self.new (with_blocks file [] (with_group self.old.image more blocks)) (D.state disk.new).files) }
+        ensures written { OnOk result (TellsContents (D.state disk.old) → (whole : Bool) (blocks : Blocks) (more : List (List ℕ))
+            → Stores whole self.old blocks (D.state disk.old).files → Waits self.old.image blocks at body.now more
+            → Stores whole self.new (with_blocks file [] (with_group self.old.image more blocks)) (D.state disk.new).files) }
         ensures settled { OnOk result (IsSettled (D.state disk.old) → IsSettled (D.state disk.new)) }
-        ensures moments { IsSettled (D.state disk.old) → (blocks : Blocks) (more : List (List ℕ))
-            → Stores self.old blocks (D.state disk.old).files → Waits self.old.image blocks at body.now more
-            → Leaves (InTurn self.old first file more blocks) (D.state disk.old) (D.state disk.new) }
+        ensures moments { IsSettled (D.state disk.old) → (whole : Bool) (blocks : Blocks) (more : List (List ℕ))
+            → Stores whole self.old blocks (D.state disk.old).files → Waits self.old.image blocks at body.now more
+            → Leaves (InTurn whole self.old first file more blocks) (D.state disk.old) (D.state disk.new) }
         ensures lengths { SameLengths (D.state disk.old).files (D.state disk.new).files }
         ensures time { Later (D.state disk.old) (D.state disk.new) }
         ensures calls_at_most { raised 0 (D.state disk.new).calls ≤ raised 20 (D.state disk.old).calls }

@@ -10,26 +10,26 @@ use Rattle.clfs_physical.proofs.Taken.{low_counts, first_part, second_part, turn
 use Rattle.clfs_physical.proofs.physical.Physical.turn_to.Goals as goal
 
 pub returns-in_err-drop_low-clause-moments : goal.returns-in_err-drop_low-clause-moments
-returns-in_err-drop_low-clause-moments g c settled blocks more stores waits =
+returns-in_err-drop_low-clause-moments g c settled whole blocks more stores waits =
     let now = c.args.self.now in
     let behind : Blocks = with_group now.image more blocks in
-    let A : Files → Type 0 = Stores now blocks in
-    let B : Files → Type 0 = Stores now behind in
-    let C : Files → Type 0 = Stores (low_of c.args.first now) behind in
-    let D : Files → Type 0 = Stores (taken_of c.args.file (low_of c.args.first now)) (with_blocks c.args.file [] behind) in
-    leaves_then (InTurn now c.args.first c.args.file more blocks) _ _ _
-    (first_part A B C D _ _ (c.flush.ensures.moments settled blocks more stores waits))
-    (second_part A B C D _ _ (c.drop_low.ensures.moments (c.in_ok-flush.ensures.settled settled) behind
-    (c.in_ok-flush.ensures.written settled.honest.0 blocks more stores waits)))
+    let A : Files → Type 0 = Stores whole now blocks in
+    let B : Files → Type 0 = Stores whole now behind in
+    let C : Files → Type 0 = Stores whole (low_of c.args.first now) behind in
+    let D : Files → Type 0 = Stores whole (taken_of c.args.file (low_of c.args.first now)) (with_blocks c.args.file [] behind) in
+    leaves_then (InTurn whole now c.args.first c.args.file more blocks) _ _ _
+    (first_part A B C D _ _ (c.flush.ensures.moments settled whole blocks more stores waits))
+    (second_part A B C D _ _ (c.drop_low.ensures.moments (c.in_ok-flush.ensures.settled settled) whole behind
+    (c.in_ok-flush.ensures.written settled.honest.0 whole blocks more stores waits)))
 
 pub returns-clause-written : goal.returns-clause-written
 returns-clause-written g c = on_ok_weaker c.take_file.result
-    (λ written tells blocks more stores waits.
+    (λ written tells whole blocks more stores waits.
     let mid-tells = subst (λ (n : Nature). IsTrue n.tells_contents) (sym c.flush.ensures.time.nature) tells in
     let late-tells = subst (λ (n : Nature). IsTrue n.tells_contents) (sym c.drop_low.ensures.time.nature) mid-tells in
-    written late-tells (with_group c.args.self.now.image more blocks)
-    (c.in_ok-drop_low.ensures.written mid-tells (with_group c.args.self.now.image more blocks)
-    (c.in_ok-flush.ensures.written tells blocks more stores waits)))
+    written late-tells whole (with_group c.args.self.now.image more blocks)
+    (c.in_ok-drop_low.ensures.written mid-tells whole (with_group c.args.self.now.image more blocks)
+    (c.in_ok-flush.ensures.written tells whole blocks more stores waits)))
     c.take_file.ensures.written
 
 pub returns-clause-settled : goal.returns-clause-settled
@@ -38,20 +38,20 @@ returns-clause-settled g c = on_ok_weaker c.take_file.result
     c.take_file.ensures.settled
 
 pub returns-clause-moments : goal.returns-clause-moments
-returns-clause-moments g c settled blocks more stores waits =
+returns-clause-moments g c settled whole blocks more stores waits =
     let now = c.args.self.now in
     let behind : Blocks = with_group now.image more blocks in
     let low = low_of c.args.first now in
     let settled-2 = c.in_ok-flush.ensures.settled settled in
     let settled-3 = c.in_ok-drop_low.ensures.settled settled-2 in
     let tells-2 = settled-2.honest.0 in
-    let flushed = c.in_ok-flush.ensures.written settled.honest.0 blocks more stores waits in
-    turn_leaves (Stores now blocks) (Stores now behind) (Stores low behind) (Stores (taken_of c.args.file low) (with_blocks c.args.file [] behind)) _ _ _ _
-    (c.flush.ensures.moments settled blocks more stores waits)
-    (c.drop_low.ensures.moments settled-2 behind flushed)
-    (subst (λ (n : Newest). Leaves (λ f. Stores n behind f ⊎ Stores (taken_of c.args.file n) (with_blocks c.args.file [] behind) f)
+    let flushed = c.in_ok-flush.ensures.written settled.honest.0 whole blocks more stores waits in
+    turn_leaves (Stores whole now blocks) (Stores whole now behind) (Stores whole low behind) (Stores whole (taken_of c.args.file low) (with_blocks c.args.file [] behind)) _ _ _ _
+    (c.flush.ensures.moments settled whole blocks more stores waits)
+    (c.drop_low.ensures.moments settled-2 whole behind flushed)
+    (subst (λ (n : Newest). Leaves (λ f. Stores whole n behind f ⊎ Stores whole (taken_of c.args.file n) (with_blocks c.args.file [] behind) f)
     (g.D.Disk.state c.drop_low.new.disk) (g.D.Disk.state c.take_file.new.disk)) c.in_ok-drop_low.ensures.now
-    (c.take_file.ensures.moments settled-3 behind (c.in_ok-drop_low.ensures.written tells-2 behind flushed)))
+    (c.take_file.ensures.moments settled-3 whole behind (c.in_ok-drop_low.ensures.written tells-2 whole behind flushed)))
 
 pub returns-clause-time : goal.returns-clause-time
 returns-clause-time g c = later_then _ _ _ c.flush.ensures.time (later_then _ _ _ c.drop_low.ensures.time c.take_file.ensures.time)
