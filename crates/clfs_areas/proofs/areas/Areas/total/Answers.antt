@@ -1,0 +1,16 @@
+use Rattle.std.proofs.Common.{◌∙◌, ap, sym, List}
+use Rattle.clfs_model.specs.declared.state.Area.{Area}
+use Rattle.clfs_ledger.specs.declared.row.Reservation.{Reservation}
+use Rattle.clfs_ledger.specs.Rows.{total_held}
+use Rattle.clfs_areas.specs.Table.{all_held}
+use Rattle.clfs_areas.proofs.Parts.{parts_seen}
+use Rattle.clfs_areas.proofs.Held.{total_seen}
+use Rattle.clfs_areas.proofs.areas.Areas.total.Goals as goal
+
+pub returns-clause-value : goal.returns-clause-value
+returns-clause-value c =
+    let parts = parts_seen c.self.inside c.args.self.now c.self.view_is c.self.invariant in
+    c.total.ensures ∙ ap (λ (rows : List Reservation). total_held rows) parts.reservations_are ∙ total_seen c.args.self.now.areas
+
+pub returns-clause-state : goal.returns-clause-state
+returns-clause-state c = λ s same. returns-clause-value c ∙ ap (λ (areas : List Area). all_held areas) (sym same)
