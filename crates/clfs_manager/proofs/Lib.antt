@@ -1,3 +1,6 @@
 pub mod Joining
 pub mod Copies
 pub mod Made
+pub mod Heads
+pub mod Holding
+pub mod Opened

@@ -1,2 +1,4 @@
 pub mod Formatting
-pub mod Loading
+pub mod Memory
+pub mod OnDisk
+pub mod Calls

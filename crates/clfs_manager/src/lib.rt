@@ -8,6 +8,7 @@
 
 mod first_copy;
 mod format;
+mod log;
 mod manager;
 mod refusal;
 

@@ -14,36 +14,33 @@ ghost use Rattle.clfs_recover.specs.Opening.{IsRefused, told_parts};
 ghost use Rattle.clfs_manager.specs.Formatting.{open_slot_of, ComesAtOnce};
 
 use crate::format::format_disk;
+use crate::log::{Log, open_log};
 use crate::refusal::FormatRefusal;
 use clfs_disk::Disk;
 use clfs_lsn::Shape;
-use clfs_model::State;
 use clfs_recover::{
-    HeadParts, LoadRefusal, load_heads, logs_are_found_in_files, opened_states_are_cut,
+    LoadRefusal, load_heads, logs_are_found_in_files, opened_states_are_cut,
     opened_states_are_valid,
 };
-use clfs_told::Told;
-use std::alloc::Global;
+use std::alloc::{AllocError, Global};
 use std::marker::Model;
 
 /// A log over a disk. A contract sees the state of the log machine that it stands for, and the disk.
 #[derive(Drop)]
 pub struct Manager<D: Disk> {
     disk: D,
-    opened: HeadParts,
-    write_buffers: u32,
-    state: Told<State>,
+    log: Log,
 }
 
 impl<D: Disk> Model for Manager<D> {
     ghost use Rattle.clfs_model.specs.declared.state.State.{State};
-    ghost use Rattle.clfs_manager.specs.Loading.{IsLoaded};
+    ghost use Rattle.clfs_manager.specs.OnDisk.{IsManaged};
 
     ghost Value = { State × D };
 
-    ghost view = { λ m. (m.state.value, m.disk) };
+    ghost view = { λ m. (m.log.state.value, m.disk) };
 
-    ghost invariant = { λ m. IsLoaded m.state.value m.opened m.write_buffers };
+    ghost invariant = { λ m. IsManaged (D.state m.disk) m.log };
 }
 
 /// A log wasn't opened. The disk is given back.
@@ -53,13 +50,6 @@ pub struct LoadRefused<D> {
     pub disk: D,
     /// Why.
     pub cause: LoadRefusal,
-}
-
-// The state of what was opened.
-fn state_of(opened: &HeadParts, write_buffers: u32) -> Told<State>
-    ensures { result.value ≡ state_of (told_parts opened.now) write_buffers }
-{
-    Told::pick(&(opened, write_buffers))
 }
 
 /// A log wasn't made. The disk is given back.
@@ -149,17 +139,16 @@ impl<D: Disk> Manager<D> {
         opened_states_are_valid();
         opened_states_are_cut();
         let mut disk = disk;
-        match load_heads(alloc, &mut disk) {
-            Ok(opened) => {
-                let state = state_of(&opened, write_buffers);
-                Ok(Manager {
-                    disk,
-                    opened,
-                    write_buffers,
-                    state,
-                })
-            }
-            Err(cause) => Err(LoadRefused { disk, cause }),
+        let opened = match load_heads(alloc, &mut disk) {
+            Ok(opened) => opened,
+            Err(cause) => return Err(LoadRefused { disk, cause }),
+        };
+        match open_log(alloc, opened, write_buffers) {
+            Ok(log) => Ok(Manager { disk, log }),
+            Err(AllocError) => Err(LoadRefused {
+                disk,
+                cause: LoadRefusal::NoMemory,
+            }),
         }
     }
 
@@ -167,12 +156,7 @@ impl<D: Disk> Manager<D> {
     pub fn close(self) -> D
         ensures { result ≡ self.1 }
     {
-        let Manager {
-            disk,
-            opened: _,
-            write_buffers: _,
-            state: _,
-        } = self;
+        let Manager { disk, log: _ } = self;
         disk
     }
 }

@@ -1,0 +1,148 @@
+// A log as a manager has it in memory: tables of its records by their heads, the areas of clients, what is set, the newest base copy, what waits to
+// be written, and blocks that were read. The state for which all this stands is told, for clauses alone.
+ghost use Rattle.std.specs.Prelude.{◌≡◌, ◌≤◌, ◌<◌, ◌^◌, [], false, map, if◌then◌else◌, Some, None, IfOk};
+ghost use Rattle.clfs_lsn.specs.Head.{head_of};
+ghost use Rattle.clfs_lsn.specs.Limits.{most_write_buffers};
+ghost use Rattle.clfs_model.specs.Flush.{block_start};
+ghost use Rattle.clfs_recover.specs.Files.{policy_of, state_of};
+ghost use Rattle.clfs_recover.specs.Walk.{shape_of};
+ghost use Rattle.clfs_recover.specs.KnownLogs.{IsLogOf};
+ghost use Rattle.clfs_recover.specs.Opening.{told_parts};
+ghost use Rattle.clfs_manager.specs.Memory.{Holds, policies_in};
+
+use clfs_archive::{Archive, open_archive};
+use clfs_areas::Areas;
+use clfs_base::BaseImage;
+use clfs_buffers::Buffers;
+use clfs_laws::numbers_fit_their_types;
+use clfs_lsn::{Lsn, Place, Shape};
+use clfs_model::State;
+use clfs_physical::Physical;
+use clfs_policy::Policies;
+use clfs_queue::Queue;
+use clfs_recover::{
+    HeadParts, logs_are_found_in_files, opened_bases_are_moved_by_records, opened_copies_fit,
+    opened_records_lie_in_order, opened_states_are_cut, opened_states_are_valid,
+};
+use clfs_tables::{Tables, open_tables};
+use clfs_told::Told;
+use std::alloc::{AllocError, Global};
+
+// All of a log but its disk.
+#[derive(Drop)]
+pub(crate) struct Log {
+    pub alloc: Global,
+    pub tables: Tables,
+    pub areas: Areas,
+    pub archive: Archive,
+    pub policies: Policies,
+    pub physical: Physical,
+    pub queue: Queue,
+    pub buffers: Buffers,
+    pub broken: bool,
+    pub state: Told<State>,
+}
+
+// The state of what was opened.
+fn state_of(opened: &HeadParts, write_buffers: u32) -> Told<State>
+    ensures { result.value ≡ state_of (told_parts opened.now) write_buffers }
+{
+    Told::pick(&(opened, write_buffers))
+}
+
+// The number of a policy, or none where it is 0.
+fn policy_of(value: u16) -> Option<u16>
+    ensures { result ≡ policy_of value }
+{
+    if value == 0 { None } else { Some(value) }
+}
+
+// The policies that a base copy has.
+fn policies_in(image: &BaseImage) -> Policies
+    ensures { result ≡ policies_in image.now }
+{
+    Policies {
+        maximum: policy_of(image.maximum),
+        minimum: policy_of(image.minimum),
+        growth: policy_of(image.growth),
+        automatic: image.automatic,
+    }
+}
+
+// The archive tail that a base copy has, where archiving is on.
+fn tail_in(image: &BaseImage) -> Option<Lsn>
+    ensures { result ≡ (if image.now.archiving then Some image.now.tail else None) }
+{
+    if image.archiving {
+        Some(image.tail)
+    } else {
+        None
+    }
+}
+
+// How large blocks and containers are, as a base copy says it.
+fn shape_of(image: &BaseImage) -> Shape
+    ensures { result ≡ shape_of image.now }
+{
+    Shape {
+        block_sectors: image.block_sectors,
+        container_sectors: image.container_sectors,
+    }
+}
+
+// The LSN at which the next block begins.
+fn start_of(place: &Place) -> Lsn
+    requires { place.now.offset < 2 ^ 32 }
+    ensures { result ≡ block_start place.now }
+{
+    Lsn::from_parts(place.container, place.offset, 0)
+}
+
+// A log that was opened, with so many write buffers. All memory that its blocks and base copies will ever need is taken here.
+pub(crate) fn open_log(
+    alloc: Global,
+    opened: HeadParts,
+    write_buffers: u32,
+) -> Result<Log, AllocError>
+    requires log { IsLogOf (told_parts opened) }
+    requires heads { opened.heads ≡ map head_of opened.entries.value }
+    requires some { 1 ≤ write_buffers }
+    requires few { write_buffers ≤ most_write_buffers }
+    ensures state { IfOk result (λ log. log.state.value ≡ state_of (told_parts opened) write_buffers) }
+    ensures holds { IfOk result (λ log. Holds log.state.value log) }
+    ensures newest { IfOk result (λ log. log.physical ≡ record { slot = opened.slot; image = opened.image }) }
+    ensures kept { IfOk result (λ log. log.buffers ≡ []) }
+    ensures whole { IfOk result (λ log. log.broken ≡ false) }
+{
+    logs_are_found_in_files();
+    opened_states_are_valid();
+    opened_states_are_cut();
+    opened_copies_fit();
+    opened_records_lie_in_order();
+    opened_bases_are_moved_by_records();
+    numbers_fit_their_types();
+    let state = state_of(&opened, write_buffers);
+    let heads = opened.heads.as_slice();
+    let rows = opened.image.streams.as_slice();
+    let tables = open_tables(alloc, rows, opened.bases.as_slice(), heads)?;
+    let next = start_of(&opened.place);
+    let archive = open_archive(alloc, tail_in(&opened.image), heads, next)?;
+    let shape = shape_of(&opened.image);
+    let queue = Queue::new(alloc, &shape, write_buffers, &opened.place)?;
+    let policies = policies_in(&opened.image);
+    let buffers = Buffers::new(alloc)?;
+    let HeadParts { slot, image, .. } = opened;
+    let physical = Physical::new(alloc, slot, image)?;
+    Ok(Log {
+        alloc,
+        tables,
+        areas: Areas::new(alloc),
+        archive,
+        policies,
+        physical,
+        queue,
+        buffers,
+        broken: false,
+        state,
+    })
+}
