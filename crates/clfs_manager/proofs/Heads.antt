@@ -1,9 +1,9 @@
 -- Heads of records against the records: their order, and where their blocks end.
-use Rattle.std.proofs.Common.{◌≡◌, ℕ, ◌+◌, ◌*◌, ◌<◌, ◌≤◌, Bool, true, false, refl, sym, ap, subst, ◌∙◌, inl, inr, List, [], ◌∷◌, length, map, arith}
+use Rattle.std.proofs.Common.{◌≡◌, ℕ, ◌+◌, ◌*◌, ◌<◌, ◌≤◌, Bool, true, false, refl, sym, ap, subst, ◌∙◌, inl, inr, List, [], ◌∷◌, length, map, arith, get_or}
 use Rattle.std.specs.Prelude.{All, AllPairs, filter, sum_by, nat_le}
 use Rattle.std.specs.List.Sorted.{IsStrictlyIncreasing}
 use Rattle.std.proofs.lemmas.Bool.{cases_Bool}
-use Rattle.std.proofs.lemmas.List.{get_or, get_or-map}
+use Rattle.std.proofs.lemmas.List.{get_or-map, length-map}
 use Rattle.std.proofs.lemmas.List.Elements.{All-map, All-weaker}
 use Rattle.std.proofs.lemmas.List.Kept.{AllPairs-from_increasing}
 use Rattle.std.proofs.lemmas.List.Folds.{fold-map}
@@ -22,9 +22,9 @@ pub heads_rise : (entries : List LogEntry) → IsStrictlyIncreasing (map (λ (en
 heads_rise entries rising = λ i j d before within.
     let lsn_at : (k : ℕ) → k < length entries → get_or (map (λ (entry : LogEntry). entry.lsn) entries) k 0 ≡ (get_or (map head_of entries) k d).lsn
         = λ k few. get_or-map (λ (entry : LogEntry). entry.lsn) entries k (any d) 0 few ∙ sym (ap (λ (h : Head). h.lsn) (get_or-map head_of entries k (any d) d few)) in
-    let long : length (map head_of entries) ≡ length entries = refl in
-    let low = AllPairs-from_increasing (map (λ (entry : LogEntry). entry.lsn) entries) rising i j 0 before within in
-    omega (arith, low, lsn_at i (omega (arith, before, within)), lsn_at j within)
+    let long : length (map head_of entries) ≡ length entries = length-map entries head_of in
+    let low = AllPairs-from_increasing (map (λ (entry : LogEntry). entry.lsn) entries) rising i j 0 before (omega (arith, within, long, length-map entries (λ (entry : LogEntry). entry.lsn))) in
+    omega (arith, low, lsn_at i (omega (arith, before, within, long)), lsn_at j (omega (arith, within, long)))
   where
     any : Head → LogEntry
     any h = record { lsn = 0; stream = 0; kind = h.kind; previous = 0; undo_next = 0; new_base = 0; bytes = [] }

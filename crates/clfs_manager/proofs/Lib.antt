@@ -4,3 +4,4 @@ pub mod Made
 pub mod Heads
 pub mod Holding
 pub mod Opened
+pub mod OpenedOnDisk

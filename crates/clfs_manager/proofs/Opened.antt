@@ -2,10 +2,14 @@
 use Rattle.std.proofs.Common.{◌≡◌, ◌≢◌, ℕ, ◌+◌, ◌*◌, ◌<◌, ◌≤◌, ◌^◌, Bool, true, false, refl, sym, ap, subst, ◌∙◌, inl, inr, List, [], ◌∷◌, length, map, arith}
 use Rattle.std.specs.Prelude.{All, AllPairs, filter, nat_le}
 use Rattle.std.specs.List.Sorted.{IsStrictlyIncreasing}
-use Rattle.std.proofs.lemmas.Bool.{cases_Bool, lt-ltb}
+use Rattle.std.proofs.lemmas.Bool.Decides.{nat_tests}
 use Rattle.std.proofs.lemmas.List.Elements.{All-head, All-tail, All-map, All-weaker}
 use Rattle.clfs_lsn.specs.Head.{head_of}
-use Rattle.clfs_lsn.specs.Place.{frontier}
+use Rattle.clfs_lsn.specs.Place.{IsClosed, frontier}
+use Rattle.clfs_lsn.specs.declared.place.Place.{Place}
+use Rattle.clfs_model.specs.Archive.{end_of_block}
+use Rattle.clfs_model.specs.Flush.{block_start}
+use Rattle.clfs_model.specs.Heads.{block_end}
 use Rattle.clfs_lsn.specs.Spelling.{FitsAt}
 use Rattle.clfs_lsn.specs.declared.entry.Head.{Head}
 use Rattle.clfs_lsn.specs.declared.entry.LogEntry.{LogEntry}
@@ -13,7 +17,7 @@ use Rattle.clfs_base.specs.Layout.{version_one}
 use Rattle.clfs_base.specs.Spelling.{IsImage}
 use Rattle.clfs_recover.specs.declared.parts.Parts.{Parts}
 use Rattle.clfs_tables.specs.Opening.{AreRowsAndHeads}
-use Rattle.clfs_manager.proofs.Heads.{heads_rise}
+use Rattle.clfs_manager.proofs.Heads.{heads_rise, ends_as_heads}
 
 -- the streams, their bases and the heads of their records fit each other
 pub rows_and_heads : (parts : Parts) → IsImage version_one parts.image → length parts.bases ≡ length parts.image.streams
@@ -26,10 +30,10 @@ rows_and_heads parts image bases rising fit = record {
   bases_long = bases;
   rising = heads_rise parts.entries rising;
   streams = All-map (λ (head : Head). (1 ≤ head.stream) × (head.stream ≤ length parts.image.streams)) head_of parts.entries
-      (All-weaker _ (λ (entry : LogEntry). (1 ≤ entry.stream) × (entry.stream ≤ length parts.image.streams))
+      (All-weaker (λ (entry : LogEntry). FitsAt entry.lsn (length parts.image.streams) entry) (λ (entry : LogEntry). (1 ≤ entry.stream) × (entry.stream ≤ length parts.image.streams))
       (λ entry is. (is.some_stream, is.stream)) parts.entries fit);
   links = All-map (λ (head : Head). (head.previous < head.lsn) × (head.undo_next < head.lsn)) head_of parts.entries
-      (All-weaker _ (λ (entry : LogEntry). (entry.previous < entry.lsn) × (entry.undo_next < entry.lsn))
+      (All-weaker (λ (entry : LogEntry). FitsAt entry.lsn (length parts.image.streams) entry) (λ (entry : LogEntry). (entry.previous < entry.lsn) × (entry.undo_next < entry.lsn))
       (λ entry is. (is.previous, is.undo_next)) parts.entries fit);
 }
 
@@ -39,10 +43,8 @@ pub none_from : (low : ℕ) (entries : List LogEntry) → All (λ (entry : LogEn
 none_from low [] below = refl
 none_from low (entry ∷ entries) below =
     let first = All-head (λ (e : LogEntry). e.lsn < low) entry entries below in
-    elim (cases_Bool (nat_le low entry.lsn)) [
-      | inl at ↦ absurd (omega (arith, first, at))
-      | inr no ↦ rw no (none_from low entries (All-tail (λ (e : LogEntry). e.lsn < low) entry entries below))
-    ]
+    let not_from : nat_le low entry.lsn ≡ false = grind (arith, nat_tests, first) in
+    rw not_from (none_from low entries (All-tail (λ (e : LogEntry). e.lsn < low) entry entries below))
 
 -- all records lie at or above an LSN at or above which each lies
 pub all_from : (low : ℕ) (entries : List LogEntry) → All (λ (entry : LogEntry). low ≤ entry.lsn) entries
@@ -50,7 +52,20 @@ pub all_from : (low : ℕ) (entries : List LogEntry) → All (λ (entry : LogEnt
 all_from low [] from = refl
 all_from low (entry ∷ entries) from =
     let first = All-head (λ (e : LogEntry). low ≤ e.lsn) entry entries from in
-    elim (cases_Bool (nat_le low entry.lsn)) [
-      | inl at ↦ rw at (ap (λ (es : List LogEntry). entry ∷ es) (all_from low entries (All-tail (λ (e : LogEntry). low ≤ e.lsn) entry entries from)))
-      | inr no ↦ absurd (omega (arith, first, no))
-    ]
+    let is_from : nat_le low entry.lsn ≡ true = grind (arith, nat_tests, first) in
+    rw is_from (ap (λ (es : List LogEntry). entry ∷ es) (all_from low entries (All-tail (λ (e : LogEntry). low ≤ e.lsn) entry entries from)))
+
+-- where the blocks of heads end fits its type
+pub ends_fit : (entries : List LogEntry) (sectors : ℕ) → sectors ≤ 16384
+    → All (λ (entry : LogEntry). end_of_block entries entry.lsn ≤ 512 * sectors) entries
+    → All (λ (head : Head). block_end (map head_of entries) head.lsn < 2 ^ 32) (map head_of entries)
+ends_fit entries sectors few fit =
+    All-map (λ (head : Head). block_end (map head_of entries) head.lsn < 2 ^ 32) head_of entries
+    (All-weaker (λ (entry : LogEntry). end_of_block entries entry.lsn ≤ 512 * sectors) (λ (entry : LogEntry). block_end (map head_of entries) entry.lsn < 2 ^ 32)
+    (λ entry is. omega (arith, is, ends_as_heads entries entry.lsn, few)) entries fit)
+
+-- all lie below the start of the block that a closed place begins
+pub below_start : (place : Place) (entries : List LogEntry) → IsClosed place → All (λ (entry : LogEntry). entry.lsn < frontier place) entries
+    → All (λ (entry : LogEntry). entry.lsn < block_start place) entries
+below_start place entries closed below =
+    All-weaker (λ (entry : LogEntry). entry.lsn < frontier place) (λ (entry : LogEntry). entry.lsn < block_start place) (λ entry is. omega (arith, is, closed.1)) entries below

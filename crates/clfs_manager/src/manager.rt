@@ -19,7 +19,8 @@ use crate::refusal::FormatRefusal;
 use clfs_disk::Disk;
 use clfs_lsn::Shape;
 use clfs_recover::{
-    LoadRefusal, load_heads, logs_are_found_in_files, opened_states_are_cut,
+    LoadRefusal, copies_without_fault_fit, load_heads, logs_are_copies_and_blocks,
+    logs_are_found_in_files, opened_copies_fit, opened_records_lie_in_order, opened_states_are_cut,
     opened_states_are_valid,
 };
 use std::alloc::{AllocError, Global};
@@ -136,8 +137,12 @@ impl<D: Disk> Manager<D> {
         ensures steady { IsSteady (D.state disk) → IfErr result (λ refused. refused.cause ≢ LoadRefusal.DiskFault) }
     {
         logs_are_found_in_files();
+        logs_are_copies_and_blocks();
+        copies_without_fault_fit();
         opened_states_are_valid();
         opened_states_are_cut();
+        opened_copies_fit();
+        opened_records_lie_in_order();
         let mut disk = disk;
         let opened = match load_heads(alloc, &mut disk) {
             Ok(opened) => opened,
