@@ -43,17 +43,18 @@ inside_areas inside = areas_by inside.rows.items inside.cursors.areas inside.res
 abbrev pub table_of : Inside → AreaTable
 table_of inside = record { areas = inside_areas inside; capacity = inside.cursors.capacity }
 
--- What is true of the parts: they tell the same areas in the same order, each part as many, so no area is lost and none has another's cursors
--- or sectors.
+-- The parts tell these areas, each at the same place.
 pub record AreParts (areas : List Area) (rows : List AreaRow) (cursors : List AreaCursors) (reservations : List Reservation) : Type 0 where
-  -- each row is that of an area
+  -- an area that has a row has its cursors and its row in the ledger too
   pub rows_are : rows ≡ map row_of areas
-  -- the cursors, and how many an area may have
+  -- its cursors are its own, and it may have as many as its row says
   pub cursors_are : cursors ≡ map cursors_of areas
-  -- the sectors held, by the same client and number
+  -- the ledger has its sectors under its client and its number
   pub reservations_are : reservations ≡ map reservation_of areas
 
--- the same of the parts inside, and an area is named by its client and number alone
+-- What is true of the parts inside.
 pub record AreJoined (inside : Inside) : Type 0 where
+  -- none has an area that the others lack, or has it at another place
   pub parts : AreParts (inside_areas inside) inside.rows.items inside.cursors.areas inside.reservations
+  -- no area has the client and the number of another, so that what is found by them is the one that is meant
   pub different : AllPairs AreDifferentRows inside.rows.items
