@@ -1,10 +1,10 @@
 -- Heads of records against the records: their order, and where their blocks end.
-use Rattle.std.proofs.Common.{◌≡◌, ℕ, ◌+◌, ◌*◌, ◌<◌, ◌≤◌, Bool, true, false, refl, sym, ap, subst, ◌∙◌, inl, inr, List, [], ◌∷◌, length, map, arith, get_or}
-use Rattle.std.specs.Prelude.{All, AllPairs, filter, sum_by, nat_le}
+use Rattle.std.proofs.Common.{◌≡◌, ℕ, ◌+◌, ◌*◌, ◌<◌, Bool, refl, sym, ap, ◌∙◌, inl, inr, List, [], ◌∷◌, length, map, arith, get_or}
+use Rattle.std.specs.Prelude.{All, AllPairs, filter, sum_by}
 use Rattle.std.specs.List.Sorted.{IsStrictlyIncreasing}
 use Rattle.std.proofs.lemmas.Bool.{cases_Bool}
 use Rattle.std.proofs.lemmas.List.{get_or-map, length-map}
-use Rattle.std.proofs.lemmas.List.Elements.{All-map, All-weaker}
+use Rattle.std.proofs.lemmas.List.Elements.{All-map}
 use Rattle.std.proofs.lemmas.List.Kept.{AllPairs-from_increasing}
 use Rattle.std.proofs.lemmas.List.Folds.{fold-map}
 use Rattle.clfs_lsn.specs.Format.{sector_bytes, block_header}

@@ -1,10 +1,8 @@
 -- The hold lies at or above what all LSNs lie at or above.
-use Rattle.std.proofs.Common.{◌≡◌, ℕ, ◌+◌, ◌*◌, ◌<◌, ◌≤◌, Bool, true, false, refl, sym, ap, subst, ◌∙◌, inl, inr, List, [], ◌∷◌, ◌++◌, length, map, arith}
+use Rattle.std.proofs.Common.{ℕ, ◌≤◌, List, [], ◌∷◌, ◌++◌, arith}
 use Rattle.std.specs.Prelude.{All, filter, min, fold, Option, Some, None, IfSome}
 use Rattle.std.specs.Option.{option_to_list}
 use Rattle.std.proofs.lemmas.List.Elements.{All-nil, All-cons, All-head, All-tail, All-map, All-filter, All-append}
-use Rattle.std.proofs.lemmas.Bool.{cases_lt}
-use Rattle.clfs_lsn.specs.Lsn.{lsn_number, container_of}
 use Rattle.clfs_lsn.specs.Place.{frontier}
 use Rattle.clfs_lsn.specs.declared.entry.LogEntry.{LogEntry}
 use Rattle.clfs_model.specs.declared.state.State.{State}

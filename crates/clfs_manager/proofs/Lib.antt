@@ -5,3 +5,8 @@ pub mod Heads
 pub mod Holding
 pub mod Opened
 pub mod OpenedOnDisk
+pub mod Ending
+pub mod SplitRecords
+pub mod GroupRecords
+pub mod ClosedPlace
+pub mod FlushedLog

@@ -1,6 +1,6 @@
 -- What the disk has of a log that was opened.
-use Rattle.std.proofs.Common.{◌≡◌, ℕ, ◌+◌, ◌*◌, ◌<◌, ◌≤◌, ◌^◌, Bool, true, false, refl, sym, ap, subst, ◌∙◌, inl, inr, List, [], ◌∷◌, length, map, arith}
-use Rattle.std.specs.Prelude.{IsTrue, All, Option, Some, None, IfSome, filter, nat_le, if◌then◌else◌, Contains, slice_index, Ok}
+use Rattle.std.proofs.Common.{◌≡◌, ℕ, ◌+◌, ◌≤◌, Bool, true, false, refl, sym, ap, subst, ◌∙◌, inl, inr, List, [], length, arith}
+use Rattle.std.specs.Prelude.{IsTrue, All, Some, None, IfSome, if◌then◌else◌, Ok}
 use Rattle.std.proofs.lemmas.Bool.{cases_Bool}
 use Rattle.std.proofs.lemmas.List.Elements.{All-weaker}
 use Rattle.clfs_lsn.specs.Lsn.{lsn_number, container_of}
@@ -10,13 +10,12 @@ use Rattle.clfs_disk.specs.Files.{Files}
 use Rattle.clfs_disk.specs.State.{DiskState, TellsContents}
 use Rattle.clfs_container.specs.OpenBlocks.{AreWhole}
 use Rattle.clfs_model.specs.declared.state.State.{State}
-use Rattle.clfs_model.specs.Flush.{cut, flushed}
+use Rattle.clfs_model.specs.Flush.{cut}
 use Rattle.clfs_model.specs.Live.{hold}
-use Rattle.clfs_physical.specs.Stored.{Newest, Blocks, Lists, Stores}
+use Rattle.clfs_physical.specs.Stored.{Newest, Blocks, Stores}
 use Rattle.clfs_base.specs.Slots.{newest_of}
 use Rattle.clfs_recover.specs.Files.{Finds, state_of}
-use Rattle.clfs_recover.specs.Logs.{IsStoredIn, FitsUpTo, stored_state, records_from_container}
-use Rattle.clfs_recover.specs.Stored.{stored_parts}
+use Rattle.clfs_recover.specs.Logs.{IsStoredIn, FitsUpTo, records_from_container}
 use Rattle.clfs_recover.specs.declared.parts.Parts.{Parts}
 use Rattle.clfs_manager.specs.Memory.{Holds}
 use Rattle.clfs_manager.specs.OnDisk.{IsStored, IsOpen, AreKept}

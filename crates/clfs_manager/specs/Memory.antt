@@ -1,5 +1,5 @@
 -- What a manager has in memory of the state of its log.
-use Rattle.std.specs.Prelude.{◌≡◌, ℕ, ◌+◌, ◌≤◌, false, nat_le, List, length, filter}
+use Rattle.std.specs.Prelude.{◌≡◌, ◌+◌, ◌≤◌, false, nat_le, List, length, filter}
 use Rattle.clfs_lsn.specs.Lsn.{lsn_number, container_of}
 use Rattle.clfs_lsn.specs.declared.entry.LogEntry.{LogEntry}
 use Rattle.clfs_base.specs.declared.image.BaseImage.{BaseImage}
@@ -11,6 +11,7 @@ use Rattle.clfs_model.specs.Storable.{IsStorable}
 use Rattle.clfs_model.specs.Valid.{IsValid}
 use Rattle.clfs_policy.specs.declared.policies.Policies.{Policies}
 use Rattle.clfs_recover.specs.Files.{policy_of}
+use Rattle.clfs_recover.specs.Walk.{shape_of}
 use Rattle.clfs_archive.specs.Blocks.{AreSealed}
 use Rattle.clfs_manager.specs.declared.log.Log.{Log}
 
@@ -49,6 +50,8 @@ pub record Holds (s : State) (log : Log) : Type 0 where
   pub room : 1 ≤ s.place.records → 1 ≤ log.archive.room
   pub policies : log.policies ≡ policies_of s
   pub containers : log.physical.image.containers ≡ s.containers
+  pub image_shape : shape_of log.physical.image ≡ s.shape
+  pub rows : length log.physical.image.streams ≡ length s.streams
   pub listed : log.physical.image.first + length log.physical.image.files ≡ s.place.container + 1
 
 -- A log that isn't broken, as memory has it: its state is one that a log can be in and that files can hold.

@@ -7,6 +7,7 @@
 #![tactic(auto)]
 
 mod first_copy;
+mod flushing;
 mod format;
 mod log;
 mod manager;

@@ -1,11 +1,5 @@
-use Rattle.std.proofs.Common.{◌≡◌, ℕ, ◌+◌, ◌*◌, ◌<◌, ◌≤◌, List, [], map, refl, sym, ap, subst, ◌∙◌, arith}
-use Rattle.std.specs.Prelude.{All}
-use Rattle.clfs_lsn.specs.Head.{head_of}
-use Rattle.clfs_lsn.specs.Lsn.{sequence_of}
-use Rattle.clfs_lsn.specs.declared.entry.Head.{Head}
+use Rattle.std.proofs.Common.{◌<◌, sym, ap, ◌∙◌, arith}
 use Rattle.clfs_model.specs.Flush.{block_start}
-use Rattle.clfs_archive.specs.Blocks.{AreSealed}
-use Rattle.clfs_archive.specs.Row.{Row}
 use Rattle.clfs_physical.specs.Stored.{Newest}
 use Rattle.clfs_queue.specs.Queued.{Queued}
 use Rattle.clfs_recover.specs.Opening.{told_parts}

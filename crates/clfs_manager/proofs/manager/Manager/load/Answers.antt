@@ -1,9 +1,5 @@
-use Rattle.std.proofs.Common.{◌≡◌, ◌∙◌, refl, sym, ap, subst}
-use Rattle.clfs_model.specs.Flush.{cut}
-use Rattle.clfs_model.specs.Storable.{IsStorable}
-use Rattle.clfs_model.specs.Valid.{IsValid}
-use Rattle.clfs_model.specs.declared.state.State.{State}
-use Rattle.clfs_recover.specs.Files.{state_of, StandsFor}
+use Rattle.std.proofs.Common.{◌∙◌, refl, sym}
+use Rattle.clfs_recover.specs.Files.{state_of}
 use Rattle.clfs_recover.specs.Opening.{told_parts}
 use Rattle.clfs_manager.proofs.OpenedOnDisk.{AreListed, found_files, opened_open}
 use Rattle.clfs_manager.proofs.manager.Manager.load.Goals as goal

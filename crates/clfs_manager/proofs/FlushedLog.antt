@@ -1,0 +1,145 @@
+-- A flush as memory and the disk have it.
+use Rattle.std.proofs.Common.{◌≡◌, ◌≢◌, ℕ, ◌+◌, ◌-◌, ◌*◌, ◌<◌, ◌≤◌, Bool, true, false, refl, sym, ap, subst, ◌∙◌, inl, inr, List, [], ◌∷◌, ◌++◌, length, map, arith}
+use Rattle.std.specs.Prelude.{All, Option, Some, None, IsSome, filter, nat_le, nat_lt, slice_get, ◌==◌, Contains}
+use Rattle.std.specs.Option.{option_to_list}
+use Rattle.std.proofs.lemmas.Bool.{cases_Bool, eqb-true}
+use Rattle.std.proofs.lemmas.List.Elements.{All-filter, All-weaker, filter-append}
+use Rattle.std.proofs.lemmas.Option.{slice_get_within}
+use Rattle.clfs_lsn.specs.Lsn.{lsn_number, container_of, offset_of, null_lsn}
+use Rattle.clfs_lsn.specs.Place.{frontier}
+use Rattle.clfs_lsn.specs.Spelling.{BaseFits}
+use Rattle.clfs_lsn.specs.declared.entry.Kind.{Kind}
+use Rattle.clfs_lsn.specs.declared.entry.Kind.TheVariants.{Plain, Restart}
+use Rattle.clfs_lsn.specs.declared.entry.LogEntry.{LogEntry}
+use Rattle.clfs_lsn.specs.declared.place.Place.{Place}
+use Rattle.clfs_container.specs.OpenBlocks.{total}
+use Rattle.clfs_base.specs.declared.image.BaseImage.{BaseImage}
+use Rattle.clfs_model.specs.declared.state.State.{State}
+use Rattle.clfs_model.specs.State.{stream_at}
+use Rattle.clfs_model.specs.Flush.{block_start, cut, flush, flushed}
+use Rattle.clfs_model.specs.Live.{hold, least_or, live_lsns}
+use Rattle.clfs_model.specs.Storable.{IsStorable, HasMovedBase}
+use Rattle.clfs_model.specs.Valid.{IsValid, IsRecord}
+use Rattle.clfs_physical.specs.Stored.{Newest, Blocks, with_group}
+use Rattle.clfs_recover.specs.Logs.{IsLogWith, stored_state, records_from_container, file_at_end}
+use Rattle.clfs_recover.specs.Stored.{stored_place}
+use Rattle.clfs_manager.specs.Memory.{unflushed}
+use Rattle.clfs_manager.specs.OnDisk.{IsStored, AreKept}
+use Rattle.clfs_manager.proofs.ClosedPlace.{closed_place, flush_is, IsClosedOf, is_closed_of, BeginsAt, all_below_closed}
+use Rattle.clfs_manager.proofs.Ending.{parts_at}
+use Rattle.clfs_manager.proofs.Opened.{all_from, none_from}
+use Rattle.clfs_manager.proofs.SplitRecords.{all_below, split, kept_from}
+
+-- a flushed state, by its fields
+abbrev pub done : State → State
+done s = record s { waiting = []; place = closed_place s.place }
+
+least_container : (a b : ℕ) (lsns : List ℕ) → container_of a ≡ container_of b → container_of (least_or a lsns) ≡ container_of (least_or b lsns)
+least_container a b [] same = same
+least_container a b (lsn ∷ lsns) same = refl
+
+-- a flush leaves the hold in its container
+pub hold_done : (s : State) → IsValid s → container_of (hold (done s)) ≡ container_of (hold s)
+hold_done s valid =
+    let closed = is_closed_of s.shape s.place valid.ranges.place in
+    let within = valid.ranges.place in
+    let low = valid.ranges.shape.largest_container in
+    let few : s.place.records ≤ 511 = ⊎_few in
+    least_container (frontier (closed_place s.place)) (frontier s.place) (option_to_list s.archive ++ live_lsns s)
+    (omega (arith, closed.container, closed.low, closed.records, within.end, low, few))
+  where
+    ⊎_few : s.place.records ≤ 511
+    ⊎_few = elim valid.ranges.place.block [
+      | inl none ↦ omega (arith, none.1)
+      | inr here ↦ here.few_records
+    ]
+
+pub none_unflushed : (s : State) → IsValid s → unflushed (done s) ≡ []
+none_unflushed s valid = none_from (block_start (closed_place s.place)) s.records (all_below_closed s valid)
+
+-- the number of a stream that is there
+pub stream_within : (s : State) (number : ℕ) → IsSome (stream_at s number) → number ≤ length s.streams
+stream_within s number there = by_test (number == 0) refl
+  where
+    by_test : (b : Bool) → (number == 0) ≡ b → number ≤ length s.streams
+    by_test true is = omega (arith, eqb-true number 0 is)
+    by_test false isnt = by_found (slice_get s.streams (number - 1)) refl (rw isnt at there)
+      where
+        by_found : (found : Option _) → slice_get s.streams (number - 1) ≡ found → IsSome found → number ≤ length s.streams
+        by_found None is some = absurd (cc some)
+        by_found (Some stream) is some = omega (arith, slice_get_within s.streams (number - 1) stream is)
+
+-- records that wait are of streams that are there
+pub few_streams : (s : State) (streams : ℕ) → IsValid s → streams ≡ length s.streams → All (λ (entry : LogEntry). entry.stream ≤ streams) (unflushed s)
+few_streams s streams valid long =
+    All-filter (λ (entry : LogEntry). nat_le (flushed s) entry.lsn) (λ (entry : LogEntry). entry.stream ≤ streams) s.records
+    (All-weaker (IsRecord s) (λ (entry : LogEntry). entry.stream ≤ streams) (λ entry is. omega (arith, stream_within s entry.stream is.stream, long)) s.records valid.records.records)
+
+plain : (kind : Kind) (lsn base : ℕ) → (kind ≡ Restart → ⊥) → BaseFits kind lsn base → base ≡ 0
+plain Plain lsn base isnt fits = fits
+plain Restart lsn base isnt fits = absurd (isnt refl)
+
+-- and move no base
+pub no_bases : (s : State) → IsValid s → IsStorable s → All (λ (entry : LogEntry). entry.new_base ≡ 0) (unflushed s)
+no_bases s valid storable = λ k d few.
+    let test : LogEntry → Bool = λ (entry : LogEntry). nat_le (flushed s) entry.lsn in
+    let own = All-filter test (HasMovedBase s) s.records storable.bases k d few in
+    let restart = All-filter test (λ (entry : LogEntry). entry.kind ≡ Restart → entry.lsn < flushed s) s.records valid.stable.restarts k d few in
+    let from = kept_from (flushed s) s.records k d few in
+    plain _ _ _ (λ is. absurd (let below = restart is in omega (arith, below, from))) own.own
+
+-- What the group of a flush leaves on the disk, by the laws of copies and blocks.
+pub record IsGrown (s : State) (image : BaseImage) (before after : Blocks) (entries : List LogEntry) (group : List (List ℕ)) : Type 0 where
+  pub log : IsLogWith image (map after image.files) (entries ++ unflushed s)
+  pub state : stored_state image (map after image.files) (entries ++ unflushed s) s.buffers
+      ≡ record (stored_state image (map before image.files) entries s.buffers) {
+        records = entries ++ unflushed s;
+        place = record (stored_place image (map before image.files)) { offset = total (before (file_at_end image)) + total group };
+      }
+
+-- the records of the disk and those that waited are all from the first listed container on
+grown_records : (s : State) (first : ℕ) (entries : List LogEntry) → IsValid s → first ≤ s.place.container → container_of (flushed s) ≡ s.place.container
+    → entries ≡ records_from_container first (cut s).records → entries ++ unflushed s ≡ records_from_container first (cut (done s)).records
+grown_records s first entries valid low at is =
+    let low_lsn : ℕ = lsn_number first 0 0 in
+    let test : LogEntry → Bool = λ (entry : LogEntry). nat_le low_lsn entry.lsn in
+    let stable : List LogEntry = filter (λ (entry : LogEntry). nat_lt entry.lsn (flushed s)) s.records in
+    let from : All (λ (entry : LogEntry). low_lsn ≤ entry.lsn) (unflushed s) = All-weaker (λ (entry : LogEntry). flushed s ≤ entry.lsn) (λ (entry : LogEntry). low_lsn ≤ entry.lsn)
+        (λ entry above. omega (arith, above, low, at)) (unflushed s) (kept_from (flushed s) s.records) in
+    let all : (cut (done s)).records ≡ s.records = all_below (block_start (closed_place s.place)) s.records (all_below_closed s valid) in
+    let parts : filter test s.records ≡ filter test stable ++ filter test (unflushed s) =
+        ap (filter test) (sym (split (flushed s) s.records valid.records.rising)) ∙ filter-append test stable (unflushed s) in
+    let waits : filter test (unflushed s) ≡ unflushed s = all_from low_lsn (unflushed s) from in
+    ap (λ (es : List LogEntry). es ++ unflushed s) is ∙ sym (ap (λ (es : List LogEntry). filter test stable ++ es) waits) ∙ sym parts ∙ sym (ap (filter test) all)
+
+pub stored_done : (s : State) (newest : Newest) (before after : Blocks) (group : List (List ℕ)) (at : ℕ) → IsValid s
+    → newest.image.first + length newest.image.files ≡ s.place.container + 1 → 1 ≤ length newest.image.files
+    → (stored : IsStored s newest before) → BeginsAt s at → total (before (file_at_end newest.image)) ≡ at → at + total group ≡ (closed_place s.place).offset
+    → IsGrown s newest.image before after stored.entries group → IsStored (done s) newest after
+stored_done s newest before after group at valid listed some stored begins here end grown =
+    let image = newest.image in
+    let closed = is_closed_of s.shape s.place valid.ranges.place in
+    let low : image.first ≤ s.place.container = omega (arith, listed, some) in
+    let entries = stored.entries ++ unflushed s in
+    let parts = parts_at (closed_place s.place).container (closed_place s.place).offset 0 closed.offset (omega (arith, closed.low, valid.ranges.shape.largest_container)) (omega arith) in
+    let place_before : stored_place image (map before image.files) ≡ (cut s).place = ap (λ (t : State). t.place) stored.state in
+    let offset : total (before (file_at_end image)) + total group ≡ offset_of (block_start (closed_place s.place)) = omega (arith, here, end, parts.1) in
+    let container : container_of (flushed s) ≡ container_of (block_start (closed_place s.place)) = begins.container ∙ sym (parts.0 ∙ closed.container) in
+    let place : record (stored_place image (map before image.files)) { offset = total (before (file_at_end image)) + total group } ≡ (cut (done s)).place =
+        ap (λ (p : Place). record p { offset = total (before (file_at_end image)) + total group }) place_before
+        ∙ ap (λ (n : ℕ). let p : Place = record { container = n; offset = total (before (file_at_end image)) + total group; used = 0; records = 0 } in p) container
+        ∙ ap (λ (n : ℕ). let p : Place = record { container = container_of (block_start (closed_place s.place)); offset = n; used = 0; records = 0 } in p) offset in
+    record {
+      entries = entries;
+      log = grown.log;
+      records = grown_records s image.first stored.entries valid low begins.container stored.records;
+      state = grown.state
+          ∙ ap (λ (t : State). record t { records = entries; place = record (stored_place image (map before image.files)) { offset = total (before (file_at_end image)) + total group } }) stored.state
+          ∙ ap (λ (p : Place). record (cut s) { records = entries; place = p }) place;
+      needed = omega (arith, stored.needed, hold_done s valid);
+    }
+
+-- the bytes of blocks and more blocks
+pub total_append : (blocks more : List (List ℕ)) → total (blocks ++ more) ≡ total blocks + total more
+total_append [] more = omega arith
+total_append (block ∷ blocks) more = omega (arith, total_append blocks more)
