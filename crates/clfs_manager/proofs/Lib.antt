@@ -4,3 +4,5 @@ pub mod Made
 pub mod Heads
 pub mod Holding
 pub mod Opened
+pub mod AreasChange
+pub mod Aligning
