@@ -58,11 +58,6 @@ holds_still old new areas changes are holds = record {
   listed = rw changes.physical holds.listed;
 }
 
--- memory has the new state
-pub holds_after : (old new : Log) → ChangesAreas old new → Holds old.state.value old → Holds new.state.value new
-holds_after old new changes holds =
-    subst (λ (t : State). Holds t new) (sym changes.state) (holds_still old new new.state.value.areas changes changes.areas holds)
-
 -- the log is open as before
 pub open_after : (disk : DiskState) (old new : Log) → ChangesAreas old new → IsOpen disk old.state.value old → IsOpen disk new.state.value new
 open_after disk old new changes opened =
@@ -86,12 +81,12 @@ KeepsStorable = (told : Bool) (s : State) (client : ℕ) (call : Call) (happened
     → IsValid s → IsStorable s → MeetsCondition client call → Step told s client call happened reply t → IsStorable t
 
 -- A manager's step that changes the areas alone leaves a manager.
-pub managed_after : {A : Type 0} (disk : DiskState) (old new : Log) (client : ℕ) (call : Call) (answer : A → Reply) (result : Result A Refusal)
+pub managed_after : {A : Type 0} (disk : DiskState) (old new : Log) (client : ℕ) (call : Call) (answer : A → Reply) (result : Result A Refusal) (told : Bool)
     → KeepsValid → KeepsStorable → MeetsCondition client call → old.broken ≡ false → IsManaged disk old → ChangesAreas old new
-    → ((told : Bool) → Steps told old.state.value client call answer result new.state.value) → IsManaged disk new
-managed_after disk old new client call answer result valid storable meets unbroken managed changes step = record {
-  valid = valid false old.state.value client call _ _ new.state.value managed.valid (step false);
-  storable = storable false old.state.value client call _ _ new.state.value managed.valid managed.storable meets (step false);
+    → Steps told old.state.value client call answer result new.state.value → IsManaged disk new
+managed_after disk old new client call answer result told valid storable meets unbroken managed changes step = record {
+  valid = valid told old.state.value client call _ _ new.state.value managed.valid step;
+  storable = storable told old.state.value client call _ _ new.state.value managed.valid managed.storable meets step;
   broken = ap (λ (t : State). t.broken) changes.state ∙ managed.broken ∙ sym changes.broken;
   whole = λ _. open_after disk old new changes (managed.whole unbroken);
 }
