@@ -10,3 +10,6 @@ pub mod SplitRecords
 pub mod GroupRecords
 pub mod ClosedPlace
 pub mod FlushedLog
+pub mod AreasChange
+pub mod Aligning
+pub mod FlushKeeps

@@ -14,6 +14,8 @@ use Rattle.clfs_lsn.specs.Spelling.{FitsAt}
 use Rattle.clfs_lsn.specs.declared.entry.Head.{Head}
 use Rattle.clfs_lsn.specs.declared.entry.LogEntry.{LogEntry}
 use Rattle.clfs_base.specs.Layout.{version_one}
+use Rattle.clfs_base.specs.declared.image.Row.{Row}
+use Rattle.clfs_recover.specs.Files.{streams_with}
 use Rattle.clfs_base.specs.Spelling.{IsImage}
 use Rattle.clfs_recover.specs.declared.parts.Parts.{Parts}
 use Rattle.clfs_tables.specs.Opening.{AreRowsAndHeads}
@@ -69,3 +71,9 @@ pub below_start : (place : Place) (entries : List LogEntry) → IsClosed place �
     → All (λ (entry : LogEntry). entry.lsn < block_start place) entries
 below_start place entries closed below =
     All-weaker (λ (entry : LogEntry). entry.lsn < frontier place) (λ (entry : LogEntry). entry.lsn < block_start place) (λ entry is. omega (arith, is, closed.1)) entries below
+
+-- there is a stream for each row
+pub streams_long : (rows : List Row) (bases : List ℕ) → length bases ≡ length rows → length (streams_with rows bases) ≡ length rows
+streams_long [] bases long = refl
+streams_long (row ∷ rows) [] long = absurd (omega (arith, long))
+streams_long (row ∷ rows) (base ∷ bases) long = omega (arith, streams_long rows bases (omega (arith, long)))

@@ -6,6 +6,7 @@
 //! in them leaves the files as they were.
 #![tactic(auto)]
 
+mod areas;
 mod first_copy;
 mod flushing;
 mod format;

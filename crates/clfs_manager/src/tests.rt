@@ -2,7 +2,8 @@ ghost use Rattle.std.specs.Prelude.{◌≤◌};
 
 use super::*;
 use clfs_disk::{Disk, Fuse, Memory};
-use clfs_lsn::Shape;
+use clfs_lsn::{Shape, Sizes};
+use clfs_model::Refusal;
 use std::alloc::Global;
 use std::test::Fail;
 
@@ -152,5 +153,108 @@ fn a_log_is_opened_and_closed(rt: HostRuntime) -> Result<(), Fail> {
         return Err("a log was opened where none is".into());
     };
     assert!(rt; refused.cause == LoadRefusal::NoBase);
+    Ok(())
+}
+
+// A log with the stream `a`, whose row is written into its base copy by hand.
+fn log_with_a_stream(alloc: Global) -> Result<Manager<Memory>, Fail> {
+    let Ok(mut disk) = Manager::format(alloc, Memory::new(alloc, 64, 65536, &[])?, SHAPE, 2) else {
+        return Err("no log was made".into());
+    };
+    disk.write(0, 22, &[1])?;
+    disk.write(0, 576, &[1])?;
+    disk.write(0, 592, b"a")?;
+    match Manager::load(alloc, disk, 4) {
+        Ok(manager) => Ok(manager),
+        Err(_) => Err("the log wasn't opened".into()),
+    }
+}
+
+// A call on areas.
+#[derive(Clone, Copy, Debug)]
+enum AreaCall {
+    // A new area on this stream, for records of so many bytes.
+    Create(u16, u32),
+    Delete(u16),
+    // So many sectors less.
+    Release(u16, u32),
+    // Two records of this length.
+    Align(u16, u32),
+    EndRead(u16, u16),
+}
+
+// What is answered: the number that the reply has, or 0 where it has none.
+fn answer(
+    alloc: Global,
+    manager: &mut Manager<Memory>,
+    client: u16,
+    call: AreaCall,
+) -> Result<u32, Refusal>
+    requires { (1 ≤ client) × (client ≤ 64) }
+{
+    match call {
+        AreaCall::Create(stream, largest) => {
+            let number = manager.create_area(client, stream, largest, 4)?;
+            Ok(number as u32)
+        }
+        AreaCall::Delete(area) => {
+            manager.delete_area(client, area)?;
+            Ok(0)
+        }
+        AreaCall::Release(area, sectors) => manager.release(client, area, sectors),
+        AreaCall::Align(area, len) => {
+            let sizes = Sizes::from_vec(vec![in alloc; len; 2]?);
+            manager.align(client, area, &sizes)
+        }
+        AreaCall::EndRead(area, cursor) => {
+            manager.end_read(client, area, cursor)?;
+            Ok(0)
+        }
+    }
+}
+
+#[test]
+fn areas_are_made_and_end(rt: HostRuntime) -> Result<(), Fail> {
+    let alloc = rt.alloc();
+    let mut manager = log_with_a_stream(alloc)?;
+    let too_long = Refusal::RecordTooLong { len: 961, max: 960 };
+    let short = Refusal::ReservationShort { held: 0, need: 1 };
+    for (client, call, want) in [
+        (1, AreaCall::Create(2, 960), Err(Refusal::NoSuchStream)),
+        (1, AreaCall::Create(0, 960), Err(Refusal::NoSuchStream)),
+        (1, AreaCall::Create(1, 961), Err(too_long)),
+        (1, AreaCall::Create(1, 960), Ok(1)),
+        (1, AreaCall::Create(1, 0), Ok(2)),
+        (64, AreaCall::Create(1, 8), Ok(1)),
+        (1, AreaCall::Release(1, 0), Ok(0)),
+        (1, AreaCall::Release(1, 1), Err(short)),
+        (2, AreaCall::Release(1, 0), Err(Refusal::NoSuchArea)),
+        (1, AreaCall::Align(1, 456), Ok(2)),
+        (1, AreaCall::Align(1, 457), Ok(4)),
+        (1, AreaCall::Align(1, 961), Err(too_long)),
+        (64, AreaCall::Align(2, 0), Err(Refusal::NoSuchArea)),
+        (1, AreaCall::EndRead(1, 1), Err(Refusal::NoSuchCursor)),
+        (1, AreaCall::EndRead(3, 1), Err(Refusal::NoSuchArea)),
+        (1, AreaCall::Delete(1), Ok(0)),
+        (1, AreaCall::Delete(1), Err(Refusal::NoSuchArea)),
+        (1, AreaCall::Create(1, 8), Ok(1)),
+        (1, AreaCall::Create(1, 8), Ok(3)),
+    ] {
+        assert!(rt; client >= 1 && client <= 64);
+        assert_eq!(rt; answer(alloc, &mut manager, client, call), want);
+    }
+
+    // A client has 16 areas at most.
+    for number in 1..17 {
+        assert_eq!(rt; manager.create_area(2, 1, 8, 16), Ok(number));
+    }
+    let limit = Refusal::AreaLimit { count: 16 };
+    assert_eq!(rt; manager.create_area(2, 1, 8, 16), Err(limit));
+
+    // They aren't on the disk.
+    let Ok(mut manager) = Manager::load(alloc, manager.close(), 4) else {
+        return Err("the log wasn't opened again".into());
+    };
+    assert_eq!(rt; manager.delete_area(2, 1), Err(Refusal::NoSuchArea));
     Ok(())
 }

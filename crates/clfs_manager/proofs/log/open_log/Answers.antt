@@ -4,8 +4,9 @@ use Rattle.clfs_physical.specs.Stored.{Newest}
 use Rattle.clfs_queue.specs.Queued.{Queued}
 use Rattle.clfs_recover.specs.Opening.{told_parts}
 use Rattle.clfs_recover.specs.Files.{state_of}
+use Rattle.clfs_recover.specs.Walk.{shape_of}
 use Rattle.clfs_manager.proofs.Heads.{heads_rise, all_heads}
-use Rattle.clfs_manager.proofs.Opened.{rows_and_heads, none_from, ends_fit, below_start}
+use Rattle.clfs_manager.proofs.Opened.{rows_and_heads, none_from, ends_fit, below_start, streams_long}
 use Rattle.clfs_manager.proofs.log.open_log.Goals as goal
 
 pub open_tables-requires : goal.open_tables-requires
@@ -79,5 +80,8 @@ returns-clause-holds c =
       room = λ some. absurd (omega (arith, some, closed.1));
       policies = c.policies_in-policies.ensures;
       containers = ap (λ (n : Newest). n.image.containers) c.in_ok-physical.ensures;
+      image_shape = ap (λ (n : Newest). shape_of n.image) c.in_ok-physical.ensures;
+      rows = ap (λ (n : Newest). length n.image.streams) c.in_ok-physical.ensures
+          ∙ sym (streams_long parts.image.streams parts.bases (c.opened_bases_are_moved_by_records.ensures.all f.0 parts f.1));
       listed = rw c.in_ok-physical.ensures (sym (c.opened_copies_fit.ensures.container f.0 parts f.1));
     })

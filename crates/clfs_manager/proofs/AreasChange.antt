@@ -1,0 +1,92 @@
+-- Calls that change the areas alone: what memory has besides, and what the disk has, is the state's as before, since no part of it speaks of areas.
+use Rattle.std.proofs.Common.{◌≡◌, ◌∙◌, ap, subst, sym, ℕ, Bool, false, List}
+use Rattle.std.specs.Prelude.{Result}
+use Rattle.clfs_disk.specs.State.{DiskState, TellsContents}
+use Rattle.clfs_model.specs.declared.call.Call.{Call}
+use Rattle.clfs_model.specs.declared.refusal.Refusal.{Refusal}
+use Rattle.clfs_model.specs.declared.reply.Happened.{Happened}
+use Rattle.clfs_model.specs.declared.reply.Reply.{Reply}
+use Rattle.clfs_model.specs.declared.state.State.{State}
+use Rattle.clfs_model.specs.declared.state.Area.{Area}
+use Rattle.clfs_model.specs.Conditions.{MeetsCondition}
+use Rattle.clfs_model.specs.Step.{Step}
+use Rattle.clfs_model.specs.Storable.{IsStorable}
+use Rattle.clfs_model.specs.Valid.{IsValid}
+use Rattle.clfs_buffers.specs.Buffered.{Buffered}
+use Rattle.clfs_physical.specs.Stored.{Newest, Blocks}
+use Rattle.clfs_queue.specs.Queued.{Queued}
+use Rattle.clfs_tables.specs.Tables.{Tabled}
+use Rattle.clfs_manager.specs.Calls.{Steps}
+use Rattle.clfs_manager.specs.declared.log.Log.{Log}
+use Rattle.clfs_manager.specs.Memory.{Holds, ChangesAreas}
+use Rattle.clfs_manager.specs.OnDisk.{IsStored, AreKept, IsOpen, IsManaged}
+
+-- the state with other areas
+abbrev with_areas : State → List Area → State
+with_areas s areas = record s { areas = areas }
+
+stored_still : (s : State) (areas : List Area) (newest : Newest) (blocks : Blocks) → IsStored s newest blocks → IsStored (with_areas s areas) newest blocks
+stored_still s areas newest blocks stored = record {
+  entries = stored.entries;
+  log = stored.log;
+  records = stored.records;
+  state = stored.state;
+  needed = stored.needed;
+}
+
+kept_still : (s : State) (areas : List Area) (kept : Buffered) → AreKept s kept → AreKept (with_areas s areas) kept
+kept_still s areas kept are = record { stable = are.stable; records = are.records }
+
+-- what memory has of the state but for its areas
+holds_still : (old new : Log) (areas : List Area) → ChangesAreas old new → new.areas.areas ≡ areas
+    → Holds old.state.value old → Holds (with_areas old.state.value areas) new
+holds_still old new areas changes are holds = record {
+  shape = ap (λ (q : Queued). q.shape) changes.queue ∙ holds.shape;
+  buffers = ap (λ (q : Queued). q.buffers) changes.queue ∙ holds.buffers;
+  place = ap (λ (q : Queued). q.place) changes.queue ∙ holds.place;
+  waiting = ap (λ (q : Queued). q.waiting) changes.queue ∙ holds.waiting;
+  records = ap (λ (q : Queued). q.records) changes.queue ∙ holds.records;
+  streams = ap (λ (t : Tabled). t.streams) changes.tables ∙ holds.streams;
+  heads = ap (λ (t : Tabled). t.heads) changes.tables ∙ holds.heads;
+  low = rw changes.tables holds.low;
+  areas = are;
+  archive = rw changes.archive holds.archive;
+  sealed = rw (changes.tables, changes.archive) holds.sealed;
+  room = rw changes.archive holds.room;
+  policies = changes.policies ∙ holds.policies;
+  containers = rw changes.physical holds.containers;
+  listed = rw changes.physical holds.listed;
+}
+
+-- the log is open as before
+pub open_after : (disk : DiskState) (old new : Log) → ChangesAreas old new → IsOpen disk old.state.value old → IsOpen disk new.state.value new
+open_after disk old new changes opened =
+    let s = old.state.value in
+    subst (λ (t : State). IsOpen disk t new) (sym changes.state) (record {
+      memory = holds_still old new new.state.value.areas changes changes.areas opened.memory;
+      blocks = opened.blocks;
+      stored = stored_still s new.state.value.areas new.physical opened.blocks (rw changes.physical opened.stored);
+      files = rw changes.physical opened.files;
+      kept = λ (tells : TellsContents disk). kept_still s new.state.value.areas new.buffers (rw changes.buffers (opened.kept tells));
+    })
+
+-- that each step leaves a valid state
+abbrev pub KeepsValid : Type 0
+KeepsValid = (told : Bool) (s : State) (client : ℕ) (call : Call) (happened : Happened) (reply : Reply) (t : State)
+    → IsValid s → Step told s client call happened reply t → IsValid t
+
+-- that each step of a call which meets its condition leaves a state that files can hold
+abbrev pub KeepsStorable : Type 0
+KeepsStorable = (told : Bool) (s : State) (client : ℕ) (call : Call) (happened : Happened) (reply : Reply) (t : State)
+    → IsValid s → IsStorable s → MeetsCondition client call → Step told s client call happened reply t → IsStorable t
+
+-- A manager's step that changes the areas alone leaves a manager.
+pub managed_after : {A : Type 0} (disk : DiskState) (old new : Log) (client : ℕ) (call : Call) (answer : A → Reply) (result : Result A Refusal) (told : Bool)
+    → KeepsValid → KeepsStorable → MeetsCondition client call → old.broken ≡ false → IsManaged disk old → ChangesAreas old new
+    → Steps told old.state.value client call answer result new.state.value → IsManaged disk new
+managed_after disk old new client call answer result told valid storable meets unbroken managed changes step = record {
+  valid = valid told old.state.value client call _ _ new.state.value managed.valid step;
+  storable = storable told old.state.value client call _ _ new.state.value managed.valid managed.storable meets step;
+  broken = ap (λ (t : State). t.broken) changes.state ∙ managed.broken ∙ sym changes.broken;
+  whole = λ _. open_after disk old new changes (managed.whole unbroken);
+}

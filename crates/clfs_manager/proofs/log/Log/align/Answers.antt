@@ -1,0 +1,17 @@
+use Rattle.std.proofs.Common.{◌∙◌, ap}
+use Rattle.clfs_model.specs.Space.{own_sum}
+use Rattle.clfs_manager.proofs.Aligning.{align_too_long, align_done}
+use Rattle.clfs_manager.proofs.log.Log.align.Goals as goal
+
+pub returns-in-Some : goal.returns-in-Some
+returns-in-Some c = record {
+  step = λ told. align_too_long c.ways_of_a_step.ensures told c.args.self.now.state.value c.args.client c.args.area _ c.in-Some.len c.args.sizes.now _ _
+      c.requires.sound.whole c.in_ok-place.ensures.there c.area-max.ensures.largest c.as_slice.ensures.value c.in-Some.ensures;
+}
+
+pub returns : goal.returns
+returns c = record {
+  step = λ told. align_done c.ways_of_a_step.ensures told c.args.self.now.state.value c.args.client c.args.area _ _ c.args.sizes.now _ _
+      c.requires.sound.whole c.in_ok-place.ensures.there c.area-max.ensures.largest c.as_slice.ensures.value c.in_default.ensures
+      (c.own_of.ensures ∙ ap own_sum c.as_slice-2.ensures.value);
+}

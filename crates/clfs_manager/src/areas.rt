@@ -1,0 +1,291 @@
+// The calls on areas: making and ending them, giving up what they hold, what records of theirs would take, and ending their cursors. All that
+// changes is the table of areas, which no disk has: no call of these reaches the disk, and a crash in one leaves what the disk had. Making an
+// area takes memory, before anything changes; no other call here does.
+ghost use Rattle.std.specs.Prelude.{◌≡◌, ◌<◌, ◌≤◌, Bool, length, find, nat_lt, Some, None, IfOk, IfErr};
+ghost use Rattle.clfs_lsn.specs.Limits.{most_cursors, most_sizes};
+ghost use Rattle.clfs_areas.specs.Table.{area_at};
+ghost use Rattle.clfs_model.specs.declared.call.Call.TheVariants as calls;
+ghost use Rattle.clfs_model.specs.declared.refusal.Refusal.TheVariants as refusals;
+ghost use Rattle.clfs_model.specs.declared.reply.Reply.TheVariants as replies;
+ghost use Rattle.clfs_model.specs.Answers.{answer};
+ghost use Rattle.clfs_model.specs.Conditions.{IsClient};
+ghost use Rattle.clfs_model.specs.Refusals.{create_refusal};
+ghost use Rattle.clfs_model.specs.Space.{own_sum};
+ghost use Rattle.clfs_model.specs.State.{area_of};
+ghost use Rattle.clfs_manager.specs.Calls.{Steps};
+ghost use Rattle.clfs_manager.specs.Memory.{ChangesAreas, IsSound};
+
+use crate::log::Log;
+use crate::manager::Manager;
+use clfs_disk::Disk;
+use clfs_laws::{steps_keep_a_state_storable, steps_keep_a_state_valid};
+use clfs_lsn::{Sizes, longest, own};
+use clfs_model::{Refusal, State, ways_of_a_step};
+use clfs_told::Told;
+
+/// The most areas of a client.
+const MOST_AREAS: usize = 16;
+
+// The state with a client's new area.
+fn created(state: &Told<State>, client: u16, stream: u16, largest: u32, reads: u16) -> Told<State>
+    ensures { result.value ≡ (answer state.now.value client (calls.CreateArea stream largest reads)).state }
+{
+    state.next(&(client, stream, largest, reads))
+}
+
+// The state without a client's area.
+fn deleted(state: &Told<State>, client: u16, area: u16) -> Told<State>
+    ensures { result.value ≡ (answer state.now.value client (calls.DeleteArea area)).state }
+{
+    state.next(&(client, area))
+}
+
+// The state once a client's area holds so many sectors fewer.
+fn released(state: &Told<State>, client: u16, area: u16, sectors: u32) -> Told<State>
+    ensures { result.value ≡ (answer state.now.value client (calls.Release area sectors)).state }
+{
+    state.next(&(client, area, sectors))
+}
+
+// The state without a cursor of a client's area.
+fn ended(state: &Told<State>, client: u16, area: u16, cursor: u16) -> Told<State>
+    ensures { result.value ≡ (answer state.now.value client (calls.EndRead area cursor)).state }
+{
+    state.next(&(client, area, cursor))
+}
+
+/// The first of some lengths that is above the greatest.
+pub(crate) fn longer(sizes: &[u32], greatest: u32) -> Option<u32>
+    ensures { result ≡ find (λ len. nat_lt greatest len) sizes.now }
+{
+    sizes.iter().copied().find(|len| greatest < *len)
+}
+
+/// The sectors that records of these lengths take, each in a block of its own.
+pub(crate) fn own_of(sizes: &[u32]) -> u32
+    requires { length sizes.now ≤ most_sizes }
+    ensures { result ≡ own_sum sizes.now }
+{
+    sizes.iter().map(|len| own(*len)).sum()
+}
+
+impl Log {
+    /// Where the client's area of a number stands in the table.
+    pub(crate) fn area_place(&self, client: u16, number: u16) -> Result<usize, Refusal>
+        requires sound { IsSound self.now }
+        ensures within { IfOk result (λ place. place < length self.now.areas.areas) }
+        ensures there { IfOk result (λ place. area_of self.now.state.value client number ≡ Some (area_at place self.now.areas.areas)) }
+        ensures client { IfOk result (λ place. (area_at place self.now.areas.areas).client ≡ client) }
+        ensures number { IfOk result (λ place. (area_at place self.now.areas.areas).number ≡ number) }
+        ensures refused { IfErr result (λ refused. refused ≡ refusals.NoSuchArea) }
+        ensures none { IfErr result (λ _. area_of self.now.state.value client number ≡ None) }
+    {
+        match self.areas.place(client, number) {
+            Some(place) => Ok(place),
+            None => Err(Refusal::NoSuchArea),
+        }
+    }
+
+    // Why a new area is refused.
+    fn create_refusal(&self, client: u16, stream: u16, largest: u32) -> Option<Refusal>
+        requires sound { IsSound self.now }
+        ensures { result ≡ create_refusal self.now.state.value client stream largest }
+    {
+        if self.tables.base(stream).is_none() {
+            return Some(Refusal::NoSuchStream);
+        }
+        let max = longest(&self.queue.shape());
+        if max < largest {
+            return Some(Refusal::RecordTooLong { len: largest, max });
+        }
+        let count = self.areas.count(client);
+        if count >= MOST_AREAS {
+            return Some(Refusal::AreaLimit {
+                count: count as u32,
+            });
+        }
+        None
+    }
+
+    /// A new area of a client on a stream, without sectors and cursors; its number.
+    pub(crate) fn create_area(
+        &mut self,
+        client: u16,
+        stream: u16,
+        largest: u32,
+        reads: u16,
+    ) -> Result<u16, Refusal>
+        requires sound { IsSound self.old }
+        ensures step { (told : Bool)
+            → Steps told self.old.state.value client (calls.CreateArea stream largest reads) replies.Area result self.new.state.value }
+        ensures areas { ChangesAreas self.old self.new }
+    {
+        ways_of_a_step();
+        if let Some(refusal) = self.create_refusal(client, stream, largest) {
+            return Err(refusal);
+        }
+        let number = self.areas.create(client, stream, largest, reads)?;
+        self.state = created(&self.state, client, stream, largest, reads);
+        Ok(number)
+    }
+
+    /// The client's area of a number goes, with what it holds and its cursors.
+    pub(crate) fn delete_area(&mut self, client: u16, area: u16) -> Result<(), Refusal>
+        requires sound { IsSound self.old }
+        ensures step { (told : Bool)
+            → Steps told self.old.state.value client (calls.DeleteArea area) (λ _. replies.Done) result self.new.state.value }
+        ensures areas { ChangesAreas self.old self.new }
+    {
+        ways_of_a_step();
+        self.area_place(client, area)?;
+        self.areas.delete(client, area);
+        self.state = deleted(&self.state, client, area);
+        Ok(())
+    }
+
+    /// The client's area of a number gives up so many sectors; those that it holds then.
+    pub(crate) fn release(&mut self, client: u16, area: u16, sectors: u32) -> Result<u32, Refusal>
+        requires sound { IsSound self.old }
+        ensures step { (told : Bool)
+            → Steps told self.old.state.value client (calls.Release area sectors) replies.Held result self.new.state.value }
+        ensures areas { ChangesAreas self.old self.new }
+    {
+        ways_of_a_step();
+        let place = self.area_place(client, area)?;
+        let held = self.areas.area(place).held;
+        if held < sectors {
+            return Err(Refusal::ReservationShort {
+                held,
+                need: sectors,
+            });
+        }
+        self.areas.spend(place, sectors);
+        self.state = released(&self.state, client, area, sectors);
+        Ok(held - sectors)
+    }
+
+    /// The sectors that records of these lengths would take in the client's area of a number, each in a block of its own.
+    pub(crate) fn align(&self, client: u16, area: u16, sizes: &Sizes) -> Result<u32, Refusal>
+        requires sound { IsSound self.now }
+        ensures step { (told : Bool)
+            → Steps told self.now.state.value client (calls.Align area sizes.now) replies.Sectors result self.now.state.value }
+    {
+        ways_of_a_step();
+        let place = self.area_place(client, area)?;
+        let max = self.areas.area(place).largest;
+        if let Some(len) = longer(sizes.as_slice(), max) {
+            return Err(Refusal::RecordTooLong { len, max });
+        }
+        Ok(own_of(sizes.as_slice()))
+    }
+
+    /// The cursor of a number of a client's area ends.
+    pub(crate) fn end_read(&mut self, client: u16, area: u16, cursor: u16) -> Result<(), Refusal>
+        requires sound { IsSound self.old }
+        ensures step { (told : Bool)
+            → Steps told self.old.state.value client (calls.EndRead area cursor) (λ _. replies.Done) result self.new.state.value }
+        ensures areas { ChangesAreas self.old self.new }
+    {
+        ways_of_a_step();
+        let place = self.area_place(client, area)?;
+        if self.areas.cursor(place, cursor).is_none() {
+            return Err(Refusal::NoSuchCursor);
+        }
+        self.areas.end_cursor(place, cursor);
+        self.state = ended(&self.state, client, area, cursor);
+        Ok(())
+    }
+}
+
+impl<D: Disk> Manager<D> {
+    /// Makes an area of a client on the stream of a number, and gives its number, the least from 1 on that none of the client's areas has. Its
+    /// records have so many bytes of data at most, and it may have so many cursors at a time.
+    ///
+    /// It is refused where no stream has the number, where a record of the largest length doesn't fit a block of the log, and where the client
+    /// has 16 areas.
+    pub fn create_area(
+        &mut self,
+        client: u16,
+        stream: u16,
+        largest: u32,
+        reads: u16,
+    ) -> Result<u16, Refusal>
+        requires client { IsClient client }
+        requires reads { (1 ≤ reads) × (reads ≤ most_cursors) }
+        ensures step { (told : Bool) → Steps told self.old.0 client (calls.CreateArea stream largest reads) replies.Area result self.new.0 }
+        ensures disk { self.new.1 ≡ self.old.1 }
+    {
+        steps_keep_a_state_valid();
+        steps_keep_a_state_storable();
+        ways_of_a_step();
+        if self.log.broken {
+            return Err(Refusal::Broken);
+        }
+        self.log.create_area(client, stream, largest, reads)
+    }
+
+    /// Ends the client's area of a number, with the sectors that it holds and its cursors.
+    ///
+    /// It is refused where the client has no such area.
+    pub fn delete_area(&mut self, client: u16, area: u16) -> Result<(), Refusal>
+        requires client { IsClient client }
+        ensures step { (told : Bool) → Steps told self.old.0 client (calls.DeleteArea area) (λ _. replies.Done) result self.new.0 }
+        ensures disk { self.new.1 ≡ self.old.1 }
+    {
+        steps_keep_a_state_valid();
+        steps_keep_a_state_storable();
+        ways_of_a_step();
+        if self.log.broken {
+            return Err(Refusal::Broken);
+        }
+        self.log.delete_area(client, area)
+    }
+
+    /// Lets the client's area of a number give up so many of the sectors that it holds, and gives the number of those that it holds then.
+    ///
+    /// It is refused where the client has no such area, and where the area holds fewer sectors.
+    pub fn release(&mut self, client: u16, area: u16, sectors: u32) -> Result<u32, Refusal>
+        requires client { IsClient client }
+        ensures step { (told : Bool) → Steps told self.old.0 client (calls.Release area sectors) replies.Held result self.new.0 }
+        ensures disk { self.new.1 ≡ self.old.1 }
+    {
+        steps_keep_a_state_valid();
+        steps_keep_a_state_storable();
+        ways_of_a_step();
+        if self.log.broken {
+            return Err(Refusal::Broken);
+        }
+        self.log.release(client, area, sectors)
+    }
+
+    /// The sectors that records of these lengths, in bytes of data, would take in the client's area of a number, each in a block of its own.
+    ///
+    /// It is refused where the client has no such area, and where a length is above the area's largest.
+    pub fn align(&self, client: u16, area: u16, sizes: &Sizes) -> Result<u32, Refusal>
+        requires client { IsClient client }
+        ensures step { (told : Bool) → Steps told self.now.0 client (calls.Align area sizes.now) replies.Sectors result self.now.0 }
+    {
+        ways_of_a_step();
+        if self.log.broken {
+            return Err(Refusal::Broken);
+        }
+        self.log.align(client, area, sizes)
+    }
+
+    /// Ends the cursor of a number of a client's area, whatever it goes over.
+    ///
+    /// It is refused where the client has no such area, and where the area has no such cursor.
+    pub fn end_read(&mut self, client: u16, area: u16, cursor: u16) -> Result<(), Refusal>
+        requires client { IsClient client }
+        ensures step { (told : Bool) → Steps told self.old.0 client (calls.EndRead area cursor) (λ _. replies.Done) result self.new.0 }
+        ensures disk { self.new.1 ≡ self.old.1 }
+    {
+        steps_keep_a_state_valid();
+        steps_keep_a_state_storable();
+        ways_of_a_step();
+        if self.log.broken {
+            return Err(Refusal::Broken);
+        }
+        self.log.end_read(client, area, cursor)
+    }
+}
