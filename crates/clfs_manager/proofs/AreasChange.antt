@@ -55,6 +55,8 @@ holds_still old new areas changes are holds = record {
   room = rw changes.archive holds.room;
   policies = changes.policies ∙ holds.policies;
   containers = rw changes.physical holds.containers;
+  image_shape = rw changes.physical holds.image_shape;
+  rows = rw changes.physical holds.rows;
   listed = rw changes.physical holds.listed;
 }
 

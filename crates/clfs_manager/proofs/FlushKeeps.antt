@@ -1,15 +1,27 @@
 -- A log that was flushed is open still.
-use Rattle.std.proofs.Common.{◌≡◌, ℕ, ◌<◌, ◌≤◌, refl, sym, ap, subst, ◌∙◌, List, [], arith, false}
+use Rattle.std.proofs.Common.{◌≡◌, ℕ, ◌<◌, ◌≤◌, refl, sym, ap, subst, ◌∙◌, List, [], arith, Bool, true, false, inl, inr}
+use Rattle.std.specs.Prelude.{Result, Ok, Err, OnOk, OnErr}
+use Rattle.std.specs.Result.{is_err}
 use Rattle.clfs_disk.specs.State.{DiskState, TellsContents}
 use Rattle.clfs_model.specs.declared.state.State.{State}
 use Rattle.clfs_model.specs.Flush.{flush, flushed, block_start}
+use Rattle.clfs_model.specs.declared.call.Call.{Call}
+use Rattle.clfs_model.specs.declared.refusal.Refusal.TheVariants as refusals
+use Rattle.clfs_model.specs.declared.reply.Happened.{Happened}
+use Rattle.clfs_model.specs.declared.reply.Happened.TheVariants.{Fine, Fault}
+use Rattle.clfs_model.specs.declared.reply.Reply.{Reply}
+use Rattle.clfs_model.specs.declared.reply.Reply.TheVariants as replies
+use Rattle.clfs_model.specs.Conditions.{MeetsCondition}
+use Rattle.clfs_model.specs.Step.{Step, ReopenStep, with_broken}
+use Rattle.clfs_model.specs.Storable.{IsStorable}
 use Rattle.clfs_model.specs.Valid.{IsValid}
 use Rattle.clfs_buffers.specs.Buffered.{Buffered}
 use Rattle.clfs_physical.specs.Stored.{Newest, Blocks, Stores}
-use Rattle.clfs_manager.specs.Flushing.{KeepsOthers, StoredAfter}
+use Rattle.clfs_manager.specs.Flushing.{IsBroken, KeepsOthers, StoredAfter}
 use Rattle.clfs_manager.specs.Memory.{Holds}
-use Rattle.clfs_manager.specs.OnDisk.{IsStored, IsOpen, AreKept}
+use Rattle.clfs_manager.specs.OnDisk.{IsStored, IsOpen, IsManaged, AreKept}
 use Rattle.clfs_manager.specs.declared.log.Log.{Log}
+use Rattle.clfs_manager.proofs.AreasChange.{KeepsValid, KeepsStorable}
 use Rattle.clfs_manager.proofs.ClosedPlace.{flush_is, is_closed_of, is_start}
 use Rattle.clfs_manager.proofs.FlushedLog.{done}
 
@@ -34,4 +46,54 @@ open_flushed old new s t before after valid is_open state holds keeps stored_aft
       stored = stored.1.0;
       files = λ told. stored.1.1 (tells told) false (is_open.files (tells told));
       kept = λ told. rw (keeps.buffers, state ∙ flush_is s) (kept_done s before.buffers valid (is_open.kept (tells told)));
+    }
+
+-- what holds of an answer that is no refusal
+pub on_ok : {A E P : Type 0} (result : Result A E) → is_err result ≡ false → OnOk result P → P
+on_ok (Ok value) ok is = is
+on_ok (Err error) ok is = absurd (cc ok)
+
+pub on_err : {A E P : Type 0} (result : Result A E) → is_err result ≡ true → OnErr result P → P
+on_err (Ok value) err is = absurd (cc err)
+on_err (Err error) err is = is
+
+-- A log that meets a fault of the disk, as in opening it anew.
+pub meets_fault : (s : State) → s.broken ≡ false → ReopenStep false s Fault (replies.Refused refusals.DiskFault) (with_broken s)
+unfolding ReopenStep
+meets_fault s whole = rw whole (inr (refl, refl))
+
+-- that opening anew leaves a valid state
+abbrev pub ReopensValid : Type 0
+ReopensValid = (told : Bool) (s : State) (happened : Happened) (reply : Reply) (t : State) → IsValid s → ReopenStep told s happened reply t → IsValid t
+
+-- and one that files can hold
+abbrev pub ReopensStorable : Type 0
+ReopensStorable = (told : Bool) (s : State) (happened : Happened) (reply : Reply) (t : State)
+    → IsValid s → IsStorable s → ReopenStep told s happened reply t → IsStorable t
+
+-- A manager whose log met a fault of the disk.
+pub managed_broken : (old new : DiskState) (before after : Log) → ReopensValid → ReopensStorable → IsManaged old before → before.broken ≡ false → IsBroken before after
+    → IsManaged new after
+managed_broken old new before after valid storable managed unbroken is =
+    let s : State = before.state.value in
+    let fault = meets_fault s (managed.broken ∙ unbroken) in
+    record {
+      valid = rw is.state (valid false s Fault _ (with_broken s) managed.valid fault);
+      storable = rw is.state (storable false s Fault _ (with_broken s) managed.valid managed.storable fault);
+      broken = rw is.state (sym is.broken);
+      whole = λ whole. absurd (cc (whole, is.broken));
+    }
+
+-- A manager whose log was flushed by a call that is answered with the flushed state.
+pub managed_flushed : (old new : DiskState) (before after : Log) (client : ℕ) (call : Call) (reply : Reply) → KeepsValid → KeepsStorable → MeetsCondition client call
+    → IsManaged old before → before.broken ≡ false → after.state.value ≡ flush before.state.value
+    → Step false before.state.value client call Fine reply (flush before.state.value) → Holds after.state.value after → KeepsOthers before after
+    → StoredAfter old new before.state.value after.state.value before.physical after.physical → (TellsContents new → TellsContents old) → IsManaged new after
+managed_flushed old new before after client call reply valid storable meets managed unbroken state step holds keeps stored tells =
+    let s : State = before.state.value in
+    record {
+      valid = rw state (valid false s client call Fine reply (flush s) managed.valid step);
+      storable = rw state (storable false s client call Fine reply (flush s) managed.valid managed.storable meets step);
+      broken = rw state (ap (λ (t : State). t.broken) (flush_is s) ∙ managed.broken ∙ unbroken ∙ sym (keeps.broken ∙ unbroken));
+      whole = λ _. open_flushed old new s after.state.value before after managed.valid (managed.whole unbroken) state holds keeps stored tells;
     }

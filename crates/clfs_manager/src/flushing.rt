@@ -1,23 +1,30 @@
 // Writing what waits. The open block ends, so that all records stand in blocks that wait, and these are written as one group behind the blocks that
 // are on the disk: a crash leaves all of the group or none of it. No memory is taken: the group's bytes stand in the queue's buffer, and there is
 // room for the end of the open block since its first record was appended.
-ghost use Rattle.std.specs.Prelude.{◌≡◌, IsOk, ◌+◌, ◌*◌, ◌<◌, ◌≤◌, false, true, OnOk, OnErr};
+ghost use Rattle.std.specs.Prelude.{◌≡◌, Bool, IsOk, IsErrOf, ◌+◌, ◌*◌, ◌<◌, ◌≤◌, false, true, OnOk, OnErr};
 ghost use Rattle.clfs_disk.specs.State.{IsSettled, IsSteady, Later, Rises};
 ghost use Rattle.clfs_lsn.specs.Format.{sector_bytes};
 ghost use Rattle.clfs_lsn.specs.Place.{IsClosed, IsSmall, block_end, frontier};
-ghost use Rattle.clfs_model.specs.Flush.{flush};
-ghost use Rattle.clfs_model.specs.Step.{is_pending, with_broken};
+ghost use Rattle.clfs_model.specs.Flush.{flush, flushed};
+ghost use Rattle.clfs_model.specs.Step.{calls_disk, is_pending, with_broken};
 ghost use Rattle.clfs_physical.specs.Joined.{SameLengths};
 ghost use Rattle.clfs_physical.specs.Stored.{AreMade};
+ghost use Rattle.clfs_model.specs.declared.call.Call.TheVariants as calls;
+ghost use Rattle.clfs_model.specs.declared.reply.Reply.TheVariants as replies;
+ghost use Rattle.clfs_model.specs.Conditions.{IsClient};
+ghost use Rattle.clfs_manager.specs.Calls.{Steps};
 ghost use Rattle.clfs_manager.specs.Flushing.{EndsBlock, IsBroken, KeepsOthers, StoredAfter};
 ghost use Rattle.clfs_manager.specs.Memory.{Holds, IsSound};
 
 use crate::log::Log;
+use crate::manager::Manager;
 use clfs_archive::{BlockEnd, ends_of_blocks_go_on};
 use clfs_disk::{Disk, Failed};
-use clfs_laws::open_blocks_end_at_the_place;
-use clfs_lsn::{Lsn, Place, sealed};
-use clfs_model::State;
+use clfs_laws::{
+    open_blocks_end_at_the_place, steps_keep_a_state_storable, steps_keep_a_state_valid,
+};
+use clfs_lsn::{Lsn, Place, frontier, sealed};
+use clfs_model::{Refusal, State, ways_of_a_step};
 use clfs_recover::{blocks_are_read_in_order, groups_come_behind_the_last_block};
 use clfs_told::Told;
 
@@ -65,6 +72,14 @@ impl Log {
         self.queue.seal();
     }
 
+    // The LSN below which all records are on the disk.
+    pub fn flushed(&self) -> Lsn
+        requires sound { IsSound self.now }
+        ensures { result ≡ flushed self.now.state.value }
+    {
+        self.queue.flushed()
+    }
+
     // Writes all that isn't on the disk, where there is such. After a fault the log is broken.
     pub fn write_out<D: Disk>(&mut self, disk: &mut D) -> Result<(), Failed>
         requires sound { IsSound self.old }
@@ -94,5 +109,58 @@ impl Log {
         self.queue.written();
         self.state = flushed(&self.state);
         Ok(())
+    }
+}
+
+impl<D: Disk> Manager<D> {
+    /// Flushes the whole log: all records are on the disk then. Answers the LSN below which they are, at or above which every later one will
+    /// be. Refused where the client has no area of the number.
+    pub fn flush(&mut self, client: u16, area: u16) -> Result<Lsn, Refusal>
+        requires client { IsClient client }
+        ensures step { (told : Bool) → Steps told self.old.0 client (calls.Flush area) replies.Flushed result self.new.0 }
+        ensures quiet { is_pending self.old.0 ≡ false → self.new.1 ≡ self.old.1 }
+        ensures time { Later (D.state self.old.1) (D.state self.new.1) }
+        ensures cause { IsErrOf result Refusal.DiskFault → Rises (D.state self.old.1).faults (D.state self.new.1).faults }
+    {
+        steps_keep_a_state_valid();
+        steps_keep_a_state_storable();
+        ways_of_a_step();
+        if self.log.broken {
+            return Err(Refusal::Broken);
+        }
+        self.log.area_place(client, area)?;
+        if self.log.write_out(&mut self.disk).is_err() {
+            return Err(Refusal::DiskFault);
+        }
+        Ok(self.log.queue.flushed())
+    }
+
+    /// Flushes the log unless the record at an LSN is on the disk already. Answers the LSN below which all records are on the disk. Refused
+    /// where the client has no area of the number, or where no record can have the LSN yet.
+    pub fn flush_to(&mut self, client: u16, area: u16, lsn: Lsn) -> Result<Lsn, Refusal>
+        requires client { IsClient client }
+        ensures step { (told : Bool) → Steps told self.old.0 client (calls.FlushTo area lsn) replies.Flushed result self.new.0 }
+        ensures quiet { calls_disk self.old.0 (calls.FlushTo area lsn) ≡ false → self.new.1 ≡ self.old.1 }
+        ensures time { Later (D.state self.old.1) (D.state self.new.1) }
+        ensures cause { IsErrOf result Refusal.DiskFault → Rises (D.state self.old.1).faults (D.state self.new.1).faults }
+    {
+        steps_keep_a_state_valid();
+        steps_keep_a_state_storable();
+        ways_of_a_step();
+        if self.log.broken {
+            return Err(Refusal::Broken);
+        }
+        self.log.area_place(client, area)?;
+        if lsn >= frontier(&self.log.queue.place()) {
+            return Err(Refusal::RecordNonexistent { lsn });
+        }
+        let stable = self.log.flushed();
+        if lsn < stable {
+            return Ok(stable);
+        }
+        if self.log.write_out(&mut self.disk).is_err() {
+            return Err(Refusal::DiskFault);
+        }
+        Ok(self.log.queue.flushed())
     }
 }
