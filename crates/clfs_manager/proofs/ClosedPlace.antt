@@ -128,11 +128,11 @@ begins_at s q at body valid place waiting group =
     let id : (seal q).place.container ≡ s.place.container = ap (λ (p : Place). p.container) (ended.place ∙ ap closed_place place) ∙ closed.container in
     let first = first_start (seal q).shape (seal q).place.container at (seal q).waiting (seal q).records group.blocks group.waiting in
     let end : lsn_number (seal q).place.container (at + total group.blocks) 0 ≡ block_start (closed_place q.place) =
-        omega (arith, to, id, closed.container, ap (λ (p : Place). block_start (closed_place p)) place) in
+    omega (arith, to, id, closed.container, ap (λ (p : Place). block_start (closed_place p)) place) in
     let flushed_here : first_or (block_start q.place) q.waiting ≡ flushed s =
-        ap (λ (p : Place). first_or (block_start p) q.waiting) place ∙ ap (first_or (block_start s.place)) waiting in
+    ap (λ (p : Place). first_or (block_start p) q.waiting) place ∙ ap (first_or (block_start s.place)) waiting in
     let is : flushed s ≡ lsn_number (seal q).place.container at 0 =
-        sym flushed_here ∙ sym ended.starts ∙ sym (ap (λ (n : ℕ). first_or n (seal q).waiting) end) ∙ first in
+    sym flushed_here ∙ sym ended.starts ∙ sym (ap (λ (n : ℕ). first_or n (seal q).waiting) end) ∙ first in
     let here : flushed s ≡ lsn_number s.place.container at 0 = omega (arith, is, id) in
     let start = is_start s valid in
     let few : at ≤ 8388608 = omega (arith, to, closed.low, valid.ranges.shape.largest_container) in

@@ -41,9 +41,13 @@ opened shape place within some = elim within.block [
 ]
 
 any_head : (lsn : ℕ) (entries : List LogEntry) → Any (λ (entry : LogEntry). entry.lsn + 1 ≡ lsn + 1) entries → Any (λ (head : Head). head.lsn ≡ lsn) (map head_of entries)
-any_head lsn entries there =
-    (there.0, head_of there.1, omega (arith, there.2, length-map entries head_of),
-    get_or-map head_of entries there.0 there.1 (head_of there.1) there.2 ∙ ap head_of there.3, omega (arith, there.4))
+any_head lsn entries there = (
+  there.0,
+  head_of there.1,
+  omega (arith, there.2, length-map entries head_of),
+  get_or-map head_of entries there.0 there.1 (head_of there.1) there.2 ∙ ap head_of there.3,
+  omega (arith, there.4),
+)
 
 -- What is true of the end of the open block.
 pub record Ends (s : State) (block : BlockEnd) : Type 0 where
@@ -62,7 +66,7 @@ ends s block valid some last end newest of_records =
     let open_block = opened s.shape s.place within some in
     let low : s.place.offset ≤ 8388608 = omega (arith, within.end, valid.ranges.shape.largest_container) in
     let here : (lsn : ℕ) → block_start s.place ≤ lsn → lsn < frontier s.place → (container_of lsn ≡ s.place.container) × (offset_of lsn ≡ s.place.offset)
-        = λ lsn from below. (omega (arith, from, below, low, open_block.few_records), omega (arith, from, below, low, open_block.few_records, within.offset)) in
+    = λ lsn from below. (omega (arith, from, below, low, open_block.few_records), omega (arith, from, below, low, open_block.few_records, within.offset)) in
     let at_last = here block.last (omega (arith, last, some)) (omega (arith, last)) in
     let each = valid.records.records in
     record {

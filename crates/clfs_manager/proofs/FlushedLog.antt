@@ -105,10 +105,10 @@ grown_records s first entries valid low at is =
     let test : LogEntry → Bool = λ (entry : LogEntry). nat_le low_lsn entry.lsn in
     let stable : List LogEntry = filter (λ (entry : LogEntry). nat_lt entry.lsn (flushed s)) s.records in
     let from : All (λ (entry : LogEntry). low_lsn ≤ entry.lsn) (unflushed s) = All-weaker (λ (entry : LogEntry). flushed s ≤ entry.lsn) (λ (entry : LogEntry). low_lsn ≤ entry.lsn)
-        (λ entry above. omega (arith, above, low, at)) (unflushed s) (kept_from (flushed s) s.records) in
+    (λ entry above. omega (arith, above, low, at)) (unflushed s) (kept_from (flushed s) s.records) in
     let all : (cut (done s)).records ≡ s.records = all_below (block_start (closed_place s.place)) s.records (all_below_closed s valid) in
     let parts : filter test s.records ≡ filter test stable ++ filter test (unflushed s) =
-        ap (filter test) (sym (split (flushed s) s.records valid.records.rising)) ∙ filter-append test stable (unflushed s) in
+    ap (filter test) (sym (split (flushed s) s.records valid.records.rising)) ∙ filter-append test stable (unflushed s) in
     let waits : filter test (unflushed s) ≡ unflushed s = all_from low_lsn (unflushed s) from in
     ap (λ (es : List LogEntry). es ++ unflushed s) is ∙ sym (ap (λ (es : List LogEntry). filter test stable ++ es) waits) ∙ sym parts ∙ sym (ap (filter test) all)
 
@@ -126,9 +126,9 @@ stored_done s newest before after group at valid listed some stored begins here 
     let offset : total (before (file_at_end image)) + total group ≡ offset_of (block_start (closed_place s.place)) = omega (arith, here, end, parts.1) in
     let container : container_of (flushed s) ≡ container_of (block_start (closed_place s.place)) = begins.container ∙ sym (parts.0 ∙ closed.container) in
     let place : record (stored_place image (map before image.files)) { offset = total (before (file_at_end image)) + total group } ≡ (cut (done s)).place =
-        ap (λ (p : Place). record p { offset = total (before (file_at_end image)) + total group }) place_before
-        ∙ ap (λ (n : ℕ). let p : Place = record { container = n; offset = total (before (file_at_end image)) + total group; used = 0; records = 0 } in p) container
-        ∙ ap (λ (n : ℕ). let p : Place = record { container = container_of (block_start (closed_place s.place)); offset = n; used = 0; records = 0 } in p) offset in
+    ap (λ (p : Place). record p { offset = total (before (file_at_end image)) + total group }) place_before
+    ∙ ap (λ (n : ℕ). let p : Place = record { container = n; offset = total (before (file_at_end image)) + total group; used = 0; records = 0 } in p) container
+    ∙ ap (λ (n : ℕ). let p : Place = record { container = container_of (block_start (closed_place s.place)); offset = n; used = 0; records = 0 } in p) offset in
     record {
       entries = entries;
       log = grown.log;

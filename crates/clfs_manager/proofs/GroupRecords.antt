@@ -19,16 +19,18 @@ AreOfStreams streams entries = All (λ (entry : LogEntry). entry.stream ≤ stre
 fit : (streams lsn : ℕ) (entries : List LogEntry) → AreOfStreams streams entries → AreInRow lsn entries → FitFrom lsn streams entries
 fit streams lsn [] few row = tt
 fit streams lsn (entry ∷ entries) few row =
-    let is = row.0 in
-    (record {
-      at = is.at;
-      some_stream = is.some_stream;
-      stream = All-head (λ (e : LogEntry). e.stream ≤ streams) entry entries few;
-      bytes = is.bytes;
-      previous = is.previous;
-      undo_next = is.undo_next;
-      new_base = is.new_base;
-    }, fit streams (lsn + 1) entries (All-tail (λ (e : LogEntry). e.stream ≤ streams) entry entries few) row.1)
+    let is = row.0 in (
+      record {
+        at = is.at;
+        some_stream = is.some_stream;
+        stream = All-head (λ (e : LogEntry). e.stream ≤ streams) entry entries few;
+        bytes = is.bytes;
+        previous = is.previous;
+        undo_next = is.undo_next;
+        new_base = is.new_base;
+      },
+      fit streams (lsn + 1) entries (All-tail (λ (e : LogEntry). e.stream ≤ streams) entry entries few) row.1,
+    )
 
 pub groups_of : (shape : Shape) (streams id offset : ℕ) (starts : List ℕ) (entries : List LogEntry) (blocks : List (List ℕ)) → AreOfStreams streams entries
     → AreBlocks shape id offset starts entries blocks
@@ -48,6 +50,10 @@ groups_of shape streams id offset (start ∷ starts) entries (block ∷ blocks) 
       fit = fit streams start own (all_left (λ (e : LogEntry). e.stream ≤ streams) own others split) is.row;
       count = is.count;
       spelled = is.spelled;
-    } in
-    (own ∷ rest.0, (flat_map-cons (λ (es : List LogEntry). es) own rest.0 ∙ ap (λ (es : List LogEntry). own ++ es) rest.1.0 ∙ sym are.1.2,
-    (subst (λ (at : ℕ). HasRecords shape streams at own block) are.0 has, rest.1.1)))
+    } in (
+      own ∷ rest.0,
+      (
+        flat_map-cons (λ (es : List LogEntry). es) own rest.0 ∙ ap (λ (es : List LogEntry). own ++ es) rest.1.0 ∙ sym are.1.2,
+        (subst (λ (at : ℕ). HasRecords shape streams at own block) are.0 has, rest.1.1),
+      ),
+    )

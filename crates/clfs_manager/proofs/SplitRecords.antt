@@ -55,7 +55,7 @@ split lsn (entry ∷ entries) rising = elim (cases_lt entry.lsn lsn) [
       rw (is, isnt) (ap (λ (es : List LogEntry). entry ∷ es) (split lsn entries (rest_rises entry entries rising)))
   | inr from ↦
       let others : All (λ (other : LogEntry). lsn ≤ other.lsn) entries = All-weaker (λ (other : LogEntry). entry.lsn < other.lsn) (λ (other : LogEntry). lsn ≤ other.lsn)
-          (λ other above. omega (arith, above, from)) entries (above_first entry entries rising) in
+      (λ other above. omega (arith, above, from)) entries (above_first entry entries rising) in
       let isnt : nat_lt entry.lsn lsn ≡ false = le-ltb entry.lsn lsn from in
       let is : nat_le lsn entry.lsn ≡ true = le-leb lsn entry.lsn from in
       rw (isnt, is, none_below lsn entries others, all_from lsn entries others) refl

@@ -1,5 +1,4 @@
-use Rattle.std.proofs.Common.{◌≡◌, ℕ, ◌+◌, ◌*◌, ◌≤◌, refl, sym, ap, subst, ◌∙◌, arith}
-use Rattle.std.specs.List.{Any}
+use Rattle.std.proofs.Common.{◌≡◌, ◌*◌, ◌≤◌, refl, sym, ap, subst, ◌∙◌, arith}
 use Rattle.clfs_lsn.specs.Place.{block_end, frontier, sealed}
 use Rattle.clfs_lsn.specs.declared.place.Place.{Place}
 use Rattle.clfs_archive.specs.Blocks.{AreSealed}
@@ -20,12 +19,12 @@ returns-clause-ended c =
     let block = c.end_of_open.result in
     let some : 1 ≤ s.place.records = omega (arith, c.if-place-eq0.false, ap (λ (p : Place). p.records) place) in
     let is : Ends s block = ends s block sound.valid some (c.end_of_open.ensures.last ∙ ap frontier place)
-        (c.end_of_open.ensures.end ∙ ap (λ (p : Place). 512 * block_end p) place)
-        (c.open_blocks_end_at_the_place.ensures.newest s sound.valid sound.storable some)
-        (c.open_blocks_end_at_the_place.ensures.end s sound.valid sound.storable some) in
+    (c.end_of_open.ensures.end ∙ ap (λ (p : Place). 512 * block_end p) place)
+    (c.open_blocks_end_at_the_place.ensures.newest s sound.valid sound.storable some)
+    (c.open_blocks_end_at_the_place.ensures.end s sound.valid sound.storable some) in
     let told = c.push.ensures.told old.tables.low (block_start s.place) (block_start (sealed s.place)) (heads_of s) holds.sealed is.is is.behind is.below is.start is.own in
     let at : c.seal.new.self.place ≡ sealed s.place =
-        ap (λ (q : Queued). q.place) c.seal.ensures.sealed ∙ sealed_place old.queue (omega (arith, some, ap (λ (p : Place). p.records) holds.place)) ∙ ap sealed holds.place in
+    ap (λ (q : Queued). q.place) c.seal.ensures.sealed ∙ sealed_place old.queue (omega (arith, some, ap (λ (p : Place). p.records) holds.place)) ∙ ap sealed holds.place in
     record {
       queue = c.seal.ensures.sealed;
       sealed = subst (λ (p : Place). AreSealed old.tables.low (block_start p) c.push.new.self.blocks (heads_of s)) (sym at) told;

@@ -1,4 +1,4 @@
-use Rattle.std.proofs.Common.{◌≡◌, ◌≢◌, ℕ, ◌+◌, ◌*◌, ◌≤◌, refl, sym, ap, subst, ◌∙◌, arith, inl, inr, List, [], map, length}
+use Rattle.std.proofs.Common.{◌≡◌, ℕ, ◌+◌, ◌*◌, ◌≤◌, refl, sym, ap, subst, ◌∙◌, arith, inl, inr, List, [], length}
 use Rattle.std.specs.Prelude.{All, Ok, IsOk, ◌-◌, ◌/◌}
 use Rattle.clfs_lsn.specs.Size.{IsShape}
 use Rattle.clfs_base.specs.Layout.{version_one}
@@ -15,10 +15,10 @@ use Rattle.clfs_model.specs.Heads.{heads_of}
 use Rattle.clfs_physical.specs.Stored.{Newest, Blocks, Stores, Waits, with_group}
 use Rattle.clfs_queue.specs.Group.{IsGroupOf}
 use Rattle.clfs_queue.specs.Queued.{Queued, seal}
-use Rattle.clfs_recover.specs.Logs.{HaveMore, IsLogWith, file_at_end, all_records}
+use Rattle.clfs_recover.specs.Logs.{HaveMore, file_at_end, all_records}
 use Rattle.clfs_recover.specs.Stored.{stored_in}
 use Rattle.clfs_recover.specs.Walk.{shape_of}
-use Rattle.clfs_manager.specs.Memory.{Holds, unflushed}
+use Rattle.clfs_manager.specs.Memory.{unflushed}
 use Rattle.clfs_manager.specs.OnDisk.{IsStored}
 use Rattle.clfs_manager.proofs.ClosedPlace.{closed_place, flush_is, is_ended, is_closed_of, begins_at}
 use Rattle.clfs_manager.proofs.FlushedLog.{done, hold_done, none_unflushed, few_streams, no_bases, total_append, IsGrown, stored_done}
@@ -31,8 +31,8 @@ returns-in-Err-clause-steady g c = λ steady made.
     let ended = c.end_block.ensures.ended in
     let group = c.group-at.ensures in
     let long : old.physical.image.container_sectors ≡ c.end_block.new.self.queue.shape.container_sectors =
-        ap (λ (n : Shape). n.container_sectors) (c.requires.sound.holds.image_shape ∙ sym c.requires.sound.holds.shape ∙ sym (is_ended old.queue).shape
-        ∙ ap (λ (q : Queued). q.shape) (sym ended.queue)) in
+    ap (λ (n : Shape). n.container_sectors) (c.requires.sound.holds.image_shape ∙ sym c.requires.sound.holds.shape ∙ sym (is_ended old.queue).shape
+    ∙ ap (λ (q : Queued). q.shape) (sym ended.queue)) in
     elim group.bytes [
       | inl none ↦ absurd (let wrong = subst (λ r. IsOk r) c.in-Err.is (c.flush.ensures.nothing none.0).0 in cc wrong)
       | inr some ↦ absurd (
@@ -51,7 +51,7 @@ returns-clause-holds g c =
     let q = is_ended old.queue in
     let state : c.flushed-self.result.value ≡ done s = c.flushed-self.ensures ∙ ap (λ (t : State). flush t) (ap (λ t. t.value) ended.state) ∙ flush_is s in
     let queue : c.written.new.self ≡ record (seal old.queue) { waiting = []; records = [] } =
-        c.written.ensures ∙ ap (λ (u : Queued). record u { waiting = []; records = [] }) ended.queue in
+    c.written.ensures ∙ ap (λ (u : Queued). record u { waiting = []; records = [] }) ended.queue in
     let place : c.end_block.new.self.queue.place ≡ closed_place s.place = ap (λ (u : Queued). u.place) ended.queue ∙ q.place ∙ ap closed_place holds.place in
     rw state (record {
       shape = ap (λ (u : Queued). u.shape) queue ∙ q.shape ∙ holds.shape;
@@ -95,28 +95,28 @@ returns-clause-stored g c = λ blocks stored.
     let closed = is_closed_of s.shape s.place sound.valid.ranges.place in
     let end : at + total more ≡ (closed_place s.place).offset = group.end ∙ ap (λ (p : Place). p.offset) (q.place ∙ ap closed_place holds.place) in
     let here : total (blocks (file_at_end image)) ≡ at = sym (c.groups_come_behind_the_last_block.ensures.at image blocks is_image)
-        ∙ ap (λ (t : State). t.place.offset) stored.state ∙ begins.offset in
+    ∙ ap (λ (t : State). t.place.offset) stored.state ∙ begins.offset in
     let have : HaveMore image more blocks after = c.groups_come_behind_the_last_block.ensures.by_file image more blocks in
     let waits_in : All (λ (entry : LogEntry). entry.stream ≤ length image.streams) (seal old.queue).records =
-        subst (AreOfStreams (length image.streams)) (sym (q.records ∙ holds.records)) (few_streams s (length image.streams) sound.valid holds.rows) in
+    subst (AreOfStreams (length image.streams)) (sym (q.records ∙ holds.records)) (few_streams s (length image.streams) sound.valid holds.rows) in
     let groups = groups_of (seal old.queue).shape (length image.streams) (seal old.queue).place.container at (seal old.queue).waiting (seal old.queue).records more
-        waits_in group.waiting in
+    waits_in group.waiting in
     let shape : (seal old.queue).shape ≡ shape_of image = q.shape ∙ holds.shape ∙ sym holds.image_shape in
     let id : (seal old.queue).place.container ≡ image.first + length image.files - 1 =
-        omega (arith, ap (λ (p : Place). p.container) (q.place ∙ ap closed_place holds.place), closed.container, holds.listed) in
+    omega (arith, ap (λ (p : Place). p.container) (q.place ∙ ap closed_place holds.place), closed.container, holds.listed) in
     let low : at + total more ≤ 512 * (seal old.queue).shape.container_sectors =
-        omega (arith, end, closed.low, ap (λ (n : Shape). n.container_sectors) (q.shape ∙ holds.shape)) in
+    omega (arith, end, closed.low, ap (λ (n : Shape). n.container_sectors) (q.shape ∙ holds.shape)) in
     let own_read : stored_in (seal old.queue).shape (length image.streams) (seal old.queue).place.container at more ≡ Ok (all_records groups.0) =
-        c.blocks_are_read_in_order.ensures.written (seal old.queue).shape (length image.streams) (seal old.queue).place.container at groups.0 more
-        (subst IsShape (sym shape) is_image.shape) (omega (arith, is_image.few_streams)) (omega (arith, id, is_image.last_id)) low groups.1.1 in
+    c.blocks_are_read_in_order.ensures.written (seal old.queue).shape (length image.streams) (seal old.queue).place.container at groups.0 more
+    (subst IsShape (sym shape) is_image.shape) (omega (arith, is_image.few_streams)) (omega (arith, id, is_image.last_id)) low groups.1.1 in
     let records : all_records groups.0 ≡ unflushed s = groups.1.0 ∙ q.records ∙ holds.records in
     let F : Shape → ℕ → ℕ → Type 0 = λ sh i o. stored_in sh (length image.streams) i o more ≡ Ok (unflushed s) in
     let read : F (shape_of image) (image.first + length image.files - 1) (total (blocks (file_at_end image))) =
-        subst (λ (sh : Shape). F sh (image.first + length image.files - 1) (total (blocks (file_at_end image)))) shape
-        (subst (λ (i : ℕ). F (seal old.queue).shape i (total (blocks (file_at_end image)))) id
-        (subst (λ (o : ℕ). F (seal old.queue).shape (seal old.queue).place.container o) (sym here) (own_read ∙ ap (λ (es : List LogEntry). Ok es) records))) in
+    subst (λ (sh : Shape). F sh (image.first + length image.files - 1) (total (blocks (file_at_end image)))) shape
+    (subst (λ (i : ℕ). F (seal old.queue).shape i (total (blocks (file_at_end image)))) id
+    (subst (λ (o : ℕ). F (seal old.queue).shape (seal old.queue).place.container o) (sym here) (own_read ∙ ap (λ (es : List LogEntry). Ok es) records))) in
     let within : total (after (file_at_end image)) ≤ 512 * image.container_sectors =
-        omega (arith, ap total have.last, total_append (blocks (file_at_end image)) more, here, low, ap (λ (n : Shape). n.container_sectors) shape) in
+    omega (arith, ap total have.last, total_append (blocks (file_at_end image)) more, here, low, ap (λ (n : Shape). n.container_sectors) shape) in
     let grown : IsGrown s image blocks after stored.entries more = record {
       log = c.groups_come_behind_the_last_block.ensures.log image blocks after more stored.entries (unflushed s) is_image have within read stored.log;
       state = c.groups_come_behind_the_last_block.ensures.state image blocks after more stored.entries (unflushed s) s.buffers is_image have
@@ -131,12 +131,17 @@ returns-clause-stored g c = λ blocks stored.
         group = subst (λ (n : ℕ). IsGroup (n - at / 512) body more ((seal old.queue).shape.container_sectors - (seal old.queue).place.offset / 512)) long some.group;
       })
     ] in
-    let is : IsStored (done s) old.physical after = stored_done s old.physical blocks after more at sound.valid holds.listed is_image.some_listed stored begins here end grown in
-    (after, (rw (state, newest) is, λ tells whole stores.
-    subst (λ (n : Newest). Stores whole c.end_block.new.self.physical (with_group n.image more blocks) (g.D.Disk.state c.flush.new.disk).files) newest
-    (c.in_default.ensures.written tells whole blocks more
-    (subst (λ (n : Newest). Stores whole n blocks (g.D.Disk.state c.args.disk.now).files) (sym newest) stores)
-    (subst (λ (n : Newest). Waits n.image blocks at body more) (sym newest) waits))))
+    let is : IsStored (done s) old.physical after = stored_done s old.physical blocks after more at sound.valid holds.listed is_image.some_listed stored begins here end grown in (
+      after,
+      (
+        rw (state, newest) is,
+        λ tells whole stores.
+            subst (λ (n : Newest). Stores whole c.end_block.new.self.physical (with_group n.image more blocks) (g.D.Disk.state c.flush.new.disk).files) newest
+            (c.in_default.ensures.written tells whole blocks more
+            (subst (λ (n : Newest). Stores whole n blocks (g.D.Disk.state c.args.disk.now).files) (sym newest) stores)
+            (subst (λ (n : Newest). Waits n.image blocks at body more) (sym newest) waits)),
+      ),
+    )
 
 pub returns-clause-steady : goal.returns-clause-steady
 returns-clause-steady g c = λ steady made.
@@ -144,8 +149,8 @@ returns-clause-steady g c = λ steady made.
     let ended = c.end_block.ensures.ended in
     let group = c.group-at.ensures in
     let long : old.physical.image.container_sectors ≡ c.end_block.new.self.queue.shape.container_sectors =
-        ap (λ (n : Shape). n.container_sectors) (c.requires.sound.holds.image_shape ∙ sym c.requires.sound.holds.shape ∙ sym (is_ended old.queue).shape
-        ∙ ap (λ (q : Queued). q.shape) (sym ended.queue)) in
+    ap (λ (n : Shape). n.container_sectors) (c.requires.sound.holds.image_shape ∙ sym c.requires.sound.holds.shape ∙ sym (is_ended old.queue).shape
+    ∙ ap (λ (q : Queued). q.shape) (sym ended.queue)) in
     elim group.bytes [
       | inl none ↦ (refl, ap (λ d. (g.D.Disk.state d).faults) (c.flush.ensures.nothing none.0).1)
       | inr some ↦ (refl, (c.flush.ensures.steady steady (rw ended.physical made) (rw ended.physical (omega (arith, some.within, long)))).1)

@@ -1,4 +1,4 @@
-use Rattle.std.proofs.Common.{◌≡◌, refl, sym, ap, subst, ◌∙◌, false}
+use Rattle.std.proofs.Common.{◌≡◌, refl, sym, ◌∙◌, false}
 use Rattle.std.specs.Prelude.{None}
 use Rattle.clfs_model.specs.declared.call.Call.TheVariants as calls
 use Rattle.clfs_model.specs.declared.reply.Reply.TheVariants as replies
@@ -23,7 +23,7 @@ invariant_of-self-2 g c =
     let there = c.in_ok-area_place.ensures.there in
     let none : refusal s c.args.client (calls.Flush c.args.area) ≡ None = rw there refl in
     let step = c.ways_of_a_step.ensures.answered false s c.args.client (calls.Flush c.args.area) (replies.Flushed (flushed (flush s))) (flush s) (managed.broken ∙ c.if-self.false)
-        none refl refl in
+    none refl refl in
     managed_flushed (g.D.Disk.state c.self.inside.disk) (g.D.Disk.state c.write_out.new.disk) old c.write_out.new.self c.args.client (calls.Flush c.args.area) _
     c.steps_keep_a_state_valid.ensures.step c.steps_keep_a_state_storable.ensures.step (record { is_client = c.requires.client; arguments = tt })
     managed c.if-self.false (on_ok c.write_out.result ok c.write_out.ensures.state) step (on_ok c.write_out.result ok c.write_out.ensures.holds)

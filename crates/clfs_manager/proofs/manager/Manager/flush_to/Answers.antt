@@ -1,4 +1,4 @@
-use Rattle.std.proofs.Common.{◌≡◌, refl, sym, ap, subst, ◌∙◌, false, arith}
+use Rattle.std.proofs.Common.{◌≡◌, refl, sym, ap, ◌∙◌, false, arith}
 use Rattle.std.specs.Prelude.{None, nat_le, nat_lt}
 use Rattle.std.proofs.lemmas.Bool.Decides.{nat_tests}
 use Rattle.clfs_lsn.specs.Place.{frontier}
@@ -24,11 +24,11 @@ invariant_of-self-2 g c =
     let ok = sym c.is_err.ensures.value ∙ c.if-is_err.false in
     let there = c.in_ok-area_place.ensures.there in
     let test : nat_le (frontier s.place) c.args.lsn ≡ false =
-        grind (arith, nat_tests, c.ge.ensures, c.if-ge.false, ap frontier (c.place.ensures.place ∙ (managed.whole c.if-self.false).memory.place), c.frontier.ensures) in
+    grind (arith, nat_tests, c.ge.ensures, c.if-ge.false, ap frontier (c.place.ensures.place ∙ (managed.whole c.if-self.false).memory.place), c.frontier.ensures) in
     let later : nat_lt c.args.lsn (flushed s) ≡ false = grind (arith, nat_tests, c.lt.ensures, c.if-lt.false, c.flushed-stable.ensures) in
     let none : refusal s c.args.client (calls.FlushTo c.args.area c.args.lsn) ≡ None = rw (there, test) refl in
     let step = c.ways_of_a_step.ensures.answered false s c.args.client (calls.FlushTo c.args.area c.args.lsn) (replies.Flushed (flushed (flush s))) (flush s) (managed.broken ∙ c.if-self.false)
-        none (rw later refl) (rw later refl) in
+    none (rw later refl) (rw later refl) in
     managed_flushed (g.D.Disk.state c.self.inside.disk) (g.D.Disk.state c.write_out.new.disk) old c.write_out.new.self c.args.client (calls.FlushTo c.args.area c.args.lsn) _
     c.steps_keep_a_state_valid.ensures.step c.steps_keep_a_state_storable.ensures.step (record { is_client = c.requires.client; arguments = tt })
     managed c.if-self.false (on_ok c.write_out.result ok c.write_out.ensures.state) step (on_ok c.write_out.result ok c.write_out.ensures.holds)
