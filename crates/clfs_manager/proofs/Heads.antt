@@ -21,7 +21,7 @@ pub heads_rise : (entries : List LogEntry) → IsStrictlyIncreasing (map (λ (en
     → AllPairs (λ (a b : Head). a.lsn < b.lsn) (map head_of entries)
 heads_rise entries rising = λ i j d before within.
     let lsn_at : (k : ℕ) → k < length entries → get_or (map (λ (entry : LogEntry). entry.lsn) entries) k 0 ≡ (get_or (map head_of entries) k d).lsn
-        = λ k few. get_or-map (λ (entry : LogEntry). entry.lsn) entries k (any d) 0 few ∙ sym (ap (λ (h : Head). h.lsn) (get_or-map head_of entries k (any d) d few)) in
+    = λ k few. get_or-map (λ (entry : LogEntry). entry.lsn) entries k (any d) 0 few ∙ sym (ap (λ (h : Head). h.lsn) (get_or-map head_of entries k (any d) d few)) in
     let long : length (map head_of entries) ≡ length entries = refl in
     let low = AllPairs-from_increasing (map (λ (entry : LogEntry). entry.lsn) entries) rising i j 0 before within in
     omega (arith, low, lsn_at i (omega (arith, before, within)), lsn_at j within)

@@ -4,3 +4,6 @@ pub mod Made
 pub mod Heads
 pub mod Holding
 pub mod Opened
+pub mod Among
+pub mod Fetched
+pub mod ReadKeeps

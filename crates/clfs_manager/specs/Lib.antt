@@ -2,3 +2,4 @@ pub mod Formatting
 pub mod Memory
 pub mod OnDisk
 pub mod Calls
+pub mod Fetching

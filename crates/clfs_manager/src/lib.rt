@@ -6,6 +6,7 @@
 //! in them leaves the files as they were.
 #![tactic(auto)]
 
+mod fetching;
 mod first_copy;
 mod format;
 mod log;
