@@ -7,3 +7,5 @@ pub mod Opened
 pub mod Among
 pub mod Fetched
 pub mod ReadKeeps
+pub mod Reached
+pub mod ReadSteps

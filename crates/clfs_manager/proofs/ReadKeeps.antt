@@ -15,7 +15,8 @@ use Rattle.clfs_model.specs.declared.state.State.{State}
 use Rattle.clfs_model.specs.Happened.{happened_of_refusal}
 use Rattle.clfs_model.specs.declared.reply.Happened.TheVariants.{Fine}
 use Rattle.clfs_model.specs.Live.{hold}
-use Rattle.clfs_areas.specs.Table.{AreaTable}
+use Rattle.clfs_areas.specs.Table.{AreaTable, area_at}
+use Rattle.clfs_model.specs.State.{change_area, change_first, is_area}
 use Rattle.clfs_buffers.specs.Buffered.{Buffered}
 use Rattle.clfs_buffers.specs.Reading.{Gives}
 use Rattle.clfs_buffers.specs.declared.refusal.ReadRefusal.{ReadRefusal}
@@ -197,3 +198,22 @@ refused_reads lsn told refusal entry old new is same time gives cause steady = r
     fault reads.DiskFault e = refl
     fault reads.NoMemory e = absurd (cc e)
     fault (reads.Damaged byte) e = absurd (cc e)
+
+-- a log whose areas change with its state's is left as before
+pub left_areas : (disk : DiskState) (log : Log) (areas : AreaTable) (told : Told State) → told.value ≡ record log.state.value { areas = areas.areas } → IsLeft disk log
+    → IsLeft disk (record log { areas = areas; state = told })
+left_areas disk log areas told is left = record {
+  broken = ap (λ (s : State). s.broken) is ∙ left.broken;
+  whole = λ unbroken. subst (λ (s : State). IsOpen disk s (record log { areas = areas; state = told })) (sym is)
+      (open_areas disk log.state.value log areas told (left.whole unbroken));
+}
+
+-- one area changes in memory as in the state
+pub changed_alike : (s t : State) (old new : List Area) (place client number : ℕ) (change : Area → Area) → old ≡ s.areas
+    → client ≡ (area_at place old).client → number ≡ (area_at place old).number
+    → new ≡ change_first (is_area (area_at place old).client (area_at place old).number) change old → t ≡ change_area change client number s
+    → t ≡ record s { areas = new }
+changed_alike s t old new place client number change of_s of_client of_number of_new is =
+    let same : change_first (is_area client number) change s.areas ≡ change_first (is_area (area_at place old).client (area_at place old).number) change old
+    = λ i. change_first (is_area (of_client i) (of_number i)) change (sym of_s i) in
+    is ∙ ap (λ (areas : List Area). record s { areas = areas }) (same ∙ sym of_new)

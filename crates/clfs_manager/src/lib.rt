@@ -11,6 +11,7 @@ mod first_copy;
 mod format;
 mod log;
 mod manager;
+mod reading;
 mod refusal;
 
 pub use clfs_recover::LoadRefusal;
