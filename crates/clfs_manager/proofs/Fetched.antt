@@ -1,12 +1,9 @@
 -- Records that are read: those that wait are in the queue, and those on the disk are in the blocks that are read there or kept.
-use Rattle.std.proofs.Common.{◌≡◌, ℕ, ◌+◌, ◌-◌, ◌*◌, ◌/◌, ◌%◌, ◌^◌, ◌<◌, ◌≤◌, ◌⊎◌, Bool, true, false, refl, sym, ap, ◌∙◌, subst, inl, inr, ⊎_elim, List, [], ◌∷◌, length, map, drop, Result, Ok, Err, arith}
-use Rattle.std.specs.Prelude.{Option, Some, None, IsSome, find, filter, Contains, nat_le, nat_lt, slice_get, slice_index, slice_index_or, ◌==◌, IfOk, OnOk, OnErr}
-use Rattle.std.specs.Option.{option_map, ok_or}
+use Rattle.std.proofs.Common.{◌≡◌, ℕ, ◌-◌, ◌%◌, ◌<◌, ◌≤◌, ◌⊎◌, refl, sym, ap, ◌∙◌, subst, ⊎_elim, List, [], ◌∷◌, length, drop, Result, Ok, Err, arith}
+use Rattle.std.specs.Prelude.{Option, Some, None, IsSome, find, Contains, nat_le, nat_lt, slice_get, slice_index, slice_index_or, ◌==◌, IfOk, OnOk, OnErr}
+use Rattle.std.specs.Option.{ok_or}
 use Rattle.std.proofs.lemmas.Bool.{lt-ltb, le-leb}
-use Rattle.clfs_lsn.specs.Format.{sector_bytes}
-use Rattle.clfs_lsn.specs.Head.{head_of}
 use Rattle.clfs_lsn.specs.Lsn.{lsn_number, container_of, offset_of, sequence_of}
-use Rattle.clfs_lsn.specs.declared.entry.Head.{Head}
 use Rattle.clfs_lsn.specs.declared.entry.LogEntry.{LogEntry}
 use Rattle.clfs_lsn.specs.declared.shape.Shape.{Shape}
 use Rattle.clfs_disk.specs.Files.{Files}
@@ -20,12 +17,9 @@ use Rattle.clfs_buffers.specs.Buffered.{Buffered, kept_at, with_used, with_block
 use Rattle.clfs_buffers.specs.Reading.{block_place, first_lsn, record_in, record_by, Gives}
 use Rattle.clfs_buffers.specs.declared.place.BlockPlace.{BlockPlace}
 use Rattle.clfs_buffers.specs.declared.refusal.ReadRefusal.{ReadRefusal}
-use Rattle.clfs_buffers.specs.declared.refusal.ReadRefusal.TheVariants.{DiskFault, Damaged, NoMemory}
 use Rattle.clfs_base.specs.declared.image.BaseImage.{BaseImage}
 use Rattle.clfs_physical.specs.Stored.{Newest, Blocks}
-use Rattle.clfs_queue.specs.Queued.{data_at}
 use Rattle.clfs_recover.specs.Reading.{file_of, IsReadAt}
-use Rattle.clfs_recover.specs.Logs.{records_from_container}
 use Rattle.clfs_recover.specs.Walk.{shape_of}
 use Rattle.clfs_manager.specs.Memory.{unflushed}
 use Rattle.clfs_manager.specs.OnDisk.{IsStored, AreKept}

@@ -1,13 +1,12 @@
 -- What a call that reads comes to: a live record, which the log still needs.
-use Rattle.std.proofs.Common.{◌≡◌, ℕ, zero, suc, ◌+◌, ◌-◌, ◌<◌, ◌≤◌, Bool, true, false, cond, refl, sym, ap, ◌∙◌, subst, inl, inr, ⊎_elim, List, [], ◌∷◌, ◌++◌, length, map, arith}
-use Rattle.std.specs.Prelude.{Option, Some, None, IsSome, IfSome, is_some, if◌then◌else◌, All, Contains, ◌&&◌, ◌==◌, nat_le, nat_lt, find, filter, reverse, min, fold, slice_get, slice_index_or}
+use Rattle.std.proofs.Common.{◌≡◌, ℕ, zero, suc, ◌-◌, ◌<◌, ◌≤◌, Bool, true, false, refl, sym, ap, ◌∙◌, subst, ⊎_elim, List, [], ◌∷◌, ◌++◌, length, map, arith}
+use Rattle.std.specs.Prelude.{Option, Some, None, IsSome, IfSome, is_some, if◌then◌else◌, All, Contains, ◌&&◌, ◌==◌, nat_lt, find, filter, reverse, min, fold, slice_get}
 use Rattle.std.specs.Option.{option_map, option_and_then, option_to_list}
 use Rattle.std.proofs.lemmas.Bool.{cases_lt, eq-eqb}
 use Rattle.std.proofs.lemmas.List.{get_or-reverse, length-reverse}
 use Rattle.std.proofs.lemmas.Option.{slice_get_past}
 use Rattle.std.proofs.lemmas.List.Elements.{All-contains, Contains-append_right}
 use Rattle.clfs_lsn.specs.Head.{head_of}
-use Rattle.clfs_lsn.specs.Lsn.{container_of}
 use Rattle.clfs_lsn.specs.Place.{frontier}
 use Rattle.clfs_lsn.specs.declared.entry.Head.{Head}
 use Rattle.clfs_lsn.specs.declared.entry.LogEntry.{LogEntry}
@@ -21,8 +20,8 @@ use Rattle.clfs_model.specs.declared.state.CursorKind.{CursorKind}
 use Rattle.clfs_model.specs.declared.state.CursorKind.TheVariants.{Records, RestartAreas}
 use Rattle.clfs_model.specs.Heads.{heads_of, head_at}
 use Rattle.clfs_model.specs.Live.{live, live_at, live_lsns, hold, is_live, least_or}
-use Rattle.clfs_model.specs.Reading.{entry_at, is_restart, next, newest_restart, restart_areas, restart_below, next_of_cursor}
-use Rattle.clfs_model.specs.State.{area_of, stream_at}
+use Rattle.clfs_model.specs.Reading.{entry_at, is_restart, next, newest_restart, restart_areas, next_of_cursor}
+use Rattle.clfs_model.specs.State.{area_of}
 use Rattle.clfs_model.specs.Storable.{IsAreaWithinLimits, IsCursor}
 use Rattle.clfs_model.specs.Valid.{IsArea}
 use Rattle.clfs_tables.specs.Tables.{IsNumber}
@@ -136,6 +135,7 @@ number_there streams number is = (elim (number == 0) as (λ b. (number == 0) ≡
     from_one : (number == 0) ≡ false → 1 ≤ number
     from_one some = ⊎_elim (λ (low : 0 < number). low)
         (λ (none : number ≤ 0). let clash : false ≡ true = sym some ∙ eq-eqb number 0 (omega (arith, none)) in absurd (cc clash)) (cases_lt 0 number)
+
     within : is_some (slice_get streams (number - 1)) ≡ true → number ≤ length streams
     within e = ⊎_elim (λ (low : number - 1 < length streams). omega (arith, low))
         (λ (past : length streams ≤ number - 1).
@@ -161,10 +161,11 @@ last_known log place cursor sound within has as_heads =
     let s : State = log.state.value in
     let all : All (IsAreaWithinLimits s) log.areas.areas = subst (All (IsAreaWithinLimits s)) (sym sound.holds.areas) sound.storable.limits.areas in
     let here = area_holds (IsAreaWithinLimits s) log.areas.areas place within all in
-    let known = All-contains (IsCursor s (area_at place log.areas.areas)) (area_at place log.areas.areas).cursors cursor here.cursors has in
-    (head_of known.entry,
-    ap (head_at cursor.last) sound.holds.heads ∙ sym (as_heads s cursor.last) ∙ ap (option_map head_of) known.there,
-    known.stream)
+    let known = All-contains (IsCursor s (area_at place log.areas.areas)) (area_at place log.areas.areas).cursors cursor here.cursors has in (
+      head_of known.entry,
+      ap (head_at cursor.last) sound.holds.heads ∙ sym (as_heads s cursor.last) ∙ ap (option_map head_of) known.there,
+      known.stream,
+    )
 
 -- a cursor that is found is one of its area's
 pub found_among : {X : Type 0} (p : X → Bool) (xs : List X) (o : Option X) → o ≡ find p xs → IfSome o (λ x. Contains xs x)

@@ -1,12 +1,10 @@
 -- A call that reads keeps a log open: the disk's files stay, and in memory the areas and the blocks that were read alone change.
-use Rattle.std.proofs.Common.{◌≡◌, ℕ, ◌+◌, ◌<◌, ◌≤◌, Bool, true, false, refl, sym, ap, ◌∙◌, subst, List, length, Result, Ok, Err, arith}
+use Rattle.std.proofs.Common.{◌≡◌, ℕ, true, false, refl, sym, ap, ◌∙◌, subst, List, Ok, Err, arith}
 use Rattle.std.specs.Prelude.{IsErrOf}
-use Rattle.clfs_lsn.specs.Lsn.{lsn_number, container_of}
 use Rattle.clfs_lsn.specs.declared.entry.LogEntry.{LogEntry}
 use Rattle.clfs_disk.specs.Files.{Files, Unchanged}
 use Rattle.clfs_disk.specs.State.{DiskState, Nature, TellsContents, IsSteady, Passes, Rises}
 use Rattle.clfs_container.specs.OpenBlocks.{AreWhole}
-use Rattle.clfs_base.specs.declared.image.BaseImage.{BaseImage}
 use Rattle.clfs_base.specs.Slots.{newest_of}
 use Rattle.clfs_model.specs.declared.refusal.Refusal.{Refusal}
 use Rattle.clfs_model.specs.declared.refusal.Refusal.TheVariants as refusals
@@ -14,14 +12,13 @@ use Rattle.clfs_model.specs.declared.state.Area.{Area}
 use Rattle.clfs_model.specs.declared.state.State.{State}
 use Rattle.clfs_model.specs.Happened.{happened_of_refusal}
 use Rattle.clfs_model.specs.declared.reply.Happened.TheVariants.{Fine}
-use Rattle.clfs_model.specs.Live.{hold}
 use Rattle.clfs_areas.specs.Table.{AreaTable, area_at}
 use Rattle.clfs_model.specs.State.{change_area, change_first, is_area}
 use Rattle.clfs_buffers.specs.Buffered.{Buffered}
 use Rattle.clfs_buffers.specs.Reading.{Gives}
 use Rattle.clfs_buffers.specs.declared.refusal.ReadRefusal.{ReadRefusal}
 use Rattle.clfs_buffers.specs.declared.refusal.ReadRefusal.TheVariants as reads
-use Rattle.clfs_physical.specs.Stored.{Newest, Blocks, Stores, Lists}
+use Rattle.clfs_physical.specs.Stored.{Newest, Blocks, Stores}
 use Rattle.clfs_told.specs.declared.told.Told.{Told}
 use Rattle.clfs_manager.specs.Memory.{Holds, IsSound}
 use Rattle.clfs_manager.specs.OnDisk.{IsStored, AreKept, IsOpen}
@@ -217,3 +214,10 @@ changed_alike s t old new place client number change of_s of_client of_number of
     let same : change_first (is_area client number) change s.areas ≡ change_first (is_area (area_at place old).client (area_at place old).number) change old
     = λ i. change_first (is_area (of_client i) (of_number i)) change (sym of_s i) in
     is ∙ ap (λ (areas : List Area). record s { areas = areas }) (same ∙ sym of_new)
+
+-- a log of which one part alone changed has the others
+pub areas_stay : (log after : Log) (kept : Buffered) → after ≡ record log { buffers = kept } → after.areas.areas ≡ log.areas.areas
+areas_stay log after kept is = ap (λ (l : Log). l.areas.areas) is
+
+pub state_stays : (log after : Log) (kept : Buffered) → after ≡ record log { buffers = kept } → after.state.value ≡ log.state.value
+state_stays log after kept is = ap (λ (l : Log). l.state.value) is

@@ -1,5 +1,5 @@
 -- The calls that read, as steps of the log machine.
-use Rattle.std.proofs.Common.{◌≡◌, ℕ, Bool, true, false, refl, sym, ap, ◌∙◌, subst, inl, inr, List, Option, Some, None, Result, Ok, Err}
+use Rattle.std.proofs.Common.{◌≡◌, ℕ, Bool, true, false, refl, sym, ap, ◌∙◌, subst, inr, Option, Some, None, Result, Ok, Err}
 use Rattle.std.specs.Prelude.{◌⊎◌, IsTrue, IfOk, IfErr, MatchBool, MatchOption}
 use Rattle.std.specs.Option.{option_map_or, option_and_then}
 use Rattle.clfs_lsn.specs.Head.{head_of}

@@ -1,5 +1,5 @@
 -- What the disk has of the state of a manager's log: its flushed part, in the containers that the newest base copy lists.
-use Rattle.std.specs.Prelude.{◌≡◌, ℕ, ◌<◌, ◌≤◌, false, List, map, slice_get, Some, Contains}
+use Rattle.std.specs.Prelude.{◌≡◌, ◌<◌, ◌≤◌, false, List, map, slice_get, Some, Contains}
 use Rattle.clfs_lsn.specs.Lsn.{container_of, sequence_of}
 use Rattle.clfs_lsn.specs.declared.entry.LogEntry.{LogEntry}
 use Rattle.clfs_disk.specs.State.{DiskState, TellsContents}

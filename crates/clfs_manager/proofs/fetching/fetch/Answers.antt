@@ -1,8 +1,5 @@
-use Rattle.std.proofs.Common.{◌≡◌, ◌<◌, sym, ap, ◌∙◌, subst}
+use Rattle.std.proofs.Common.{ap}
 use Rattle.clfs_lsn.specs.declared.entry.Head.{Head}
-use Rattle.clfs_lsn.specs.Head.{head_of}
-use Rattle.clfs_manager.specs.Fetching.{IsLeft}
-use Rattle.clfs_manager.specs.declared.log.Log.{Log}
 use Rattle.clfs_manager.proofs.ReadKeeps.{left_buffers, left_refused, refused_reads}
 use Rattle.clfs_manager.proofs.fetching.fetch.Goals as goal
 

@@ -1,13 +1,12 @@
-use Rattle.std.proofs.Common.{◌≡◌, ℕ, ◌≤◌, List, Some, refl, sym, ap, ◌∙◌, subst}
-use Rattle.std.specs.Prelude.{Option, IsSome, find, ◌==◌}
+use Rattle.std.proofs.Common.{◌≡◌, ℕ, ◌≤◌, Some, refl, sym, ap, subst}
+use Rattle.std.specs.Prelude.{find, ◌==◌}
 use Rattle.std.specs.Option.{option_map}
 use Rattle.clfs_lsn.specs.Head.{head_of}
 use Rattle.clfs_lsn.specs.declared.entry.Head.{Head}
 use Rattle.clfs_lsn.specs.declared.entry.LogEntry.{LogEntry}
 use Rattle.clfs_model.specs.Flush.{flushed}
-use Rattle.clfs_queue.specs.Queued.{data_at}
 use Rattle.clfs_manager.specs.Memory.{IsSound}
-use Rattle.clfs_manager.specs.Fetching.{IsNeeded, IsNeededHead}
+use Rattle.clfs_manager.specs.Fetching.{IsNeeded}
 use Rattle.clfs_manager.specs.declared.log.Log.{Log}
 use Rattle.clfs_manager.proofs.Fetched.{waits_in_queue}
 use Rattle.clfs_manager.proofs.fetching.waiting_entry.Goals as goal

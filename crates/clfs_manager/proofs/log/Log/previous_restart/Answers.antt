@@ -1,5 +1,4 @@
-use Rattle.std.proofs.Common.{◌≡◌, refl, ap}
-use Rattle.clfs_lsn.specs.declared.entry.LogEntry.{LogEntry}
+use Rattle.std.proofs.Common.{refl}
 use Rattle.clfs_model.specs.declared.call.Call.TheVariants as calls
 use Rattle.std.specs.Option.{option_and_then}
 use Rattle.clfs_model.specs.Reading.{restart_cursor, next_of_cursor}

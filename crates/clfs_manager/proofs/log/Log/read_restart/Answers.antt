@@ -1,5 +1,4 @@
-use Rattle.std.proofs.Common.{◌≡◌, refl, ap}
-use Rattle.clfs_lsn.specs.declared.entry.LogEntry.{LogEntry}
+use Rattle.std.proofs.Common.{refl}
 use Rattle.clfs_model.specs.declared.call.Call.TheVariants as calls
 use Rattle.clfs_model.specs.declared.state.CursorKind.TheVariants.{RestartAreas}
 use Rattle.clfs_model.specs.Reading.{newest_restart}
@@ -22,7 +21,7 @@ returns-in-Ok-clause-step g c =
     found_result c.ways_of_a_step.ensures (g.D.Disk.state c.args.disk.now).nature.tells_contents s c.start_reading.new.self.state.value c.args.client
     (calls.ReadRestart c.args.area) here c.in-Ok.head there.entry c.requires.sound.whole refl refl refl (c.in-Ok.ensures.allowed)
     (live_is_needed s here.stream there.entry there.live) there.head_is RestartAreas c.start_reading.result
-    (restart_answers s c.args.client c.args.area here there.entry there.area  there.reached)
+    (restart_answers s c.args.client c.args.area here there.entry there.area there.reached)
     c.start_reading.ensures.read c.start_reading.ensures.number c.start_reading.ensures.state c.start_reading.ensures.refused
 
 pub returns-in-Err-clause-step : goal.returns-in-Err-clause-step

@@ -1,4 +1,4 @@
-use Rattle.std.proofs.Common.{◌≡◌, ◌==◌, ap, sym, subst, ◌∙◌}
+use Rattle.std.proofs.Common.{◌==◌, ap, sym, ◌∙◌}
 use Rattle.std.specs.Prelude.{◌&&◌, Option}
 use Rattle.std.specs.Option.{option_map, option_and_then}
 use Rattle.clfs_lsn.specs.Head.{head_of}
