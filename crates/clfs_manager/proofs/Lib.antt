@@ -13,3 +13,8 @@ pub mod FlushedLog
 pub mod AreasChange
 pub mod Aligning
 pub mod FlushKeeps
+pub mod Among
+pub mod Fetched
+pub mod ReadKeeps
+pub mod Reached
+pub mod ReadSteps

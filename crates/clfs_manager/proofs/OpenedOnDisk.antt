@@ -81,10 +81,7 @@ opened_files files known parts blocks stored same = record {
 
 -- nothing is kept of blocks yet
 pub none_kept : (s : State) → AreKept s []
-none_kept s = record {
-  stable = λ place records there. absurd (omega (arith, there.1));
-  records = λ place records there. absurd (omega (arith, there.1));
-}
+none_kept s = record { stable = λ place records there. absurd (cc there); records = λ place records there. absurd (cc there) }
 
 -- So a log that was opened is open.
 pub opened_open : (disk : DiskState) (log : Log) (parts : Parts) (buffers : ℕ) → log.state.value ≡ state_of parts buffers → Holds log.state.value log

@@ -3,3 +3,4 @@ pub mod Memory
 pub mod OnDisk
 pub mod Calls
 pub mod Flushing
+pub mod Fetching

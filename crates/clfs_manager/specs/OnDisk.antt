@@ -8,7 +8,7 @@ use Rattle.clfs_model.specs.Flush.{cut, flushed}
 use Rattle.clfs_model.specs.Live.{hold}
 use Rattle.clfs_model.specs.Storable.{IsStorable}
 use Rattle.clfs_model.specs.Valid.{IsValid}
-use Rattle.clfs_buffers.specs.Buffered.{Buffered}
+use Rattle.clfs_buffers.specs.Buffered.{Buffered, kept_at}
 use Rattle.clfs_buffers.specs.Reading.{block_place, first_lsn}
 use Rattle.clfs_buffers.specs.declared.place.BlockPlace.{BlockPlace}
 use Rattle.clfs_physical.specs.Stored.{Newest, Blocks, Stores}
@@ -28,8 +28,8 @@ pub record IsStored (s : State) (newest : Newest) (blocks : Blocks) : Type 0 whe
 -- The records that are kept of blocks are those of the state: a block that is kept was on the disk as a whole, and each record of it that the
 -- state has stands at its position.
 pub record AreKept (s : State) (kept : Buffered) : Type 0 where
-  pub stable : (place : BlockPlace) (records : List LogEntry) → Contains kept (place, records) → first_lsn place < flushed s
-  pub records : (place : BlockPlace) (records : List LogEntry) → Contains kept (place, records) → (entry : LogEntry) → Contains s.records entry
+  pub stable : (place : BlockPlace) (records : List LogEntry) → kept_at place kept ≡ Some records → first_lsn place < flushed s
+  pub records : (place : BlockPlace) (records : List LogEntry) → kept_at place kept ≡ Some records → (entry : LogEntry) → Contains s.records entry
       → block_place entry.lsn ≡ place → slice_get records (sequence_of entry.lsn) ≡ Some entry
 
 -- A log that isn't broken: memory has its state, and the disk its flushed part. Where the disk tells what it holds, so do its files and the blocks

@@ -1,17 +1,26 @@
 //! The log manager over a disk.
 //!
-//! So far it makes a log, opens one, and closes it: `Manager::format`, `load`, `close`. What files stand for is said by `clfs_recover`, and how a
+//! It makes a log, opens one and closes it: `Manager::format`, `load`, `close`. What files stand for is said by `clfs_recover`, and how a
 //! base copy and a closed gate come to be there by `clfs_base` and `clfs_disk`. A manager stands for a state of the log machine, which
 //! opening finds: it keeps the heads of the records, and their data stay on the disk. Neither opening nor closing writes anything, so a crash
 //! in them leaves the files as they were.
+//!
+//! `create_area`, `delete_area`, `release`, `align` and `end_read` are calls on areas, which no disk has. `flush` and `flush_to` write what waits as one
+//! group of blocks, so that a crash leaves all of it or none.
+//!
+//! Records are read by `read` and `read_next`, restart areas by `read_restart` and `previous_restart`, each at a cursor of an area. A record that
+//! isn't on the disk yet is given from memory, each other one from its block, which is read as a whole and kept for those beside it.
 #![tactic(auto)]
 
 mod areas;
+mod fetching;
 mod first_copy;
 mod flushing;
 mod format;
 mod log;
 mod manager;
+mod reaching;
+mod reading;
 mod refusal;
 
 pub use clfs_recover::LoadRefusal;

@@ -81,7 +81,7 @@ fn tail_in(image: &BaseImage) -> Option<Lsn>
 }
 
 // How large blocks and containers are, as a base copy says it.
-fn shape_of(image: &BaseImage) -> Shape
+pub(crate) fn shape_of(image: &BaseImage) -> Shape
     ensures { result ≡ shape_of image.now }
 {
     Shape {

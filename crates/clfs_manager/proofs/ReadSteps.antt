@@ -1,0 +1,145 @@
+-- The calls that read, as steps of the log machine.
+use Rattle.std.proofs.Common.{◌≡◌, ℕ, Bool, true, false, refl, sym, ap, ◌∙◌, subst, inr, Option, Some, None, Result, Ok, Err}
+use Rattle.std.specs.Prelude.{◌⊎◌, IsTrue, IfOk, IfErr, MatchBool, MatchOption}
+use Rattle.std.specs.Option.{option_map_or, option_and_then}
+use Rattle.clfs_lsn.specs.Head.{head_of}
+use Rattle.clfs_lsn.specs.declared.entry.Head.{Head}
+use Rattle.clfs_lsn.specs.declared.entry.LogEntry.{LogEntry}
+use Rattle.clfs_model.specs.declared.call.Call.{Call}
+use Rattle.clfs_model.specs.declared.call.Call.TheVariants as calls
+use Rattle.clfs_model.specs.declared.call.Mode.{Mode}
+use Rattle.clfs_model.specs.declared.refusal.Refusal.{Refusal}
+use Rattle.clfs_model.specs.declared.refusal.Refusal.TheVariants as refusals
+use Rattle.clfs_model.specs.declared.reply.Happened.{Happened}
+use Rattle.clfs_model.specs.declared.reply.Happened.TheVariants.{Fine, Fault, Damage}
+use Rattle.clfs_model.specs.declared.reply.Reply.{Reply}
+use Rattle.clfs_model.specs.declared.reply.Reply.TheVariants as replies
+use Rattle.clfs_model.specs.declared.state.State.{State}
+use Rattle.clfs_model.specs.declared.state.Area.{Area}
+use Rattle.clfs_model.specs.declared.state.Cursor.{Cursor}
+use Rattle.clfs_model.specs.declared.state.CursorKind.{CursorKind}
+use Rattle.clfs_model.specs.declared.state.CursorKind.TheVariants.{Records, RestartAreas}
+use Rattle.clfs_model.specs.Answers.{Outcome, outcome, answer, found_with_cursor, read_at, read_newest_restart, moved_on}
+use Rattle.clfs_model.specs.Flush.{flushed}
+use Rattle.clfs_model.specs.Happened.{happened_of_refusal}
+use Rattle.clfs_model.specs.Live.{live_at}
+use Rattle.clfs_model.specs.Reading.{newest_restart, record_cursor, restart_cursor, next_of_cursor, unused_cursor, with_cursor, with_cursor_at}
+use Rattle.clfs_model.specs.Refusals.{refusal}
+use Rattle.clfs_model.specs.State.{area_of, change_area}
+use Rattle.clfs_model.specs.Step.{Step, IsReply, Comes, Goes, IsBroken, IsOutOfMemory, takes_memory, reads_disk, calls_disk}
+use Rattle.clfs_model.specs.Ways.{GoesTheseWays}
+use Rattle.clfs_laws.specs.Refused.{is_of_call}
+use Rattle.clfs_manager.specs.Calls.{Steps}
+use Rattle.clfs_manager.specs.Fetching.{IsNeeded, IsReadAs, LeavesState}
+
+-- ---- refusals
+
+-- a refusal of a call's own list tells nothing of the disk
+pub own_is_fine : (given : Refusal) → is_of_call given ≡ true → happened_of_refusal given ≡ Fine
+own_is_fine refusals.DiskFault own = absurd (cc own)
+own_is_fine (refusals.Damaged container offset at) own = absurd (cc own)
+own_is_fine _ own = refl
+
+-- the first refusal is answered
+pub refused_step : GoesTheseWays → (told : Bool) (s : State) (client : ℕ) (call : Call) (first : Refusal) → s.broken ≡ false → refusal s client call ≡ Some first
+    → is_of_call first ≡ true → Step told s client call (happened_of_refusal first) (replies.Refused first) s
+refused_step ways told s client call first whole is own =
+    subst (λ (happened : Happened). Step told s client call happened (replies.Refused first) s) (sym (own_is_fine first own))
+    (ways.refused told s client call first whole is)
+
+-- a record isn't got
+pub failed_step : GoesTheseWays → (told : Bool) (s t : State) (client : ℕ) (call : Call) (given : Refusal) → s.broken ≡ false → refusal s client call ≡ None
+    → takes_memory call ≡ true → calls_disk s call ≡ true → reads_disk call ≡ true → LeavesState given s t
+    → Step told s client call (happened_of_refusal given) (replies.Refused given) t
+failed_step ways told s t client call refusals.NoMemory whole none memory disk reads leaves =
+    subst (Step told s client call Fine (replies.Refused refusals.NoMemory)) (sym leaves) (ways.no_memory told s client call Fine whole memory)
+failed_step ways told s t client call refusals.DiskFault whole none memory disk reads leaves =
+    subst (Step told s client call Fault (replies.Refused refusals.DiskFault)) (sym leaves) (ways.faulted told s client call whole none disk)
+failed_step ways told s t client call (refusals.Damaged container offset at) whole none memory disk reads leaves =
+    subst (Step told s client call Damage (replies.Refused (refusals.Damaged container offset at))) (sym leaves)
+    (ways.damaged told s client call (replies.Refused (refusals.Damaged container offset at)) whole none reads tt)
+failed_step ways told s t client call _ whole none memory disk reads leaves = absurd leaves
+
+-- of a pair whose state is broken so is that of an equal one
+pub broken_in : {A : Type 0} (v w : State × A) → v ≡ w → v.0.broken ≡ true → w.0.broken ≡ true
+broken_in {A} v w same broken = subst (λ (x : State × A). x.0.broken ≡ true) same broken
+
+-- ---- answers
+
+-- an answer that hands out a record as it may be read
+given_step : (told : Bool) (s t : State) (client : ℕ) (call : Call) (out : Outcome) (reply : Reply) → s.broken ≡ false → refusal s client call ≡ None
+    → answer s client call ≡ out → IsReply told (flushed s) out.reply reply → t ≡ out.state → Step told s client call Fine reply t
+unfolding Step
+given_step told s t client call out reply whole none is read state =
+    let comes : Comes told (flushed s) (answer s client call) reply t = subst (λ (o : Outcome). Comes told (flushed s) o reply t) (sym is) (read, state) in
+    let goes : Goes told s client call Fine reply t = subst (λ (o : Option Refusal). MatchOption o (Comes told (flushed s) (answer s client call) reply t)
+    (λ (first : Refusal). (reply ≡ replies.Refused first) × (t ≡ s))) (sym none) comes in
+    subst (λ (b : Bool). MatchBool b (IsBroken s reply t) ((IsTrue (takes_memory call) × IsOutOfMemory s reply t) ⊎ Goes told s client call Fine reply t))
+    (sym whole) (inr goes)
+
+found_reply : (told : Bool) (stable cursor number : ℕ) (entry read : LogEntry) → number ≡ cursor → IsReadAs told stable entry read
+    → IsReply told stable (replies.Found cursor entry) (replies.Found number read)
+found_reply true stable cursor number entry read at is = λ i. replies.Found (at i) (is i)
+found_reply false stable cursor number entry read at is = (read, (is, ap (λ (n : ℕ). replies.Found n read) at))
+
+next_reply : (told : Bool) (stable : ℕ) (entry read : LogEntry) → IsReadAs told stable entry read → IsReply told stable (replies.Next entry) (replies.Next read)
+next_reply true stable entry read is = ap replies.Next is
+next_reply false stable entry read is = (read, (is, refl))
+
+module _ (ways : GoesTheseWays) (told : Bool) (s t : State) (client : ℕ) (call : Call) (area : Area) (head : Head) (entry : LogEntry)
+    (whole : s.broken ≡ false) (memory : takes_memory call ≡ true) (disk : calls_disk s call ≡ true) (reads : reads_disk call ≡ true)
+    (none : refusal s client call ≡ None) (needed : IsNeeded s entry) (head_is : head_of entry ≡ head) where
+  -- a call that makes a cursor
+  pub found_result : (kind : CursorKind) (result : Result (ℕ × LogEntry) Refusal) → answer s client call ≡ found_with_cursor s area kind entry
+      → IfOk result (λ found. (entry : LogEntry) → IsNeeded s entry → head_of entry ≡ head → IsReadAs told (flushed s) entry found.1)
+      → IfOk result (λ found. found.0 ≡ unused_cursor area.cursors)
+      → IfOk result (λ found. t ≡ change_area (with_cursor (record { number = found.0; kind = kind; last = head.lsn })) area.client area.number s)
+      → IfErr result (λ given. LeavesState given s t)
+      → Steps told s client call (λ (found : ℕ × LogEntry). replies.Found found.0 found.1) result t
+  found_result kind (Err given) answers read number state refused = failed_step ways told s t client call given whole none memory disk reads refused
+  found_result kind (Ok found) answers read number state refused =
+      given_step told s t client call (found_with_cursor s area kind entry) (replies.Found found.0 found.1) whole none answers
+      (found_reply told (flushed s) (unused_cursor area.cursors) found.0 entry found.1 number (read entry needed head_is))
+      (state ∙ (λ i. change_area (with_cursor (record { number = number i; kind = kind; last = (sym head_is i).lsn })) area.client area.number s))
+
+  -- a call that moves one
+  pub next_result : (cursor : ℕ) (result : Result LogEntry Refusal)
+      → answer s client call ≡ outcome (replies.Next entry) (change_area (with_cursor_at cursor entry.lsn) area.client area.number s)
+      → IfOk result (λ found. (entry : LogEntry) → IsNeeded s entry → head_of entry ≡ head → IsReadAs told (flushed s) entry found)
+      → IfOk result (λ found. t ≡ change_area (with_cursor_at cursor head.lsn) area.client area.number s)
+      → IfErr result (λ given. LeavesState given s t)
+      → Steps told s client call replies.Next result t
+  next_result cursor (Err given) answers read state refused = failed_step ways told s t client call given whole none memory disk reads refused
+  next_result cursor (Ok found) answers read state refused =
+      given_step told s t client call (outcome (replies.Next entry) (change_area (with_cursor_at cursor entry.lsn) area.client area.number s)) (replies.Next found) whole none answers
+      (next_reply told (flushed s) entry found (read entry needed head_is))
+      (state ∙ (λ i. change_area (with_cursor_at cursor (sym head_is i).lsn) area.client area.number s))
+
+-- ---- what the machine answers
+
+module _ (s : State) (client number : ℕ) (area : Area) (entry : LogEntry) (there : area_of s client number ≡ Some area) where
+  over : (rest : Area → Outcome) → option_map_or rest (area_of s client number) (outcome (replies.Refused refusals.NoSuchArea) s) ≡ rest area
+  over rest = ap (λ (o : Option Area). option_map_or rest o (outcome (replies.Refused refusals.NoSuchArea) s)) there
+
+  pub read_answers : (lsn : ℕ) (mode : Mode) → live_at s area.stream lsn ≡ Some entry
+      → answer s client (calls.Read number lsn mode) ≡ found_with_cursor s area (Records mode) entry
+  read_answers lsn mode is = over (λ (a : Area). read_at s a lsn mode)
+      ∙ ap (λ (o : Option LogEntry). option_map_or (found_with_cursor s area (Records mode)) o (outcome (replies.Refused (refusals.RecordNonexistent lsn)) s)) is
+
+  pub restart_answers : newest_restart s area.stream ≡ Some entry → answer s client (calls.ReadRestart number) ≡ found_with_cursor s area RestartAreas entry
+  restart_answers is = over (λ (a : Area). read_newest_restart s a)
+      ∙ ap (λ (o : Option LogEntry). option_map_or (found_with_cursor s area RestartAreas) o (outcome (replies.Refused refusals.NoRestart) s)) is
+
+  moved : (cursor : ℕ) (found : Option Cursor) → option_and_then (next_of_cursor s area) found ≡ Some entry
+      → moved_on s area cursor found ≡ outcome (replies.Next entry) (change_area (with_cursor_at cursor entry.lsn) area.client area.number s)
+  moved cursor found is = ap (λ (o : Option LogEntry). option_map_or
+      (λ (e : LogEntry). outcome (replies.Next e) (change_area (with_cursor_at cursor e.lsn) area.client area.number s)) o
+      (outcome (replies.Refused refusals.NoSuchCursor) s)) is
+
+  pub next_answers : (cursor : ℕ) → option_and_then (next_of_cursor s area) (record_cursor area cursor) ≡ Some entry
+      → answer s client (calls.ReadNext number cursor) ≡ outcome (replies.Next entry) (change_area (with_cursor_at cursor entry.lsn) area.client area.number s)
+  next_answers cursor is = over (λ (a : Area). moved_on s a cursor (record_cursor a cursor)) ∙ moved cursor (record_cursor area cursor) is
+
+  pub previous_answers : (cursor : ℕ) → option_and_then (next_of_cursor s area) (restart_cursor area cursor) ≡ Some entry
+      → answer s client (calls.PreviousRestart number cursor) ≡ outcome (replies.Next entry) (change_area (with_cursor_at cursor entry.lsn) area.client area.number s)
+  previous_answers cursor is = over (λ (a : Area). moved_on s a cursor (restart_cursor a cursor)) ∙ moved cursor (restart_cursor area cursor) is

@@ -1,0 +1,32 @@
+use Rattle.std.proofs.Common.{◌≡◌, ℕ, ◌≤◌, Some, refl, sym, ap, subst}
+use Rattle.std.specs.Prelude.{find, ◌==◌}
+use Rattle.std.specs.Option.{option_map}
+use Rattle.clfs_lsn.specs.Head.{head_of}
+use Rattle.clfs_lsn.specs.declared.entry.Head.{Head}
+use Rattle.clfs_lsn.specs.declared.entry.LogEntry.{LogEntry}
+use Rattle.clfs_model.specs.Flush.{flushed}
+use Rattle.clfs_manager.specs.Memory.{IsSound}
+use Rattle.clfs_manager.specs.Fetching.{IsNeeded}
+use Rattle.clfs_manager.specs.declared.log.Log.{Log}
+use Rattle.clfs_manager.proofs.Fetched.{waits_in_queue}
+use Rattle.clfs_manager.proofs.fetching.waiting_entry.Goals as goal
+
+-- the record of a head that waits is in the queue
+in_queue : (log : Log) (head : Head) → IsSound log → flushed log.state.value ≤ head.lsn → (entry : LogEntry) → IsNeeded log.state.value entry → head_of entry ≡ head
+    → find (λ (other : LogEntry). other.lsn == head.lsn) log.queue.records ≡ Some entry
+in_queue log head sound waits entry needed is =
+    let same : entry.lsn ≡ head.lsn = ap (λ (h : Head). h.lsn) is in
+    subst (λ (lsn : ℕ). find (λ (other : LogEntry). other.lsn == lsn) log.queue.records ≡ Some entry) same
+    (waits_in_queue log.state.value log.queue.records sound.valid sound.holds.records entry needed.there
+    (subst (λ (lsn : ℕ). flushed log.state.value ≤ lsn) (sym same) waits))
+
+pub read-requires : goal.read-requires
+read-requires c =
+    let there = c.requires.there in
+    rw (in_queue c.args.log.now c.args.head c.requires.sound c.requires.waits there.entry there.needed there.head_is) refl
+
+pub returns : goal.returns
+returns c entry needed is =
+    let there = ap (option_map (λ (e : LogEntry). e.bytes)) (in_queue c.args.log.now c.args.head c.requires.sound c.requires.waits entry needed is) in
+    let same : entry.bytes ≡ c.in_ok-bytes.bytes = cc (there, c.in_ok-bytes.ensures) in
+    c.entry_of.ensures entry is same

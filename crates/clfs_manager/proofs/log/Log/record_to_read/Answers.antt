@@ -1,0 +1,13 @@
+use Rattle.std.proofs.Common.{sym, ◌∙◌}
+use Rattle.clfs_model.specs.declared.state.Area.{Area}
+use Rattle.clfs_model.specs.Live.{live_at}
+use Rattle.clfs_areas.specs.Table.{area_at}
+use Rattle.clfs_manager.proofs.Reached.{reaches, live_at_is_live}
+use Rattle.clfs_manager.proofs.log.Log.record_to_read.Goals as goal
+
+pub returns-in-None-clause-reaches : goal.returns-in-None-clause-reaches
+returns-in-None-clause-reaches c = reaches c.args.self.now.state.value c.args.self.now.areas.areas c.args.client c.args.area c.in-Some.place c.in-Some-live_at.head
+    (λ (here : Area). live_at c.args.self.now.state.value here.stream c.args.lsn) c.in-Some.ensures.within
+    (c.in-Some.ensures.area c.args.self.now.state.value (sym c.requires.sound.holds.areas))
+    (live_at_is_live c.args.self.now.state.value (area_at c.in-Some.place c.args.self.now.areas.areas).stream c.args.lsn)
+    (sym c.live_at.ensures ∙ c.in-Some-live_at.is)

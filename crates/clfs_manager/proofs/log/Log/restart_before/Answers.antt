@@ -1,0 +1,23 @@
+use Rattle.std.proofs.Common.{◌==◌, ap, sym, ◌∙◌}
+use Rattle.std.specs.Prelude.{◌&&◌, Option}
+use Rattle.std.specs.Option.{option_map, option_and_then}
+use Rattle.clfs_lsn.specs.Head.{head_of}
+use Rattle.clfs_model.specs.declared.state.Area.{Area}
+use Rattle.clfs_model.specs.declared.state.Cursor.{Cursor}
+use Rattle.clfs_model.specs.Reading.{restart_cursor, next_of_cursor, is_over_restarts}
+use Rattle.clfs_areas.specs.Table.{area_at}
+use Rattle.clfs_manager.proofs.Reached.{reaches, after_is_live, found_among}
+use Rattle.clfs_manager.proofs.log.Log.restart_before.Goals as goal
+
+pub head_after-requires-clause-cursor : goal.head_after-requires-clause-cursor
+head_after-requires-clause-cursor c = found_among (λ (cursor : Cursor). (cursor.number == c.args.cursor) && is_over_restarts cursor.kind)
+    (area_at c.in-Some.place c.args.self.now.areas.areas).cursors c.over_restarts.result c.over_restarts.ensures
+
+pub returns-in-Ok-clause-reaches : goal.returns-in-Ok-clause-reaches
+returns-in-Ok-clause-reaches c = reaches c.args.self.now.state.value c.args.self.now.areas.areas c.args.client c.args.area c.in-Some.place c.in-Ok.head
+    (λ (here : Area). option_and_then (next_of_cursor c.args.self.now.state.value here) (restart_cursor here c.args.cursor)) c.in-Some.ensures.within
+    (c.in-Some.ensures.area c.args.self.now.state.value (sym c.requires.sound.holds.areas))
+    (after_is_live c.args.self.now.state.value (area_at c.in-Some.place c.args.self.now.areas.areas)
+    (restart_cursor (area_at c.in-Some.place c.args.self.now.areas.areas) c.args.cursor))
+    (ap (λ (o : Option Cursor). option_map head_of (option_and_then (next_of_cursor c.args.self.now.state.value (area_at c.in-Some.place c.args.self.now.areas.areas)) o))
+    (sym c.over_restarts.ensures) ∙ c.in-Ok.ensures.head)

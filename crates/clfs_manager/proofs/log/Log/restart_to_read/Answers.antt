@@ -1,0 +1,13 @@
+use Rattle.std.proofs.Common.{sym, ◌∙◌}
+use Rattle.clfs_model.specs.declared.state.Area.{Area}
+use Rattle.clfs_model.specs.Reading.{newest_restart}
+use Rattle.clfs_areas.specs.Table.{area_at}
+use Rattle.clfs_manager.proofs.Reached.{reaches, newest_is_live}
+use Rattle.clfs_manager.proofs.log.Log.restart_to_read.Goals as goal
+
+pub returns-in-None-clause-reaches : goal.returns-in-None-clause-reaches
+returns-in-None-clause-reaches c = reaches c.args.self.now.state.value c.args.self.now.areas.areas c.args.client c.args.area c.in-Some.place c.in-Some-newest_restart.head
+    (λ (here : Area). newest_restart c.args.self.now.state.value here.stream) c.in-Some.ensures.within
+    (c.in-Some.ensures.area c.args.self.now.state.value (sym c.requires.sound.holds.areas))
+    (newest_is_live c.args.self.now.state.value (area_at c.in-Some.place c.args.self.now.areas.areas).stream)
+    (sym c.newest_restart.ensures ∙ c.in-Some-newest_restart.is)

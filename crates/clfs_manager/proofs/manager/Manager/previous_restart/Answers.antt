@@ -1,0 +1,10 @@
+use Rattle.std.proofs.Common.{◌∙◌}
+use Rattle.clfs_model.specs.declared.call.Call.TheVariants as calls
+use Rattle.clfs_model.specs.declared.reply.Happened.TheVariants.{Fine}
+use Rattle.clfs_manager.proofs.ReadSteps.{broken_in}
+use Rattle.clfs_manager.proofs.manager.Manager.previous_restart.Goals as goal
+
+pub returns-then-self-clause-step : goal.returns-then-self-clause-step
+returns-then-self-clause-step g c = c.ways_of_a_step.ensures.broken (g.D.Disk.state c.args.self.now.1).nature.tells_contents c.args.self.now.0 c.args.client
+    (calls.PreviousRestart c.args.area c.args.cursor) Fine
+    (broken_in (c.self.inside.log.state.value, c.self.inside.disk) c.args.self.now c.self.view_is (c.self.invariant.broken ∙ c.if-self.true))

@@ -1,0 +1,162 @@
+// Getting a record by its head. One that waits has its data in the queue, and needs nothing of the disk. One that is on the disk is read with
+// its whole block, from the file in which its container lies by the newest base copy: a live record lies in the hold's container or above
+// it, and all containers from there on are listed. A block that was read is kept, and serves the records beside it.
+//
+// A fault of the disk and damage break the log: its state is broken from then on, and so is the log.
+ghost use Rattle.std.specs.Prelude.{◌≡◌, ◌+◌, ◌<◌, ◌≤◌, nat_lt, true, length, Ok, IfOk, IfErr, OnOk, OnErr, IsErrOf};
+ghost use Rattle.clfs_lsn.specs.Head.{head_of};
+ghost use Rattle.clfs_lsn.specs.Lsn.{container_of};
+ghost use Rattle.clfs_lsn.specs.declared.entry.LogEntry.{LogEntry};
+ghost use Rattle.clfs_disk.specs.Files.{Unchanged};
+ghost use Rattle.clfs_disk.specs.State.{TellsContents, IsSteady, Passes, Rises};
+ghost use Rattle.clfs_base.specs.Layout.{version_one};
+ghost use Rattle.clfs_base.specs.Spelling.{IsImage};
+ghost use Rattle.clfs_model.specs.Flush.{flushed};
+ghost use Rattle.clfs_model.specs.Step.{with_broken};
+ghost use Rattle.clfs_buffers.specs.Reading.{Gives};
+ghost use Rattle.clfs_recover.specs.Reading.{file_of};
+ghost use Rattle.clfs_manager.specs.Memory.{IsSound};
+ghost use Rattle.clfs_manager.specs.OnDisk.{IsOpen, AreKept};
+ghost use Rattle.clfs_manager.specs.Fetching.{IsNeeded, IsNeededHead, IsReadAs, LeavesState, IsLeft, OnlyReads, refused_as};
+
+use crate::log::{Log, shape_of};
+use clfs_base::BaseImage;
+use clfs_buffers::{ReadRefusal, changes_keep_blocks};
+use clfs_disk::Disk;
+use clfs_lsn::{Bytes, Head, LogEntry, Lsn};
+use clfs_model::{Refusal, State};
+use clfs_recover::stored_records_are_read;
+use clfs_told::Told;
+use std::alloc::AllocError;
+
+// The state after a fault of the disk or damage.
+fn broken(state: &Told<State>) -> Told<State>
+    ensures { result.value ≡ with_broken state.now.value }
+{
+    state.next(state)
+}
+
+// The log is broken from now on.
+fn break_log(log: &mut Log)
+    ensures state { log.new.state.value ≡ with_broken log.old.state.value }
+    ensures broken { log.new.broken ≡ true }
+{
+    log.state = broken(&log.state);
+    log.broken = true;
+}
+
+// Tells why a block wasn't read. Where the disk failed or gave what isn't a log's, the log is broken.
+fn refuse(log: &mut Log, lsn: Lsn, refusal: ReadRefusal) -> Refusal
+    ensures refusal { result ≡ refused_as lsn refusal }
+    ensures state { LeavesState result log.old.state.value log.new.state.value }
+    ensures memory { result ≡ Refusal.NoMemory → log.new ≡ log.old }
+    ensures broken { (result ≡ Refusal.NoMemory → ⊥) → log.new.broken ≡ true }
+{
+    match refusal {
+        ReadRefusal::NoMemory => Refusal::NoMemory,
+        ReadRefusal::DiskFault => {
+            break_log(log);
+            Refusal::DiskFault
+        }
+        ReadRefusal::Damaged { at } => {
+            break_log(log);
+            Refusal::Damaged {
+                container: lsn.container(),
+                offset: lsn.offset(),
+                at,
+            }
+        }
+    }
+}
+
+// Whether the record at an LSN is on the disk.
+fn is_stable(log: &Log, lsn: Lsn) -> bool
+    requires sound { IsSound log.now }
+    ensures { result ≡ nat_lt lsn (flushed log.now.state.value) }
+{
+    lsn < log.queue.flushed()
+}
+
+// The record with a head and its data.
+fn entry_of(head: Head, bytes: Bytes) -> LogEntry
+    ensures { (entry : LogEntry) → head_of entry ≡ head → entry.bytes ≡ bytes → result ≡ entry }
+{
+    LogEntry {
+        lsn: head.lsn,
+        stream: head.stream,
+        kind: head.kind,
+        previous: head.previous,
+        undo_next: head.undo_next,
+        new_base: head.new_base,
+        bytes,
+    }
+}
+
+// A record that isn't on the disk yet.
+fn waiting_entry(log: &Log, head: Head) -> Result<LogEntry, AllocError>
+    requires sound { IsSound log.now }
+    requires there { IsNeededHead log.now.state.value head }
+    requires waits { flushed log.now.state.value ≤ head.lsn }
+    ensures { IfOk result (λ read. (entry : LogEntry) → IsNeeded log.now.state.value entry → head_of entry ≡ head → read ≡ entry) }
+{
+    let bytes = log.queue.read(log.alloc, head.lsn)?;
+    Ok(entry_of(head, bytes))
+}
+
+// The number of the file in which an LSN's container lies.
+fn file_of(image: &BaseImage, lsn: Lsn) -> u16
+    requires image { IsImage version_one image.now }
+    requires listed { image.now.first ≤ container_of lsn }
+    requires within { container_of lsn + 1 ≤ image.now.first + length image.now.files }
+    ensures file { result ≡ file_of image.now lsn }
+    ensures few { result ≤ 256 }
+{
+    image.files.as_slice()[(lsn.container() - image.first) as usize]
+}
+
+// A record that is on the disk, by its LSN.
+fn stored_entry<D: Disk>(log: &mut Log, disk: &mut D, lsn: Lsn) -> Result<LogEntry, ReadRefusal>
+    requires sound { IsSound log.old }
+    requires open { IsOpen (D.state disk.old) log.old.state.value log.old }
+    requires there { (entry : LogEntry) × IsNeeded log.old.state.value entry × (entry.lsn ≡ lsn) }
+    requires stable { lsn < flushed log.old.state.value }
+    ensures exact { TellsContents (D.state disk.old) → (entry : LogEntry) → IsNeeded log.old.state.value entry → entry.lsn ≡ lsn → Gives result (Ok entry) }
+    ensures lsn { IfOk result (λ read. read.lsn ≡ lsn) }
+    ensures log { log.new ≡ record log.old { buffers = log.new.buffers } }
+    ensures kept { TellsContents (D.state disk.old) → AreKept log.old.state.value log.new.buffers }
+    ensures refused { OnErr result (log.new ≡ log.old) }
+    ensures same { Unchanged (D.state disk.old).files (D.state disk.new).files }
+    ensures time { Passes Unchanged (D.state disk.old) (D.state disk.new) }
+    ensures cause { IsErrOf result ReadRefusal.DiskFault → Rises (D.state disk.old).faults (D.state disk.new).faults }
+    ensures steady { IsSteady (D.state disk.old) → (IsErrOf result ReadRefusal.DiskFault → ⊥)
+        × ((D.state disk.new).faults ≡ (D.state disk.old).faults) }
+{
+    stored_records_are_read();
+    changes_keep_blocks();
+    let image = log.physical.image();
+    let file = file_of(image, lsn);
+    let shape = shape_of(image);
+    let streams = image.streams.as_slice().len() as u16;
+    log.buffers.read(disk, &shape, streams, file, lsn)
+}
+
+// The record with a head.
+pub(crate) fn fetch<D: Disk>(log: &mut Log, disk: &mut D, head: Head) -> Result<LogEntry, Refusal>
+    requires sound { IsSound log.old }
+    requires open { IsOpen (D.state disk.old) log.old.state.value log.old }
+    requires there { IsNeededHead log.old.state.value head }
+    ensures read { IfOk result (λ read. (entry : LogEntry) → IsNeeded log.old.state.value entry → head_of entry ≡ head
+        → IsReadAs (D.state disk.old).nature.tells_contents (flushed log.old.state.value) entry read) }
+    ensures log { OnOk result (log.new ≡ record log.old { buffers = log.new.buffers }) }
+    ensures state { IfErr result (λ refusal. LeavesState refusal log.old.state.value log.new.state.value) }
+    ensures left { IsLeft (D.state disk.new) log.new }
+    ensures reads { OnlyReads result (D.state disk.old) (D.state disk.new) }
+{
+    if !is_stable(log, head.lsn) {
+        return Ok(waiting_entry(log, head)?);
+    }
+    match stored_entry(log, disk, head.lsn) {
+        Ok(entry) => Ok(entry),
+        Err(refusal) => Err(refuse(log, head.lsn, refusal)),
+    }
+}
