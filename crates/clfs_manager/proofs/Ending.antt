@@ -1,6 +1,6 @@
 -- The end of the open block, against the heads of its records.
-use Rattle.std.proofs.Common.{◌≡◌, ℕ, ◌+◌, ◌-◌, ◌*◌, ◌/◌, ◌%◌, ◌<◌, ◌≤◌, ◌^◌, Bool, true, false, refl, sym, ap, subst, ◌∙◌, inl, inr, List, [], ◌∷◌, length, map, arith}
-use Rattle.std.specs.Prelude.{All, ◌==◌, ◌&&◌, slice_index_or, nat_lt}
+use Rattle.std.proofs.Common.{◌≡◌, ℕ, ◌+◌, ◌*◌, ◌%◌, ◌<◌, ◌≤◌, true, refl, sym, ap, subst, ◌∙◌, inl, inr, List, map, arith}
+use Rattle.std.specs.Prelude.{All, nat_lt}
 use Rattle.std.specs.List.{Any}
 use Rattle.std.proofs.lemmas.Bool.{lt-ltb}
 use Rattle.std.proofs.lemmas.Bool.Decides.{nat_tests}
@@ -9,7 +9,6 @@ use Rattle.std.proofs.lemmas.List.Elements.{All-map, All-weaker}
 use Rattle.clfs_lsn.specs.Head.{head_of}
 use Rattle.clfs_lsn.specs.Lsn.{lsn_number, container_of, offset_of, sequence_of}
 use Rattle.clfs_lsn.specs.Place.{IsOpen, IsWithin, block_end, frontier, sealed}
-use Rattle.clfs_lsn.specs.Size.{IsShape, sectors}
 use Rattle.clfs_lsn.specs.declared.entry.Head.{Head}
 use Rattle.clfs_lsn.specs.declared.entry.LogEntry.{LogEntry}
 use Rattle.clfs_lsn.specs.declared.place.Place.{Place}
@@ -19,7 +18,7 @@ use Rattle.clfs_archive.specs.declared.block.BlockEnd.{BlockEnd}
 use Rattle.clfs_model.specs.declared.state.State.{State}
 use Rattle.clfs_model.specs.Archive.{is_in_block, end_of_block}
 use Rattle.clfs_model.specs.Flush.{block_start}
-use Rattle.clfs_model.specs.Heads.{heads_of, block_end as end_of_heads}
+use Rattle.clfs_model.specs.Heads.{heads_of}
 use Rattle.clfs_model.specs.Valid.{IsValid, IsRecord}
 use Rattle.clfs_queue.specs.Queued.{Queued, seal}
 use Rattle.clfs_manager.proofs.Heads.{ends_as_heads}

@@ -1,10 +1,10 @@
 -- A log that was flushed is open still.
-use Rattle.std.proofs.Common.{◌≡◌, ℕ, ◌<◌, ◌≤◌, refl, sym, ap, subst, ◌∙◌, List, [], arith, Bool, true, false, inl, inr}
+use Rattle.std.proofs.Common.{◌≡◌, ℕ, ◌≤◌, refl, sym, ap, ◌∙◌, arith, Bool, true, false, inr}
 use Rattle.std.specs.Prelude.{Result, Ok, Err, OnOk, OnErr}
 use Rattle.std.specs.Result.{is_err}
 use Rattle.clfs_disk.specs.State.{DiskState, TellsContents}
 use Rattle.clfs_model.specs.declared.state.State.{State}
-use Rattle.clfs_model.specs.Flush.{flush, flushed, block_start}
+use Rattle.clfs_model.specs.Flush.{flush, flushed}
 use Rattle.clfs_model.specs.declared.call.Call.{Call}
 use Rattle.clfs_model.specs.declared.refusal.Refusal.TheVariants as refusals
 use Rattle.clfs_model.specs.declared.reply.Happened.{Happened}
@@ -16,10 +16,9 @@ use Rattle.clfs_model.specs.Step.{Step, ReopenStep, with_broken}
 use Rattle.clfs_model.specs.Storable.{IsStorable}
 use Rattle.clfs_model.specs.Valid.{IsValid}
 use Rattle.clfs_buffers.specs.Buffered.{Buffered}
-use Rattle.clfs_physical.specs.Stored.{Newest, Blocks, Stores}
 use Rattle.clfs_manager.specs.Flushing.{IsBroken, KeepsOthers, StoredAfter}
 use Rattle.clfs_manager.specs.Memory.{Holds}
-use Rattle.clfs_manager.specs.OnDisk.{IsStored, IsOpen, IsManaged, AreKept}
+use Rattle.clfs_manager.specs.OnDisk.{IsOpen, IsManaged, AreKept}
 use Rattle.clfs_manager.specs.declared.log.Log.{Log}
 use Rattle.clfs_manager.proofs.AreasChange.{KeepsValid, KeepsStorable}
 use Rattle.clfs_manager.proofs.ClosedPlace.{flush_is, is_closed_of, is_start}

@@ -1,11 +1,11 @@
 -- A flush as memory and the disk have it.
-use Rattle.std.proofs.Common.{◌≡◌, ◌≢◌, ℕ, ◌+◌, ◌-◌, ◌*◌, ◌<◌, ◌≤◌, Bool, true, false, refl, sym, ap, subst, ◌∙◌, inl, inr, List, [], ◌∷◌, ◌++◌, length, map, arith}
-use Rattle.std.specs.Prelude.{All, Option, Some, None, IsSome, filter, nat_le, nat_lt, slice_get, ◌==◌, Contains}
+use Rattle.std.proofs.Common.{◌≡◌, ℕ, ◌+◌, ◌-◌, ◌<◌, ◌≤◌, Bool, true, false, refl, sym, ap, ◌∙◌, inl, inr, List, [], ◌∷◌, ◌++◌, length, map, arith}
+use Rattle.std.specs.Prelude.{All, Option, Some, None, IsSome, filter, nat_le, nat_lt, slice_get, ◌==◌}
 use Rattle.std.specs.Option.{option_to_list}
-use Rattle.std.proofs.lemmas.Bool.{cases_Bool, eqb-true}
+use Rattle.std.proofs.lemmas.Bool.{eqb-true}
 use Rattle.std.proofs.lemmas.List.Elements.{All-filter, All-weaker, filter-append}
 use Rattle.std.proofs.lemmas.Option.{slice_get_within}
-use Rattle.clfs_lsn.specs.Lsn.{lsn_number, container_of, offset_of, null_lsn}
+use Rattle.clfs_lsn.specs.Lsn.{lsn_number, container_of, offset_of}
 use Rattle.clfs_lsn.specs.Place.{frontier}
 use Rattle.clfs_lsn.specs.Spelling.{BaseFits}
 use Rattle.clfs_lsn.specs.declared.entry.Kind.{Kind}
@@ -16,16 +16,16 @@ use Rattle.clfs_container.specs.OpenBlocks.{total}
 use Rattle.clfs_base.specs.declared.image.BaseImage.{BaseImage}
 use Rattle.clfs_model.specs.declared.state.State.{State}
 use Rattle.clfs_model.specs.State.{stream_at}
-use Rattle.clfs_model.specs.Flush.{block_start, cut, flush, flushed}
+use Rattle.clfs_model.specs.Flush.{block_start, cut, flushed}
 use Rattle.clfs_model.specs.Live.{hold, least_or, live_lsns}
 use Rattle.clfs_model.specs.Storable.{IsStorable, HasMovedBase}
 use Rattle.clfs_model.specs.Valid.{IsValid, IsRecord}
-use Rattle.clfs_physical.specs.Stored.{Newest, Blocks, with_group}
+use Rattle.clfs_physical.specs.Stored.{Newest, Blocks}
 use Rattle.clfs_recover.specs.Logs.{IsLogWith, stored_state, records_from_container, file_at_end}
 use Rattle.clfs_recover.specs.Stored.{stored_place}
 use Rattle.clfs_manager.specs.Memory.{unflushed}
-use Rattle.clfs_manager.specs.OnDisk.{IsStored, AreKept}
-use Rattle.clfs_manager.proofs.ClosedPlace.{closed_place, flush_is, IsClosedOf, is_closed_of, BeginsAt, all_below_closed}
+use Rattle.clfs_manager.specs.OnDisk.{IsStored}
+use Rattle.clfs_manager.proofs.ClosedPlace.{closed_place, is_closed_of, BeginsAt, all_below_closed}
 use Rattle.clfs_manager.proofs.Ending.{parts_at}
 use Rattle.clfs_manager.proofs.Opened.{all_from, none_from}
 use Rattle.clfs_manager.proofs.SplitRecords.{all_below, split, kept_from}

@@ -73,6 +73,8 @@ holds_areas s areas told log holds = record {
   room = holds.room;
   policies = holds.policies;
   containers = holds.containers;
+  image_shape = holds.image_shape;
+  rows = holds.rows;
   listed = holds.listed;
 }
 
@@ -92,6 +94,8 @@ holds_buffers s kept log holds = record {
   room = holds.room;
   policies = holds.policies;
   containers = holds.containers;
+  image_shape = holds.image_shape;
+  rows = holds.rows;
   listed = holds.listed;
 }
 

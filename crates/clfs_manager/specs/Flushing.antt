@@ -1,5 +1,5 @@
 -- What ending the open block and writing what waits leave in memory and on the disk.
-use Rattle.std.specs.Prelude.{◌≡◌, ℕ, true, Bool, List}
+use Rattle.std.specs.Prelude.{◌≡◌, true, Bool}
 use Rattle.clfs_disk.specs.State.{DiskState, TellsContents}
 use Rattle.clfs_model.specs.declared.state.State.{State}
 use Rattle.clfs_model.specs.Flush.{block_start}
