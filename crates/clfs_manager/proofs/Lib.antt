@@ -4,3 +4,7 @@ pub mod Made
 pub mod Heads
 pub mod Holding
 pub mod Opened
+pub mod Numbers
+pub mod Grown
+pub mod Holds
+pub mod Extents

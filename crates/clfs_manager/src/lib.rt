@@ -6,11 +6,15 @@
 //! in them leaves the files as they were.
 #![tactic(auto)]
 
+mod arguments;
 mod first_copy;
 mod format;
+mod info;
 mod log;
 mod manager;
+mod measures;
 mod refusal;
+mod refusals;
 
 pub use clfs_recover::LoadRefusal;
 pub use manager::{FormatRefused, LoadRefused, Manager};

@@ -28,8 +28,8 @@ use std::marker::Model;
 /// A log over a disk. A contract sees the state of the log machine that it stands for, and the disk.
 #[derive(Drop)]
 pub struct Manager<D: Disk> {
-    disk: D,
-    log: Log,
+    pub(crate) disk: D,
+    pub(crate) log: Log,
 }
 
 impl<D: Disk> Model for Manager<D> {

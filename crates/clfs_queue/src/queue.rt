@@ -91,6 +91,13 @@ impl Queue {
         })
     }
 
+    /// How large the log's blocks and containers are.
+    pub fn shape(&self) -> Shape
+        ensures { result ≡ self.now.shape }
+    {
+        self.shape
+    }
+
     /// Where the log goes on.
     pub fn place(&self) -> Place
         ensures place { result ≡ self.now.place }
