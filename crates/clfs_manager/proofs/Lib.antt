@@ -18,3 +18,7 @@ pub mod Fetched
 pub mod ReadKeeps
 pub mod Reached
 pub mod ReadSteps
+pub mod Numbers
+pub mod Grown
+pub mod Holds
+pub mod Extents

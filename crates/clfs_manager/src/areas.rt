@@ -1,25 +1,27 @@
 // The calls on areas: making and ending them, giving up what they hold, what records of theirs would take, and ending their cursors. All that
 // changes is the table of areas, which no disk has: no call of these reaches the disk, and a crash in one leaves what the disk had. Making an
 // area takes memory, before anything changes; no other call here does.
-ghost use Rattle.std.specs.Prelude.{◌≡◌, ◌<◌, ◌≤◌, Bool, length, find, nat_lt, Some, None, IfOk, IfErr};
-ghost use Rattle.clfs_lsn.specs.Limits.{most_cursors, most_sizes};
+ghost use Rattle.std.specs.Prelude.{◌≡◌, ◌<◌, ◌≤◌, Bool, length, Option, Some, None, IfOk, IfErr};
+ghost use Rattle.clfs_lsn.specs.Limits.{most_cursors};
 ghost use Rattle.clfs_areas.specs.Table.{area_at};
 ghost use Rattle.clfs_model.specs.declared.call.Call.TheVariants as calls;
 ghost use Rattle.clfs_model.specs.declared.refusal.Refusal.TheVariants as refusals;
 ghost use Rattle.clfs_model.specs.declared.reply.Reply.TheVariants as replies;
 ghost use Rattle.clfs_model.specs.Answers.{answer};
 ghost use Rattle.clfs_model.specs.Conditions.{IsClient};
-ghost use Rattle.clfs_model.specs.Refusals.{create_refusal};
-ghost use Rattle.clfs_model.specs.Space.{own_sum};
+ghost use Rattle.clfs_model.specs.declared.refusal.Refusal.{Refusal};
+ghost use Rattle.clfs_model.specs.declared.state.Area.{Area};
+ghost use Rattle.clfs_model.specs.Refusals.{create_refusal, in_area};
 ghost use Rattle.clfs_model.specs.State.{area_of};
 ghost use Rattle.clfs_manager.specs.Calls.{Steps};
 ghost use Rattle.clfs_manager.specs.Memory.{ChangesAreas, IsSound};
 
+use crate::arguments::{longer, own_sum};
 use crate::log::Log;
 use crate::manager::Manager;
 use clfs_disk::Disk;
 use clfs_laws::{steps_keep_a_state_storable, steps_keep_a_state_valid};
-use clfs_lsn::{Sizes, longest, own};
+use clfs_lsn::{Sizes, longest};
 use clfs_model::{Refusal, State, ways_of_a_step};
 use clfs_told::Told;
 
@@ -54,21 +56,6 @@ fn ended(state: &Told<State>, client: u16, area: u16, cursor: u16) -> Told<State
     state.next(&(client, area, cursor))
 }
 
-/// The first of some lengths that is above the greatest.
-pub(crate) fn longer(sizes: &[u32], greatest: u32) -> Option<u32>
-    ensures { result ≡ find (λ len. nat_lt greatest len) sizes.now }
-{
-    sizes.iter().copied().find(|len| greatest < *len)
-}
-
-/// The sectors that records of these lengths take, each in a block of its own.
-pub(crate) fn own_of(sizes: &[u32]) -> u32
-    requires { length sizes.now ≤ most_sizes }
-    ensures { result ≡ own_sum sizes.now }
-{
-    sizes.iter().map(|len| own(*len)).sum()
-}
-
 impl Log {
     /// Where the client's area of a number stands in the table.
     pub(crate) fn area_place(&self, client: u16, number: u16) -> Result<usize, Refusal>
@@ -79,6 +66,10 @@ impl Log {
         ensures number { IfOk result (λ place. (area_at place self.now.areas.areas).number ≡ number) }
         ensures refused { IfErr result (λ refused. refused ≡ refusals.NoSuchArea) }
         ensures none { IfErr result (λ _. area_of self.now.state.value client number ≡ None) }
+        ensures found { IfOk result (λ place. (rest : Area → Option Refusal)
+            → in_area self.now.state.value client number rest ≡ rest (area_at place self.now.areas.areas)) }
+        ensures told { IfErr result (λ refusal. (rest : Area → Option Refusal)
+            → in_area self.now.state.value client number rest ≡ Some refusal) }
     {
         match self.areas.place(client, number) {
             Some(place) => Ok(place),
@@ -173,10 +164,10 @@ impl Log {
         ways_of_a_step();
         let place = self.area_place(client, area)?;
         let max = self.areas.area(place).largest;
-        if let Some(len) = longer(sizes.as_slice(), max) {
+        if let Some(len) = longer(max, sizes.as_slice()) {
             return Err(Refusal::RecordTooLong { len, max });
         }
-        Ok(own_of(sizes.as_slice()))
+        Ok(own_sum(sizes.as_slice()))
     }
 
     /// The cursor of a number of a client's area ends.

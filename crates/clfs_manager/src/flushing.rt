@@ -72,14 +72,6 @@ impl Log {
         self.queue.seal();
     }
 
-    // The LSN below which all records are on the disk.
-    pub fn flushed(&self) -> Lsn
-        requires sound { IsSound self.now }
-        ensures { result ≡ flushed self.now.state.value }
-    {
-        self.queue.flushed()
-    }
-
     // Writes all that isn't on the disk, where there is such. After a fault the log is broken.
     pub fn write_out<D: Disk>(&mut self, disk: &mut D) -> Result<(), Failed>
         requires sound { IsSound self.old }

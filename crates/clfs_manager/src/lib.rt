@@ -9,19 +9,24 @@
 //! group of blocks, so that a crash leaves all of it or none.
 //!
 //! Records are read by `read` and `read_next`, restart areas by `read_restart` and `previous_restart`, each at a cursor of an area. A record that
-//! isn't on the disk yet is given from memory, each other one from its block, which is read as a whole and kept for those beside it.
+//! isn't on the disk yet is given from memory, each other one from its block, which is read as a whole and kept for those beside it. `info` and
+//! `extents` tell what the log is like and what is to be archived, from memory alone.
 #![tactic(auto)]
 
 mod areas;
+mod arguments;
 mod fetching;
 mod first_copy;
 mod flushing;
 mod format;
+mod info;
 mod log;
 mod manager;
+mod measures;
 mod reaching;
 mod reading;
 mod refusal;
+mod refusals;
 
 pub use clfs_recover::LoadRefusal;
 pub use manager::{FormatRefused, LoadRefused, Manager};

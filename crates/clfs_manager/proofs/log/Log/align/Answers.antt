@@ -13,5 +13,5 @@ pub returns : goal.returns
 returns c = record {
   step = λ told. align_done c.ways_of_a_step.ensures told c.args.self.now.state.value c.args.client c.args.area _ _ c.args.sizes.now _ _
       c.requires.sound.whole c.in_ok-place.ensures.there c.area-max.ensures.largest c.as_slice.ensures.value c.in_default.ensures
-      (c.own_of.ensures ∙ ap own_sum c.as_slice-2.ensures.value);
+      (c.own_sum.ensures.value ∙ ap own_sum c.as_slice-2.ensures.value);
 }

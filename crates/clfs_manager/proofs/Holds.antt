@@ -1,0 +1,22 @@
+-- What is computed from the tables in memory is what the machine's definitions say of the state that they hold.
+use Rattle.std.proofs.Common.{◌≡◌, ℕ, sym, ap, ◌∙◌, List}
+use Rattle.std.specs.Prelude.{Option}
+use Rattle.clfs_lsn.specs.Place.{frontier}
+use Rattle.clfs_lsn.specs.declared.entry.Head.{Head}
+use Rattle.clfs_lsn.specs.declared.place.Place.{Place}
+use Rattle.clfs_model.specs.declared.state.State.{State}
+use Rattle.clfs_model.specs.declared.state.Stream.{Stream}
+use Rattle.clfs_model.specs.Heads.{heads_of, hold_of}
+use Rattle.clfs_model.specs.Live.{hold}
+use Rattle.clfs_model.specs.State.{base_of}
+use Rattle.clfs_tables.specs.Tables.{base_in}
+
+-- the hold
+pub hold_is : (s : State) (place : Place) (tail : Option ℕ) (streams : List Stream) (heads : List Head) (result : ℕ)
+    → result ≡ hold_of (frontier place) tail (base_in streams) heads → hold s ≡ hold_of (frontier s.place) s.archive (base_of s) (heads_of s)
+    → place ≡ s.place → tail ≡ s.archive → streams ≡ s.streams → heads ≡ heads_of s → result ≡ hold s
+hold_is s place tail streams heads result is law of_place of_tail of_streams of_heads =
+    is ∙ ap (λ (x : Place). hold_of (frontier x) tail (base_in streams) heads) of_place
+    ∙ ap (λ (x : Option ℕ). hold_of (frontier s.place) x (base_in streams) heads) of_tail
+    ∙ ap (λ (x : List Stream). hold_of (frontier s.place) s.archive (base_in x) heads) of_streams
+    ∙ ap (λ (x : List Head). hold_of (frontier s.place) s.archive (base_of s) x) of_heads ∙ sym law

@@ -1,0 +1,24 @@
+use Rattle.std.proofs.Common.{◌≤◌, ℕ, sym, subst, arith}
+use Rattle.clfs_lsn.specs.Limits.{most_containers}
+use Rattle.clfs_model.specs.declared.state.State.{State}
+use Rattle.clfs_model.specs.Live.{active}
+use Rattle.clfs_manager.proofs.Grown.{grown_is, grown_between}
+use Rattle.clfs_manager.proofs.log.Log.grown_containers.Goals as goal
+
+pub returns-clause-value : goal.returns-clause-value
+returns-clause-value c =
+    grown_is c.args.self.now.state.value _ _ _ _ _ _ _ _ _ c.growth.ensures.value c.unwrap_or.ensures c.shape-shape.ensures.value
+    c.place-place.ensures.value c.hold-hold.ensures.value c.containers-have.ensures.value c.growth_rate-rate.ensures.value
+    c.size_limit-limit.ensures.value
+
+pub returns-clause-enough : goal.returns-clause-enough
+returns-clause-enough c =
+    let s : State = c.args.self.now.state.value in
+    let between = grown_between _ _ _ _ _ _ _ c.growth.result c.growth.ensures.some c.containers-have.ensures.few c.size_limit-limit.ensures.few in
+    let used : active s ≤ s.containers = c.requires.sound.valid.space.active in
+    omega (arith, between.0, used, c.containers-have.ensures.value, c.unwrap_or.ensures)
+
+pub returns-clause-few : goal.returns-clause-few
+returns-clause-few c =
+    let between = grown_between _ _ _ _ _ _ _ c.growth.result c.growth.ensures.some c.containers-have.ensures.few c.size_limit-limit.ensures.few in
+    subst (λ (n : ℕ). n ≤ most_containers) (sym c.unwrap_or.ensures) between.1

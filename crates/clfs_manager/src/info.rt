@@ -1,0 +1,102 @@
+// What the log and a stream are like, and what is to be archived: two calls that change nothing and make no call on the disk.
+ghost use Rattle.std.specs.Prelude.{◌≡◌, ℕ, Bool, IfOk, IsSome, false};
+ghost use Rattle.clfs_model.specs.declared.call.Call.TheVariants as calls;
+ghost use Rattle.clfs_model.specs.declared.reply.Reply.TheVariants as replies;
+ghost use Rattle.clfs_model.specs.Answers.{info_of};
+ghost use Rattle.clfs_model.specs.Archive.{extents};
+ghost use Rattle.clfs_model.specs.State.{stream_at, base_of};
+ghost use Rattle.clfs_manager.specs.Calls.{Steps};
+ghost use Rattle.clfs_manager.specs.Memory.{IsSound};
+
+use crate::log::Log;
+use crate::manager::Manager;
+use clfs_archive::ends_of_blocks_go_on;
+use clfs_disk::Disk;
+use clfs_lsn::Lsn;
+use clfs_model::{Extents, LogInfo, Refusal, records_are_as_their_heads, ways_of_a_step};
+use std::alloc::AllocError;
+
+impl Log {
+    // The answer to a call for what the log and a stream are like.
+    fn info(&self, stream: u16) -> Result<LogInfo, Refusal>
+        requires sound { IsSound self.now }
+        ensures step { (told : Bool) (client : ℕ) → Steps told self.now.state.value client (calls.Info stream) replies.Info result self.now.state.value }
+    {
+        ways_of_a_step();
+        let Some(base) = self.base(stream) else {
+            return Err(Refusal::NoSuchStream);
+        };
+        Ok(self.info_with(stream, base))
+    }
+
+    // What the log is like, and the stream with this base.
+    fn info_with(&self, stream: u16, base: Lsn) -> LogInfo
+        requires sound { IsSound self.now }
+        requires there { IsSome (stream_at self.now.state.value stream) }
+        requires base { base ≡ base_of self.now.state.value stream }
+        ensures { result ≡ info_of self.now.state.value stream }
+    {
+        LogInfo {
+            containers: self.containers(),
+            free_containers: self.containers() - self.active(),
+            container_sectors: self.shape().container_sectors,
+            free_sectors: self.free(),
+            reserved: self.reserved(),
+            base,
+            last: self.last_live(stream),
+            flushed: self.flushed(),
+            restart: self.last_restart(stream),
+            archive: self.archive.tail(),
+        }
+    }
+
+    // The answer to a call for the extents to be archived.
+    fn extents(&self) -> Result<Extents, Refusal>
+        requires sound { IsSound self.now }
+        ensures step { (told : Bool) (client : ℕ) → Steps told self.now.state.value client calls.ListExtents replies.Extents result self.now.state.value }
+    {
+        ways_of_a_step();
+        if self.archive.tail().is_none() {
+            return Err(Refusal::Ephemeral);
+        }
+        let extents = self.all_extents()?;
+        Ok(extents)
+    }
+
+    // The extents to be archived, none where archiving is off.
+    fn all_extents(&self) -> Result<Extents, AllocError>
+        requires sound { IsSound self.now }
+        ensures { IfOk result (λ list. list ≡ extents self.now.state.value) }
+    {
+        records_are_as_their_heads();
+        ends_of_blocks_go_on();
+        let stable = self.flushed();
+        let place = self.place();
+        self.archive.extents(self.alloc, stable, place.container)
+    }
+}
+
+impl<D: Disk> Manager<D> {
+    /// What the log and the stream of a number are like. `NoSuchStream` where no stream has the number.
+    pub fn info(&self, stream: u16) -> Result<LogInfo, Refusal>
+        ensures step { (told : Bool) (client : ℕ) → Steps told self.now.0 client (calls.Info stream) replies.Info result self.now.0 }
+    {
+        ways_of_a_step();
+        if self.log.broken {
+            return Err(Refusal::Broken);
+        }
+        self.log.info(stream)
+    }
+
+    /// The parts of containers that are to be archived, in the order of the containers: the blocks on the disk that have a record at or above the
+    /// archive tail. `Ephemeral` where archiving is off.
+    pub fn extents(&self) -> Result<Extents, Refusal>
+        ensures step { (told : Bool) (client : ℕ) → Steps told self.now.0 client calls.ListExtents replies.Extents result self.now.0 }
+    {
+        ways_of_a_step();
+        if self.log.broken {
+            return Err(Refusal::Broken);
+        }
+        self.log.extents()
+    }
+}
