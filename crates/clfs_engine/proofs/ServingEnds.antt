@@ -1,88 +1,174 @@
--- How serving ends, from what was taken, what was to be written, and what the sink took.
-use Rattle.std.proofs.Common.{◌≡◌, ℕ, ◌≤◌, ◌⊎◌, List, sym, ◌∙◌, inl, inr, arith}
+-- How serving ends: by answering the lines of a log that was opened, or by why it wasn't.
+use Rattle.std.proofs.Common.{◌≡◌, ◌≢◌, ℕ, ◌⊎◌, List, refl, subst, inl, inr, arith}
 use Rattle.std.specs.Prelude.{Option}
-use Rattle.std.specs.Io.KnownBytes.{Consumes, IsAtEnd, Appends}
-use Rattle.clfs_ports.specs.Cause.{Rises}
-use Rattle.clfs_engine.specs.Ends.{AppendsFront}
-use Rattle.clfs_engine.specs.Serve.{HasOutput, EndsServing, IsServeStatus, IsAnswer, IsWholeAnswer, IsAnswerUpToFault, IsAnswerUpToLimit}
-use Rattle.clfs_engine.specs.declared.input.End.{End}
-use Rattle.clfs_engine.specs.declared.input.End.TheVariants.{Whole, Fault}
+use Rattle.clfs_disk.specs.State.{DiskState}
+use Rattle.clfs_recover.specs.declared.refusal.LoadRefusal.{LoadRefusal}
+use Rattle.clfs_recover.specs.declared.refusal.LoadRefusal.TheVariants.{NoBase, Damaged, DiskFault, NoMemory}
+use Rattle.clfs_engine.specs.Answered.{IsAnswered}
+use Rattle.clfs_engine.specs.Opened.{IsNoLog, no_log_text, RefusesLog, IsRefusalText, TellsRefusal, refusal_line, refusal_status}
+use Rattle.clfs_engine.specs.Serve.{Answers, EndsAnswering, EndsServing, IsAnswerStatus, IsServeStatus, IsAnswer, IsWholeAnswer, IsAnswerUpToFault, IsAnswerUpToLimit, StopsShort}
 
--- what was taken from the source, and the text that is to be written for it
-pub record IsReady (status : ℕ) (left left_after : Option (List ℕ)) (source source_after : ℕ) (end : End) (bytes text : List ℕ) : Type 0 where
-  pub given : Consumes left left_after bytes
-  pub whole : end ≡ Whole → IsAtEnd left_after
-  pub failed : end ≡ Fault → Rises source source_after
-  pub later : source ≤ source_after
-  pub output : HasOutput status end bytes text
+-- ---- other words for the same answers
 
--- what the sink took of it
-pub record IsPrinted (result status : ℕ) (written written_after : Option (List ℕ)) (sink sink_after : ℕ) (text : List ℕ) : Type 0 where
-  pub ends : (result ≡ status) ⊎ (result ≡ 3)
-  pub whole : result ≡ status → Appends written written_after text
-  pub front : result ≡ 3 → AppendsFront written written_after text
-  pub cause : result ≡ 3 → Rises sink sink_after
-  pub later : sink ≤ sink_after
+module _ (Is Other : Answers) (also : (lines : List (List ℕ)) (text : List ℕ) → Is lines text → Other lines text) where
+  whole_as : (left left' : Option (List ℕ)) (text : List ℕ) → IsWholeAnswer Is left left' text → IsWholeAnswer Other left left' text
+  whole_as left left' text is = record { script = is.script; read = is.read; answered = also _ text is.answered }
 
--- all of it was written, unless the sink failed
-same_status : (result status k : ℕ) → (result ≡ status) ⊎ (result ≡ 3) → result ≡ k → (k ≡ 3 → ⊥) → status ≡ k
-same_status result status k (inl e) r other = sym e ∙ r
-same_status result status k (inr e) r other = absurd (other (sym r ∙ e))
+  fault_as : (left left' : Option (List ℕ)) (text : List ℕ) → IsAnswerUpToFault Is left left' text → IsAnswerUpToFault Other left left' text
+  fault_as left left' text is = record { bytes = is.bytes; given = is.given; answered = also _ text is.answered }
 
-whole_answer : (status : ℕ) (left left' : Option (List ℕ)) (source source' : ℕ) (end : End) (bytes text : List ℕ)
-    → IsReady status left left' source source' end bytes text → status ≡ 0 → IsWholeAnswer left left' text
-whole_answer status left left' source source' end bytes text ready e = record {
-  script = bytes;
-  read = record { given = ready.given; end = ready.whole (ready.output.whole e); within = ready.output.within e };
-  answered = ready.output.all_answered e;
+  limit_as : (left left' : Option (List ℕ)) (text : List ℕ) → IsAnswerUpToLimit Is left left' text → IsAnswerUpToLimit Other left left' text
+  limit_as left left' text is = record {
+    bytes = is.bytes;
+    given = is.given;
+    answered = record { output = is.answered.output; answered = also _ is.answered.output is.answered.answered; line = is.answered.line };
+  }
+
+  any_as : (left left' : Option (List ℕ)) (text : List ℕ) → IsAnswer Is left left' text → IsAnswer Other left left' text
+  any_as left left' text (inl is) = inl (whole_as left left' text is)
+  any_as left left' text (inr (inl is)) = inr (inl (fault_as left left' text is))
+  any_as left left' text (inr (inr is)) = inr (inr (limit_as left left' text is))
+
+  stops_as : (left left' : Option (List ℕ)) → StopsShort Is left left' → StopsShort Other left left'
+  stops_as left left' is = (is.0, (is.1.0, (is.1.1.0, also is.0 is.1.1.0 is.1.1.1)))
+
+-- the statuses of answering are not those of a log that wasn't opened
+not_refused : (status : ℕ) → IsAnswerStatus status → (status ≡ 4) ⊎ (status ≡ 6) → ⊥
+not_refused status (inl e) (inl f) = omega (arith, e, f)
+not_refused status (inl e) (inr f) = omega (arith, e, f)
+not_refused status (inr (inl e)) (inl f) = omega (arith, e, f)
+not_refused status (inr (inl e)) (inr f) = omega (arith, e, f)
+not_refused status (inr (inr (inl e))) (inl f) = omega (arith, e, f)
+not_refused status (inr (inr (inl e))) (inr f) = omega (arith, e, f)
+not_refused status (inr (inr (inr (inl e)))) (inl f) = omega (arith, e, f)
+not_refused status (inr (inr (inr (inl e)))) (inr f) = omega (arith, e, f)
+not_refused status (inr (inr (inr (inr e)))) (inl f) = omega (arith, e, f)
+not_refused status (inr (inr (inr (inr e)))) (inr f) = omega (arith, e, f)
+
+-- the lines of a log that was opened are answered
+pub answering_serves : (Is : Answers) (status buffers : ℕ) (old new : DiskState) (left left' written written' : Option (List ℕ)) (source source' sink sink' : ℕ)
+    → ((lines : List (List ℕ)) (text : List ℕ) → Is lines text → IsAnswered buffers old new lines text)
+    → EndsAnswering Is status left left' written written' source source' sink sink'
+    → EndsServing status buffers old new left left' written written' source source' sink sink'
+answering_serves Is status buffers old new left left' written written' source source' sink sink' also ends = record {
+  statuses = inl ends.statuses;
+  done = λ e. let found = ends.done e in (found.0, whole_as Is Other also left left' found.0 found.1, found.2);
+  source_fault = ends.source_fault;
+  source_fault_answers = λ e. let found = ends.source_fault_answers e in (found.0, fault_as Is Other also left left' found.0 found.1, found.2);
+  sink_fault = ends.sink_fault;
+  sink_fault_front = λ e. let found = ends.sink_fault_front e in inl (found.0, any_as Is Other also left left' found.0 found.1, found.2);
+  disk_fault = λ e. absurd (not_refused status ends.statuses (inl e));
+  disk_fault_line = λ e. absurd (not_refused status ends.statuses (inl e));
+  no_memory = λ e. inr (stops_as Is Other also left left' (ends.no_memory e));
+  no_memory_silence = ends.no_memory_silence;
+  no_log = λ e. absurd (not_refused status ends.statuses (inr e));
+  too_long = λ e. let found = ends.too_long e in (found.0, limit_as Is Other also left left' found.0 found.1, found.2);
+  unread = λ e. absurd (not_refused status ends.statuses e);
+  source_count = ends.source_count;
+  sink_count = ends.sink_count;
 }
-
-answer_up_to_fault : (status : ℕ) (left left' : Option (List ℕ)) (source source' : ℕ) (end : End) (bytes text : List ℕ)
-    → IsReady status left left' source source' end bytes text → status ≡ 2 → IsAnswerUpToFault left left' text
-answer_up_to_fault status left left' source source' end bytes text ready e =
-    record { bytes = bytes; given = ready.given; answered = ready.output.answered e }
-
-answer_up_to_limit : (status : ℕ) (left left' : Option (List ℕ)) (source source' : ℕ) (end : End) (bytes text : List ℕ)
-    → IsReady status left left' source source' end bytes text → status ≡ 7 → IsAnswerUpToLimit left left' text
-answer_up_to_limit status left left' source source' end bytes text ready e = record {
-  bytes = bytes;
-  given = record { given = ready.given; past = ready.output.past e };
-  answered = ready.output.answered_up_to_limit e;
-}
-
-any_answer : (status : ℕ) (left left' : Option (List ℕ)) (source source' : ℕ) (end : End) (bytes text : List ℕ)
-    → IsReady status left left' source source' end bytes text → (status ≡ 0) ⊎ ((status ≡ 2) ⊎ (status ≡ 7)) → IsAnswer left left' text
-any_answer status left left' source source' end bytes text ready (inl e) = inl (whole_answer status left left' source source' end bytes text ready e)
-any_answer status left left' source source' end bytes text ready (inr (inl e)) = inr (inl (answer_up_to_fault status left left' source source' end bytes text ready e))
-any_answer status left left' source source' end bytes text ready (inr (inr e)) = inr (inr (answer_up_to_limit status left left' source source' end bytes text ready e))
-
-end_status : (result status : ℕ) → (result ≡ status) ⊎ (result ≡ 3) → (status ≡ 0) ⊎ ((status ≡ 2) ⊎ (status ≡ 7)) → IsServeStatus result
-end_status result status (inr e) s = inr (inr (inl e))
-end_status result status (inl e) (inl s) = inl (e ∙ s)
-end_status result status (inl e) (inr (inl s)) = inr (inl (e ∙ s))
-end_status result status (inl e) (inr (inr s)) = inr (inr (inr (inr (e ∙ s))))
-
-pub serving_ends : (result status : ℕ) (left left' written written' : Option (List ℕ)) (source source' sink sink' : ℕ) (end : End) (bytes text : List ℕ)
-    → IsReady status left left' source source' end bytes text → IsPrinted result status written written' sink sink' text
-    → EndsServing result left left' written written' source source' sink sink'
-serving_ends result status left left' written written' source source' sink sink' end bytes text ready printed =
-    let is : (k : ℕ) → result ≡ k → (k ≡ 3 → ⊥) → status ≡ k = λ k r other. same_status result status k printed.ends r other in record {
-      statuses = end_status result status printed.ends ready.output.statuses;
-      done = λ r. let s = is 0 r (λ e. omega (arith, e)) in
-          (text, whole_answer status left left' source source' end bytes text ready s, printed.whole (r ∙ sym s));
-      source_fault = λ r. ready.failed (ready.output.fault (is 2 r (λ e. omega (arith, e))));
-      source_fault_answers = λ r. let s = is 2 r (λ e. omega (arith, e)) in
-          (text, answer_up_to_fault status left left' source source' end bytes text ready s, printed.whole (r ∙ sym s));
-      sink_fault = printed.cause;
-      sink_fault_front = λ r. (text, any_answer status left left' source source' end bytes text ready ready.output.statuses, printed.front r);
-      no_memory_silence = λ r. absurd (never ready.output.statuses (is 5 r (λ e. omega (arith, e))));
-      too_long = λ r. let s = is 7 r (λ e. omega (arith, e)) in
-          (text, answer_up_to_limit status left left' source source' end bytes text ready s, printed.whole (r ∙ sym s));
-      source_count = ready.later;
-      sink_count = printed.later;
-    }
   where
-    never : (status ≡ 0) ⊎ ((status ≡ 2) ⊎ (status ≡ 7)) → status ≡ 5 → ⊥
-    never (inl e) f = omega (arith, e, f)
-    never (inr (inl e)) f = omega (arith, e, f)
-    never (inr (inr e)) f = omega (arith, e, f)
+    Other : Answers
+    Other = IsAnswered buffers old new
+
+-- ---- a log that wasn't opened
+
+-- the statuses then
+refused_statuses : (status : ℕ) (refusal : LoadRefusal) → (status ≡ refusal_status refusal) ⊎ ((status ≡ 3) ⊎ (status ≡ 5))
+    → (status ≡ 4) ⊎ ((status ≡ 6) ⊎ ((status ≡ 3) ⊎ (status ≡ 5)))
+refused_statuses status refusal (inr others) = inr (inr others)
+refused_statuses status DiskFault (inl e) = inl e
+refused_statuses status NoMemory (inl e) = inr (inr (inr e))
+refused_statuses status NoBase (inl e) = inr (inl e)
+refused_statuses status (Damaged container offset at) (inl e) = inr (inl e)
+
+serve_status : (status : ℕ) → (status ≡ 4) ⊎ ((status ≡ 6) ⊎ ((status ≡ 3) ⊎ (status ≡ 5))) → IsServeStatus status
+serve_status status (inl e) = inr (inl e)
+serve_status status (inr (inl e)) = inr (inr e)
+serve_status status (inr (inr (inl e))) = inl (inr (inr (inl e)))
+serve_status status (inr (inr (inr e))) = inl (inr (inr (inr (inl e))))
+
+-- no status of answering but for a sink fault and want of memory
+not_answered : (status k : ℕ) → (status ≡ 4) ⊎ ((status ≡ 6) ⊎ ((status ≡ 3) ⊎ (status ≡ 5))) → status ≡ k → (k ≡ 0) ⊎ ((k ≡ 2) ⊎ (k ≡ 7)) → ⊥
+not_answered status k statuses is others = by_status statuses
+  where
+    never : (n : ℕ) → status ≡ n → ((n ≡ 4) ⊎ ((n ≡ 6) ⊎ ((n ≡ 3) ⊎ (n ≡ 5)))) → (k ≡ 0) ⊎ ((k ≡ 2) ⊎ (k ≡ 7)) → ⊥
+    never n e f (inl g) = by_number f
+      where
+        by_number : ((n ≡ 4) ⊎ ((n ≡ 6) ⊎ ((n ≡ 3) ⊎ (n ≡ 5)))) → ⊥
+        by_number (inl h) = omega (arith, e, is, g, h)
+        by_number (inr (inl h)) = omega (arith, e, is, g, h)
+        by_number (inr (inr (inl h))) = omega (arith, e, is, g, h)
+        by_number (inr (inr (inr h))) = omega (arith, e, is, g, h)
+    never n e f (inr (inl g)) = by_number f
+      where
+        by_number : ((n ≡ 4) ⊎ ((n ≡ 6) ⊎ ((n ≡ 3) ⊎ (n ≡ 5)))) → ⊥
+        by_number (inl h) = omega (arith, e, is, g, h)
+        by_number (inr (inl h)) = omega (arith, e, is, g, h)
+        by_number (inr (inr (inl h))) = omega (arith, e, is, g, h)
+        by_number (inr (inr (inr h))) = omega (arith, e, is, g, h)
+    never n e f (inr (inr g)) = by_number f
+      where
+        by_number : ((n ≡ 4) ⊎ ((n ≡ 6) ⊎ ((n ≡ 3) ⊎ (n ≡ 5)))) → ⊥
+        by_number (inl h) = omega (arith, e, is, g, h)
+        by_number (inr (inl h)) = omega (arith, e, is, g, h)
+        by_number (inr (inr (inl h))) = omega (arith, e, is, g, h)
+        by_number (inr (inr (inr h))) = omega (arith, e, is, g, h)
+
+    by_status : (status ≡ 4) ⊎ ((status ≡ 6) ⊎ ((status ≡ 3) ⊎ (status ≡ 5))) → ⊥
+    by_status found = never status refl found others
+
+-- the cause by the status
+fault_by : (status : ℕ) (refusal : LoadRefusal) → (status ≡ refusal_status refusal) ⊎ ((status ≡ 3) ⊎ (status ≡ 5)) → status ≡ 4 → refusal ≡ DiskFault
+fault_by status refusal (inr (inl e)) f = absurd (omega (arith, e, f))
+fault_by status refusal (inr (inr e)) f = absurd (omega (arith, e, f))
+fault_by status DiskFault (inl e) f = refl
+fault_by status NoMemory (inl e) f = absurd (omega (arith, e, f))
+fault_by status NoBase (inl e) f = absurd (omega (arith, e, f))
+fault_by status (Damaged container offset at) (inl e) f = absurd (omega (arith, e, f))
+
+no_log_by : (status : ℕ) (refusal : LoadRefusal) → (status ≡ refusal_status refusal) ⊎ ((status ≡ 3) ⊎ (status ≡ 5)) → status ≡ 6 → IsNoLog refusal
+no_log_by status refusal (inr (inl e)) f = absurd (omega (arith, e, f))
+no_log_by status refusal (inr (inr e)) f = absurd (omega (arith, e, f))
+no_log_by status DiskFault (inl e) f = absurd (omega (arith, e, f))
+no_log_by status NoMemory (inl e) f = absurd (omega (arith, e, f))
+no_log_by status NoBase (inl e) f = tt
+no_log_by status (Damaged container offset at) (inl e) f = tt
+
+no_log_line : (refusal : LoadRefusal) → IsNoLog refusal → refusal_line refusal ≡ no_log_text refusal
+no_log_line NoBase is = refl
+no_log_line (Damaged container offset at) is = refl
+no_log_line DiskFault is = absurd is
+no_log_line NoMemory is = absurd is
+
+-- the line for a refusal is one of those that say why
+refusal_text : (refusal : LoadRefusal) (old new : DiskState) → RefusesLog refusal old new → refusal ≢ NoMemory → IsRefusalText old new (refusal_line refusal)
+refusal_text NoBase old new refuses other = inl (record { refusal = NoBase; no_log = tt; refuses = refuses; line = refl })
+refusal_text (Damaged container offset at) old new refuses other = inl (record { refusal = Damaged container offset at; no_log = tt; refuses = refuses; line = refl })
+refusal_text DiskFault old new refuses other = inr (refuses, refl)
+refusal_text NoMemory old new refuses other = absurd (other refl)
+
+pub refusal_serves : (status buffers : ℕ) (refusal : LoadRefusal) (old new : DiskState) (left written written' : Option (List ℕ)) (source sink sink' : ℕ)
+    → RefusesLog refusal old new → TellsRefusal status refusal written written' sink sink'
+    → EndsServing status buffers old new left left written written' source source sink sink'
+refusal_serves status buffers refusal old new left written written' source sink sink' refuses tells =
+    let statuses = refused_statuses status refusal tells.statuses in record {
+      statuses = serve_status status statuses;
+      done = λ e. absurd (not_answered status 0 statuses e (inl refl));
+      source_fault = λ e. absurd (not_answered status 2 statuses e (inr (inl refl)));
+      source_fault_answers = λ e. absurd (not_answered status 2 statuses e (inr (inl refl)));
+      sink_fault = tells.sink_fault;
+      sink_fault_front = λ e. let front = tells.sink_fault_front e in inr (refusal_line refusal, refusal_text refusal old new refuses front.0, front.1);
+      disk_fault = λ e. subst (λ (r : LoadRefusal). RefusesLog r old new) (fault_by status refusal tells.statuses e) refuses;
+      disk_fault_line = λ e. let line = tells.line (λ f. omega (arith, e, f)) (λ f. omega (arith, e, f)) in rw (fault_by status refusal tells.statuses e) at line;
+      no_memory = λ e. inl (refuses.same, refuses.time);
+      no_memory_silence = tells.no_memory_silence;
+      no_log = λ e.
+          let is = no_log_by status refusal tells.statuses e in
+          let line = tells.line (λ f. omega (arith, e, f)) (λ f. omega (arith, e, f)) in
+          (refusal_line refusal, record { refusal = refusal; no_log = is; refuses = refuses; line = no_log_line refusal is }, line);
+      too_long = λ e. absurd (not_answered status 7 statuses e (inr (inr refl)));
+      unread = λ e. (refl, refl);
+      source_count = omega arith;
+      sink_count = tells.sink_count;
+    }

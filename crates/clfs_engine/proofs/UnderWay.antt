@@ -1,70 +1,89 @@
 -- A script that is answered line by line.
-use Rattle.std.proofs.Common.{◌≡◌, ℕ, List, [], ◌∷◌, ◌++◌, true, refl, sym, ap, ◌∙◌, append_assoc, subst}
+use Rattle.std.proofs.Common.{◌≡◌, ℕ, Bool, List, [], ◌∷◌, ◌++◌, refl, sym, ap, ◌∙◌, append_assoc, subst}
 use Rattle.std.specs.Prelude.{map}
-use Rattle.std.proofs.lemmas.List.{append-nil}
-use Rattle.clfs_model.specs.declared.reply.Happened.TheVariants.{Fine}
+use Rattle.std.proofs.lemmas.List.{append-nil, map-append}
+use Rattle.clfs_disk.specs.State.{DiskState}
 use Rattle.clfs_model.specs.declared.reply.Reply.{Reply}
 use Rattle.clfs_model.specs.declared.state.State.{State}
-use Rattle.clfs_model.specs.State.{first}
-use Rattle.clfs_model.specs.Run.{Request, RequestStep, Run, all_fine}
+use Rattle.clfs_model.specs.Happened.{happened_of}
 use Rattle.clfs_model.specs.Lines.{without_return}
+use Rattle.clfs_model.specs.Run.{Request, Run}
+use Rattle.clfs_model.specs.Script.{line_request}
 use Rattle.clfs_model.specs.Text.{output_of, reply_line, client_of}
-use Rattle.clfs_engine.specs.Answered.{request_of, requests_of}
-use Rattle.clfs_engine.specs.Serve.{IsAnswered, AnswersLine}
+use Rattle.clfs_engine.specs.Answered.{requests_of, AnswersOne, AnswersAll, AnswersLine, AnswersUnwritten, AnswersLines}
+use Rattle.clfs_engine.proofs.SoFar.{none_answered, one_answered}
+use Rattle.clfs_engine.proofs.WholeSteps.{AreOwn}
 
 -- the lines up to those that are left are answered
-pub record IsUnderWay (lines left : List (List ℕ)) (log : State) (out : List ℕ) : Type 0 where
-  pub requests : List Request
-  pub replies : List Reply
-  pub all : requests ++ requests_of left ≡ requests_of lines
-  pub run : Run true first requests (all_fine requests) replies log
-  pub text : out ≡ output_of requests replies
+pub record IsUnderWay (s : State) (old : DiskState) (lines left : List (List ℕ)) (t : State) (new : DiskState) (out : List ℕ) : Type 0 where
+  pub done : List (List ℕ)
+  pub all : done ++ left ≡ lines
+  pub answered : AnswersLines s old t new done out
 
--- a run goes on by one step
-run_more : (s : State) (requests : List Request) (replies : List Reply) (mid : State) (request : Request) (reply : Reply) (t : State)
-    → Run true s requests (all_fine requests) replies mid → RequestStep true mid request Fine reply t
-    → Run true s (requests ++ request ∷ []) (all_fine (requests ++ request ∷ [])) (replies ++ reply ∷ []) t
-run_more s [] [] mid request reply t run step = (t, (subst (λ (m : State). RequestStep true m request Fine reply t) run step, refl))
-run_more s [] (y ∷ replies) mid request reply t run step = absurd run
-run_more s (x ∷ requests) [] mid request reply t run step = absurd run
-run_more s (x ∷ requests) (y ∷ replies) mid request reply t run step =
-    (run.0, (run.1.0, run_more run.0 requests replies mid request reply t run.1.1 step))
+-- the text of a run goes on by one line
+text_more : (told : Bool) (s : State) (requests : List Request) (answers : List Reply) (mid : State) (request : Request) (reply : Reply)
+    → Run told s requests (map happened_of answers) answers mid
+    → output_of (requests ++ request ∷ []) (answers ++ reply ∷ []) ≡ output_of requests answers ++ reply_line (client_of request) reply
+text_more told s [] [] mid request reply run = append-nil (reply_line (client_of request) reply)
+text_more told s [] (y ∷ answers) mid request reply run = absurd run
+text_more told s (x ∷ requests) [] mid request reply run = absurd run
+text_more told s (x ∷ requests) (y ∷ answers) mid request reply run =
+    rw (text_more told run.0 requests answers mid request reply run.1.1)
+    (sym (append_assoc (reply_line (client_of x) y) (output_of requests answers) (reply_line (client_of request) reply)))
 
--- its text goes on by one line
-text_more : (s : State) (requests : List Request) (replies : List Reply) (mid : State) (request : Request) (reply : Reply)
-    → Run true s requests (all_fine requests) replies mid
-    → output_of (requests ++ request ∷ []) (replies ++ reply ∷ []) ≡ output_of requests replies ++ reply_line (client_of request) reply
-text_more s [] [] mid request reply run = append-nil (reply_line (client_of request) reply)
-text_more s [] (y ∷ replies) mid request reply run = absurd run
-text_more s (x ∷ requests) [] mid request reply run = absurd run
-text_more s (x ∷ requests) (y ∷ replies) mid request reply run =
-    rw (text_more run.0 requests replies mid request reply run.1.1)
-    (sym (append_assoc (reply_line (client_of x) y) (output_of requests replies) (reply_line (client_of request) reply)))
+-- no line is answered
+pub none_lines : (s : State) (disk : DiskState) → AnswersLines s disk s disk [] []
+none_lines s disk = record { answers = []; answered = none_answered s disk; is = refl }
+
+-- one line more is answered, and its reply is written or not
+line_more : AreOwn → (s : State) (old : DiskState) (done : List (List ℕ)) (line : List ℕ) (mid : State) (between : DiskState) (out : List ℕ) (t : State) (new : DiskState)
+    (reply : Reply) → AnswersLines s old mid between done out → AnswersOne mid between (line_request (without_return line)) reply t new
+    → AnswersLines s old t new (done ++ line ∷ []) (out ++ reply_line (client_of (line_request (without_return line))) reply)
+line_more own s old done line mid between out t new reply so_far one =
+    let request : Request = line_request (without_return line) in
+    let requests : requests_of (done ++ line ∷ []) ≡ requests_of done ++ request ∷ [] = map-append (λ (l : List ℕ). line_request (without_return l)) done (line ∷ []) in
+    record {
+      answers = so_far.answers ++ reply ∷ [];
+      answered = subst (λ (rs : List Request). AnswersAll s old rs (so_far.answers ++ reply ∷ []) t new) (sym requests)
+          (one_answered own s old (requests_of done) so_far.answers mid between request reply t new so_far.answered one);
+      is = ap (λ (o : List ℕ). o ++ reply_line (client_of request) reply) so_far.is
+          ∙ sym (text_more old.nature.tells_contents s (requests_of done) so_far.answers mid request reply so_far.answered.run)
+          ∙ ap (λ (rs : List Request). output_of rs (so_far.answers ++ reply ∷ [])) (sym requests);
+    }
 
 -- no line is answered yet
-pub begins : (lines : List (List ℕ)) → IsUnderWay lines lines first []
-begins lines = record { requests = []; replies = []; all = refl; run = refl; text = refl }
+pub begins : (s : State) (disk : DiskState) (lines : List (List ℕ)) → IsUnderWay s disk lines lines s disk []
+begins s disk lines = record { done = []; all = refl; answered = none_lines s disk }
 
 -- one line more is answered
-pub goes_on : (lines left more : List (List ℕ)) (line : List ℕ) (log next : State) (out after : List ℕ) → IsUnderWay lines left log out
-    → left ≡ line ∷ more → AnswersLine log next line out after → IsUnderWay lines more next after
-goes_on lines left more line log next out after so_far split step =
-    let request : Request = request_of (without_return line) in
-    let here : requests_of left ≡ request ∷ requests_of more = ap (λ (ls : List (List ℕ)). map (λ l. request_of (without_return l)) ls) split in
-    record {
-      requests = so_far.requests ++ request ∷ [];
-      replies = so_far.replies ++ step.reply ∷ [];
-      all = append_assoc so_far.requests (request ∷ []) (requests_of more) ∙ ap (λ (rs : List Request). so_far.requests ++ rs) (sym here) ∙ so_far.all;
-      run = run_more first so_far.requests so_far.replies log request step.reply next so_far.run step.step;
-      text = step.text ∙ rw (so_far.text) (sym (text_more first so_far.requests so_far.replies log request step.reply so_far.run));
-    }
+pub goes_on : AreOwn → (s : State) (old : DiskState) (lines left more : List (List ℕ)) (line : List ℕ) (mid : State) (between : DiskState) (out : List ℕ) (t : State)
+    (new : DiskState) (after : List ℕ) → IsUnderWay s old lines left mid between out → left ≡ line ∷ more → AnswersLine mid between line out after t new
+    → IsUnderWay s old lines more t new after
+goes_on own s old lines left more line mid between out t new after so_far split step = record {
+  done = so_far.done ++ line ∷ [];
+  all = append_assoc so_far.done (line ∷ []) more ∙ ap (λ (ls : List (List ℕ)). so_far.done ++ ls) (sym split) ∙ so_far.all;
+  answered = subst (AnswersLines s old t new (so_far.done ++ line ∷ [])) (sym step.text)
+      (line_more own s old so_far.done line mid between out t new step.reply so_far.answered step.answered);
+}
 
 -- all lines are answered
-pub ends : (lines left : List (List ℕ)) (log : State) (out : List ℕ) → IsUnderWay lines left log out → left ≡ [] → IsAnswered lines out
-ends lines left log out so_far none =
-    let all : so_far.requests ≡ requests_of lines = sym (append-nil so_far.requests) ∙ rw none at so_far.all in record {
-      replies = so_far.replies;
-      last = log;
-      run = rw (← all) so_far.run;
-      text = rw (← all) so_far.text;
-    }
+pub ends : (s : State) (old : DiskState) (lines left : List (List ℕ)) (t : State) (new : DiskState) (out : List ℕ) → IsUnderWay s old lines left t new out → left ≡ []
+    → AnswersLines s old t new lines out
+ends s old lines left t new out so_far none =
+    let all : so_far.done ≡ lines = sym (append-nil so_far.done) ∙ ap (λ (ls : List (List ℕ)). so_far.done ++ ls) (sym none) ∙ so_far.all in
+    subst (λ (ls : List (List ℕ)). AnswersLines s old t new ls out) all so_far.answered
+
+-- one line more is answered, and its reply isn't written
+pub stops : AreOwn → (s : State) (old : DiskState) (lines left more : List (List ℕ)) (line : List ℕ) (mid : State) (between : DiskState) (out : List ℕ) (t : State)
+    (new : DiskState) → IsUnderWay s old lines left mid between out → left ≡ line ∷ more → AnswersUnwritten mid between line t new
+    → (done : List (List ℕ)) × ((rest : List (List ℕ)) × ((done ++ rest ≡ lines) × ((text : List ℕ) × AnswersLines s old t new done text)))
+stops own s old lines left more line mid between out t new so_far split step = (
+  so_far.done ++ line ∷ [],
+  (
+    more,
+    (
+      append_assoc so_far.done (line ∷ []) more ∙ ap (λ (ls : List (List ℕ)). so_far.done ++ ls) (sym split) ∙ so_far.all,
+      (_, line_more own s old so_far.done line mid between out t new step.reply so_far.answered step.answered),
+    ),
+  ),
+)

@@ -1,61 +1,78 @@
--- Which lines of a script are answered while no log is kept on a disk: appends without links and options, and reads that go forward.
-use Rattle.std.specs.Prelude.{ℕ, ◌+◌, Bool, true, false, not, ◌&&◌, ◌==◌, if◌then◌else◌, List, [], length, map, position}
-use Rattle.std.specs.Option.{option_map_or}
-use Rattle.clfs_lsn.specs.Lsn.{null_lsn}
-use Rattle.clfs_model.specs.declared.call.Call.{Call}
-use Rattle.clfs_model.specs.declared.call.Call.TheVariants as calls
-use Rattle.clfs_model.specs.declared.call.Draft.{Draft}
-use Rattle.clfs_model.specs.declared.call.Mode.{Mode}
-use Rattle.clfs_model.specs.declared.call.Mode.TheVariants.{Forward}
-use Rattle.clfs_model.specs.Run.{Request, asks, reopens, bad_line}
+-- How a log on a disk answers the lines of a script.
+use Rattle.std.specs.Prelude.{◌≡◌, ◌⊎◌, ℕ, ◌≤◌, Bool, true, false, List, ◌++◌, map}
+use Rattle.clfs_disk.specs.State.{DiskState, TellsContents, IsHonest, IsSteady, IsSettled, Later, Rises}
+use Rattle.clfs_model.specs.declared.refusal.Refusal.TheVariants as refusals
+use Rattle.clfs_model.specs.declared.reply.Reply.{Reply}
+use Rattle.clfs_model.specs.declared.reply.Reply.TheVariants as replies
+use Rattle.clfs_model.specs.declared.state.State.{State}
+use Rattle.clfs_model.specs.Happened.{happened_of}
 use Rattle.clfs_model.specs.Lines.{without_return}
-use Rattle.clfs_model.specs.Script.{line_request}
-
--- a record of these bytes without links, behind which its block is neither sealed nor flushed
-abbrev pub plain_draft : List ℕ → Draft
-plain_draft bytes = record { bytes = bytes; previous = null_lsn; undo_next = null_lsn; seal = false; flush = false }
-
--- an append of these bytes to an area, without links and options
-abbrev pub append_call : ℕ → List ℕ → Call
-append_call area bytes = calls.Append area (plain_draft bytes) false []
-
--- a read in an area that goes forward from an LSN
-abbrev pub read_call : ℕ → ℕ → Call
-read_call area lsn = calls.Read area lsn Forward
-
--- a draft without links, behind which its block is neither sealed nor flushed
-abbrev pub is_plain : Draft → Bool
-is_plain draft = (draft.previous == null_lsn) && (draft.undo_next == null_lsn) && not draft.seal && not draft.flush
-
--- an append without links and options
-abbrev pub is_plain_append : Draft → Bool → List ℕ → Bool
-is_plain_append draft reserved sizes = is_plain draft && not reserved && (length sizes == 0)
-
--- whether a read goes forward
-abbrev pub goes_forward : Mode → Bool
-goes_forward Forward = true
-goes_forward _ = false
-
--- the calls that are answered
-abbrev pub is_answered : Call → Bool
-is_answered (calls.Append area draft reserved sizes) = is_plain_append draft reserved sizes
-is_answered (calls.Read area lsn mode) = goes_forward mode
-is_answered _ = false
-
--- the byte behind the first space of a line, or the line's length where it has none
-abbrev pub second_word : List ℕ → ℕ
-second_word line = option_map_or (λ i. i + 1) (position (λ b. b == 32) line) (length line)
-
--- what is asked for, where that is answered; a line that the language has and that isn't answered is bad at this place
-abbrev pub answered_or_bad : ℕ → Request → Request
-answered_or_bad at (asks client call) = if is_answered call then asks client call else bad_line at
-answered_or_bad at (reopens client) = bad_line at
-answered_or_bad at (bad_line place) = bad_line place
-
--- What a line asks for, without a carriage return at its end. A line that isn't answered is bad at its second word.
-abbrev pub request_of : List ℕ → Request
-request_of line = answered_or_bad (second_word line) (line_request line)
+use Rattle.clfs_model.specs.Run.{Request, RequestStep, Run}
+use Rattle.clfs_model.specs.Script.{calls_and_reopening, line_request, requests_of_lines}
+use Rattle.clfs_model.specs.Step.{IsDamaged}
+use Rattle.clfs_model.specs.Storable.{IsStorable}
+use Rattle.clfs_model.specs.Text.{output_of, reply_line, client_of}
+use Rattle.clfs_model.specs.Valid.{IsValid}
+use Rattle.clfs_recover.specs.Files.{StandsFor, AreWholeFiles}
+use Rattle.clfs_manager.specs.Reopening.{HoldsFlushed}
+use Rattle.clfs_manager.specs.Written.{WritesDisk}
+use Rattle.clfs_engine.specs.Told.{has_fault, has_damage, has_broken}
 
 -- what lines ask for, each with its carriage return dropped
 abbrev pub requests_of : List (List ℕ) → List Request
-requests_of lines = map (λ line. request_of (without_return line)) lines
+requests_of lines = requests_of_lines calls_and_reopening lines
+
+-- One request was answered by a step of the log machine, in which that happened what the reply tells. Damage is told only over a disk that doesn't
+-- tell what its files hold.
+pub record AnswersOne (s : State) (old : DiskState) (request : Request) (reply : Reply) (t : State) (new : DiskState) : Type 0 where
+  pub step : RequestStep old.nature.tells_contents s request (happened_of reply) reply t
+  pub damage : TellsContents old → IsDamaged reply → ⊥
+  pub writes : WritesDisk (reply ≡ replies.Refused refusals.DiskFault) old new
+
+-- one line was answered, and its reply stands behind the output
+pub record AnswersLine (s : State) (old : DiskState) (line before after : List ℕ) (t : State) (new : DiskState) : Type 0 where
+  pub reply : Reply
+  pub answered : AnswersOne s old (line_request (without_return line)) reply t new
+  pub text : after ≡ before ++ reply_line (client_of (line_request (without_return line))) reply
+
+-- one line was answered, and memory ran out behind that
+pub record AnswersUnwritten (s : State) (old : DiskState) (line : List ℕ) (t : State) (new : DiskState) : Type 0 where
+  pub reply : Reply
+  pub answered : AnswersOne s old (line_request (without_return line)) reply t new
+
+-- Requests were answered, one after the other, by a run of the log machine, in whose steps that happened what the replies tell.
+pub record AnswersAll (s : State) (old : DiskState) (requests : List Request) (answers : List Reply) (t : State) (new : DiskState) : Type 0 where
+  pub run : Run old.nature.tells_contents s requests (map happened_of answers) answers t
+  pub time : Later old new
+  -- a fault is told only where the disk failed, and damage only over a disk that doesn't tell what its files hold
+  pub cause : has_fault answers ≡ true → Rises old.faults new.faults
+  pub damage : TellsContents old → has_damage answers ≡ false
+  -- the log is broken only by these
+  pub unbroken : TellsContents old → s.broken ≡ false → has_fault answers ≡ false → (t.broken ≡ false) × (has_broken answers ≡ false)
+  -- files at full length stay so, and no fault comes over a steady disk that has such files
+  pub whole : TellsContents old → has_fault answers ≡ false → AreWholeFiles old.files → AreWholeFiles new.files
+  pub steady : IsSteady old → TellsContents old → AreWholeFiles old.files → has_fault answers ≡ false
+
+-- The lines were answered, and this text is the replies, a line each.
+pub record AnswersLines (s : State) (old : DiskState) (t : State) (new : DiskState) (lines : List (List ℕ)) (text : List ℕ) : Type 0 where
+  pub answers : List Reply
+  pub answered : AnswersAll s old (requests_of lines) answers t new
+  pub is : text ≡ output_of (requests_of lines) answers
+
+-- The log on a disk was opened with so many write buffers, its lines were answered, and it was closed; this text is the replies.
+pub record IsAnswered (buffers : ℕ) (old new : DiskState) (lines : List (List ℕ)) (text : List ℕ) : Type 0 where
+  pub first : State
+  pub last : State
+  pub answers : List Reply
+  -- it begins at the state for which the files stand; over a disk that doesn't tell what its files hold, at some state that files can stand for
+  pub stands : TellsContents old → StandsFor old.files first
+  pub buffers_are : first.buffers ≡ buffers
+  pub valid : IsValid first
+  pub storable : IsStorable first
+  pub begins : first.broken ≡ false
+  -- the replies are those of a run of the log machine, and so is the text
+  pub answered : AnswersAll first old (requests_of lines) answers last new
+  pub is : text ≡ output_of (requests_of lines) answers
+  -- where no line is answered that the disk failed, the files hold the flushed part of the last state, and nothing is pending
+  pub files : TellsContents old → has_fault answers ≡ false → HoldsFlushed new.files last
+  pub settled : IsHonest old → has_fault answers ≡ false → IsSettled new

@@ -1,11 +1,16 @@
 -- What a line that was read stands for.
-use Rattle.clfs_model.specs.Run.{Request, asks, bad_line}
-use Rattle.clfs_engine.specs.Answered.{append_call, read_call}
+use Rattle.clfs_model.specs.Run.{Request, asks, reopens, bad_line}
+use Rattle.clfs_model.specs.Conditions.{MeetsCondition}
 use Rattle.clfs_engine.specs.declared.asking.Asked.{Asked}
-use Rattle.clfs_engine.specs.declared.asking.Asked.TheVariants.{Append, Read, Nothing}
+use Rattle.clfs_engine.specs.declared.asking.Asked.TheVariants.{Step, Reopen, Nothing}
 
 -- what it asks for
 abbrev pub request : Asked → Request
-request (Append client area bytes) = asks client (append_call area bytes)
-request (Read client area lsn) = asks client (read_call area lsn)
+request (Step client call) = asks client call
+request (Reopen client) = reopens client
 request (Nothing at) = bad_line at
+
+-- A call that is asked for meets its condition.
+abbrev pub Meets : Request → Type 0
+Meets (asks client call) = MeetsCondition client call
+Meets _ = Unit {0}

@@ -8,7 +8,7 @@ use Rattle.clfs_disk.specs.State.{DiskState, TellsContents, IsHonest, IsSettled,
 use Rattle.clfs_model.specs.State.{fresh}
 use Rattle.clfs_recover.specs.Files.{StandsFor, AreWholeFiles}
 use Rattle.clfs_manager.specs.Formatting.{open_slot_of, ComesAtOnce}
-use Rattle.clfs_engine.specs.Ends.{AppendsFront}
+use Rattle.clfs_engine.specs.Ends.{AppendsFront, disk_fault_text}
 
 -- the line for a log that was made
 abbrev pub formatted_text : List ℕ
@@ -17,10 +17,6 @@ formatted_text = codes "formatted\n"
 -- the line for a folder in which a log is
 abbrev pub exists_text : List ℕ
 exists_text = codes "a log is there\n"
-
--- the line for a disk that failed
-abbrev pub disk_fault_text : List ℕ
-disk_fault_text = codes "disk fault\n"
 
 -- one of these lines
 abbrev pub IsFormatText : List ℕ → Type 0

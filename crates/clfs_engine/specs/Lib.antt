@@ -1,9 +1,9 @@
+pub mod Told
 pub mod Answered
 pub mod Asked
-pub mod Replies
-pub mod MemoryLog
 pub mod Taken
 pub mod Ends
+pub mod Opened
 pub mod Serve
 pub mod Format
 pub mod Worked

@@ -1,5 +1,5 @@
 -- What a source gave of a script, and which of its lines are answered.
-use Rattle.std.specs.Prelude.{◌≡◌, ℕ, Bool, nat_le, true, false, List, length, take, take_while, Option}
+use Rattle.std.specs.Prelude.{◌≡◌, ◌⊎◌, ℕ, Bool, nat_le, true, false, List, [], ◌++◌, length, take, take_while, Option}
 use Rattle.std.specs.Io.KnownBytes.{Consumes, IsAtEnd}
 use Rattle.clfs_model.specs.Lines.{lines_of}
 use Rattle.clfs_model.specs.Accepted.{serve_limits, is_within, ended_lines}
@@ -34,3 +34,19 @@ pub record IsWholeScript (left left_after : Option (List ℕ)) (script : List �
 pub record IsPastLimit (left left_after : Option (List ℕ)) (bytes : List ℕ) : Type 0 where
   pub given : Consumes left left_after bytes
   pub past : is_within serve_limits bytes ≡ false
+
+-- lines that stand at the front of others
+pub record IsFrontOf (all lines : List (List ℕ)) : Type 0 where
+  pub rest : List (List ℕ)
+  pub front : lines ++ rest ≡ all
+
+-- Lines that stand at the front of those that a source gave.
+pub record AreFrontLines (left left_after : Option (List ℕ)) (lines : List (List ℕ)) : Type 0 where
+  pub end : End
+  pub bytes : List ℕ
+  pub given : Consumes left left_after bytes
+  pub front : IsFrontOf (short_lines end bytes) lines
+
+-- lines up to which it was come: none, or some at the front of those that a source gave
+abbrev pub AreReached : Option (List ℕ) → Option (List ℕ) → List (List ℕ) → Type 0
+AreReached left left_after lines = (lines ≡ []) ⊎ AreFrontLines left left_after lines

@@ -26,16 +26,16 @@ pub fn run<S: Source, K: Sink, D: Disk + Drop>(
     disk: D,
 ) -> Outcome<D>
     ensures serves { (buffers : ℕ) → command_of (map string_bytes words.now) ≡ Some (Serve buffers)
-        → EndsServing result.status (S.left source.old) (S.left source.new)
+        → EndsServing result.status buffers (D.state disk) (D.state result.disk) (S.left source.old) (S.left source.new)
         (K.written sink.old) (K.written sink.new) (S.faults source.old) (S.faults source.new) (K.faults sink.old) (K.faults sink.new) }
     ensures formats { (shape : Shape) (containers : ℕ) → command_of (map string_bytes words.now) ≡ Some (Format shape containers)
         → EndsFormat result.status shape containers (D.state disk) (D.state result.disk)
         (K.written sink.old) (K.written sink.new) (K.faults sink.old) (K.faults sink.new) }
     ensures usage { command_of (map string_bytes words.now) ≡ None → EndsByUsage result.status (K.written sink.old) (K.written sink.new)
         (K.faults sink.old) (K.faults sink.new) }
-    // Only a script is read from the source, and only a log that is made calls the disk.
+    // Only a script is read from the source, and only a command calls the disk.
     ensures unread { ((buffers : ℕ) → command_of (map string_bytes words.now) ≢ Some (Serve buffers)) → source.new ≡ source.old }
-    ensures unmade { ((shape : Shape) (containers : ℕ) → command_of (map string_bytes words.now) ≢ Some (Format shape containers)) → result.disk ≡ disk }
+    ensures untouched { command_of (map string_bytes words.now) ≡ None → result.disk ≡ disk }
 {
     match read_command(alloc, words) {
         Ok(Command::Serve { write_buffers }) => serve(alloc, write_buffers, source, sink, disk),

@@ -18,6 +18,9 @@ pub const DISK_FAULT: u8 = 4;
 /// Memory ran out.
 pub const NO_MEMORY: u8 = 5;
 
+/// The files of the folder aren't a log's.
+pub const NOT_A_LOG: u8 = 6;
+
 /// More bytes came than a script may have, or a line was too long.
 pub const INPUT_TOO_LONG: u8 = 7;
 

@@ -80,3 +80,8 @@ pub mod Turns
 pub mod CutPlaces
 pub mod OpenEnds
 pub mod CutSurvives
+pub mod LaidStates
+pub mod LaidPuts
+pub mod ReadiedLogs
+pub mod RoomFound
+pub mod QuietAppends

@@ -2,40 +2,39 @@
 use Rattle.std.proofs.Common.{◌≡◌, ℕ, ◌+◌, ◌*◌, ◌≤◌, sym, ap, subst, inl, inr, arith}
 use Rattle.std.specs.List.{Any}
 use Rattle.clfs_lsn.specs.Lsn.{container_of, offset_of}
-use Rattle.clfs_lsn.specs.Size.{sectors}
+use Rattle.clfs_lsn.specs.Size.{IsShape, sectors}
 use Rattle.clfs_lsn.specs.Place.{frontier, block_end}
 use Rattle.clfs_lsn.specs.declared.place.Place.{Place}
 use Rattle.clfs_lsn.specs.declared.entry.LogEntry.{LogEntry}
 use Rattle.clfs_model.specs.declared.state.State.{State}
 use Rattle.clfs_model.specs.Archive.{end_of_block}
 use Rattle.clfs_model.specs.Storable.{HasBlocks, GoesOnAt, before_all, behind_all}
-use Rattle.clfs_model.specs.Valid.{IsValid}
 use Rattle.clfs_laws.proofs.BlockSums.{paid, IsPaid, paid_last}
 use Rattle.clfs_laws.proofs.CutPlaces.{any_among}
 
 -- where a block is open, the log's place is right behind its records
-paid_here : (s : State) → IsValid s → HasBlocks s → 1 ≤ s.place.records → IsPaid s.shape s.place s.records
-paid_here s valid blocks some = by_place blocks.place
+paid_here : (s : State) → IsShape s.shape → HasBlocks s → 1 ≤ s.place.records → IsPaid s.shape s.place s.records
+paid_here s is blocks some = by_place blocks.place
   where
     last : Place
     last = behind_all before_all s.records
 
     by_place : GoesOnAt last s.place → IsPaid s.shape s.place s.records
-    by_place (inl same) = subst (λ (p : Place). IsPaid s.shape p s.records) (sym same) (paid_last s.shape s.records valid.ranges.shape blocks.laid)
+    by_place (inl same) = subst (λ (p : Place). IsPaid s.shape p s.records) (sym same) (paid_last s.shape s.records is blocks.laid)
     by_place (inr (inl same)) = absurd (let none : s.place.records ≡ 0 = ap (λ (p : Place). p.records) same in omega (arith, none, some))
     by_place (inr (inr further)) = absurd (let none : s.place.records ≡ 0 = ap (λ (p : Place). p.records) further.1 in omega (arith, none, some))
 
 -- the record that was put last
-pub newest_there : (s : State) → IsValid s → HasBlocks s → 1 ≤ s.place.records → Any (λ (entry : LogEntry). entry.lsn + 1 ≡ frontier s.place) s.records
-newest_there s valid blocks some =
-    let newest = (paid_here s valid blocks some).newest some in
+pub newest_there : (s : State) → IsShape s.shape → HasBlocks s → 1 ≤ s.place.records → Any (λ (entry : LogEntry). entry.lsn + 1 ≡ frontier s.place) s.records
+newest_there s is blocks some =
+    let newest = (paid_here s is blocks some).newest some in
     any_among (λ (entry : LogEntry). entry.lsn + 1 ≡ frontier s.place) s.records newest.0 newest.1 newest.2
 
 -- the end of the open block, by its records
-pub ends_at_place : (s : State) → IsValid s → HasBlocks s → 1 ≤ s.place.records → (lsn : ℕ) → container_of lsn ≡ s.place.container → offset_of lsn ≡ s.place.offset
+pub ends_at_place : (s : State) → IsShape s.shape → HasBlocks s → 1 ≤ s.place.records → (lsn : ℕ) → container_of lsn ≡ s.place.container → offset_of lsn ≡ s.place.offset
     → end_of_block s.records lsn ≡ 512 * block_end s.place
-ends_at_place s valid blocks some lsn of_container of_offset =
-    let has = paid_here s valid blocks some in
+ends_at_place s is blocks some lsn of_container of_offset =
+    let has = paid_here s is blocks some in
     let used = has.used some in
     let F : ℕ → ℕ → Type 0 = λ c o. o + 512 * sectors (16 + paid c o s.records) ≡ 512 * block_end s.place in
     let G : ℕ → Type 0 = λ c. F c s.place.offset in

@@ -80,7 +80,7 @@ appended_records s area draft is_reserved sizes =
     flush_if_records draft.flush (seal_if draft.seal held) ∙ seal_if_records draft.seal held ∙ spend_records area is_reserved n sizes joined
     ∙ put_records s (need_of is_reserved n sizes) (plain_record area draft)
 
-rebased_records : (stream base : ℕ) (s : State) → (rebased stream base s).records ≡ s.records
+pub rebased_records : (stream base : ℕ) (s : State) → (rebased stream base s).records ≡ s.records
 rebased_records stream base s = elim (cases_Bool (base == 0)) [ inl none ↦ rw none refl | inr some ↦ rw some refl ]
 
 pub restarted_records : (s : State) (area : Area) (bytes : List ℕ) (base : ℕ) (is_reserved : Bool)

@@ -131,7 +131,7 @@ appended_streams s area draft is_reserved sizes =
     ∙ spent_streams is_reserved area n joined ∙ of_restarts.put_streams g (plain_record area draft) ∙ grown_streams s (need_of is_reserved n sizes)
 
 -- the records with one more
-bases_push : (s t : State) (entry : LogEntry) → t.records ≡ s.records ++ entry ∷ [] → BasesRise s t → HasMovedBase t entry
+pub bases_push : (s t : State) (entry : LogEntry) → t.records ≡ s.records ++ entry ∷ [] → BasesRise s t → HasMovedBase t entry
     → All (HasMovedBase s) s.records
     → All (HasMovedBase t) t.records
 bases_push s t entry records rise is all =
@@ -156,7 +156,7 @@ flushed_streams s area bytes base is_reserved =
     ∙ grown_streams s (need_of is_reserved n [])
 
 -- what a restart area's base does
-record MovesBase (s t : State) (stream base : ℕ) : Type 0 where
+pub record MovesBase (s t : State) (stream base : ℕ) : Type 0 where
   pub rise : BasesRise s t
   pub moved : base ≤ base_of t stream
 
@@ -173,7 +173,7 @@ moves_by s u stream base false is streams there based =
     subst F (sym streams) (record { rise = λ number. rise number; moved = omega (arith, set) })
 
 -- a new base that a stream allows moves there, and no other base falls
-moves : (s u : State) (stream base : ℕ) → u.streams ≡ s.streams → IsSome (stream_at s stream)
+pub moves : (s u : State) (stream base : ℕ) → u.streams ≡ s.streams → IsSome (stream_at s stream)
     → ((base == null_lsn) ≡ false → base_of s stream ≤ base) → MovesBase s (rebased stream base u) stream base
 moves s u stream base streams there based = moves_by s u stream base (base == null_lsn) refl streams there based
 

@@ -44,7 +44,7 @@ blocks_as s t shape records place blocks =
     }
 
 -- a record that needs a further container finds one that has an id
-next_id : (s : State) (n : ℕ) → IsSound s → TakesRecord s n → begins_here s.shape s.place n ≡ false → s.place.container + 1 < 2 ^ 32
+pub next_id : (s : State) (n : ℕ) → IsSound s → TakesRecord s n → begins_here s.shape s.place n ≡ false → s.place.container + 1 < 2 ^ 32
 next_id s n sound takes beyond =
     let long = own_fits s.shape.block_sectors n sound.ranges.shape.some_sectors takes.short in
     let left : s.shape.container_sectors - block_end s.place < own n = grind (arith, nat_tests, beyond) in
@@ -75,7 +75,7 @@ pub put_shape : (s : State) (entry : LogEntry) → (put s entry).shape ≡ s.sha
 put_shape s entry = put_by_shape (joins s.shape s.place (length entry.bytes)) (begins_here s.shape s.place (length entry.bytes)) s entry
 
 -- a record that is put lies behind the others
-blocks_put : HasSpaceLaws → (s : State) (entry : LogEntry) → IsSound s → TakesRecord s (length entry.bytes)
+pub blocks_put : HasSpaceLaws → (s : State) (entry : LogEntry) → IsSound s → TakesRecord s (length entry.bytes)
     → IsJoining s (placed entry (next_lsn s (length entry.bytes)))
     → HasBlocks s → HasBlocks (put s entry)
 blocks_put space s entry sound takes joining blocks =
@@ -126,7 +126,7 @@ blocks_flushed_to s lsn blocks = elim (cases_Bool (nat_lt lsn (flushed s))) [
 pub blocks_grown : (s : State) (need : ℕ) → HasBlocks s → HasBlocks (grown s need)
 blocks_grown s need blocks = subst HasBlocks (sym (grown_is s need)) (blocks_as s (with_containers (grown s need).containers s) refl refl refl blocks)
 
-blocks_spent : (is_reserved : Bool) (area : Area) (n : ℕ) (s : State) → HasBlocks s → HasBlocks (spend_if is_reserved area n s)
+pub blocks_spent : (is_reserved : Bool) (area : Area) (n : ℕ) (s : State) → HasBlocks s → HasBlocks (spend_if is_reserved area n s)
 blocks_spent false area n s blocks = blocks
 blocks_spent true area n s blocks = blocks_as s (spend_if true area n s) refl refl refl blocks
 

@@ -136,7 +136,7 @@ pub limits_released : (s : State) (area : Area) (sectors : ℕ) → IsWithinLimi
     → IsWithinLimits (change_area (with_less_held sectors) area.client area.number s)
 limits_released s area sectors limits = limits_held s (with_less_held sectors) area.client area.number (less_held sectors) limits
 
-limits_spent : (is_reserved : Bool) (area : Area) (n : ℕ) (s : State) → IsWithinLimits s → IsWithinLimits (spend_if is_reserved area n s)
+pub limits_spent : (is_reserved : Bool) (area : Area) (n : ℕ) (s : State) → IsWithinLimits s → IsWithinLimits (spend_if is_reserved area n s)
 limits_spent false area n s limits = limits
 limits_spent true area n s limits = limits_released s area _ limits
 
@@ -169,7 +169,7 @@ limits_flushed_to s lsn limits = elim (cases_Bool (nat_lt lsn (flushed s))) [
   | inr above ↦ rw above (limits_flush s limits)
 ]
 
-limits_put : (s : State) (entry : LogEntry) → IsWithinLimits s → IsWithinLimits (put s entry)
+pub limits_put : (s : State) (entry : LogEntry) → IsWithinLimits s → IsWithinLimits (put s entry)
 limits_put s entry limits = limits_as s (put s entry) _ (put_streams s entry) (put_areas s entry) refl limits
 
 -- an append
@@ -203,7 +203,7 @@ limits_set s number lsn limits = let t : State = record s { streams = set_base n
 pub limits_advanced : (s : State) (stream lsn : ℕ) → IsWithinLimits s → IsWithinLimits (advanced s stream lsn)
 limits_advanced s stream lsn limits = limits_set (flush s) stream lsn (limits_flush s limits)
 
-limits_rebased : (stream base : ℕ) (s : State) → IsWithinLimits s → IsWithinLimits (rebased stream base s)
+pub limits_rebased : (stream base : ℕ) (s : State) → IsWithinLimits s → IsWithinLimits (rebased stream base s)
 limits_rebased stream base s limits = elim (cases_Bool (base == null_lsn)) [
   | inl none ↦ rw none limits
   | inr some ↦ rw some (limits_set s stream base limits)

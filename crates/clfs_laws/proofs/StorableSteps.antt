@@ -89,7 +89,7 @@ opened_by s name None limits storable =
     storable_with s (record s { streams = s.streams ++ new ∷ [] }) refl refl refl (bases_of_more s new) limits storable
 
 -- sectors that are reserved
-hold_keeps : (area : Area) (sizes : List ℕ) (s : State) → IsStorable s → IsStorable (hold_sizes area sizes s)
+pub hold_keeps : (area : Area) (sizes : List ℕ) (s : State) → IsStorable s → IsStorable (hold_sizes area sizes s)
 hold_keeps area [] s storable = storable
 hold_keeps area (size ∷ sizes) s storable =
     storable_areas s (hold_sizes area (size ∷ sizes) s).areas (limits_hold area (size ∷ sizes) s storable.limits) storable

@@ -63,7 +63,7 @@ turn_behind s t u shape container turn =
     let F : ℕ → Type 0 = λ c. (c ≡ s.place.container) ⊎ ((c ≡ s.place.container + 1) × (1 ≤ block_end s.place)) in
     record { shape = shape ∙ turn.shape; container = subst F (sym container) turn.container }
 
-seal_container : (s : State) → (seal s).place.container ≡ s.place.container
+pub seal_container : (s : State) → (seal s).place.container ≡ s.place.container
 seal_container s = elim (cases_Bool (nat_lt 0 s.place.records)) [ inl some ↦ rw some refl | inr none ↦ rw none refl ]
 
 turn_seal_if : (s t : State) (asked : Bool) → IsTurn s t → IsTurn s (seal_if asked t)

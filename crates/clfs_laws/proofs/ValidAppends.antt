@@ -33,7 +33,7 @@ use Rattle.clfs_laws.proofs.ValidPuts.{TakesRecord, placed, put_by, sound_put}
 use Rattle.clfs_laws.proofs.Links.{link_below, next_above}
 
 -- a record that is no restart area is put into a valid log
-valid_put : HasSpaceLaws → (s : State) (entry : LogEntry) → IsValid s → TakesRecord s (length entry.bytes) → IsJoining s (placed entry (next_lsn s (length entry.bytes)))
+pub valid_put : HasSpaceLaws → (s : State) (entry : LogEntry) → IsValid s → TakesRecord s (length entry.bytes) → IsJoining s (placed entry (next_lsn s (length entry.bytes)))
     → entry.kind ≡ Plain → IsValid (put s entry)
 valid_put space s entry valid takes joining plain =
     let t = put s entry in
@@ -42,10 +42,10 @@ valid_put space s entry valid takes joining plain =
     (restarts_still s t is.more valid.stable.restarts) (λ restart. absurd (cc (plain, restart))))
 
 -- sealing, flushing and putting don't look at areas
-seal_with_areas : (s : State) (areas : List Area) → seal (record s { areas = areas }) ≡ record (seal s) { areas = areas }
+pub seal_with_areas : (s : State) (areas : List Area) → seal (record s { areas = areas }) ≡ record (seal s) { areas = areas }
 seal_with_areas s areas = elim (cases_Bool (nat_lt 0 s.place.records)) [ inl some ↦ rw some refl | inr none ↦ rw none refl ]
 
-flush_with_areas : (s : State) (areas : List Area) → flush (record s { areas = areas }) ≡ record (flush s) { areas = areas }
+pub flush_with_areas : (s : State) (areas : List Area) → flush (record s { areas = areas }) ≡ record (flush s) { areas = areas }
 flush_with_areas s areas = ap (λ (t : State). record t { waiting = [] }) (seal_with_areas s areas)
 
 put_by_with_areas : (joining beginning : Bool) (s : State) (areas : List Area) (entry : LogEntry) → put_by joining beginning (record s { areas = areas }) entry ≡ record (put_by joining beginning s entry) { areas = areas }
@@ -75,7 +75,7 @@ put_by_containers true beginning s entry = refl
 put_by_containers false true s entry = seal_containers s
 put_by_containers false false s entry = seal_containers s
 
-put_containers : (s : State) (entry : LogEntry) → (put s entry).containers ≡ s.containers
+pub put_containers : (s : State) (entry : LogEntry) → (put s entry).containers ≡ s.containers
 put_containers s entry = put_by_containers (joins s.shape s.place (length entry.bytes)) (begins_here s.shape s.place (length entry.bytes)) s entry
 
 -- a record that a call may append through an area
@@ -120,7 +120,7 @@ spent s client number area entry true more valid may =
     (with_less_held (own n) area, (subst G (sym name.0) (subst H (sym name.1) here), (refl, refl)))
 
 -- an area is named by its client and its number
-hold_named : (a b : Area) (sizes : List ℕ) (s : State) → a.client ≡ b.client → a.number ≡ b.number → hold_sizes a sizes s ≡ hold_sizes b sizes s
+pub hold_named : (a b : Area) (sizes : List ℕ) (s : State) → a.client ≡ b.client → a.number ≡ b.number → hold_sizes a sizes s ≡ hold_sizes b sizes s
 hold_named a b [] s clients numbers = refl
 hold_named a b (size ∷ sizes) s clients numbers =
     let change : Area → Area = with_more_held (own_sum (size ∷ sizes)) in

@@ -220,7 +220,7 @@ sound_sealed s waiting sound waits more =
     })
 
 -- nothing waits
-none_waits : (s : State) (records : List LogEntry) (place : Place) → 1 ≤ s.buffers → HasWaiting (moved s records place [])
+pub none_waits : (s : State) (records : List LogEntry) (place : Place) → 1 ≤ s.buffers → HasWaiting (moved s records place [])
 none_waits s records place some = record {
   few = omega (arith, some);
   rising = λ k within. absurd (omega (arith, within));

@@ -95,7 +95,7 @@ readied_seal s sound = let same = sealed_fields s sound in record {
   more = flushed_seal s sound;
 }
 
-readied_flush : (s : State) → IsSound s → IsReadied s (flush s)
+pub readied_flush : (s : State) → IsSound s → IsReadied s (flush s)
 readied_flush s sound =
     let same = sealed_fields s sound in
     let ready = ready_seal s sound in
@@ -116,7 +116,7 @@ pub record TakesRecord (s : State) (n : ℕ) : Type 0 where
   pub short : n ≤ longest s.shape
   pub room : reserved s + own n ≤ free s
 
-has_room_for : (s : State) (n : ℕ) → IsSound s → TakesRecord s n → HasRoom s.shape s.place (hold s) s.containers n
+pub has_room_for : (s : State) (n : ℕ) → IsSound s → TakesRecord s n → HasRoom s.shape s.place (hold s) s.containers n
 has_room_for s n sound takes = record {
   is_shape = sound.ranges.shape;
   is_within = sound.ranges.place;
@@ -126,7 +126,7 @@ has_room_for s n sound takes = record {
 }
 
 -- the sectors that a place has by the hold of a log that was made ready
-free_readied : (s m : State) (place : Place) → IsReadied s m → free_sectors m.shape place (hold m) m.containers ≡ free_sectors s.shape place (hold s) s.containers
+pub free_readied : (s m : State) (place : Place) → IsReadied s m → free_sectors m.shape place (hold m) m.containers ≡ free_sectors s.shape place (hold s) s.containers
 free_readied s m place is =
     free_by m.shape place m.containers (hold m) (hold s) is.hold
     ∙ ap (λ (shape : Shape). free_sectors shape place (hold s) m.containers) is.shape
@@ -192,7 +192,7 @@ put_begun s m entry container sector sound takes is joining some fits above wait
     subst G is.records result
 
 -- a record that doesn't fit into its container finds the next one
-next_used : (s : State) (n : ℕ) → IsSound s → TakesRecord s n → begins_here s.shape s.place n ≡ false → active_containers (begun (s.place.container + 1) 0 n) (hold s) ≤ s.containers
+pub next_used : (s : State) (n : ℕ) → IsSound s → TakesRecord s n → begins_here s.shape s.place n ≡ false → active_containers (begun (s.place.container + 1) 0 n) (hold s) ≤ s.containers
 next_used s n sound takes beyond =
     let long = own_fits s.shape.block_sectors n sound.ranges.shape.some_sectors takes.short in
     let left : s.shape.container_sectors - block_end s.place < own n = grind (arith, nat_tests, beyond) in

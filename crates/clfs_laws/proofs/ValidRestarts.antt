@@ -58,7 +58,7 @@ after_above shape place n true beginning is within = omega arith
 after_above shape place n false true is within = omega (arith, frontier_sealed shape place within)
 after_above shape place n false false is within = omega (arith, small_offset shape place is within, few_records shape place within)
 
-put_above : (s : State) (entry : LogEntry) → IsSound s → frontier s.place ≤ frontier (put s entry).place
+pub put_above : (s : State) (entry : LogEntry) → IsSound s → frontier s.place ≤ frontier (put s entry).place
 put_above s entry sound =
     after_above s.shape s.place (length entry.bytes) (joins s.shape s.place (length entry.bytes)) (begins_here s.shape s.place (length entry.bytes)) sound.ranges.shape sound.ranges.place
 
@@ -191,7 +191,7 @@ restart_joined space s client number area entry is_reserved valid may =
       streams = spend_streams is_reserved area n (put s entry) ∙ put_streams s entry;
     }
 
-rebased_by : (s t : State) (stream base : ℕ) (none : Bool) → (base == null_lsn) ≡ none → IsValid s → ((base == null_lsn) ≡ false → is_base s stream base ≡ true)
+pub rebased_by : (s t : State) (stream base : ℕ) (none : Bool) → (base == null_lsn) ≡ none → IsValid s → ((base == null_lsn) ≡ false → is_base s stream base ≡ true)
     → IsSome (stream_at s stream) → IsValid t → t.streams ≡ s.streams → frontier s.place ≤ flushed t
     → IsValid (if none then t else record t { streams = set_base stream base t.streams })
 rebased_by s t stream base true is valid_s based there valid same above = valid

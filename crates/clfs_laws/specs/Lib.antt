@@ -6,3 +6,4 @@ pub mod Rows
 pub mod Cursors
 pub mod Stable
 pub mod Meets
+pub mod Between

@@ -3,6 +3,7 @@
 #![tactic(auto)]
 
 mod areas;
+mod between;
 mod journals;
 mod reading;
 mod refusals;
@@ -15,6 +16,11 @@ mod survivors;
 mod validity;
 
 pub use areas::{held_is_by_own_entries, own_entries_cover_an_append, rows_are_by_own_entries};
+pub use between::{
+    areas_hold_sectors, calls_that_pass_find_room, growth_keeps_a_log_whole, logs_are_made_ready,
+    quiet_appends_want_no_disk, records_are_put, seals_and_flushes_keep_a_log,
+    small_changes_make_the_calls,
+};
 pub use journals::{flushed_never_falls, fronts_are_legal, journals_join, numbers_count_up};
 pub use reading::{reading_gives_the_chain, reading_on_gives_all, restart_areas_come_newest_first};
 pub use refusals::{broken_stays, faults_break, opening_anew_ends_areas, refusals_change_nothing};
@@ -28,8 +34,8 @@ pub use steps::{
     refusals_are_the_calls_own, steps_only_add_records,
 };
 pub use storable::{
-    first_states_are_storable, numbers_fit_their_types, open_blocks_end_at_the_place,
-    steps_keep_a_state_storable,
+    first_states_are_storable, laid_blocks_end_at_the_place, numbers_fit_their_types,
+    open_blocks_end_at_the_place, steps_keep_a_state_storable,
 };
 pub use survivors::{
     opening_anew_survives_as_the_cut, quiet_calls_survive_as_the_cut,

@@ -24,6 +24,7 @@ ghost use Rattle.clfs_model.specs.State.{fresh};
 ghost use Rattle.clfs_model.specs.Step.{Step, ReopenStep};
 ghost use Rattle.clfs_model.specs.Storable.{IsStorable};
 ghost use Rattle.clfs_model.specs.Valid.{IsValid};
+ghost use Rattle.clfs_laws.specs.Between.{IsLaid};
 ghost use Rattle.clfs_laws.specs.Meets.{RequestMeets};
 
 use clfs_space::space_laws;
@@ -76,5 +77,12 @@ pub fn open_blocks_end_at_the_place()
     ensures newest { (s : State) → IsValid s → IsStorable s → 1 ≤ s.place.records
         → Any (λ (entry : LogEntry). entry.lsn + 1 ≡ frontier s.place) s.records }
     ensures end { (s : State) → IsValid s → IsStorable s → 1 ≤ s.place.records → (lsn : ℕ) → container_of lsn ≡ s.place.container
+        → offset_of lsn ≡ s.place.offset → end_of_block s.records lsn ≡ 512 * block_end s.place }
+{}
+
+/// The same where only the restart area that was put last keeps the state from being one that a log can be in.
+pub fn laid_blocks_end_at_the_place()
+    ensures newest { (s : State) → IsLaid s → 1 ≤ s.place.records → Any (λ (entry : LogEntry). entry.lsn + 1 ≡ frontier s.place) s.records }
+    ensures end { (s : State) → IsLaid s → 1 ≤ s.place.records → (lsn : ℕ) → container_of lsn ≡ s.place.container
         → offset_of lsn ≡ s.place.offset → end_of_block s.records lsn ≡ 512 * block_end s.place }
 {}

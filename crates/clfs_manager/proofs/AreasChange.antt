@@ -22,7 +22,7 @@ use Rattle.clfs_manager.specs.Memory.{Holds, ChangesAreas}
 use Rattle.clfs_manager.specs.OnDisk.{IsStored, AreKept, IsOpen, IsManaged}
 
 -- the state with other areas
-abbrev with_areas : State → List Area → State
+abbrev pub with_areas : State → List Area → State
 with_areas s areas = record s { areas = areas }
 
 stored_still : (s : State) (areas : List Area) (newest : Newest) (blocks : Blocks) → IsStored s newest blocks → IsStored (with_areas s areas) newest blocks
@@ -38,7 +38,7 @@ kept_still : (s : State) (areas : List Area) (kept : Buffered) → AreKept s kep
 kept_still s areas kept are = record { stable = are.stable; records = are.records }
 
 -- what memory has of the state but for its areas
-holds_still : (old new : Log) (areas : List Area) → ChangesAreas old new → new.areas.areas ≡ areas
+pub holds_still : (old new : Log) (areas : List Area) → ChangesAreas old new → new.areas.areas ≡ areas
     → Holds old.state.value old → Holds (with_areas old.state.value areas) new
 holds_still old new areas changes are holds = record {
   shape = ap (λ (q : Queued). q.shape) changes.queue ∙ holds.shape;
@@ -58,6 +58,7 @@ holds_still old new areas changes are holds = record {
   image_shape = rw changes.physical holds.image_shape;
   rows = rw changes.physical holds.rows;
   listed = rw changes.physical holds.listed;
+  needed = rw changes.physical holds.needed;
 }
 
 -- the log is open as before
@@ -70,6 +71,7 @@ open_after disk old new changes opened =
       stored = stored_still s new.state.value.areas new.physical opened.blocks (rw changes.physical opened.stored);
       files = rw changes.physical opened.files;
       kept = λ (tells : TellsContents disk). kept_still s new.state.value.areas new.buffers (rw changes.buffers (opened.kept tells));
+      settled = opened.settled;
     })
 
 -- that each step leaves a valid state

@@ -9,12 +9,14 @@ use Rattle.clfs_lsn.specs.declared.entry.LogEntry.{LogEntry}
 use Rattle.clfs_lsn.specs.declared.place.Place.{Place}
 use Rattle.clfs_lsn.specs.declared.shape.Shape.{Shape}
 use Rattle.clfs_container.specs.OpenBlocks.{total}
+use Rattle.clfs_laws.specs.Between.{IsLaid}
 use Rattle.clfs_model.specs.declared.state.State.{State}
 use Rattle.clfs_model.specs.Flush.{block_start, first_or, flush, flushed}
-use Rattle.clfs_model.specs.Valid.{IsValid, IsRecord, IsWaiting}
+use Rattle.clfs_model.specs.Valid.{IsValid, IsRecord, IsWaiting, HasRanges, HasWaiting}
 use Rattle.clfs_queue.specs.Group.{IsGroupOf}
 use Rattle.clfs_queue.specs.Queued.{Queued, seal}
 use Rattle.clfs_queue.specs.Rows.{AreBlocks}
+use Rattle.clfs_manager.specs.Laid.{BeginsAt}
 use Rattle.clfs_manager.proofs.Ending.{opened, parts_at}
 
 -- the place once its block, where one is open, takes no more records
@@ -93,18 +95,25 @@ is_closed_of shape place within = elim (cases_lt 0 place.records) [
 
 -- what is on the disk ends where a block begins, at or below the open one
 pub record IsStart (s : State) : Type 0 where
+  pub container : container_of (flushed s) ≡ s.place.container
   pub sequence : sequence_of (flushed s) ≡ 0
   pub below : flushed s ≤ block_start s.place
 
-pub is_start : (s : State) → IsValid s → IsStart s
-is_start s valid = by_waiting s.waiting valid.waiting.blocks
+pub starts_at : (s : State) → HasRanges s → HasWaiting s → IsStart s
+starts_at s ranges waits = by_waiting s.waiting waits.blocks
   where
+    small : s.place.offset ≤ 8388608
+    small = omega (arith, ranges.place.end, ranges.shape.largest_container)
+
     by_waiting : (waiting : List ℕ) → All (IsWaiting s) waiting
         → IsStart (record s { waiting = waiting })
-    by_waiting [] blocks = record { sequence = omega (arith, valid.ranges.place.offset); below = omega arith }
+    by_waiting [] blocks = record { container = omega (arith, small); sequence = omega (arith, ranges.place.offset); below = omega arith }
     by_waiting (start ∷ starts) blocks =
         let first = All-head (IsWaiting s) start starts blocks in
-        record { sequence = first.sequence; below = omega (arith, first.below) }
+        record { container = first.container; sequence = first.sequence; below = omega (arith, first.below) }
+
+pub is_start : (s : State) → IsValid s → IsStart s
+is_start s valid = starts_at s valid.ranges valid.waiting
 
 first_start : (shape : Shape) (id at : ℕ) (starts : List ℕ) (entries : List LogEntry) (blocks : List (List ℕ)) → AreBlocks shape id at starts entries blocks
     → first_or (lsn_number id (at + total blocks) 0) starts ≡ lsn_number id at 0
@@ -113,17 +122,12 @@ first_start shape id at [] entries (block ∷ blocks) are = absurd are
 first_start shape id at (start ∷ starts) entries [] are = absurd are
 first_start shape id at (start ∷ starts) entries (block ∷ blocks) are = are.0
 
--- Where a group begins: there what is on the disk ends.
-pub record BeginsAt (s : State) (at : ℕ) : Type 0 where
-  pub flushed_is : flushed s ≡ lsn_number s.place.container at 0
-  pub container : container_of (flushed s) ≡ s.place.container
-  pub offset : offset_of (flushed s) ≡ at
-
-pub begins_at : (s : State) (q : Queued) (at : ℕ) (body : List ℕ) → IsValid s → q.place ≡ s.place → q.waiting ≡ s.waiting → IsGroupOf (seal q) at body
+-- A group of what waits begins where what is on the disk ends.
+pub begins_at : (s : State) (q : Queued) (at : ℕ) (body : List ℕ) → IsLaid s → q.place ≡ s.place → q.waiting ≡ s.waiting → IsGroupOf (seal q) at body
     → BeginsAt s at
-begins_at s q at body valid place waiting group =
+begins_at s q at body laid place waiting group =
     let ended = is_ended q in
-    let closed = is_closed_of s.shape s.place valid.ranges.place in
+    let closed = is_closed_of s.shape s.place laid.ranges.place in
     let to : at + total group.blocks ≡ (closed_place s.place).offset = group.end ∙ ap (λ (p : Place). p.offset) (ended.place ∙ ap closed_place place) in
     let id : (seal q).place.container ≡ s.place.container = ap (λ (p : Place). p.container) (ended.place ∙ ap closed_place place) ∙ closed.container in
     let first = first_start (seal q).shape (seal q).place.container at (seal q).waiting (seal q).records group.blocks group.waiting in
@@ -134,14 +138,14 @@ begins_at s q at body valid place waiting group =
     let is : flushed s ≡ lsn_number (seal q).place.container at 0 =
     sym flushed_here ∙ sym ended.starts ∙ sym (ap (λ (n : ℕ). first_or n (seal q).waiting) end) ∙ first in
     let here : flushed s ≡ lsn_number s.place.container at 0 = omega (arith, is, id) in
-    let start = is_start s valid in
-    let few : at ≤ 8388608 = omega (arith, to, closed.low, valid.ranges.shape.largest_container) in
+    let start = starts_at s laid.ranges laid.waiting in
+    let few : at ≤ 8388608 = omega (arith, to, closed.low, laid.ranges.shape.largest_container) in
     let even : at % 512 ≡ 0 = omega (arith, here, start.sequence) in
     let parts = parts_at s.place.container at 0 even few (omega arith) in
     record { flushed_is = here; container = ap container_of here ∙ parts.0; offset = ap offset_of here ∙ parts.1 }
 
 -- all records lie below the closed place's block
-pub all_below_closed : (s : State) → IsValid s → All (λ (entry : LogEntry). entry.lsn < block_start (closed_place s.place)) s.records
-all_below_closed s valid =
-    let closed = is_closed_of s.shape s.place valid.ranges.place in
-    All-weaker (IsRecord s) (λ (entry : LogEntry). entry.lsn < block_start (closed_place s.place)) (λ entry is. omega (arith, is.below, closed.front)) s.records valid.records.records
+pub all_below_closed : (s : State) → IsLaid s → All (λ (entry : LogEntry). entry.lsn < block_start (closed_place s.place)) s.records
+all_below_closed s laid =
+    let closed = is_closed_of s.shape s.place laid.ranges.place in
+    All-weaker (IsRecord s) (λ (entry : LogEntry). entry.lsn < block_start (closed_place s.place)) (λ entry is. omega (arith, is.below, closed.front)) s.records laid.records.records

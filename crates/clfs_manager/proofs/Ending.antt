@@ -19,7 +19,8 @@ use Rattle.clfs_model.specs.declared.state.State.{State}
 use Rattle.clfs_model.specs.Archive.{is_in_block, end_of_block}
 use Rattle.clfs_model.specs.Flush.{block_start}
 use Rattle.clfs_model.specs.Heads.{heads_of}
-use Rattle.clfs_model.specs.Valid.{IsValid, IsRecord}
+use Rattle.clfs_laws.specs.Between.{IsLaid}
+use Rattle.clfs_model.specs.Valid.{IsRecord}
 use Rattle.clfs_queue.specs.Queued.{Queued, seal}
 use Rattle.clfs_manager.proofs.Heads.{ends_as_heads}
 
@@ -56,18 +57,18 @@ pub record Ends (s : State) (block : BlockEnd) : Type 0 where
   pub start : sequence_of (block_start (sealed s.place)) ≡ 0
   pub own : All (λ (head : Head). block_start s.place ≤ head.lsn → is_in_block head.lsn block.last ≡ true) (heads_of s)
 
-pub ends : (s : State) (block : BlockEnd) → IsValid s → 1 ≤ s.place.records → block.last + 1 ≡ frontier s.place → block.end ≡ 512 * block_end s.place
+pub ends : (s : State) (block : BlockEnd) → IsLaid s → 1 ≤ s.place.records → block.last + 1 ≡ frontier s.place → block.end ≡ 512 * block_end s.place
     → Any (λ (entry : LogEntry). entry.lsn + 1 ≡ frontier s.place) s.records
     → ((lsn : ℕ) → container_of lsn ≡ s.place.container → offset_of lsn ≡ s.place.offset → end_of_block s.records lsn ≡ 512 * block_end s.place)
     → Ends s block
-ends s block valid some last end newest of_records =
-    let within = valid.ranges.place in
+ends s block laid some last end newest of_records =
+    let within = laid.ranges.place in
     let open_block = opened s.shape s.place within some in
-    let low : s.place.offset ≤ 8388608 = omega (arith, within.end, valid.ranges.shape.largest_container) in
+    let low : s.place.offset ≤ 8388608 = omega (arith, within.end, laid.ranges.shape.largest_container) in
     let here : (lsn : ℕ) → block_start s.place ≤ lsn → lsn < frontier s.place → (container_of lsn ≡ s.place.container) × (offset_of lsn ≡ s.place.offset)
     = λ lsn from below. (omega (arith, from, below, low, open_block.few_records), omega (arith, from, below, low, open_block.few_records, within.offset)) in
     let at_last = here block.last (omega (arith, last, some)) (omega (arith, last)) in
-    let each = valid.records.records in
+    let each = laid.records.records in
     record {
       is = record {
         last = any_head block.last s.records (subst (λ (n : ℕ). Any (λ (entry : LogEntry). entry.lsn + 1 ≡ n) s.records) (sym last) newest);

@@ -17,7 +17,7 @@ use Rattle.clfs_archive.specs.declared.block.BlockEnd.{BlockEnd}
 use Rattle.clfs_manager.proofs.Numbers.{flushed_below, flushed_starts, hold_up_to_tail}
 
 -- blocks that are told from an LSN on are told from every later one on
-told_later : (low high stable : ℕ) (blocks : List BlockEnd) (heads : List Head) → low ≤ high → AreBlocks low stable blocks heads → AreBlocks high stable blocks heads
+pub told_later : (low high stable : ℕ) (blocks : List BlockEnd) (heads : List Head) → low ≤ high → AreBlocks low stable blocks heads → AreBlocks high stable blocks heads
 told_later low high stable blocks heads le are = record {
   rising = are.rising;
   each = are.each;

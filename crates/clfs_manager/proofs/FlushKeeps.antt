@@ -2,7 +2,7 @@
 use Rattle.std.proofs.Common.{◌≡◌, ℕ, ◌≤◌, refl, sym, ap, ◌∙◌, arith, Bool, true, false, inr}
 use Rattle.std.specs.Prelude.{Result, Ok, Err, OnOk, OnErr}
 use Rattle.std.specs.Result.{is_err}
-use Rattle.clfs_disk.specs.State.{DiskState, TellsContents}
+use Rattle.clfs_disk.specs.State.{DiskState, IsSettled}
 use Rattle.clfs_model.specs.declared.state.State.{State}
 use Rattle.clfs_model.specs.Flush.{flush, flushed}
 use Rattle.clfs_model.specs.declared.call.Call.{Call}
@@ -23,6 +23,8 @@ use Rattle.clfs_manager.specs.declared.log.Log.{Log}
 use Rattle.clfs_manager.proofs.AreasChange.{KeepsValid, KeepsStorable}
 use Rattle.clfs_manager.proofs.ClosedPlace.{flush_is, is_closed_of, is_start}
 use Rattle.clfs_manager.proofs.FlushedLog.{done}
+use Rattle.clfs_manager.proofs.ReadKeeps.{tells_before}
+use Rattle.clfs_manager.proofs.Settled.{stays_settled}
 
 -- what is on the disk only grows
 pub flushed_done : (s : State) → IsValid s → flushed s ≤ flushed (done s)
@@ -36,15 +38,16 @@ kept_done s kept valid are = record {
 }
 
 pub open_flushed : (old new : DiskState) (s t : State) (before after : Log) → IsValid s → IsOpen old s before → t ≡ flush s → Holds t after → KeepsOthers before after
-    → StoredAfter old new s t before.physical after.physical → (TellsContents new → TellsContents old) → IsOpen new t after
-open_flushed old new s t before after valid is_open state holds keeps stored_after tells =
+    → StoredAfter old new s t before.physical after.physical → (IsSettled old → IsSettled new) → new.nature ≡ old.nature → IsOpen new t after
+open_flushed old new s t before after valid is_open state holds keeps stored_after settled nature =
     let stored = stored_after is_open.blocks is_open.stored in
     record {
       memory = holds;
       blocks = stored.0;
       stored = stored.1.0;
-      files = λ told. stored.1.1 (tells told) false (is_open.files (tells told));
-      kept = λ told. rw (keeps.buffers, state ∙ flush_is s) (kept_done s before.buffers valid (is_open.kept (tells told)));
+      files = λ told. let before = tells_before old new nature told in stored.1.1 before false (is_open.files before);
+      kept = λ told. rw (keeps.buffers, state ∙ flush_is s) (kept_done s before.buffers valid (is_open.kept (tells_before old new nature told)));
+      settled = stays_settled old new nature settled is_open.settled;
     }
 
 -- what holds of an answer that is no refusal
@@ -87,12 +90,13 @@ managed_broken old new before after valid storable managed unbroken is =
 pub managed_flushed : (old new : DiskState) (before after : Log) (client : ℕ) (call : Call) (reply : Reply) → KeepsValid → KeepsStorable → MeetsCondition client call
     → IsManaged old before → before.broken ≡ false → after.state.value ≡ flush before.state.value
     → Step false before.state.value client call Fine reply (flush before.state.value) → Holds after.state.value after → KeepsOthers before after
-    → StoredAfter old new before.state.value after.state.value before.physical after.physical → (TellsContents new → TellsContents old) → IsManaged new after
-managed_flushed old new before after client call reply valid storable meets managed unbroken state step holds keeps stored tells =
+    → StoredAfter old new before.state.value after.state.value before.physical after.physical → (IsSettled old → IsSettled new) → new.nature ≡ old.nature
+    → IsManaged new after
+managed_flushed old new before after client call reply valid storable meets managed unbroken state step holds keeps stored settled nature =
     let s : State = before.state.value in
     record {
       valid = rw state (valid false s client call Fine reply (flush s) managed.valid step);
       storable = rw state (storable false s client call Fine reply (flush s) managed.valid managed.storable meets step);
       broken = rw state (ap (λ (t : State). t.broken) (flush_is s) ∙ managed.broken ∙ unbroken ∙ sym (keeps.broken ∙ unbroken));
-      whole = λ _. open_flushed old new s after.state.value before after managed.valid (managed.whole unbroken) state holds keeps stored tells;
+      whole = λ _. open_flushed old new s after.state.value before after managed.valid (managed.whole unbroken) state holds keeps stored settled nature;
     }

@@ -1,6 +1,6 @@
 -- A flush as memory and the disk have it.
 use Rattle.std.proofs.Common.{◌≡◌, ℕ, ◌+◌, ◌-◌, ◌<◌, ◌≤◌, Bool, true, false, refl, sym, ap, ◌∙◌, inl, inr, List, [], ◌∷◌, ◌++◌, length, map, arith}
-use Rattle.std.specs.Prelude.{All, Option, Some, None, IsSome, filter, nat_le, nat_lt, slice_get, ◌==◌}
+use Rattle.std.specs.Prelude.{All, Option, Some, None, IsSome, Result, Ok, Err, OnOk, filter, nat_le, nat_lt, slice_get, ◌==◌}
 use Rattle.std.specs.Option.{option_to_list}
 use Rattle.std.proofs.lemmas.Bool.{eqb-true}
 use Rattle.std.proofs.lemmas.List.Elements.{All-filter, All-weaker, filter-append}
@@ -13,19 +13,25 @@ use Rattle.clfs_lsn.specs.declared.entry.Kind.TheVariants.{Plain, Restart}
 use Rattle.clfs_lsn.specs.declared.entry.LogEntry.{LogEntry}
 use Rattle.clfs_lsn.specs.declared.place.Place.{Place}
 use Rattle.clfs_container.specs.OpenBlocks.{total}
-use Rattle.clfs_base.specs.declared.image.BaseImage.{BaseImage}
+use Rattle.clfs_laws.specs.Between.{IsLaid}
+use Rattle.clfs_disk.specs.State.{DiskState}
+use Rattle.clfs_disk.specs.declared.disk.Failed.{Failed}
 use Rattle.clfs_model.specs.declared.state.State.{State}
+use Rattle.clfs_model.specs.declared.state.Stream.{Stream}
 use Rattle.clfs_model.specs.State.{stream_at}
-use Rattle.clfs_model.specs.Flush.{block_start, cut, flushed}
+use Rattle.clfs_model.specs.Flush.{block_start, cut, flush, flushed}
 use Rattle.clfs_model.specs.Live.{hold, least_or, live_lsns}
 use Rattle.clfs_model.specs.Storable.{IsStorable, HasMovedBase}
-use Rattle.clfs_model.specs.Valid.{IsValid, IsRecord}
+use Rattle.clfs_model.specs.Valid.{IsValid, IsRecord, HasRanges}
 use Rattle.clfs_physical.specs.Stored.{Newest, Blocks}
-use Rattle.clfs_recover.specs.Logs.{IsLogWith, stored_state, records_from_container, file_at_end}
+use Rattle.clfs_recover.specs.Logs.{HaveMore, stored_state, records_from_container, file_at_end}
 use Rattle.clfs_recover.specs.Stored.{stored_place}
-use Rattle.clfs_manager.specs.Memory.{unflushed}
+use Rattle.clfs_manager.specs.Memory.{IsSound, unflushed}
+use Rattle.clfs_manager.specs.Flushing.{StoredAfter}
+use Rattle.clfs_manager.specs.Laid.{HasGroup, IsLaidLog, WrittenAfter}
 use Rattle.clfs_manager.specs.OnDisk.{IsStored}
-use Rattle.clfs_manager.proofs.ClosedPlace.{closed_place, is_closed_of, BeginsAt, all_below_closed}
+use Rattle.clfs_manager.specs.declared.log.Log.{Log}
+use Rattle.clfs_manager.proofs.ClosedPlace.{closed_place, is_closed_of, flush_is, all_below_closed}
 use Rattle.clfs_manager.proofs.Ending.{parts_at}
 use Rattle.clfs_manager.proofs.Opened.{all_from, none_from}
 use Rattle.clfs_manager.proofs.SplitRecords.{all_below, split, kept_from}
@@ -39,23 +45,26 @@ least_container a b [] same = same
 least_container a b (lsn ∷ lsns) same = refl
 
 -- a flush leaves the hold in its container
-pub hold_done : (s : State) → IsValid s → container_of (hold (done s)) ≡ container_of (hold s)
-hold_done s valid =
-    let closed = is_closed_of s.shape s.place valid.ranges.place in
-    let within = valid.ranges.place in
-    let low = valid.ranges.shape.largest_container in
+pub hold_closed : (s : State) → HasRanges s → container_of (hold (done s)) ≡ container_of (hold s)
+hold_closed s ranges =
+    let closed = is_closed_of s.shape s.place ranges.place in
+    let within = ranges.place in
+    let low = ranges.shape.largest_container in
     let few : s.place.records ≤ 511 = ⊎_few in
     least_container (frontier (closed_place s.place)) (frontier s.place) (option_to_list s.archive ++ live_lsns s)
     (omega (arith, closed.container, closed.low, closed.records, within.end, low, few))
   where
     ⊎_few : s.place.records ≤ 511
-    ⊎_few = elim valid.ranges.place.block [
+    ⊎_few = elim ranges.place.block [
       | inl none ↦ omega (arith, none.1)
       | inr here ↦ here.few_records
     ]
 
-pub none_unflushed : (s : State) → IsValid s → unflushed (done s) ≡ []
-none_unflushed s valid = none_from (block_start (closed_place s.place)) s.records (all_below_closed s valid)
+pub hold_done : (s : State) → IsValid s → container_of (hold (done s)) ≡ container_of (hold s)
+hold_done s valid = hold_closed s valid.ranges
+
+pub none_unflushed : (s : State) → IsLaid s → unflushed (done s) ≡ []
+none_unflushed s laid = none_from (block_start (closed_place s.place)) s.records (all_below_closed s laid)
 
 -- the number of a stream that is there
 pub stream_within : (s : State) (number : ℕ) → IsSome (stream_at s number) → number ≤ length s.streams
@@ -70,10 +79,10 @@ stream_within s number there = by_test (number == 0) refl
         by_found (Some stream) is some = omega (arith, slice_get_within s.streams (number - 1) stream is)
 
 -- records that wait are of streams that are there
-pub few_streams : (s : State) (streams : ℕ) → IsValid s → streams ≡ length s.streams → All (λ (entry : LogEntry). entry.stream ≤ streams) (unflushed s)
-few_streams s streams valid long =
+pub few_streams : (s : State) (streams : ℕ) → IsLaid s → streams ≡ length s.streams → All (λ (entry : LogEntry). entry.stream ≤ streams) (unflushed s)
+few_streams s streams laid long =
     All-filter (λ (entry : LogEntry). nat_le (flushed s) entry.lsn) (λ (entry : LogEntry). entry.stream ≤ streams) s.records
-    (All-weaker (IsRecord s) (λ (entry : LogEntry). entry.stream ≤ streams) (λ entry is. omega (arith, stream_within s entry.stream is.stream, long)) s.records valid.records.records)
+    (All-weaker (IsRecord s) (λ (entry : LogEntry). entry.stream ≤ streams) (λ entry is. omega (arith, stream_within s entry.stream is.stream, long)) s.records laid.records.records)
 
 plain : (kind : Kind) (lsn base : ℕ) → (kind ≡ Restart → ⊥) → BaseFits kind lsn base → base ≡ 0
 plain Plain lsn base isnt fits = fits
@@ -88,58 +97,100 @@ no_bases s valid storable = λ k d few.
     let from = kept_from (flushed s) s.records k d few in
     plain _ _ _ (λ is. absurd (let below = restart is in omega (arith, below, from))) own.own
 
--- What the group of a flush leaves on the disk, by the laws of copies and blocks.
-pub record IsGrown (s : State) (image : BaseImage) (before after : Blocks) (entries : List LogEntry) (group : List (List ℕ)) : Type 0 where
-  pub log : IsLogWith image (map after image.files) (entries ++ unflushed s)
-  pub state : stored_state image (map after image.files) (entries ++ unflushed s) s.buffers
-      ≡ record (stored_state image (map before image.files) entries s.buffers) {
-        records = entries ++ unflushed s;
-        place = record (stored_place image (map before image.files)) { offset = total (before (file_at_end image)) + total group };
-      }
-
 -- the records of the disk and those that waited are all from the first listed container on
-grown_records : (s : State) (first : ℕ) (entries : List LogEntry) → IsValid s → first ≤ s.place.container → container_of (flushed s) ≡ s.place.container
+grown_records : (s : State) (first : ℕ) (entries : List LogEntry) → IsLaid s → first ≤ s.place.container → container_of (flushed s) ≡ s.place.container
     → entries ≡ records_from_container first (cut s).records → entries ++ unflushed s ≡ records_from_container first (cut (done s)).records
-grown_records s first entries valid low at is =
+grown_records s first entries laid low at is =
     let low_lsn : ℕ = lsn_number first 0 0 in
     let test : LogEntry → Bool = λ (entry : LogEntry). nat_le low_lsn entry.lsn in
     let stable : List LogEntry = filter (λ (entry : LogEntry). nat_lt entry.lsn (flushed s)) s.records in
     let from : All (λ (entry : LogEntry). low_lsn ≤ entry.lsn) (unflushed s) = All-weaker (λ (entry : LogEntry). flushed s ≤ entry.lsn) (λ (entry : LogEntry). low_lsn ≤ entry.lsn)
     (λ entry above. omega (arith, above, low, at)) (unflushed s) (kept_from (flushed s) s.records) in
-    let all : (cut (done s)).records ≡ s.records = all_below (block_start (closed_place s.place)) s.records (all_below_closed s valid) in
+    let all : (cut (done s)).records ≡ s.records = all_below (block_start (closed_place s.place)) s.records (all_below_closed s laid) in
     let parts : filter test s.records ≡ filter test stable ++ filter test (unflushed s) =
-    ap (filter test) (sym (split (flushed s) s.records valid.records.rising)) ∙ filter-append test stable (unflushed s) in
+    ap (filter test) (sym (split (flushed s) s.records laid.records.rising)) ∙ filter-append test stable (unflushed s) in
     let waits : filter test (unflushed s) ≡ unflushed s = all_from low_lsn (unflushed s) from in
     ap (λ (es : List LogEntry). es ++ unflushed s) is ∙ sym (ap (λ (es : List LogEntry). filter test stable ++ es) waits) ∙ sym parts ∙ sym (ap (filter test) all)
 
-pub stored_done : (s : State) (newest : Newest) (before after : Blocks) (group : List (List ℕ)) (at : ℕ) → IsValid s
+-- What the group of a flush leaves on the disk: the flushed log, with the streams that its records leave.
+pub stored_with : (s : State) (newest : Newest) (before after : Blocks) (streams : List Stream) → IsLaid s
     → newest.image.first + length newest.image.files ≡ s.place.container + 1 → 1 ≤ length newest.image.files
-    → (stored : IsStored s newest before) → BeginsAt s at → total (before (file_at_end newest.image)) ≡ at → at + total group ≡ (closed_place s.place).offset
-    → IsGrown s newest.image before after stored.entries group → IsStored (done s) newest after
-stored_done s newest before after group at valid listed some stored begins here end grown =
+    → (stored : IsStored s newest before) → (group : HasGroup s newest.image before after stored.entries)
+    → stored_state newest.image (map after newest.image.files) (stored.entries ++ unflushed s) s.buffers
+    ≡ record (stored_state newest.image (map before newest.image.files) stored.entries s.buffers) {
+      records = stored.entries ++ unflushed s;
+      place = record (stored_place newest.image (map before newest.image.files)) { offset = total (before (file_at_end newest.image)) + total group.more };
+      streams = streams;
+    }
+    → newest.image.first ≤ container_of (hold (record (done s) { streams = streams })) → IsStored (record (done s) { streams = streams }) newest after
+stored_with s newest before after streams laid listed some stored group state needed =
     let image = newest.image in
-    let closed = is_closed_of s.shape s.place valid.ranges.place in
+    let closed = is_closed_of s.shape s.place laid.ranges.place in
     let low : image.first ≤ s.place.container = omega (arith, listed, some) in
     let entries = stored.entries ++ unflushed s in
-    let parts = parts_at (closed_place s.place).container (closed_place s.place).offset 0 closed.offset (omega (arith, closed.low, valid.ranges.shape.largest_container)) (omega arith) in
+    let behind : ℕ = total (before (file_at_end image)) + total group.more in
+    let end : behind ≡ (closed_place s.place).offset = group.end ∙ ap (λ (t : State). t.place.offset) (flush_is s) in
+    let parts = parts_at (closed_place s.place).container (closed_place s.place).offset 0 closed.offset (omega (arith, closed.low, laid.ranges.shape.largest_container)) (omega arith) in
     let place_before : stored_place image (map before image.files) ≡ (cut s).place = ap (λ (t : State). t.place) stored.state in
-    let offset : total (before (file_at_end image)) + total group ≡ offset_of (block_start (closed_place s.place)) = omega (arith, here, end, parts.1) in
-    let container : container_of (flushed s) ≡ container_of (block_start (closed_place s.place)) = begins.container ∙ sym (parts.0 ∙ closed.container) in
-    let place : record (stored_place image (map before image.files)) { offset = total (before (file_at_end image)) + total group } ≡ (cut (done s)).place =
-    ap (λ (p : Place). record p { offset = total (before (file_at_end image)) + total group }) place_before
-    ∙ ap (λ (n : ℕ). let p : Place = record { container = n; offset = total (before (file_at_end image)) + total group; used = 0; records = 0 } in p) container
+    let offset : behind ≡ offset_of (block_start (closed_place s.place)) = end ∙ sym parts.1 in
+    let container : container_of (flushed s) ≡ container_of (block_start (closed_place s.place)) = group.begins.container ∙ sym (parts.0 ∙ closed.container) in
+    let place : record (stored_place image (map before image.files)) { offset = behind } ≡ (cut (done s)).place =
+    ap (λ (p : Place). record p { offset = behind }) place_before
+    ∙ ap (λ (n : ℕ). let p : Place = record { container = n; offset = behind; used = 0; records = 0 } in p) container
     ∙ ap (λ (n : ℕ). let p : Place = record { container = container_of (block_start (closed_place s.place)); offset = n; used = 0; records = 0 } in p) offset in
     record {
       entries = entries;
-      log = grown.log;
-      records = grown_records s image.first stored.entries valid low begins.container stored.records;
-      state = grown.state
-          ∙ ap (λ (t : State). record t { records = entries; place = record (stored_place image (map before image.files)) { offset = total (before (file_at_end image)) + total group } }) stored.state
-          ∙ ap (λ (p : Place). record (cut s) { records = entries; place = p }) place;
-      needed = omega (arith, stored.needed, hold_done s valid);
+      log = group.log;
+      records = grown_records s image.first stored.entries laid low group.begins.container stored.records;
+      state = state
+          ∙ ap (λ (t : State). record t { records = entries; place = record (stored_place image (map before image.files)) { offset = behind }; streams = streams }) stored.state
+          ∙ ap (λ (p : Place). record (cut s) { records = entries; place = p; streams = streams }) place;
+      needed = needed;
     }
+
+-- where no record moves a base
+pub stored_done : (s : State) (newest : Newest) (before after : Blocks) → IsLaid s
+    → newest.image.first + length newest.image.files ≡ s.place.container + 1 → 1 ≤ length newest.image.files
+    → (stored : IsStored s newest before) → (group : HasGroup s newest.image before after stored.entries)
+    → stored_state newest.image (map after newest.image.files) (stored.entries ++ unflushed s) s.buffers
+    ≡ record (stored_state newest.image (map before newest.image.files) stored.entries s.buffers) {
+      records = stored.entries ++ unflushed s;
+      place = record (stored_place newest.image (map before newest.image.files)) { offset = total (before (file_at_end newest.image)) + total group.more };
+    }
+    → IsStored (done s) newest after
+stored_done s newest before after laid listed some stored group state =
+    let entries = stored.entries ++ unflushed s in
+    let place : Place = record (stored_place newest.image (map before newest.image.files)) { offset = total (before (file_at_end newest.image)) + total group.more } in
+    let own : State = stored_state newest.image (map before newest.image.files) stored.entries s.buffers in
+    stored_with s newest before after s.streams laid listed some stored group
+    (state ∙ ap (λ (streams : List Stream). record own { records = entries; place = place; streams = streams }) (ap (λ (t : State). t.streams) stored.state))
+    (omega (arith, stored.needed, hold_closed s laid.ranges))
 
 -- the bytes of blocks and more blocks
 pub total_append : (blocks more : List (List ℕ)) → total (blocks ++ more) ≡ total blocks + total more
 total_append [] more = omega arith
 total_append (block ∷ blocks) more = omega (arith, total_append blocks more)
+
+-- What a group leaves on the disk is the flushed log, where no record of it moves a base.
+pub stored_flushed : (result : Result (Unit {0}) Failed) (old new : DiskState) (s t : State) (before after : Newest) → IsLaid s
+    → before.image.first + length before.image.files ≡ s.place.container + 1 → 1 ≤ length before.image.files
+    → ((blocks all : Blocks) (more : List (List ℕ)) (entries : List LogEntry) → HaveMore before.image more blocks all
+    → stored_state before.image (map all before.image.files) (entries ++ unflushed s) s.buffers
+    ≡ record (stored_state before.image (map blocks before.image.files) entries s.buffers) {
+      records = entries ++ unflushed s;
+      place = record (stored_place before.image (map blocks before.image.files)) { offset = total (blocks (file_at_end before.image)) + total more };
+    })
+    → OnOk result (t ≡ flush s) → OnOk result (after ≡ before) → OnOk result (WrittenAfter old new s before after)
+    → OnOk result (StoredAfter old new s t before after)
+stored_flushed (Ok value) old new s t before after laid listed some law state same written = λ blocks stored.
+    let to = written blocks stored in
+    let all : Blocks = to.0 in
+    let group : HasGroup s before.image blocks all stored.entries = to.1.0 in
+    let is : IsStored (done s) before all =
+    stored_done s before blocks all laid listed some stored group (law blocks all group.more stored.entries group.have) in
+    (all, (rw (state ∙ flush_is s, same) is, to.1.1))
+stored_flushed (Err error) old new s t before after laid listed some law state same written = tt
+
+-- A log that files can hold is laid.
+pub laid_log : (log : Log) → IsSound log → IsLaid log.state.value → IsLaidLog log
+laid_log log sound laid = record { laid = laid; unbroken = sound.unbroken; whole = sound.whole; holds = sound.holds }

@@ -35,6 +35,12 @@ grown_between shape place needed have rate limit wanted None is few at_most = (o
 grown_between shape place needed have rate limit wanted (Some n) is few at_most =
     let steps = is.whole_steps in (omega (arith, steps.2), omega (arith, is.at_most, at_most))
 
+-- and growth keeps to the limit
+pub grown_to_limit : (shape : Shape) (place : Place) (needed have rate limit wanted : ℕ) (steps : Option ℕ)
+    → IfSome steps (IsLeastStep shape place needed have rate limit wanted) → have < unwrap_or steps have → unwrap_or steps have ≤ limit
+grown_to_limit shape place needed have rate limit wanted None is more = absurd (omega (arith, more))
+grown_to_limit shape place needed have rate limit wanted (Some n) is more = is.at_most
+
 -- a log that may not grow, or has enough, stays as it is
 pub not_grown : (s : State) (need : ℕ) → (s.automatic ≡ false) ⊎ (reserved s + need ≤ free s) → grown s need ≡ s
 unfolding grown

@@ -16,7 +16,7 @@ fold_from low n [] of_n of_ns = of_n
 fold_from low n (m ∷ ns) of_n of_ns =
     fold_from low (min n m) ns (min_from low n m of_n (All-head (λ k. low ≤ k) m ns of_ns)) (All-tail (λ k. low ≤ k) m ns of_ns)
 
-least_from : (low other : ℕ) (ns : List ℕ) → low ≤ other → All (λ m. low ≤ m) ns → low ≤ least_or other ns
+pub least_from : (low other : ℕ) (ns : List ℕ) → low ≤ other → All (λ m. low ≤ m) ns → low ≤ least_or other ns
 least_from low other [] of_other of_ns = of_other
 least_from low other (n ∷ ns) of_other of_ns = fold_from low n ns (All-head (λ k. low ≤ k) n ns of_ns) (All-tail (λ k. low ≤ k) n ns of_ns)
 

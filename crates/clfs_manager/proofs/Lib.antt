@@ -1,4 +1,5 @@
 pub mod Joining
+pub mod Settled
 pub mod Copies
 pub mod Made
 pub mod Heads
@@ -22,3 +23,28 @@ pub mod Numbers
 pub mod Grown
 pub mod Holds
 pub mod Extents
+pub mod CopiedLog
+pub mod StoredKeeps
+pub mod SettingsKeep
+pub mod ArchivedLog
+pub mod StillStorable
+pub mod Sized
+pub mod Reserved
+pub mod Intact
+pub mod MovedBase
+pub mod AddedStream
+mod Sealed
+mod PutRecord
+mod TurnedLog
+pub mod LaterHold
+pub mod Restarted
+mod ReadyLog
+pub mod OwnRefusals
+pub mod SameCut
+pub mod FilesHold
+pub mod OpenedAnew
+pub mod StepCalls
+pub mod AdvancedLog
+mod RestartCall
+mod PreparedCall
+mod AppendCall

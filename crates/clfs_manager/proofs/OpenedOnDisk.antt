@@ -7,7 +7,7 @@ use Rattle.clfs_lsn.specs.Lsn.{lsn_number, container_of}
 use Rattle.clfs_lsn.specs.Place.{frontier}
 use Rattle.clfs_lsn.specs.declared.entry.LogEntry.{LogEntry}
 use Rattle.clfs_disk.specs.Files.{Files}
-use Rattle.clfs_disk.specs.State.{DiskState, TellsContents}
+use Rattle.clfs_disk.specs.State.{DiskState, TellsContents, IsHonest, IsSettled}
 use Rattle.clfs_container.specs.OpenBlocks.{AreWhole}
 use Rattle.clfs_model.specs.declared.state.State.{State}
 use Rattle.clfs_model.specs.Flush.{cut}
@@ -87,11 +87,12 @@ none_kept s = record { stable = λ place records there. absurd (cc there); recor
 pub opened_open : (disk : DiskState) (log : Log) (parts : Parts) (buffers : ℕ) → log.state.value ≡ state_of parts buffers → Holds log.state.value log
     → log.physical ≡ newest_in parts → log.buffers ≡ [] → AreListed parts → cut (state_of parts buffers) ≡ state_of parts buffers
     → (files : Files) (blocks : Blocks) → IsStoredIn files parts blocks → (TellsContents disk → (file : ℕ) → disk.files file ≡ files file)
-    → IsOpen disk log.state.value log
-opened_open disk log parts buffers state holds newest kept listed whole files blocks stored same = record {
+    → (IsHonest disk → IsSettled disk) → IsOpen disk log.state.value log
+opened_open disk log parts buffers state holds newest kept listed whole files blocks stored same settled = record {
   memory = holds;
   blocks = blocks;
   stored = rw (state, newest) (opened_stored files parts blocks buffers stored listed whole);
   files = λ tells. rw newest (opened_files files disk.files parts blocks stored (same tells));
   kept = λ tells. rw kept (none_kept log.state.value);
+  settled = settled;
 }

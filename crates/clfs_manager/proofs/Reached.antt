@@ -43,7 +43,7 @@ fold_below_each n m [] is = absurd (omega (arith, is.1))
 fold_below_each n m (k ∷ ns) (zero, lt, e) = let first = fold_below (min n k) ns in let at : k ≡ m = e in omega (arith, first, at)
 fold_below_each n m (k ∷ ns) (suc i, lt, e) = fold_below_each (min n k) m ns (i, omega (arith, lt), e)
 
-least_below : (other m : ℕ) (ns : List ℕ) → Contains ns m → least_or other ns ≤ m
+pub least_below : (other m : ℕ) (ns : List ℕ) → Contains ns m → least_or other ns ≤ m
 least_below other m [] is = absurd (omega (arith, is.1))
 least_below other m (n ∷ ns) (zero, lt, e) = let first = fold_below n ns in let at : n ≡ m = e in omega (arith, first, at)
 least_below other m (n ∷ ns) (suc i, lt, e) = fold_below_each n m ns (i, omega (arith, lt), e)
@@ -52,6 +52,12 @@ mapped : {A B : Type 0} (f : A → B) (xs : List A) (x : A) → Contains xs x �
 mapped f [] x is = absurd (omega (arith, is.1))
 mapped f (y ∷ xs) x (zero, lt, e) = subst (λ z. Contains (map f (y ∷ xs)) (f z)) e (here (f y) (map f xs))
 mapped f (y ∷ xs) x (suc i, lt, e) = there (f y) (f x) (map f xs) (mapped f xs x (i, omega (arith, lt), e))
+
+-- the hold lies at or below each live record
+pub hold_below_live : (s : State) (entry : LogEntry) → Contains s.records entry → is_live s entry ≡ true → hold s ≤ entry.lsn
+hold_below_live s entry among alive = least_below (frontier s.place) entry.lsn (option_to_list s.archive ++ live_lsns s)
+    (Contains-append_right (option_to_list s.archive) (live_lsns s) entry.lsn
+    (mapped (λ (e : LogEntry). e.lsn) (filter (is_live s) s.records) entry (contains_passing (is_live s) s.records entry alive among)))
 
 both_true : (a b : Bool) → (a && b) ≡ true → (a ≡ true) × (b ≡ true)
 both_true true true is = (refl, refl)
@@ -62,9 +68,7 @@ pub live_is_needed : (s : State) (stream : ℕ) (entry : LogEntry) → Contains 
 live_is_needed s stream entry is =
     let among = contains_all (λ (e : LogEntry). (e.stream == stream) && is_live s e) s.records entry is in
     let alive : is_live s entry ≡ true = (both_true (entry.stream == stream) (is_live s entry) among.1).1 in
-    let low : hold s ≤ entry.lsn = least_below (frontier s.place) entry.lsn (option_to_list s.archive ++ live_lsns s)
-    (Contains-append_right (option_to_list s.archive) (live_lsns s) entry.lsn
-    (mapped (λ (e : LogEntry). e.lsn) (filter (is_live s) s.records) entry (contains_passing (is_live s) s.records entry alive among.0))) in
+    let low : hold s ≤ entry.lsn = hold_below_live s entry among.0 alive in
     record { there = among.0; from_hold = omega (arith, low) }
 
 -- ---- what is reached is live
@@ -126,7 +130,7 @@ reached_is_needed s areas client number place head record_in is =
 
 -- ---- areas and cursors
 
-number_there : (streams : List Stream) (number : ℕ) → IsSome (if number == 0 then None else slice_get streams (number - 1)) → IsNumber streams number
+pub number_there : (streams : List Stream) (number : ℕ) → IsSome (if number == 0 then None else slice_get streams (number - 1)) → IsNumber streams number
 number_there streams number is = (elim (number == 0) as (λ b. (number == 0) ≡ b → is_some (if b then None else slice_get streams (number - 1)) ≡ true → IsNumber streams number) [
   | true ↦ λ none e. absurd (cc e)
   | false ↦ λ some e. (from_one some, within e)

@@ -24,6 +24,7 @@ use Rattle.clfs_manager.specs.Memory.{Holds, IsSound}
 use Rattle.clfs_manager.specs.OnDisk.{IsStored, AreKept, IsOpen}
 use Rattle.clfs_manager.specs.Fetching.{IsLeft, LeavesState, OnlyReads, refused_as}
 use Rattle.clfs_manager.specs.declared.log.Log.{Log}
+use Rattle.clfs_manager.proofs.Settled.{settled_by_reading, stays_settled}
 
 -- ---- what the files have
 
@@ -37,7 +38,7 @@ stores_same newest blocks old new same stores = record {
   };
 }
 
-tells_before : (old new : DiskState) → new.nature ≡ old.nature → TellsContents new → TellsContents old
+pub tells_before : (old new : DiskState) → new.nature ≡ old.nature → TellsContents new → TellsContents old
 tells_before old new nature tells = subst (λ (n : Nature). n.tells_contents ≡ true) nature tells
 
 -- ---- what memory has
@@ -76,6 +77,7 @@ holds_areas s areas told log holds = record {
   image_shape = holds.image_shape;
   rows = holds.rows;
   listed = holds.listed;
+  needed = holds.needed;
 }
 
 holds_buffers : (s : State) (kept : Buffered) (log : Log) → Holds s log → Holds s (record log { buffers = kept })
@@ -97,19 +99,21 @@ holds_buffers s kept log holds = record {
   image_shape = holds.image_shape;
   rows = holds.rows;
   listed = holds.listed;
+  needed = holds.needed;
 }
 
 -- ---- an open log
 
 -- over a disk whose files stayed, with other blocks that are the state's
-pub open_buffers : (old new : DiskState) (s : State) (log : Log) (kept : Buffered) → Unchanged old.files new.files → new.nature ≡ old.nature
+pub open_buffers : (old new : DiskState) (s : State) (log : Log) (kept : Buffered) → Unchanged old.files new.files → Passes Unchanged old new
     → (TellsContents old → AreKept s kept) → IsOpen old s log → IsOpen new s (record log { buffers = kept })
-open_buffers old new s log kept same nature are is = record {
+open_buffers old new s log kept same time are is = record {
   memory = holds_buffers s kept log is.memory;
   blocks = is.blocks;
   stored = is.stored;
-  files = λ tells. stores_same log.physical is.blocks old.files new.files same (is.files (tells_before old new nature tells));
-  kept = λ tells. are (tells_before old new nature tells);
+  files = λ tells. stores_same log.physical is.blocks old.files new.files same (is.files (tells_before old new time.nature tells));
+  kept = λ tells. are (tells_before old new time.nature tells);
+  settled = stays_settled old new time.nature (settled_by_reading old new same time) is.settled;
 }
 
 -- with other areas, which the state has too
@@ -121,20 +125,21 @@ open_areas disk s log areas told is = record {
   stored = stored_areas s areas.areas log.physical is.blocks is.stored;
   files = is.files;
   kept = λ tells. kept_areas s areas.areas log.buffers (is.kept tells);
+  settled = is.settled;
 }
 
 -- ---- exits
 
 -- a log that read a block is left open
-pub left_buffers : (old new : DiskState) (log after : Log) → after ≡ record log { buffers = after.buffers } → Unchanged old.files new.files → new.nature ≡ old.nature
+pub left_buffers : (old new : DiskState) (log after : Log) → after ≡ record log { buffers = after.buffers } → Unchanged old.files new.files → Passes Unchanged old new
     → (TellsContents old → AreKept log.state.value after.buffers) → IsSound log → IsOpen old log.state.value log → IsLeft new after
-left_buffers old new log after is same nature are sound open_is = subst (IsLeft new) (sym is) (record {
+left_buffers old new log after is same time are sound open_is = subst (IsLeft new) (sym is) (record {
   broken = sound.whole ∙ sym sound.unbroken;
-  whole = λ unbroken. open_buffers old new log.state.value log after.buffers same nature are open_is;
+  whole = λ unbroken. open_buffers old new log.state.value log after.buffers same time are open_is;
 })
 
 -- a log whose state is broken with it is left so
-broken_left : (disk : DiskState) (log : Log) → log.state.value.broken ≡ true → log.broken ≡ true → IsLeft disk log
+pub broken_left : (disk : DiskState) (log : Log) → log.state.value.broken ≡ true → log.broken ≡ true → IsLeft disk log
 broken_left disk log state broken = record {
   broken = state ∙ sym broken;
   whole = λ unbroken. let clash = sym broken ∙ unbroken in absurd (cc clash);

@@ -1,5 +1,5 @@
 -- What ending the open block and writing what waits leave in memory and on the disk.
-use Rattle.std.specs.Prelude.{◌≡◌, true, Bool}
+use Rattle.std.specs.Prelude.{◌≡◌, ◌+◌, ◌≤◌, true, Bool}
 use Rattle.clfs_disk.specs.State.{DiskState, TellsContents}
 use Rattle.clfs_model.specs.declared.state.State.{State}
 use Rattle.clfs_model.specs.Flush.{block_start}
@@ -11,11 +11,13 @@ use Rattle.clfs_queue.specs.Queued.{seal}
 use Rattle.clfs_manager.specs.OnDisk.{IsStored}
 use Rattle.clfs_manager.specs.declared.log.Log.{Log}
 
--- Of a log the open block, where there was one, has ended: it waits in the queue, and its end is known. All else is as it was.
+-- Of a log the open block, where there was one, has ended: it waits in the queue, and its end is known, for which there was room. All else is as it
+-- was.
 pub record EndsBlock (old new : Log) : Type 0 where
   pub queue : new.queue ≡ seal old.queue
   pub sealed : AreSealed old.tables.low (block_start new.queue.place) new.archive.blocks (heads_of old.state.value)
   pub tail : new.archive.tail ≡ old.archive.tail
+  pub room : old.archive.room ≤ new.archive.room + 1
   pub tables : new.tables ≡ old.tables
   pub areas : new.areas ≡ old.areas
   pub policies : new.policies ≡ old.policies
@@ -24,8 +26,10 @@ pub record EndsBlock (old new : Log) : Type 0 where
   pub state : new.state ≡ old.state
   pub broken : new.broken ≡ old.broken
 
--- Of a log the tables, the areas, what is set, the newest copy and the blocks that were read are as they were, and so is whether it is broken.
+-- Of a log the tables, the areas, what is set, the newest copy and the blocks that were read are as they were, and so is whether it is broken. There is
+-- room for as many ends of blocks, but for one.
 pub record KeepsOthers (old new : Log) : Type 0 where
+  pub room : old.archive.room ≤ new.archive.room + 1
   pub tables : new.tables ≡ old.tables
   pub areas : new.areas ≡ old.areas
   pub policies : new.policies ≡ old.policies

@@ -3,4 +3,14 @@ pub mod Memory
 pub mod OnDisk
 pub mod Calls
 pub mod Flushing
+pub mod Laid
+pub mod Restarts
+pub mod Preparing
 pub mod Fetching
+pub mod Settings
+pub mod Written
+pub mod Reopening
+pub mod Sizes
+pub mod Base
+pub mod Streams
+pub mod Putting

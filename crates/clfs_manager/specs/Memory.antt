@@ -53,6 +53,7 @@ pub record Holds (s : State) (log : Log) : Type 0 where
   pub image_shape : shape_of log.physical.image ≡ s.shape
   pub rows : length log.physical.image.streams ≡ length s.streams
   pub listed : log.physical.image.first + length log.physical.image.files ≡ s.place.container + 1
+  pub needed : log.physical.image.first ≤ container_of (hold s)
 
 -- A log that isn't broken, as memory has it: its state is one that a log can be in and that files can hold.
 pub record IsSound (log : Log) : Type 0 where

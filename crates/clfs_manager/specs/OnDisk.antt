@@ -2,7 +2,7 @@
 use Rattle.std.specs.Prelude.{◌≡◌, ◌<◌, ◌≤◌, false, List, map, slice_get, Some, Contains}
 use Rattle.clfs_lsn.specs.Lsn.{container_of, sequence_of}
 use Rattle.clfs_lsn.specs.declared.entry.LogEntry.{LogEntry}
-use Rattle.clfs_disk.specs.State.{DiskState, TellsContents}
+use Rattle.clfs_disk.specs.State.{DiskState, TellsContents, IsHonest, IsSettled}
 use Rattle.clfs_model.specs.declared.state.State.{State}
 use Rattle.clfs_model.specs.Flush.{cut, flushed}
 use Rattle.clfs_model.specs.Live.{hold}
@@ -33,13 +33,14 @@ pub record AreKept (s : State) (kept : Buffered) : Type 0 where
       → block_place entry.lsn ≡ place → slice_get records (sequence_of entry.lsn) ≡ Some entry
 
 -- A log that isn't broken: memory has its state, and the disk its flushed part. Where the disk tells what it holds, so do its files and the blocks
--- that were read of them.
+-- that were read of them; where it keeps what it synced, nothing is pending.
 pub record IsOpen (disk : DiskState) (s : State) (log : Log) : Type 0 where
   pub memory : Holds s log
   pub blocks : Blocks
   pub stored : IsStored s log.physical blocks
   pub files : TellsContents disk → Stores false log.physical blocks disk.files
   pub kept : TellsContents disk → AreKept s log.buffers
+  pub settled : IsHonest disk → IsSettled disk
 
 -- What is true of a manager: its state is one that a log can be in and that files can hold, and it is open unless it is broken.
 pub record IsManaged (disk : DiskState) (log : Log) : Type 0 where

@@ -37,7 +37,7 @@ fn broken(state: &Told<State>) -> Told<State>
 }
 
 // The log is broken from now on.
-fn break_log(log: &mut Log)
+pub(crate) fn break_log(log: &mut Log)
     ensures state { log.new.state.value ≡ with_broken log.old.state.value }
     ensures broken { log.new.broken ≡ true }
 {

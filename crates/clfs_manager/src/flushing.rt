@@ -14,14 +14,17 @@ ghost use Rattle.clfs_model.specs.declared.reply.Reply.TheVariants as replies;
 ghost use Rattle.clfs_model.specs.Conditions.{IsClient};
 ghost use Rattle.clfs_manager.specs.Calls.{Steps};
 ghost use Rattle.clfs_manager.specs.Flushing.{EndsBlock, IsBroken, KeepsOthers, StoredAfter};
+ghost use Rattle.clfs_manager.specs.Laid.{IsLaidLog, WrittenAfter};
 ghost use Rattle.clfs_manager.specs.Memory.{Holds, IsSound};
+ghost use Rattle.clfs_manager.specs.Written.{WritesDisk};
 
 use crate::log::Log;
 use crate::manager::Manager;
 use clfs_archive::{BlockEnd, ends_of_blocks_go_on};
 use clfs_disk::{Disk, Failed};
 use clfs_laws::{
-    open_blocks_end_at_the_place, steps_keep_a_state_storable, steps_keep_a_state_valid,
+    laid_blocks_end_at_the_place, seals_and_flushes_keep_a_log, steps_keep_a_state_storable,
+    steps_keep_a_state_valid,
 };
 use clfs_lsn::{Lsn, Place, frontier, sealed};
 use clfs_model::{Refusal, State, ways_of_a_step};
@@ -58,11 +61,11 @@ pub(crate) fn broken(state: &Told<State>) -> Told<State>
 impl Log {
     // Ends the open block, where there is one.
     pub fn end_block(&mut self)
-        requires sound { IsSound self.old }
+        requires laid { IsLaidLog self.old }
         ensures ended { EndsBlock self.old self.new }
         ensures closed { IsClosed self.new.queue.place }
     {
-        open_blocks_end_at_the_place();
+        laid_blocks_end_at_the_place();
         ends_of_blocks_go_on();
         let place = self.queue.place();
         if place.records == 0 {
@@ -79,6 +82,29 @@ impl Log {
         ensures holds { OnOk result (Holds self.new.state.value self.new) }
         ensures same { OnOk result (KeepsOthers self.old self.new) }
         ensures stored { OnOk result (StoredAfter (D.state disk.old) (D.state disk.new) self.old.state.value self.new.state.value self.old.physical self.new.physical) }
+        ensures broken { OnErr result (IsBroken self.old self.new) }
+        ensures settled { OnOk result (IsSettled (D.state disk.old) → IsSettled (D.state disk.new)) }
+        ensures quiet { is_pending self.old.state.value ≡ false → IsOk result × (disk.new ≡ disk.old) }
+        ensures lengths { SameLengths (D.state disk.old).files (D.state disk.new).files }
+        ensures time { Later (D.state disk.old) (D.state disk.new) }
+        ensures cause { OnErr result (Rises (D.state disk.old).faults (D.state disk.new).faults) }
+        ensures steady { IsSteady (D.state disk.old) → AreMade self.old.physical.image (D.state disk.old).files
+            → IsOk result × ((D.state disk.new).faults ≡ (D.state disk.old).faults) }
+    {
+        seals_and_flushes_keep_a_log();
+        groups_come_behind_the_last_block();
+        let _newest = self.physical.image();
+        self.write_group(disk)
+    }
+
+    // The same where only the restart area that was put last may keep the log from being one that files can hold: its new base is in the files then,
+    // with it, but not in the tables.
+    pub(crate) fn write_group<D: Disk>(&mut self, disk: &mut D) -> Result<(), Failed>
+        requires laid { IsLaidLog self.old }
+        ensures state { OnOk result (self.new.state.value ≡ flush self.old.state.value) }
+        ensures holds { OnOk result (Holds self.new.state.value self.new) }
+        ensures same { OnOk result (KeepsOthers self.old self.new) }
+        ensures written { OnOk result (WrittenAfter (D.state disk.old) (D.state disk.new) self.old.state.value self.old.physical self.new.physical) }
         ensures broken { OnErr result (IsBroken self.old self.new) }
         ensures settled { OnOk result (IsSettled (D.state disk.old) → IsSettled (D.state disk.new)) }
         ensures quiet { is_pending self.old.state.value ≡ false → IsOk result × (disk.new ≡ disk.old) }
@@ -111,8 +137,7 @@ impl<D: Disk> Manager<D> {
         requires client { IsClient client }
         ensures step { (told : Bool) → Steps told self.old.0 client (calls.Flush area) replies.Flushed result self.new.0 }
         ensures quiet { is_pending self.old.0 ≡ false → self.new.1 ≡ self.old.1 }
-        ensures time { Later (D.state self.old.1) (D.state self.new.1) }
-        ensures cause { IsErrOf result Refusal.DiskFault → Rises (D.state self.old.1).faults (D.state self.new.1).faults }
+        ensures writes { WritesDisk (IsErrOf result Refusal.DiskFault) (D.state self.old.1) (D.state self.new.1) }
     {
         steps_keep_a_state_valid();
         steps_keep_a_state_storable();
@@ -133,8 +158,7 @@ impl<D: Disk> Manager<D> {
         requires client { IsClient client }
         ensures step { (told : Bool) → Steps told self.old.0 client (calls.FlushTo area lsn) replies.Flushed result self.new.0 }
         ensures quiet { calls_disk self.old.0 (calls.FlushTo area lsn) ≡ false → self.new.1 ≡ self.old.1 }
-        ensures time { Later (D.state self.old.1) (D.state self.new.1) }
-        ensures cause { IsErrOf result Refusal.DiskFault → Rises (D.state self.old.1).faults (D.state self.new.1).faults }
+        ensures writes { WritesDisk (IsErrOf result Refusal.DiskFault) (D.state self.old.1) (D.state self.new.1) }
     {
         steps_keep_a_state_valid();
         steps_keep_a_state_storable();

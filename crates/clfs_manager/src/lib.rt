@@ -6,15 +6,24 @@
 //! in them leaves the files as they were.
 //!
 //! `create_area`, `delete_area`, `release`, `align` and `end_read` are calls on areas, which no disk has. `flush` and `flush_to` write what waits as one
-//! group of blocks, so that a crash leaves all of it or none.
+//! group of blocks, so that a crash leaves all of it or none. `open_stream`, `advance`, which moves the base of a stream, and the calls that set policies
+//! and archiving write the base copy that follows the newest one, so that a crash leaves the old setting or the new one.
 //!
 //! Records are read by `read` and `read_next`, restart areas by `read_restart` and `previous_restart`, each at a cursor of an area. A record that
 //! isn't on the disk yet is given from memory, each other one from its block, which is read as a whole and kept for those beside it. `info` and
 //! `extents` tell what the log is like and what is to be archived, from memory alone.
+//!
+//! `set_size` gives the log more containers or fewer, and `reserve` sectors to an area, for which the log may grow. A change of the size is on the
+//! disk when it is answered; what areas hold never is.
+//!
+//! `write_restart` writes a restart area and flushes the log; with it, in one step, the base of its stream moves.
 #![tactic(auto)]
 
+mod appending;
+mod archiving;
 mod areas;
 mod arguments;
+mod base;
 mod fetching;
 mod first_copy;
 mod flushing;
@@ -23,10 +32,21 @@ mod info;
 mod log;
 mod manager;
 mod measures;
+mod opening;
+mod preparing;
+mod putting;
 mod reaching;
 mod reading;
 mod refusal;
 mod refusals;
+mod reopening;
+mod replies;
+mod reserving;
+mod restarting;
+mod settings;
+mod sizes;
+mod step;
+mod stored;
 
 pub use clfs_recover::LoadRefusal;
 pub use manager::{FormatRefused, LoadRefused, Manager};

@@ -21,8 +21,9 @@ use clfs_physical::Physical;
 use clfs_policy::Policies;
 use clfs_queue::Queue;
 use clfs_recover::{
-    HeadParts, logs_are_found_in_files, opened_bases_are_moved_by_records, opened_copies_fit,
-    opened_records_lie_in_order, opened_states_are_cut, opened_states_are_valid,
+    HeadParts, copies_without_fault_fit, logs_are_found_in_files,
+    opened_bases_are_moved_by_records, opened_copies_fit, opened_records_lie_in_order,
+    opened_states_are_cut, opened_states_are_valid,
 };
 use clfs_tables::{Tables, open_tables};
 use clfs_told::Told;
@@ -115,6 +116,7 @@ pub(crate) fn open_log(
     ensures whole { IfOk result (λ log. log.broken ≡ false) }
 {
     logs_are_found_in_files();
+    copies_without_fault_fit();
     opened_states_are_valid();
     opened_states_are_cut();
     opened_copies_fit();

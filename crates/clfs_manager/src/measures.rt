@@ -140,6 +140,8 @@ impl Log {
         requires sound { IsSound self.now }
         ensures value { result ≡ grown_containers self.now.state.value wanted }
         ensures enough { active self.now.state.value ≤ result }
+        ensures more { self.now.state.value.containers ≤ result }
+        ensures limit { self.now.state.value.containers < result → result ≤ size_limit self.now.state.value }
         ensures few { result ≤ most_containers }
     {
         let shape = self.shape();
@@ -157,6 +159,8 @@ impl Log {
         requires sound { IsSound self.now }
         requires need { need < 2 ^ 31 }
         ensures containers { result.containers ≡ (grown self.now.state.value need).containers }
+        ensures more { self.now.state.value.containers ≤ result.containers }
+        ensures limit { self.now.state.value.containers < result.containers → result.containers ≤ size_limit self.now.state.value }
         ensures free { result.free ≡ free (grown self.now.state.value need) }
     {
         let have = self.containers();

@@ -5,7 +5,7 @@ ghost use Rattle.clfs_lsn.specs.Limits.{most_sizes};
 ghost use Rattle.clfs_lsn.specs.Lsn.{null_lsn};
 ghost use Rattle.clfs_model.specs.declared.refusal.Refusal.{Refusal};
 ghost use Rattle.clfs_model.specs.declared.state.Area.{Area};
-ghost use Rattle.clfs_model.specs.State.{stream_at, base_of};
+ghost use Rattle.clfs_model.specs.State.{area_of, stream_at, base_of};
 ghost use Rattle.clfs_model.specs.Live.{last_live};
 ghost use Rattle.clfs_model.specs.Policies.{policy_refusal};
 ghost use Rattle.clfs_model.specs.Put.{need_of, spent_of};
@@ -28,6 +28,7 @@ impl Log {
     pub(crate) fn area_for_records(&self, client: u16, number: u16) -> Result<usize, Refusal>
         requires sound { IsSound self.now }
         ensures within { IfOk result (λ place. place < length self.now.areas.areas) }
+        ensures there { IfOk result (λ place. area_of self.now.state.value client number ≡ Some (area_at place self.now.areas.areas)) }
         ensures found { IfOk result (λ place. (rest : Area → Option Refusal)
             → unless_two_containers self.now.state.value (in_area self.now.state.value client number rest) ≡ rest (area_at place self.now.areas.areas)) }
         ensures refused { IfErr result (λ refusal. (rest : Area → Option Refusal)
@@ -275,7 +276,7 @@ impl Log {
     }
 
     // The number of the stream of the area at a place.
-    fn area_stream(&self, place: usize) -> u16
+    pub(crate) fn area_stream(&self, place: usize) -> u16
         requires sound { IsSound self.now }
         requires place { place < length self.now.areas.areas }
         ensures value { result ≡ (area_at place self.now.areas.areas).stream }

@@ -2,7 +2,7 @@ ghost use Rattle.std.specs.Prelude.{◌≤◌};
 
 use super::*;
 use clfs_disk::{Disk, Fuse, Memory};
-use clfs_lsn::{Shape, Sizes};
+use clfs_lsn::{Policy, Shape, Sizes};
 use clfs_model::Refusal;
 use std::alloc::Global;
 use std::test::Fail;
@@ -158,7 +158,8 @@ fn a_log_is_opened_and_closed(rt: HostRuntime) -> Result<(), Fail> {
 
 // A log with the stream `a`, whose row is written into its base copy by hand.
 fn log_with_a_stream(alloc: Global) -> Result<Manager<Memory>, Fail> {
-    let Ok(mut disk) = Manager::format(alloc, Memory::new(alloc, 64, 65536, &[])?, SHAPE, 2) else {
+    let Ok(mut disk) = Manager::format(alloc, Memory::new(alloc, 128, 262144, &[])?, SHAPE, 2)
+    else {
         return Err("no log was made".into());
     };
     disk.write(0, 22, &[1])?;
@@ -256,5 +257,39 @@ fn areas_are_made_and_end(rt: HostRuntime) -> Result<(), Fail> {
         return Err("the log wasn't opened again".into());
     };
     assert_eq!(rt; manager.delete_area(2, 1), Err(Refusal::NoSuchArea));
+    Ok(())
+}
+
+// The containers of a log with a stream, and the sectors that its areas hold.
+fn size_of(manager: &Manager<Memory>) -> (u32, u32) {
+    match manager.info(1) {
+        Ok(info) => (info.containers, info.reserved),
+        Err(_) => (0, 0),
+    }
+}
+
+// The call has no clauses, so that a test with many of it has little to remember.
+fn set_size(manager: &mut Manager<Memory>, containers: u32) -> Result<u32, Refusal> {
+    manager.set_size(containers)
+}
+
+#[test]
+fn a_log_gets_another_size(rt: HostRuntime) -> Result<(), Fail> {
+    let alloc = rt.alloc();
+    let mut manager = log_with_a_stream(alloc)?;
+    assert_eq!(rt; set_size(&mut manager, 4), Ok(4));
+    assert_eq!(rt; set_size(&mut manager, 4), Ok(4));
+    assert_eq!(rt; set_size(&mut manager, 3), Ok(3));
+    let needed = Refusal::CantShrink { active: 1, need: 2 };
+    assert_eq!(rt; set_size(&mut manager, 1), Err(needed));
+    assert_eq!(rt; manager.install_policy(Policy::Maximum(6)), Ok(()));
+    let limit = Refusal::ContainerLimit { limit: 6 };
+    assert_eq!(rt; set_size(&mut manager, 7), Err(limit));
+
+    // It is on the disk.
+    let Ok(manager) = Manager::load(alloc, manager.close(), 4) else {
+        return Err("the log wasn't opened again".into());
+    };
+    assert_eq!(rt; size_of(&manager), (3, 0));
     Ok(())
 }

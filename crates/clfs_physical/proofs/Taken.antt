@@ -202,22 +202,16 @@ low_made first now = by_test (eqb first now.image.first)
     by_test true = (refl, refl)
     by_test false = (refl, refl)
 
-pub first_part : (A B C D : Files → Type 0) (a b : DiskState) → Leaves (λ f. A f ⊎ B f) a b → Leaves (λ f. A f ⊎ B f ⊎ C f ⊎ D f) a b
-first_part A B C D a b first = leaves_weaker (λ f. A f ⊎ B f) (λ f. A f ⊎ B f ⊎ C f ⊎ D f) a b
+pub first_part : (A B C : Files → Type 0) (a b : DiskState) → Leaves (λ f. A f ⊎ B f) a b → Leaves (λ f. A f ⊎ B f ⊎ C f) a b
+first_part A B C a b first = leaves_weaker (λ f. A f ⊎ B f) (λ f. A f ⊎ B f ⊎ C f) a b
     (λ f either. ⊎_elim (λ (x : A f). inl x) (λ (y : B f). inr (inl y)) either) first
 
-pub second_part : (A B C D : Files → Type 0) (a b : DiskState) → Leaves (λ f. B f ⊎ C f) a b → Leaves (λ f. A f ⊎ B f ⊎ C f ⊎ D f) a b
-second_part A B C D a b second = leaves_weaker (λ f. B f ⊎ C f) (λ f. A f ⊎ B f ⊎ C f ⊎ D f) a b
-    (λ f either. ⊎_elim (λ (x : B f). inr (inl x)) (λ (y : C f). inr (inr (inl y))) either) second
-
--- three calls of a turn
-pub turn_leaves : (A B C D : Files → Type 0) (a b c d : DiskState) → Leaves (λ f. A f ⊎ B f) a b → Leaves (λ f. B f ⊎ C f) b c → Leaves (λ f. C f ⊎ D f) c d
-    → Leaves (λ f. A f ⊎ B f ⊎ C f ⊎ D f) a d
-turn_leaves A B C D a b c d first second third =
-    let P : Files → Type 0 = λ f. A f ⊎ B f ⊎ C f ⊎ D f in
-    leaves_then P a c d
-    (leaves_then P a b c (first_part A B C D a b first) (second_part A B C D b c second))
-    (leaves_weaker (λ f. C f ⊎ D f) P c d (λ f either. inr (inr either)) third)
+-- two calls of a turn
+pub turn_leaves : (A B C : Files → Type 0) (a b c : DiskState) → Leaves (λ f. A f ⊎ B f) a b → Leaves (λ f. B f ⊎ C f) b c
+    → Leaves (λ f. A f ⊎ B f ⊎ C f) a c
+turn_leaves A B C a b c first second =
+    leaves_then (λ f. A f ⊎ B f ⊎ C f) a b c (first_part A B C a b first)
+    (leaves_weaker (λ f. B f ⊎ C f) (λ f. A f ⊎ B f ⊎ C f) b c (λ f either. inr either) second)
 
 -- it counts as many files
 pub low_counts : (first : ℕ) (now : Newest) (files : Files) → AreMade now.image files → AreMade (low_of first now).image files

@@ -5,7 +5,7 @@ use Rattle.clfs_base.specs.declared.image.BaseImage.{BaseImage}
 use Rattle.clfs_base.specs.Writing.{older_of}
 use Rattle.clfs_physical.specs.declared.change.Change.TheVariants as changes
 use Rattle.clfs_physical.specs.Changes.{with_next_turn, with_file, next_copy}
-use Rattle.clfs_physical.specs.Stored.{Blocks, IsIn, Newest, Stores, with_blocks, with_group}
+use Rattle.clfs_physical.specs.Stored.{Blocks, IsIn, Newest, Stores, with_blocks}
 
 -- The least of the files that were made, from 1 to so many, that isn't among these.
 pub record IsFree (made : ℕ) (files : List ℕ) (file : ℕ) : Type 0 where
@@ -32,12 +32,10 @@ low_of first now =
 abbrev pub taken_of : ℕ → Newest → Newest
 taken_of file now = record { slot = older_of now.slot; image = with_file file (with_next_turn now.image) }
 
--- While a log turns to its next container a crash leaves the log of before; or what waited is in it; or the copy lists no low
--- containers besides; or the next container is listed too, and has no open blocks. With `whole` all files that the copy counts have
--- their full lengths besides.
-abbrev pub InTurn : Bool → Newest → ℕ → ℕ → List (List ℕ) → Blocks → Files → Type 0
-InTurn whole now first file more blocks files =
+-- While a log turns to its next container a crash leaves the log of before; or the copy lists no low containers; or the next container is
+-- listed too, and has no open blocks. With `whole` all files that the copy counts have their full lengths besides.
+abbrev pub InTurn : Bool → Newest → ℕ → ℕ → Blocks → Files → Type 0
+InTurn whole now first file blocks files =
     Stores whole now blocks files
-    ⊎ Stores whole now (with_group now.image more blocks) files
-    ⊎ Stores whole (low_of first now) (with_group now.image more blocks) files
-    ⊎ Stores whole (taken_of file (low_of first now)) (with_blocks file [] (with_group now.image more blocks)) files
+    ⊎ Stores whole (low_of first now) blocks files
+    ⊎ Stores whole (taken_of file (low_of first now)) (with_blocks file [] blocks) files

@@ -1,9 +1,7 @@
 // Which file the next container takes.
-ghost use Rattle.std.specs.Prelude.{◌≡◌, ◌+◌, ◌<◌, ◌≤◌, ◌∷◌, ◌++◌, [], drop, length, true, false, IfOk};
+ghost use Rattle.std.specs.Prelude.{◌≡◌, ◌+◌, ◌<◌, ◌≤◌, ◌∷◌, ◌++◌, [], length, true, false, vec_capacity};
 ghost use Rattle.clfs_physical.specs.Stored.{IsIn};
 ghost use Rattle.clfs_physical.specs.Taking.{IsFree};
-
-use std::alloc::{AllocError, Global};
 
 // Whether the number of a file stands in a list.
 fn is_in(files: &[u16], file: u16) -> bool
@@ -25,13 +23,16 @@ pub fn free_file(made: u16, files: &[u16]) -> u16
     file
 }
 
-/// These files and another one behind them, in memory of its own.
-pub fn with_one_more(alloc: Global, files: &[u16], file: u16) -> Result<Vec<u16>, AllocError>
-    requires { length files.now ≤ 256 }
-    ensures { IfOk result (λ all. all.items ≡ files.now ++ file ∷ []) }
+/// These files and another one behind them, in memory that was taken before.
+pub fn with_one_more(room: Vec<u16>, files: &[u16], file: u16) -> Vec<u16>
+    requires empty { room.items ≡ [] }
+    requires capacity { length files.now + 1 ≤ vec_capacity room }
+    ensures { result.items ≡ files.now ++ file ∷ [] }
 {
-    let mut all = Vec::with_capacity(alloc, files.len() + 1)?;
-    all.extend_from_slice(files)?;
-    all.push(file)?;
-    Ok(all)
+    let mut all = room;
+    for listed in files {
+        all.push_reserved(*listed);
+    }
+    all.push_reserved(file);
+    all
 }

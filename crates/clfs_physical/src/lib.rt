@@ -3,7 +3,7 @@
 //! On its disk a log is the newest copy in the base file, and the open blocks of the files that this copy lists (`Stored` in
 //! specs/). `Physical` keeps that copy in memory with its slot, and has a call for each thing that is written: `flush` writes
 //! the blocks that wait as one group behind the open blocks of the last container; `write_copy`, `add_stream` and `drop_low`
-//! write the copy that follows; `turn` writes what waits, drops the containers that are no longer needed, and takes a file for the next
+//! write the copy that follows; `turn`, once nothing waits, drops the containers that are no longer needed and takes a file for the next
 //! container; `set_containers` makes files and then counts them. Whatever a call answers, a crash at any moment of it leaves
 //! the log of before, or with all of what a part of it writes: for a group the gate of its first block decides, for a copy
 //! the gate of its slot.

@@ -30,7 +30,7 @@ const COPY: usize = SLOT_BYTES as usize - 1;
 /// The newest base copy, the slot that it is in, and the memory in which the next one is spelled.
 #[derive(Drop)]
 pub struct Physical {
-    alloc: Global,
+    pub(crate) alloc: Global,
     image: BaseImage,
     slot: u32,
     bytes: Vec<u8>,

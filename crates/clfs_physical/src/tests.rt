@@ -65,19 +65,26 @@ fn is_small(physical: &Physical) -> bool
     image.first == 1 && image.files.as_slice().len() == 2 && image.containers == 2
 }
 
+// Whether the log turned to its next container.
+fn turned<D: Disk>(physical: &mut Physical, disk: &mut D) -> bool
+    requires first { physical.old.image.first ≡ 1 }
+    requires listed { length physical.old.image.files ≡ 2 }
+    requires containers { physical.old.image.containers ≡ 2 }
+{
+    match physical.room_for_turn() {
+        Ok(room) => physical.turn(disk, 2, room).is_ok(),
+        Err(_) => false,
+    }
+}
+
 // Whether it was written.
-fn is_written<D: Disk>(
-    alloc: Global,
-    writing: Writing,
-    physical: &mut Physical,
-    disk: &mut D,
-) -> bool {
+fn is_written<D: Disk>(writing: Writing, physical: &mut Physical, disk: &mut D) -> bool {
     if !is_small(physical) {
         return false;
     }
     match writing {
         Writing::Group => physical.flush(disk, 0, &group()).is_ok(),
-        Writing::Turn => physical.turn(alloc, disk, 0, &group(), 2).is_ok(),
+        Writing::Turn => physical.flush(disk, 0, &group()).is_ok() && turned(physical, disk),
         Writing::Copy => physical.drop_low(disk, 2).is_ok(),
         Writing::Growth => physical.set_containers(disk, 1, 4).is_ok(),
     }
@@ -176,7 +183,7 @@ fn a_crash_leaves_each_part_whole_or_not_at_all(rt: HostRuntime) -> Result<(), F
                 let (slot, image) = read_newest(alloc, &mut disk)?;
                 let mut physical = Physical::new(alloc, slot, image)?;
                 let mut fuse = Fuse::new(disk, passes);
-                let done = is_written(alloc, writing, &mut physical, &mut fuse);
+                let done = is_written(writing, &mut physical, &mut fuse);
                 assert_eq!(rt; done, passes >= calls, "{writing:?} after {passes} calls");
                 let parts = parts_left(gates, passes, pick);
                 let mut left = fuse.into_inner().crash(pick);

@@ -2,7 +2,7 @@
 // gate. So the buffer is the group that is written next, with all its gates open and the closed one behind it: who writes it leaves the
 // first gate out, and a crash leaves the whole group or none of it. Which records the queue has is a value that clauses alone read: the
 // bytes tell it, and no code needs a list of them.
-ghost use Rattle.std.specs.Prelude.{◌≡◌, ◌+◌, ◌-◌, ◌*◌, ◌^◌, ◌<◌, ◌≤◌, ◌∷◌, [], ℕ, List, false, length, Some, IfOk, IsSome};
+ghost use Rattle.std.specs.Prelude.{◌≡◌, ◌+◌, ◌-◌, ◌*◌, ◌^◌, ◌<◌, ◌≤◌, ◌∷◌, [], ℕ, List, false, length, nat_le, Some, IfOk, IsSome};
 ghost use Rattle.clfs_lsn.specs.Format.{sector_bytes};
 ghost use Rattle.clfs_lsn.specs.Limits.{most_write_buffers};
 ghost use Rattle.clfs_lsn.specs.Lsn.{lsn_number};
@@ -106,12 +106,26 @@ impl Queue {
         self.place
     }
 
+    /// How many write buffers the log has: once so many blocks wait, all are written.
+    pub fn buffers(&self) -> u32
+        ensures { result ≡ self.now.buffers }
+    {
+        self.buffers
+    }
+
     /// How many blocks wait.
     pub fn waiting(&self) -> usize
         ensures count { result ≡ length self.now.waiting }
         ensures few { result ≤ self.now.buffers + 1 }
     {
         self.waiting.len()
+    }
+
+    /// Whether with one block more as many wait as there are write buffers.
+    pub fn fills_buffers(&self) -> bool
+        ensures { result ≡ nat_le self.now.buffers (length self.now.waiting + 1) }
+    {
+        self.buffers as usize <= self.waiting.len() + 1
     }
 
     /// The LSN below which every record is on the disk: the start of the first block that waits; where none does, that of the open block,

@@ -8,4 +8,4 @@ use Rattle.clfs_engine.proofs.rows.words_of_lines.Goals as goal
 
 pub returns : goal.returns
 unfolding grown has_room request_in fine_outcome digits decode_pairs encode_with
-returns c = record { no_record = refl; offset = refl; sequence = refl; leading_zero = refl; no_verb = refl; not_answered = refl; options = refl; links = refl; modes = refl; upper_case = refl; odd_digits = refl }
+returns c = record { no_record = refl; offset = refl; sequence = refl; leading_zero = refl; no_verb = refl; opening = refl; options = refl; links = refl; modes = refl; upper_case = refl; odd_digits = refl }

@@ -5,12 +5,12 @@ use Rattle.clfs_manager.proofs.fetching.fetch.Goals as goal
 
 pub returns-in-Ok-clause-left : goal.returns-in-Ok-clause-left
 returns-in-Ok-clause-left g c = left_buffers (g.D.Disk.state c.args.disk.now) (g.D.Disk.state c.stored_entry.new.disk) c.args.log.now c.stored_entry.new.log
-    c.in-Ok.ensures.log c.in-Ok.ensures.same c.in-Ok.ensures.time.nature c.in-Ok.ensures.kept c.requires.sound c.requires.open
+    c.in-Ok.ensures.log c.in-Ok.ensures.same c.in-Ok.ensures.time c.in-Ok.ensures.kept c.requires.sound c.requires.open
 
 pub returns-in-Err-clause-left : goal.returns-in-Err-clause-left
 returns-in-Err-clause-left g c = left_refused c.refuse.result (g.D.Disk.state c.stored_entry.new.disk) c.stored_entry.new.log c.refuse.new.log
     (left_buffers (g.D.Disk.state c.args.disk.now) (g.D.Disk.state c.stored_entry.new.disk) c.args.log.now c.stored_entry.new.log
-    c.in-Err.ensures.log c.in-Err.ensures.same c.in-Err.ensures.time.nature c.in-Err.ensures.kept c.requires.sound c.requires.open)
+    c.in-Err.ensures.log c.in-Err.ensures.same c.in-Err.ensures.time c.in-Err.ensures.kept c.requires.sound c.requires.open)
     c.refuse.ensures.state c.refuse.ensures.memory c.refuse.ensures.broken
 
 pub returns-in-Err-clause-reads : goal.returns-in-Err-clause-reads

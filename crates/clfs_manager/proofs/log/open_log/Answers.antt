@@ -7,6 +7,7 @@ use Rattle.clfs_recover.specs.Files.{state_of}
 use Rattle.clfs_recover.specs.Walk.{shape_of}
 use Rattle.clfs_manager.proofs.Heads.{heads_rise, all_heads}
 use Rattle.clfs_manager.proofs.Opened.{rows_and_heads, none_from, ends_fit, below_start, streams_long}
+use Rattle.clfs_manager.proofs.OpenedOnDisk.{opened_needed}
 use Rattle.clfs_manager.proofs.log.open_log.Goals as goal
 
 pub open_tables-requires : goal.open_tables-requires
@@ -84,4 +85,14 @@ returns-clause-holds c =
       rows = ap (λ (n : Newest). length n.image.streams) c.in_ok-physical.ensures
           ∙ sym (streams_long parts.image.streams parts.bases (c.opened_bases_are_moved_by_records.ensures.all f.0 parts f.1));
       listed = rw c.in_ok-physical.ensures (sym (c.opened_copies_fit.ensures.container f.0 parts f.1));
+      needed = omega (
+        arith,
+        ap (λ (n : Newest). n.image.first) c.in_ok-physical.ensures,
+        opened_needed parts c.args.write_buffers (record {
+          container = c.opened_copies_fit.ensures.container f.0 parts f.1;
+          some = (c.opened_copies_fit.ensures.image f.0 parts f.1).some_listed;
+          records = c.opened_records_lie_in_order.ensures.containers f.0 parts f.1;
+          fits = c.copies_without_fault_fit.ensures.fits parts.image _ (c.opened_copies_fit.ensures.right f.0 parts f.1);
+        }),
+      );
     })

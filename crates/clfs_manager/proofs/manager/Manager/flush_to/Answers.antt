@@ -8,6 +8,7 @@ use Rattle.clfs_model.specs.declared.state.State.{State}
 use Rattle.clfs_model.specs.Flush.{flush, flushed}
 use Rattle.clfs_model.specs.Refusals.{refusal}
 use Rattle.clfs_manager.proofs.FlushKeeps.{on_ok, on_err, managed_broken, managed_flushed}
+use Rattle.clfs_manager.proofs.Intact.{writes_fine, writes_seen}
 use Rattle.clfs_manager.proofs.manager.Manager.flush_to.Goals as goal
 
 pub invariant_of-self : goal.invariant_of-self
@@ -33,4 +34,13 @@ invariant_of-self-2 g c =
     c.steps_keep_a_state_valid.ensures.step c.steps_keep_a_state_storable.ensures.step (record { is_client = c.requires.client; arguments = tt })
     managed c.if-self.false (on_ok c.write_out.result ok c.write_out.ensures.state) step (on_ok c.write_out.result ok c.write_out.ensures.holds)
     (on_ok c.write_out.result ok c.write_out.ensures.same) (on_ok c.write_out.result ok c.write_out.ensures.stored)
-    (λ tells. rw c.write_out.ensures.time.nature at tells)
+    (on_ok c.write_out.result ok c.write_out.ensures.settled) c.write_out.ensures.time.nature
+
+pub returns-clause-writes : goal.returns-clause-writes
+returns-clause-writes g c =
+    let old = c.self.inside.log in
+    let ok = sym c.is_err.ensures.value ∙ c.if-is_err.false in
+    writes_seen g.D.Disk.state (old.state.value, c.self.inside.disk) c.args.self.now c.self.view_is _ (g.D.Disk.state c.write_out.new.disk)
+    (writes_fine _ (g.D.Disk.state c.self.inside.disk) (g.D.Disk.state c.write_out.new.disk) old.state.value c.write_out.new.self.state.value old c.write_out.new.self (λ f. cc f)
+    (c.self.invariant.whole c.if-self.false) (on_ok c.write_out.result ok c.write_out.ensures.stored) c.write_out.ensures.time
+    (λ calm made. (c.write_out.ensures.steady calm made).1))

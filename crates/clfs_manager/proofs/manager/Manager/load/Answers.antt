@@ -2,6 +2,7 @@ use Rattle.std.proofs.Common.{◌∙◌, refl, sym}
 use Rattle.clfs_recover.specs.Files.{state_of}
 use Rattle.clfs_recover.specs.Opening.{told_parts}
 use Rattle.clfs_manager.proofs.OpenedOnDisk.{AreListed, found_files, opened_open}
+use Rattle.clfs_manager.proofs.Settled.{honest_before}
 use Rattle.clfs_manager.proofs.manager.Manager.load.Goals as goal
 
 pub invariant_of-result : goal.invariant_of-result
@@ -26,7 +27,8 @@ invariant_of-result g c =
       broken = rw log.state (sym log.whole);
       whole = λ _. opened_open (g.D.Disk.state c.load_heads.new.disk) c.in-Ok-open_log.log parts c.args.write_buffers log.state log.holds log.newest log.kept listed
           (c.opened_states_are_cut.ensures.cut stands.0 s stands.1) found.0 stored.0 stored.1
-          (λ tells file. c.load_heads.ensures.same file ∙ found.1.1 (rw c.load_heads.ensures.time.nature at tells) file);
+          (λ tells file. c.load_heads.ensures.same file ∙ found.1.1 (rw c.load_heads.ensures.time.nature at tells) file)
+          (λ honest. c.in-Ok.ensures.settled (honest_before old (g.D.Disk.state c.load_heads.new.disk) c.load_heads.ensures.time.nature honest));
     }
 
 pub returns-in-Ok-open_log-clause-loaded : goal.returns-in-Ok-open_log-clause-loaded

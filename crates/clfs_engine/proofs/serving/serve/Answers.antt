@@ -1,0 +1,39 @@
+use Rattle.clfs_engine.specs.Answered.{AnswersLines}
+use Rattle.clfs_engine.proofs.Loaded.{is_answered}
+use Rattle.clfs_engine.proofs.ServingEnds.{answering_serves, refusal_serves}
+use Rattle.clfs_engine.proofs.serving.serve.Goals as goal
+
+pub returns-in-Ok : goal.returns-in-Ok
+returns-in-Ok g c =
+    let old = g.D.Disk.state c.args.disk in
+    let mid = g.D.Disk.state c.in-Ok.manager.1 in
+    let new = g.D.Disk.state c.served-status.new.manager.1 in
+    let s = c.in-Ok.manager.0 in
+    let t = c.served-status.new.manager.0 in
+    let load = c.in-Ok.ensures in
+    rw c.close.ensures (answering_serves (AnswersLines s mid t new) c.served-status.result c.args.write_buffers old new _ _ _ _ _ _ _ _
+    (is_answered c.args.write_buffers old mid new s t
+    (record {
+      stands = load.loaded;
+      buffers_are = load.buffers;
+      valid = load.valid;
+      storable = load.storable;
+      stable = load.stable;
+      same = load.same.0;
+      time = load.same.1;
+    })
+    (record { files = c.stored.ensures.files; settled = c.stored.ensures.settled }))
+    c.served-status.ensures)
+
+pub returns-in-Err : goal.returns-in-Err
+returns-in-Err g c =
+    let load = c.in-Err.ensures in
+    refusal_serves c.refused.result c.args.write_buffers c.in-Err.field-0.cause (g.D.Disk.state c.args.disk) (g.D.Disk.state c.in-Err.field-0.disk) _ _ _ _ _ _
+    (record {
+      is = load.refused;
+      cause = load.cause;
+      steady = load.steady;
+      same = load.same_refused.0;
+      time = load.same_refused.1;
+    })
+    c.refused.ensures

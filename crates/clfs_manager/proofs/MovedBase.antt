@@ -1,0 +1,188 @@
+-- A log of which the base of a stream moved, in memory and on the disk.
+use Rattle.std.proofs.Common.{◌≡◌, ℕ, ◌+◌, ◌-◌, ◌<◌, ◌≤◌, suc, Bool, true, false, refl, sym, ap, subst, ◌∙◌, inl, inr, List, [], ◌∷◌, length, map, arith}
+use Rattle.std.specs.Prelude.{All, Contains, Option, Some, None, is_some, ◌&&◌, ◌||◌, ◌==◌, nat_lt}
+use Rattle.std.specs.List.{last_or}
+use Rattle.std.proofs.lemmas.Bool.{cases_Bool, cases_lt, eqb-true, le-leb}
+use Rattle.std.proofs.lemmas.Bool.Decides.{nat_tests}
+use Rattle.std.proofs.lemmas.List.Elements.{All-head, All-tail, All-map, All-weaker, All-contains_itself}
+use Rattle.clfs_lsn.specs.Head.{head_of}
+use Rattle.clfs_lsn.specs.Lsn.{lsn_number, null_lsn, container_of}
+use Rattle.clfs_lsn.specs.declared.entry.Head.{Head}
+use Rattle.clfs_lsn.specs.declared.entry.LogEntry.{LogEntry}
+use Rattle.clfs_base.specs.Layout.{version_one}
+use Rattle.clfs_base.specs.Spelling.{IsImage}
+use Rattle.clfs_base.specs.declared.image.BaseImage.{BaseImage}
+use Rattle.clfs_model.specs.declared.state.State.{State}
+use Rattle.clfs_model.specs.declared.state.Stream.{Stream}
+use Rattle.clfs_model.specs.Heads.{heads_of}
+use Rattle.clfs_model.specs.Live.{hold, is_live, last_live, live, live_at, lsn_or_null}
+use Rattle.clfs_model.specs.Refusals.{is_base}
+use Rattle.clfs_model.specs.State.{base_of, set_base}
+use Rattle.clfs_buffers.specs.Buffered.{Buffered}
+use Rattle.clfs_physical.specs.Changes.{next_copy}
+use Rattle.clfs_physical.specs.Stored.{Blocks}
+use Rattle.clfs_physical.specs.declared.change.Change.TheVariants as changes
+use Rattle.clfs_recover.specs.Logs.{IsLogWith, stored_state, with_row_base}
+use Rattle.clfs_archive.specs.Blocks.{AreSealed}
+use Rattle.clfs_archive.specs.declared.block.BlockEnd.{BlockEnd}
+use Rattle.clfs_tables.specs.Tables.{base_in}
+use Rattle.clfs_manager.specs.Base.{with_base}
+use Rattle.clfs_manager.specs.OnDisk.{IsStored, AreKept}
+use Rattle.clfs_manager.proofs.Among.{contains_all, found, here, there}
+use Rattle.clfs_manager.proofs.Extents.{told_later}
+use Rattle.clfs_manager.proofs.Reached.{hold_below_live}
+
+-- ---- the new base
+
+-- a base that moved lies at or below what all lie at or below
+pub moved_below : (top number base : ℕ) (streams : List Stream) → 1 ≤ number → number ≤ length streams
+    → All (λ (stream : Stream). stream.base ≤ top) (set_base number base streams) → base ≤ top
+moved_below top number base [] some within all = absurd (omega (arith, some, within))
+moved_below top number base (stream ∷ streams) some within all = elim (cases_Bool (number == 1)) [
+  | inl is ↦
+      let moved : All (λ (stream : Stream). stream.base ≤ top) (record stream { base = base } ∷ streams) = rw is at all in
+      All-head (λ (stream : Stream). stream.base ≤ top) (record stream { base = base }) streams moved
+  | inr isnt ↦
+      let others : All (λ (stream : Stream). stream.base ≤ top) (stream ∷ set_base (number - 1) base streams) = rw isnt at all in
+      let low : 2 ≤ number = grind (arith, nat_tests, isnt, some) in
+      moved_below top (number - 1) base streams (omega (arith, low)) (omega (arith, within))
+      (All-tail (λ (stream : Stream). stream.base ≤ top) stream (set_base (number - 1) base streams) others)
+]
+
+pub length_set_base : (number base : ℕ) (streams : List Stream) → length (set_base number base streams) ≡ length streams
+length_set_base number base [] = refl
+length_set_base number base (stream ∷ streams) = elim (cases_Bool (number == 1)) [
+  | inl is ↦ rw is refl
+  | inr isnt ↦ rw isnt (ap suc (length_set_base (number - 1) base streams))
+]
+
+both_true : (a b : Bool) → (a && b) ≡ true → (a ≡ true) × (b ≡ true)
+both_true true true is = (refl, refl)
+both_true true false is = absurd (cc is)
+both_true false b is = absurd (cc is)
+
+either_true : (a b : Bool) → (a || b) ≡ true → a ≡ false → b ≡ true
+either_true true b is isnt = absurd (cc isnt)
+either_true false b is isnt = is
+
+-- a live record of a stream lies at or above its base
+live_from_base : (s : State) (stream : ℕ) (entry : LogEntry) → Contains (live s stream) entry → base_of s stream ≤ entry.lsn
+live_from_base s stream entry is =
+    let passes = (contains_all (λ (e : LogEntry). (e.stream == stream) && is_live s e) s.records entry is).1 in
+    let both = both_true (entry.stream == stream) (is_live s entry) passes in
+    let own : entry.stream ≡ stream = eqb-true entry.stream stream both.0 in
+    let from : base_of s entry.stream ≤ entry.lsn = grind (arith, nat_tests, both.1) in
+    subst (λ (number : ℕ). base_of s number ≤ entry.lsn) own from
+
+from_last : {X : Type 0} (x : X) (xs : List X) (y : X) → last_or (Some x) xs ≡ Some y → Contains (x ∷ xs) y
+from_last x [] y is = let same : x ≡ y = cc is in subst (Contains (x ∷ [])) same (here x [])
+from_last x (z ∷ zs) y is = there x y (z ∷ zs) (from_last z zs y is)
+
+last_among : {X : Type 0} (xs : List X) (y : X) → last_or None xs ≡ Some y → Contains xs y
+last_among [] y is = absurd (cc is)
+last_among (x ∷ xs) y is = from_last x xs y is
+
+-- So a base moves up alone.
+pub base_is_up : (s : State) (stream base : ℕ) → is_base s stream base ≡ true → base_of s stream ≤ base
+base_is_up s stream base is = by_live (live_at s stream base) refl
+  where
+    behind : (o : Option LogEntry) → last_or None (live s stream) ≡ o → (nat_lt null_lsn (lsn_or_null o) && (base == lsn_or_null o + 1)) ≡ true
+        → base_of s stream ≤ base
+    behind None at both = let low = (both_true (nat_lt null_lsn null_lsn) (base == null_lsn + 1) both).0 in absurd (cc low)
+    behind (Some entry) at both =
+        let next : base ≡ entry.lsn + 1 = eqb-true base (entry.lsn + 1) (both_true (nat_lt null_lsn entry.lsn) (base == entry.lsn + 1) both).1 in
+        omega (arith, next, live_from_base s stream entry (last_among (live s stream) entry at))
+
+    by_live : (o : Option LogEntry) → live_at s stream base ≡ o → base_of s stream ≤ base
+    by_live (Some entry) at =
+        let among = found (λ (e : LogEntry). e.lsn == base) (live s stream) entry at in
+        let same : entry.lsn ≡ base = eqb-true entry.lsn base among.1 in
+        subst (λ (n : ℕ). base_of s stream ≤ n) same (live_from_base s stream entry among.0)
+    by_live None at =
+        let last : (false || (nat_lt null_lsn (last_live s stream) && (base == last_live s stream + 1))) ≡ true =
+        subst (λ (o : Option LogEntry). (is_some o || (nat_lt null_lsn (last_live s stream) && (base == last_live s stream + 1))) ≡ true) at is in
+        behind (last_or None (live s stream)) refl last
+
+-- ---- what is needed no more
+
+start_below : (n : ℕ) → lsn_number (container_of n) 0 0 ≤ n
+start_below n = omega arith
+
+-- each record that lies in a container below the hold's is dead
+pub dead_below : (s : State) → All (λ (head : Head). head.lsn < lsn_number (container_of (hold s)) 0 0 → head.lsn < base_in s.streams head.stream) (heads_of s)
+dead_below s =
+    let low : ℕ = lsn_number (container_of (hold s)) 0 0 in
+    All-map (λ (head : Head). head.lsn < low → head.lsn < base_in s.streams head.stream) head_of s.records
+    (All-weaker (Contains s.records) (λ (entry : LogEntry). entry.lsn < low → entry.lsn < base_of s entry.stream) dead s.records (All-contains_itself s.records))
+  where
+    dead : (entry : LogEntry) → Contains s.records entry → entry.lsn < lsn_number (container_of (hold s)) 0 0 → entry.lsn < base_of s entry.stream
+    dead entry among below = elim (cases_lt entry.lsn (base_of s entry.stream)) [
+      | inl is ↦ is
+      | inr from ↦
+          let alive : is_live s entry ≡ true = le-leb (base_of s entry.stream) entry.lsn from in
+          absurd (omega (arith, hold_below_live s entry among alive, below, start_below (hold s)))
+    ]
+
+-- the same as memory has the streams and the heads
+pub dead_in : (s : State) (streams : List Stream) (heads : List Head) (low : ℕ) → streams ≡ s.streams → heads ≡ heads_of s
+    → low ≡ lsn_number (container_of (hold s)) 0 0 → All (λ (head : Head). head.lsn < low → head.lsn < base_in streams head.stream) heads
+dead_in s streams heads low of_streams of_heads of_low =
+    subst (λ (n : ℕ). All (λ (head : Head). head.lsn < n → head.lsn < base_in streams head.stream) heads) (sym of_low)
+    (subst (λ (rows : List Stream). All (λ (head : Head). head.lsn < lsn_number (container_of (hold s)) 0 0 → head.lsn < base_in rows head.stream) heads) (sym of_streams)
+    (subst (λ (all : List Head). All (λ (head : Head). head.lsn < lsn_number (container_of (hold s)) 0 0 → head.lsn < base_in s.streams head.stream) all) (sym of_heads)
+    (dead_below s)))
+
+-- ends of blocks that are told from an LSN on are told from every later one on
+pub sealed_later : (low high next : ℕ) (blocks : List BlockEnd) (heads : List Head) → low ≤ high → AreSealed low next blocks heads
+    → AreSealed high next blocks heads
+sealed_later low high next blocks heads le are =
+    record { told = told_later low high next blocks heads le are.told; below = are.below; start = are.start }
+
+-- ---- the copy
+
+-- a copy with the base of a stream moved, and another turn
+abbrev pub moved : ℕ → ℕ → ℕ → BaseImage → BaseImage
+moved stream base turn image = record (with_row_base stream base image) { turn = turn }
+
+-- It is one that a log can have, since the copy that was written is, which has its rows.
+pub moved_image : (image : BaseImage) (stream base turn first : ℕ) → IsImage version_one image → turn ≤ 2
+    → IsImage version_one (next_copy first (changes.Base stream base) image) → IsImage version_one (moved stream base turn image)
+moved_image image stream base turn first is of_turn next = record {
+  turn = of_turn;
+  shape = is.shape;
+  some_containers = is.some_containers;
+  containers_made = is.containers_made;
+  few_made = is.few_made;
+  first = is.first;
+  some_listed = is.some_listed;
+  few_listed = is.few_listed;
+  last_id = is.last_id;
+  maximum = is.maximum;
+  minimum = is.minimum;
+  growth = is.growth;
+  tail = is.tail;
+  files = is.files;
+  few_streams = next.few_streams;
+  rows = next.rows;
+}
+
+-- Of a state that is stored a base is moved, in the copy too.
+pub base_stored : (s : State) (slot : ℕ) (image : BaseImage) (blocks : Blocks) (stream base turn : ℕ)
+    → (stored : IsStored s (record { slot = slot; image = image }) blocks) → image.first ≤ container_of (hold (with_base stream base s))
+    → IsLogWith (with_row_base stream base image) (map blocks image.files) stored.entries
+    → stored_state (with_row_base stream base image) (map blocks image.files) stored.entries s.buffers
+    ≡ record (stored_state image (map blocks image.files) stored.entries s.buffers) {
+      streams = set_base stream base (stored_state image (map blocks image.files) stored.entries s.buffers).streams;
+    }
+    → IsStored (with_base stream base s) (record { slot = slot; image = moved stream base turn image }) blocks
+base_stored s slot image blocks stream base turn stored low log state = record {
+  entries = stored.entries;
+  log = record { within = log.within; read = log.read; right = log.right };
+  records = stored.records;
+  state = state ∙ ap (λ (u : State). record u { streams = set_base stream base u.streams }) stored.state;
+  needed = low;
+}
+
+-- the blocks that are kept are the state's still
+pub kept_moved : (s : State) (stream base : ℕ) (kept : Buffered) → AreKept s kept → AreKept (with_base stream base s) kept
+kept_moved s stream base kept are = record { stable = are.stable; records = are.records }

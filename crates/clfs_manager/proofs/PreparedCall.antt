@@ -1,0 +1,111 @@
+-- A call that puts a record into a log: what it finds once the log has grown and its area has spent, and how it is a step.
+use Rattle.std.proofs.Common.{◌≡◌, ℕ, ◌+◌, ◌<◌, ◌≤◌, ◌^◌, Bool, true, false, refl, sym, ap, subst, ◌∙◌, List, [], ◌∷◌, length, arith}
+use Rattle.std.specs.Prelude.{Option, Some, None, Err, IsErrOf, ◌==◌, find, if◌then◌else◌, nat_lt}
+use Rattle.std.specs.Option.{option_map_or}
+use Rattle.std.proofs.lemmas.Bool.{ltb-false}
+use Rattle.clfs_lsn.specs.Lsn.{null_lsn}
+use Rattle.clfs_lsn.specs.Place.{begins_here, joins}
+use Rattle.clfs_lsn.specs.declared.place.Place.{Place}
+use Rattle.clfs_lsn.specs.declared.shape.Shape.{Shape}
+use Rattle.clfs_laws.specs.Between.{MayTurn}
+use Rattle.clfs_model.specs.declared.call.Call.{Call}
+use Rattle.clfs_model.specs.declared.call.Call.TheVariants as calls
+use Rattle.clfs_model.specs.declared.refusal.Refusal.{Refusal}
+use Rattle.clfs_model.specs.declared.refusal.Refusal.TheVariants as refusals
+use Rattle.clfs_model.specs.declared.reply.Reply.TheVariants as replies
+use Rattle.clfs_model.specs.declared.reply.Happened.TheVariants.{Fine}
+use Rattle.clfs_model.specs.declared.state.Area.{Area}
+use Rattle.clfs_model.specs.declared.state.State.{State}
+use Rattle.clfs_model.specs.Answers.{Outcome, answer, outcome, restarted}
+use Rattle.clfs_model.specs.Happened.{happened_of_refusal}
+use Rattle.clfs_model.specs.Put.{need_of, next_lsn, spend_if, spent_of}
+use Rattle.clfs_model.specs.Refusals.{full, invalid_base, refused_if, refusal, restart_refusal, short, too_long}
+use Rattle.clfs_model.specs.State.{area_of}
+use Rattle.clfs_model.specs.Step.{Step, calls_disk, takes_memory}
+use Rattle.clfs_model.specs.Ways.{GoesTheseWays}
+use Rattle.clfs_manager.specs.Preparing.{LeavesOf}
+
+-- ---- shapes and places
+
+-- A log that has grown, and of which an area has spent, has the shape of before.
+pub shape_spent : (reserved : Bool) (area : Area) (n : ℕ) (s : State) → (spend_if reserved area n s).shape ≡ s.shape
+shape_spent true area n s = refl
+shape_spent false area n s = refl
+
+pub place_spent : (reserved : Bool) (area : Area) (n : ℕ) (s : State) → (spend_if reserved area n s).place ≡ s.place
+place_spent true area n s = refl
+place_spent false area n s = refl
+
+-- whether a record joins or begins is so by the shape and the place
+pub fits_as : (s u : State) (n : ℕ) → u.shape ≡ s.shape → u.place ≡ s.place → joins s.shape s.place n ≡ false → begins_here s.shape s.place n ≡ false
+    → (joins u.shape u.place n ≡ false) × (begins_here u.shape u.place n ≡ false)
+fits_as s u n shape place apart here = (
+  subst (λ (sh : Shape). joins sh u.place n ≡ false) (sym shape) (subst (λ (p : Place). joins s.shape p n ≡ false) (sym place) apart),
+  subst (λ (sh : Shape). begins_here sh u.place n ≡ false) (sym shape) (subst (λ (p : Place). begins_here s.shape p n ≡ false) (sym place) here),
+)
+
+-- so a further container has an id
+pub has_id : (s u : State) (n : ℕ) → u.shape ≡ s.shape → u.place ≡ s.place
+    → (joins u.shape u.place n ≡ false → begins_here u.shape u.place n ≡ false → MayTurn u)
+    → joins s.shape s.place n ≡ false → begins_here s.shape s.place n ≡ false → s.place.container + 1 < 2 ^ 32
+has_id s u n shape place may apart here =
+    let both = fits_as s u n shape place apart here in
+    let turn = may both.0 both.1 in
+    omega (arith, turn.id, ap (λ (p : Place). p.container) place)
+
+-- ---- refusals
+
+pub others_none : (test : Bool) (given : Refusal) (others : Option Refusal) → refused_if test given others ≡ None → (test ≡ false) × (others ≡ None)
+others_none true given others none = absurd (cc none)
+others_none false given others none = (refl, none)
+
+pub not_long : (greatest : ℕ) (lengths : List ℕ) (others : Option Refusal) → too_long greatest lengths others ≡ None → others ≡ None
+not_long greatest lengths others none = by_found (find (λ len. nat_lt greatest len) lengths) none
+  where
+    by_found : (found : Option ℕ) → option_map_or (λ len. Some (refusals.RecordTooLong len greatest)) found others ≡ None → others ≡ None
+    by_found None is = is
+    by_found (Some len) is = absurd (cc is)
+
+-- What a restart area takes of its area, this holds.
+pub restart_enough : (s : State) (area : Area) (bytes : List ℕ) (base : ℕ) (reserved : Bool) → restart_refusal s area bytes base reserved ≡ None
+    → spent_of reserved (length bytes) ≤ area.held
+restart_enough s area bytes base reserved none = ltb-false area.held (spent_of reserved (length bytes)) (by_base (base == null_lsn) (not_long area.largest (length bytes ∷ []) _ none))
+  where
+    by_base : (null : Bool) → (if null then short area (spent_of reserved (length bytes)) (full s (need_of reserved (length bytes) []))
+        else invalid_base s area.stream base (short area (spent_of reserved (length bytes)) (full s (need_of reserved (length bytes) [])))) ≡ None
+        → nat_lt area.held (spent_of reserved (length bytes)) ≡ false
+    by_base true is = (others_none _ _ _ is).0
+    by_base false is = (others_none _ _ _ (others_none _ _ _ is).1).0
+
+-- ---- steps
+
+-- A fault is one whatever the call answers else.
+pub as_fault : {A B : Type 0} (given other : Refusal) → IsErrOf {T = A} (Err given) other → IsErrOf {T = B} (Err given) other
+as_fault given other is = let same : given ≡ other = cc in ap (λ (r : Refusal). Err r) same
+
+-- A call that stops while it takes memory or grows the log is a step.
+pub leaves_step : GoesTheseWays → (told : Bool) (s t : State) (client : ℕ) (call : Call) (given : Refusal) → s.broken ≡ false → refusal s client call ≡ None
+    → calls_disk s call ≡ true → takes_memory call ≡ true → LeavesOf given s t → Step told s client call (happened_of_refusal given) (replies.Refused given) t
+leaves_step ways told s t client call refusals.NoMemory whole none asks takes leaves =
+    subst (λ (v : State). Step told s client call Fine (replies.Refused refusals.NoMemory) v) (sym leaves) (ways.no_memory told s client call Fine whole takes)
+leaves_step ways told s t client call refusals.DiskFault whole none asks takes leaves =
+    subst (λ (v : State). Step told s client call (happened_of_refusal refusals.DiskFault) (replies.Refused refusals.DiskFault) v) (sym leaves)
+    (ways.faulted told s client call whole none asks)
+leaves_step ways told s t client call _ whole none asks takes leaves = absurd leaves
+
+restart_answer : (s : State) (client number : ℕ) (area : Area) (bytes : List ℕ) (base : ℕ) (reserved : Bool) → area_of s client number ≡ Some area
+    → answer s client (calls.WriteRestart number bytes base reserved)
+    ≡ outcome (replies.Placed (next_lsn s (length bytes))) (restarted s area bytes base reserved)
+restart_answer s client number area bytes base reserved there =
+    ap (λ (found : Option Area). option_map_or
+    (λ (a : Area). outcome (replies.Placed (next_lsn s (length bytes))) (restarted s a bytes base reserved)) found
+    (outcome (replies.Refused refusals.NoSuchArea) s)) there
+
+pub restart_step : GoesTheseWays → (told : Bool) (s t : State) (client number : ℕ) (area : Area) (bytes : List ℕ) (base : ℕ) (reserved : Bool) (lsn : ℕ)
+    → s.broken ≡ false → refusal s client (calls.WriteRestart number bytes base reserved) ≡ None → area_of s client number ≡ Some area
+    → lsn ≡ next_lsn s (length bytes) → t ≡ restarted s area bytes base reserved
+    → Step told s client (calls.WriteRestart number bytes base reserved) Fine (replies.Placed lsn) t
+restart_step ways told s t client number area bytes base reserved lsn whole none there at state =
+    let is = restart_answer s client number area bytes base reserved there in
+    ways.answered told s client (calls.WriteRestart number bytes base reserved) (replies.Placed lsn) t whole none
+    (ap (λ (n : ℕ). replies.Placed n) at ∙ sym (ap (λ (o : Outcome). o.reply) is)) (state ∙ sym (ap (λ (o : Outcome). o.state) is))

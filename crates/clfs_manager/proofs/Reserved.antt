@@ -1,0 +1,96 @@
+-- Growth for a call, and an area that holds more sectors.
+use Rattle.std.proofs.Common.{◌≡◌, ℕ, ◌+◌, ◌<◌, ◌≤◌, Bool, true, false, refl, sym, ap, subst, ◌∙◌, ◌≢◌, List, [], ◌∷◌, length, arith}
+use Rattle.std.specs.Prelude.{◌&&◌, nat_lt, Option, None, Some, Result, Err, IsOk}
+use Rattle.std.specs.Option.{option_map_or}
+use Rattle.std.proofs.lemmas.List.Sums.{get_or-le-sum_by}
+use Rattle.std.proofs.lemmas.Bool.Decides.{nat_tests}
+use Rattle.clfs_disk.specs.State.{DiskState}
+use Rattle.clfs_areas.specs.Table.{all_held, area_at, no_area}
+use Rattle.clfs_model.specs.declared.state.Area.{Area}
+use Rattle.clfs_model.specs.declared.state.State.{State}
+use Rattle.clfs_model.specs.Put.{hold_sizes, with_more_held}
+use Rattle.clfs_model.specs.declared.refusal.Refusal.TheVariants as refusals
+use Rattle.clfs_model.specs.declared.call.Call.TheVariants as calls
+use Rattle.clfs_model.specs.declared.reply.Happened.TheVariants.{Fine}
+use Rattle.clfs_model.specs.declared.reply.Reply.TheVariants as replies
+use Rattle.clfs_model.specs.Answers.{Outcome, answer, outcome, reserved_for}
+use Rattle.clfs_model.specs.Refusals.{refused_if, refusal, size_refusal}
+use Rattle.clfs_model.specs.Space.{free, grown, grown_if, own_sum, reserved, size_limit, with_containers}
+use Rattle.clfs_model.specs.State.{area_of, change_area}
+use Rattle.clfs_model.specs.Step.{Step}
+use Rattle.clfs_model.specs.Storable.{IsStorable}
+use Rattle.clfs_model.specs.Valid.{IsValid}
+use Rattle.clfs_model.specs.Ways.{GoesTheseWays}
+use Rattle.clfs_manager.specs.Memory.{ChangesAreas, Holds, IsSound}
+use Rattle.clfs_manager.specs.Written.{IsIntact}
+use Rattle.clfs_manager.specs.declared.log.Log.{Log}
+use Rattle.clfs_manager.proofs.AreasChange.{holds_still, open_after}
+
+-- growth changes the number of containers alone
+grown_sized : (s : State) (need : ℕ) → grown s need ≡ with_containers (grown s need).containers s
+unfolding grown
+grown_sized s need = by_test (s.automatic && nat_lt (free s) (reserved s + need))
+  where
+    by_test : (test : Bool) → grown_if test s (reserved s + need) ≡ with_containers (grown_if test s (reserved s + need)).containers s
+    by_test true = refl
+    by_test false = refl
+
+-- so the state with as many containers is that of growth
+pub grown_is_sized : (s : State) (need containers : ℕ) → containers ≡ (grown s need).containers → with_containers containers s ≡ grown s need
+grown_is_sized s need containers is = ap (λ (n : ℕ). with_containers n s) is ∙ sym (grown_sized s need)
+
+-- a larger size within the limit isn't refused
+pub size_allowed : (s : State) (asked : ℕ) → s.containers < asked → asked ≤ size_limit s → size_refusal s asked ≡ None
+size_allowed s asked more limit =
+    let within : nat_lt (size_limit s) asked ≡ false = grind (arith, nat_tests, limit) in
+    let larger : nat_lt asked s.containers ≡ false = grind (arith, nat_tests, more) in
+    rw (within, larger) (neither (nat_lt s.containers asked))
+  where
+    neither : (test : Bool) → refused_if (test && false) (refusals.ContainerLimit (size_limit s)) None ≡ None
+    neither true = refl
+    neither false = refl
+
+-- lengths of records to come, of which there are some
+pub holds_more : (area : Area) (sizes : List ℕ) (s : State) → sizes ≢ [] → hold_sizes area sizes s ≡ change_area (with_more_held (own_sum sizes)) area.client area.number s
+holds_more area [] s some = absurd (some refl)
+holds_more area (n ∷ sizes) s some = refl
+
+-- A log of which the areas alone changed is sound where its state is one that a log can be in and that files can hold.
+pub sound_after : (old new : Log) → IsSound old → ChangesAreas old new → IsValid new.state.value → IsStorable new.state.value → IsSound new
+sound_after old new sound changes valid storable = record {
+  valid = valid;
+  storable = storable;
+  unbroken = changes.broken ∙ sound.unbroken;
+  whole = ap (λ (t : State). t.broken) changes.state ∙ sound.whole;
+  holds = subst (λ (t : State). Holds t new) (sym changes.state) (holds_still old new new.state.value.areas changes changes.areas sound.holds);
+}
+
+-- and intact where it was
+pub intact_after : (disk : DiskState) (old new : Log) → IsIntact disk old → ChangesAreas old new → IsSound new → IsIntact disk new
+intact_after disk old new intact changes sound = record {
+  sound = sound;
+  opened = open_after disk old new changes intact.opened;
+}
+
+-- what an area holds is among what all hold
+pub held_within : (areas : List Area) (place : ℕ) → place < length areas → (area_at place areas).held ≤ all_held areas
+held_within areas place within = get_or-le-sum_by (λ (area : Area). area.held) areas place no_area within
+
+-- a reservation that isn't refused, as a step
+reserve_answer : (s : State) (client number : ℕ) (area : Area) (sizes : List ℕ) → area_of s client number ≡ Some area
+    → answer s client (calls.Reserve number sizes) ≡ reserved_for s area sizes
+reserve_answer s client number area sizes there =
+    ap (λ (found : Option Area). option_map_or (λ (a : Area). reserved_for s a sizes) found (outcome (replies.Refused refusals.NoSuchArea) s)) there
+
+pub reserve_step : GoesTheseWays → (told : Bool) (s : State) (client number : ℕ) (area : Area) (sizes : List ℕ) → s.broken ≡ false
+    → refusal s client (calls.Reserve number sizes) ≡ None → area_of s client number ≡ Some area
+    → Step told s client (calls.Reserve number sizes) Fine (replies.Held (area.held + own_sum sizes)) (hold_sizes area sizes (grown s (own_sum sizes)))
+reserve_step ways told s client number area sizes whole none there =
+    let is = reserve_answer s client number area sizes there in
+    ways.answered told s client (calls.Reserve number sizes) (replies.Held (area.held + own_sum sizes)) (hold_sizes area sizes (grown s (own_sum sizes))) whole none
+    (sym (ap (λ (o : Outcome). o.reply) is)) (sym (ap (λ (o : Outcome). o.state) is))
+
+-- a call that met a fault of the disk in growth is one that grows
+pub fault_grows : {A E : Type 0} (grows : Bool) (result : Result A E) (error : E) (P : Type 0) → (grows ≡ false → IsOk result × P) → result ≡ Err error → grows ≡ true
+fault_grows true result error P quiet is = refl
+fault_grows false result error P quiet is = absurd (let ok = (quiet refl).0 in cc)

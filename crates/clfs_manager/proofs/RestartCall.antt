@@ -1,0 +1,106 @@
+-- What a restart area finds that isn't refused, and the log that ends in it.
+use Rattle.std.proofs.Common.{inl, inr, ◌≡◌, ℕ, ◌≤◌, Bool, true, false, refl, sym, subst, ◌∙◌, List, length, arith}
+use Rattle.std.specs.Prelude.{All, Option, None, ◌==◌, filter, nat_le, nat_lt}
+use Rattle.std.proofs.lemmas.Bool.{cases_Bool, ltb-false}
+use Rattle.std.proofs.lemmas.List.Elements.{All-filter}
+use Rattle.clfs_disk.specs.State.{DiskState}
+use Rattle.clfs_lsn.specs.Lsn.{null_lsn}
+use Rattle.clfs_lsn.specs.Place.{begins_here, frontier, joins}
+use Rattle.clfs_lsn.specs.declared.entry.LogEntry.{LogEntry}
+use Rattle.clfs_laws.specs.Between.{IsLaid, IsReadiedFor, IsWhole, KeepsTables, MayMove, MayPut}
+use Rattle.clfs_model.specs.declared.refusal.Refusal.{Refusal}
+use Rattle.clfs_model.specs.declared.state.State.{State}
+use Rattle.clfs_model.specs.declared.state.Stream.{Stream}
+use Rattle.clfs_model.specs.Answers.{rebased}
+use Rattle.clfs_model.specs.State.{base_of}
+use Rattle.clfs_tables.specs.Tables.{IsNumber, base_in}
+use Rattle.clfs_model.specs.Flush.{flush, flushed, seal}
+use Rattle.clfs_model.specs.Put.{next_lsn, put}
+use Rattle.clfs_model.specs.Refusals.{unless_two_containers}
+use Rattle.clfs_manager.specs.Fetching.{IsLeft}
+use Rattle.clfs_manager.specs.Restarts.{EndsInRestart}
+use Rattle.clfs_manager.specs.Written.{IsIntact}
+use Rattle.clfs_manager.specs.declared.log.Log.{Log}
+use Rattle.clfs_manager.proofs.MovedBase.{base_is_up}
+use Rattle.clfs_manager.proofs.Reached.{number_there}
+use Rattle.clfs_manager.proofs.PutRecord.{flushed_put, goes_on, put_is, waits_put, with_put}
+use Rattle.clfs_manager.proofs.Numbers.{flushed_below}
+use Rattle.clfs_manager.proofs.SplitRecords.{kept_from}
+
+-- a log that isn't refused has two containers
+pub two_containers : (s : State) (others : Option Refusal) → unless_two_containers s others ≡ None → 2 ≤ s.containers
+two_containers s others none = by_test (nat_lt s.containers 2) refl
+  where
+    by_test : (few : Bool) → nat_lt s.containers 2 ≡ few → 2 ≤ s.containers
+    by_test true is = let wrong = rw is at none in absurd (cc wrong)
+    by_test false is = ltb-false s.containers 2 is
+
+-- A log that is intact is left as it must be.
+pub left_intact : (disk : DiskState) (log : Log) → IsIntact disk log → IsLeft disk log
+left_intact disk log intact = record {
+  broken = intact.sound.whole ∙ sym intact.sound.unbroken;
+  whole = λ _. intact.opened;
+}
+
+-- So is one that a fault has broken.
+pub left_broken : (disk : DiskState) (log : Log) → log.state.value.broken ≡ true → log.broken ≡ true → IsLeft disk log
+left_broken disk log state broken = record { broken = state ∙ sym broken; whole = λ whole. absurd (let wrong = sym broken ∙ whole in cc wrong) }
+
+-- A record that was put is the last one that waits.
+pub ends_in : (u r : State) (entry : LogEntry) → IsReadiedFor u r entry → frontier r.place ≤ next_lsn r (length entry.bytes)
+    → All (λ (other : LogEntry). flushed (put u entry) ≤ other.lsn → other.new_base ≡ 0) u.records
+    → EndsInRestart (put u entry) entry.stream entry.new_base
+ends_in u r entry readied above older =
+    let placed : LogEntry = record entry { lsn = next_lsn r (length entry.bytes) } in
+    let same : put u entry ≡ with_put r entry = sym readied.put ∙ put_is r entry readied.ready in
+    let stable : flushed (with_put r entry) ≡ flushed r = flushed_put r entry (goes_on r (length entry.bytes) readied.valid readied.ready) in
+    let from : flushed (with_put r entry) ≤ placed.lsn = omega (arith, stable, flushed_below r readied.valid, above) in
+    let front : ℕ = flushed (with_put r entry) in
+    let waits : LogEntry → Bool = λ (e : LogEntry). nat_le front e.lsn in
+    let ends : ℕ → LogEntry → Type 0 = λ n e. n ≤ e.lsn → e.new_base ≡ 0 in
+    let still : All (ends front) r.records =
+    subst (λ (es : List LogEntry). All (ends front) es) (sym readied.records) (subst (λ (v : State). All (ends (flushed v)) u.records) same older) in
+    subst (λ (v : State). EndsInRestart v entry.stream entry.new_base) (sym same) (record {
+      others = filter waits r.records;
+      entry = placed;
+      records = waits_put front r.records placed from;
+      still = λ k d few. All-filter waits (ends front) r.records still k d few (kept_from front r.records k d few);
+      own = refl;
+      moves = refl;
+    })
+
+-- ---- the state that ends in a restart area
+
+seal_broken : (s : State) → (seal s).broken ≡ s.broken
+seal_broken s = elim (cases_Bool (nat_lt 0 s.place.records)) [ inl some ↦ rw some refl | inr none ↦ rw none refl ]
+
+pub put_broken : (s : State) (entry : LogEntry) → (put s entry).broken ≡ s.broken
+put_broken s entry = elim (cases_Bool (joins s.shape s.place (length entry.bytes))) [
+  | inl join ↦ rw join refl
+  | inr apart ↦ elim (cases_Bool (begins_here s.shape s.place (length entry.bytes))) [
+    | inl begin ↦ rw (apart, begin) (seal_broken s)
+    | inr none ↦ rw (apart, none) (seal_broken s)
+  ]
+]
+
+-- What is asked of a state whose last record is a restart area that isn't on the disk.
+pub record MayFinish (p : State) (stream base : ℕ) : Type 0 where
+  pub laid : IsLaid p
+  pub last : EndsInRestart p stream base
+  pub there : IsNumber p.streams stream
+  pub up : (base == null_lsn) ≡ false → base_of p stream ≤ base
+  pub whole : IsWhole (rebased stream base (flush p))
+
+pub may_finish : (v r : State) (entry : LogEntry) → MayPut v entry → MayMove v entry.stream entry.new_base → IsReadiedFor v r entry
+    → frontier r.place ≤ next_lsn r (length entry.bytes) → IsLaid (put v entry)
+    → IsWhole (rebased entry.stream entry.new_base (flush (put v entry))) → KeepsTables v (put v entry)
+    → All (λ (other : LogEntry). flushed (put v entry) ≤ other.lsn → other.new_base ≡ 0) v.records
+    → MayFinish (put v entry) entry.stream entry.new_base
+may_finish v r entry may move readied above laid whole keeps older = record {
+  laid = laid;
+  last = ends_in v r entry readied above older;
+  there = subst (λ (streams : List Stream). IsNumber streams entry.stream) (sym keeps.streams) (number_there v.streams entry.stream may.stream);
+  up = λ some. subst (λ (streams : List Stream). base_in streams entry.stream ≤ entry.new_base) (sym keeps.streams)
+      (base_is_up v entry.stream entry.new_base (move some));
+  whole = whole;
+}

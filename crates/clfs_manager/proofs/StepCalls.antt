@@ -1,0 +1,64 @@
+-- What a call by name tells, by its step.
+use Rattle.std.proofs.Common.{◌≡◌, ◌≢◌, ℕ, Bool, true, false, sym, ap, subst, ◌∙◌, inl, inr, Ok, Err}
+use Rattle.std.specs.Prelude.{◌⊎◌, Result, MatchBool, IsTrue, IsErrOf}
+use Rattle.clfs_disk.specs.State.{DiskState}
+use Rattle.clfs_model.specs.declared.call.Call.{Call}
+use Rattle.clfs_model.specs.declared.refusal.Refusal.{Refusal}
+use Rattle.clfs_model.specs.declared.refusal.Refusal.TheVariants as refusals
+use Rattle.clfs_model.specs.declared.reply.Reply.{Reply}
+use Rattle.clfs_model.specs.declared.reply.Reply.TheVariants as replies
+use Rattle.clfs_model.specs.declared.state.State.{State}
+use Rattle.clfs_model.specs.Happened.{happened_of}
+use Rattle.clfs_model.specs.Step.{Step, IsBroken, IsOutOfMemory, IsDamaged, reads_disk, calls_disk}
+use Rattle.clfs_manager.specs.Calls.{replied, Steps}
+use Rattle.clfs_manager.specs.Written.{WritesDisk}
+use Rattle.clfs_manager.proofs.Intact.{writes_as, writes_nothing}
+
+-- a reply that is neither that the log is broken nor want of memory comes of a step that goes on
+goes_on : (broken : Bool) (P : Type 0) (s : State) (reply : Reply) (t : State) (Q : Type 0) → reply ≢ replies.Refused refusals.Broken → reply ≢ replies.Refused refusals.NoMemory
+    → MatchBool broken (IsBroken s reply t) ((P × IsOutOfMemory s reply t) ⊎ Q) → Q
+goes_on true P s reply t Q unbroken memory is = absurd (unbroken is.0)
+goes_on false P s reply t Q unbroken memory (inl want) = absurd (memory want.1.0)
+goes_on false P s reply t Q unbroken memory (inr goes) = goes
+
+never_true : (b : Bool) → b ≡ false → IsTrue b → ⊥
+never_true b never is = let clash = sym never ∙ is in cc clash
+
+-- no damage is told where nothing is read
+step_undamaged : (told : Bool) (s : State) (client : ℕ) (call : Call) (reply : Reply) (t : State) → reads_disk call ≡ false
+    → Step told s client call (happened_of reply) reply t → IsDamaged reply → ⊥
+unfolding Step
+step_undamaged told s client call (replies.Refused (refusals.Damaged container offset at)) t unread step is =
+    let goes = goes_on s.broken _ s _ t _ (λ e. cc e) (λ e. cc e) step in never_true (reads_disk call) unread goes.1.0
+step_undamaged told s client call _ t unread step is = is
+
+pub undamaged : {A : Type 0} (told : Bool) (s : State) (client : ℕ) (call : Call) (answer : A → Reply) (result : Result A Refusal) (reply : Reply) (t : State) → reads_disk call ≡ false
+    → reply ≡ replied answer result → Steps told s client call answer result t → IsDamaged reply → ⊥
+undamaged told s client call answer result reply t unread is step damaged = step_undamaged told s client call (replied answer result) t unread step (subst IsDamaged is damaged)
+
+-- no fault is told where the disk isn't called
+step_unfaulted : (told : Bool) (s : State) (client : ℕ) (call : Call) (reply : Reply) (t : State) → calls_disk s call ≡ false
+    → Step told s client call (happened_of reply) reply t → reply ≡ replies.Refused refusals.DiskFault → ⊥
+unfolding Step
+step_unfaulted told s client call reply t uncalled step is =
+    let faulted = subst (λ (r : Reply). Step told s client call (happened_of r) r t) is step in
+    let goes = goes_on s.broken _ s _ t _ (λ e. cc e) (λ e. cc e) faulted in never_true (calls_disk s call) uncalled goes.1.0
+
+-- a call that has nothing of the disk leaves it as it was
+pub still : {A : Type 0} (told : Bool) (s : State) (client : ℕ) (call : Call) (answer : A → Reply) (result : Result A Refusal) (reply : Reply) (t : State) (disk : DiskState)
+    → calls_disk s call ≡ false → reply ≡ replied answer result → Steps told s client call answer result t → WritesDisk (reply ≡ replies.Refused refusals.DiskFault) disk disk
+still told s client call answer result reply t disk uncalled is step =
+    writes_nothing (reply ≡ replies.Refused refusals.DiskFault) disk (λ fault. step_unfaulted told s client call (replied answer result) t uncalled step (sym is ∙ fault))
+
+-- a call that may write, by its reply
+pub written : {A : Type 0} (answer : A → Reply) (result : Result A Refusal) (reply : Reply) (old new : DiskState) → ((x : A) → answer x ≢ replies.Refused refusals.DiskFault)
+    → reply ≡ replied answer result → WritesDisk (IsErrOf result refusals.DiskFault) old new → WritesDisk (reply ≡ replies.Refused refusals.DiskFault) old new
+written {A} answer result reply old new never is writes = writes_as _ _ old new (λ fault. is ∙ to result fault) (λ fault. from result (sym is ∙ fault)) writes
+  where
+    to : (r : Result A Refusal) → IsErrOf r refusals.DiskFault → replied answer r ≡ replies.Refused refusals.DiskFault
+    to (Ok x) fault = absurd (cc fault)
+    to (Err refusal) fault = let same : refusal ≡ refusals.DiskFault = cc fault in ap (λ (r : Refusal). replies.Refused r) same
+
+    from : (r : Result A Refusal) → replied answer r ≡ replies.Refused refusals.DiskFault → IsErrOf r refusals.DiskFault
+    from (Ok x) fault = absurd (never x fault)
+    from (Err refusal) fault = cc fault

@@ -1,0 +1,188 @@
+use Rattle.std.proofs.Common.{◌≡◌, ℕ, ◌+◌, ◌-◌, ◌%◌, ◌≤◌, refl, sym, ap, subst, ◌∙◌, List, [], ◌∷◌, ◌++◌, map, length, arith, Err}
+use Rattle.std.specs.Prelude.{None}
+use Rattle.std.proofs.lemmas.List.{length-append, length-drop}
+use Rattle.clfs_lsn.specs.Lsn.{null_lsn, container_of}
+use Rattle.clfs_base.specs.Layout.{version_one}
+use Rattle.clfs_base.specs.Spelling.{IsImage}
+use Rattle.clfs_base.specs.Writing.{older_of}
+use Rattle.clfs_base.specs.declared.image.BaseImage.{BaseImage}
+use Rattle.clfs_base.specs.declared.image.Row.{Row}
+use Rattle.clfs_model.specs.declared.state.State.{State}
+use Rattle.clfs_model.specs.declared.state.Stream.{Stream}
+use Rattle.clfs_archive.specs.Blocks.{AreSealed}
+use Rattle.clfs_model.specs.Flush.{block_start}
+use Rattle.clfs_model.specs.Heads.{heads_of}
+use Rattle.clfs_model.specs.Live.{hold}
+use Rattle.clfs_model.specs.Refusals.{stream_number_from}
+use Rattle.clfs_physical.specs.Changes.{IsNewRow, next_copy, with_stream as with_row}
+use Rattle.clfs_physical.specs.Stored.{Newest}
+use Rattle.clfs_physical.specs.declared.change.Change.TheVariants as changes
+use Rattle.clfs_physical.specs.declared.refusal.PhysicalRefusal.{PhysicalRefusal}
+use Rattle.clfs_recover.specs.Files.{streams_with}
+use Rattle.clfs_recover.specs.Logs.{from_container, stored_state}
+use Rattle.clfs_recover.specs.Walk.{bases_with, shape_of}
+use Rattle.clfs_manager.specs.Flushing.{StoredAfter}
+use Rattle.clfs_manager.specs.Memory.{Holds}
+use Rattle.clfs_manager.specs.OnDisk.{IsStored, AreKept}
+use Rattle.clfs_manager.specs.Streams.{with_stream}
+use Rattle.clfs_manager.specs.Written.{IsIntact, WritesDisk}
+use Rattle.clfs_manager.specs.declared.log.Log.{Log}
+use Rattle.clfs_manager.proofs.AddedStream.{added, intact_reserved, is_name, kept_added, low_image, no_row, open_allowed, stream_stored}
+use Rattle.clfs_manager.proofs.CopiedLog.{copy_stored, hold_kept, stored_among}
+use Rattle.clfs_manager.proofs.Intact.{intact_done, writes_failed, writes_fine, writes_nothing}
+use Rattle.clfs_manager.proofs.Numbers.{hold_within}
+use Rattle.clfs_manager.proofs.log.Log.add_stream.Goals as goal
+use Rattle.clfs_manager.proofs.log.Log.add_stream.Given.{Over}
+
+pub add_stream-requires-clause-row : goal.add_stream-requires-clause-row
+add_stream-requires-clause-row g c =
+    let s : State = c.args.self.now.state.value in
+    let image : BaseImage = c.args.self.now.physical.image in
+    let holds = c.requires.intact.sound.holds in
+    let stored = c.requires.intact.opened.stored in
+    let parts = open_allowed s c.args.name.now c.requires.allowed c.requires.new in
+    let bases : List ℕ = bases_with image.streams stored.entries in
+    let streams : streams_with image.streams bases ≡ s.streams = ap (λ (u : State). u.streams) stored.state in
+    let none : stream_number_from 1 c.args.name.now (streams_with image.streams bases) ≡ None =
+    subst (λ (rows : List Stream). stream_number_from 1 c.args.name.now rows ≡ None) (sym streams) c.requires.new in
+    let long : length (streams_with image.streams bases) ≡ length image.streams = ap length streams ∙ sym holds.rows in
+    subst (λ (row : Row). IsNewRow row image) (sym c.in_ok-row.ensures) (record {
+      few = omega (arith, parts.1, holds.rows);
+      name = is_name c.args.name.now parts.0;
+      other = λ i within same. no_row image.streams bases 1 c.args.name.now long none i within same;
+      base = omega arith;
+    })
+
+pub returns-in-Err-NoMemory-clause-refused : goal.returns-in-Err-NoMemory-clause-refused
+returns-in-Err-NoMemory-clause-refused g c =
+    let old = c.args.self.now in
+    let none = c.add_stream.ensures.no_memory (c.in-Err-NoMemory.is ∙ ap (λ (e : PhysicalRefusal). Err e) c.in-Err-NoMemory.field-0-is) in
+    let same : IsIntact (g.D.Disk.state c.args.disk.now) (record old { tables = c.reserve_stream.new.self }) =
+    intact_reserved (g.D.Disk.state c.args.disk.now) old c.reserve_stream.new.self c.reserve_stream.ensures.same c.requires.intact in (
+      refl,
+      subst (λ d. IsIntact (g.D.Disk.state d) (record old { tables = c.reserve_stream.new.self; physical = c.add_stream.new.self })) (sym none.1)
+          (subst (λ (n : Newest). IsIntact (g.D.Disk.state c.args.disk.now) (record old { tables = c.reserve_stream.new.self; physical = n })) (sym none.0) same),
+    )
+
+pub returns-in-Err-NoMemory-clause-writes : goal.returns-in-Err-NoMemory-clause-writes
+returns-in-Err-NoMemory-clause-writes g c =
+    let none = c.add_stream.ensures.no_memory (c.in-Err-NoMemory.is ∙ ap (λ (e : PhysicalRefusal). Err e) c.in-Err-NoMemory.field-0-is) in
+    subst (λ d. WritesDisk _ (g.D.Disk.state c.args.disk.now) (g.D.Disk.state d)) (sym none.1) (writes_nothing _ (g.D.Disk.state c.args.disk.now) (λ f. cc f))
+
+pub returns-in-Err-DiskFault-clause-writes : goal.returns-in-Err-DiskFault-clause-writes
+returns-in-Err-DiskFault-clause-writes g c =
+    let old = c.args.self.now in
+    let fault = c.in-Err-DiskFault.is ∙ ap (λ (e : PhysicalRefusal). Err e) c.in-Err-DiskFault.field-0-is in
+    writes_failed _ (g.D.Disk.state c.args.disk.now) (g.D.Disk.state c.add_stream.new.disk) old.state.value old refl c.requires.intact.opened
+    c.add_stream.ensures.time (c.add_stream.ensures.cause fault) (λ calm made. (c.add_stream.ensures.steady calm made).0 fault)
+
+module _ (g : Over) (c : goal.After-self-2-1 g) where
+  abbrev old : Log
+  old = c.args.self.now
+
+  abbrev s : State
+  s = c.args.self.now.state.value
+
+  abbrev t : State
+  t = with_stream c.args.name.now c.args.self.now.state.value
+
+  abbrev image : BaseImage
+  image = c.args.self.now.physical.image
+
+  abbrev new_row : Row
+  new_row = record { name = c.args.name.now; base = null_lsn }
+
+  newest_is : c.add_stream.new.self
+      ≡ record { slot = older_of c.args.self.now.physical.slot; image = with_row new_row (next_copy c.container-first.result changes.Listing c.args.self.now.physical.image) }
+  newest_is = c.in-Ok.ensures.now ∙ ap (λ (row : Row). let n : Newest = record {
+    slot = older_of c.args.self.now.physical.slot;
+    image = with_row row (next_copy c.container-first.result changes.Listing c.args.self.now.physical.image);
+  } in n) c.in_ok-row.ensures
+
+  first_is : c.container-first.result ≡ container_of (hold s)
+  first_is = c.container-first.ensures.value ∙ ap container_of c.hold.ensures.value
+
+  holds_then : Holds t (record old { tables = c.add_stream-2.new.self; physical = c.add_stream.new.self; state = c.with_stream-self.result })
+  holds_then =
+      let holds = c.requires.intact.sound.holds in
+      let same = c.reserve_stream.ensures.same in
+      let row : Row = new_row in
+      let stream : Stream = record { name = c.args.name.now; base = null_lsn } in
+      let of_name : List ℕ → List Stream = λ name. c.reserve_stream.new.self.streams ++ record { name = name; base = null_lsn } ∷ [] in
+      let low : c.add_stream-2.new.self.low ≡ old.tables.low = c.add_stream-2.ensures.low ∙ same.low in
+      record {
+        shape = holds.shape;
+        buffers = holds.buffers;
+        place = holds.place;
+        waiting = holds.waiting;
+        records = holds.records;
+        streams = c.add_stream-2.ensures.streams ∙ ap of_name c.in_ok-own.ensures ∙ ap (λ (rows : List Stream). rows ++ stream ∷ []) (same.streams ∙ holds.streams);
+        heads = c.add_stream-2.ensures.heads ∙ same.heads ∙ holds.heads;
+        low = omega (arith, low, holds.low, c.requires.held);
+        areas = holds.areas;
+        archive = holds.archive;
+        sealed = subst (λ (n : ℕ). AreSealed n (block_start s.place) old.archive.blocks (heads_of s)) (sym low) holds.sealed;
+        room = holds.room;
+        policies = holds.policies;
+        containers = ap (λ (n : Newest). n.image.containers) newest_is ∙ holds.containers;
+        image_shape = ap (λ (n : Newest). shape_of n.image) newest_is ∙ holds.image_shape;
+        rows = ap (λ (n : Newest). length n.image.streams) newest_is
+            ∙ (length-append image.streams (row ∷ []) ∙ ap (λ (n : ℕ). n + 1) holds.rows ∙ sym (length-append s.streams (stream ∷ [])));
+        listed = ap (λ (n : Newest). n.image.first + length n.image.files) newest_is
+            ∙ omega (arith, holds.listed, holds.needed, first_is, hold_within s c.requires.intact.sound.valid, length-drop (c.container-first.result - image.first) image.files);
+        needed = omega (arith, ap (λ (n : Newest). n.image.first) newest_is, first_is, c.requires.held);
+      }
+
+  stored_then : StoredAfter (g.D.Disk.state c.args.disk.now) (g.D.Disk.state c.add_stream.new.disk) s t c.args.self.now.physical c.add_stream.new.self
+  stored_then = λ blocks stored.
+      let sound = c.requires.intact.sound in
+      let holds = sound.holds in
+      let slot = older_of old.physical.slot in
+      let turn = (image.turn + 1) % 3 in
+      let first = c.container-first.result in
+      let is_image = c.image-newest.ensures.image in
+      let kept = hold_kept s stored.entries sound.valid (stored_among s image.first stored.entries stored.records) in
+      let under : first ≤ container_of (hold (stored_state image (map blocks image.files) stored.entries s.buffers)) =
+      omega (arith, first_is, kept, ap (λ (u : State). container_of (hold u)) stored.state) in
+      let low : image.first ≤ first = omega (arith, holds.needed, first_is) in
+      let held = c.low_containers_are_left_out.ensures.held image blocks stored.entries s.buffers first is_image stored.log under in
+      let dropped : IsStored s (record { slot = slot; image = from_container first image }) blocks =
+      copy_stored s slot image blocks stored.entries first stored.state stored.records low first_is
+      (c.low_containers_are_left_out.ensures.log image blocks stored.entries first is_image low held.0 held.1 stored.log)
+      (c.low_containers_are_left_out.ensures.same image blocks stored.entries s.buffers first is_image stored.log low under) in
+      let lower = from_container first image in
+      let next : IsImage version_one (with_row new_row (next_copy first changes.Listing image)) =
+      subst (λ (n : Newest). IsImage version_one n.image) newest_is c.image-added.ensures.image in
+      let lower_is = low_image image new_row first is_image next in
+      let is : IsStored t (record { slot = slot; image = added c.args.name.now turn lower }) blocks =
+      stream_stored s slot lower blocks c.args.name.now turn dropped (omega (arith, first_is, c.requires.held))
+      (c.streams_come_last.ensures.log lower (map blocks lower.files) dropped.entries new_row (omega arith) dropped.log)
+      (c.streams_come_last.ensures.state lower (map blocks lower.files) dropped.entries s.buffers new_row lower_is dropped.log) in
+      (blocks, (rw newest_is is, λ tells whole stores. c.in-Ok.ensures.written tells whole blocks stores))
+
+pub returns-clause-intact : goal.returns-clause-intact
+returns-clause-intact g c =
+    let s : State = c.args.self.now.state.value in
+    let t : State = with_stream c.args.name.now s in
+    let old = c.args.self.now in
+    let before = g.D.Disk.state c.args.disk.now in
+    let after = g.D.Disk.state c.add_stream.new.disk in
+    let new : Log = record old { tables = c.add_stream-2.new.self; physical = c.add_stream.new.self; state = c.with_stream-self.result } in
+    let state : c.with_stream-self.result.value ≡ t = c.with_stream-self.ensures in
+    intact_done before after old new t c.requires.intact c.requires.valid c.requires.storable (record {
+      state = state;
+      unbroken = refl;
+      broken = refl;
+      holds = subst (λ (u : State). Holds u new) (sym state) (holds_then g c);
+      stored = subst (λ (u : State). StoredAfter before after s u old.physical c.add_stream.new.self) (sym state) (stored_then g c);
+      kept = λ kept. subst (λ (u : State). AreKept u old.buffers) (sym state) (kept_added s c.args.name.now old.buffers kept);
+      settled = c.in-Ok.ensures.settled;
+      nature = c.add_stream.ensures.time.nature;
+    })
+
+pub returns-clause-writes : goal.returns-clause-writes
+returns-clause-writes g c =
+    let old = c.args.self.now in
+    writes_fine _ (g.D.Disk.state c.args.disk.now) (g.D.Disk.state c.add_stream.new.disk) old.state.value (with_stream c.args.name.now old.state.value) old
+    (record old { tables = c.add_stream-2.new.self; physical = c.add_stream.new.self; state = c.with_stream-self.result }) (λ f. cc f) c.requires.intact.opened
+    (stored_then g c) c.add_stream.ensures.time (λ calm made. (c.add_stream.ensures.steady calm made).1)

@@ -1,0 +1,30 @@
+use Rattle.std.proofs.Common.{◌≡◌, ℕ, ◌<◌, OnOk, refl, sym, ap, subst, ◌∙◌, arith, false}
+use Rattle.clfs_model.specs.declared.call.Call.TheVariants as calls
+use Rattle.clfs_model.specs.declared.reply.Happened.TheVariants.{Fine}
+use Rattle.clfs_model.specs.declared.reply.Reply.TheVariants as replies
+use Rattle.clfs_model.specs.declared.state.State.{State}
+use Rattle.clfs_model.specs.Space.{with_containers}
+use Rattle.clfs_manager.proofs.Reserved.{grown_is_sized, size_allowed}
+use Rattle.clfs_manager.proofs.log.Log.grow.Goals as goal
+
+pub returns-then-room-containers-clause-state : goal.returns-then-room-containers-clause-state
+returns-then-room-containers-clause-state g c =
+    let s : State = c.args.self.now.state.value in
+    ap (λ (n : ℕ). with_containers n s) (sym (c.if-room-containers.true ∙ c.containers.ensures.value))
+    ∙ grown_is_sized s c.args.need c.room_for-room.result.containers c.room_for-room.ensures.containers
+
+pub resize-requires-clause-valid : goal.resize-requires-clause-valid
+resize-requires-clause-valid g c =
+    let s : State = c.args.self.now.state.value in
+    let n = c.room_for-room.result.containers in
+    let sound = c.requires.intact.sound in
+    let more : s.containers < n = omega (arith, c.room_for-room.ensures.more, c.if-room-containers.false, c.containers.ensures.value) in
+    let step = c.ways_of_a_step.ensures.answered false s 1 (calls.SetSize n) (replies.Containers n) (with_containers n s) sound.whole
+    (size_allowed s n more (c.room_for-room.ensures.limit more)) refl refl in
+    c.steps_keep_a_state_valid.ensures.step false s 1 (calls.SetSize n) Fine (replies.Containers n) (with_containers n s) sound.valid step
+
+pub returns-clause-state : goal.returns-clause-state
+returns-clause-state g c =
+    let s : State = c.args.self.now.state.value in
+    subst (λ (t : State). OnOk c.resize.result (c.resize.new.self.state.value ≡ t))
+    (grown_is_sized s c.args.need c.room_for-room.result.containers c.room_for-room.ensures.containers) c.resize.ensures.state

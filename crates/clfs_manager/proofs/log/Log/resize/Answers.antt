@@ -1,0 +1,107 @@
+use Rattle.std.proofs.Common.{◌≡◌, true, false, ◌+◌, ◌%◌, ◌≤◌, max, refl, sym, ap, subst, ◌∙◌, map, arith}
+use Rattle.clfs_lsn.specs.Lsn.{container_of}
+use Rattle.clfs_base.specs.Writing.{older_of}
+use Rattle.clfs_model.specs.declared.state.State.{State}
+use Rattle.clfs_model.specs.Live.{hold}
+use Rattle.clfs_model.specs.Space.{with_containers}
+use Rattle.clfs_physical.specs.Changes.{with_containers as counting, next_copy}
+use Rattle.clfs_physical.specs.Stored.{Newest}
+use Rattle.clfs_physical.specs.declared.change.Change.TheVariants as changes
+use Rattle.clfs_recover.specs.Logs.{from_container, stored_state}
+use Rattle.clfs_manager.specs.OnDisk.{IsStored}
+use Rattle.clfs_manager.specs.Written.{IsIntact}
+use Rattle.clfs_manager.proofs.CopiedLog.{copy_stored, hold_kept, stored_among}
+use Rattle.clfs_manager.proofs.Intact.{intact_done}
+use Rattle.clfs_manager.proofs.Numbers.{hold_within}
+use Rattle.clfs_manager.proofs.Sized.{holds_sized, intact_grown, kept_sized, sized_stored, writes_sized}
+use Rattle.clfs_manager.proofs.StillStorable.{storable_sized}
+use Rattle.clfs_manager.proofs.log.Log.resize.Goals as goal
+
+pub set_containers-requires-clause-first : goal.set_containers-requires-clause-first
+set_containers-requires-clause-first g c =
+    omega (arith, c.requires.intact.sound.holds.needed, c.container-first.ensures.value, ap container_of c.hold.ensures.value)
+
+pub set_containers-requires-clause-listed : goal.set_containers-requires-clause-listed
+set_containers-requires-clause-listed g c =
+    let sound = c.requires.intact.sound in
+    omega (arith, sound.holds.listed, hold_within c.args.self.now.state.value sound.valid, c.container-first.ensures.value, ap container_of c.hold.ensures.value)
+
+pub set_containers-requires-clause-containers : goal.set_containers-requires-clause-containers
+set_containers-requires-clause-containers g c =
+    let valid = c.requires.valid in
+    let sound = c.requires.intact.sound in
+    record {
+      some = valid.ranges.some_containers;
+      few = valid.ranges.few_containers;
+      listed = omega (arith, valid.space.active, sound.holds.listed, c.container-first.ensures.value, ap container_of c.hold.ensures.value);
+    }
+
+pub returns-in-Ok-clause-intact : goal.returns-in-Ok-clause-intact
+returns-in-Ok-clause-intact g c =
+    let old = c.args.self.now in
+    let s : State = old.state.value in
+    let n = c.args.containers in
+    let t : State = with_containers n s in
+    let intact = c.requires.intact in
+    let sound = intact.sound in
+    let holds = sound.holds in
+    let image = old.physical.image in
+    let slot = older_of old.physical.slot in
+    let turn = (image.turn + 1) % 3 in
+    let first = c.container-first.result in
+    let is_first : first ≡ container_of (hold s) = c.container-first.ensures.value ∙ ap container_of c.hold.ensures.value in
+    let newest : c.set_containers.new.self ≡ record { slot = slot; image = counting n (next_copy first changes.Listing image) } = c.in-Ok.ensures.now in
+    let is_image = c.image-newest.ensures.image in
+    intact_done (g.D.Disk.state c.args.disk.now) (g.D.Disk.state c.set_containers.new.disk) old _ t intact c.requires.valid (storable_sized s n sound.storable) (record {
+      state = c.with_containers-self.ensures;
+      unbroken = refl;
+      broken = refl;
+      holds = holds_sized old _ slot first n sound.valid holds c.with_containers-self.ensures newest is_first
+          (record { tables = refl; areas = refl; archive = refl; policies = refl; queue = refl; buffers = refl; broken = refl });
+      stored = λ blocks stored.
+          let kept = hold_kept s stored.entries sound.valid (stored_among s image.first stored.entries stored.records) in
+          let under : first ≤ container_of (hold (stored_state image (map blocks image.files) stored.entries s.buffers)) =
+          omega (arith, is_first, kept, ap (λ (u : State). container_of (hold u)) stored.state) in
+          let low : image.first ≤ first = omega (arith, holds.needed, is_first) in
+          let held = c.low_containers_are_left_out.ensures.held image blocks stored.entries s.buffers first is_image stored.log under in
+          let dropped : IsStored s (record { slot = slot; image = from_container first image }) blocks =
+          copy_stored s slot image blocks stored.entries first stored.state stored.records low is_first
+          (c.low_containers_are_left_out.ensures.log image blocks stored.entries first is_image low held.0 held.1 stored.log)
+          (c.low_containers_are_left_out.ensures.same image blocks stored.entries s.buffers first is_image stored.log low under) in
+          let lower = from_container first image in
+          let is = sized_stored s slot lower blocks n turn dropped
+          (c.settings_leave_the_records.ensures.log lower (map blocks lower.files) dropped.entries turn n (max lower.files_made n)
+          lower.maximum lower.minimum lower.growth lower.automatic dropped.log)
+          (c.settings_leave_the_records.ensures.state lower (map blocks lower.files) dropped.entries s.buffers turn n (max lower.files_made n)
+          lower.maximum lower.minimum lower.growth lower.automatic) in
+          (blocks, (rw (c.with_containers-self.ensures, newest) is, λ tells whole stores. c.in-Ok.ensures.written tells whole blocks stores));
+      kept = λ kept. rw c.with_containers-self.ensures (kept_sized s n old.buffers kept);
+      settled = c.in-Ok.ensures.settled (λ wrong. cc);
+      nature = c.set_containers.ensures.time.nature;
+    })
+
+pub returns-in-Ok-clause-writes : goal.returns-in-Ok-clause-writes
+returns-in-Ok-clause-writes g c =
+    let done = c.in-Ok.ensures in
+    writes_sized _ (g.D.Disk.state c.args.disk.now) (g.D.Disk.state c.set_containers.new.disk) c.args.self.now c.set_containers.new.self
+    c.requires.intact.opened done.time done.cause (λ none tells blocks stores. done.written tells true blocks stores) done.steady
+
+pub returns-in-Err-DiskFault-clause-writes : goal.returns-in-Err-DiskFault-clause-writes
+returns-in-Err-DiskFault-clause-writes g c =
+    let done = rw c.in-Err-DiskFault.field-0-is at c.in-Err-DiskFault.ensures in
+    writes_sized _ (g.D.Disk.state c.args.disk.now) (g.D.Disk.state c.set_containers.new.disk) c.args.self.now c.args.self.now.physical
+    c.requires.intact.opened done.time done.cause (λ none. absurd (none refl)) done.steady
+
+pub returns-in-Err-NoMemory-clause-kept : goal.returns-in-Err-NoMemory-clause-kept
+returns-in-Err-NoMemory-clause-kept g c = λ wanting.
+    let old = c.args.self.now in
+    let done = rw c.in-Err-NoMemory.field-0-is at c.in-Err-NoMemory.ensures in
+    subst (λ (n : Newest). IsIntact (g.D.Disk.state c.set_containers.new.disk) (record old { physical = n })) (sym (done.no_memory refl))
+    (intact_grown (g.D.Disk.state c.args.disk.now) (g.D.Disk.state c.set_containers.new.disk) old c.requires.intact done.time.nature
+    (done.settled (λ wrong. cc)) (λ blocks stores. done.kept refl false blocks stores))
+
+pub returns-in-Err-NoMemory-clause-writes : goal.returns-in-Err-NoMemory-clause-writes
+returns-in-Err-NoMemory-clause-writes g c =
+    let done = rw c.in-Err-NoMemory.field-0-is at c.in-Err-NoMemory.ensures in
+    writes_sized _ (g.D.Disk.state c.args.disk.now) (g.D.Disk.state c.set_containers.new.disk) c.args.self.now c.args.self.now.physical
+    c.requires.intact.opened done.time done.cause (λ none tells blocks stores. done.kept refl true blocks stores) done.steady

@@ -1,0 +1,192 @@
+use Rattle.std.proofs.Common.{◌≡◌, ℕ, ◌+◌, ◌-◌, ◌%◌, ◌≤◌, refl, sym, ap, subst, ◌∙◌, map, length, arith}
+use Rattle.std.specs.Prelude.{IsOk}
+use Rattle.std.proofs.lemmas.List.{length-drop, length-set}
+use Rattle.clfs_lsn.specs.Lsn.{container_of}
+use Rattle.clfs_lsn.specs.Place.{frontier}
+use Rattle.clfs_archive.specs.Blocks.{AreSealed}
+use Rattle.clfs_base.specs.Layout.{version_one}
+use Rattle.clfs_base.specs.Spelling.{IsImage, row_in}
+use Rattle.clfs_base.specs.Writing.{older_of}
+use Rattle.clfs_base.specs.declared.image.BaseImage.{BaseImage}
+use Rattle.clfs_model.specs.declared.state.State.{State}
+use Rattle.clfs_model.specs.Flush.{block_start, cut, flushed}
+use Rattle.clfs_model.specs.Heads.{heads_of}
+use Rattle.clfs_model.specs.Live.{hold}
+use Rattle.clfs_model.specs.State.{base_of, set_base}
+use Rattle.clfs_physical.specs.Changes.{next_copy}
+use Rattle.clfs_physical.specs.Stored.{Newest}
+use Rattle.clfs_physical.specs.declared.change.Change.TheVariants as changes
+use Rattle.clfs_recover.specs.Logs.{from_container, stored_state}
+use Rattle.clfs_recover.specs.Walk.{shape_of}
+use Rattle.clfs_manager.specs.Base.{with_base}
+use Rattle.clfs_manager.specs.Flushing.{StoredAfter}
+use Rattle.clfs_manager.specs.Memory.{Holds}
+use Rattle.clfs_manager.specs.OnDisk.{IsStored, AreKept}
+use Rattle.clfs_manager.specs.declared.log.Log.{Log}
+use Rattle.clfs_manager.proofs.ArchivedLog.{cut_ends}
+use Rattle.clfs_manager.proofs.CopiedLog.{copy_stored, hold_kept, stored_among}
+use Rattle.clfs_manager.proofs.Holds.{hold_is}
+use Rattle.clfs_manager.proofs.Intact.{intact_done, writes_failed, writes_fine}
+use Rattle.clfs_manager.proofs.MovedBase.{base_stored, kept_moved, length_set_base, moved, moved_below, moved_image}
+use Rattle.clfs_manager.proofs.Numbers.{hold_within}
+use Rattle.clfs_manager.proofs.Reached.{number_there}
+use Rattle.clfs_manager.proofs.log.Log.store_base.Goals as goal
+use Rattle.clfs_manager.proofs.log.Log.store_base.Given.{Over}
+
+module _ (g : Over) (c : goal.After-change-1 g) where
+  -- the container from which on the copy lists is that of the hold behind the new base
+  first_is : c.container.result ≡ container_of (hold (with_base c.args.stream c.args.base c.args.self.now.state.value))
+  first_is =
+      let old = c.args.self.now in
+      let t : State = with_base c.args.stream c.args.base old.state.value in
+      let holds = c.requires.intact.sound.holds in
+      c.container.ensures.value ∙ ap container_of
+      (hold_is t c.place-place.result c.tail.result c.set_base.new.self.streams c.set_base.new.self.heads c.hold-needed.result c.hold-needed.ensures
+      (c.records_are_as_their_heads.ensures.hold t) c.place-place.ensures.value (c.tail.ensures ∙ holds.archive)
+      (c.set_base.ensures.streams ∙ ap (set_base c.args.stream c.args.base) holds.streams) (c.set_base.ensures.heads ∙ holds.heads))
+
+pub write_copy-requires-clause-first : goal.write_copy-requires-clause-first
+write_copy-requires-clause-first g c = omega (arith, c.requires.intact.sound.holds.needed, c.requires.held, first_is g c)
+
+pub write_copy-requires-clause-listed : goal.write_copy-requires-clause-listed
+write_copy-requires-clause-listed g c =
+    omega (arith, c.requires.intact.sound.holds.listed, hold_within (with_base c.args.stream c.args.base c.args.self.now.state.value) c.requires.valid, first_is g c)
+
+pub write_copy-requires-clause-change : goal.write_copy-requires-clause-change
+write_copy-requires-clause-change g c =
+    let s : State = c.args.self.now.state.value in
+    let t : State = with_base c.args.stream c.args.base s in
+    let sound = c.requires.intact.sound in
+    let number = number_there s.streams c.args.stream c.requires.there in
+    let below = moved_below (flushed t) c.args.stream c.args.base s.streams number.0 number.1 c.requires.valid.stable.bases in
+    (number.0, omega (arith, number.1, sound.holds.rows), omega (arith, below, c.numbers_fit_their_types.ensures.flushed s sound.valid sound.storable))
+
+pub returns-in-Err-clause-writes : goal.returns-in-Err-clause-writes
+returns-in-Err-clause-writes g c =
+    let old = c.args.self.now in
+    writes_failed _ (g.D.Disk.state c.args.disk.now) (g.D.Disk.state c.write_copy.new.disk) old.state.value old refl c.requires.intact.opened
+    c.write_copy.ensures.time c.in-Err.ensures.cause
+    (λ calm made. let fine = (c.write_copy.ensures.steady calm made).0 in let wrong = subst (λ r. IsOk r) c.in-Err.is fine in cc wrong)
+
+module _ (g : Over) (c : goal.After-self-2-1 g) where
+  -- the container from which on the copy lists is that of the hold behind the new base
+  first_then : c.container.result ≡ container_of (hold (with_base c.args.stream c.args.base c.args.self.now.state.value))
+  first_then =
+      let old = c.args.self.now in
+      let t : State = with_base c.args.stream c.args.base old.state.value in
+      let holds = c.requires.intact.sound.holds in
+      c.container.ensures.value ∙ ap container_of
+      (hold_is t c.place-place.result c.tail.result c.set_base.new.self.streams c.set_base.new.self.heads c.hold-needed.result c.hold-needed.ensures
+      (c.records_are_as_their_heads.ensures.hold t) c.place-place.ensures.value (c.tail.ensures ∙ holds.archive)
+      (c.set_base.ensures.streams ∙ ap (set_base c.args.stream c.args.base) holds.streams) (c.set_base.ensures.heads ∙ holds.heads))
+
+  abbrev old : Log
+  old = c.args.self.now
+
+  abbrev s : State
+  s = c.args.self.now.state.value
+
+  abbrev t : State
+  t = with_base c.args.stream c.args.base c.args.self.now.state.value
+
+  abbrev image : BaseImage
+  image = c.args.self.now.physical.image
+
+  newest_is : c.write_copy.new.self
+      ≡ record { slot = older_of c.args.self.now.physical.slot; image = next_copy c.container.result (changes.Base c.args.stream c.args.base) c.args.self.now.physical.image }
+  newest_is = c.in_default.ensures.now
+
+  holds_then : Holds t (record old { tables = c.set_base.new.self; physical = c.write_copy.new.self; state = c.with_base-self.result })
+  holds_then =
+      let holds = c.requires.intact.sound.holds in
+      let first = c.container.result in
+      let is_first : first ≡ container_of (hold t) = first_then in
+      record {
+        shape = holds.shape;
+        buffers = holds.buffers;
+        place = holds.place;
+        waiting = holds.waiting;
+        records = holds.records;
+        streams = c.set_base.ensures.streams ∙ ap (set_base c.args.stream c.args.base) holds.streams;
+        heads = c.set_base.ensures.heads ∙ holds.heads;
+        low = omega (arith, c.set_base.ensures.low, holds.low, c.requires.held);
+        areas = holds.areas;
+        archive = holds.archive;
+        sealed = subst (λ (n : ℕ). AreSealed n (block_start s.place) old.archive.blocks (heads_of s)) (sym c.set_base.ensures.low) holds.sealed;
+        room = holds.room;
+        policies = holds.policies;
+        containers = ap (λ (n : Newest). n.image.containers) newest_is ∙ holds.containers;
+        image_shape = ap (λ (n : Newest). shape_of n.image) newest_is ∙ holds.image_shape;
+        rows = ap (λ (n : Newest). length n.image.streams) newest_is
+            ∙ length-set image.streams (c.args.stream - 1) (record (row_in image.streams (c.args.stream - 1)) { base = c.args.base })
+            ∙ holds.rows ∙ sym (length_set_base c.args.stream c.args.base s.streams);
+        listed = ap (λ (n : Newest). n.image.first + length n.image.files) newest_is
+            ∙ omega (arith, holds.listed, holds.needed, c.requires.held, is_first, hold_within t c.requires.valid, length-drop (first - image.first) image.files);
+        needed = omega (arith, ap (λ (n : Newest). n.image.first) newest_is, is_first);
+      }
+
+  stored_then : StoredAfter (g.D.Disk.state c.args.disk.now) (g.D.Disk.state c.write_copy.new.disk) s t c.args.self.now.physical c.write_copy.new.self
+  stored_then = λ blocks stored.
+      let sound = c.requires.intact.sound in
+      let holds = sound.holds in
+      let stream = c.args.stream in
+      let base = c.args.base in
+      let slot = older_of old.physical.slot in
+      let turn = (image.turn + 1) % 3 in
+      let first = c.container.result in
+      let is_first : first ≡ container_of (hold t) = first_then in
+      let low : image.first ≤ container_of (hold t) = omega (arith, holds.needed, c.requires.held) in
+      let before : IsStored s (record { slot = slot; image = image }) blocks =
+      record { entries = stored.entries; log = stored.log; records = stored.records; state = stored.state; needed = stored.needed } in
+      let number = number_there s.streams stream c.requires.there in
+      let row : stream ≤ length image.streams = omega (arith, number.1, holds.rows) in
+      let below = moved_below (flushed t) stream base s.streams number.0 number.1 c.requires.valid.stable.bases in
+      let ends : base ≤ frontier (cut s).place = omega (arith, below, cut_ends s sound.valid) in
+      let up = c.requires.up in
+      let set : IsStored t (record { slot = slot; image = moved stream base turn image }) blocks = base_stored s slot image blocks stream base turn before low
+      (c.bases_of_rows_move.ensures.log image (map blocks image.files) stored.entries stream base number.0 row
+      (subst (λ (u : State). base ≤ frontier u.place) (sym stored.state) ends) stored.log)
+      (c.bases_of_rows_move.ensures.state image (map blocks image.files) stored.entries s.buffers stream base number.0 row
+      (subst (λ (u : State). base_of u stream ≤ base) (sym stored.state) up)) in
+      let changed = moved stream base turn image in
+      let next : IsImage version_one (next_copy first (changes.Base stream base) image) =
+      subst (λ (n : Newest). IsImage version_one n.image) newest_is c.image-moved.ensures.image in
+      let is_image : IsImage version_one changed = moved_image image stream base turn first c.image-newest.ensures.image (omega arith) next in
+      let kept = hold_kept t set.entries c.requires.valid (stored_among t image.first set.entries set.records) in
+      let under : first ≤ container_of (hold (stored_state changed (map blocks changed.files) set.entries t.buffers)) =
+      omega (arith, is_first, kept, ap (λ (u : State). container_of (hold u)) set.state) in
+      let from : image.first ≤ first = omega (arith, low, is_first) in
+      let held = c.low_containers_are_left_out.ensures.held changed blocks set.entries t.buffers first is_image set.log under in
+      let is : IsStored t (record { slot = slot; image = from_container first changed }) blocks =
+      copy_stored t slot changed blocks set.entries first set.state set.records from is_first
+      (c.low_containers_are_left_out.ensures.log changed blocks set.entries first is_image from held.0 held.1 set.log)
+      (c.low_containers_are_left_out.ensures.same changed blocks set.entries t.buffers first is_image set.log from under) in
+      (blocks, (rw newest_is is, λ tells whole stores. c.in_default.ensures.written tells whole blocks stores))
+
+pub returns-clause-intact : goal.returns-clause-intact
+returns-clause-intact g c =
+    let s : State = c.args.self.now.state.value in
+    let t : State = with_base c.args.stream c.args.base s in
+    let old = c.args.self.now in
+    let before = g.D.Disk.state c.args.disk.now in
+    let after = g.D.Disk.state c.write_copy.new.disk in
+    let state : c.with_base-self.result.value ≡ t = c.with_base-self.ensures in
+    intact_done before after old (record old { tables = c.set_base.new.self; physical = c.write_copy.new.self; state = c.with_base-self.result }) t
+    c.requires.intact c.requires.valid c.requires.storable (record {
+      state = state;
+      unbroken = refl;
+      broken = refl;
+      holds = subst (λ (u : State). Holds u (record old { tables = c.set_base.new.self; physical = c.write_copy.new.self; state = c.with_base-self.result })) (sym state) (holds_then g c);
+      stored = subst (λ (u : State). StoredAfter before after s u old.physical c.write_copy.new.self) (sym state) (stored_then g c);
+      kept = λ kept. subst (λ (u : State). AreKept u old.buffers) (sym state) (kept_moved s c.args.stream c.args.base old.buffers kept);
+      settled = c.in_default.ensures.settled;
+      nature = c.write_copy.ensures.time.nature;
+    })
+
+pub returns-clause-writes : goal.returns-clause-writes
+returns-clause-writes g c =
+    let old = c.args.self.now in
+    writes_fine _ (g.D.Disk.state c.args.disk.now) (g.D.Disk.state c.write_copy.new.disk) old.state.value
+    (with_base c.args.stream c.args.base old.state.value) old
+    (record old { tables = c.set_base.new.self; physical = c.write_copy.new.self; state = c.with_base-self.result }) (λ f. cc f) c.requires.intact.opened
+    (stored_then g c) c.write_copy.ensures.time (λ calm made. (c.write_copy.ensures.steady calm made).1)

@@ -1,0 +1,47 @@
+use Rattle.std.proofs.Common.{◌≡◌, ◌+◌, ℕ, List, length, sym, subst, ◌∙◌, false}
+use Rattle.std.specs.Prelude.{None}
+use Rattle.clfs_model.specs.declared.call.Call.TheVariants as calls
+use Rattle.clfs_model.specs.declared.reply.Happened.TheVariants.{Fine}
+use Rattle.clfs_model.specs.declared.reply.Reply.TheVariants as replies
+use Rattle.clfs_model.specs.declared.state.State.{State}
+use Rattle.clfs_model.specs.Refusals.{stream_number}
+use Rattle.clfs_manager.specs.Streams.{with_stream}
+use Rattle.clfs_manager.proofs.AddedStream.{managed_added, new_step}
+use Rattle.clfs_manager.proofs.manager.Manager.open_stream.Goals as goal
+
+pub add_stream-requires-clause-valid : goal.add_stream-requires-clause-valid
+add_stream-requires-clause-valid g c =
+    let s : State = c.self.inside.log.state.value in
+    let managed = c.self.invariant in
+    let named = sym (c.number.ensures s (sym (managed.whole c.if-self.false).memory.streams)) ∙ c.in_default-number.is in
+    let none : stream_number s c.args.name.now ≡ None = subst (λ (name : List ℕ). stream_number s name ≡ None) c.as_slice.ensures named in
+    let step = new_step c.ways_of_a_step.ensures s c.args.client c.args.name.now (managed.broken ∙ c.if-self.false)
+    (sym c.open_refusal.ensures ∙ c.in_default.is) none in
+    c.steps_keep_a_state_valid.ensures.step false s c.args.client (calls.OpenStream c.args.name.now) Fine (replies.Stream (length s.streams + 1)) (with_stream c.args.name.now s) managed.valid step
+
+pub add_stream-requires-clause-storable : goal.add_stream-requires-clause-storable
+add_stream-requires-clause-storable g c =
+    let s : State = c.self.inside.log.state.value in
+    let managed = c.self.invariant in
+    let named = sym (c.number.ensures s (sym (managed.whole c.if-self.false).memory.streams)) ∙ c.in_default-number.is in
+    let none : stream_number s c.args.name.now ≡ None = subst (λ (name : List ℕ). stream_number s name ≡ None) c.as_slice.ensures named in
+    let step = new_step c.ways_of_a_step.ensures s c.args.client c.args.name.now (managed.broken ∙ c.if-self.false)
+    (sym c.open_refusal.ensures ∙ c.in_default.is) none in
+    c.steps_keep_a_state_storable.ensures.step false s c.args.client (calls.OpenStream c.args.name.now) Fine (replies.Stream (length s.streams + 1)) (with_stream c.args.name.now s)
+    managed.valid managed.storable (record { is_client = c.requires.client; arguments = c.requires.name }) step
+
+pub add_stream-requires-clause-held : goal.add_stream-requires-clause-held
+add_stream-requires-clause-held g c =
+    let s : State = c.self.inside.log.state.value in
+    let managed = c.self.invariant in
+    let named = sym (c.number.ensures s (sym (managed.whole c.if-self.false).memory.streams)) ∙ c.in_default-number.is in
+    let none : stream_number s c.args.name.now ≡ None = subst (λ (name : List ℕ). stream_number s name ≡ None) c.as_slice.ensures named in
+    let step = new_step c.ways_of_a_step.ensures s c.args.client c.args.name.now (managed.broken ∙ c.if-self.false)
+    (sym c.open_refusal.ensures ∙ c.in_default.is) none in
+    c.the_holds_container_never_falls.ensures.step false s c.args.client (calls.OpenStream c.args.name.now) Fine (replies.Stream (length s.streams + 1)) (with_stream c.args.name.now s) managed.valid step
+
+pub invariant_of-self : goal.invariant_of-self
+invariant_of-self g c =
+    managed_added (g.D.Disk.state c.self.inside.disk) (g.D.Disk.state c.add_stream.new.disk) c.self.inside.log c.add_stream.new.self c.add_stream.result
+    c.steps_keep_a_state_valid.ensures.reopening c.steps_keep_a_state_storable.ensures.reopening c.self.invariant c.if-self.false
+    c.add_stream.ensures.intact c.add_stream.ensures.refused

@@ -1,0 +1,60 @@
+use Rattle.std.proofs.Common.{◌≤◌, refl, sym, subst, ◌∙◌, false, arith}
+use Rattle.clfs_lsn.specs.Lsn.{container_of}
+use Rattle.clfs_model.specs.declared.call.Call.TheVariants as calls
+use Rattle.clfs_model.specs.declared.reply.Happened.TheVariants.{Fine}
+use Rattle.clfs_model.specs.declared.reply.Reply.TheVariants as replies
+use Rattle.clfs_model.specs.declared.state.State.{State}
+use Rattle.clfs_model.specs.Answers.{archiving}
+use Rattle.clfs_model.specs.Live.{hold}
+use Rattle.clfs_model.specs.Valid.{IsValid}
+use Rattle.clfs_manager.proofs.FlushKeeps.{on_ok, on_err, managed_broken}
+use Rattle.clfs_manager.proofs.SettingsKeep.{archive_done}
+use Rattle.clfs_manager.proofs.StoredKeeps.{managed_done}
+use Rattle.clfs_manager.proofs.Intact.{writes_fine, writes_seen}
+use Rattle.clfs_manager.proofs.manager.Manager.set_archive.Goals as goal
+
+pub store_archive-requires-clause-valid : goal.store_archive-requires-clause-valid
+store_archive-requires-clause-valid g c =
+    let s : State = c.self.inside.log.state.value in
+    let managed = c.self.invariant in
+    let step = c.ways_of_a_step.ensures.answered false s 1 (calls.SetArchive c.args.on) (replies.Done) (archiving s c.args.on) (managed.broken ∙ c.if-self.false) refl refl refl in
+    subst IsValid (sym (c.archive_for-tail.ensures)) (c.steps_keep_a_state_valid.ensures.step false s 1 (calls.SetArchive c.args.on) Fine (replies.Done) (archiving s c.args.on) managed.valid step)
+
+pub store_archive-requires-clause-up : goal.store_archive-requires-clause-up
+store_archive-requires-clause-up g c =
+    let s : State = c.self.inside.log.state.value in
+    let managed = c.self.invariant in
+    let step = c.ways_of_a_step.ensures.answered false s 1 (calls.SetArchive c.args.on) (replies.Done) (archiving s c.args.on) (managed.broken ∙ c.if-self.false) refl refl refl in
+    subst (λ (t : State). container_of (hold s) ≤ container_of (hold t)) (sym (c.archive_for-tail.ensures))
+    (c.the_holds_container_never_falls.ensures.step false s 1 (calls.SetArchive c.args.on) Fine (replies.Done) (archiving s c.args.on) managed.valid step)
+
+pub invariant_of-self : goal.invariant_of-self
+invariant_of-self g c =
+    managed_broken (g.D.Disk.state c.self.inside.disk) (g.D.Disk.state c.store_archive.new.disk) c.self.inside.log c.store_archive.new.self
+    c.steps_keep_a_state_valid.ensures.reopening c.steps_keep_a_state_storable.ensures.reopening c.self.invariant c.if-self.false
+    (on_err c.store_archive.result (sym c.is_err.ensures.value ∙ c.if-is_err.true) c.store_archive.ensures.broken)
+
+pub invariant_of-self-2 : goal.invariant_of-self-2
+invariant_of-self-2 g c =
+    let old = c.self.inside.log in
+    let s : State = old.state.value in
+    let managed = c.self.invariant in
+    let ok = sym c.is_err.ensures.value ∙ c.if-is_err.false in
+    let t : State = archiving s c.args.on in
+    let step = c.ways_of_a_step.ensures.answered false s 1 (calls.SetArchive c.args.on) (replies.Done) t (managed.broken ∙ c.if-self.false) refl refl refl in
+    managed_done (g.D.Disk.state c.self.inside.disk) (g.D.Disk.state c.store_archive.new.disk) old c.store_archive.new.self t 1 (calls.SetArchive c.args.on) (replies.Done)
+    c.steps_keep_a_state_valid.ensures.step c.steps_keep_a_state_storable.ensures.step
+    (record { is_client = record { least = omega arith; greatest = omega arith }; arguments = tt }) managed c.if-self.false step
+    (archive_done (g.D.Disk.state c.self.inside.disk) (g.D.Disk.state c.store_archive.new.disk) old c.store_archive.new.self c.archive_for-tail.result t
+    (c.archive_for-tail.ensures) (on_ok c.store_archive.result ok c.store_archive.ensures.state) (on_ok c.store_archive.result ok c.store_archive.ensures.holds)
+    (on_ok c.store_archive.result ok c.store_archive.ensures.same) (on_ok c.store_archive.result ok c.store_archive.ensures.stored)
+    (on_ok c.store_archive.result ok c.store_archive.ensures.settled) c.store_archive.ensures.time.nature)
+
+pub returns-clause-writes : goal.returns-clause-writes
+returns-clause-writes g c =
+    let old = c.self.inside.log in
+    let ok = sym c.is_err.ensures.value ∙ c.if-is_err.false in
+    writes_seen g.D.Disk.state (old.state.value, c.self.inside.disk) c.args.self.now c.self.view_is _ (g.D.Disk.state c.store_archive.new.disk)
+    (writes_fine _ (g.D.Disk.state c.self.inside.disk) (g.D.Disk.state c.store_archive.new.disk) old.state.value c.store_archive.new.self.state.value old c.store_archive.new.self (λ f. cc f)
+    (c.self.invariant.whole c.if-self.false) (on_ok c.store_archive.result ok c.store_archive.ensures.stored) c.store_archive.ensures.time
+    (λ calm made. (c.store_archive.ensures.steady calm made).1))

@@ -1,0 +1,118 @@
+use Rattle.std.proofs.Common.{refl}
+use Rattle.clfs_model.specs.declared.reply.Reply.TheVariants as replies
+use Rattle.clfs_manager.proofs.StepCalls.{undamaged, still, written}
+use Rattle.clfs_manager.proofs.manager.Manager.step.Goals as goal
+
+pub returns-in-OpenStream-clause-damage : goal.returns-in-OpenStream-clause-damage
+returns-in-OpenStream-clause-damage g c = λ tells. undamaged _ _ _ _ replies.Stream _ _ _ refl c.stream_reply.ensures (c.open_stream.ensures.step (g.D.Disk.state c.args.self.now.1).nature.tells_contents)
+
+pub returns-in-OpenStream-clause-writes : goal.returns-in-OpenStream-clause-writes
+returns-in-OpenStream-clause-writes g c = written replies.Stream _ _ _ _ (λ x e. cc e) c.stream_reply.ensures c.open_stream.ensures.writes
+
+pub returns-in-CreateArea-clause-damage : goal.returns-in-CreateArea-clause-damage
+returns-in-CreateArea-clause-damage g c = λ tells. undamaged _ _ _ _ replies.Area _ _ _ refl c.area_reply.ensures (c.create_area.ensures.step (g.D.Disk.state c.args.self.now.1).nature.tells_contents)
+
+pub returns-in-CreateArea-clause-writes : goal.returns-in-CreateArea-clause-writes
+returns-in-CreateArea-clause-writes g c = rw c.create_area.ensures.disk (still _ _ _ _ replies.Area _ _ _ _ refl c.area_reply.ensures (c.create_area.ensures.step (g.D.Disk.state c.args.self.now.1).nature.tells_contents))
+
+pub returns-in-DeleteArea-clause-damage : goal.returns-in-DeleteArea-clause-damage
+returns-in-DeleteArea-clause-damage g c = λ tells. undamaged _ _ _ _ (λ _. replies.Done) _ _ _ refl c.done_reply.ensures (c.delete_area.ensures.step (g.D.Disk.state c.args.self.now.1).nature.tells_contents)
+
+pub returns-in-DeleteArea-clause-writes : goal.returns-in-DeleteArea-clause-writes
+returns-in-DeleteArea-clause-writes g c = rw c.delete_area.ensures.disk (still _ _ _ _ (λ _. replies.Done) _ _ _ _ refl c.done_reply.ensures (c.delete_area.ensures.step (g.D.Disk.state c.args.self.now.1).nature.tells_contents))
+
+pub returns-in-Reserve-clause-damage : goal.returns-in-Reserve-clause-damage
+returns-in-Reserve-clause-damage g c = λ tells. undamaged _ _ _ _ replies.Held _ _ _ refl c.held_reply.ensures (c.reserve.ensures.step (g.D.Disk.state c.args.self.now.1).nature.tells_contents)
+
+pub returns-in-Reserve-clause-writes : goal.returns-in-Reserve-clause-writes
+returns-in-Reserve-clause-writes g c = written replies.Held _ _ _ _ (λ x e. cc e) c.held_reply.ensures c.reserve.ensures.writes
+
+pub returns-in-Release-clause-damage : goal.returns-in-Release-clause-damage
+returns-in-Release-clause-damage g c = λ tells. undamaged _ _ _ _ replies.Held _ _ _ refl c.held_reply-in-Release.ensures (c.release.ensures.step (g.D.Disk.state c.args.self.now.1).nature.tells_contents)
+
+pub returns-in-Release-clause-writes : goal.returns-in-Release-clause-writes
+returns-in-Release-clause-writes g c = rw c.release.ensures.disk (still _ _ _ _ replies.Held _ _ _ _ refl c.held_reply-in-Release.ensures (c.release.ensures.step (g.D.Disk.state c.args.self.now.1).nature.tells_contents))
+
+pub returns-in-Align-clause-damage : goal.returns-in-Align-clause-damage
+returns-in-Align-clause-damage g c = λ tells. undamaged _ _ _ _ replies.Sectors _ _ _ refl c.sectors_reply.ensures (c.align.ensures.step (g.D.Disk.state c.args.self.now.1).nature.tells_contents)
+
+pub returns-in-Align-clause-writes : goal.returns-in-Align-clause-writes
+returns-in-Align-clause-writes g c = still _ _ _ _ replies.Sectors _ _ _ _ refl c.sectors_reply.ensures (c.align.ensures.step (g.D.Disk.state c.args.self.now.1).nature.tells_contents)
+
+pub returns-in-Append-clause-damage : goal.returns-in-Append-clause-damage
+returns-in-Append-clause-damage g c = λ tells. undamaged _ _ _ _ replies.Placed _ _ _ refl c.placed_reply.ensures (c.append.ensures.step (g.D.Disk.state c.args.self.now.1).nature.tells_contents)
+
+pub returns-in-Append-clause-writes : goal.returns-in-Append-clause-writes
+returns-in-Append-clause-writes g c = written replies.Placed _ _ _ _ (λ x e. cc e) c.placed_reply.ensures c.append.ensures.writes
+
+pub returns-in-Flush-clause-damage : goal.returns-in-Flush-clause-damage
+returns-in-Flush-clause-damage g c = λ tells. undamaged _ _ _ _ replies.Flushed _ _ _ refl c.flushed_reply.ensures (c.flush.ensures.step (g.D.Disk.state c.args.self.now.1).nature.tells_contents)
+
+pub returns-in-Flush-clause-writes : goal.returns-in-Flush-clause-writes
+returns-in-Flush-clause-writes g c = written replies.Flushed _ _ _ _ (λ x e. cc e) c.flushed_reply.ensures c.flush.ensures.writes
+
+pub returns-in-FlushTo-clause-damage : goal.returns-in-FlushTo-clause-damage
+returns-in-FlushTo-clause-damage g c = λ tells. undamaged _ _ _ _ replies.Flushed _ _ _ refl c.flushed_reply-in-FlushTo.ensures (c.flush_to.ensures.step (g.D.Disk.state c.args.self.now.1).nature.tells_contents)
+
+pub returns-in-FlushTo-clause-writes : goal.returns-in-FlushTo-clause-writes
+returns-in-FlushTo-clause-writes g c = written replies.Flushed _ _ _ _ (λ x e. cc e) c.flushed_reply-in-FlushTo.ensures c.flush_to.ensures.writes
+
+pub returns-in-EndRead-clause-damage : goal.returns-in-EndRead-clause-damage
+returns-in-EndRead-clause-damage g c = λ tells. undamaged _ _ _ _ (λ _. replies.Done) _ _ _ refl c.done_reply-in-EndRead.ensures (c.end_read.ensures.step (g.D.Disk.state c.args.self.now.1).nature.tells_contents)
+
+pub returns-in-EndRead-clause-writes : goal.returns-in-EndRead-clause-writes
+returns-in-EndRead-clause-writes g c = rw c.end_read.ensures.disk (still _ _ _ _ (λ _. replies.Done) _ _ _ _ refl c.done_reply-in-EndRead.ensures (c.end_read.ensures.step (g.D.Disk.state c.args.self.now.1).nature.tells_contents))
+
+pub returns-in-WriteRestart-clause-damage : goal.returns-in-WriteRestart-clause-damage
+returns-in-WriteRestart-clause-damage g c = λ tells. undamaged _ _ _ _ replies.Placed _ _ _ refl c.placed_reply-in-WriteRestart.ensures (c.write_restart.ensures.step (g.D.Disk.state c.args.self.now.1).nature.tells_contents)
+
+pub returns-in-WriteRestart-clause-writes : goal.returns-in-WriteRestart-clause-writes
+returns-in-WriteRestart-clause-writes g c = written replies.Placed _ _ _ _ (λ x e. cc e) c.placed_reply-in-WriteRestart.ensures c.write_restart.ensures.writes
+
+pub returns-in-Advance-clause-damage : goal.returns-in-Advance-clause-damage
+returns-in-Advance-clause-damage g c = λ tells. undamaged _ _ _ _ replies.Base _ _ _ refl c.base_reply.ensures (c.advance.ensures.step (g.D.Disk.state c.args.self.now.1).nature.tells_contents)
+
+pub returns-in-Advance-clause-writes : goal.returns-in-Advance-clause-writes
+returns-in-Advance-clause-writes g c = written replies.Base _ _ _ _ (λ x e. cc e) c.base_reply.ensures c.advance.ensures.writes
+
+pub returns-in-SetArchive-clause-damage : goal.returns-in-SetArchive-clause-damage
+returns-in-SetArchive-clause-damage g c = λ tells. undamaged _ _ _ _ (λ _. replies.Done) _ _ _ refl c.done_reply-in-SetArchive.ensures (c.set_archive.ensures.step (g.D.Disk.state c.args.self.now.1).nature.tells_contents c.args.client)
+
+pub returns-in-SetArchive-clause-writes : goal.returns-in-SetArchive-clause-writes
+returns-in-SetArchive-clause-writes g c = written (λ _. replies.Done) _ _ _ _ (λ x e. cc e) c.done_reply-in-SetArchive.ensures c.set_archive.ensures.writes
+
+pub returns-in-SetArchiveTail-clause-damage : goal.returns-in-SetArchiveTail-clause-damage
+returns-in-SetArchiveTail-clause-damage g c = λ tells. undamaged _ _ _ _ replies.Tail _ _ _ refl c.tail_reply.ensures (c.set_archive_tail.ensures.step (g.D.Disk.state c.args.self.now.1).nature.tells_contents c.args.client)
+
+pub returns-in-SetArchiveTail-clause-writes : goal.returns-in-SetArchiveTail-clause-writes
+returns-in-SetArchiveTail-clause-writes g c = written replies.Tail _ _ _ _ (λ x e. cc e) c.tail_reply.ensures c.set_archive_tail.ensures.writes
+
+pub returns-in-ListExtents-clause-damage : goal.returns-in-ListExtents-clause-damage
+returns-in-ListExtents-clause-damage g c = λ tells. undamaged _ _ _ _ replies.Extents _ _ _ refl c.extents_reply.ensures (c.extents.ensures.step (g.D.Disk.state c.args.self.now.1).nature.tells_contents c.args.client)
+
+pub returns-in-ListExtents-clause-writes : goal.returns-in-ListExtents-clause-writes
+returns-in-ListExtents-clause-writes g c = still _ _ _ _ replies.Extents _ _ _ _ refl c.extents_reply.ensures (c.extents.ensures.step (g.D.Disk.state c.args.self.now.1).nature.tells_contents c.args.client)
+
+pub returns-in-InstallPolicy-clause-damage : goal.returns-in-InstallPolicy-clause-damage
+returns-in-InstallPolicy-clause-damage g c = λ tells. undamaged _ _ _ _ (λ _. replies.Done) _ _ _ refl c.done_reply-in-InstallPolicy.ensures (c.install_policy.ensures.step (g.D.Disk.state c.args.self.now.1).nature.tells_contents c.args.client)
+
+pub returns-in-InstallPolicy-clause-writes : goal.returns-in-InstallPolicy-clause-writes
+returns-in-InstallPolicy-clause-writes g c = written (λ _. replies.Done) _ _ _ _ (λ x e. cc e) c.done_reply-in-InstallPolicy.ensures c.install_policy.ensures.writes
+
+pub returns-in-RemovePolicy-clause-damage : goal.returns-in-RemovePolicy-clause-damage
+returns-in-RemovePolicy-clause-damage g c = λ tells. undamaged _ _ _ _ (λ _. replies.Done) _ _ _ refl c.done_reply-in-RemovePolicy.ensures (c.remove_policy.ensures.step (g.D.Disk.state c.args.self.now.1).nature.tells_contents c.args.client)
+
+pub returns-in-RemovePolicy-clause-writes : goal.returns-in-RemovePolicy-clause-writes
+returns-in-RemovePolicy-clause-writes g c = written (λ _. replies.Done) _ _ _ _ (λ x e. cc e) c.done_reply-in-RemovePolicy.ensures c.remove_policy.ensures.writes
+
+pub returns-in-SetSize-clause-damage : goal.returns-in-SetSize-clause-damage
+returns-in-SetSize-clause-damage g c = λ tells. undamaged _ _ _ _ replies.Containers _ _ _ refl c.containers_reply.ensures (c.set_size.ensures.step (g.D.Disk.state c.args.self.now.1).nature.tells_contents c.args.client)
+
+pub returns-in-SetSize-clause-writes : goal.returns-in-SetSize-clause-writes
+returns-in-SetSize-clause-writes g c = written replies.Containers _ _ _ _ (λ x e. cc e) c.containers_reply.ensures c.set_size.ensures.writes
+
+pub returns-in-Info-clause-damage : goal.returns-in-Info-clause-damage
+returns-in-Info-clause-damage g c = λ tells. undamaged _ _ _ _ replies.Info _ _ _ refl c.info_reply.ensures (c.info.ensures.step (g.D.Disk.state c.args.self.now.1).nature.tells_contents c.args.client)
+
+pub returns-in-Info-clause-writes : goal.returns-in-Info-clause-writes
+returns-in-Info-clause-writes g c = still _ _ _ _ replies.Info _ _ _ _ refl c.info_reply.ensures (c.info.ensures.step (g.D.Disk.state c.args.self.now.1).nature.tells_contents c.args.client)

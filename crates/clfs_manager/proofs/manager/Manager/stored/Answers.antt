@@ -1,0 +1,16 @@
+use Rattle.std.proofs.Common.{◌∙◌, sym}
+use Rattle.clfs_manager.proofs.FilesHold.{files_hold}
+use Rattle.clfs_manager.proofs.manager.Manager.stored.Goals as goal
+
+pub returns : goal.returns
+returns g c =
+    let disk = g.D.Disk.state c.self.inside.disk in
+    let log = c.self.inside.log in
+    let managed = c.self.invariant in
+    rw (← c.self.view_is) (record {
+      files = λ whole tells.
+          let opened = managed.whole (sym managed.broken ∙ whole) in
+          files_hold c.logs_are_copies_and_blocks.ensures.stands c.logs_are_copies_and_blocks.ensures.by_file c.opening_anew_comes_to_the_cut.ensures.step
+          c.the_holds_container_never_falls.ensures.reopening log.state.value log.physical opened.blocks disk.files managed.valid managed.storable whole opened.stored (opened.files tells);
+      settled = λ whole. (managed.whole (sym managed.broken ∙ whole)).settled;
+    })

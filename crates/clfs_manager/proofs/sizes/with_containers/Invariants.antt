@@ -1,0 +1,5 @@
+use Rattle.clfs_model.specs.Space.{with_containers}
+use Rattle.clfs_manager.proofs.sizes.with_containers.Given as goal
+
+abbrev pub ghost-next : goal.ghost-next
+ghost-next a = with_containers a.with.now a.self.now.value

@@ -1,0 +1,62 @@
+-- What the small changes of which an append is made leave in memory.
+use Rattle.std.specs.Prelude.{◌≡◌, ℕ, ◌+◌, ◌<◌, ◌≤◌, ◌^◌, ◌&&◌, nat_lt, Bool, List, []}
+use Rattle.clfs_lsn.specs.Lsn.{null_lsn, container_of}
+use Rattle.clfs_lsn.specs.Place.{IsClosed}
+use Rattle.clfs_lsn.specs.declared.entry.LogEntry.{LogEntry}
+use Rattle.clfs_model.specs.declared.state.State.{State}
+use Rattle.clfs_model.specs.Live.{hold}
+use Rattle.clfs_model.specs.Step.{fills_buffers}
+use Rattle.clfs_model.specs.Storable.{IsStorable}
+use Rattle.clfs_model.specs.Valid.{IsValid}
+use Rattle.clfs_laws.specs.Between.{turned}
+use Rattle.clfs_record.specs.Fields.{placed_record}
+use Rattle.clfs_record.specs.declared.fields.Fields.{Fields}
+use Rattle.clfs_tables.specs.Tables.{HasSame}
+use Rattle.clfs_manager.specs.declared.log.Log.{Log}
+
+-- Of a log the tables and the areas are as they were, and there is room for as many ends of blocks, but for so many.
+pub record KeepsRoom (used : ℕ) (old new : Log) : Type 0 where
+  pub tables : new.tables ≡ old.tables
+  pub areas : new.areas ≡ old.areas
+  pub ends : old.archive.room ≤ new.archive.room + used
+
+-- Sealing writes: a block is open, and with it as many wait as there are write buffers.
+abbrev pub sealing_writes : State → Bool
+sealing_writes s = nat_lt 0 s.place.records && fills_buffers s
+
+-- a record that has no LSN yet
+abbrev pub unplaced : Fields → List ℕ → LogEntry
+unplaced fields bytes = placed_record null_lsn fields bytes
+
+-- A log that goes on in its next container, which has an id and is one of its containers that aren't in use: all is on the disk.
+pub record MayTurnTo (s : State) : Type 0 where
+  pub valid : IsValid (turned s)
+  pub storable : IsStorable (turned s)
+  pub waiting : s.waiting ≡ []
+  pub closed : IsClosed s.place
+  pub id : s.place.container + 1 < 2 ^ 32
+  pub unused : s.place.container + 1 + 1 ≤ container_of (hold s) + s.containers
+  pub hold : container_of (hold s) ≤ container_of (hold (turned s))
+
+-- Of a log the tables of records and the queue alone have changed, in memory.
+pub record IsPutInMemory (old new : Log) : Type 0 where
+  pub areas : new.areas ≡ old.areas
+  pub archive : new.archive ≡ old.archive
+  pub policies : new.policies ≡ old.policies
+  pub physical : new.physical ≡ old.physical
+  pub buffers : new.buffers ≡ old.buffers
+  pub broken : new.broken ≡ old.broken
+
+-- Memory was taken, and nothing else has changed.
+pub record HasSameLog (old new : Log) : Type 0 where
+  pub tables : HasSame old.tables new.tables
+  pub areas : new.areas ≡ old.areas
+  pub tail : new.archive.tail ≡ old.archive.tail
+  pub ends : new.archive.blocks ≡ old.archive.blocks
+  pub room : old.archive.room ≤ new.archive.room
+  pub policies : new.policies ≡ old.policies
+  pub physical : new.physical ≡ old.physical
+  pub queue : new.queue ≡ old.queue
+  pub buffers : new.buffers ≡ old.buffers
+  pub broken : new.broken ≡ old.broken
+  pub state : new.state ≡ old.state

@@ -1,0 +1,20 @@
+-- How calls that write leave a log and its disk.
+use Rattle.std.specs.Prelude.{◌≡◌}
+use Rattle.clfs_disk.specs.State.{DiskState, TellsContents, IsSteady, Later, Rises}
+use Rattle.clfs_recover.specs.Files.{AreWholeFiles}
+use Rattle.clfs_manager.specs.Memory.{IsSound}
+use Rattle.clfs_manager.specs.OnDisk.{IsOpen}
+use Rattle.clfs_manager.specs.declared.log.Log.{Log}
+
+-- A log that isn't broken: memory has its state, and the disk the flushed part of it.
+pub record IsIntact (disk : DiskState) (log : Log) : Type 0 where
+  pub sound : IsSound log
+  pub opened : IsOpen disk log.state.value log
+
+-- How a call that may write leaves the disk, by what it is to answer a fault. It does so only where the disk failed in it, and never over a steady
+-- disk whose files are at full length. Files that are at full length stay so.
+pub record WritesDisk (fault : Type 0) (old new : DiskState) : Type 0 where
+  pub time : Later old new
+  pub cause : fault → Rises old.faults new.faults
+  pub whole : (fault → ⊥) → TellsContents old → AreWholeFiles old.files → AreWholeFiles new.files
+  pub steady : IsSteady old → TellsContents old → AreWholeFiles old.files → (fault → ⊥) × (new.faults ≡ old.faults)

@@ -1,0 +1,162 @@
+// Archiving: whether it is on, and its tail. A change writes the base copy that follows the newest one, with the containers from the new state's hold
+// on, so that a crash leaves the old setting or the new one. No call here takes memory.
+ghost use Rattle.std.specs.Prelude.{◌≡◌, ◌≤◌, ℕ, Bool, false, not, Some, is_some, OnOk, OnErr, IsErrOf, IsOk};
+ghost use Rattle.clfs_lsn.specs.Lsn.{container_of};
+ghost use Rattle.clfs_disk.specs.State.{IsSettled, IsSteady, Later, Rises};
+ghost use Rattle.clfs_model.specs.declared.call.Call.TheVariants as calls;
+ghost use Rattle.clfs_model.specs.declared.reply.Reply.TheVariants as replies;
+ghost use Rattle.clfs_model.specs.declared.state.State.{State};
+ghost use Rattle.clfs_model.specs.Answers.{archiving};
+ghost use Rattle.clfs_model.specs.Live.{hold};
+ghost use Rattle.clfs_model.specs.Step.{calls_disk};
+ghost use Rattle.clfs_model.specs.Valid.{IsValid};
+ghost use Rattle.clfs_physical.specs.Stored.{AreMade};
+ghost use Rattle.clfs_manager.specs.Calls.{Steps};
+ghost use Rattle.clfs_manager.specs.Flushing.{IsBroken, StoredAfter};
+ghost use Rattle.clfs_manager.specs.Memory.{Holds, IsSound};
+ghost use Rattle.clfs_manager.specs.Settings.{KeepsTables, archive_change, with_archive};
+ghost use Rattle.clfs_manager.specs.Written.{WritesDisk};
+
+use crate::flushing::broken;
+use crate::log::Log;
+use crate::manager::Manager;
+use clfs_archive::Archive;
+use clfs_disk::{Disk, Failed};
+use clfs_laws::{
+    numbers_fit_their_types, steps_keep_a_state_storable, steps_keep_a_state_valid,
+    the_holds_container_never_falls,
+};
+use clfs_lsn::Lsn;
+use clfs_model::{Refusal, State, records_are_as_their_heads, ways_of_a_step};
+use clfs_physical::Change;
+use clfs_recover::{low_containers_are_left_out, settings_leave_the_records};
+use clfs_told::Told;
+
+// The state with archiving off, or on with this tail.
+fn with_archive(state: &Told<State>, tail: &Option<Lsn>) -> Told<State>
+    ensures { result.value ≡ with_archive tail.now state.now.value }
+{
+    state.next(tail)
+}
+
+// Archiving as a base copy has it.
+fn archive_change(tail: &Option<Lsn>) -> Change
+    ensures { result ≡ archive_change tail.now }
+{
+    match tail {
+        Some(lsn) => Change::Archive {
+            archiving: true,
+            tail: *lsn,
+        },
+        None => Change::Archive {
+            archiving: false,
+            tail: Lsn::null(),
+        },
+    }
+}
+
+// The archive tail becomes this one, where archiving is on, by the least LSN that the log still needs.
+fn set_tail(archive: &mut Archive, tail: &Option<Lsn>, needed: Lsn)
+    ensures tail { (s : State) → s.archive ≡ archive.old.tail → hold s ≡ needed → archive.new.tail ≡ tail.now }
+    ensures blocks { archive.new.blocks ≡ archive.old.blocks }
+    ensures room { archive.new.room ≡ archive.old.room }
+{
+    match tail {
+        Some(lsn) => archive.set_archive_tail(*lsn),
+        None => archive.set_archive(false, needed),
+    }
+}
+
+impl Log {
+    // The archive tail once archiving is turned on or off, which it wasn't: it begins at the hold.
+    fn archive_for(&self, on: bool) -> Option<Lsn>
+        requires sound { IsSound self.now }
+        requires other { is_some self.now.state.value.archive ≡ not on }
+        ensures { with_archive result self.now.state.value ≡ archiving self.now.state.value on }
+    {
+        if on { Some(self.hold()) } else { None }
+    }
+
+    // Archiving is off, or on with this tail, on the disk too. After a fault the log is broken.
+    pub fn store_archive<D: Disk>(&mut self, disk: &mut D, tail: Option<Lsn>) -> Result<(), Failed>
+        requires sound { IsSound self.old }
+        requires valid { IsValid (with_archive tail self.old.state.value) }
+        requires up { container_of (hold self.old.state.value) ≤ container_of (hold (with_archive tail self.old.state.value)) }
+        ensures state { OnOk result (self.new.state.value ≡ with_archive tail self.old.state.value) }
+        ensures holds { OnOk result (Holds self.new.state.value self.new) }
+        ensures same { OnOk result (KeepsTables self.old self.new) }
+        ensures stored { OnOk result (StoredAfter (D.state disk.old) (D.state disk.new) self.old.state.value self.new.state.value self.old.physical self.new.physical) }
+        ensures broken { OnErr result (IsBroken self.old self.new) }
+        ensures settled { OnOk result (IsSettled (D.state disk.old) → IsSettled (D.state disk.new)) }
+        ensures time { Later (D.state disk.old) (D.state disk.new) }
+        ensures cause { OnErr result (Rises (D.state disk.old).faults (D.state disk.new).faults) }
+        ensures steady { IsSteady (D.state disk.old) → AreMade self.old.physical.image (D.state disk.old).files
+            → IsOk result × ((D.state disk.new).faults ≡ (D.state disk.old).faults) }
+    {
+        settings_leave_the_records();
+        low_containers_are_left_out();
+        records_are_as_their_heads();
+        numbers_fit_their_types();
+        let _newest = self.physical.image();
+        let before = self.hold();
+        let place = self.place();
+        let needed = self.tables.hold(tail, &place);
+        let change = archive_change(&tail);
+        if let Err(failed) = self.physical.write_copy(disk, needed.container(), &change) {
+            self.broken = true;
+            self.state = broken(&self.state);
+            return Err(failed);
+        }
+        set_tail(&mut self.archive, &tail, before);
+        self.state = with_archive(&self.state, &tail);
+        Ok(())
+    }
+}
+
+impl<D: Disk> Manager<D> {
+    /// Turns archiving on or off, on the disk too. It begins at the least LSN that the log still needs. Where it is so already nothing changes, and
+    /// the disk isn't called.
+    pub fn set_archive(&mut self, on: bool) -> Result<(), Refusal>
+        ensures step { (told : Bool) (client : ℕ) → Steps told self.old.0 client (calls.SetArchive on) (λ _. replies.Done) result self.new.0 }
+        ensures quiet { calls_disk self.old.0 (calls.SetArchive on) ≡ false → self.new.1 ≡ self.old.1 }
+        ensures writes { WritesDisk (IsErrOf result Refusal.DiskFault) (D.state self.old.1) (D.state self.new.1) }
+    {
+        steps_keep_a_state_valid();
+        steps_keep_a_state_storable();
+        the_holds_container_never_falls();
+        ways_of_a_step();
+        if self.log.broken {
+            return Err(Refusal::Broken);
+        }
+        if self.log.archive.tail().is_some() == on {
+            return Ok(());
+        }
+        let tail = self.log.archive_for(on);
+        if self.log.store_archive(&mut self.disk, tail).is_err() {
+            return Err(Refusal::DiskFault);
+        }
+        Ok(())
+    }
+
+    /// Moves the archive tail, on the disk too: what lies below it was archived. Refused where archiving is off, and where the tail isn't from the
+    /// old one up to the LSN below which all is on the disk; the three LSNs are told.
+    pub fn set_archive_tail(&mut self, lsn: Lsn) -> Result<Lsn, Refusal>
+        ensures step { (told : Bool) (client : ℕ) → Steps told self.old.0 client (calls.SetArchiveTail lsn) replies.Tail result self.new.0 }
+        ensures writes { WritesDisk (IsErrOf result Refusal.DiskFault) (D.state self.old.1) (D.state self.new.1) }
+    {
+        steps_keep_a_state_valid();
+        steps_keep_a_state_storable();
+        the_holds_container_never_falls();
+        ways_of_a_step();
+        if self.log.broken {
+            return Err(Refusal::Broken);
+        }
+        if let Some(refusal) = self.log.tail_refusal(lsn) {
+            return Err(refusal);
+        }
+        if self.log.store_archive(&mut self.disk, Some(lsn)).is_err() {
+            return Err(Refusal::DiskFault);
+        }
+        Ok(lsn)
+    }
+}

@@ -1,0 +1,163 @@
+// Moving the base of a stream: the records below it are needed no more. The log is flushed first, so that the base lies at or below what is on the
+// disk, and then the base copy that follows is written, which lists the containers from the hold's on as it is behind the new base. So a crash leaves
+// the old base or the new one. Where the hold came to a further container nothing below that is asked for any more, and memory forgets it.
+ghost use Rattle.std.specs.Prelude.{◌≡◌, ◌≤◌, Bool, true, None, Some, IsErr, IsErrOf, IsSome, IfOk, IfErr, OnOk, OnErr};
+ghost use Rattle.clfs_lsn.specs.Lsn.{container_of};
+ghost use Rattle.clfs_model.specs.declared.call.Call.TheVariants as calls;
+ghost use Rattle.clfs_model.specs.declared.reply.Reply.TheVariants as replies;
+ghost use Rattle.clfs_model.specs.Answers.{answer, outcome};
+ghost use Rattle.clfs_model.specs.Conditions.{IsClient};
+ghost use Rattle.clfs_model.specs.Flush.{flush};
+ghost use Rattle.clfs_model.specs.Live.{hold};
+ghost use Rattle.clfs_model.specs.Refusals.{is_base, refusal};
+ghost use Rattle.clfs_model.specs.State.{base_of, stream_at};
+ghost use Rattle.clfs_model.specs.Storable.{IsStorable};
+ghost use Rattle.clfs_model.specs.Valid.{IsValid};
+ghost use Rattle.clfs_manager.specs.Base.{KeepsAllButTables, with_base};
+ghost use Rattle.clfs_manager.specs.Calls.{Steps};
+ghost use Rattle.clfs_manager.specs.Flushing.{IsBroken};
+ghost use Rattle.clfs_manager.specs.Memory.{IsSound};
+ghost use Rattle.clfs_manager.specs.Written.{IsIntact, WritesDisk};
+
+use crate::flushing::broken;
+use crate::log::Log;
+use crate::manager::Manager;
+use clfs_disk::{Disk, Failed};
+use clfs_laws::{
+    numbers_fit_their_types, refusals_are_the_calls_own, steps_keep_a_state_storable,
+    steps_keep_a_state_valid, the_holds_container_never_falls,
+};
+use clfs_lsn::Lsn;
+use clfs_model::{Refusal, State, records_are_as_their_heads, ways_of_a_step};
+use clfs_physical::Change;
+use clfs_recover::{bases_of_rows_move, low_containers_are_left_out};
+use clfs_told::Told;
+
+// The state with the base of a stream moved.
+fn with_base(state: &Told<State>, stream: u16, base: Lsn) -> Told<State>
+    ensures { result.value ≡ with_base stream base state.now.value }
+{
+    state.next(&(stream, base))
+}
+
+impl Log {
+    // Nothing that lies in a container below the hold's is asked for any more: the heads of records and the ends of blocks there may go.
+    pub(crate) fn forget_low(&mut self)
+        requires sound { IsSound self.old }
+        ensures sound { IsSound self.new }
+        ensures same { KeepsAllButTables self.old self.new }
+    {
+        let low = Lsn::from_parts(self.hold().container(), 0, 0);
+        self.tables.forget_below(low);
+        self.archive.forget_below(low);
+    }
+
+    // The base of a stream moves up, on the disk too. After a fault the log is broken.
+    pub(crate) fn store_base<D: Disk>(
+        &mut self,
+        disk: &mut D,
+        stream: u16,
+        base: Lsn,
+    ) -> Result<(), Failed>
+        requires intact { IsIntact (D.state disk.old) self.old }
+        requires there { IsSome (stream_at self.old.state.value stream) }
+        requires up { base_of self.old.state.value stream ≤ base }
+        requires valid { IsValid (with_base stream base self.old.state.value) }
+        requires storable { IsStorable (with_base stream base self.old.state.value) }
+        requires held { container_of (hold self.old.state.value) ≤ container_of (hold (with_base stream base self.old.state.value)) }
+        ensures state { OnOk result (self.new.state.value ≡ with_base stream base self.old.state.value) }
+        ensures intact { OnOk result (IsIntact (D.state disk.new) self.new) }
+        ensures broken { OnErr result (IsBroken self.old self.new) }
+        ensures writes { WritesDisk (IsErr result) (D.state disk.old) (D.state disk.new) }
+    {
+        bases_of_rows_move();
+        low_containers_are_left_out();
+        records_are_as_their_heads();
+        numbers_fit_their_types();
+        let _newest = self.physical.image();
+        let place = self.place();
+        self.tables.set_base(stream, base);
+        let needed = self.tables.hold(self.archive.tail(), &place);
+        let change = Change::Base { stream, base };
+        if let Err(failed) = self.physical.write_copy(disk, needed.container(), &change) {
+            self.broken = true;
+            self.state = broken(&self.state);
+            return Err(failed);
+        }
+        let _moved = self.physical.image();
+        self.state = with_base(&self.state, stream, base);
+        Ok(())
+    }
+
+    // All is on the disk, and then the base of a stream moves to an LSN of a live record or behind the last one. After a fault the log is broken.
+    fn advance<D: Disk>(&mut self, disk: &mut D, stream: u16, base: Lsn) -> Result<(), Failed>
+        requires intact { IsIntact (D.state disk.old) self.old }
+        requires there { IsSome (stream_at self.old.state.value stream) }
+        requires base { is_base self.old.state.value stream base ≡ true }
+        requires flushed { IsValid (flush self.old.state.value) × IsStorable (flush self.old.state.value) }
+        requires valid { IsValid (with_base stream base (flush self.old.state.value)) }
+        requires storable { IsStorable (with_base stream base (flush self.old.state.value)) }
+        requires held { container_of (hold self.old.state.value)
+            ≤ container_of (hold (with_base stream base (flush self.old.state.value))) }
+        ensures state { OnOk result (self.new.state.value ≡ with_base stream base (flush self.old.state.value)) }
+        ensures intact { OnOk result (IsIntact (D.state disk.new) self.new) }
+        ensures broken { OnErr result (IsBroken self.old self.new) }
+        ensures writes { WritesDisk (IsErr result) (D.state disk.old) (D.state disk.new) }
+    {
+        let faulted = broken(&self.state);
+        self.write_out(disk)?;
+        if let Err(failed) = self.store_base(disk, stream, base) {
+            self.state = faulted;
+            return Err(failed);
+        }
+        self.forget_low();
+        Ok(())
+    }
+
+    // The stream of which a call moves the base, or why the call is refused.
+    fn stream_to_advance(&self, client: u16, area: u16, lsn: Lsn) -> Result<u16, Refusal>
+        requires sound { IsSound self.now }
+        ensures refused { IfErr result (λ first. refusal self.now.state.value client (calls.Advance area lsn) ≡ Some first) }
+        ensures allowed { IfOk result (λ _. refusal self.now.state.value client (calls.Advance area lsn) ≡ None) }
+        ensures there { IfOk result (λ stream. IsSome (stream_at self.now.state.value stream)) }
+        ensures base { IfOk result (λ stream. is_base self.now.state.value stream lsn ≡ true) }
+        ensures answer { IfOk result (λ stream. answer self.now.state.value client (calls.Advance area lsn)
+            ≡ outcome (replies.Base lsn) (with_base stream lsn (flush self.now.state.value))) }
+    {
+        let place = self.area_place(client, area)?;
+        match self.base_refusal(place, lsn) {
+            Some(refusal) => Err(refusal),
+            None => Ok(self.area_stream(place)),
+        }
+    }
+}
+
+impl<D: Disk> Manager<D> {
+    /// Moves the base of the area's stream to an LSN, on the disk too, after all of the log is flushed: the records of the stream below it are
+    /// needed no more, and the containers below all that is needed are free again. Answers the base.
+    ///
+    /// Refused where the client has no area of the number, and where the LSN is neither that of a live record of the stream nor the one behind
+    /// the last; the base and the last live record are told then.
+    pub fn advance(&mut self, client: u16, area: u16, lsn: Lsn) -> Result<Lsn, Refusal>
+        requires client { IsClient client }
+        ensures step { (told : Bool) → Steps told self.old.0 client (calls.Advance area lsn) replies.Base result self.new.0 }
+        ensures writes { WritesDisk (IsErrOf result Refusal.DiskFault) (D.state self.old.1) (D.state self.new.1) }
+    {
+        steps_keep_a_state_valid();
+        steps_keep_a_state_storable();
+        the_holds_container_never_falls();
+        refusals_are_the_calls_own();
+        ways_of_a_step();
+        if self.log.broken {
+            return Err(Refusal::Broken);
+        }
+        let stream = match self.log.stream_to_advance(client, area, lsn) {
+            Ok(stream) => stream,
+            Err(refusal) => return Err(refusal),
+        };
+        if self.log.advance(&mut self.disk, stream, lsn).is_err() {
+            return Err(Refusal::DiskFault);
+        }
+        Ok(lsn)
+    }
+}

@@ -1,0 +1,125 @@
+// Opening a stream by its name: the one of that name, or a new one behind the others. A new stream is in the base copy that follows the newest one, so
+// that a crash leaves it or not. Its memory is taken first, and it joins the tables once it is on the disk, which takes none.
+ghost use Rattle.std.specs.Prelude.{◌≡◌, ◌+◌, ◌<◌, ◌≤◌, ◌^◌, Bool, false, None, IsErrOf, IfOk, IfErr, length};
+ghost use Rattle.clfs_lsn.specs.Lsn.{container_of, null_lsn};
+ghost use Rattle.clfs_model.specs.declared.call.Call.TheVariants as calls;
+ghost use Rattle.clfs_model.specs.declared.reply.Reply.TheVariants as replies;
+ghost use Rattle.clfs_model.specs.Conditions.{IsClient};
+ghost use Rattle.clfs_model.specs.Live.{hold};
+ghost use Rattle.clfs_model.specs.Refusals.{open_refusal, stream_number};
+ghost use Rattle.clfs_model.specs.Step.{calls_disk};
+ghost use Rattle.clfs_model.specs.Storable.{IsStorable};
+ghost use Rattle.clfs_model.specs.Valid.{IsValid};
+ghost use Rattle.clfs_manager.specs.Calls.{Steps};
+ghost use Rattle.clfs_manager.specs.Streams.{IsNotAdded, with_stream};
+ghost use Rattle.clfs_manager.specs.Written.{IsIntact, WritesDisk};
+
+use crate::flushing::broken;
+use crate::log::Log;
+use crate::manager::Manager;
+use clfs_base::Row;
+use clfs_disk::Disk;
+use clfs_laws::{
+    refusals_are_the_calls_own, steps_keep_a_state_storable, steps_keep_a_state_valid,
+    the_holds_container_never_falls,
+};
+use clfs_lsn::{Lsn, Name};
+use clfs_model::{Refusal, State, ways_of_a_step};
+use clfs_physical::PhysicalRefusal;
+use clfs_recover::{low_containers_are_left_out, streams_come_last};
+use clfs_told::Told;
+use std::alloc::AllocError;
+
+// The state with a stream of this name behind the others.
+fn with_stream(state: &Told<State>, name: &Name) -> Told<State>
+    ensures { result.value ≡ with_stream name.now state.now.value }
+{
+    state.next(name)
+}
+
+// A name with memory of its own.
+fn copy_of(name: &Name) -> Result<Name, AllocError>
+    ensures { IfOk result (λ copy. copy ≡ name.now) }
+{
+    name.clone()
+}
+
+// The row of a new stream of this name.
+fn new_row(name: &Name) -> Result<Row, AllocError>
+    ensures { IfOk result (λ row. row ≡ record { name = name.now; base = null_lsn }) }
+{
+    Ok(Row {
+        name: copy_of(name)?,
+        base: Lsn::null(),
+    })
+}
+
+impl Log {
+    // A new stream, in memory and on the disk: its number. After a fault the log is broken, and where memory is wanting nothing has changed that
+    // the log tells.
+    fn add_stream<D: Disk>(&mut self, disk: &mut D, name: &Name) -> Result<u16, Refusal>
+        requires intact { IsIntact (D.state disk.old) self.old }
+        requires new { stream_number self.old.state.value name.now ≡ None }
+        requires allowed { open_refusal self.old.state.value name.now ≡ None }
+        requires valid { IsValid (with_stream name.now self.old.state.value) }
+        requires storable { IsStorable (with_stream name.now self.old.state.value) }
+        requires held { container_of (hold self.old.state.value) ≤ container_of (hold (with_stream name.now self.old.state.value)) }
+        ensures number { IfOk result (λ number. number ≡ length self.old.state.value.streams + 1) }
+        ensures state { IfOk result (λ _. self.new.state.value ≡ with_stream name.now self.old.state.value) }
+        ensures intact { IfOk result (λ _. IsIntact (D.state disk.new) self.new) }
+        ensures refused { IfErr result (λ refusal. IsNotAdded refusal (D.state disk.new) self.old self.new) }
+        ensures writes { WritesDisk (IsErrOf result Refusal.DiskFault) (D.state disk.old) (D.state disk.new) }
+    {
+        streams_come_last();
+        low_containers_are_left_out();
+        let _newest = self.physical.image();
+        let first = self.hold().container();
+        let number = self.tables.len() as u16 + 1;
+        self.tables.reserve_stream()?;
+        let own = copy_of(name)?;
+        let row = new_row(name)?;
+        match self.physical.add_stream(disk, first, row) {
+            Ok(()) => {}
+            Err(PhysicalRefusal::NoMemory) => return Err(Refusal::NoMemory),
+            Err(PhysicalRefusal::DiskFault) => {
+                self.broken = true;
+                self.state = broken(&self.state);
+                return Err(Refusal::DiskFault);
+            }
+        }
+        let _added = self.physical.image();
+        self.tables.add_stream(own);
+        self.state = with_stream(&self.state, name);
+        Ok(number)
+    }
+}
+
+impl<D: Disk> Manager<D> {
+    /// Opens the stream of a name, and gives its number, from 1 in the order of their first opening: the one that has the name, or a new one,
+    /// which is on the disk then. The disk is called for a new one alone.
+    ///
+    /// Refused where the name isn't legal, by its first wrong byte, and where a new stream would be the 129th. Memory may be wanting.
+    pub fn open_stream(&mut self, client: u16, name: &Name) -> Result<u16, Refusal>
+        requires client { IsClient client }
+        requires name { length name.now < 2 ^ 32 }
+        ensures step { (told : Bool) → Steps told self.old.0 client (calls.OpenStream name.now) replies.Stream result self.new.0 }
+        ensures quiet { calls_disk self.old.0 (calls.OpenStream name.now) ≡ false → self.new.1 ≡ self.old.1 }
+        ensures writes { WritesDisk (IsErrOf result Refusal.DiskFault) (D.state self.old.1) (D.state self.new.1) }
+    {
+        steps_keep_a_state_valid();
+        steps_keep_a_state_storable();
+        the_holds_container_never_falls();
+        refusals_are_the_calls_own();
+        ways_of_a_step();
+        if self.log.broken {
+            return Err(Refusal::Broken);
+        }
+        if let Some(refusal) = self.log.open_refusal(name) {
+            return Err(refusal);
+        }
+        if let Some(number) = self.log.tables.number(name.as_slice()) {
+            return Ok(number);
+        }
+        self.log.add_stream(&mut self.disk, name)
+    }
+}

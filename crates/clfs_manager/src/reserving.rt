@@ -1,0 +1,89 @@
+// Reserving: sectors that an area holds for records to come, so that these are never refused for room. What areas hold is in memory alone; the disk is
+// called only where the log grows for it.
+ghost use Rattle.std.specs.Prelude.{◌≡◌, ◌<◌, Bool, false, length, IsErrOf};
+ghost use Rattle.clfs_areas.specs.Table.{area_at};
+ghost use Rattle.clfs_model.specs.declared.call.Call.TheVariants as calls;
+ghost use Rattle.clfs_model.specs.declared.reply.Reply.TheVariants as replies;
+ghost use Rattle.clfs_model.specs.Conditions.{IsClient};
+ghost use Rattle.clfs_model.specs.Put.{hold_sizes, with_more_held};
+ghost use Rattle.clfs_model.specs.State.{change_area};
+ghost use Rattle.clfs_model.specs.Step.{calls_disk};
+ghost use Rattle.clfs_model.specs.Valid.{IsValid};
+ghost use Rattle.clfs_manager.specs.Calls.{Steps};
+ghost use Rattle.clfs_manager.specs.Memory.{ChangesAreas, IsSound};
+ghost use Rattle.clfs_manager.specs.Written.{WritesDisk};
+
+use crate::arguments::own_sum;
+use crate::log::Log;
+use crate::manager::Manager;
+use clfs_disk::Disk;
+use clfs_laws::{
+    refusals_are_the_calls_own, steps_keep_a_state_storable, steps_keep_a_state_valid,
+};
+use clfs_lsn::Sizes;
+use clfs_model::{Refusal, State, ways_of_a_step};
+use clfs_physical::PhysicalRefusal;
+use clfs_told::Told;
+
+// The state once a client's area holds so many sectors more.
+fn with_more_held(state: &Told<State>, client: u16, area: u16, sectors: u32) -> Told<State>
+    ensures { result.value ≡ change_area (with_more_held sectors) client area state.now.value }
+{
+    state.next(&(client, area, sectors))
+}
+
+impl Log {
+    // The area at a place holds the sectors for records of these lengths besides, where there are such.
+    pub fn hold_sizes(&mut self, place: usize, sizes: &Sizes)
+        requires sound { IsSound self.old }
+        requires place { place < length self.old.areas.areas }
+        requires valid { IsValid (hold_sizes (area_at place self.old.areas.areas) sizes.now self.old.state.value) }
+        ensures state { self.new.state.value ≡ hold_sizes (area_at place self.old.areas.areas) sizes.now self.old.state.value }
+        ensures sound { IsSound self.new }
+        ensures areas { ChangesAreas self.old self.new }
+    {
+        if sizes.as_slice().is_empty() {
+            return;
+        }
+        let area = self.areas.area(place);
+        let sectors = own_sum(sizes.as_slice());
+        self.areas.hold(place, sectors);
+        self.state = with_more_held(&self.state, area.client, area.number, sectors);
+    }
+}
+
+impl<D: Disk> Manager<D> {
+    /// Lets the client's area of a number hold the sectors for records of these lengths to come, in bytes of data, each in a block of its own, and gives the
+    /// number of those that it holds then. The log grows for them where it has no room and may grow.
+    ///
+    /// It is refused where the log has fewer than two containers, where the client has no such area, where a length is above the area's largest, and
+    /// where there is no room, not even after growth.
+    pub fn reserve(&mut self, client: u16, area: u16, sizes: &Sizes) -> Result<u32, Refusal>
+        requires client { IsClient client }
+        ensures step { (told : Bool) → Steps told self.old.0 client (calls.Reserve area sizes.now) replies.Held result self.new.0 }
+        ensures quiet { calls_disk self.old.0 (calls.Reserve area sizes.now) ≡ false → self.new.1 ≡ self.old.1 }
+        ensures writes { WritesDisk (IsErrOf result Refusal.DiskFault) (D.state self.old.1) (D.state self.new.1) }
+    {
+        steps_keep_a_state_valid();
+        steps_keep_a_state_storable();
+        refusals_are_the_calls_own();
+        ways_of_a_step();
+        if self.log.broken {
+            return Err(Refusal::Broken);
+        }
+        let place = self.log.area_for_records(client, area)?;
+        if let Some(refusal) = self.log.reserve_refusal(place, sizes) {
+            return Err(refusal);
+        }
+        let held = self.log.areas.area(place).held;
+        let need = own_sum(sizes.as_slice());
+        match self.log.grow(&mut self.disk, need) {
+            Ok(()) => {
+                self.log.hold_sizes(place, sizes);
+                Ok(held + need)
+            }
+            Err(PhysicalRefusal::DiskFault) => Err(Refusal::DiskFault),
+            Err(PhysicalRefusal::NoMemory) => Err(Refusal::NoMemory),
+        }
+    }
+}

@@ -1,0 +1,274 @@
+// Writing a restart area: the newest data by which the owner of a stream restarts, and with it, in one step, the new base of the stream. The restart area
+// is a record, which joins the log as any other, and then the log is flushed. Its record carries the new base, so that a crash leaves both of them or
+// none; no base copy is written. Until the flush is done the base stays where it was, in memory too.
+ghost use Rattle.std.specs.Prelude.{◌≡◌, ◌+◌, ◌-◌, ◌<◌, ◌≤◌, ◌^◌, ◌==◌, ℕ, Bool, List, [], None, Some, false, true, length, slice_index, vec_capacity, IfErr, IfOk, IsErr, IsErrOf, OnOk, OnErr};
+ghost use Rattle.clfs_lsn.specs.Limits.{most_containers};
+ghost use Rattle.clfs_lsn.specs.Lsn.{null_lsn};
+ghost use Rattle.clfs_lsn.specs.Place.{begins_here, joins};
+ghost use Rattle.clfs_model.specs.declared.call.Call.TheVariants as calls;
+ghost use Rattle.clfs_model.specs.declared.reply.Reply.TheVariants as replies;
+ghost use Rattle.clfs_model.specs.declared.state.Area.{Area};
+ghost use Rattle.clfs_model.specs.Answers.{rebased, restart_record};
+ghost use Rattle.clfs_model.specs.Conditions.{IsClient};
+ghost use Rattle.clfs_model.specs.Flush.{flush};
+ghost use Rattle.clfs_model.specs.Live.{lsn_or_null};
+ghost use Rattle.clfs_model.specs.Put.{next_lsn, put, spend_if, spent_of};
+ghost use Rattle.clfs_model.specs.Reading.{newest_restart};
+ghost use Rattle.clfs_model.specs.Refusals.{refusal, restart_refusal};
+ghost use Rattle.clfs_model.specs.State.{area_of, base_of};
+ghost use Rattle.clfs_model.specs.Storable.{IsStorable};
+ghost use Rattle.clfs_model.specs.Valid.{IsValid};
+ghost use Rattle.clfs_areas.specs.Table.{area_at};
+ghost use Rattle.clfs_laws.specs.Between.{MayMove, TakesThrough};
+ghost use Rattle.clfs_tables.specs.Tables.{IsNumber, base_in};
+ghost use Rattle.clfs_manager.specs.Calls.{Steps};
+ghost use Rattle.clfs_manager.specs.Fetching.{IsLeft};
+ghost use Rattle.clfs_manager.specs.Flushing.{IsBroken};
+ghost use Rattle.clfs_manager.specs.Laid.{IsLaidLog};
+ghost use Rattle.clfs_manager.specs.Memory.{IsSound};
+ghost use Rattle.clfs_manager.specs.OnDisk.{IsOpen};
+ghost use Rattle.clfs_manager.specs.Putting.{unplaced};
+ghost use Rattle.clfs_manager.specs.Restarts.{EndsInRestart, rebased_streams};
+ghost use Rattle.clfs_manager.specs.Written.{IsIntact, WritesDisk};
+
+use crate::appending::kept;
+use crate::arguments::need_of;
+use crate::flushing::broken;
+use crate::log::Log;
+use crate::manager::Manager;
+use clfs_disk::{Disk, Failed};
+use clfs_laws::{
+    calls_that_pass_find_room, growth_keeps_a_log_whole, logs_are_made_ready, records_are_put,
+    refusals_are_the_calls_own, seals_and_flushes_keep_a_log, small_changes_make_the_calls,
+    steps_keep_a_state_storable, steps_keep_a_state_valid,
+};
+use clfs_lsn::{Bytes, Kind, Lsn};
+use clfs_model::{Refusal, State, ways_of_a_step};
+use clfs_queue::the_next_lsn_is_above_all;
+use clfs_record::Fields;
+use clfs_recover::groups_come_behind_the_last_block;
+use clfs_tables::Tables;
+use clfs_told::Told;
+
+// The state with the base of a stream moved, where there is a new one.
+fn rebased(state: &Told<State>, stream: u16, base: Lsn) -> Told<State>
+    ensures { result.value ≡ rebased stream base state.now.value }
+{
+    state.next(&(stream, base))
+}
+
+// The base of a stream moves in the tables, where there is a new one.
+fn move_base(tables: &mut Tables, stream: u16, base: Lsn)
+    requires there { IsNumber tables.old.streams stream }
+    requires up { (base == null_lsn) ≡ false → base_in tables.old.streams stream ≤ base }
+    ensures streams { tables.new.streams ≡ rebased_streams stream base tables.old.streams }
+    ensures heads { tables.new.heads ≡ tables.old.heads }
+    ensures low { tables.new.low ≡ tables.old.low }
+{
+    if base != Lsn::null() {
+        tables.set_base(stream, base);
+    }
+}
+
+// What a restart area's record says beside its data: the link goes to the one before it.
+fn restart_fields(stream: u16, previous: Lsn, base: Lsn) -> Fields
+    ensures stream { result.stream ≡ stream }
+    ensures base { result.new_base ≡ base }
+    ensures record { (s : State) (area : Area) (bytes : List ℕ) → area.stream ≡ stream → lsn_or_null (newest_restart s stream) ≡ previous
+        → unplaced result bytes ≡ restart_record s area bytes base }
+{
+    Fields {
+        stream,
+        kind: Kind::Restart,
+        previous,
+        undo_next: Lsn::null(),
+        new_base: base,
+    }
+}
+
+impl Log {
+    // The log ends in a restart area, which isn't on the disk yet: all that waits is written, and then the base moves, where there is a new one. After
+    // a fault the log is broken.
+    fn store_restart<D: Disk>(&mut self, disk: &mut D, stream: u16, base: Lsn) -> Result<(), Failed>
+        requires laid { IsLaidLog self.old }
+        requires opened { IsOpen (D.state disk.old) self.old.state.value self.old }
+        requires last { EndsInRestart self.old.state.value stream base }
+        requires there { IsNumber self.old.state.value.streams stream }
+        requires up { (base == null_lsn) ≡ false → base_of self.old.state.value stream ≤ base }
+        requires valid { IsValid (rebased stream base (flush self.old.state.value)) }
+        requires storable { IsStorable (rebased stream base (flush self.old.state.value)) }
+        ensures state { OnOk result (self.new.state.value ≡ rebased stream base (flush self.old.state.value)) }
+        ensures intact { OnOk result (IsIntact (D.state disk.new) self.new) }
+        ensures broken { OnErr result (IsBroken self.old self.new) }
+        ensures writes { WritesDisk (IsErr result) (D.state disk.old) (D.state disk.new) }
+    {
+        seals_and_flushes_keep_a_log();
+        groups_come_behind_the_last_block();
+        let _newest = self.physical.image();
+        self.write_group(disk)?;
+        move_base(&mut self.tables, stream, base);
+        self.state = rebased(&self.state, stream, base);
+        Ok(())
+    }
+
+    // The same, and nothing below the hold, which has moved with the base, is kept in memory.
+    pub(crate) fn finish_restart<D: Disk>(
+        &mut self,
+        disk: &mut D,
+        stream: u16,
+        base: Lsn,
+    ) -> Result<(), Failed>
+        requires laid { IsLaidLog self.old }
+        requires opened { IsOpen (D.state disk.old) self.old.state.value self.old }
+        requires last { EndsInRestart self.old.state.value stream base }
+        requires there { IsNumber self.old.state.value.streams stream }
+        requires up { (base == null_lsn) ≡ false → base_of self.old.state.value stream ≤ base }
+        requires valid { IsValid (rebased stream base (flush self.old.state.value)) }
+        requires storable { IsStorable (rebased stream base (flush self.old.state.value)) }
+        ensures state { OnOk result (self.new.state.value ≡ rebased stream base (flush self.old.state.value)) }
+        ensures intact { OnOk result (IsIntact (D.state disk.new) self.new) }
+        ensures broken { OnErr result (IsBroken self.old self.new) }
+        ensures writes { WritesDisk (IsErr result) (D.state disk.old) (D.state disk.new) }
+    {
+        self.store_restart(disk, stream, base)?;
+        self.forget_low();
+        Ok(())
+    }
+
+    // Writes the restart area of these fields and data through the area at a place to a log that has grown for it, and for which all memory was taken.
+    // After a fault the log is broken.
+    fn restart_grown<D: Disk>(
+        &mut self,
+        disk: &mut D,
+        place: usize,
+        fields: &Fields,
+        bytes: &[u8],
+        reserved: bool,
+        room: Vec<u16>,
+    ) -> Result<Lsn, Failed>
+        requires intact { IsIntact (D.state disk.old) self.old }
+        requires place { place < length self.old.areas.areas }
+        requires enough { spent_of reserved (length bytes.now) ≤ (area_at place self.old.areas.areas).held }
+        requires takes { let area = area_at place self.old.areas.areas in
+            TakesThrough (spend_if reserved area (length bytes.now) self.old.state.value) area (unplaced fields.now bytes.now) 0 }
+        requires base { let area = area_at place self.old.areas.areas in
+            MayMove (spend_if reserved area (length bytes.now) self.old.state.value) fields.now.stream fields.now.new_base }
+        requires heads { 1 ≤ slice_index self.old.tables.room (fields.now.stream - 1) }
+        requires ends { 2 ≤ self.old.archive.room }
+        requires empty { room.items ≡ [] }
+        requires capacity { joins self.old.state.value.shape self.old.state.value.place (length bytes.now) ≡ false
+            → begins_here self.old.state.value.shape self.old.state.value.place (length bytes.now) ≡ false → most_containers ≤ vec_capacity room }
+        ensures lsn { let area = area_at place self.old.areas.areas in
+            IfOk result (λ lsn. lsn ≡ next_lsn (spend_if reserved area (length bytes.now) self.old.state.value) (length bytes.now)) }
+        ensures state { let area = area_at place self.old.areas.areas in
+            OnOk result (self.new.state.value ≡ rebased fields.now.stream fields.now.new_base
+            (flush (put (spend_if reserved area (length bytes.now) self.old.state.value) (unplaced fields.now bytes.now)))) }
+        ensures intact { OnOk result (IsIntact (D.state disk.new) self.new) }
+        ensures broken { OnErr result (self.new.broken ≡ true) }
+        ensures writes { WritesDisk (IsErr result) (D.state disk.old) (D.state disk.new) }
+    {
+        records_are_put();
+        logs_are_made_ready();
+        the_next_lsn_is_above_all();
+        self.spend(place, reserved, bytes.len() as u32);
+        let lsn = self.put_record(disk, fields, bytes, room)?;
+        self.finish_restart(disk, fields.stream, fields.new_base)?;
+        Ok(lsn)
+    }
+
+    // The place of the area through which a restart area is written, or why it is refused.
+    fn area_to_restart(
+        &self,
+        client: u16,
+        area: u16,
+        bytes: &[u8],
+        base: Lsn,
+        reserved: bool,
+    ) -> Result<usize, Refusal>
+        requires sound { IsSound self.now }
+        requires len { length bytes.now < 2 ^ 32 }
+        ensures refused { IfErr result (λ first. refusal self.now.state.value client (calls.WriteRestart area bytes.now base reserved) ≡ Some first) }
+        ensures allowed { IfOk result (λ _. refusal self.now.state.value client (calls.WriteRestart area bytes.now base reserved) ≡ None) }
+        ensures within { IfOk result (λ place. place < length self.now.areas.areas) }
+        ensures there { IfOk result (λ place. area_of self.now.state.value client area ≡ Some (area_at place self.now.areas.areas)) }
+        ensures two { OnOk result (2 ≤ self.now.state.value.containers) }
+        ensures passes { IfOk result (λ place. restart_refusal self.now.state.value (area_at place self.now.areas.areas) bytes.now base reserved ≡ None) }
+    {
+        let place = self.area_for_records(client, area)?;
+        match self.restart_refusal(place, bytes, base, reserved) {
+            Some(refusal) => Err(refusal),
+            None => Ok(place),
+        }
+    }
+
+    // `write_restart` of a log that isn't broken.
+    fn write_restart<D: Disk>(
+        &mut self,
+        disk: &mut D,
+        client: u16,
+        area: u16,
+        bytes: &Bytes,
+        base: Lsn,
+        reserved: bool,
+    ) -> Result<Lsn, Refusal>
+        requires intact { IsIntact (D.state disk.old) self.old }
+        requires len { length bytes.now < 2 ^ 32 }
+        ensures step { (told : Bool)
+            → Steps told self.old.state.value client (calls.WriteRestart area bytes.now base reserved) replies.Placed result self.new.state.value }
+        ensures left { IsLeft (D.state disk.new) self.new }
+        ensures writes { WritesDisk (IsErrOf result Refusal.DiskFault) (D.state disk.old) (D.state disk.new) }
+    {
+        refusals_are_the_calls_own();
+        ways_of_a_step();
+        growth_keeps_a_log_whole();
+        calls_that_pass_find_room();
+        logs_are_made_ready();
+        small_changes_make_the_calls();
+        let data = bytes.as_slice();
+        let len = data.len() as u32;
+        let place = self.area_to_restart(client, area, data, base, reserved)?;
+        let stream = self.areas.area(place).stream;
+        let fields = restart_fields(stream, self.last_restart(stream), base);
+        let before = kept(&self.state);
+        let room = self.prepare(disk, stream, len, need_of(reserved, len, &[]))?;
+        match self.restart_grown(disk, place, &fields, data, reserved, room) {
+            Ok(lsn) => Ok(lsn),
+            Err(Failed) => {
+                self.state = broken(&before);
+                Err(Refusal::DiskFault)
+            }
+        }
+    }
+}
+
+impl<D: Disk> Manager<D> {
+    /// Writes a restart area to the stream of the client's area of a number, and gives its LSN: the whole log is on the disk then, and with the restart area
+    /// the new base of the stream, where there is one; a null base moves none. A reserved one takes its sectors from those that the area holds. It links to
+    /// the newest live restart area before it.
+    ///
+    /// Refused in this order: `Broken`, `NotEnoughContainers`, `NoSuchArea`, `RecordTooLong`, `TailInvalid` for the new base, `ReservationShort`, `Full`.
+    /// After any refusal but `DiskFault` nothing has changed.
+    pub fn write_restart(
+        &mut self,
+        client: u16,
+        area: u16,
+        bytes: &Bytes,
+        base: Lsn,
+        reserved: bool,
+    ) -> Result<Lsn, Refusal>
+        requires client { IsClient client }
+        requires len { length bytes.now < 2 ^ 32 }
+        ensures step { (told : Bool)
+            → Steps told self.old.0 client (calls.WriteRestart area bytes.now base reserved) replies.Placed result self.new.0 }
+        ensures writes { WritesDisk (IsErrOf result Refusal.DiskFault) (D.state self.old.1) (D.state self.new.1) }
+    {
+        ways_of_a_step();
+        if self.log.broken {
+            return Err(Refusal::Broken);
+        }
+        steps_keep_a_state_valid();
+        steps_keep_a_state_storable();
+        self.log
+            .write_restart(&mut self.disk, client, area, bytes, base, reserved)
+    }
+}
