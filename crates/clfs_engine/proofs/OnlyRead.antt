@@ -1,5 +1,5 @@
 -- A call that only reads a disk, as one that may write it.
-use Rattle.std.proofs.Common.{◌≡◌, ℕ, length, refl, ap, ◌∙◌, sym, Ok, Err, arith}
+use Rattle.std.proofs.Common.{◌≡◌, ℕ, true, length, refl, ap, ◌∙◌, sym, Ok, Err, arith}
 use Rattle.std.specs.Prelude.{Result, IsErrOf}
 use Rattle.clfs_disk.specs.Files.{Files, Unchanged}
 use Rattle.clfs_disk.specs.State.{DiskState, TellsContents, Passes, Later}
@@ -14,8 +14,11 @@ use Rattle.clfs_model.specs.Run.{reopens, bad_line}
 use Rattle.clfs_model.specs.Step.{ReopenStep, IsDamaged}
 use Rattle.clfs_recover.specs.Files.{AreWholeFiles}
 use Rattle.clfs_manager.specs.Calls.{replied}
+use Rattle.clfs_manager.specs.Crashes.{CrashSurvives}
 use Rattle.clfs_manager.specs.Fetching.{OnlyReads}
 use Rattle.clfs_engine.specs.Answered.{AnswersOne}
+use Rattle.clfs_engine.specs.Crashed.{StandsStill}
+use Rattle.clfs_engine.proofs.Crashing.{OpeningBreaks, OpeningStaysBroken, faultless_opening}
 use Rattle.clfs_engine.proofs.SoFar.{stands_still}
 
 -- time in which no file changed
@@ -57,8 +60,12 @@ answer_faulted (Err refusal) e = cc e
 -- a log that was opened anew
 pub reopened_one : (s : State) (old : DiskState) (client : ℕ) (result : Result ℕ Refusal) (reply : Reply) (t : State) (new : DiskState) → reply ≡ replied replies.Flushed result
     → ReopenStep old.nature.tells_contents s (happened_of (replied replies.Flushed result)) (replied replies.Flushed result) t → OnlyReads result old new
+    → CrashSurvives (reopens client) s old new → (s.broken ≡ true → StandsStill old new) → OpeningBreaks → OpeningStaysBroken
     → AnswersOne s old (reopens client) reply t new
-reopened_one s old client result reply t new is step reads = record {
+reopened_one s old client result reply t new is step reads crash stopped breaks stays = record {
+  crash = crash;
+  stopped = stopped;
+  faultless = rw is (faultless_opening breaks stays old.nature.tells_contents s (replied replies.Flushed result) t step);
   step = rw is step;
   damage = λ told damaged. answer_damaged result old new reads told (rw is at damaged);
   writes = record {
@@ -70,8 +77,12 @@ reopened_one s old client result reply t new is step reads = record {
 }
 
 -- a bad line
-pub bad_one : (s : State) (disk : DiskState) (at : ℕ) → AnswersOne s disk (bad_line at) (replies.Refused (refusals.BadLine at)) s disk
-bad_one s disk at = record {
+pub bad_one : (s : State) (disk : DiskState) (at : ℕ) → CrashSurvives (bad_line at) s disk disk
+    → AnswersOne s disk (bad_line at) (replies.Refused (refusals.BadLine at)) s disk
+bad_one s disk at crash = record {
+  crash = crash;
+  stopped = λ broken. record { clock = refl; images = λ moment image is. is };
+  faultless = λ whole. (whole, λ fault. cc fault);
   step = (refl, refl);
   damage = λ told damaged. damaged;
   writes = record {

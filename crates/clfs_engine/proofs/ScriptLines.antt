@@ -1,42 +1,19 @@
--- The lines of a text from its front, and which of them are answered.
-use Rattle.std.proofs.Common.{◌≡◌, ℕ, zero, suc, ◌+◌, ◌≤◌, ◌<◌, List, [], ◌∷◌, length, get_or, take, drop, Bool, true, false, refl, sym, ap, ◌∙◌, arith, inl, inr, drop-drop}
+-- The lines of bytes of which those at the front are known, and which of them are answered.
+use Rattle.std.proofs.Common.{◌≡◌, ℕ, ◌+◌, ◌≤◌, ◌<◌, List, [], ◌∷◌, ◌++◌, length, take, Bool, true, false, refl, sym, ap, ◌∙◌, arith, inl, inr, append_assoc, length-append}
 use Rattle.std.specs.Prelude.{nat_le, ◌==◌, take_while}
-use Rattle.std.specs.List.{slice_split, onto_first, list_all}
+use Rattle.std.specs.List.{All, slice_split, onto_first, list_all}
 use Rattle.std.proofs.lemmas.Bool.{cases_Bool, le-leb, lt-leb, ne_eqb}
-use Rattle.std.proofs.lemmas.List.{take_all, length-take}
+use Rattle.std.proofs.lemmas.List.{take_all, length-take, append-nil}
+use Rattle.std.proofs.lemmas.List.Elements.{All-head, All-tail}
+use Rattle.std.proofs.lemmas.List.Folds.{list_all-append}
 use Rattle.std.proofs.lemmas.List.Sums.{count_by-le-length, take_while-cons}
-use Rattle.std.proofs.lemmas.List.Splits.{length-slice_split}
-use Rattle.memchr.specs.Find.{NoneBefore, Nowhere, Passes, is_byte}
+use Rattle.std.proofs.lemmas.List.Splits.{length-slice_split, slice_split_none, slice_split_at, slice_split-cons_no}
 use Rattle.clfs_model.specs.Lines.{lines_of, whole_lines}
 use Rattle.clfs_model.specs.Accepted.{serve_limits, is_within, accepted, ended_lines, without_last}
-use Rattle.clfs_engine.specs.Taken.{longest_script, is_short, lines_in}
-use Rattle.clfs_engine.specs.declared.input.End.{End}
-use Rattle.clfs_engine.specs.declared.input.End.TheVariants.{Whole, Fault, Limit}
+use Rattle.clfs_engine.specs.Feeds.{is_feed, HasNoFeed, with_feeds}
+use Rattle.clfs_engine.specs.Taken.{longest_script, is_short, IsFrontOf}
 
-abbrev is_feed : ℕ → Bool
-is_feed b = b == 10
-
-not_true : (b : Bool) → (b ≡ true → ⊥) → b ≡ false
-not_true true h = absurd (h refl)
-not_true false h = refl
-
--- the first part ends at the first line feed
-first_ends : (text : List ℕ) (k : ℕ) → k < length text → is_feed (get_or text k 0) ≡ true → ((j : ℕ) → j < k → is_feed (get_or text j 0) ≡ false)
-    → slice_split is_feed text ≡ take k text ∷ slice_split is_feed (drop (suc k) text)
-first_ends [] k within here before = absurd (omega arith)
-first_ends (b ∷ text) zero within here before = rw here refl
-first_ends (b ∷ text) (suc k) within here before =
-    let t : is_feed b ≡ false = before 0 (omega arith) in
-    let rest = first_ends text k (omega arith) here (λ j h. before (suc j) (omega arith)) in
-    rw (t, rest) refl
-
--- a text without a line feed is one part
-one_part : (text : List ℕ) → ((j : ℕ) → j < length text → is_feed (get_or text j 0) ≡ false) → slice_split is_feed text ≡ text ∷ []
-one_part [] before = refl
-one_part (b ∷ text) before =
-    let t : is_feed b ≡ false = before 0 (omega arith) in
-    let rest = one_part text (λ j h. before (suc j) (omega arith)) in
-    rw (t, rest) refl
+-- ---- parts
 
 -- there is always a part
 abbrev HasPart : List (List ℕ) → Type 0
@@ -53,34 +30,43 @@ some_part (b ∷ bytes) = elim (cases_Bool (is_feed b)) [
   | inr t ↦ rw t (onto b (slice_split is_feed bytes) (some_part bytes))
 ]
 
+part_behind : (lines parts : List (List ℕ)) → HasPart parts → HasPart (lines ++ parts)
+part_behind [] parts h = h
+part_behind (line ∷ lines) parts h = (line, lines ++ parts, refl)
+
+-- lines with their line feeds, and what stands behind them
+parts_behind : (lines : List (List ℕ)) (rest : List ℕ) → All HasNoFeed lines → slice_split is_feed (with_feeds lines ++ rest) ≡ lines ++ slice_split is_feed rest
+parts_behind [] rest none = refl
+parts_behind (line ∷ lines) rest none =
+    ap (λ (bytes : List ℕ). slice_split is_feed bytes) (append_assoc line (10 ∷ with_feeds lines) rest)
+    ∙ slice_split_at is_feed line 10 (with_feeds lines ++ rest) (All-head HasNoFeed line lines none) refl
+    ∙ ap (λ (parts : List (List ℕ)). line ∷ parts) (parts_behind lines rest (All-tail HasNoFeed line lines none))
+
+-- bytes without a line feed begin the first part
+long_part : (front rest part : List ℕ) (others : List (List ℕ)) → HasNoFeed front → slice_split is_feed rest ≡ part ∷ others
+    → slice_split is_feed (front ++ rest) ≡ (front ++ part) ∷ others
+long_part [] rest part others none split = split
+long_part (b ∷ front) rest part others none split =
+    slice_split-cons_no is_feed b (front ++ rest) (All-head (λ (byte : ℕ). is_feed byte ≡ false) b front none)
+    ∙ ap (λ (parts : List (List ℕ)). onto_first b parts) (long_part front rest part others (All-tail (λ (byte : ℕ). is_feed byte ≡ false) b front none) split)
+
 whole_more : (line : List ℕ) (parts : List (List ℕ)) → HasPart parts → whole_lines (line ∷ parts) ≡ line ∷ whole_lines parts
 whole_more line parts h = rw h.2 refl
 
 ended_more : (line : List ℕ) (parts : List (List ℕ)) → HasPart parts → without_last (line ∷ parts) ≡ line ∷ without_last parts
 ended_more line parts h = rw h.2 refl
 
--- a line feed was found
-pub line_before : (end : End) (bytes : List ℕ) (k : ℕ) → NoneBefore (Passes (is_byte 10) bytes) 0 (length bytes) k × Passes (is_byte 10) bytes k
-    → lines_in end bytes ≡ take k bytes ∷ lines_in end (drop 1 (drop k bytes))
-line_before end bytes k found =
-    let within : k < length bytes = found.0.high in
-    let split = first_ends bytes k within found.1 (λ j h. not_true _ (found.0.before j (omega arith) h)) in
-    let rest : drop 1 (drop k bytes) ≡ drop (suc k) bytes = drop-drop 1 k bytes ∙ ap (λ n. drop n bytes) {x = k + 1} {y = suc k} (omega arith) in
-    let part = some_part (drop (suc k) bytes) in
-    let whole : lines_of bytes ≡ take k bytes ∷ lines_of (drop (suc k) bytes) = rw split (whole_more (take k bytes) _ part) in
-    let ended : ended_lines bytes ≡ take k bytes ∷ ended_lines (drop (suc k) bytes) = rw split (ended_more (take k bytes) _ part) in
-    rw rest (elim end as (λ (e : End). lines_in e bytes ≡ take k bytes ∷ lines_in e (drop (suc k) bytes)) [ Whole ↦ whole | Fault ↦ ended | Limit ↦ ended ])
+whole_behind : (lines parts : List (List ℕ)) → HasPart parts → whole_lines (lines ++ parts) ≡ lines ++ whole_lines parts
+whole_behind [] parts h = refl
+whole_behind (line ∷ lines) parts h =
+    whole_more line (lines ++ parts) (part_behind lines parts h) ∙ ap (λ (ls : List (List ℕ)). line ∷ ls) (whole_behind lines parts h)
 
--- no line feed was found: the bytes are the last line, where there are any
-pub last_line_is : (bytes : List ℕ) → Nowhere (Passes (is_byte 10) bytes) 0 (length bytes) → 0 < length bytes → lines_of bytes ≡ bytes ∷ []
-last_line_is bytes none some =
-    let split = one_part bytes (λ j h. not_true _ (none j (omega arith) h)) in
-    let not_empty : (length bytes == 0) ≡ false = ne_eqb (length bytes) 0 (λ z. omega (arith, z, some)) in
-    rw (split, not_empty) refl
+ended_behind : (lines parts : List (List ℕ)) → HasPart parts → without_last (lines ++ parts) ≡ lines ++ without_last parts
+ended_behind [] parts h = refl
+ended_behind (line ∷ lines) parts h =
+    ended_more line (lines ++ parts) (part_behind lines parts h) ∙ ap (λ (ls : List (List ℕ)). line ∷ ls) (ended_behind lines parts h)
 
--- nor is there a line that ended
-pub no_line_ended : (bytes : List ℕ) → Nowhere (Passes (is_byte 10) bytes) 0 (length bytes) → ended_lines bytes ≡ []
-no_line_ended bytes none = let split = one_part bytes (λ j h. not_true _ (none j (omega arith) h)) in rw split refl
+-- ---- how many lines there are
 
 -- all parts but the last
 drops_one : (part : List ℕ) (parts : List (List ℕ)) → length (without_last (part ∷ parts)) ≡ length parts
@@ -110,12 +96,14 @@ few_lines (b ∷ bytes) = elim (cases_Bool (is_feed b)) [
   | inr t ↦ let more = longer_first b (slice_split is_feed bytes) (some_part bytes) (length bytes) (few_lines bytes) in rw t (omega (arith, more))
 ]
 
+-- ---- lines that are none too long
+
 -- a line that is none too long comes before the others
-pub short_more : (line : List ℕ) (lines : List (List ℕ)) → is_short line ≡ true → take_while is_short (line ∷ lines) ≡ line ∷ take_while is_short lines
+short_more : (line : List ℕ) (lines : List (List ℕ)) → is_short line ≡ true → take_while is_short (line ∷ lines) ≡ line ∷ take_while is_short lines
 short_more line lines t = take_while-cons is_short line lines ∙ rw t refl
 
 -- a line that is too long ends them
-pub short_none : (line : List ℕ) (lines : List (List ℕ)) → is_short line ≡ false → take_while is_short (line ∷ lines) ≡ []
+short_none : (line : List ℕ) (lines : List (List ℕ)) → is_short line ≡ false → take_while is_short (line ∷ lines) ≡ []
 short_none line lines t = take_while-cons is_short line lines ∙ rw t refl
 
 few_short : (lines : List (List ℕ)) → length (take_while is_short lines) ≤ length lines
@@ -125,28 +113,73 @@ few_short (line ∷ lines) = elim (cases_Bool (is_short line)) [
   | inr t ↦ omega (arith, ap length (short_none line lines t))
 ]
 
+short_behind : (lines more : List (List ℕ)) → list_all is_short lines ≡ true → take_while is_short (lines ++ more) ≡ lines ++ take_while is_short more
+short_behind [] more all = refl
+short_behind (line ∷ lines) more all = elim (cases_Bool (is_short line)) [
+  | inl t ↦ let rest = rw t at all in short_more line (lines ++ more) t ∙ ap (λ (ls : List (List ℕ)). line ∷ ls) (short_behind lines more rest)
+  | inr t ↦ absurd (let no = rw t at all in cc no)
+]
+
+-- ---- the lines that are answered
+
 -- the ended lines up to the first that is too long are the accepted ones
-pub accepted_are : (bytes : List ℕ) → take_while is_short (ended_lines (take longest_script bytes)) ≡ accepted serve_limits bytes
+accepted_are : (bytes : List ℕ) → take_while is_short (ended_lines (take longest_script bytes)) ≡ accepted serve_limits bytes
 accepted_are bytes =
     let front = take longest_script bytes in
     let small : length front ≤ longest_script = omega (arith, length-take longest_script bytes) in
     sym (take_all longest_script (take_while is_short (ended_lines front)) (omega (arith, few_short (ended_lines front), few_ended front, small)))
 
-all_of : (lines : List (List ℕ)) → list_all is_short lines ≡ true → take_while is_short lines ≡ lines
-all_of [] all = refl
-all_of (line ∷ lines) all = elim (cases_Bool (is_short line)) [
-  | inl t ↦ let rest = rw t at all in short_more line lines t ∙ ap (λ (ls : List (List ℕ)). line ∷ ls) (all_of lines rest)
-  | inr t ↦ absurd (let no = rw t at all in cc no)
-]
+-- those that are known come first
+accepted_behind : (bytes : List ℕ) (lines : List (List ℕ)) (rest : List ℕ) → All HasNoFeed lines → list_all is_short lines ≡ true
+    → with_feeds lines ++ rest ≡ take longest_script bytes → accepted serve_limits bytes ≡ lines ++ take_while is_short (without_last (slice_split is_feed rest))
+accepted_behind bytes lines rest none short split =
+    sym (accepted_are bytes) ∙ ap (λ (b : List ℕ). take_while is_short (ended_lines b)) (sym split)
+    ∙ ap (λ (parts : List (List ℕ)). take_while is_short (without_last parts)) (parts_behind lines rest none)
+    ∙ ap (λ (ls : List (List ℕ)). take_while is_short ls) (ended_behind lines (slice_split is_feed rest) (some_part rest))
+    ∙ short_behind lines (without_last (slice_split is_feed rest)) short
 
--- where none of a script's lines is too long all are answered
-pub all_short_are : (bytes : List ℕ) → length bytes ≤ longest_script → list_all is_short (lines_of bytes) ≡ true
-    → take_while is_short (lines_of (take longest_script bytes)) ≡ lines_of bytes
-all_short_are bytes small all =
-    ap (λ (b : List ℕ). take_while is_short (lines_of b)) (take_all longest_script bytes small) ∙ all_of (lines_of bytes) all
+-- so they are a front of them
+pub known_are_front : (bytes : List ℕ) (lines : List (List ℕ)) (rest : List ℕ) → All HasNoFeed lines → list_all is_short lines ≡ true
+    → with_feeds lines ++ rest ≡ take longest_script bytes → IsFrontOf (accepted serve_limits bytes) lines
+known_are_front bytes lines rest none short split =
+    record { rest = take_while is_short (without_last (slice_split is_feed rest)); front = sym (accepted_behind bytes lines rest none short split) }
+
+-- where no line ends behind them they are all
+pub known_are_all : (bytes : List ℕ) (lines : List (List ℕ)) (rest : List ℕ) → All HasNoFeed lines → list_all is_short lines ≡ true
+    → with_feeds lines ++ rest ≡ take longest_script bytes → HasNoFeed rest → accepted serve_limits bytes ≡ lines
+known_are_all bytes lines rest none short split one =
+    accepted_behind bytes lines rest none short split
+    ∙ ap (λ (parts : List (List ℕ)). lines ++ take_while is_short (without_last parts)) (slice_split_none is_feed rest one) ∙ append-nil lines
+
+-- the first part is too long
+long_ends : (part : List ℕ) (others : List (List ℕ)) → is_short part ≡ false → take_while is_short (without_last (part ∷ others)) ≡ []
+long_ends part [] t = refl
+long_ends part (next ∷ others) t = short_none part (without_last (next ∷ others)) t
+
+long_lines : (part : List ℕ) (others : List (List ℕ)) → serve_limits.line < length part → list_all is_short (whole_lines (part ∷ others)) ≡ false
+long_lines part [] long =
+    let some : (length part == 0) ≡ false = ne_eqb (length part) 0 (λ z. omega (arith, z, long)) in
+    let t : is_short part ≡ false = lt-leb (length part) serve_limits.line long in rw (some, t) refl
+long_lines part (next ∷ others) long = let t : is_short part ≡ false = lt-leb (length part) serve_limits.line long in rw t refl
+
+-- what stands behind them is too long
+longer : (line rest part : List ℕ) → serve_limits.line < length line → serve_limits.line < length (line ++ part)
+longer line rest part long = omega (arith, long, length-append line part)
+
+-- so do they where a line behind them is too long
+pub known_are_before_long : (bytes : List ℕ) (lines : List (List ℕ)) (line rest : List ℕ) → All HasNoFeed lines → list_all is_short lines ≡ true
+    → with_feeds lines ++ (line ++ rest) ≡ take longest_script bytes → HasNoFeed line → serve_limits.line < length line → accepted serve_limits bytes ≡ lines
+known_are_before_long bytes lines line rest none short split one long =
+    let part = some_part rest in
+    let t : is_short (line ++ part.0) ≡ false = lt-leb (length (line ++ part.0)) serve_limits.line (longer line rest part.0 long) in
+    accepted_behind bytes lines (line ++ rest) none short split
+    ∙ ap (λ (parts : List (List ℕ)). lines ++ take_while is_short (without_last parts)) (long_part line rest part.0 part.1 one part.2)
+    ∙ ap (λ (ls : List (List ℕ)). lines ++ ls) (long_ends (line ++ part.0) part.1 t) ∙ append-nil lines
+
+-- ---- the limits
 
 -- a script of few bytes is within its limits where none of its lines is too long
-pub within_is : (bytes : List ℕ) (all : Bool) → length bytes ≤ longest_script → list_all is_short (lines_of bytes) ≡ all → is_within serve_limits bytes ≡ all
+within_is : (bytes : List ℕ) (all : Bool) → length bytes ≤ longest_script → list_all is_short (lines_of bytes) ≡ all → is_within serve_limits bytes ≡ all
 within_is bytes all small e =
     let few : nat_le (length bytes) longest_script ≡ true = le-leb (length bytes) longest_script small in
     let lines : nat_le (length (lines_of bytes)) longest_script ≡ true = le-leb (length (lines_of bytes)) longest_script (omega (arith, few_lines bytes, small)) in
@@ -156,27 +189,53 @@ within_is bytes all small e =
 pub past_is : (bytes : List ℕ) → longest_script < length bytes → is_within serve_limits bytes ≡ false
 past_is bytes many = let t : nat_le (length bytes) longest_script ≡ false = lt-leb (length bytes) longest_script many in rw t refl
 
--- the lines before one that is too long have ended
-cut_lines : (parts : List (List ℕ)) → list_all is_short (whole_lines parts) ≡ false → take_while is_short (whole_lines parts) ≡ take_while is_short (without_last parts)
-cut_lines [] e = refl
-cut_lines (part ∷ []) e = elim (cases_Bool (length part == 0)) [
-  | inl t ↦ rw t refl
-  | inr t ↦ elim (cases_Bool (is_short part)) [
-    | inl u ↦ absurd (let no = rw (t, u) at e in cc no)
-    | inr u ↦ rw t (short_none part [] u)
-  ]
-]
-cut_lines (part ∷ next ∷ more) e = elim (cases_Bool (is_short part)) [
-  | inl t ↦ let rest = rw t at e in
-      short_more part (whole_lines (next ∷ more)) t ∙ ap (λ (ls : List (List ℕ)). part ∷ ls) (cut_lines (next ∷ more) rest)
-      ∙ sym (short_more part (without_last (next ∷ more)) t)
-  | inr t ↦ short_none part (whole_lines (next ∷ more)) t ∙ sym (short_none part (without_last (next ∷ more)) t)
-]
+lines_behind : (bytes : List ℕ) (lines : List (List ℕ)) (rest : List ℕ) → All HasNoFeed lines → with_feeds lines ++ rest ≡ bytes
+    → lines_of bytes ≡ lines ++ whole_lines (slice_split is_feed rest)
+lines_behind bytes lines rest none split =
+    ap (λ (b : List ℕ). lines_of b) (sym split) ∙ ap (λ (parts : List (List ℕ)). whole_lines parts) (parts_behind lines rest none)
+    ∙ whole_behind lines (slice_split is_feed rest) (some_part rest)
 
--- where one of a script's lines is too long the accepted ones are answered
-pub cut_are : (bytes : List ℕ) → length bytes ≤ longest_script → list_all is_short (lines_of bytes) ≡ false
-    → take_while is_short (lines_of (take longest_script bytes)) ≡ accepted serve_limits bytes
-cut_are bytes small e =
-    let same : take longest_script bytes ≡ bytes = take_all longest_script bytes small in
-    ap (λ (b : List ℕ). take_while is_short (lines_of b)) same ∙ cut_lines (slice_split is_feed bytes) e
-    ∙ sym (ap (λ (b : List ℕ). take_while is_short (ended_lines b)) same) ∙ accepted_are bytes
+all_behind : (lines more : List (List ℕ)) → list_all is_short lines ≡ true → list_all is_short (lines ++ more) ≡ list_all is_short more
+all_behind lines more short = list_all-append is_short lines more ∙ rw short refl
+
+-- so are bytes with a line that is too long
+pub long_is_past : (bytes : List ℕ) (lines : List (List ℕ)) (line rest : List ℕ) → All HasNoFeed lines → list_all is_short lines ≡ true
+    → with_feeds lines ++ (line ++ rest) ≡ bytes → length bytes ≤ longest_script → HasNoFeed line → serve_limits.line < length line → is_within serve_limits bytes ≡ false
+long_is_past bytes lines line rest none short split small one long =
+    let part = some_part rest in
+    within_is bytes false small
+    (ap (λ (ls : List (List ℕ)). list_all is_short ls) (lines_behind bytes lines (line ++ rest) none split)
+    ∙ all_behind lines (whole_lines (slice_split is_feed (line ++ rest))) short
+    ∙ ap (λ (parts : List (List ℕ)). list_all is_short (whole_lines parts)) (long_part line rest part.0 part.1 one part.2)
+    ∙ long_lines (line ++ part.0) part.1 (longer line rest part.0 long))
+
+-- ---- whole scripts
+
+-- all lines are known
+pub script_ended : (bytes : List ℕ) (lines : List (List ℕ)) → All HasNoFeed lines → with_feeds lines ++ [] ≡ bytes → lines_of bytes ≡ lines
+script_ended bytes lines none split = lines_behind bytes lines [] none split ∙ append-nil lines
+
+-- all but the last, which has no line feed
+pub script_cut : (bytes : List ℕ) (lines : List (List ℕ)) (line : List ℕ) → All HasNoFeed lines → with_feeds lines ++ line ≡ bytes → HasNoFeed line → 0 < length line
+    → lines_of bytes ≡ lines ++ line ∷ []
+script_cut bytes lines line none split one some =
+    let not_empty : (length line == 0) ≡ false = ne_eqb (length line) 0 (λ z. omega (arith, z, some)) in
+    lines_behind bytes lines line none split
+    ∙ ap (λ (parts : List (List ℕ)). lines ++ whole_lines parts) (slice_split_none is_feed line one) ∙ rw not_empty refl
+
+-- a script is within its limits whose lines are all short
+pub short_is_within : (bytes : List ℕ) (lines : List (List ℕ)) → length bytes ≤ longest_script → lines_of bytes ≡ lines → list_all is_short lines ≡ true
+    → is_within serve_limits bytes ≡ true
+short_is_within bytes lines small all short = within_is bytes true small (ap (λ (ls : List (List ℕ)). list_all is_short ls) all ∙ short)
+
+-- one more that is none too long
+pub all_short_more : (lines : List (List ℕ)) (line : List ℕ) → list_all is_short lines ≡ true → length line ≤ serve_limits.line → list_all is_short (lines ++ line ∷ []) ≡ true
+all_short_more lines line short few = all_behind lines (line ∷ []) short ∙ (let t : is_short line ≡ true = le-leb (length line) serve_limits.line few in rw t refl)
+
+-- ---- one line more
+
+pub with_feeds_more : (lines : List (List ℕ)) (line rest : List ℕ) → with_feeds (lines ++ line ∷ []) ++ rest ≡ with_feeds lines ++ (line ++ 10 ∷ rest)
+with_feeds_more [] line rest = append_assoc line (10 ∷ []) rest
+with_feeds_more (first ∷ lines) line rest =
+    append_assoc first (10 ∷ with_feeds (lines ++ line ∷ [])) rest ∙ ap (λ (bytes : List ℕ). first ++ 10 ∷ bytes) (with_feeds_more lines line rest)
+    ∙ sym (append_assoc first (10 ∷ with_feeds lines) (line ++ 10 ∷ rest))

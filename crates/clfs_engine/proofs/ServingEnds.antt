@@ -4,9 +4,9 @@ use Rattle.std.specs.Prelude.{Option}
 use Rattle.clfs_disk.specs.State.{DiskState}
 use Rattle.clfs_recover.specs.declared.refusal.LoadRefusal.{LoadRefusal}
 use Rattle.clfs_recover.specs.declared.refusal.LoadRefusal.TheVariants.{NoBase, Damaged, DiskFault, NoMemory}
-use Rattle.clfs_engine.specs.Answered.{IsAnswered}
+use Rattle.clfs_engine.specs.Answered.{IsAnswered, IsAnsweredInPart}
 use Rattle.clfs_engine.specs.Opened.{IsNoLog, no_log_text, RefusesLog, IsRefusalText, TellsRefusal, refusal_line, refusal_status}
-use Rattle.clfs_engine.specs.Serve.{Answers, EndsAnswering, EndsServing, IsAnswerStatus, IsServeStatus, IsAnswer, IsWholeAnswer, IsAnswerUpToFault, IsAnswerUpToLimit, StopsShort}
+use Rattle.clfs_engine.specs.Serve.{Answers, EndsAnswering, EndsServing, IsAnswerStatus, IsServeStatus, IsWholeAnswer, IsAnswerUpToFault, IsAnswerUpToLimit, IsFrontUpToLimit, StopsShort, StopsAtFault}
 
 -- ---- other words for the same answers
 
@@ -24,13 +24,13 @@ module _ (Is Other : Answers) (also : (lines : List (List ℕ)) (text : List ℕ
     answered = record { output = is.answered.output; answered = also _ is.answered.output is.answered.answered; line = is.answered.line };
   }
 
-  any_as : (left left' : Option (List ℕ)) (text : List ℕ) → IsAnswer Is left left' text → IsAnswer Other left left' text
-  any_as left left' text (inl is) = inl (whole_as left left' text is)
-  any_as left left' text (inr (inl is)) = inr (inl (fault_as left left' text is))
-  any_as left left' text (inr (inr is)) = inr (inr (limit_as left left' text is))
+  at_limit_as : (left left' : Option (List ℕ)) (text : List ℕ) → IsFrontUpToLimit Is left left' text → IsFrontUpToLimit Other left left' text
+  at_limit_as left left' text is =
+      record { bytes = is.bytes; given = is.given; output = is.output; answered = also _ is.output is.answered; count = is.count; front = is.front }
 
-  stops_as : (left left' : Option (List ℕ)) → StopsShort Is left left' → StopsShort Other left left'
-  stops_as left left' is = (is.0, (is.1.0, (is.1.1.0, also is.0 is.1.1.0 is.1.1.1)))
+stops_as : (InPart Other : Answers) → ((lines : List (List ℕ)) (text : List ℕ) → InPart lines text → Other lines text) → (left left' written written' : Option (List ℕ))
+    → StopsShort InPart left left' written written' → StopsShort Other left left' written written'
+stops_as InPart Other also left left' written written' is = (is.0, (is.1.0, (is.1.1.0, also is.0 is.1.1.0 is.1.1.1, is.1.1.2)))
 
 -- the statuses of answering are not those of a log that wasn't opened
 not_refused : (status : ℕ) → IsAnswerStatus status → (status ≡ 4) ⊎ (status ≡ 6) → ⊥
@@ -46,21 +46,21 @@ not_refused status (inr (inr (inr (inr e)))) (inl f) = omega (arith, e, f)
 not_refused status (inr (inr (inr (inr e)))) (inr f) = omega (arith, e, f)
 
 -- the lines of a log that was opened are answered
-pub answering_serves : (Is : Answers) (status buffers : ℕ) (old new : DiskState) (left left' written written' : Option (List ℕ)) (source source' sink sink' : ℕ)
+pub answering_serves : (Is InPart : Answers) (status buffers : ℕ) (old new : DiskState) (left left' written written' : Option (List ℕ)) (source source' sink sink' : ℕ)
     → ((lines : List (List ℕ)) (text : List ℕ) → Is lines text → IsAnswered buffers old new lines text)
-    → EndsAnswering Is status left left' written written' source source' sink sink'
+    → ((lines : List (List ℕ)) (text : List ℕ) → InPart lines text → IsAnsweredInPart buffers old new lines text)
+    → EndsAnswering Is InPart status left left' written written' source source' sink sink'
     → EndsServing status buffers old new left left' written written' source source' sink sink'
-answering_serves Is status buffers old new left left' written written' source source' sink sink' also ends = record {
+answering_serves Is InPart status buffers old new left left' written written' source source' sink sink' also also_part ends = record {
   statuses = inl ends.statuses;
   done = λ e. let found = ends.done e in (found.0, whole_as Is Other also left left' found.0 found.1, found.2);
   source_fault = ends.source_fault;
   source_fault_answers = λ e. let found = ends.source_fault_answers e in (found.0, fault_as Is Other also left left' found.0 found.1, found.2);
   sink_fault = ends.sink_fault;
-  sink_fault_front = λ e. let found = ends.sink_fault_front e in inl (found.0, any_as Is Other also left left' found.0 found.1, found.2);
+  sink_fault_front = λ e. inl (at_fault (ends.sink_fault_front e));
   disk_fault = λ e. absurd (not_refused status ends.statuses (inl e));
   disk_fault_line = λ e. absurd (not_refused status ends.statuses (inl e));
-  no_memory = λ e. inr (stops_as Is Other also left left' (ends.no_memory e));
-  no_memory_silence = ends.no_memory_silence;
+  no_memory = λ e. inr (stops_as InPart OtherPart also_part left left' written written' (ends.no_memory e));
   no_log = λ e. absurd (not_refused status ends.statuses (inr e));
   too_long = λ e. let found = ends.too_long e in (found.0, limit_as Is Other also left left' found.0 found.1, found.2);
   unread = λ e. absurd (not_refused status ends.statuses e);
@@ -70,6 +70,13 @@ answering_serves Is status buffers old new left left' written written' source so
   where
     Other : Answers
     Other = IsAnswered buffers old new
+
+    OtherPart : Answers
+    OtherPart = IsAnsweredInPart buffers old new
+
+    at_fault : StopsAtFault Is InPart left left' written written' → StopsAtFault Other OtherPart left left' written written'
+    at_fault (inl stops) = inl (stops_as InPart OtherPart also_part left left' written written' stops)
+    at_fault (inr cut) = inr (cut.0, at_limit_as Is Other also left left' cut.0 cut.1, cut.2)
 
 -- ---- a log that wasn't opened
 
@@ -161,8 +168,7 @@ refusal_serves status buffers refusal old new left written written' source sink 
       sink_fault_front = λ e. let front = tells.sink_fault_front e in inr (refusal_line refusal, refusal_text refusal old new refuses front.0, front.1);
       disk_fault = λ e. subst (λ (r : LoadRefusal). RefusesLog r old new) (fault_by status refusal tells.statuses e) refuses;
       disk_fault_line = λ e. let line = tells.line (λ f. omega (arith, e, f)) (λ f. omega (arith, e, f)) in rw (fault_by status refusal tells.statuses e) at line;
-      no_memory = λ e. inl (refuses.same, refuses.time);
-      no_memory_silence = tells.no_memory_silence;
+      no_memory = λ e. inl (record { same = refuses.same; time = refuses.time; unread = refl; silence = tells.no_memory_silence e });
       no_log = λ e.
           let is = no_log_by status refusal tells.statuses e in
           let line = tells.line (λ f. omega (arith, e, f)) (λ f. omega (arith, e, f)) in

@@ -5,7 +5,7 @@ use Rattle.std.specs.List.{list_any}
 use Rattle.std.proofs.lemmas.Bool.{cases_Bool, cases_lt}
 use Rattle.std.proofs.lemmas.List.Folds.{list_any-append}
 use Rattle.clfs_disk.specs.Files.{Files}
-use Rattle.clfs_disk.specs.State.{DiskState, Nature, TellsContents, IsSteady, MayLeave, Later, Rises}
+use Rattle.clfs_disk.specs.State.{DiskState, Nature, TellsContents, IsHonest, IsSteady, MayLeave, Later, Rises}
 use Rattle.clfs_model.specs.declared.refusal.Refusal.TheVariants as refusals
 use Rattle.clfs_model.specs.declared.reply.Reply.{Reply}
 use Rattle.clfs_model.specs.declared.reply.Reply.TheVariants as replies
@@ -14,7 +14,9 @@ use Rattle.clfs_model.specs.Happened.{happened_of}
 use Rattle.clfs_model.specs.Run.{Request, RequestStep, Run}
 use Rattle.clfs_model.specs.Step.{IsDamaged}
 use Rattle.clfs_engine.specs.Answered.{AnswersOne, AnswersAll}
+use Rattle.clfs_engine.specs.Crashed.{CrashLeavesRun, nothing_asked}
 use Rattle.clfs_engine.specs.Told.{tells_fault, tells_damage, tells_broken, has_fault}
+use Rattle.clfs_engine.proofs.Crashing.{left_more}
 use Rattle.clfs_engine.proofs.WholeSteps.{AreOwn, request_whole}
 
 -- ---- time
@@ -110,6 +112,7 @@ none_answered s disk = record {
   unbroken = λ told whole none. (whole, refl);
   whole = λ told none are. are;
   steady = λ steady told are. refl;
+  faultless = λ whole. refl;
 }
 
 -- one more
@@ -135,6 +138,9 @@ one_answered own s old requests answers mid between request reply t new all one 
       let was = all.steady steady told are in
       let left = one.writes.steady (steady_on steady) (tells_on told) (all.whole told was are) in
       none_more tells_fault answers reply was (not_fault left.0);
+  faultless = λ unbroken.
+      let here = one.faultless unbroken in
+      none_more tells_fault answers reply (all.faultless here.0) (not_fault here.1);
 }
   where
     tells_on : TellsContents old → TellsContents between
@@ -155,3 +161,24 @@ one_answered own s old requests answers mid between request reply t new all one 
     raised : (has_fault answers ≡ true) ⊎ (tells_fault reply ≡ true) → Rises old.faults new.faults
     raised (inl before) = let rose = all.cause before in omega (arith, rose, one.writes.time.faults)
     raised (inr here) = let rose = one.writes.cause (fault_is reply here) in omega (arith, rose, all.time.faults)
+
+-- what a crash leaves of none
+pub none_crashed : (s : State) (disk : DiskState) → CrashLeavesRun s disk [] [] s disk
+none_crashed s disk = λ unbroken honest whole full start. (refl, refl)
+
+-- and of one more
+pub one_crashed : (s : State) (old : DiskState) (requests : List Request) (answers : List Reply) (mid : State) (between : DiskState) (request : Request)
+    (reply : Reply) (t : State) (new : DiskState) → AnswersAll s old requests answers mid between → AnswersOne mid between request reply t new
+    → CrashLeavesRun s old requests answers mid between → CrashLeavesRun s old (requests ++ request ∷ []) (answers ++ reply ∷ []) t new
+one_crashed s old requests answers mid between request reply t new all one crash = λ unbroken honest whole full start.
+    left_more old.nature.tells_contents whole between.image_at new.image_at old.clock between.clock new.clock (nothing_asked s) s mid requests answers request reply t
+    (crash unbroken honest whole full start)
+    (λ moment image after until is. start moment image after until (all.time.past moment image until is))
+    (subst (λ (n : Nature). RequestStep n.tells_contents mid request (happened_of reply) reply t) all.time.nature one.step)
+    one.writes.time.later
+    (λ moment image until is. one.writes.time.past moment image until is)
+    (λ whole_mid. (one.crash whole_mid (honest_on honest) whole (λ is. all.whole honest.0 (all.faultless whole_mid) (full is))).each)
+    (λ broken. (one.stopped broken).clock)
+  where
+    honest_on : IsHonest old → IsHonest between
+    honest_on honest = subst (λ (n : Nature). IsTrue n.tells_contents × IsTrue n.tells_images) (sym all.time.nature) honest

@@ -1,9 +1,13 @@
 pub mod Told
 pub mod Answered
 pub mod Asked
+pub mod Feeds
 pub mod Taken
+pub mod Reached
 pub mod Ends
 pub mod Opened
 pub mod Serve
+pub mod Stopped
 pub mod Format
 pub mod Worked
+pub mod Crashed

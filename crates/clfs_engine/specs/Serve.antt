@@ -1,18 +1,16 @@
 -- What the program answers, and how it ends.
-use Rattle.std.specs.Prelude.{◌≡◌, ℕ, ◌≤◌, ◌⊎◌, true, false, List, [], ◌++◌, codes, Option}
+use Rattle.std.specs.Prelude.{◌≡◌, ℕ, ◌≤◌, ◌⊎◌, List, [], ◌++◌, codes, take, Option}
 use Rattle.std.specs.Io.KnownBytes.{Consumes, Appends}
 use Rattle.clfs_ports.specs.Cause.{Rises}
 use Rattle.clfs_disk.specs.Files.{Unchanged}
 use Rattle.clfs_disk.specs.State.{DiskState, Passes}
 use Rattle.clfs_model.specs.Lines.{lines_of}
-use Rattle.clfs_model.specs.Accepted.{serve_limits, is_within, accepted}
+use Rattle.clfs_model.specs.Accepted.{serve_limits, accepted}
 use Rattle.clfs_recover.specs.declared.refusal.LoadRefusal.TheVariants.{DiskFault}
-use Rattle.clfs_engine.specs.Answered.{IsAnswered}
+use Rattle.clfs_engine.specs.Answered.{IsAnswered, IsAnsweredInPart}
 use Rattle.clfs_engine.specs.Ends.{AppendsFront, disk_fault_text}
 use Rattle.clfs_engine.specs.Opened.{RefusesLog, IsNoLogText, IsRefusalText}
 use Rattle.clfs_engine.specs.Taken.{IsWholeScript, IsPastLimit, AreReached}
-use Rattle.clfs_engine.specs.declared.input.End.{End}
-use Rattle.clfs_engine.specs.declared.input.End.TheVariants.{Whole, Fault}
 
 -- Texts that are the replies to lines.
 abbrev pub Answers : Type 1
@@ -32,17 +30,6 @@ pub record IsAnsweredUpToLimit (Is : Answers) (bytes text : List ℕ) : Type 0 w
   pub answered : Is (accepted serve_limits bytes) output
   pub line : text ≡ output ++ too_long_text
 
--- What is to be written for bytes that were taken, by the status then.
-pub record HasOutput (Is : Answers) (status : ℕ) (end : End) (bytes text : List ℕ) : Type 0 where
-  pub statuses : (status ≡ 0) ⊎ ((status ≡ 2) ⊎ (status ≡ 7))
-  pub whole : status ≡ 0 → end ≡ Whole
-  pub within : status ≡ 0 → is_within serve_limits bytes ≡ true
-  pub all_answered : status ≡ 0 → Is (lines_of bytes) text
-  pub fault : status ≡ 2 → end ≡ Fault
-  pub answered : status ≡ 2 → Is (accepted serve_limits bytes) text
-  pub past : status ≡ 7 → is_within serve_limits bytes ≡ false
-  pub answered_up_to_limit : status ≡ 7 → IsAnsweredUpToLimit Is bytes text
-
 -- The script was read to its end within its limits, and this text is the replies to all its lines.
 pub record IsWholeAnswer (Is : Answers) (left left_after : Option (List ℕ)) (text : List ℕ) : Type 0 where
   pub script : List ℕ
@@ -61,14 +48,14 @@ pub record IsAnswerUpToLimit (Is : Answers) (left left_after : Option (List ℕ)
   pub given : IsPastLimit left left_after bytes
   pub answered : IsAnsweredUpToLimit Is bytes text
 
--- what is to be written for what the source gave
-abbrev pub IsAnswer : Answers → Option (List ℕ) → Option (List ℕ) → List ℕ → Type 0
-IsAnswer Is left left_after text =
-    IsWholeAnswer Is left left_after text ⊎ (IsAnswerUpToFault Is left left_after text ⊎ IsAnswerUpToLimit Is left left_after text)
-
--- Memory ran out: lines up to some were answered, and their replies weren't written.
-abbrev pub StopsShort : Answers → Option (List ℕ) → Option (List ℕ) → Type 0
-StopsShort Is left left_after = (lines : List (List ℕ)) × (AreReached left left_after lines × ((text : List ℕ) × Is lines text))
+-- What the source gave passes a limit, and this text is the replies to the lines that came whole before it, and a front of the line that says so.
+pub record IsFrontUpToLimit (Is : Answers) (left left_after : Option (List ℕ)) (text : List ℕ) : Type 0 where
+  pub bytes : List ℕ
+  pub given : IsPastLimit left left_after bytes
+  pub output : List ℕ
+  pub answered : Is (accepted serve_limits bytes) output
+  pub count : ℕ
+  pub front : text ≡ output ++ take count too_long_text
 
 -- The sink's new bytes are a text of this kind.
 abbrev pub Writes : (List ℕ → Type 0) → Option (List ℕ) → Option (List ℕ) → Type 0
@@ -78,13 +65,23 @@ Writes IsText written written_after = (text : List ℕ) × IsText text × Append
 abbrev pub WritesFront : (List ℕ → Type 0) → Option (List ℕ) → Option (List ℕ) → Type 0
 WritesFront IsText written written_after = (text : List ℕ) × IsText text × AppendsFront written written_after text
 
+-- Lines up to some were answered, and the sink's new bytes are all their replies, or all but the last and a front of that one.
+abbrev pub StopsShort : Answers → Option (List ℕ) → Option (List ℕ) → Option (List ℕ) → Option (List ℕ) → Type 0
+StopsShort InPart left left_after written written_after =
+    (lines : List (List ℕ)) × (AreReached left left_after lines × Writes (InPart lines) written written_after)
+
+-- The sink failed in the reply to a line, and no line after that one was answered, or in the line that says that a limit is passed.
+abbrev pub StopsAtFault : Answers → Answers → Option (List ℕ) → Option (List ℕ) → Option (List ℕ) → Option (List ℕ) → Type 0
+StopsAtFault Is InPart left left_after written written_after =
+    StopsShort InPart left left_after written written_after ⊎ Writes (IsFrontUpToLimit Is left left_after) written written_after
+
 -- the statuses of answering: done, a source fault, a sink fault, no memory, too long an input
 abbrev pub IsAnswerStatus : ℕ → Type 0
 IsAnswerStatus status = (status ≡ 0) ⊎ ((status ≡ 2) ⊎ ((status ≡ 3) ⊎ ((status ≡ 5) ⊎ (status ≡ 7))))
 
 -- How answering ends: what each status says of the bytes that the source has left, before and after, of those that the sink has taken, and of
--- the two counts of faults.
-pub record EndsAnswering (Is : Answers) (status : ℕ) (left left_after written written_after : Option (List ℕ)) (source source_after sink sink_after : ℕ) : Type 0 where
+-- the two counts of faults. `Is` says that a text is the replies to lines, `InPart` that it is that or breaks off in the last reply.
+pub record EndsAnswering (Is InPart : Answers) (status : ℕ) (left left_after written written_after : Option (List ℕ)) (source source_after sink sink_after : ℕ) : Type 0 where
   -- there is no other status
   pub statuses : IsAnswerStatus status
   -- the source was read to its end, and the sink's new bytes are the replies to all its lines
@@ -92,17 +89,23 @@ pub record EndsAnswering (Is : Answers) (status : ℕ) (left left_after written 
   -- the source failed in this call, and the lines that came whole before are answered
   pub source_fault : status ≡ 2 → Rises source source_after
   pub source_fault_answers : status ≡ 2 → Writes (IsAnswerUpToFault Is left left_after) written written_after
-  -- the sink failed in this call, and what was written is a front of what was to be written
+  -- the sink failed in this call: of the last line that was answered a front of the reply was written, and all replies before it
   pub sink_fault : status ≡ 3 → Rises sink sink_after
-  pub sink_fault_front : status ≡ 3 → WritesFront (IsAnswer Is left left_after) written written_after
-  -- memory ran out, and nothing was written
-  pub no_memory : status ≡ 5 → StopsShort Is left left_after
-  pub no_memory_silence : status ≡ 5 → Appends written written_after []
+  pub sink_fault_front : status ≡ 3 → StopsAtFault Is InPart left left_after written written_after
+  -- memory ran out: lines up to some were answered, and all their replies were written but for that of the last
+  pub no_memory : status ≡ 5 → StopsShort InPart left left_after written written_after
   -- what the source gave passes a limit; the lines that came whole before it are answered, and then the line that says so
   pub too_long : status ≡ 7 → Writes (IsAnswerUpToLimit Is left left_after) written written_after
   -- the counts of faults never fall
   pub source_count : source ≤ source_after
   pub sink_count : sink ≤ sink_after
+
+-- The log wasn't opened, no file has changed, and nothing was read or written.
+pub record StaysUnopened (old new : DiskState) (left left_after written written_after : Option (List ℕ)) : Type 0 where
+  pub same : Unchanged old.files new.files
+  pub time : Passes Unchanged old new
+  pub unread : left_after ≡ left
+  pub silence : Appends written written_after []
 
 -- the statuses of serving: those of answering, and that the disk failed before, or that its files aren't a log's
 abbrev pub IsServeStatus : ℕ → Type 0
@@ -119,16 +122,19 @@ pub record EndsServing (status buffers : ℕ) (old new : DiskState) (left left_a
   -- the source failed in this call, and the lines that came whole before are answered
   pub source_fault : status ≡ 2 → Rises source source_after
   pub source_fault_answers : status ≡ 2 → Writes (IsAnswerUpToFault (IsAnswered buffers old new) left left_after) written written_after
-  -- the sink failed in this call, and what was written is a front of what was to be written: the replies, or why the log wasn't opened
+  -- the sink failed in this call: of the last line that was answered a front of the reply was written, and all replies before it, or a front of
+  -- the line that says why the log wasn't opened
   pub sink_fault : status ≡ 3 → Rises sink sink_after
   pub sink_fault_front : status ≡ 3
-      → WritesFront (IsAnswer (IsAnswered buffers old new) left left_after) written written_after ⊎ WritesFront (IsRefusalText old new) written written_after
+      → StopsAtFault (IsAnswered buffers old new) (IsAnsweredInPart buffers old new) left left_after written written_after
+      ⊎ WritesFront (IsRefusalText old new) written written_after
   -- the disk failed in this call, before the log was opened, and the line that says so was written
   pub disk_fault : status ≡ 4 → RefusesLog DiskFault old new
   pub disk_fault_line : status ≡ 4 → Appends written written_after disk_fault_text
-  -- memory ran out, and nothing was written: the log wasn't opened, and no file has changed, or lines up to some were answered
-  pub no_memory : status ≡ 5 → (Unchanged old.files new.files × Passes Unchanged old new) ⊎ StopsShort (IsAnswered buffers old new) left left_after
-  pub no_memory_silence : status ≡ 5 → Appends written written_after []
+  -- memory ran out: the log wasn't opened, no file has changed, and nothing was written, or lines up to some were answered, and all their
+  -- replies were written but for that of the last
+  pub no_memory : status ≡ 5 → StaysUnopened old new left left_after written written_after
+      ⊎ StopsShort (IsAnsweredInPart buffers old new) left left_after written written_after
   -- the files aren't a log's, and the line that says so was written
   pub no_log : status ≡ 6 → Writes (IsNoLogText old new) written written_after
   -- what the source gave passes a limit; the lines that came whole before it are answered, and then the line that says so

@@ -1,18 +1,18 @@
-// The answers to a script, line by line, by the manager of a log.
-ghost use Rattle.std.specs.Prelude.{◌≡◌, ◌≤◌, ◌⊎◌, ◌++◌, List, ℕ, length, take, true, IfOk, OnOk, OnErr};
-ghost use Rattle.std.specs.List.{list_all};
+// The answer to one line, by the manager of a log.
+ghost use Rattle.std.specs.Prelude.{◌≡◌, ◌≤◌, ◌⊎◌, ◌++◌, [], length, OnOk, OnErr, IfErr};
 ghost use Rattle.clfs_model.specs.Run.{reopens};
 ghost use Rattle.clfs_model.specs.declared.reply.Reply.TheVariants as replies;
 ghost use Rattle.clfs_manager.specs.Calls.{replied};
-ghost use Rattle.clfs_engine.specs.Answered.{AnswersOne, AnswersLine, AnswersLines, AnswersUnwritten};
+ghost use Rattle.clfs_model.specs.Accepted.{serve_limits};
+ghost use Rattle.clfs_engine.specs.Answered.{AnswersOne, AnswersLine, AnswersUnwritten};
 ghost use Rattle.clfs_engine.specs.Asked.{request, Meets};
-ghost use Rattle.clfs_engine.specs.Taken.{longest_script, is_short, lines_in, short_lines, IsFrontOf};
+ghost use Rattle.clfs_engine.specs.Stopped.{StopsLine};
 
 use crate::asking::{Asked, read_line};
-use crate::input::{LONGEST_SCRIPT, Taken};
-use crate::lines::{next_line, without_return};
+use crate::lines::without_return;
+use crate::status::Stop;
 use clfs_disk::Disk;
-use clfs_laws::refusals_are_the_calls_own;
+use clfs_laws::{broken_stays, faults_break};
 use clfs_lsn::{Bytes, Lsn};
 use clfs_manager::Manager;
 use clfs_model::{Refusal, Reply};
@@ -36,6 +36,8 @@ fn flushed(answer: Result<Lsn, Refusal>) -> Reply
 fn reopened<D: Disk>(manager: &mut Manager<D>, client: u16) -> Reply
     ensures { AnswersOne manager.old.0 (D.state manager.old.1) (reopens client) result manager.new.0 (D.state manager.new.1) }
 {
+    faults_break();
+    broken_stays();
     flushed(manager.reopen())
 }
 
@@ -44,6 +46,9 @@ fn reply_to<D: Disk>(manager: &mut Manager<D>, asked: &Asked) -> Reply
     requires { Meets (request asked.now) }
     ensures { AnswersOne manager.old.0 (D.state manager.old.1) (request asked.now) result manager.new.0 (D.state manager.new.1) }
 {
+    faults_break();
+    broken_stays();
+    manager.stored();
     match asked {
         Asked::Step { client, call } => manager.step(*client, call),
         Asked::Reopen { client } => reopened(manager, *client),
@@ -51,8 +56,8 @@ fn reply_to<D: Disk>(manager: &mut Manager<D>, asked: &Asked) -> Reply
     }
 }
 
-// Answers one line.
-fn answer_line<D: Disk>(
+/// Answers one line.
+pub fn answer_line<D: Disk>(
     alloc: Global,
     manager: &mut Manager<D>,
     line: &[u8],
@@ -68,53 +73,64 @@ fn answer_line<D: Disk>(
     write_reply(client, &reply, out)
 }
 
-// As many bytes as a script may have.
-fn front_of(bytes: &[u8]) -> &[u8]
-    ensures { result.now ≡ take longest_script bytes.now }
+/// Adds bytes to the part of a line that came before, where the line doesn't get too long by them.
+pub fn carry(carried: &mut Vec<u8>, more: &[u8]) -> Result<(), Stop>
+    requires { length carried.old.items ≤ serve_limits.line }
+    ensures bytes { OnOk result (carried.new.items ≡ carried.old.items ++ more.now) }
+    ensures short { OnOk result (length carried.new.items ≤ serve_limits.line) }
+    ensures stopped { IfErr result (λ stop. StopsLine stop (carried.old.items ++ more.now) Unit Unit) }
 {
-    if bytes.len() <= LONGEST_SCRIPT {
-        bytes
-    } else {
-        bytes.split_at(LONGEST_SCRIPT).0
+    if more.len() > LONGEST_LINE - carried.len() {
+        return Err(Stop::TooLong);
+    }
+    match carried.extend_from_slice(more) {
+        Ok(()) => Ok(()),
+        Err(_) => Err(Stop::NoMemory),
     }
 }
 
-/// The replies to the lines of a script.
-#[derive(Debug, Drop)]
-pub struct Answers {
-    /// Their text.
-    pub output: Bytes,
-    /// Whether no line was too long. Else the lines before the first such line are answered.
-    pub all_short: bool,
-}
-
-/// The replies to the lines that a source gave, up to the first that is too long. Where memory runs out a front of them is answered.
-pub fn answer_lines<D: Disk>(
+// Answers one line, where it isn't too long.
+fn answer_short<D: Disk>(
     alloc: Global,
     manager: &mut Manager<D>,
-    taken: &Taken,
-) -> Result<Answers, AllocError>
-    ensures answered { IfOk result (λ answers. AnswersLines manager.old.0 (D.state manager.old.1) manager.new.0 (D.state manager.new.1)
-        (short_lines taken.now.end taken.now.bytes.items) answers.output) }
-    ensures all_short { IfOk result (λ answers. answers.all_short ≡ list_all is_short (lines_in taken.now.end (take longest_script taken.now.bytes.items))) }
-    ensures stopped { OnErr result ((lines : List (List ℕ)) × (IsFrontOf (short_lines taken.now.end taken.now.bytes.items) lines
-        × ((text : List ℕ) × AnswersLines manager.old.0 (D.state manager.old.1) manager.new.0 (D.state manager.new.1) lines text))) }
+    line: &[u8],
+    out: &mut Bytes,
+) -> Result<(), Stop>
+    ensures ok { OnOk result (AnswersLine manager.old.0 (D.state manager.old.1) line.now out.old out.new manager.new.0 (D.state manager.new.1)) }
+    ensures short { OnOk result (length line.now ≤ serve_limits.line) }
+    ensures stopped { IfErr result (λ stop. StopsLine stop line.now (manager.new ≡ manager.old)
+        (AnswersUnwritten manager.old.0 (D.state manager.old.1) line.now manager.new.0 (D.state manager.new.1))) }
 {
-    refusals_are_the_calls_own();
-    let mut output = Bytes::new(alloc);
-    let mut rest = front_of(&taken.bytes);
-    while let Some((line, after)) = next_line(rest, taken.end) {
-        if line.len() > LONGEST_LINE {
-            return Ok(Answers {
-                output,
-                all_short: false,
-            });
-        }
-        answer_line(alloc, manager, line, &mut output)?;
-        rest = after;
+    if line.len() > LONGEST_LINE {
+        return Err(Stop::TooLong);
     }
-    Ok(Answers {
-        output,
-        all_short: true,
-    })
+    match answer_line(alloc, manager, line, out) {
+        Ok(()) => Ok(()),
+        Err(_) => Err(Stop::NoMemory),
+    }
+}
+
+/// Answers a line of which a part may have come before. Its bytes are brought together only where one has.
+pub fn answer_joined<D: Disk>(
+    alloc: Global,
+    manager: &mut Manager<D>,
+    carried: &mut Vec<u8>,
+    line: &[u8],
+    out: &mut Bytes,
+) -> Result<(), Stop>
+    requires { length carried.old.items ≤ serve_limits.line }
+    ensures ok { OnOk result (AnswersLine manager.old.0 (D.state manager.old.1) (carried.old.items ++ line.now) out.old out.new
+        manager.new.0 (D.state manager.new.1)) }
+    ensures short { OnOk result (length (carried.old.items ++ line.now) ≤ serve_limits.line) }
+    ensures carried { OnOk result (carried.new.items ≡ []) }
+    ensures stopped { IfErr result (λ stop. StopsLine stop (carried.old.items ++ line.now) (manager.new ≡ manager.old)
+        (AnswersUnwritten manager.old.0 (D.state manager.old.1) (carried.old.items ++ line.now) manager.new.0 (D.state manager.new.1))) }
+{
+    if carried.is_empty() {
+        return answer_short(alloc, manager, line, out);
+    }
+    carry(carried, line)?;
+    let answered = answer_short(alloc, manager, carried, out);
+    carried.clear();
+    answered
 }

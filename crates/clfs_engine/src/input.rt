@@ -1,12 +1,11 @@
-// Reading a script to its end, as far as the source gives it and the limit lets it. Each turn of the loop takes at least one byte,
-// ends the script or ends with a fault, and the limit bounds the bytes; so the loop ends over every source.
-ghost use Rattle.std.specs.Prelude.{◌≡◌, ◌<◌, ◌≤◌, length, IfOk};
-ghost use Rattle.std.specs.Io.KnownBytes.{Consumes, IsAtEnd};
-ghost use Rattle.clfs_ports.specs.Cause.{Rises};
-ghost use Rattle.clfs_engine.specs.Taken.{longest_script};
+// The bytes of a script, piece by piece.
+ghost use Rattle.std.specs.Prelude.{◌≡◌, ◌≤◌, [], List, ℕ, length, take, drop, IfOk, OnErr};
+ghost use Rattle.std.specs.Io.KnownBytes.{Consumes, Keeps, IsAtEnd};
+ghost use Rattle.clfs_ports.specs.Cause.{HasCause};
 
-use clfs_ports::Source;
+use clfs_ports::{Failed, Source};
 use std::alloc::{AllocError, Global};
+use std::marker::Model;
 
 /// The most bytes of a script.
 pub const LONGEST_SCRIPT: usize = 67108864;
@@ -14,61 +13,72 @@ pub const LONGEST_SCRIPT: usize = 67108864;
 /// The bytes that are asked for at a time.
 const PIECE: usize = 65536;
 
-/// Why no more was read.
-#[derive(Clone, Copy, Debug, PartialEq, Eq)]
-pub enum End {
-    /// The source is at its end.
-    Whole,
-    /// The source failed.
-    Fault,
-    /// More bytes came than a script may have.
-    Limit,
+/// The part of a piece of a script that is still to be answered.
+#[derive(Drop)]
+pub struct Piece {
+    bytes: Vec<u8>,
+    from: usize,
+    upto: usize,
 }
 
-/// What the source gave.
-#[derive(Debug, Drop)]
-pub struct Taken {
-    /// Its bytes.
-    pub bytes: Vec<u8>,
-    /// Why there are no more.
-    pub end: End,
+impl Model for Piece {
+    ghost use Rattle.std.specs.Prelude.{◌≡◌, ◌≤◌, ℕ, List, take, drop, vec_len};
+
+    ghost Value = { List ℕ };
+
+    ghost view = { λ p. drop p.from (take p.upto p.bytes.items) };
+
+    ghost invariant = { λ p. (p.from ≤ p.upto) × ((p.upto ≤ vec_len p.bytes) × (vec_len p.bytes ≡ 65536)) };
 }
 
-// Room for the bytes that are asked for at a time.
-fn room_for_a_piece(alloc: Global) -> Result<Vec<u8>, AllocError>
-    ensures { IfOk result (λ room. 0 < length room.items) }
+// Room for a piece.
+fn room(alloc: Global) -> Result<Vec<u8>, AllocError>
+    ensures { IfOk result (λ room. length room.items ≡ 65536) }
 {
     vec![in alloc; 0u8; PIECE]
 }
 
-/// Takes what the source gives.
-pub fn take_script<S: Source>(alloc: Global, source: &mut S) -> Result<Taken, AllocError>
-    ensures taken { IfOk result (λ taken. Consumes (S.left source.old) (S.left source.new) taken.bytes.items) }
-    ensures whole { IfOk result (λ taken. taken.end ≡ End.Whole → IsAtEnd (S.left source.new)) }
-    ensures failed { IfOk result (λ taken. taken.end ≡ End.Fault → Rises (S.faults source.old) (S.faults source.new)) }
-    ensures limit { IfOk result (λ taken. taken.end ≡ End.Limit → longest_script < length taken.bytes.items) }
-    ensures within { IfOk result (λ taken. (taken.end ≡ End.Limit → ⊥) → length taken.bytes.items ≤ longest_script) }
-    ensures later { S.faults source.old ≤ S.faults source.new }
-{
-    let mut bytes = Vec::new(alloc);
-    let mut piece = room_for_a_piece(alloc)?;
-    while bytes.len() <= LONGEST_SCRIPT {
-        let Ok(count) = source.read(&mut piece) else {
-            return Ok(Taken {
-                bytes,
-                end: End::Fault,
-            });
-        };
-        if count == 0 {
-            return Ok(Taken {
-                bytes,
-                end: End::Whole,
-            });
-        }
-        bytes.extend_from_slice(&piece[..count])?;
+impl Piece {
+    /// No bytes yet.
+    pub fn new(alloc: Global) -> Result<Piece, AllocError>
+        ensures { IfOk result (λ piece. piece ≡ []) }
+    {
+        let bytes = room(alloc)?;
+        Ok(Piece {
+            bytes,
+            from: 0,
+            upto: 0,
+        })
     }
-    Ok(Taken {
-        bytes,
-        end: End::Limit,
-    })
+
+    /// What is still to be answered.
+    pub fn rest(&self) -> &[u8]
+        ensures { result.now ≡ self.now }
+    {
+        let (bytes, _) = self.bytes.split_at(self.upto);
+        bytes.split_at(self.from).1
+    }
+
+    /// So many bytes are answered.
+    pub fn skip(&mut self, count: usize)
+        requires { count ≤ length self.old }
+        ensures { self.new ≡ drop count self.old }
+    {
+        self.from += count;
+    }
+
+    /// Takes the next bytes of a source, and answers how many. No more than `most` of them are to be answered.
+    pub fn fill<S: Source>(&mut self, source: &mut S, most: usize) -> Result<usize, Failed>
+        ensures taken { IfOk result (λ count. (bytes : List ℕ) × (Consumes (S.left source.old) (S.left source.new) bytes
+            × ((length bytes ≡ count) × (self.new ≡ take most bytes)))) }
+        ensures few { IfOk result (λ count. count ≤ 65536) }
+        ensures kept { OnErr result (Keeps (S.left source.old) (S.left source.new)) }
+        ensures end { IfOk result (λ count. count ≡ 0 → IsAtEnd (S.left source.new)) }
+        ensures cause { HasCause (S.faults source.old) (S.faults source.new) result }
+    {
+        let count = source.read(&mut self.bytes)?;
+        self.from = 0;
+        self.upto = count.min(most);
+        Ok(count)
+    }
 }

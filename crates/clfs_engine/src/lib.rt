@@ -1,6 +1,7 @@
 //! The commands of the program, over any source and sink.
 //!
-//! `serve` opens the log on a disk, takes a script from the source, answers each of its lines by the log, and writes the replies. What it promises
+//! `serve` opens the log on a disk, takes a script from the source, answers each of its lines by the log as soon as it is whole, and writes the
+//! reply before it looks at the next. What it promises
 //! is a clause of its contract: the bytes that it wrote are the replies of a run of the log machine over the lines of the bytes that it took, from
 //! the state for which the files stood, and the files stand for the flushed part of the state that the run leaves.
 #![tactic(auto)]
@@ -16,6 +17,7 @@ mod refusing;
 mod rows;
 mod serving;
 mod status;
+mod streaming;
 
 pub use formatting::format;
 pub use program::run;
@@ -27,4 +29,8 @@ pub use status::{
 };
 
 #[cfg(test)]
+mod crashes;
+#[cfg(test)]
 mod tests;
+#[cfg(test)]
+mod worked;

@@ -1,38 +1,18 @@
-// The lines of a script, one after the other from its front.
-ghost use Rattle.std.specs.Prelude.{◌≡◌, ◌<◌, ◌≤◌, [], ◌∷◌, length, IfSome, MatchOption};
+// The lines of a script.
+ghost use Rattle.std.specs.Prelude.{◌≡◌, ◌≤◌, ◌++◌, ◌∷◌, ◌+◌, drop, length, MatchOption};
 ghost use Rattle.clfs_model.specs.Lines.{without_return};
-ghost use Rattle.clfs_engine.specs.Taken.{lines_in};
+ghost use Rattle.clfs_engine.specs.Feeds.{HasNoFeed};
 
-use crate::input::End;
 use memchr::memchr;
 
-/// The first line, without its line feed, and what stands behind it. Bytes behind the last line feed are a line where they are
-/// the end of a whole script; else more of the line may have been to come.
-pub fn next_line(bytes: &[u8], end: End) -> Option<(&[u8], &[u8])>
-    ensures lines { MatchOption result (lines_in end bytes.now ≡ []) (λ it. lines_in end bytes.now ≡ it.0.now ∷ lines_in end it.1.now) }
-    ensures fewer { IfSome result (λ it. length it.1.now < length bytes.now) }
-    ensures within { IfSome result (λ it. length it.0.now ≤ length bytes.now) }
+/// The first line, where its line feed is there, and without it.
+pub fn ended_line(bytes: &[u8]) -> Option<&[u8]>
+    ensures { MatchOption result (HasNoFeed bytes.now)
+        (λ line. HasNoFeed line.now × (bytes.now ≡ line.now ++ 10 ∷ drop (length line.now + 1) bytes.now)) }
 {
-    if let Some(at) = memchr(b'\n', bytes) {
-        let (line, rest) = bytes.split_at(at);
-        let (_, after) = rest.split_at(1);
-        return Some((line, after));
-    }
-    match end {
-        End::Whole => last_line(bytes),
-        End::Fault | End::Limit => None,
-    }
-}
-
-// Bytes without a line feed as a line, where there are any.
-fn last_line(bytes: &[u8]) -> Option<(&[u8], &[u8])>
-    ensures empty { MatchOption result (bytes.now ≡ []) (λ it. 0 < length bytes.now) }
-    ensures line { IfSome result (λ it. (it.0.now ≡ bytes.now) × (it.1.now ≡ [])) }
-{
-    if bytes.is_empty() {
-        None
-    } else {
-        Some(bytes.split_at(bytes.len()))
+    match memchr(b'\n', bytes) {
+        Some(at) => Some(bytes.split_at(at).0),
+        None => None,
     }
 }
 

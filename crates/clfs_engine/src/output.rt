@@ -7,8 +7,8 @@ ghost use Rattle.clfs_engine.specs.Ends.{AppendsFront};
 use crate::status::SINK_FAULT;
 use clfs_ports::{Failed, Sink};
 
-// Writes all the bytes, or a front of them where the sink fails. After a fault the sink isn't called again.
-fn write_all<K: Sink>(sink: &mut K, bytes: &[u8]) -> Result<(), Failed>
+/// Writes all the bytes, or a front of them where the sink fails. After a fault the sink isn't called again.
+pub fn write_all<K: Sink>(sink: &mut K, bytes: &[u8]) -> Result<(), Failed>
     ensures ok { OnOk result (Appends (K.written sink.old) (K.written sink.new) bytes.now) }
     ensures err { OnErr result (AppendsFront (K.written sink.old) (K.written sink.new) bytes.now) }
     ensures cause { HasCause (K.faults sink.old) (K.faults sink.new) result }

@@ -1,4 +1,4 @@
-// The statuses that a command ends with, and what a command gives back.
+// The statuses that a command ends with, why a script isn't answered further, and what a command gives back.
 
 /// The command was done.
 pub const DONE: u8 = 0;
@@ -26,6 +26,19 @@ pub const INPUT_TOO_LONG: u8 = 7;
 
 /// A log is there.
 pub const EXISTS: u8 = 8;
+
+/// Why no further line of a script is answered.
+#[derive(Clone, Copy, Debug, PartialEq, Eq)]
+pub enum Stop {
+    /// The source failed.
+    SourceFault,
+    /// The sink failed.
+    SinkFault,
+    /// Memory ran out.
+    NoMemory,
+    /// A limit is passed.
+    TooLong,
+}
 
 /// How a command ended.
 #[derive(Debug, Drop)]

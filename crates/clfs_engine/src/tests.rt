@@ -1,13 +1,14 @@
 use super::*;
 use clfs_disk::{Disk, Memory, Steady};
-use clfs_ports::{MemorySink, MemorySource};
+use clfs_ports::{Failed, MemorySink, MemorySource, Sink, Source};
 use std::alloc::{AllocError, Global};
+use std::cell::Cell;
 use std::process::Abort;
 use std::test::Fail;
 
 const USAGE_LINE: &[u8] = b"usage: clfs FOLDER format, serve, race, trial or crew\n";
 
-fn words(alloc: Global, texts: &[&str]) -> Result<Vec<String>, AllocError> {
+pub fn words(alloc: Global, texts: &[&str]) -> Result<Vec<String>, AllocError> {
     let mut words = Vec::new(alloc);
     for text in texts {
         words.push(String::from_str(alloc, text)?)?;
@@ -16,7 +17,7 @@ fn words(alloc: Global, texts: &[&str]) -> Result<Vec<String>, AllocError> {
 }
 
 // The words that make a log of these sizes.
-fn format_words<'a>(sizes: [&'a str; 3]) -> [&'a str; 7] {
+pub fn format_words<'a>(sizes: [&'a str; 3]) -> [&'a str; 7] {
     let [block, container, containers] = sizes;
     [
         "format",
@@ -30,7 +31,7 @@ fn format_words<'a>(sizes: [&'a str; 3]) -> [&'a str; 7] {
 }
 
 // A disk in memory with a log that has just been made.
-fn formatted(rt: &impl Abort, alloc: Global, sizes: [&str; 3]) -> Result<Memory, AllocError> {
+pub fn formatted(rt: &impl Abort, alloc: Global, sizes: [&str; 3]) -> Result<Memory, AllocError> {
     let mut source = MemorySource::new(Vec::new(alloc), 1, Vec::new(alloc));
     let mut sink = MemorySink::new(Vec::new(alloc), 10, Vec::new(alloc));
     let disk = Memory::new(alloc, 2048, 8388608, &[])?;
@@ -41,7 +42,7 @@ fn formatted(rt: &impl Abort, alloc: Global, sizes: [&str; 3]) -> Result<Memory,
 }
 
 // Runs `serve` over a script that comes and goes in small pieces.
-fn check_script<D: Disk + Drop>(
+pub fn check_script<D: Disk + Drop>(
     rt: &impl Abort,
     alloc: Global,
     disk: D,
@@ -57,7 +58,7 @@ fn check_script<D: Disk + Drop>(
     Ok(outcome.disk)
 }
 
-fn push_zeros(script: &mut Vec<u8>, count: usize) -> Result<(), AllocError> {
+pub fn push_zeros(script: &mut Vec<u8>, count: usize) -> Result<(), AllocError> {
     for _ in 0..count {
         script.extend_from_slice(b"00")?;
     }
@@ -75,7 +76,7 @@ fn push_word(script: &mut Vec<u8>, word: &str) -> Result<(), AllocError> {
 }
 
 // The script of a row, its words written out in full.
-fn written_out(alloc: Global, row: &str) -> Result<Vec<u8>, AllocError> {
+pub fn written_out(alloc: Global, row: &str) -> Result<Vec<u8>, AllocError> {
     let mut script = Vec::new(alloc);
     for line in row.lines() {
         let mut first = true;
@@ -364,5 +365,88 @@ fn a_script_at_its_limit_and_above(rt: HostRuntime) -> Result<(), Fail> {
             answered + more * b"input too long\n".len()
         );
     }
+    Ok(())
+}
+
+// A source with two lines, which has the second one only where a sink has taken the first reply, and else fails. It tells no bytes.
+#[derive(Drop)]
+struct Asking<'a> {
+    replied: &'a Cell<usize>,
+    lines: u8,
+    faults: u64,
+}
+
+impl Source for Asking<'_> {
+    ghost use Rattle.std.specs.Prelude.{None};
+
+    ghost left = { λ s. None };
+
+    ghost faults = { λ s. s.faults };
+
+    fn read(&mut self, out: &mut [u8]) -> Result<usize, Failed> {
+        let line: &[u8] = match self.lines {
+            0 => b"1 open a\n",
+            1 => b"1 open b\n",
+            _ => return Ok(0),
+        };
+        if self.lines == 1 && self.replied.get() < b"1 stream 1\n".len() {
+            self.faults = self.faults.saturating_add(1);
+            return Err(Failed);
+        }
+        self.lines += 1;
+        let count = line.len().min(out.len());
+        out[..count].copy_from_slice(&line[..count]);
+        Ok(count)
+    }
+}
+
+// The sink to it. It tells no bytes either.
+#[derive(Drop)]
+struct Replied<'a> {
+    replied: &'a Cell<usize>,
+    bytes: Vec<u8>,
+    faults: u64,
+}
+
+impl Sink for Replied<'_> {
+    ghost use Rattle.std.specs.Prelude.{None};
+
+    ghost written = { λ s. None };
+
+    ghost faults = { λ s. s.faults };
+
+    fn write(&mut self, piece: &[u8]) -> Result<usize, Failed> {
+        let count = piece.len().min(4);
+        if self.bytes.extend_from_slice(&piece[..count]).is_err() {
+            self.faults = self.faults.saturating_add(1);
+            return Err(Failed);
+        }
+        self.replied.set(self.bytes.len());
+        Ok(count)
+    }
+}
+
+// A client that waits for the reply to a line before it sends the next one is answered.
+#[test]
+fn each_line_is_answered_before_the_next_is_asked_for(rt: HostRuntime) -> Result<(), Fail> {
+    let alloc = rt.alloc();
+    let replied = Cell::new(0);
+    let mut source = Asking {
+        replied: &replied,
+        lines: 0,
+        faults: 0,
+    };
+    let mut sink = Replied {
+        replied: &replied,
+        bytes: Vec::new(alloc),
+        faults: 0,
+    };
+    let disk = formatted(&rt, alloc, ["2", "8", "2"])?;
+    let outcome = serve(alloc, 4, &mut source, &mut sink, disk);
+    assert_eq!(rt; outcome.status, DONE);
+    assert_eq!(rt;
+        sink.bytes.as_slice(),
+        b"1 stream 1\n1 stream 2\n".as_slice()
+    );
     Ok(())
 }

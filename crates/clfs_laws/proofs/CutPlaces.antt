@@ -64,7 +64,7 @@ none_behind container offset bound (entry ∷ entries) above all = elim (cases_B
 ]
 
 -- the bytes of a block whose records are all below an LSN
-paid_front : (container offset bound : ℕ) (front more : List LogEntry) → container * 2 ^ 32 + offset + 512 ≤ bound
+pub paid_front : (container offset bound : ℕ) (front more : List LogEntry) → container * 2 ^ 32 + offset + 512 ≤ bound
     → AllByRecursion (λ (entry : LogEntry). bound ≤ entry.lsn) more → paid container offset (front ++ more) ≡ paid container offset front
 paid_front container offset bound front more above all =
     let f : LogEntry → ℕ = λ e. size (length e.bytes) in
@@ -145,7 +145,7 @@ has_record s valid blocks some = by_place blocks.place
     by_place (inr (inr further)) = absurd (let none : block_end s.place ≡ 0 = ap block_end further.1 in omega (arith, none, some))
 
 -- what is among a front is among all
-among_front : (xs ys : List LogEntry) (entry : LogEntry) → IsAmong entry xs → IsAmong entry (xs ++ ys)
+pub among_front : (xs ys : List LogEntry) (entry : LogEntry) → IsAmong entry xs → IsAmong entry (xs ++ ys)
 among_front [] ys entry among = absurd among
 among_front (x ∷ xs) ys entry (inl same) = inl same
 among_front (x ∷ xs) ys entry (inr among) = inr (among_front xs ys entry among)
@@ -198,7 +198,7 @@ moved_ends s t valid_s valid_t blocks_s blocks_t adds turn more = by_place (cut_
     by_place (inr (inr further)) = further_ends s t valid_s valid_t blocks_s adds turn more (ap (λ (p : Place). p.offset) further.1)
 
 -- the place at an LSN, without an open block
-abbrev at_lsn : ℕ → Place
+abbrev pub at_lsn : ℕ → Place
 at_lsn lsn = record { container = container_of lsn; offset = offset_of lsn; used = 0; records = 0 }
 
 -- the place of what is flushed after a step

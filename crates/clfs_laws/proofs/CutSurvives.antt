@@ -60,7 +60,7 @@ none_more entries s all more =
     at_each (λ (other : LogEntry). other.lsn ≡ more.1.lsn → ⊥) s.records more.1 more.4 among refl
 
 -- all elements of a list are among it
-its_own : (entries : List LogEntry) → All (λ (entry : LogEntry). IsAmong entry entries) entries
+pub its_own : (entries : List LogEntry) → All (λ (entry : LogEntry). IsAmong entry entries) entries
 its_own entries = All-from_recursion (λ (entry : LogEntry). IsAmong entry entries) entries (each_among entries)
 
 -- the flushed records are records of the log
@@ -129,7 +129,7 @@ flushed_still s t valid adds =
     ∙ append-nil (below_lsn (flushed s) s.records)
 
 -- a restart area is more than was flushed before it
-restart_more : (s t : State) (entry : LogEntry) → flushed s ≤ entry.lsn → t.records ≡ s.records ++ entry ∷ [] → HasMore t.records (cut s)
+pub restart_more : (s t : State) (entry : LogEntry) → flushed s ≤ entry.lsn → t.records ≡ s.records ++ entry ∷ [] → HasMore t.records (cut s)
 restart_more s t entry above is =
     let F : List LogEntry → Type 0 = λ entries. IsAmong entry entries in
     any_among (λ (e : LogEntry). All (λ (other : LogEntry). other.lsn ≡ e.lsn → ⊥) (cut s).records) t.records entry

@@ -45,14 +45,14 @@ use Rattle.clfs_laws.proofs.ValidRestarts.{allowed as restart_allowed}
 use Rattle.clfs_laws.proofs.ValidSteps.{two_of, valid_step}
 
 -- growth, and what areas hold, leave what is on the disk as it is
-flushed_grown : (s : State) (need : ℕ) → flushed (grown s need) ≡ flushed s
+pub flushed_grown : (s : State) (need : ℕ) → flushed (grown s need) ≡ flushed s
 flushed_grown s need = ap flushed (grown_is s need)
 
-flushed_spend : (is_reserved : Bool) (area : Area) (n : ℕ) (s : State) → flushed (spend_if is_reserved area n s) ≡ flushed s
+pub flushed_spend : (is_reserved : Bool) (area : Area) (n : ℕ) (s : State) → flushed (spend_if is_reserved area n s) ≡ flushed s
 flushed_spend false area n s = refl
 flushed_spend true area n s = refl
 
-flushed_hold : (area : Area) (sizes : List ℕ) (s : State) → flushed (hold_sizes area sizes s) ≡ flushed s
+pub flushed_hold : (area : Area) (sizes : List ℕ) (s : State) → flushed (hold_sizes area sizes s) ≡ flushed s
 flushed_hold area [] s = refl
 flushed_hold area (size ∷ sizes) s = refl
 
@@ -69,11 +69,11 @@ flushed_joined space s client number area entry is_reserved more valid may =
     let after : flushed (put v entry) ≡ flushed (spend_if is_reserved area n (put s entry)) = ap flushed (spend_first is_reserved area n s entry) in
     omega (arith, flushed_spend is_reserved area n s, is.more, after)
 
-rises_seal_if : (asked : Bool) (s : State) → IsValid s → flushed s ≤ flushed (seal_if asked s)
+pub rises_seal_if : (asked : Bool) (s : State) → IsValid s → flushed s ≤ flushed (seal_if asked s)
 rises_seal_if true s valid = flushed_seal s (sound_of s valid)
 rises_seal_if false s valid = omega arith
 
-rises_flush_if : (asked : Bool) (s : State) → IsValid s → flushed s ≤ flushed (flush_if asked s)
+pub rises_flush_if : (asked : Bool) (s : State) → IsValid s → flushed s ≤ flushed (flush_if asked s)
 rises_flush_if true s valid = flushed_flush s (sound_of s valid)
 rises_flush_if false s valid = omega arith
 
@@ -95,7 +95,7 @@ rises_appended space s client number area draft is_reserved sizes valid two ther
     let flush_rises = rises_flush_if draft.flush k (valid_seal_if draft.seal j joined) in
     omega (arith, flushed_grown s need, put_rises, held, sealed_rises, flush_rises)
 
-flushed_rebased : (stream base : ℕ) (s : State) → flushed (rebased stream base s) ≡ flushed s
+pub flushed_rebased : (stream base : ℕ) (s : State) → flushed (rebased stream base s) ≡ flushed s
 flushed_rebased stream base s = elim (cases_Bool (base == null_lsn)) [ inl none ↦ rw none refl | inr some ↦ rw some refl ]
 
 rises_restarted : HasSpaceLaws → (s : State) (client number : ℕ) (area : Area) (bytes : List ℕ) (base : ℕ) (is_reserved : Bool) → IsValid s

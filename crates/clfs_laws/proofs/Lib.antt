@@ -85,3 +85,7 @@ pub mod LaidPuts
 pub mod ReadiedLogs
 pub mod RoomFound
 pub mod QuietAppends
+pub mod KeptSettings
+pub mod ReadyStages
+pub mod StagesSurvive
+pub mod CallStages

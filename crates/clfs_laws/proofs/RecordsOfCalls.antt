@@ -39,18 +39,18 @@ pub record Adds (s t : State) : Type 0 where
 pub adds_none : (s t : State) → t.records ≡ s.records → Adds s t
 adds_none s t same = record { more = []; joined = same ∙ sym (append-nil s.records); placed = tt }
 
-adds_one : (s t : State) (entry : LogEntry) (n : ℕ) → t.records ≡ s.records ++ entry ∷ [] → entry.lsn ≡ next_lsn s n → Adds s t
+pub adds_one : (s t : State) (entry : LogEntry) (n : ℕ) → t.records ≡ s.records ++ entry ∷ [] → entry.lsn ≡ next_lsn s n → Adds s t
 adds_one s t entry n same at = record { more = entry ∷ []; joined = same; placed = ((n, at), tt) }
 
 -- sealing and flushing leave the records, and so do changes of areas
 pub seal_records : (s : State) → (seal s).records ≡ s.records
 seal_records s = elim (cases_Bool (nat_lt 0 s.place.records)) [ inl some ↦ rw some refl | inr none ↦ rw none refl ]
 
-seal_if_records : (asked : Bool) (s : State) → (seal_if asked s).records ≡ s.records
+pub seal_if_records : (asked : Bool) (s : State) → (seal_if asked s).records ≡ s.records
 seal_if_records true s = seal_records s
 seal_if_records false s = refl
 
-flush_if_records : (asked : Bool) (s : State) → (flush_if asked s).records ≡ s.records
+pub flush_if_records : (asked : Bool) (s : State) → (flush_if asked s).records ≡ s.records
 flush_if_records true s = seal_records s
 flush_if_records false s = refl
 

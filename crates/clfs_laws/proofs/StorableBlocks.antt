@@ -108,7 +108,7 @@ blocks_seal s blocks = elim (cases_Bool (nat_lt 0 s.place.records)) [
 pub blocks_flush : (s : State) → HasBlocks s → HasBlocks (flush s)
 blocks_flush s blocks = blocks_as (seal s) (flush s) refl refl refl (blocks_seal s blocks)
 
-blocks_seal_if : (asked : Bool) (s : State) → HasBlocks s → HasBlocks (seal_if asked s)
+pub blocks_seal_if : (asked : Bool) (s : State) → HasBlocks s → HasBlocks (seal_if asked s)
 blocks_seal_if true s blocks = blocks_seal s blocks
 blocks_seal_if false s blocks = blocks
 

@@ -49,7 +49,7 @@ pub record IsTurn (s t : State) : Type 0 where
   pub shape : t.shape ≡ s.shape
   pub container : (t.place.container ≡ s.place.container) ⊎ ((t.place.container ≡ s.place.container + 1) × (1 ≤ block_end s.place))
 
-stays : (s t : State) → t.shape ≡ s.shape → t.place.container ≡ s.place.container → IsTurn s t
+pub stays : (s t : State) → t.shape ≡ s.shape → t.place.container ≡ s.place.container → IsTurn s t
 stays s t shape container = record { shape = shape; container = inl container }
 
 -- before and behind changes that leave the place, or its container
@@ -66,7 +66,7 @@ turn_behind s t u shape container turn =
 pub seal_container : (s : State) → (seal s).place.container ≡ s.place.container
 seal_container s = elim (cases_Bool (nat_lt 0 s.place.records)) [ inl some ↦ rw some refl | inr none ↦ rw none refl ]
 
-turn_seal_if : (s t : State) (asked : Bool) → IsTurn s t → IsTurn s (seal_if asked t)
+pub turn_seal_if : (s t : State) (asked : Bool) → IsTurn s t → IsTurn s (seal_if asked t)
 turn_seal_if s t true turn = turn_behind s t (seal t) (seal_shape t) (seal_container t) turn
 turn_seal_if s t false turn = turn
 
@@ -81,7 +81,7 @@ turn_spend : (s t : State) (is_reserved : Bool) (area : Area) (n : ℕ) → IsTu
 turn_spend s t false area n turn = turn
 turn_spend s t true area n turn = turn_behind s t (spend_if true area n t) refl refl turn
 
-turn_hold : (s t : State) (area : Area) (sizes : List ℕ) → IsTurn s t → IsTurn s (hold_sizes area sizes t)
+pub turn_hold : (s t : State) (area : Area) (sizes : List ℕ) → IsTurn s t → IsTurn s (hold_sizes area sizes t)
 turn_hold s t area [] turn = turn
 turn_hold s t area (size ∷ sizes) turn = turn_behind s t (hold_sizes area (size ∷ sizes) t) refl refl turn
 
@@ -95,7 +95,7 @@ turn_grown : (s : State) (need : ℕ) → IsTurn s (grown s need)
 turn_grown s need = stays s (grown s need) (ap (λ (x : State). x.shape) (grown_is s need)) (ap (λ (x : State). x.place.container) (grown_is s need))
 
 -- by how the record is placed
-turn_by : (s : State) (n : ℕ) (joining beginning : Bool) → begins_here s.shape s.place n ≡ beginning → IsShape s.shape → n ≤ longest s.shape
+pub turn_by : (s : State) (n : ℕ) (joining beginning : Bool) → begins_here s.shape s.place n ≡ beginning → IsShape s.shape → n ≤ longest s.shape
     → ((after_by joining beginning s.place n).1.container ≡ s.place.container)
     ⊎ (((after_by joining beginning s.place n).1.container ≡ s.place.container + 1) × (1 ≤ block_end s.place))
 turn_by s n true beginning fits is short = inl refl
@@ -106,7 +106,7 @@ turn_by s n false false fits is short =
     inr (refl, omega (arith, long, left, is.two_blocks, is.some_sectors))
 
 -- a record that is put
-turn_put : (s : State) (entry : LogEntry) → IsShape s.shape → length entry.bytes ≤ longest s.shape → IsTurn s (put s entry)
+pub turn_put : (s : State) (entry : LogEntry) → IsShape s.shape → length entry.bytes ≤ longest s.shape → IsTurn s (put s entry)
 turn_put s entry is short = record {
   shape = put_shape s entry;
   container = turn_by s (length entry.bytes) (joins s.shape s.place (length entry.bytes)) (begins_here s.shape s.place (length entry.bytes)) refl is short;

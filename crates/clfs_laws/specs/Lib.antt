@@ -7,3 +7,4 @@ pub mod Cursors
 pub mod Stable
 pub mod Meets
 pub mod Between
+pub mod Stages

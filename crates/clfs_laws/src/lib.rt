@@ -10,6 +10,7 @@ mod refusals;
 mod runs;
 mod same;
 mod space;
+mod stages;
 mod steps;
 mod storable;
 mod survivors;
@@ -29,6 +30,7 @@ pub use same::{sameness, the_holds_container_never_falls, the_same_answer_alike}
 pub use space::{
     full_where_no_room, held_sectors_suffice, reserved_is_free, short_where_less_is_held,
 };
+pub use stages::states_between_survive;
 pub use steps::{
     a_flush_goes_past_its_lsn, quiet_calls_leave_the_cut, reads_find_records,
     refusals_are_the_calls_own, steps_only_add_records,

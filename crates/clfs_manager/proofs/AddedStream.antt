@@ -11,8 +11,7 @@ use Rattle.clfs_lsn.specs.Limits.{longest_name, most_streams}
 use Rattle.clfs_lsn.specs.Lsn.{null_lsn, container_of}
 use Rattle.clfs_lsn.specs.Names.{is_name_byte}
 use Rattle.clfs_disk.specs.State.{DiskState}
-use Rattle.clfs_base.specs.Layout.{version_one}
-use Rattle.clfs_base.specs.Spelling.{IsImage, IsName, row_in}
+use Rattle.clfs_base.specs.Spelling.{IsName, row_in}
 use Rattle.clfs_base.specs.declared.image.BaseImage.{BaseImage}
 use Rattle.clfs_base.specs.declared.image.Row.{Row}
 use Rattle.clfs_model.specs.declared.call.Call.TheVariants as calls
@@ -32,11 +31,9 @@ use Rattle.clfs_model.specs.Refusals.{name_fault, open_refusal, refusal, refused
 use Rattle.clfs_model.specs.Step.{Step}
 use Rattle.clfs_model.specs.Ways.{GoesTheseWays}
 use Rattle.clfs_buffers.specs.Buffered.{Buffered}
-use Rattle.clfs_physical.specs.Changes.{next_copy, with_stream as with_row}
 use Rattle.clfs_physical.specs.Stored.{Blocks}
-use Rattle.clfs_physical.specs.declared.change.Change.TheVariants as changes
 use Rattle.clfs_recover.specs.Files.{streams_with}
-use Rattle.clfs_recover.specs.Logs.{IsLogWith, from_container, stored_state}
+use Rattle.clfs_recover.specs.Logs.{IsLogWith, stored_state}
 use Rattle.clfs_manager.specs.Calls.{Steps}
 use Rattle.clfs_manager.specs.OnDisk.{IsManaged, IsStored, AreKept}
 use Rattle.clfs_manager.specs.Streams.{IsNotAdded, with_stream}
@@ -127,28 +124,6 @@ no_row (row ∷ rows) (base ∷ bases) number name long none (suc i) within same
 ]
 
 -- ---- the copy
-
--- A copy without low containers is one that a log can have, since the one that was written is, which lists the same.
-pub low_image : (image : BaseImage) (row : Row) (first : ℕ) → IsImage version_one image
-    → IsImage version_one (with_row row (next_copy first changes.Listing image)) → IsImage version_one (from_container first image)
-low_image image row first is next = record {
-  turn = is.turn;
-  shape = is.shape;
-  some_containers = is.some_containers;
-  containers_made = is.containers_made;
-  few_made = is.few_made;
-  first = next.first;
-  some_listed = next.some_listed;
-  few_listed = next.few_listed;
-  last_id = next.last_id;
-  maximum = is.maximum;
-  minimum = is.minimum;
-  growth = is.growth;
-  tail = is.tail;
-  files = next.files;
-  few_streams = is.few_streams;
-  rows = is.rows;
-}
 
 -- a copy with one row more, which has no base, and another turn
 abbrev pub added : List ℕ → ℕ → BaseImage → BaseImage

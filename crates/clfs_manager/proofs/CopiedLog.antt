@@ -9,6 +9,7 @@ use Rattle.clfs_lsn.specs.Lsn.{lsn_number, container_of}
 use Rattle.clfs_lsn.specs.Place.{frontier}
 use Rattle.clfs_lsn.specs.declared.entry.LogEntry.{LogEntry}
 use Rattle.clfs_base.specs.declared.image.BaseImage.{BaseImage}
+use Rattle.clfs_laws.specs.Between.{IsLaid}
 use Rattle.clfs_model.specs.declared.state.State.{State}
 use Rattle.clfs_model.specs.Flush.{cut, flushed, IsSame}
 use Rattle.clfs_model.specs.Live.{hold, is_live, least_or, live_lsns}
@@ -21,9 +22,9 @@ use Rattle.clfs_recover.specs.Logs.{IsLogWith, stored_state, records_from_contai
 use Rattle.clfs_manager.specs.OnDisk.{IsStored}
 use Rattle.clfs_manager.specs.Settings.{with_policies}
 use Rattle.clfs_manager.proofs.Among.{contains_all, here}
-use Rattle.clfs_manager.proofs.ClosedPlace.{is_start}
+use Rattle.clfs_manager.proofs.ClosedPlace.{is_start, starts_at}
 use Rattle.clfs_manager.proofs.Holding.{least_from}
-use Rattle.clfs_manager.proofs.Numbers.{hold_within}
+use Rattle.clfs_manager.proofs.Numbers.{hold_within, hold_in_place, hold_up_to_end}
 use Rattle.clfs_manager.proofs.Reached.{hold_below_live, least_below}
 
 tail_from : (low n other : ℕ) (archive : Option ℕ) (lsns : List ℕ) → n ≡ least_or other (option_to_list archive ++ lsns) → low ≤ n
@@ -33,21 +34,36 @@ tail_from low n other (Some tail) lsns is from =
     All-cons (λ m. low ≤ m) tail [] (omega (arith, from, is, least_below other tail (tail ∷ lsns) (here tail lsns))) (All-nil (λ m. low ≤ m))
 
 -- the hold of what is on the disk lies in no container below the state's hold's
-pub hold_kept : (t : State) (entries : List LogEntry) → IsValid t → ((entry : LogEntry) → Contains entries entry → Contains t.records entry)
+pub hold_stays : (t : State) (entries : List LogEntry) → container_of (hold t) ≤ container_of (flushed t)
+    → ((entry : LogEntry) → Contains entries entry → Contains t.records entry)
     → container_of (hold t) ≤ container_of (hold (record (cut t) { records = entries }))
-hold_kept t entries valid among =
+hold_stays t entries up among =
     let u : State = record (cut t) { records = entries } in
     let low : ℕ = lsn_number (container_of (hold t)) 0 0 in
-    let start = is_start t valid in
     let live : All (λ (entry : LogEntry). low ≤ entry.lsn) (filter (is_live u) entries) =
     All-weaker (Contains (filter (is_live u) entries)) (λ (entry : LogEntry). low ≤ entry.lsn)
     (λ entry is. let has = contains_all (is_live u) entries entry is in omega (arith, hold_below_live t entry (among entry has.0) has.1))
     (filter (is_live u) entries) (All-contains_itself (filter (is_live u) entries)) in
-    let from : low ≤ hold u = least_from low (frontier u.place) (option_to_list u.archive ++ live_lsns u) (omega (arith, hold_within t valid, start.container))
+    let from : low ≤ hold u = least_from low (frontier u.place) (option_to_list u.archive ++ live_lsns u) (omega (arith, up))
     (All-append (λ m. low ≤ m) (option_to_list u.archive) (live_lsns u)
     (tail_from low (hold t) (frontier t.place) t.archive (live_lsns t) refl (omega arith))
     (All-map (λ m. low ≤ m) (λ (entry : LogEntry). entry.lsn) (filter (is_live u) entries) live)) in
     omega (arith, from)
+
+pub hold_kept : (t : State) (entries : List LogEntry) → IsValid t → ((entry : LogEntry) → Contains entries entry → Contains t.records entry)
+    → container_of (hold t) ≤ container_of (hold (record (cut t) { records = entries }))
+hold_kept t entries valid among = hold_stays t entries (omega (arith, hold_within t valid, (is_start t valid).container)) among
+
+-- of the flushed part itself
+pub hold_of_cut : (t : State) → container_of (hold t) ≤ container_of (flushed t) → container_of (hold t) ≤ container_of (hold (cut t))
+hold_of_cut t up = hold_stays t (cut t).records up (λ entry among. (contains_all (λ (e : LogEntry). nat_lt e.lsn (flushed t)) t.records entry among).0)
+
+pub valid_holds : (t : State) → IsValid t → container_of (hold t) ≤ container_of (hold (cut t))
+valid_holds t valid = hold_of_cut t (omega (arith, hold_within t valid, (is_start t valid).container))
+
+pub laid_holds : (t : State) → IsLaid t → container_of (hold t) ≤ container_of (hold (cut t))
+laid_holds t laid = hold_of_cut t
+    (omega (arith, hold_in_place t laid.ranges (hold_up_to_end t laid.records laid.waiting laid.tail), (starts_at t laid.ranges laid.waiting).container))
 
 -- what a test keeps of what a weaker one kept
 from_twice : (low high : ℕ) (entries : List LogEntry) → low ≤ high

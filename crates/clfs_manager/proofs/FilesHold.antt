@@ -54,11 +54,11 @@ StandForOne = (files : Files) (s t : State) → StandsFor files s → StandsFor 
 
 -- ---- the files
 
-pub files_hold : StandByBlocks → HaveByFile → ComesToCut → HoldStays → (s : State) (newest : Newest) (blocks : Blocks) (files : Files) → IsValid s → IsStorable s
-    → s.broken ≡ false → IsStored s newest blocks → Stores false newest blocks files → HoldsFlushed files s
-files_hold stands by_file comes stays s newest blocks files valid storable whole stored stores =
+-- whose copy lists no container above the hold's of the flushed part
+pub files_have : StandByBlocks → HaveByFile → (s : State) (newest : Newest) (blocks : Blocks) (files : Files)
+    → container_of (hold s) ≤ container_of (hold (cut s)) → IsStored s newest blocks → Stores false newest blocks files → HoldsFlushed files s
+files_have stands by_file s newest blocks files held stored stores =
     let image : BaseImage = newest.image in
-    let held : container_of (hold s) ≤ container_of (hold (cut s)) = stays s Fine (replies.Flushed (flushed s)) (cut s) valid (comes true s valid storable whole) in
     record {
       opened = record (cut s) { records = stored.entries };
       stands = subst (StandsFor files) stored.state (stands newest.slot image (map blocks image.files) stored.entries files s.buffers
@@ -67,6 +67,11 @@ files_hold stands by_file comes stays s newest blocks files valid storable whole
       same = subst (λ (entries : List LogEntry). IsSame (cut s) (record (cut s) { records = entries })) (sym stored.records)
           (same_from hold_below_live (cut s) image.first (omega (arith, stored.needed, held)));
     }
+
+pub files_hold : StandByBlocks → HaveByFile → ComesToCut → HoldStays → (s : State) (newest : Newest) (blocks : Blocks) (files : Files) → IsValid s → IsStorable s
+    → s.broken ≡ false → IsStored s newest blocks → Stores false newest blocks files → HoldsFlushed files s
+files_hold stands by_file comes stays s newest blocks files valid storable whole stored stores =
+    files_have stands by_file s newest blocks files (stays s Fine (replies.Flushed (flushed s)) (cut s) valid (comes true s valid storable whole)) stored stores
 
 -- ---- opening anew
 

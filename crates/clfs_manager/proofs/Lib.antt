@@ -48,3 +48,8 @@ pub mod AdvancedLog
 mod RestartCall
 mod PreparedCall
 mod AppendCall
+pub mod Crashes
+pub mod Stages
+pub mod CrashedRestart
+mod CopiedMeanwhile
+mod CopyingCalls

@@ -1,17 +1,19 @@
 -- A log of which the base of a stream moved, in memory and on the disk.
-use Rattle.std.proofs.Common.{◌≡◌, ℕ, ◌+◌, ◌-◌, ◌<◌, ◌≤◌, suc, Bool, true, false, refl, sym, ap, subst, ◌∙◌, inl, inr, List, [], ◌∷◌, length, map, arith}
+use Rattle.std.proofs.Common.{◌≡◌, ◌≢◌, ⊎_elim, ℕ, ◌+◌, ◌-◌, ◌^◌, ◌<◌, ◌≤◌, suc, Bool, true, false, refl, sym, ap, subst, ◌∙◌, inl, inr, List, [], ◌∷◌, length, map, arith}
 use Rattle.std.specs.Prelude.{All, Contains, Option, Some, None, is_some, ◌&&◌, ◌||◌, ◌==◌, nat_lt}
 use Rattle.std.specs.List.{last_or}
-use Rattle.std.proofs.lemmas.Bool.{cases_Bool, cases_lt, eqb-true, le-leb}
+use Rattle.std.proofs.lemmas.Bool.{cases_Bool, cases_eq, cases_lt, eqb-true, le-leb}
 use Rattle.std.proofs.lemmas.Bool.Decides.{nat_tests}
+use Rattle.std.proofs.lemmas.List.{get_or-set_same, get_or-set_other, length-set}
 use Rattle.std.proofs.lemmas.List.Elements.{All-head, All-tail, All-map, All-weaker, All-contains_itself}
 use Rattle.clfs_lsn.specs.Head.{head_of}
 use Rattle.clfs_lsn.specs.Lsn.{lsn_number, null_lsn, container_of}
 use Rattle.clfs_lsn.specs.declared.entry.Head.{Head}
 use Rattle.clfs_lsn.specs.declared.entry.LogEntry.{LogEntry}
 use Rattle.clfs_base.specs.Layout.{version_one}
-use Rattle.clfs_base.specs.Spelling.{IsImage}
+use Rattle.clfs_base.specs.Spelling.{IsImage, IsName, AreRows, row_in}
 use Rattle.clfs_base.specs.declared.image.BaseImage.{BaseImage}
+use Rattle.clfs_base.specs.declared.image.Row.{Row}
 use Rattle.clfs_model.specs.declared.state.State.{State}
 use Rattle.clfs_model.specs.declared.state.Stream.{Stream}
 use Rattle.clfs_model.specs.Heads.{heads_of}
@@ -19,9 +21,8 @@ use Rattle.clfs_model.specs.Live.{hold, is_live, last_live, live, live_at, lsn_o
 use Rattle.clfs_model.specs.Refusals.{is_base}
 use Rattle.clfs_model.specs.State.{base_of, set_base}
 use Rattle.clfs_buffers.specs.Buffered.{Buffered}
-use Rattle.clfs_physical.specs.Changes.{next_copy}
+use Rattle.clfs_physical.specs.Changes.{with_base as row_bases}
 use Rattle.clfs_physical.specs.Stored.{Blocks}
-use Rattle.clfs_physical.specs.declared.change.Change.TheVariants as changes
 use Rattle.clfs_recover.specs.Logs.{IsLogWith, stored_state, with_row_base}
 use Rattle.clfs_archive.specs.Blocks.{AreSealed}
 use Rattle.clfs_archive.specs.declared.block.BlockEnd.{BlockEnd}
@@ -144,10 +145,33 @@ sealed_later low high next blocks heads le are =
 abbrev pub moved : ℕ → ℕ → ℕ → BaseImage → BaseImage
 moved stream base turn image = record (with_row_base stream base image) { turn = turn }
 
--- It is one that a log can have, since the copy that was written is, which has its rows.
-pub moved_image : (image : BaseImage) (stream base turn first : ℕ) → IsImage version_one image → turn ≤ 2
-    → IsImage version_one (next_copy first (changes.Base stream base) image) → IsImage version_one (moved stream base turn image)
-moved_image image stream base turn first is of_turn next = record {
+-- the rows keep their names
+name_kept : (stream base : ℕ) (rows : List Row) (i : ℕ) → i < length rows → (row_in (row_bases stream base rows) i).name ≡ (row_in rows i).name
+name_kept stream base rows i within = ⊎_elim
+    (λ (same : i ≡ stream - 1). subst (λ (k : ℕ). (row_in (row_bases stream base rows) k).name ≡ (row_in rows k).name) (sym same)
+    (ap (λ (r : Row). r.name) (get_or-set_same rows (stream - 1) _ _ (omega (arith, within, same)))))
+    (λ (apart : i ≢ stream - 1). ap (λ (r : Row). r.name) (get_or-set_other rows (stream - 1) i _ _ apart))
+    (cases_eq i (stream - 1))
+
+moved_rows : (room stream base : ℕ) (rows : List Row) → base < 2 ^ 64 → AreRows room rows → AreRows room (row_bases stream base rows)
+moved_rows room stream base rows few are = record {
+  named = λ i within. subst (IsName room) (sym (name_kept stream base rows i (near i within))) (are.named i (near i within));
+  different = λ i j below within same. are.different i j below (near j within)
+      (sym (name_kept stream base rows i (omega (arith, below, near j within))) ∙ same ∙ name_kept stream base rows j (near j within));
+  bases = λ i within. ⊎_elim
+      (λ (same : i ≡ stream - 1). subst (λ (k : ℕ). (row_in (row_bases stream base rows) k).base < 2 ^ 64) (sym same)
+      (subst (λ (r : Row). r.base < 2 ^ 64) (sym (get_or-set_same rows (stream - 1) _ _ (omega (arith, near i within, same)))) few))
+      (λ (apart : i ≢ stream - 1). subst (λ (r : Row). r.base < 2 ^ 64) (sym (get_or-set_other rows (stream - 1) i _ _ apart)) (are.bases i (near i within)))
+      (cases_eq i (stream - 1));
+}
+  where
+    near : (i : ℕ) → i < length (row_bases stream base rows) → i < length rows
+    near i within = omega (arith, within, length-set rows (stream - 1) (record (row_in rows (stream - 1)) { base = base }))
+
+-- It is one that a log can have.
+pub moved_image : (image : BaseImage) (stream base turn : ℕ) → IsImage version_one image → turn ≤ 2 → base < 2 ^ 64
+    → IsImage version_one (moved stream base turn image)
+moved_image image stream base turn is of_turn few = record {
   turn = of_turn;
   shape = is.shape;
   some_containers = is.some_containers;
@@ -162,8 +186,8 @@ moved_image image stream base turn first is of_turn next = record {
   growth = is.growth;
   tail = is.tail;
   files = is.files;
-  few_streams = next.few_streams;
-  rows = next.rows;
+  few_streams = omega (arith, is.few_streams, length-set image.streams (stream - 1) (record (row_in image.streams (stream - 1)) { base = base }));
+  rows = moved_rows 32 stream base image.streams few is.rows;
 }
 
 -- Of a state that is stored a base is moved, in the copy too.

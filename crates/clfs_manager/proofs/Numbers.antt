@@ -19,7 +19,7 @@ use Rattle.clfs_model.specs.declared.state.Stream.{Stream}
 use Rattle.clfs_model.specs.State.{stream_at}
 use Rattle.clfs_model.specs.Flush.{block_start, flushed, first_or}
 use Rattle.clfs_model.specs.Live.{least_or, live_lsns, hold, is_live}
-use Rattle.clfs_model.specs.Valid.{IsValid, IsRecord, IsWaiting}
+use Rattle.clfs_model.specs.Valid.{IsValid, IsRecord, IsWaiting, HasRanges, HasRecords, HasWaiting}
 use Rattle.clfs_tables.specs.Tables.{IsNumber}
 
 small_by : (shape : Shape) (place : Place) → IsShape shape → IsWithin shape place → place.used ≤ 64512 → place.records ≤ 511 → IsSmall place
@@ -73,25 +73,32 @@ tail_weaker low high None le is = tt
 tail_weaker low high (Some tail) le is = omega (arith, is)
 
 -- the hold lies at or below the frontier
-pub hold_below : (s : State) → IsValid s → hold s ≤ frontier s.place
-hold_below s valid =
+pub hold_up_to_end : (s : State) → HasRecords s → HasWaiting s → IfSome s.archive (λ tail. tail ≤ flushed s) → hold s ≤ frontier s.place
+hold_up_to_end s has waits stable =
     let end : ℕ = frontier s.place in
-    let tail : IfSome s.archive (λ lsn. lsn ≤ end) = tail_weaker (flushed s) end s.archive (omega (arith, flushed_below s valid)) valid.stable.tail in
+    let low : flushed s ≤ block_start s.place = (start_of_waiting s s.waiting waits.blocks).0 in
+    let tail : IfSome s.archive (λ lsn. lsn ≤ end) = tail_weaker (flushed s) end s.archive (omega (arith, low)) stable in
     let records : All (λ (entry : LogEntry). entry.lsn ≤ end) s.records =
-    All-weaker (IsRecord s) (λ (entry : LogEntry). entry.lsn ≤ end) (λ entry is. omega (arith, is.below)) s.records valid.records.records in
+    All-weaker (IsRecord s) (λ (entry : LogEntry). entry.lsn ≤ end) (λ entry is. omega (arith, is.below)) s.records has.records in
     least_up_to end (option_to_list s.archive ++ live_lsns s)
     (All-append (λ m. m ≤ end) (option_to_list s.archive) (live_lsns s) (tail_up_to end s.archive tail)
     (All-map (λ m. m ≤ end) (λ (entry : LogEntry). entry.lsn) (filter (is_live s) s.records)
     (All-filter (is_live s) (λ (entry : LogEntry). entry.lsn ≤ end) s.records records)))
 
+pub hold_below : (s : State) → IsValid s → hold s ≤ frontier s.place
+hold_below s valid = hold_up_to_end s valid.records valid.waiting valid.stable.tail
+
 within_container : (n container offset records : ℕ) → n ≤ lsn_number container offset records → offset + records < 2 ^ 32 → container_of n ≤ container
 within_container n container offset records le small = omega (arith, le, small)
 
 -- the hold's container is the place's, or one before it
+pub hold_in_place : (s : State) → HasRanges s → hold s ≤ frontier s.place → container_of (hold s) ≤ s.place.container
+hold_in_place s ranges below =
+    let small = small_place s.shape s.place ranges.shape ranges.place in
+    within_container (hold s) s.place.container s.place.offset s.place.records below (omega (arith, small.low, small.records))
+
 pub hold_within : (s : State) → IsValid s → container_of (hold s) ≤ s.place.container
-hold_within s valid =
-    let small = place_is_small s valid in
-    within_container (hold s) s.place.container s.place.offset s.place.records (hold_below s valid) (omega (arith, small.low, small.records))
+hold_within s valid = hold_in_place s valid.ranges (hold_below s valid)
 
 -- the hold lies at or below an archive tail
 pub hold_up_to_tail : (s : State) → IfSome s.archive (λ tail. hold s ≤ tail)

@@ -154,7 +154,7 @@ left_refused (refusals.Damaged container offset at) disk old new is leaves memor
 left_refused _ disk old new is leaves memory broken = absurd leaves
 
 -- time stands still where nothing is asked of a disk
-still : (disk : DiskState) → Passes Unchanged disk disk
+pub still : (disk : DiskState) → Passes Unchanged disk disk
 still disk = record {
   later = omega arith;
   past = λ moment image le at. at;

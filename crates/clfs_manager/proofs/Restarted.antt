@@ -89,7 +89,7 @@ still_last others entry all last = All-append (λ (other : LogEntry). other.new_
     (All-cons (λ (other : LogEntry). other.new_base ≡ 0) entry [] last (All-nil (λ (other : LogEntry). other.new_base ≡ 0)))
 
 -- the state that the disk has once the group is there
-state_of_group : (s : State) (newest : Newest) (before after : Blocks) (stream base : ℕ) (stored : IsStored s newest before)
+pub state_of_group : (s : State) (newest : Newest) (before after : Blocks) (stream base : ℕ) (stored : IsStored s newest before)
     → (group : HasGroup s newest.image before after stored.entries) → GroupLaws newest.image s.buffers → EndsInRestart s stream base
     → IsNumber s.streams stream → length newest.image.streams ≡ length s.streams → ((base == null_lsn) ≡ false → base_of s stream ≤ base)
     → stored_state newest.image (map after newest.image.files) (stored.entries ++ unflushed s) s.buffers

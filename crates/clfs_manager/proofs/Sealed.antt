@@ -168,6 +168,10 @@ pub on_ok_by : {V A B : Type 0} (result : Result V Failed) → (A → B) → OnO
 on_ok_by (Ok value) f is = f is
 on_ok_by (Err error) f is = tt
 
+pub on_ok_of : {V A B C : Type 0} (result : Result V Failed) → (A → B → C) → OnOk result A → OnOk result B → OnOk result C
+on_ok_of (Ok value) f is also = f is also
+on_ok_of (Err error) f is also = tt
+
 pub on_err_by : {V A B : Type 0} (result : Result V Failed) → (A → B) → OnErr result A → OnErr result B
 on_err_by (Ok value) f is = tt
 on_err_by (Err error) f is = f is

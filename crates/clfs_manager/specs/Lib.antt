@@ -9,6 +9,7 @@ pub mod Preparing
 pub mod Fetching
 pub mod Settings
 pub mod Written
+pub mod Crashes
 pub mod Reopening
 pub mod Sizes
 pub mod Base

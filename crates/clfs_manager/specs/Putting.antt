@@ -1,8 +1,9 @@
 -- What the small changes of which an append is made leave in memory.
-use Rattle.std.specs.Prelude.{◌≡◌, ℕ, ◌+◌, ◌<◌, ◌≤◌, ◌^◌, ◌&&◌, nat_lt, Bool, List, []}
+use Rattle.std.specs.Prelude.{◌≡◌, ℕ, ◌+◌, ◌<◌, ◌≤◌, ◌^◌, ◌&&◌, nat_lt, Bool, List, [], length}
 use Rattle.clfs_lsn.specs.Lsn.{null_lsn, container_of}
 use Rattle.clfs_lsn.specs.Place.{IsClosed}
 use Rattle.clfs_lsn.specs.declared.entry.LogEntry.{LogEntry}
+use Rattle.clfs_base.specs.declared.image.BaseImage.{BaseImage}
 use Rattle.clfs_model.specs.declared.state.State.{State}
 use Rattle.clfs_model.specs.Live.{hold}
 use Rattle.clfs_model.specs.Step.{fills_buffers}
@@ -11,6 +12,7 @@ use Rattle.clfs_model.specs.Valid.{IsValid}
 use Rattle.clfs_laws.specs.Between.{turned}
 use Rattle.clfs_record.specs.Fields.{placed_record}
 use Rattle.clfs_record.specs.declared.fields.Fields.{Fields}
+use Rattle.clfs_recover.specs.Walk.{shape_of}
 use Rattle.clfs_tables.specs.Tables.{HasSame}
 use Rattle.clfs_manager.specs.declared.log.Log.{Log}
 
@@ -60,3 +62,11 @@ pub record HasSameLog (old new : Log) : Type 0 where
   pub buffers : new.buffers ≡ old.buffers
   pub broken : new.broken ≡ old.broken
   pub state : new.state ≡ old.state
+
+-- The newest copy once the next container is listed, and none below the hold's.
+pub record TakesContainer (s : State) (image : BaseImage) : Type 0 where
+  pub first : image.first ≡ container_of (hold s)
+  pub listed : image.first + length image.files ≡ s.place.container + 1 + 1
+  pub containers : image.containers ≡ s.containers
+  pub shape : shape_of image ≡ s.shape
+  pub rows : length image.streams ≡ length s.streams

@@ -8,10 +8,14 @@ ghost use Rattle.clfs_lsn.specs.Place.{joins, begins_here};
 ghost use Rattle.clfs_lsn.specs.Size.{longest};
 ghost use Rattle.clfs_lsn.specs.declared.entry.Kind.TheVariants.{Plain};
 ghost use Rattle.clfs_model.specs.declared.call.Call.TheVariants as calls;
+ghost use Rattle.clfs_model.specs.declared.state.State.{State};
 ghost use Rattle.clfs_model.specs.declared.reply.Reply.TheVariants as replies;
 ghost use Rattle.clfs_model.specs.Conditions.{IsClient};
 ghost use Rattle.clfs_model.specs.declared.state.Area.{Area};
 ghost use Rattle.clfs_lsn.specs.Size.{own};
+ghost use Rattle.clfs_model.specs.Flush.{cut};
+ghost use Rattle.clfs_model.specs.Run.{Request, asks};
+ghost use Rattle.clfs_model.specs.Survivors.{Survives};
 ghost use Rattle.clfs_model.specs.Put.{flush_if, hold_sizes, next_lsn, plain_record, put, seal_if, spend_if, spent_of, with_less_held};
 ghost use Rattle.clfs_model.specs.Space.{own_sum};
 ghost use Rattle.clfs_model.specs.Refusals.{append_refusal, refusal};
@@ -22,6 +26,7 @@ ghost use Rattle.clfs_model.specs.Valid.{IsValid};
 ghost use Rattle.clfs_areas.specs.Table.{area_at};
 ghost use Rattle.clfs_laws.specs.Between.{MayPut, TakesThrough};
 ghost use Rattle.clfs_manager.specs.Calls.{Steps};
+ghost use Rattle.clfs_manager.specs.Crashes.{CrashLeavesSurvivor, CrashSurvives, ReadyingSurvives};
 ghost use Rattle.clfs_manager.specs.Fetching.{IsLeft};
 ghost use Rattle.clfs_manager.specs.Memory.{ChangesAreas, IsSound};
 ghost use Rattle.clfs_manager.specs.OnDisk.{IsOpen};
@@ -36,12 +41,14 @@ use clfs_disk::{Disk, Failed};
 use clfs_laws::{
     areas_hold_sectors, calls_that_pass_find_room, growth_keeps_a_log_whole, logs_are_made_ready,
     quiet_appends_want_no_disk, records_are_put, refusals_are_the_calls_own,
-    small_changes_make_the_calls, steps_keep_a_state_storable, steps_keep_a_state_valid,
+    small_changes_make_the_calls, states_between_survive, steps_keep_a_state_storable,
+    steps_keep_a_state_valid,
 };
 use clfs_lsn::{Kind, Lsn, Sizes, own};
 use clfs_model::{Draft, Refusal, State, ways_of_a_step};
 use clfs_queue::{Placing, the_next_lsn_is_above_all};
 use clfs_record::Fields;
+use clfs_recover::logs_are_copies_and_blocks;
 use clfs_told::Told;
 use std::alloc::AllocError;
 
@@ -129,6 +136,8 @@ impl Log {
         ensures broken { OnErr result (self.new.broken ≡ true) }
         ensures quiet { making_ready_writes self.old.state.value (length bytes.now) ≡ false → IsOk result × (disk.new ≡ disk.old) }
         ensures writes { WritesDisk (IsErr result) (D.state disk.old) (D.state disk.new) }
+        ensures moments { (asked : Request) (s : State) → ReadyingSurvives asked s self.old.state.value (length bytes.now)
+            → CrashLeavesSurvivor asked s (D.state disk.old) (D.state disk.new) }
     {
         logs_are_made_ready();
         records_are_put();
@@ -145,7 +154,10 @@ impl Log {
         ensures broken { OnErr result (self.new.broken ≡ true) }
         ensures quiet { (asked ≡ true → fills_buffers self.old.state.value ≡ false) → IsOk result × (disk.new ≡ disk.old) }
         ensures writes { WritesDisk (IsErr result) (D.state disk.old) (D.state disk.new) }
+        ensures moments { (request : Request) (s : State) → Survives request s (cut self.old.state.value)
+            → Survives request s (cut (seal_if asked self.old.state.value)) → CrashLeavesSurvivor request s (D.state disk.old) (D.state disk.new) }
     {
+        logs_are_copies_and_blocks();
         if asked {
             return self.seal(disk);
         }
@@ -160,7 +172,10 @@ impl Log {
         ensures broken { OnErr result (self.new.broken ≡ true) }
         ensures quiet { asked ≡ false → IsOk result × (disk.new ≡ disk.old) }
         ensures writes { WritesDisk (IsErr result) (D.state disk.old) (D.state disk.new) }
+        ensures moments { (request : Request) (s : State) → Survives request s (cut self.old.state.value)
+            → Survives request s (cut (flush_if asked self.old.state.value)) → CrashLeavesSurvivor request s (D.state disk.old) (D.state disk.new) }
     {
+        logs_are_copies_and_blocks();
         if asked {
             return self.write_all(disk);
         }
@@ -175,6 +190,9 @@ impl Log {
         ensures broken { OnErr result (self.new.broken ≡ true) }
         ensures quiet { (seal ≡ true → fills_buffers self.old.state.value ≡ false) → flush ≡ false → IsOk result × (disk.new ≡ disk.old) }
         ensures writes { WritesDisk (IsErr result) (D.state disk.old) (D.state disk.new) }
+        ensures moments { (asked : Request) (s : State) → Survives asked s (cut self.old.state.value)
+            → Survives asked s (cut (seal_if seal self.old.state.value)) → Survives asked s (cut (flush_if flush (seal_if seal self.old.state.value)))
+            → CrashLeavesSurvivor asked s (D.state disk.old) (D.state disk.new) }
     {
         self.seal_if(disk, seal)?;
         self.flush_if(disk, flush)
@@ -215,6 +233,9 @@ impl Log {
             making_ready_writes (spend_if reserved area (length draft.now.bytes) self.old.state.value) (length draft.now.bytes) ≡ false
             → IsOk result × (disk.new ≡ disk.old) }
         ensures writes { WritesDisk (IsErr result) (D.state disk.old) (D.state disk.new) }
+        ensures moments { let area = area_at place self.old.areas.areas in (asked : Request) (s : State)
+            → ReadyingSurvives asked s (spend_if reserved area (length draft.now.bytes) self.old.state.value) (length draft.now.bytes)
+            → CrashLeavesSurvivor asked s (D.state disk.old) (D.state disk.new) }
     {
         records_are_put();
         let fields = plain_fields(self.areas.area(place).stream, draft);
@@ -256,6 +277,11 @@ impl Log {
             → (draft.now.seal ≡ true → fills_buffers (hold_sizes area sizes.now (put t (plain_record area draft.now))) ≡ false) → draft.now.flush ≡ false
             → IsOk result × (disk.new ≡ disk.old) }
         ensures writes { WritesDisk (IsErr result) (D.state disk.old) (D.state disk.new) }
+        ensures moments { let area = area_at place self.old.areas.areas in
+            let u = spend_if reserved area (length draft.now.bytes) self.old.state.value in
+            let held = hold_sizes area sizes.now (put u (plain_record area draft.now)) in (asked : Request) (s : State)
+            → ReadyingSurvives asked s u (length draft.now.bytes) → Survives asked s (cut held) → Survives asked s (cut (seal_if draft.now.seal held))
+            → Survives asked s (cut (flush_if draft.now.flush (seal_if draft.now.seal held))) → CrashLeavesSurvivor asked s (D.state disk.old) (D.state disk.new) }
     {
         areas_hold_sectors();
         let lsn = self.put_draft(disk, place, draft, reserved, room)?;
@@ -306,6 +332,7 @@ impl Log {
         ensures left { IsLeft (D.state disk.new) self.new }
         ensures quiet { calls_disk self.old.state.value (calls.Append area draft.now reserved sizes.now) ≡ false → disk.new ≡ disk.old }
         ensures writes { WritesDisk (IsErrOf result Refusal.DiskFault) (D.state disk.old) (D.state disk.new) }
+        ensures moments { CrashLeavesSurvivor (asks client (calls.Append area draft.now reserved sizes.now)) self.old.state.value (D.state disk.old) (D.state disk.new) }
     {
         refusals_are_the_calls_own();
         ways_of_a_step();
@@ -314,6 +341,8 @@ impl Log {
         logs_are_made_ready();
         small_changes_make_the_calls();
         quiet_appends_want_no_disk();
+        states_between_survive();
+        logs_are_copies_and_blocks();
         let place = self.area_to_append(client, area, draft, reserved, sizes)?;
         let stream = self.areas.area(place).stream;
         let len = draft.bytes.len() as u32;
@@ -365,6 +394,8 @@ impl<D: Disk> Manager<D> {
             → Steps told self.old.0 client (calls.Append area draft.now reserved sizes.now) replies.Placed result self.new.0 }
         ensures quiet { calls_disk self.old.0 (calls.Append area draft.now reserved sizes.now) ≡ false → self.new.1 ≡ self.old.1 }
         ensures writes { WritesDisk (IsErrOf result Refusal.DiskFault) (D.state self.old.1) (D.state self.new.1) }
+        ensures moments { CrashSurvives (asks client (calls.Append area draft.now reserved sizes.now)) self.old.0 (D.state self.old.1) (D.state self.new.1) }
+        ensures stopped { self.old.0.broken ≡ true → self.new.1 ≡ self.old.1 }
     {
         ways_of_a_step();
         if self.log.broken {

@@ -1,6 +1,6 @@
 // Archiving: whether it is on, and its tail. A change writes the base copy that follows the newest one, with the containers from the new state's hold
 // on, so that a crash leaves the old setting or the new one. No call here takes memory.
-ghost use Rattle.std.specs.Prelude.{◌≡◌, ◌≤◌, ℕ, Bool, false, not, Some, is_some, OnOk, OnErr, IsErrOf, IsOk};
+ghost use Rattle.std.specs.Prelude.{◌≡◌, ◌≤◌, ℕ, Bool, true, false, not, Some, is_some, OnOk, OnErr, IsErrOf, IsOk};
 ghost use Rattle.clfs_lsn.specs.Lsn.{container_of};
 ghost use Rattle.clfs_disk.specs.State.{IsSettled, IsSteady, Later, Rises};
 ghost use Rattle.clfs_model.specs.declared.call.Call.TheVariants as calls;
@@ -8,10 +8,12 @@ ghost use Rattle.clfs_model.specs.declared.reply.Reply.TheVariants as replies;
 ghost use Rattle.clfs_model.specs.declared.state.State.{State};
 ghost use Rattle.clfs_model.specs.Answers.{archiving};
 ghost use Rattle.clfs_model.specs.Live.{hold};
+ghost use Rattle.clfs_model.specs.Run.{asks};
 ghost use Rattle.clfs_model.specs.Step.{calls_disk};
 ghost use Rattle.clfs_model.specs.Valid.{IsValid};
 ghost use Rattle.clfs_physical.specs.Stored.{AreMade};
 ghost use Rattle.clfs_manager.specs.Calls.{Steps};
+ghost use Rattle.clfs_manager.specs.Crashes.{CrashSurvives, StoredMeanwhile};
 ghost use Rattle.clfs_manager.specs.Flushing.{IsBroken, StoredAfter};
 ghost use Rattle.clfs_manager.specs.Memory.{Holds, IsSound};
 ghost use Rattle.clfs_manager.specs.Settings.{KeepsTables, archive_change, with_archive};
@@ -23,13 +25,15 @@ use crate::manager::Manager;
 use clfs_archive::Archive;
 use clfs_disk::{Disk, Failed};
 use clfs_laws::{
-    numbers_fit_their_types, steps_keep_a_state_storable, steps_keep_a_state_valid,
-    the_holds_container_never_falls,
+    numbers_fit_their_types, states_between_survive, steps_keep_a_state_storable,
+    steps_keep_a_state_valid, the_holds_container_never_falls,
 };
 use clfs_lsn::Lsn;
 use clfs_model::{Refusal, State, records_are_as_their_heads, ways_of_a_step};
 use clfs_physical::Change;
-use clfs_recover::{low_containers_are_left_out, settings_leave_the_records};
+use clfs_recover::{
+    logs_are_copies_and_blocks, low_containers_are_left_out, settings_leave_the_records,
+};
 use clfs_told::Told;
 
 // The state with archiving off, or on with this tail.
@@ -86,6 +90,7 @@ impl Log {
         ensures holds { OnOk result (Holds self.new.state.value self.new) }
         ensures same { OnOk result (KeepsTables self.old self.new) }
         ensures stored { OnOk result (StoredAfter (D.state disk.old) (D.state disk.new) self.old.state.value self.new.state.value self.old.physical self.new.physical) }
+        ensures meanwhile { StoredMeanwhile (D.state disk.old) (D.state disk.new) self.old.state.value (with_archive tail self.old.state.value) self.old.physical }
         ensures broken { OnErr result (IsBroken self.old self.new) }
         ensures settled { OnOk result (IsSettled (D.state disk.old) → IsSettled (D.state disk.new)) }
         ensures time { Later (D.state disk.old) (D.state disk.new) }
@@ -119,12 +124,16 @@ impl<D: Disk> Manager<D> {
     pub fn set_archive(&mut self, on: bool) -> Result<(), Refusal>
         ensures step { (told : Bool) (client : ℕ) → Steps told self.old.0 client (calls.SetArchive on) (λ _. replies.Done) result self.new.0 }
         ensures quiet { calls_disk self.old.0 (calls.SetArchive on) ≡ false → self.new.1 ≡ self.old.1 }
+        ensures stopped { self.old.0.broken ≡ true → self.new.1 ≡ self.old.1 }
         ensures writes { WritesDisk (IsErrOf result Refusal.DiskFault) (D.state self.old.1) (D.state self.new.1) }
+        ensures moments { (client : ℕ) → CrashSurvives (asks client (calls.SetArchive on)) self.old.0 (D.state self.old.1) (D.state self.new.1) }
     {
         steps_keep_a_state_valid();
         steps_keep_a_state_storable();
         the_holds_container_never_falls();
         ways_of_a_step();
+        states_between_survive();
+        logs_are_copies_and_blocks();
         if self.log.broken {
             return Err(Refusal::Broken);
         }
@@ -142,12 +151,16 @@ impl<D: Disk> Manager<D> {
     /// old one up to the LSN below which all is on the disk; the three LSNs are told.
     pub fn set_archive_tail(&mut self, lsn: Lsn) -> Result<Lsn, Refusal>
         ensures step { (told : Bool) (client : ℕ) → Steps told self.old.0 client (calls.SetArchiveTail lsn) replies.Tail result self.new.0 }
+        ensures stopped { self.old.0.broken ≡ true → self.new.1 ≡ self.old.1 }
         ensures writes { WritesDisk (IsErrOf result Refusal.DiskFault) (D.state self.old.1) (D.state self.new.1) }
+        ensures moments { (client : ℕ) → CrashSurvives (asks client (calls.SetArchiveTail lsn)) self.old.0 (D.state self.old.1) (D.state self.new.1) }
     {
         steps_keep_a_state_valid();
         steps_keep_a_state_storable();
         the_holds_container_never_falls();
         ways_of_a_step();
+        states_between_survive();
+        logs_are_copies_and_blocks();
         if self.log.broken {
             return Err(Refusal::Broken);
         }

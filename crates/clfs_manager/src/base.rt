@@ -7,14 +7,18 @@ ghost use Rattle.clfs_model.specs.declared.call.Call.TheVariants as calls;
 ghost use Rattle.clfs_model.specs.declared.reply.Reply.TheVariants as replies;
 ghost use Rattle.clfs_model.specs.Answers.{answer, outcome};
 ghost use Rattle.clfs_model.specs.Conditions.{IsClient};
-ghost use Rattle.clfs_model.specs.Flush.{flush};
+ghost use Rattle.clfs_model.specs.declared.state.State.{State};
+ghost use Rattle.clfs_model.specs.Flush.{cut, flush};
 ghost use Rattle.clfs_model.specs.Live.{hold};
 ghost use Rattle.clfs_model.specs.Refusals.{is_base, refusal};
+ghost use Rattle.clfs_model.specs.Run.{Request, asks};
 ghost use Rattle.clfs_model.specs.State.{base_of, stream_at};
 ghost use Rattle.clfs_model.specs.Storable.{IsStorable};
+ghost use Rattle.clfs_model.specs.Survivors.{Survives};
 ghost use Rattle.clfs_model.specs.Valid.{IsValid};
 ghost use Rattle.clfs_manager.specs.Base.{KeepsAllButTables, with_base};
 ghost use Rattle.clfs_manager.specs.Calls.{Steps};
+ghost use Rattle.clfs_manager.specs.Crashes.{CrashLeavesSurvivor, CrashSurvives};
 ghost use Rattle.clfs_manager.specs.Flushing.{IsBroken};
 ghost use Rattle.clfs_manager.specs.Memory.{IsSound};
 ghost use Rattle.clfs_manager.specs.Written.{IsIntact, WritesDisk};
@@ -24,13 +28,13 @@ use crate::log::Log;
 use crate::manager::Manager;
 use clfs_disk::{Disk, Failed};
 use clfs_laws::{
-    numbers_fit_their_types, refusals_are_the_calls_own, steps_keep_a_state_storable,
-    steps_keep_a_state_valid, the_holds_container_never_falls,
+    numbers_fit_their_types, refusals_are_the_calls_own, states_between_survive,
+    steps_keep_a_state_storable, steps_keep_a_state_valid, the_holds_container_never_falls,
 };
 use clfs_lsn::Lsn;
 use clfs_model::{Refusal, State, records_are_as_their_heads, ways_of_a_step};
 use clfs_physical::Change;
-use clfs_recover::{bases_of_rows_move, low_containers_are_left_out};
+use clfs_recover::{bases_of_rows_move, logs_are_copies_and_blocks, low_containers_are_left_out};
 use clfs_told::Told;
 
 // The state with the base of a stream moved.
@@ -69,9 +73,12 @@ impl Log {
         ensures intact { OnOk result (IsIntact (D.state disk.new) self.new) }
         ensures broken { OnErr result (IsBroken self.old self.new) }
         ensures writes { WritesDisk (IsErr result) (D.state disk.old) (D.state disk.new) }
+        ensures moments { (asked : Request) (s : State) → Survives asked s (cut self.old.state.value)
+            → Survives asked s (cut (with_base stream base self.old.state.value)) → CrashLeavesSurvivor asked s (D.state disk.old) (D.state disk.new) }
     {
         bases_of_rows_move();
         low_containers_are_left_out();
+        logs_are_copies_and_blocks();
         records_are_as_their_heads();
         numbers_fit_their_types();
         let _newest = self.physical.image();
@@ -84,7 +91,6 @@ impl Log {
             self.state = broken(&self.state);
             return Err(failed);
         }
-        let _moved = self.physical.image();
         self.state = with_base(&self.state, stream, base);
         Ok(())
     }
@@ -94,7 +100,6 @@ impl Log {
         requires intact { IsIntact (D.state disk.old) self.old }
         requires there { IsSome (stream_at self.old.state.value stream) }
         requires base { is_base self.old.state.value stream base ≡ true }
-        requires flushed { IsValid (flush self.old.state.value) × IsStorable (flush self.old.state.value) }
         requires valid { IsValid (with_base stream base (flush self.old.state.value)) }
         requires storable { IsStorable (with_base stream base (flush self.old.state.value)) }
         requires held { container_of (hold self.old.state.value)
@@ -103,9 +108,11 @@ impl Log {
         ensures intact { OnOk result (IsIntact (D.state disk.new) self.new) }
         ensures broken { OnErr result (IsBroken self.old self.new) }
         ensures writes { WritesDisk (IsErr result) (D.state disk.old) (D.state disk.new) }
+        ensures moments { (asked : Request) (s : State) → Survives asked s (cut self.old.state.value) → Survives asked s (cut (flush self.old.state.value))
+            → Survives asked s (cut (with_base stream base (flush self.old.state.value))) → CrashLeavesSurvivor asked s (D.state disk.old) (D.state disk.new) }
     {
         let faulted = broken(&self.state);
-        self.write_out(disk)?;
+        self.write_all(disk)?;
         if let Err(failed) = self.store_base(disk, stream, base) {
             self.state = faulted;
             return Err(failed);
@@ -141,13 +148,17 @@ impl<D: Disk> Manager<D> {
     pub fn advance(&mut self, client: u16, area: u16, lsn: Lsn) -> Result<Lsn, Refusal>
         requires client { IsClient client }
         ensures step { (told : Bool) → Steps told self.old.0 client (calls.Advance area lsn) replies.Base result self.new.0 }
+        ensures stopped { self.old.0.broken ≡ true → self.new.1 ≡ self.old.1 }
         ensures writes { WritesDisk (IsErrOf result Refusal.DiskFault) (D.state self.old.1) (D.state self.new.1) }
+        ensures moments { CrashSurvives (asks client (calls.Advance area lsn)) self.old.0 (D.state self.old.1) (D.state self.new.1) }
     {
         steps_keep_a_state_valid();
         steps_keep_a_state_storable();
         the_holds_container_never_falls();
         refusals_are_the_calls_own();
         ways_of_a_step();
+        states_between_survive();
+        logs_are_copies_and_blocks();
         if self.log.broken {
             return Err(Refusal::Broken);
         }

@@ -1,11 +1,12 @@
 // Writing what waits. The open block ends, so that all records stand in blocks that wait, and these are written as one group behind the blocks that
 // are on the disk: a crash leaves all of the group or none of it. No memory is taken: the group's bytes stand in the queue's buffer, and there is
 // room for the end of the open block since its first record was appended.
-ghost use Rattle.std.specs.Prelude.{◌≡◌, Bool, IsOk, IsErrOf, ◌+◌, ◌*◌, ◌<◌, ◌≤◌, false, true, OnOk, OnErr};
+ghost use Rattle.std.specs.Prelude.{◌≡◌, [], Bool, IsOk, IsErrOf, ◌+◌, ◌*◌, ◌<◌, ◌≤◌, false, true, OnOk, OnErr};
 ghost use Rattle.clfs_disk.specs.State.{IsSettled, IsSteady, Later, Rises};
 ghost use Rattle.clfs_lsn.specs.Format.{sector_bytes};
 ghost use Rattle.clfs_lsn.specs.Place.{IsClosed, IsSmall, block_end, frontier};
 ghost use Rattle.clfs_model.specs.Flush.{flush, flushed};
+ghost use Rattle.clfs_model.specs.Run.{asks};
 ghost use Rattle.clfs_model.specs.Step.{calls_disk, is_pending, with_broken};
 ghost use Rattle.clfs_physical.specs.Joined.{SameLengths};
 ghost use Rattle.clfs_physical.specs.Stored.{AreMade};
@@ -14,7 +15,8 @@ ghost use Rattle.clfs_model.specs.declared.reply.Reply.TheVariants as replies;
 ghost use Rattle.clfs_model.specs.Conditions.{IsClient};
 ghost use Rattle.clfs_manager.specs.Calls.{Steps};
 ghost use Rattle.clfs_manager.specs.Flushing.{EndsBlock, IsBroken, KeepsOthers, StoredAfter};
-ghost use Rattle.clfs_manager.specs.Laid.{IsLaidLog, WrittenAfter};
+ghost use Rattle.clfs_manager.specs.Crashes.{CrashSurvives, StoredMeanwhile};
+ghost use Rattle.clfs_manager.specs.Laid.{IsLaidLog, IsEndedLog, SendsGroup, WrittenAfter};
 ghost use Rattle.clfs_manager.specs.Memory.{Holds, IsSound};
 ghost use Rattle.clfs_manager.specs.Written.{WritesDisk};
 
@@ -23,12 +25,14 @@ use crate::manager::Manager;
 use clfs_archive::{BlockEnd, ends_of_blocks_go_on};
 use clfs_disk::{Disk, Failed};
 use clfs_laws::{
-    laid_blocks_end_at_the_place, seals_and_flushes_keep_a_log, steps_keep_a_state_storable,
-    steps_keep_a_state_valid,
+    laid_blocks_end_at_the_place, seals_and_flushes_keep_a_log, states_between_survive,
+    steps_keep_a_state_storable, steps_keep_a_state_valid,
 };
 use clfs_lsn::{Lsn, Place, frontier, sealed};
 use clfs_model::{Refusal, State, ways_of_a_step};
-use clfs_recover::{blocks_are_read_in_order, groups_come_behind_the_last_block};
+use clfs_recover::{
+    blocks_are_read_in_order, groups_come_behind_the_last_block, logs_are_copies_and_blocks,
+};
 use clfs_told::Told;
 
 // The end of the block that is open at a place: its last record, and the byte behind it.
@@ -82,6 +86,7 @@ impl Log {
         ensures holds { OnOk result (Holds self.new.state.value self.new) }
         ensures same { OnOk result (KeepsOthers self.old self.new) }
         ensures stored { OnOk result (StoredAfter (D.state disk.old) (D.state disk.new) self.old.state.value self.new.state.value self.old.physical self.new.physical) }
+        ensures meanwhile { StoredMeanwhile (D.state disk.old) (D.state disk.new) self.old.state.value (flush self.old.state.value) self.old.physical }
         ensures broken { OnErr result (IsBroken self.old self.new) }
         ensures settled { OnOk result (IsSettled (D.state disk.old) → IsSettled (D.state disk.new)) }
         ensures quiet { is_pending self.old.state.value ≡ false → IsOk result × (disk.new ≡ disk.old) }
@@ -97,6 +102,25 @@ impl Log {
         self.write_group(disk)
     }
 
+    // Writes the blocks that wait, once the open block has ended, as one group. In memory nothing changes.
+    fn send_group<D: Disk>(&self, disk: &mut D) -> Result<(), Failed>
+        requires ended { IsEndedLog self.now }
+        ensures group { SendsGroup (IsOk result) (D.state disk.old) (D.state disk.new) self.now.state.value self.now.physical }
+        ensures settled { OnOk result (IsSettled (D.state disk.old) → IsSettled (D.state disk.new)) }
+        ensures quiet { self.now.queue.waiting ≡ [] → IsOk result × (disk.new ≡ disk.old) }
+        ensures lengths { SameLengths (D.state disk.old).files (D.state disk.new).files }
+        ensures time { Later (D.state disk.old) (D.state disk.new) }
+        ensures cause { OnErr result (Rises (D.state disk.old).faults (D.state disk.new).faults) }
+        ensures steady { IsSteady (D.state disk.old) → AreMade self.now.physical.image (D.state disk.old).files
+            → IsOk result × ((D.state disk.new).faults ≡ (D.state disk.old).faults) }
+    {
+        blocks_are_read_in_order();
+        groups_come_behind_the_last_block();
+        let _newest = self.physical.image();
+        let (at, body) = self.queue.group();
+        self.physical.flush(disk, at, body)
+    }
+
     // The same where only the restart area that was put last may keep the log from being one that files can hold: its new base is in the files then,
     // with it, but not in the tables.
     pub(crate) fn write_group<D: Disk>(&mut self, disk: &mut D) -> Result<(), Failed>
@@ -104,6 +128,7 @@ impl Log {
         ensures state { OnOk result (self.new.state.value ≡ flush self.old.state.value) }
         ensures holds { OnOk result (Holds self.new.state.value self.new) }
         ensures same { OnOk result (KeepsOthers self.old self.new) }
+        ensures group { SendsGroup (IsOk result) (D.state disk.old) (D.state disk.new) self.old.state.value self.old.physical }
         ensures written { OnOk result (WrittenAfter (D.state disk.old) (D.state disk.new) self.old.state.value self.old.physical self.new.physical) }
         ensures broken { OnErr result (IsBroken self.old self.new) }
         ensures settled { OnOk result (IsSettled (D.state disk.old) → IsSettled (D.state disk.new)) }
@@ -114,12 +139,8 @@ impl Log {
         ensures steady { IsSteady (D.state disk.old) → AreMade self.old.physical.image (D.state disk.old).files
             → IsOk result × ((D.state disk.new).faults ≡ (D.state disk.old).faults) }
     {
-        blocks_are_read_in_order();
-        groups_come_behind_the_last_block();
         self.end_block();
-        let _newest = self.physical.image();
-        let (at, body) = self.queue.group();
-        if let Err(failed) = self.physical.flush(disk, at, body) {
+        if let Err(failed) = self.send_group(disk) {
             self.broken = true;
             self.state = broken(&self.state);
             return Err(failed);
@@ -138,10 +159,14 @@ impl<D: Disk> Manager<D> {
         ensures step { (told : Bool) → Steps told self.old.0 client (calls.Flush area) replies.Flushed result self.new.0 }
         ensures quiet { is_pending self.old.0 ≡ false → self.new.1 ≡ self.old.1 }
         ensures writes { WritesDisk (IsErrOf result Refusal.DiskFault) (D.state self.old.1) (D.state self.new.1) }
+        ensures moments { CrashSurvives (asks client (calls.Flush area)) self.old.0 (D.state self.old.1) (D.state self.new.1) }
+        ensures stopped { self.old.0.broken ≡ true → self.new.1 ≡ self.old.1 }
     {
         steps_keep_a_state_valid();
         steps_keep_a_state_storable();
         ways_of_a_step();
+        states_between_survive();
+        logs_are_copies_and_blocks();
         if self.log.broken {
             return Err(Refusal::Broken);
         }
@@ -159,10 +184,14 @@ impl<D: Disk> Manager<D> {
         ensures step { (told : Bool) → Steps told self.old.0 client (calls.FlushTo area lsn) replies.Flushed result self.new.0 }
         ensures quiet { calls_disk self.old.0 (calls.FlushTo area lsn) ≡ false → self.new.1 ≡ self.old.1 }
         ensures writes { WritesDisk (IsErrOf result Refusal.DiskFault) (D.state self.old.1) (D.state self.new.1) }
+        ensures moments { CrashSurvives (asks client (calls.FlushTo area lsn)) self.old.0 (D.state self.old.1) (D.state self.new.1) }
+        ensures stopped { self.old.0.broken ≡ true → self.new.1 ≡ self.old.1 }
     {
         steps_keep_a_state_valid();
         steps_keep_a_state_storable();
         ways_of_a_step();
+        states_between_survive();
+        logs_are_copies_and_blocks();
         if self.log.broken {
             return Err(Refusal::Broken);
         }

@@ -1,16 +1,21 @@
 // Opening a stream by its name: the one of that name, or a new one behind the others. A new stream is in the base copy that follows the newest one, so
 // that a crash leaves it or not. Its memory is taken first, and it joins the tables once it is on the disk, which takes none.
-ghost use Rattle.std.specs.Prelude.{◌≡◌, ◌+◌, ◌<◌, ◌≤◌, ◌^◌, Bool, false, None, IsErrOf, IfOk, IfErr, length};
+ghost use Rattle.std.specs.Prelude.{◌≡◌, ◌+◌, ◌<◌, ◌≤◌, ◌^◌, Bool, true, false, None, IsErrOf, IfOk, IfErr, length};
 ghost use Rattle.clfs_lsn.specs.Lsn.{container_of, null_lsn};
 ghost use Rattle.clfs_model.specs.declared.call.Call.TheVariants as calls;
 ghost use Rattle.clfs_model.specs.declared.reply.Reply.TheVariants as replies;
+ghost use Rattle.clfs_model.specs.declared.state.State.{State};
 ghost use Rattle.clfs_model.specs.Conditions.{IsClient};
+ghost use Rattle.clfs_model.specs.Flush.{cut};
 ghost use Rattle.clfs_model.specs.Live.{hold};
 ghost use Rattle.clfs_model.specs.Refusals.{open_refusal, stream_number};
+ghost use Rattle.clfs_model.specs.Run.{Request, asks};
 ghost use Rattle.clfs_model.specs.Step.{calls_disk};
 ghost use Rattle.clfs_model.specs.Storable.{IsStorable};
+ghost use Rattle.clfs_model.specs.Survivors.{Survives};
 ghost use Rattle.clfs_model.specs.Valid.{IsValid};
 ghost use Rattle.clfs_manager.specs.Calls.{Steps};
+ghost use Rattle.clfs_manager.specs.Crashes.{CrashLeavesSurvivor, CrashSurvives};
 ghost use Rattle.clfs_manager.specs.Streams.{IsNotAdded, with_stream};
 ghost use Rattle.clfs_manager.specs.Written.{IsIntact, WritesDisk};
 
@@ -20,13 +25,13 @@ use crate::manager::Manager;
 use clfs_base::Row;
 use clfs_disk::Disk;
 use clfs_laws::{
-    refusals_are_the_calls_own, steps_keep_a_state_storable, steps_keep_a_state_valid,
-    the_holds_container_never_falls,
+    refusals_are_the_calls_own, states_between_survive, steps_keep_a_state_storable,
+    steps_keep_a_state_valid, the_holds_container_never_falls,
 };
 use clfs_lsn::{Lsn, Name};
 use clfs_model::{Refusal, State, ways_of_a_step};
 use clfs_physical::PhysicalRefusal;
-use clfs_recover::{low_containers_are_left_out, streams_come_last};
+use clfs_recover::{logs_are_copies_and_blocks, low_containers_are_left_out, streams_come_last};
 use clfs_told::Told;
 use std::alloc::AllocError;
 
@@ -69,9 +74,12 @@ impl Log {
         ensures intact { IfOk result (λ _. IsIntact (D.state disk.new) self.new) }
         ensures refused { IfErr result (λ refusal. IsNotAdded refusal (D.state disk.new) self.old self.new) }
         ensures writes { WritesDisk (IsErrOf result Refusal.DiskFault) (D.state disk.old) (D.state disk.new) }
+        ensures moments { (asked : Request) (s : State) → Survives asked s (cut self.old.state.value)
+            → Survives asked s (cut (with_stream name.now self.old.state.value)) → CrashLeavesSurvivor asked s (D.state disk.old) (D.state disk.new) }
     {
         streams_come_last();
         low_containers_are_left_out();
+        logs_are_copies_and_blocks();
         let _newest = self.physical.image();
         let first = self.hold().container();
         let number = self.tables.len() as u16 + 1;
@@ -87,7 +95,6 @@ impl Log {
                 return Err(Refusal::DiskFault);
             }
         }
-        let _added = self.physical.image();
         self.tables.add_stream(own);
         self.state = with_stream(&self.state, name);
         Ok(number)
@@ -104,13 +111,17 @@ impl<D: Disk> Manager<D> {
         requires name { length name.now < 2 ^ 32 }
         ensures step { (told : Bool) → Steps told self.old.0 client (calls.OpenStream name.now) replies.Stream result self.new.0 }
         ensures quiet { calls_disk self.old.0 (calls.OpenStream name.now) ≡ false → self.new.1 ≡ self.old.1 }
+        ensures stopped { self.old.0.broken ≡ true → self.new.1 ≡ self.old.1 }
         ensures writes { WritesDisk (IsErrOf result Refusal.DiskFault) (D.state self.old.1) (D.state self.new.1) }
+        ensures moments { CrashSurvives (asks client (calls.OpenStream name.now)) self.old.0 (D.state self.old.1) (D.state self.new.1) }
     {
         steps_keep_a_state_valid();
         steps_keep_a_state_storable();
         the_holds_container_never_falls();
         refusals_are_the_calls_own();
         ways_of_a_step();
+        states_between_survive();
+        logs_are_copies_and_blocks();
         if self.log.broken {
             return Err(Refusal::Broken);
         }

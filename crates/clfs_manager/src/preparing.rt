@@ -4,9 +4,14 @@ ghost use Rattle.std.specs.Prelude.{◌≡◌, ◌+◌, ◌-◌, ◌<◌, ◌≤
 ghost use Rattle.clfs_lsn.specs.Limits.{most_containers};
 ghost use Rattle.clfs_lsn.specs.Place.{begins_here, joins};
 ghost use Rattle.clfs_lsn.specs.Size.{longest};
+ghost use Rattle.clfs_model.specs.declared.state.State.{State};
+ghost use Rattle.clfs_model.specs.Flush.{cut};
+ghost use Rattle.clfs_model.specs.Run.{Request};
 ghost use Rattle.clfs_model.specs.Space.{grown};
 ghost use Rattle.clfs_model.specs.State.{stream_at};
 ghost use Rattle.clfs_model.specs.Step.{grows};
+ghost use Rattle.clfs_model.specs.Survivors.{Survives};
+ghost use Rattle.clfs_manager.specs.Crashes.{CrashLeavesSurvivor};
 ghost use Rattle.clfs_manager.specs.Fetching.{IsLeft};
 ghost use Rattle.clfs_manager.specs.Preparing.{LeavesOf};
 ghost use Rattle.clfs_manager.specs.Written.{IsIntact, WritesDisk};
@@ -15,6 +20,7 @@ use crate::log::Log;
 use clfs_disk::Disk;
 use clfs_model::Refusal;
 use clfs_physical::PhysicalRefusal;
+use clfs_recover::logs_are_copies_and_blocks;
 
 impl Log {
     // Takes all memory for a record of so many bytes of data of the stream of this number, and then grows the log for a call that needs so many sectors.
@@ -44,7 +50,10 @@ impl Log {
         ensures left { IsLeft (D.state disk.new) self.new }
         ensures quiet { grows self.old.state.value need ≡ false → (IsErrOf result Refusal.DiskFault → ⊥) × (disk.new ≡ disk.old) }
         ensures writes { WritesDisk (IsErrOf result Refusal.DiskFault) (D.state disk.old) (D.state disk.new) }
+        ensures moments { (asked : Request) (s : State) → Survives asked s (cut self.old.state.value)
+            → Survives asked s (cut (grown self.old.state.value need)) → CrashLeavesSurvivor asked s (D.state disk.old) (D.state disk.new) }
     {
+        logs_are_copies_and_blocks();
         let room = self.take_memory(stream, len)?;
         match self.grow(disk, need) {
             Ok(()) => Ok(room),

@@ -9,16 +9,22 @@ ghost use Rattle.clfs_record.specs.Fields.{placed_record};
 ghost use Rattle.clfs_lsn.specs.Lsn.{container_of};
 ghost use Rattle.clfs_lsn.specs.Place.{IsClosed, joins, begins_here};
 ghost use Rattle.clfs_lsn.specs.declared.entry.LogEntry.{LogEntry};
-ghost use Rattle.clfs_model.specs.Flush.{flush, seal};
+ghost use Rattle.clfs_model.specs.Flush.{cut, flush, seal};
 ghost use Rattle.clfs_model.specs.Live.{hold};
 ghost use Rattle.clfs_model.specs.Put.{next_lsn, put};
+ghost use Rattle.clfs_model.specs.Run.{Request};
 ghost use Rattle.clfs_model.specs.Step.{is_pending, making_ready_writes};
 ghost use Rattle.clfs_model.specs.Storable.{IsStorable};
+ghost use Rattle.clfs_model.specs.Survivors.{Survives};
+ghost use Rattle.clfs_model.specs.declared.state.State.{State};
 ghost use Rattle.clfs_model.specs.Valid.{IsValid};
 ghost use Rattle.clfs_laws.specs.Between.{MayPut, IsReadyFor, readied, turned};
+ghost use Rattle.clfs_disk.specs.State.{IsSettled, IsSteady, Later, Rises};
+ghost use Rattle.clfs_physical.specs.Stored.{AreMade};
+ghost use Rattle.clfs_manager.specs.Crashes.{CrashLeavesSurvivor, ReadyingSurvives, StoredMeanwhile};
 ghost use Rattle.clfs_manager.specs.Flushing.{IsBroken, StoredAfter};
 ghost use Rattle.clfs_manager.specs.Memory.{Holds, IsSound};
-ghost use Rattle.clfs_manager.specs.Putting.{IsPutInMemory, KeepsRoom, MayTurnTo, sealing_writes, unplaced};
+ghost use Rattle.clfs_manager.specs.Putting.{IsPutInMemory, KeepsRoom, MayTurnTo, TakesContainer, sealing_writes, unplaced};
 ghost use Rattle.clfs_manager.specs.Written.{IsIntact, WritesDisk};
 
 use crate::log::Log;
@@ -32,7 +38,8 @@ use clfs_model::State;
 use clfs_queue::{Placing, a_record_goes_where_it_went, the_next_lsn_is_above_all};
 use clfs_record::Fields;
 use clfs_recover::{
-    further_containers_begin_empty, low_containers_are_left_out, settings_leave_the_records,
+    further_containers_begin_empty, logs_are_copies_and_blocks, low_containers_are_left_out,
+    settings_leave_the_records,
 };
 use clfs_told::Told;
 
@@ -93,8 +100,11 @@ impl Log {
         ensures broken { OnErr result (IsBroken self.old self.new) }
         ensures quiet { is_pending self.old.state.value ≡ false → IsOk result × (disk.new ≡ disk.old) }
         ensures writes { WritesDisk (IsErr result) (D.state disk.old) (D.state disk.new) }
+        ensures moments { (asked : Request) (s : State) → Survives asked s (cut self.old.state.value)
+            → Survives asked s (cut (flush self.old.state.value)) → CrashLeavesSurvivor asked s (D.state disk.old) (D.state disk.new) }
     {
         seals_and_flushes_keep_a_log();
+        logs_are_copies_and_blocks();
         self.write_out(disk)
     }
 
@@ -108,8 +118,11 @@ impl Log {
         ensures broken { OnErr result (IsBroken self.old self.new) }
         ensures quiet { sealing_writes self.old.state.value ≡ false → IsOk result × (disk.new ≡ disk.old) }
         ensures writes { WritesDisk (IsErr result) (D.state disk.old) (D.state disk.new) }
+        ensures moments { (asked : Request) (s : State) → Survives asked s (cut self.old.state.value)
+            → Survives asked s (cut (seal self.old.state.value)) → CrashLeavesSurvivor asked s (D.state disk.old) (D.state disk.new) }
     {
         seals_and_flushes_keep_a_log();
+        logs_are_copies_and_blocks();
         if self.queue.place().records == 0 {
             return Ok(());
         }
@@ -121,6 +134,31 @@ impl Log {
         Ok(())
     }
 
+    // Takes a file for the next container, where all is on the disk, and drops the containers below the hold's from the newest copy. In memory that
+    // alone changes.
+    fn take_container<D: Disk>(&mut self, disk: &mut D, room: Vec<u16>) -> Result<(), Failed>
+        requires intact { IsIntact (D.state disk.old) self.old }
+        requires may { MayTurnTo self.old.state.value }
+        requires empty { room.items ≡ [] }
+        requires capacity { most_containers ≤ vec_capacity room }
+        ensures takes { OnOk result (TakesContainer self.old.state.value self.new.physical.image) }
+        ensures stored { OnOk result (StoredAfter (D.state disk.old) (D.state disk.new) self.old.state.value (turned self.old.state.value) self.old.physical self.new.physical) }
+        ensures meanwhile { StoredMeanwhile (D.state disk.old) (D.state disk.new) self.old.state.value (turned self.old.state.value) self.old.physical }
+        ensures same { self.new ≡ record self.old { physical = self.new.physical } }
+        ensures settled { OnOk result (IsSettled (D.state disk.old) → IsSettled (D.state disk.new)) }
+        ensures time { Later (D.state disk.old) (D.state disk.new) }
+        ensures cause { OnErr result (Rises (D.state disk.old).faults (D.state disk.new).faults) }
+        ensures steady { IsSteady (D.state disk.old) → AreMade self.old.physical.image (D.state disk.old).files
+            → IsOk result × ((D.state disk.new).faults ≡ (D.state disk.old).faults) }
+    {
+        settings_leave_the_records();
+        low_containers_are_left_out();
+        further_containers_begin_empty();
+        let _newest = self.physical.image();
+        let first = self.hold().container();
+        self.physical.turn(disk, first, room)
+    }
+
     // Goes on in the next container, where all is on the disk: takes a file for it. After a fault the log is broken.
     fn turn<D: Disk>(&mut self, disk: &mut D, room: Vec<u16>) -> Result<(), Failed>
         requires intact { IsIntact (D.state disk.old) self.old }
@@ -128,19 +166,16 @@ impl Log {
         requires empty { room.items ≡ [] }
         requires capacity { most_containers ≤ vec_capacity room }
         ensures state { OnOk result (self.new.state.value ≡ turned self.old.state.value) }
-        ensures stored { OnOk result (StoredAfter (D.state disk.old) (D.state disk.new) self.old.state.value self.new.state.value self.old.physical self.new.physical) }
         ensures intact { OnOk result (IsIntact (D.state disk.new) self.new) }
         ensures room { OnOk result (KeepsRoom 0 self.old self.new) }
         ensures broken { OnErr result (IsBroken self.old self.new) }
         ensures writes { WritesDisk (IsErr result) (D.state disk.old) (D.state disk.new) }
+        ensures moments { (asked : Request) (s : State) → Survives asked s (cut self.old.state.value)
+            → Survives asked s (cut (turned self.old.state.value)) → CrashLeavesSurvivor asked s (D.state disk.old) (D.state disk.new) }
     {
-        settings_leave_the_records();
-        low_containers_are_left_out();
-        further_containers_begin_empty();
         ends_of_blocks_go_on();
-        let _newest = self.physical.image();
-        let first = self.hold().container();
-        if let Err(failed) = self.physical.turn(disk, first, room) {
+        logs_are_copies_and_blocks();
+        if let Err(failed) = self.take_container(disk, room) {
             self.broken = true;
             self.state = crate::flushing::broken(&self.state);
             return Err(failed);
@@ -161,6 +196,9 @@ impl Log {
         ensures room { OnOk result (KeepsRoom 1 self.old self.new) }
         ensures broken { OnErr result (self.new.broken ≡ true) }
         ensures writes { WritesDisk (IsErr result) (D.state disk.old) (D.state disk.new) }
+        ensures moments { (asked : Request) (s : State) → Survives asked s (cut self.old.state.value)
+            → Survives asked s (cut (flush self.old.state.value)) → Survives asked s (cut (turned (flush self.old.state.value)))
+            → CrashLeavesSurvivor asked s (D.state disk.old) (D.state disk.new) }
     {
         self.write_all(disk)?;
         self.turn(disk, room)
@@ -185,9 +223,12 @@ impl Log {
         ensures broken { OnErr result (self.new.broken ≡ true) }
         ensures quiet { making_ready_writes self.old.state.value len ≡ false → IsOk result × (disk.new ≡ disk.old) }
         ensures writes { WritesDisk (IsErr result) (D.state disk.old) (D.state disk.new) }
+        ensures moments { (asked : Request) (s : State) → ReadyingSurvives asked s self.old.state.value len
+            → CrashLeavesSurvivor asked s (D.state disk.old) (D.state disk.new) }
     {
         logs_are_made_ready();
         seals_and_flushes_keep_a_log();
+        logs_are_copies_and_blocks();
         match self.placing(len) {
             Placing::Joins => Ok(()),
             Placing::BeginsBlock => self.seal(disk),

@@ -1,7 +1,7 @@
 // The calls that read records. Each finds the head of its record in the tables first, or is refused by what these and the areas say. Then it
 // takes the memory that a new cursor wants, gets the record, and makes or moves the cursor: so a call that is refused, or for which memory is
 // wanting, leaves the log as it was.
-ghost use Rattle.std.specs.Prelude.{◌≡◌, ◌<◌, ℕ, length, Err, IfOk, IfErr, IsErrOf};
+ghost use Rattle.std.specs.Prelude.{◌≡◌, ◌<◌, ℕ, true, length, Err, IfOk, IfErr, IsErrOf};
 ghost use Rattle.clfs_lsn.specs.Head.{head_of};
 ghost use Rattle.clfs_lsn.specs.declared.entry.LogEntry.{LogEntry};
 ghost use Rattle.clfs_disk.specs.Files.{Unchanged};
@@ -11,10 +11,12 @@ ghost use Rattle.clfs_model.specs.declared.refusal.Refusal.TheVariants as refusa
 ghost use Rattle.clfs_model.specs.declared.reply.Reply.TheVariants as replies;
 ghost use Rattle.clfs_model.specs.Conditions.{IsClient};
 ghost use Rattle.clfs_model.specs.Flush.{flushed};
+ghost use Rattle.clfs_model.specs.Run.{asks};
 ghost use Rattle.clfs_model.specs.Reading.{unused_cursor, with_cursor, with_cursor_at};
 ghost use Rattle.clfs_model.specs.State.{change_area};
 ghost use Rattle.clfs_areas.specs.Table.{area_at};
 ghost use Rattle.clfs_manager.specs.Calls.{Steps};
+ghost use Rattle.clfs_manager.specs.Crashes.{CrashSurvives};
 ghost use Rattle.clfs_manager.specs.Memory.{IsSound};
 ghost use Rattle.clfs_manager.specs.OnDisk.{IsOpen};
 ghost use Rattle.clfs_manager.specs.Fetching.{IsNeeded, IsNeededHead, IsReadAs, LeavesState, IsLeft, OnlyReads};
@@ -233,7 +235,10 @@ impl<D: Disk> Manager<D> {
         ensures cause { IsErrOf result refusals.DiskFault → Rises (D.state self.old.1).faults (D.state self.new.1).faults }
         ensures steady { IsSteady (D.state self.old.1) → (IsErrOf result refusals.DiskFault → ⊥)
             × ((D.state self.new.1).faults ≡ (D.state self.old.1).faults) }
+        ensures moments { CrashSurvives (asks client (calls.Read area lsn mode)) self.old.0 (D.state self.old.1) (D.state self.new.1) }
+        ensures stopped { self.old.0.broken ≡ true → self.new.1 ≡ self.old.1 }
     {
+        self.stored();
         ways_of_a_step();
         if self.log.broken {
             return Err(Refusal::Broken);
@@ -265,7 +270,10 @@ impl<D: Disk> Manager<D> {
         ensures cause { IsErrOf result refusals.DiskFault → Rises (D.state self.old.1).faults (D.state self.new.1).faults }
         ensures steady { IsSteady (D.state self.old.1) → (IsErrOf result refusals.DiskFault → ⊥)
             × ((D.state self.new.1).faults ≡ (D.state self.old.1).faults) }
+        ensures moments { CrashSurvives (asks client (calls.ReadNext area cursor)) self.old.0 (D.state self.old.1) (D.state self.new.1) }
+        ensures stopped { self.old.0.broken ≡ true → self.new.1 ≡ self.old.1 }
     {
+        self.stored();
         ways_of_a_step();
         if self.log.broken {
             return Err(Refusal::Broken);
@@ -297,7 +305,10 @@ impl<D: Disk> Manager<D> {
         ensures cause { IsErrOf result refusals.DiskFault → Rises (D.state self.old.1).faults (D.state self.new.1).faults }
         ensures steady { IsSteady (D.state self.old.1) → (IsErrOf result refusals.DiskFault → ⊥)
             × ((D.state self.new.1).faults ≡ (D.state self.old.1).faults) }
+        ensures moments { CrashSurvives (asks client (calls.ReadRestart area)) self.old.0 (D.state self.old.1) (D.state self.new.1) }
+        ensures stopped { self.old.0.broken ≡ true → self.new.1 ≡ self.old.1 }
     {
+        self.stored();
         ways_of_a_step();
         if self.log.broken {
             return Err(Refusal::Broken);
@@ -334,7 +345,10 @@ impl<D: Disk> Manager<D> {
         ensures cause { IsErrOf result refusals.DiskFault → Rises (D.state self.old.1).faults (D.state self.new.1).faults }
         ensures steady { IsSteady (D.state self.old.1) → (IsErrOf result refusals.DiskFault → ⊥)
             × ((D.state self.new.1).faults ≡ (D.state self.old.1).faults) }
+        ensures moments { CrashSurvives (asks client (calls.PreviousRestart area cursor)) self.old.0 (D.state self.old.1) (D.state self.new.1) }
+        ensures stopped { self.old.0.broken ≡ true → self.new.1 ≡ self.old.1 }
     {
+        self.stored();
         ways_of_a_step();
         if self.log.broken {
             return Err(Refusal::Broken);

@@ -1,16 +1,18 @@
 // Reading the files of a log: what opening makes of them, for a log that is loaded and for one that is opened anew. What isn't flushed is thrown away
 // then, and so are all areas and their cursors; nothing is written.
-ghost use Rattle.std.specs.Prelude.{◌≡◌, ◌≤◌, false, true, Err, IfOk, IfErr, IsErrOf};
+ghost use Rattle.std.specs.Prelude.{◌≡◌, ◌≤◌, ℕ, false, true, Err, IfOk, IfErr, IsErrOf};
 ghost use Rattle.clfs_disk.specs.Files.{Unchanged};
 ghost use Rattle.clfs_disk.specs.State.{TellsContents, IsSteady, Passes, Rises};
 ghost use Rattle.clfs_lsn.specs.Limits.{most_write_buffers};
 ghost use Rattle.clfs_model.specs.declared.reply.Reply.TheVariants as replies;
 ghost use Rattle.clfs_model.specs.Flush.{cut};
 ghost use Rattle.clfs_model.specs.Happened.{happened_of};
+ghost use Rattle.clfs_model.specs.Run.{reopens};
 ghost use Rattle.clfs_model.specs.Step.{ReopenStep};
 ghost use Rattle.clfs_recover.specs.Files.{StandsFor};
 ghost use Rattle.clfs_recover.specs.Opening.{IsRefused};
 ghost use Rattle.clfs_manager.specs.Calls.{replied};
+ghost use Rattle.clfs_manager.specs.Crashes.{CrashSurvives};
 ghost use Rattle.clfs_manager.specs.Fetching.{LeavesState, OnlyReads};
 ghost use Rattle.clfs_manager.specs.OnDisk.{IsManaged};
 ghost use Rattle.clfs_manager.specs.Reopening.{refused_as};
@@ -115,7 +117,10 @@ impl<D: Disk> Manager<D> {
         // No file changes. Damage is told only over a disk that doesn't tell what its files hold; a fault only where the disk failed in the call, and
         // never over a steady disk.
         ensures reads { OnlyReads result (D.state self.old.1) (D.state self.new.1) }
+        ensures moments { (client : ℕ) → CrashSurvives (reopens client) self.old.0 (D.state self.old.1) (D.state self.new.1) }
+        ensures stopped { self.old.0.broken ≡ true → self.new.1 ≡ self.old.1 }
     {
+        self.stored();
         files_have_one_meaning();
         logs_are_copies_and_blocks();
         the_holds_container_never_falls();

@@ -1,15 +1,17 @@
 // Reserving: sectors that an area holds for records to come, so that these are never refused for room. What areas hold is in memory alone; the disk is
 // called only where the log grows for it.
-ghost use Rattle.std.specs.Prelude.{◌≡◌, ◌<◌, Bool, false, length, IsErrOf};
+ghost use Rattle.std.specs.Prelude.{◌≡◌, ◌<◌, Bool, true, false, length, IsErrOf};
 ghost use Rattle.clfs_areas.specs.Table.{area_at};
 ghost use Rattle.clfs_model.specs.declared.call.Call.TheVariants as calls;
 ghost use Rattle.clfs_model.specs.declared.reply.Reply.TheVariants as replies;
 ghost use Rattle.clfs_model.specs.Conditions.{IsClient};
 ghost use Rattle.clfs_model.specs.Put.{hold_sizes, with_more_held};
+ghost use Rattle.clfs_model.specs.Run.{asks};
 ghost use Rattle.clfs_model.specs.State.{change_area};
 ghost use Rattle.clfs_model.specs.Step.{calls_disk};
 ghost use Rattle.clfs_model.specs.Valid.{IsValid};
 ghost use Rattle.clfs_manager.specs.Calls.{Steps};
+ghost use Rattle.clfs_manager.specs.Crashes.{CrashSurvives};
 ghost use Rattle.clfs_manager.specs.Memory.{ChangesAreas, IsSound};
 ghost use Rattle.clfs_manager.specs.Written.{WritesDisk};
 
@@ -18,11 +20,13 @@ use crate::log::Log;
 use crate::manager::Manager;
 use clfs_disk::Disk;
 use clfs_laws::{
-    refusals_are_the_calls_own, steps_keep_a_state_storable, steps_keep_a_state_valid,
+    refusals_are_the_calls_own, states_between_survive, steps_keep_a_state_storable,
+    steps_keep_a_state_valid,
 };
 use clfs_lsn::Sizes;
 use clfs_model::{Refusal, State, ways_of_a_step};
 use clfs_physical::PhysicalRefusal;
+use clfs_recover::logs_are_copies_and_blocks;
 use clfs_told::Told;
 
 // The state once a client's area holds so many sectors more.
@@ -62,12 +66,16 @@ impl<D: Disk> Manager<D> {
         requires client { IsClient client }
         ensures step { (told : Bool) → Steps told self.old.0 client (calls.Reserve area sizes.now) replies.Held result self.new.0 }
         ensures quiet { calls_disk self.old.0 (calls.Reserve area sizes.now) ≡ false → self.new.1 ≡ self.old.1 }
+        ensures stopped { self.old.0.broken ≡ true → self.new.1 ≡ self.old.1 }
         ensures writes { WritesDisk (IsErrOf result Refusal.DiskFault) (D.state self.old.1) (D.state self.new.1) }
+        ensures moments { CrashSurvives (asks client (calls.Reserve area sizes.now)) self.old.0 (D.state self.old.1) (D.state self.new.1) }
     {
         steps_keep_a_state_valid();
         steps_keep_a_state_storable();
         refusals_are_the_calls_own();
         ways_of_a_step();
+        states_between_survive();
+        logs_are_copies_and_blocks();
         if self.log.broken {
             return Err(Refusal::Broken);
         }

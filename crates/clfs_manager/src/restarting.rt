@@ -6,11 +6,14 @@ ghost use Rattle.clfs_lsn.specs.Limits.{most_containers};
 ghost use Rattle.clfs_lsn.specs.Lsn.{null_lsn};
 ghost use Rattle.clfs_lsn.specs.Place.{begins_here, joins};
 ghost use Rattle.clfs_model.specs.declared.call.Call.TheVariants as calls;
+ghost use Rattle.clfs_model.specs.declared.state.State.{State};
 ghost use Rattle.clfs_model.specs.declared.reply.Reply.TheVariants as replies;
 ghost use Rattle.clfs_model.specs.declared.state.Area.{Area};
 ghost use Rattle.clfs_model.specs.Answers.{rebased, restart_record};
 ghost use Rattle.clfs_model.specs.Conditions.{IsClient};
-ghost use Rattle.clfs_model.specs.Flush.{flush};
+ghost use Rattle.clfs_model.specs.Flush.{cut, flush};
+ghost use Rattle.clfs_model.specs.Run.{Request, asks};
+ghost use Rattle.clfs_model.specs.Survivors.{Survives};
 ghost use Rattle.clfs_model.specs.Live.{lsn_or_null};
 ghost use Rattle.clfs_model.specs.Put.{next_lsn, put, spend_if, spent_of};
 ghost use Rattle.clfs_model.specs.Reading.{newest_restart};
@@ -22,6 +25,7 @@ ghost use Rattle.clfs_areas.specs.Table.{area_at};
 ghost use Rattle.clfs_laws.specs.Between.{MayMove, TakesThrough};
 ghost use Rattle.clfs_tables.specs.Tables.{IsNumber, base_in};
 ghost use Rattle.clfs_manager.specs.Calls.{Steps};
+ghost use Rattle.clfs_manager.specs.Crashes.{CrashLeavesSurvivor, CrashSurvives, ReadyingSurvives};
 ghost use Rattle.clfs_manager.specs.Fetching.{IsLeft};
 ghost use Rattle.clfs_manager.specs.Flushing.{IsBroken};
 ghost use Rattle.clfs_manager.specs.Laid.{IsLaidLog};
@@ -40,13 +44,13 @@ use clfs_disk::{Disk, Failed};
 use clfs_laws::{
     calls_that_pass_find_room, growth_keeps_a_log_whole, logs_are_made_ready, records_are_put,
     refusals_are_the_calls_own, seals_and_flushes_keep_a_log, small_changes_make_the_calls,
-    steps_keep_a_state_storable, steps_keep_a_state_valid,
+    states_between_survive, steps_keep_a_state_storable, steps_keep_a_state_valid,
 };
 use clfs_lsn::{Bytes, Kind, Lsn};
 use clfs_model::{Refusal, State, ways_of_a_step};
 use clfs_queue::the_next_lsn_is_above_all;
 use clfs_record::Fields;
-use clfs_recover::groups_come_behind_the_last_block;
+use clfs_recover::{groups_come_behind_the_last_block, logs_are_copies_and_blocks};
 use clfs_tables::Tables;
 use clfs_told::Told;
 
@@ -101,9 +105,12 @@ impl Log {
         ensures intact { OnOk result (IsIntact (D.state disk.new) self.new) }
         ensures broken { OnErr result (IsBroken self.old self.new) }
         ensures writes { WritesDisk (IsErr result) (D.state disk.old) (D.state disk.new) }
+        ensures moments { (asked : Request) (s : State) → Survives asked s (cut self.old.state.value)
+            → Survives asked s (cut (rebased stream base (flush self.old.state.value))) → CrashLeavesSurvivor asked s (D.state disk.old) (D.state disk.new) }
     {
         seals_and_flushes_keep_a_log();
         groups_come_behind_the_last_block();
+        logs_are_copies_and_blocks();
         let _newest = self.physical.image();
         self.write_group(disk)?;
         move_base(&mut self.tables, stream, base);
@@ -129,6 +136,8 @@ impl Log {
         ensures intact { OnOk result (IsIntact (D.state disk.new) self.new) }
         ensures broken { OnErr result (IsBroken self.old self.new) }
         ensures writes { WritesDisk (IsErr result) (D.state disk.old) (D.state disk.new) }
+        ensures moments { (asked : Request) (s : State) → Survives asked s (cut self.old.state.value)
+            → Survives asked s (cut (rebased stream base (flush self.old.state.value))) → CrashLeavesSurvivor asked s (D.state disk.old) (D.state disk.new) }
     {
         self.store_restart(disk, stream, base)?;
         self.forget_low();
@@ -166,6 +175,11 @@ impl Log {
         ensures intact { OnOk result (IsIntact (D.state disk.new) self.new) }
         ensures broken { OnErr result (self.new.broken ≡ true) }
         ensures writes { WritesDisk (IsErr result) (D.state disk.old) (D.state disk.new) }
+        ensures moments { let area = area_at place self.old.areas.areas in
+            let u = spend_if reserved area (length bytes.now) self.old.state.value in
+            let joined = put u (unplaced fields.now bytes.now) in (asked : Request) (s : State)
+            → ReadyingSurvives asked s u (length bytes.now) → Survives asked s (cut joined)
+            → Survives asked s (cut (rebased fields.now.stream fields.now.new_base (flush joined))) → CrashLeavesSurvivor asked s (D.state disk.old) (D.state disk.new) }
     {
         records_are_put();
         logs_are_made_ready();
@@ -217,6 +231,7 @@ impl Log {
             → Steps told self.old.state.value client (calls.WriteRestart area bytes.now base reserved) replies.Placed result self.new.state.value }
         ensures left { IsLeft (D.state disk.new) self.new }
         ensures writes { WritesDisk (IsErrOf result Refusal.DiskFault) (D.state disk.old) (D.state disk.new) }
+        ensures moments { CrashLeavesSurvivor (asks client (calls.WriteRestart area bytes.now base reserved)) self.old.state.value (D.state disk.old) (D.state disk.new) }
     {
         refusals_are_the_calls_own();
         ways_of_a_step();
@@ -224,6 +239,8 @@ impl Log {
         calls_that_pass_find_room();
         logs_are_made_ready();
         small_changes_make_the_calls();
+        states_between_survive();
+        logs_are_copies_and_blocks();
         let data = bytes.as_slice();
         let len = data.len() as u32;
         let place = self.area_to_restart(client, area, data, base, reserved)?;
@@ -261,6 +278,8 @@ impl<D: Disk> Manager<D> {
         ensures step { (told : Bool)
             → Steps told self.old.0 client (calls.WriteRestart area bytes.now base reserved) replies.Placed result self.new.0 }
         ensures writes { WritesDisk (IsErrOf result Refusal.DiskFault) (D.state self.old.1) (D.state self.new.1) }
+        ensures moments { CrashSurvives (asks client (calls.WriteRestart area bytes.now base reserved)) self.old.0 (D.state self.old.1) (D.state self.new.1) }
+        ensures stopped { self.old.0.broken ≡ true → self.new.1 ≡ self.old.1 }
     {
         ways_of_a_step();
         if self.log.broken {

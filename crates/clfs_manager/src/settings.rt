@@ -5,9 +5,11 @@ ghost use Rattle.clfs_disk.specs.State.{IsSettled, IsSteady, Later, Rises};
 ghost use Rattle.clfs_model.specs.declared.call.Call.TheVariants as calls;
 ghost use Rattle.clfs_model.specs.declared.reply.Reply.TheVariants as replies;
 ghost use Rattle.clfs_model.specs.Policies.{is_installed, policy_refusal, with_policy, without_policy};
+ghost use Rattle.clfs_model.specs.Run.{asks};
 ghost use Rattle.clfs_physical.specs.Stored.{AreMade};
 ghost use Rattle.clfs_manager.specs.Calls.{Steps};
 ghost use Rattle.clfs_policy.specs.Ranges.{AreAllowed};
+ghost use Rattle.clfs_manager.specs.Crashes.{CrashSurvives, StoredMeanwhile};
 ghost use Rattle.clfs_manager.specs.Flushing.{IsBroken, StoredAfter};
 ghost use Rattle.clfs_manager.specs.Memory.{Holds, IsSound};
 ghost use Rattle.clfs_manager.specs.Settings.{KeepsTables, change_to, with_policies};
@@ -17,12 +19,14 @@ use crate::flushing::broken;
 use crate::log::Log;
 use crate::manager::Manager;
 use clfs_disk::{Disk, Failed};
-use clfs_laws::{steps_keep_a_state_storable, steps_keep_a_state_valid};
+use clfs_laws::{states_between_survive, steps_keep_a_state_storable, steps_keep_a_state_valid};
 use clfs_lsn::{Policy, PolicyKind};
 use clfs_model::{Refusal, State, ways_of_a_step};
 use clfs_physical::Change;
 use clfs_policy::Policies;
-use clfs_recover::{low_containers_are_left_out, settings_leave_the_records};
+use clfs_recover::{
+    logs_are_copies_and_blocks, low_containers_are_left_out, settings_leave_the_records,
+};
 use clfs_told::Told;
 
 // The state with these policies.
@@ -84,6 +88,7 @@ impl Log {
         ensures holds { OnOk result (Holds self.new.state.value self.new) }
         ensures same { OnOk result (KeepsTables self.old self.new) }
         ensures stored { OnOk result (StoredAfter (D.state disk.old) (D.state disk.new) self.old.state.value self.new.state.value self.old.physical self.new.physical) }
+        ensures meanwhile { StoredMeanwhile (D.state disk.old) (D.state disk.new) self.old.state.value (with_policies policies self.old.state.value) self.old.physical }
         ensures broken { OnErr result (IsBroken self.old self.new) }
         ensures settled { OnOk result (IsSettled (D.state disk.old) → IsSettled (D.state disk.new)) }
         ensures time { Later (D.state disk.old) (D.state disk.new) }
@@ -111,11 +116,15 @@ impl<D: Disk> Manager<D> {
     /// told.
     pub fn install_policy(&mut self, policy: Policy) -> Result<(), Refusal>
         ensures step { (told : Bool) (client : ℕ) → Steps told self.old.0 client (calls.InstallPolicy policy) (λ _. replies.Done) result self.new.0 }
+        ensures stopped { self.old.0.broken ≡ true → self.new.1 ≡ self.old.1 }
         ensures writes { WritesDisk (IsErrOf result Refusal.DiskFault) (D.state self.old.1) (D.state self.new.1) }
+        ensures moments { (client : ℕ) → CrashSurvives (asks client (calls.InstallPolicy policy)) self.old.0 (D.state self.old.1) (D.state self.new.1) }
     {
         steps_keep_a_state_valid();
         steps_keep_a_state_storable();
         ways_of_a_step();
+        states_between_survive();
+        logs_are_copies_and_blocks();
         if self.log.broken {
             return Err(Refusal::Broken);
         }
@@ -132,11 +141,15 @@ impl<D: Disk> Manager<D> {
     /// Takes the policy of a kind away, on the disk too. Refused where there is none.
     pub fn remove_policy(&mut self, kind: PolicyKind) -> Result<(), Refusal>
         ensures step { (told : Bool) (client : ℕ) → Steps told self.old.0 client (calls.RemovePolicy kind) (λ _. replies.Done) result self.new.0 }
+        ensures stopped { self.old.0.broken ≡ true → self.new.1 ≡ self.old.1 }
         ensures writes { WritesDisk (IsErrOf result Refusal.DiskFault) (D.state self.old.1) (D.state self.new.1) }
+        ensures moments { (client : ℕ) → CrashSurvives (asks client (calls.RemovePolicy kind)) self.old.0 (D.state self.old.1) (D.state self.new.1) }
     {
         steps_keep_a_state_valid();
         steps_keep_a_state_storable();
         ways_of_a_step();
+        states_between_survive();
+        logs_are_copies_and_blocks();
         if self.log.broken {
             return Err(Refusal::Broken);
         }

@@ -1,13 +1,18 @@
 // The size of the log, in containers: what a client asks for, and growth for a call that needs sectors. Files that aren't there are made and synced, and
 // then the base copy that follows the newest one counts them, with the containers from the hold's on: so a crash leaves the old size or the new one.
 // Making files takes memory; where it fails, and where the size stays, the log is as before.
-ghost use Rattle.std.specs.Prelude.{◌≡◌, ◌<◌, ◌^◌, ℕ, Bool, false, IsOk, IsErrOf, OnOk};
+ghost use Rattle.std.specs.Prelude.{◌≡◌, ◌<◌, ◌^◌, ℕ, Bool, true, false, IsOk, IsErrOf, OnOk};
 ghost use Rattle.clfs_model.specs.declared.call.Call.TheVariants as calls;
 ghost use Rattle.clfs_model.specs.declared.reply.Reply.TheVariants as replies;
+ghost use Rattle.clfs_model.specs.declared.state.State.{State};
+ghost use Rattle.clfs_model.specs.Flush.{cut};
+ghost use Rattle.clfs_model.specs.Run.{Request, asks};
 ghost use Rattle.clfs_model.specs.Space.{grown, with_containers};
+ghost use Rattle.clfs_model.specs.Survivors.{Survives};
 ghost use Rattle.clfs_model.specs.Step.{calls_disk, grows};
 ghost use Rattle.clfs_model.specs.Valid.{IsValid};
 ghost use Rattle.clfs_manager.specs.Calls.{Steps};
+ghost use Rattle.clfs_manager.specs.Crashes.{CrashLeavesSurvivor, CrashSurvives};
 ghost use Rattle.clfs_manager.specs.Flushing.{IsBroken};
 ghost use Rattle.clfs_manager.specs.Sizes.{ChangesSize};
 ghost use Rattle.clfs_manager.specs.Written.{IsIntact, WritesDisk};
@@ -17,11 +22,14 @@ use crate::log::Log;
 use crate::manager::Manager;
 use clfs_disk::Disk;
 use clfs_laws::{
-    refusals_are_the_calls_own, steps_keep_a_state_storable, steps_keep_a_state_valid,
+    refusals_are_the_calls_own, states_between_survive, steps_keep_a_state_storable,
+    steps_keep_a_state_valid,
 };
 use clfs_model::{Refusal, State, ways_of_a_step};
 use clfs_physical::PhysicalRefusal;
-use clfs_recover::{low_containers_are_left_out, settings_leave_the_records};
+use clfs_recover::{
+    logs_are_copies_and_blocks, low_containers_are_left_out, settings_leave_the_records,
+};
 use clfs_told::Told;
 
 // The state with so many containers.
@@ -45,9 +53,12 @@ impl Log {
         ensures no_memory { IsErrOf result PhysicalRefusal.NoMemory → self.new ≡ self.old }
         ensures kept { IsErrOf result PhysicalRefusal.NoMemory → IsIntact (D.state disk.new) self.new }
         ensures writes { WritesDisk (IsErrOf result PhysicalRefusal.DiskFault) (D.state disk.old) (D.state disk.new) }
+        ensures moments { (asked : Request) (s : State) → Survives asked s (cut self.old.state.value)
+            → Survives asked s (cut (with_containers containers self.old.state.value)) → CrashLeavesSurvivor asked s (D.state disk.old) (D.state disk.new) }
     {
         settings_leave_the_records();
         low_containers_are_left_out();
+        logs_are_copies_and_blocks();
         let _newest = self.physical.image();
         let first = self.hold().container();
         match self.physical.set_containers(disk, first, containers as u16) {
@@ -76,9 +87,12 @@ impl Log {
         ensures kept { IsErrOf result PhysicalRefusal.NoMemory → IsIntact (D.state disk.new) self.new }
         ensures quiet { grows self.old.state.value need ≡ false → IsOk result × ((self.new ≡ self.old) × (disk.new ≡ disk.old)) }
         ensures writes { WritesDisk (IsErrOf result PhysicalRefusal.DiskFault) (D.state disk.old) (D.state disk.new) }
+        ensures moments { (asked : Request) (s : State) → Survives asked s (cut self.old.state.value)
+            → Survives asked s (cut (grown self.old.state.value need)) → CrashLeavesSurvivor asked s (D.state disk.old) (D.state disk.new) }
     {
         steps_keep_a_state_valid();
         ways_of_a_step();
+        logs_are_copies_and_blocks();
         let room = self.room_for(need);
         if room.containers == self.containers() {
             return Ok(());
@@ -95,12 +109,16 @@ impl<D: Disk> Manager<D> {
     pub fn set_size(&mut self, containers: u32) -> Result<u32, Refusal>
         ensures step { (told : Bool) (client : ℕ) → Steps told self.old.0 client (calls.SetSize containers) replies.Containers result self.new.0 }
         ensures quiet { calls_disk self.old.0 (calls.SetSize containers) ≡ false → self.new.1 ≡ self.old.1 }
+        ensures stopped { self.old.0.broken ≡ true → self.new.1 ≡ self.old.1 }
         ensures writes { WritesDisk (IsErrOf result Refusal.DiskFault) (D.state self.old.1) (D.state self.new.1) }
+        ensures moments { (client : ℕ) → CrashSurvives (asks client (calls.SetSize containers)) self.old.0 (D.state self.old.1) (D.state self.new.1) }
     {
         steps_keep_a_state_valid();
         steps_keep_a_state_storable();
         refusals_are_the_calls_own();
         ways_of_a_step();
+        states_between_survive();
+        logs_are_copies_and_blocks();
         if self.log.broken {
             return Err(Refusal::Broken);
         }

@@ -1,11 +1,13 @@
 // One call by name, as a script or another thread asks for it: it is made by the manager's call of that name, and its answer is given as a reply.
-ghost use Rattle.std.specs.Prelude.{◌≡◌, false};
+ghost use Rattle.std.specs.Prelude.{◌≡◌, false, true};
 ghost use Rattle.clfs_disk.specs.State.{TellsContents};
 ghost use Rattle.clfs_model.specs.declared.refusal.Refusal.TheVariants as refusals;
 ghost use Rattle.clfs_model.specs.declared.reply.Reply.TheVariants as replies;
 ghost use Rattle.clfs_model.specs.Conditions.{MeetsCondition};
 ghost use Rattle.clfs_model.specs.Happened.{happened_of};
+ghost use Rattle.clfs_model.specs.Run.{asks};
 ghost use Rattle.clfs_model.specs.Step.{Step, IsDamaged, calls_disk};
+ghost use Rattle.clfs_manager.specs.Crashes.{CrashSurvives};
 ghost use Rattle.clfs_manager.specs.Written.{WritesDisk};
 
 use crate::manager::Manager;
@@ -33,7 +35,12 @@ impl<D: Disk> Manager<D> {
         // steady disk whose files are at full length, as which they stay.
         ensures damage { TellsContents (D.state self.old.1) → IsDamaged result → ⊥ }
         ensures writes { WritesDisk (result ≡ replies.Refused refusals.DiskFault) (D.state self.old.1) (D.state self.new.1) }
+
+        // Whatever the answer, a crash at any moment of the call leaves files that open to a survivor of it. A broken log makes no call on the disk.
+        ensures moments { CrashSurvives (asks client call.now) self.old.0 (D.state self.old.1) (D.state self.new.1) }
+        ensures stopped { self.old.0.broken ≡ true → self.new.1 ≡ self.old.1 }
     {
+        self.stored();
         match call {
             Call::OpenStream { name } => stream_reply(self.open_stream(client, name)),
             Call::CreateArea {

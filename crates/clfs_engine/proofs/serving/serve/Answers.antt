@@ -1,5 +1,5 @@
-use Rattle.clfs_engine.specs.Answered.{AnswersLines}
-use Rattle.clfs_engine.proofs.Loaded.{is_answered}
+use Rattle.clfs_engine.specs.Answered.{AnswersLines, AnswersInPart}
+use Rattle.clfs_engine.proofs.Loaded.{IsLoaded, IsKeptOn, is_answered, is_answered_in_part}
 use Rattle.clfs_engine.proofs.ServingEnds.{answering_serves, refusal_serves}
 use Rattle.clfs_engine.proofs.serving.serve.Goals as goal
 
@@ -11,9 +11,7 @@ returns-in-Ok g c =
     let s = c.in-Ok.manager.0 in
     let t = c.served-status.new.manager.0 in
     let load = c.in-Ok.ensures in
-    rw c.close.ensures (answering_serves (AnswersLines s mid t new) c.served-status.result c.args.write_buffers old new _ _ _ _ _ _ _ _
-    (is_answered c.args.write_buffers old mid new s t
-    (record {
+    let loaded : IsLoaded c.args.write_buffers old mid s = record {
       stands = load.loaded;
       buffers_are = load.buffers;
       valid = load.valid;
@@ -21,8 +19,11 @@ returns-in-Ok g c =
       stable = load.stable;
       same = load.same.0;
       time = load.same.1;
-    })
-    (record { files = c.stored.ensures.files; settled = c.stored.ensures.settled }))
+      left = c.stored.ensures.survives_nothing 0;
+    } in
+    let kept : IsKeptOn t new = record { files = c.stored-in-Ok.ensures.files; settled = c.stored-in-Ok.ensures.settled } in
+    rw c.close.ensures (answering_serves (AnswersLines s mid t new) (AnswersInPart s mid t new) c.served-status.result c.args.write_buffers old new _ _ _ _ _ _ _ _
+    (is_answered c.args.write_buffers old mid new s t loaded kept) (is_answered_in_part c.args.write_buffers old mid new s t loaded kept)
     c.served-status.ensures)
 
 pub returns-in-Err : goal.returns-in-Err

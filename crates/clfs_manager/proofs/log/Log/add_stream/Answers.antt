@@ -1,9 +1,7 @@
-use Rattle.std.proofs.Common.{◌≡◌, ℕ, ◌+◌, ◌-◌, ◌%◌, ◌≤◌, refl, sym, ap, subst, ◌∙◌, List, [], ◌∷◌, ◌++◌, map, length, arith, Err}
+use Rattle.std.proofs.Common.{◌≡◌, ℕ, ◌+◌, ◌-◌, refl, sym, ap, subst, ◌∙◌, List, [], ◌∷◌, ◌++◌, length, arith, Err}
 use Rattle.std.specs.Prelude.{None}
 use Rattle.std.proofs.lemmas.List.{length-append, length-drop}
 use Rattle.clfs_lsn.specs.Lsn.{null_lsn, container_of}
-use Rattle.clfs_base.specs.Layout.{version_one}
-use Rattle.clfs_base.specs.Spelling.{IsImage}
 use Rattle.clfs_base.specs.Writing.{older_of}
 use Rattle.clfs_base.specs.declared.image.BaseImage.{BaseImage}
 use Rattle.clfs_base.specs.declared.image.Row.{Row}
@@ -19,16 +17,16 @@ use Rattle.clfs_physical.specs.Stored.{Newest}
 use Rattle.clfs_physical.specs.declared.change.Change.TheVariants as changes
 use Rattle.clfs_physical.specs.declared.refusal.PhysicalRefusal.{PhysicalRefusal}
 use Rattle.clfs_recover.specs.Files.{streams_with}
-use Rattle.clfs_recover.specs.Logs.{from_container, stored_state}
 use Rattle.clfs_recover.specs.Walk.{bases_with, shape_of}
 use Rattle.clfs_manager.specs.Flushing.{StoredAfter}
 use Rattle.clfs_manager.specs.Memory.{Holds}
-use Rattle.clfs_manager.specs.OnDisk.{IsStored, AreKept}
+use Rattle.clfs_manager.specs.OnDisk.{AreKept}
 use Rattle.clfs_manager.specs.Streams.{with_stream}
 use Rattle.clfs_manager.specs.Written.{IsIntact, WritesDisk}
 use Rattle.clfs_manager.specs.declared.log.Log.{Log}
-use Rattle.clfs_manager.proofs.AddedStream.{added, intact_reserved, is_name, kept_added, low_image, no_row, open_allowed, stream_stored}
-use Rattle.clfs_manager.proofs.CopiedLog.{copy_stored, hold_kept, stored_among}
+use Rattle.clfs_manager.proofs.AddedStream.{intact_reserved, is_name, kept_added, no_row, open_allowed}
+use Rattle.clfs_manager.proofs.CopiedMeanwhile.{crash_copied, stream_copied}
+use Rattle.clfs_manager.proofs.Crashes.{crash_still}
 use Rattle.clfs_manager.proofs.Intact.{intact_done, writes_failed, writes_fine, writes_nothing}
 use Rattle.clfs_manager.proofs.Numbers.{hold_within}
 use Rattle.clfs_manager.proofs.log.Log.add_stream.Goals as goal
@@ -135,30 +133,12 @@ module _ (g : Over) (c : goal.After-self-2-1 g) where
 
   stored_then : StoredAfter (g.D.Disk.state c.args.disk.now) (g.D.Disk.state c.add_stream.new.disk) s t c.args.self.now.physical c.add_stream.new.self
   stored_then = λ blocks stored.
-      let sound = c.requires.intact.sound in
-      let holds = sound.holds in
-      let slot = older_of old.physical.slot in
-      let turn = (image.turn + 1) % 3 in
-      let first = c.container-first.result in
-      let is_image = c.image-newest.ensures.image in
-      let kept = hold_kept s stored.entries sound.valid (stored_among s image.first stored.entries stored.records) in
-      let under : first ≤ container_of (hold (stored_state image (map blocks image.files) stored.entries s.buffers)) =
-      omega (arith, first_is, kept, ap (λ (u : State). container_of (hold u)) stored.state) in
-      let low : image.first ≤ first = omega (arith, holds.needed, first_is) in
-      let held = c.low_containers_are_left_out.ensures.held image blocks stored.entries s.buffers first is_image stored.log under in
-      let dropped : IsStored s (record { slot = slot; image = from_container first image }) blocks =
-      copy_stored s slot image blocks stored.entries first stored.state stored.records low first_is
-      (c.low_containers_are_left_out.ensures.log image blocks stored.entries first is_image low held.0 held.1 stored.log)
-      (c.low_containers_are_left_out.ensures.same image blocks stored.entries s.buffers first is_image stored.log low under) in
-      let lower = from_container first image in
-      let next : IsImage version_one (with_row new_row (next_copy first changes.Listing image)) =
-      subst (λ (n : Newest). IsImage version_one n.image) newest_is c.image-added.ensures.image in
-      let lower_is = low_image image new_row first is_image next in
-      let is : IsStored t (record { slot = slot; image = added c.args.name.now turn lower }) blocks =
-      stream_stored s slot lower blocks c.args.name.now turn dropped (omega (arith, first_is, c.requires.held))
-      (c.streams_come_last.ensures.log lower (map blocks lower.files) dropped.entries new_row (omega arith) dropped.log)
-      (c.streams_come_last.ensures.state lower (map blocks lower.files) dropped.entries s.buffers new_row lower_is dropped.log) in
-      (blocks, (rw newest_is is, λ tells whole stores. c.in-Ok.ensures.written tells whole blocks stores))
+      let low = c.low_containers_are_left_out.ensures in
+      let last = c.streams_come_last.ensures in
+      let is = stream_copied (record { log = low.log; held = low.held; same = low.same }) (record { log = last.log; state = last.state }) s c.args.name.now
+      c.in_ok-row.row c.container-first.result c.args.self.now.physical blocks c.requires.intact.sound.valid c.requires.held c.image-newest.ensures.image
+      c.in_ok-row.ensures (c.container-first.ensures.value ∙ ap container_of c.hold.ensures.value) stored in
+      (blocks, (rw c.in-Ok.ensures.now is, λ tells whole stores. c.in-Ok.ensures.written tells whole blocks stores))
 
 pub returns-clause-intact : goal.returns-clause-intact
 returns-clause-intact g c =
@@ -186,3 +166,60 @@ returns-clause-writes g c =
     writes_fine _ (g.D.Disk.state c.args.disk.now) (g.D.Disk.state c.add_stream.new.disk) old.state.value (with_stream c.args.name.now old.state.value) old
     (record old { tables = c.add_stream-2.new.self; physical = c.add_stream.new.self; state = c.with_stream-self.result }) (λ f. cc f) c.requires.intact.opened
     (stored_then g c) c.add_stream.ensures.time (λ calm made. (c.add_stream.ensures.steady calm made).1)
+
+pub returns-in_err-reserve_stream-clause-moments : goal.returns-in_err-reserve_stream-clause-moments
+returns-in_err-reserve_stream-clause-moments g c = λ asked s before added. crash_still c.logs_are_copies_and_blocks.ensures.stands c.logs_are_copies_and_blocks.ensures.by_file
+    (g.D.Disk.state c.args.disk.now) c.args.self.now c.requires.intact asked s before
+
+pub returns-in_err-own-clause-moments : goal.returns-in_err-own-clause-moments
+returns-in_err-own-clause-moments g c = λ asked s before added. crash_still c.logs_are_copies_and_blocks.ensures.stands c.logs_are_copies_and_blocks.ensures.by_file
+    (g.D.Disk.state c.args.disk.now) c.args.self.now c.requires.intact asked s before
+
+pub returns-in_err-row-clause-moments : goal.returns-in_err-row-clause-moments
+returns-in_err-row-clause-moments g c = λ asked s before added. crash_still c.logs_are_copies_and_blocks.ensures.stands c.logs_are_copies_and_blocks.ensures.by_file
+    (g.D.Disk.state c.args.disk.now) c.args.self.now c.requires.intact asked s before
+
+pub returns-in-Err-NoMemory-clause-moments : goal.returns-in-Err-NoMemory-clause-moments
+returns-in-Err-NoMemory-clause-moments g c =
+    let old = c.args.self.now in
+    let s : State = old.state.value in
+    let low = c.low_containers_are_left_out.ensures in
+    let last = c.streams_come_last.ensures in
+    crash_copied c.logs_are_copies_and_blocks.ensures.stands c.logs_are_copies_and_blocks.ensures.by_file (g.D.Disk.state c.args.disk.now)
+    (g.D.Disk.state c.add_stream.new.disk) (with_stream c.args.name.now s)
+    (record { slot = older_of old.physical.slot; image = with_row c.in_ok-row.row (next_copy c.container-first.result changes.Listing old.physical.image) })
+    old c.requires.intact c.requires.valid
+    (λ blocks stored. stream_copied (record { log = low.log; held = low.held; same = low.same }) (record { log = last.log; state = last.state }) s c.args.name.now
+    c.in_ok-row.row c.container-first.result c.args.self.now.physical blocks c.requires.intact.sound.valid c.requires.held c.image-newest.ensures.image
+    c.in_ok-row.ensures (c.container-first.ensures.value ∙ ap container_of c.hold.ensures.value) stored)
+    c.add_stream.ensures.moments
+
+pub returns-in-Err-DiskFault-clause-moments : goal.returns-in-Err-DiskFault-clause-moments
+returns-in-Err-DiskFault-clause-moments g c =
+    let old = c.args.self.now in
+    let s : State = old.state.value in
+    let low = c.low_containers_are_left_out.ensures in
+    let last = c.streams_come_last.ensures in
+    crash_copied c.logs_are_copies_and_blocks.ensures.stands c.logs_are_copies_and_blocks.ensures.by_file (g.D.Disk.state c.args.disk.now)
+    (g.D.Disk.state c.add_stream.new.disk) (with_stream c.args.name.now s)
+    (record { slot = older_of old.physical.slot; image = with_row c.in_ok-row.row (next_copy c.container-first.result changes.Listing old.physical.image) })
+    old c.requires.intact c.requires.valid
+    (λ blocks stored. stream_copied (record { log = low.log; held = low.held; same = low.same }) (record { log = last.log; state = last.state }) s c.args.name.now
+    c.in_ok-row.row c.container-first.result c.args.self.now.physical blocks c.requires.intact.sound.valid c.requires.held c.image-newest.ensures.image
+    c.in_ok-row.ensures (c.container-first.ensures.value ∙ ap container_of c.hold.ensures.value) stored)
+    c.add_stream.ensures.moments
+
+pub returns-clause-moments : goal.returns-clause-moments
+returns-clause-moments g c =
+    let old = c.args.self.now in
+    let s : State = old.state.value in
+    let low = c.low_containers_are_left_out.ensures in
+    let last = c.streams_come_last.ensures in
+    crash_copied c.logs_are_copies_and_blocks.ensures.stands c.logs_are_copies_and_blocks.ensures.by_file (g.D.Disk.state c.args.disk.now)
+    (g.D.Disk.state c.add_stream.new.disk) (with_stream c.args.name.now s)
+    (record { slot = older_of old.physical.slot; image = with_row c.in_ok-row.row (next_copy c.container-first.result changes.Listing old.physical.image) })
+    old c.requires.intact c.requires.valid
+    (λ blocks stored. stream_copied (record { log = low.log; held = low.held; same = low.same }) (record { log = last.log; state = last.state }) s c.args.name.now
+    c.in_ok-row.row c.container-first.result c.args.self.now.physical blocks c.requires.intact.sound.valid c.requires.held c.image-newest.ensures.image
+    c.in_ok-row.ensures (c.container-first.ensures.value ∙ ap container_of c.hold.ensures.value) stored)
+    c.add_stream.ensures.moments

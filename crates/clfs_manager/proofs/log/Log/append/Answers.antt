@@ -1,3 +1,9 @@
+use Rattle.clfs_model.specs.Flush.{cut}
+use Rattle.clfs_model.specs.Run.{Request, asks}
+use Rattle.clfs_model.specs.Survivors.{Survives}
+use Rattle.clfs_manager.specs.Crashes.{ReadyingSurvives}
+use Rattle.clfs_manager.proofs.Crashes.{crash_still, crash_then, survives_as}
+use Rattle.clfs_manager.proofs.Stages.{while_appended}
 use Rattle.std.proofs.Common.{◌≡◌, ◌≤◌, ℕ, true, false, refl, sym, ap, subst, ◌∙◌, List, length}
 use Rattle.std.specs.Prelude.{Err, IsErr, IsErrOf, IsOk, Result}
 use Rattle.clfs_areas.specs.Table.{AreaTable, area_at}
@@ -306,3 +312,94 @@ returns-in-Err-clause-writes g c =
     (g.D.Disk.state c.append_grown.new.disk) (λ fault. let wrong = subst (λ r. IsErrOf r refusals.DiskFault) c.in_ok-room.was fault in cc wrong)
     c.prepare.ensures.writes
     (writes_as (IsErr c.append_grown.result) _ _ _ (λ _. refl) (λ _. subst (λ r. IsErr r) (sym c.in-Err.is) refl) c.append_grown.ensures.writes)
+
+pub returns-in_err-place-clause-moments : goal.returns-in_err-place-clause-moments
+returns-in_err-place-clause-moments g c =
+    let s : State = c.args.self.now.state.value in
+    let call = calls.Append c.args.area c.args.draft.now c.args.reserved c.args.sizes.now in
+    crash_still c.logs_are_copies_and_blocks.ensures.stands c.logs_are_copies_and_blocks.ensures.by_file (g.D.Disk.state c.args.disk.now) c.args.self.now
+    c.requires.intact (asks c.args.client call) s (c.states_between_survive.ensures.before s c.args.client call c.requires.intact.sound.valid)
+
+pub returns-in_err-room-clause-moments : goal.returns-in_err-room-clause-moments
+returns-in_err-room-clause-moments g c =
+    let old = c.args.self.now in
+    let s : State = old.state.value in
+    let place = c.in_ok-place.place in
+    let area : Area = area_at place old.areas.areas in
+    let draft = c.args.draft.now in
+    let sizes = c.args.sizes.now in
+    let n = length draft.bytes in
+    let need : ℕ = need_of c.args.reserved n sizes in
+    let sound = c.requires.intact.sound in
+    let need_is : c.need_of.result ≡ need = c.need_of.ensures.value ∙ ap (λ (k : ℕ). need_of c.args.reserved k c.as_slice.result.now) c.len-len.ensures
+    ∙ ap (λ (lengths : List ℕ). need_of c.args.reserved n lengths) c.as_slice.ensures.value in
+    let request : Request = asks c.args.client (calls.Append c.args.area draft c.args.reserved sizes) in
+    let while = while_appended (λ (u : State). Survives request s (cut u)) s area draft c.args.reserved sizes
+    (c.states_between_survive.ensures.append s c.args.client c.args.area area draft c.args.reserved sizes sound.valid sound.storable sound.whole
+    c.in_ok-place.ensures.allowed c.in_ok-place.ensures.there) in
+    let prepared = c.prepare.ensures.moments request s while.before (survives_as request s (grown s c.need_of.result) (grown s need) (ap (grown s) need_is) while.grown_is) in
+    prepared
+
+pub returns-in-Ok-clause-moments : goal.returns-in-Ok-clause-moments
+returns-in-Ok-clause-moments g c =
+    let old = c.args.self.now in
+    let s : State = old.state.value in
+    let place = c.in_ok-place.place in
+    let area : Area = area_at place old.areas.areas in
+    let draft = c.args.draft.now in
+    let sizes = c.args.sizes.now in
+    let n = length draft.bytes in
+    let need : ℕ = need_of c.args.reserved n sizes in
+    let sound = c.requires.intact.sound in
+    let need_is : c.need_of.result ≡ need = c.need_of.ensures.value ∙ ap (λ (k : ℕ). need_of c.args.reserved k c.as_slice.result.now) c.len-len.ensures
+    ∙ ap (λ (lengths : List ℕ). need_of c.args.reserved n lengths) c.as_slice.ensures.value in
+    let request : Request = asks c.args.client (calls.Append c.args.area draft c.args.reserved sizes) in
+    let while = while_appended (λ (u : State). Survives request s (cut u)) s area draft c.args.reserved sizes
+    (c.states_between_survive.ensures.append s c.args.client c.args.area area draft c.args.reserved sizes sound.valid sound.storable sound.whole
+    c.in_ok-place.ensures.allowed c.in_ok-place.ensures.there) in
+    let prepared = c.prepare.ensures.moments request s while.before (survives_as request s (grown s c.need_of.result) (grown s need) (ap (grown s) need_is) while.grown_is) in
+    let state : c.prepare.new.self.state.value ≡ grown s need = c.in_ok-room.ensures.state ∙ ap (grown s) need_is in
+    let spent : AreaTable → State → State = λ t v. spend_if c.args.reserved (area_at place t.areas) n v in
+    let held : AreaTable → State → State = λ t v. hold_sizes (area_at place t.areas) sizes (put (spent t v) (plain_record (area_at place t.areas) draft)) in
+    let all : AreaTable → State → Type 0 = λ t v. ReadyingSurvives request s (spent t v) n × (Survives request s (cut (held t v))
+    × (Survives request s (cut (seal_if draft.seal (held t v))) × Survives request s (cut (flush_if draft.flush (seal_if draft.seal (held t v)))))) in
+    let is : all c.prepare.new.self.areas c.prepare.new.self.state.value = subst (λ (t : AreaTable). all t c.prepare.new.self.state.value) (sym c.in_ok-room.ensures.areas)
+    (subst (λ (v : State). all old.areas v) (sym state) (
+      record { before = while.readied_is.before; flushed = while.readied_is.flushed; ready = while.readied_is.ready },
+      (while.held, (while.sealed, while.flushed)),
+    )) in
+    crash_then (IsErrOf c.prepare.result refusals.DiskFault) request s (g.D.Disk.state c.args.disk.now) (g.D.Disk.state c.prepare.new.disk) (g.D.Disk.state c.append_grown.new.disk)
+    (λ fault. let wrong = subst (λ r. IsErrOf r refusals.DiskFault) c.in_ok-room.was fault in cc wrong) c.prepare.ensures.writes prepared
+    (c.append_grown.ensures.moments request s is.0 is.1.0 is.1.1.0 is.1.1.1)
+
+pub returns-in-Err-clause-moments : goal.returns-in-Err-clause-moments
+returns-in-Err-clause-moments g c =
+    let old = c.args.self.now in
+    let s : State = old.state.value in
+    let place = c.in_ok-place.place in
+    let area : Area = area_at place old.areas.areas in
+    let draft = c.args.draft.now in
+    let sizes = c.args.sizes.now in
+    let n = length draft.bytes in
+    let need : ℕ = need_of c.args.reserved n sizes in
+    let sound = c.requires.intact.sound in
+    let need_is : c.need_of.result ≡ need = c.need_of.ensures.value ∙ ap (λ (k : ℕ). need_of c.args.reserved k c.as_slice.result.now) c.len-len.ensures
+    ∙ ap (λ (lengths : List ℕ). need_of c.args.reserved n lengths) c.as_slice.ensures.value in
+    let request : Request = asks c.args.client (calls.Append c.args.area draft c.args.reserved sizes) in
+    let while = while_appended (λ (u : State). Survives request s (cut u)) s area draft c.args.reserved sizes
+    (c.states_between_survive.ensures.append s c.args.client c.args.area area draft c.args.reserved sizes sound.valid sound.storable sound.whole
+    c.in_ok-place.ensures.allowed c.in_ok-place.ensures.there) in
+    let prepared = c.prepare.ensures.moments request s while.before (survives_as request s (grown s c.need_of.result) (grown s need) (ap (grown s) need_is) while.grown_is) in
+    let state : c.prepare.new.self.state.value ≡ grown s need = c.in_ok-room.ensures.state ∙ ap (grown s) need_is in
+    let spent : AreaTable → State → State = λ t v. spend_if c.args.reserved (area_at place t.areas) n v in
+    let held : AreaTable → State → State = λ t v. hold_sizes (area_at place t.areas) sizes (put (spent t v) (plain_record (area_at place t.areas) draft)) in
+    let all : AreaTable → State → Type 0 = λ t v. ReadyingSurvives request s (spent t v) n × (Survives request s (cut (held t v))
+    × (Survives request s (cut (seal_if draft.seal (held t v))) × Survives request s (cut (flush_if draft.flush (seal_if draft.seal (held t v)))))) in
+    let is : all c.prepare.new.self.areas c.prepare.new.self.state.value = subst (λ (t : AreaTable). all t c.prepare.new.self.state.value) (sym c.in_ok-room.ensures.areas)
+    (subst (λ (v : State). all old.areas v) (sym state) (
+      record { before = while.readied_is.before; flushed = while.readied_is.flushed; ready = while.readied_is.ready },
+      (while.held, (while.sealed, while.flushed)),
+    )) in
+    crash_then (IsErrOf c.prepare.result refusals.DiskFault) request s (g.D.Disk.state c.args.disk.now) (g.D.Disk.state c.prepare.new.disk) (g.D.Disk.state c.append_grown.new.disk)
+    (λ fault. let wrong = subst (λ r. IsErrOf r refusals.DiskFault) c.in_ok-room.was fault in cc wrong) c.prepare.ensures.writes prepared
+    (c.append_grown.ensures.moments request s is.0 is.1.0 is.1.1.0 is.1.1.1)

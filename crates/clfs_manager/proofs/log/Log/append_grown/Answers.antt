@@ -1,3 +1,6 @@
+use Rattle.clfs_model.specs.Flush.{cut}
+use Rattle.clfs_model.specs.Survivors.{Survives}
+use Rattle.clfs_manager.proofs.Crashes.{crash_after}
 use Rattle.std.proofs.Common.{◌≡◌, false, refl, sym, ap, subst, ◌∙◌, length}
 use Rattle.std.specs.Prelude.{IsErr, IsOk}
 use Rattle.clfs_areas.specs.Table.{area_at}
@@ -84,3 +87,40 @@ returns-clause-writes g c =
     writes_after c.put_draft.result _ _ (g.D.Disk.state c.args.disk.now) (g.D.Disk.state c.put_draft.new.disk) (g.D.Disk.state c.finish.new.disk)
     c.in_ok-lsn.was c.put_draft.ensures.writes
     (writes_as (IsErr c.finish.result) _ _ _ (λ fault. subst (λ r. IsErr r) c.in_ok-finish.was fault) (λ fault. absurd (cc fault)) c.finish.ensures.writes)
+
+pub returns-in_err-finish-clause-moments : goal.returns-in_err-finish-clause-moments
+returns-in_err-finish-clause-moments g c = λ asked s ready held sealed flushed.
+    let area : Area = area_at c.args.place c.args.self.now.areas.areas in
+    let here : Area = area_at c.args.place c.put_draft.new.self.areas.areas in
+    let sizes = c.args.sizes.now in
+    let draft = c.args.draft.now in
+    let u : State = spend_if c.args.reserved area (length draft.bytes) c.args.self.now.state.value in
+    let same : c.hold_sizes.new.self.state.value ≡ hold_sizes area sizes (put u (plain_record area draft)) =
+    c.hold_sizes.ensures.state
+    ∙ hold_named here area sizes c.put_draft.new.self.state.value c.in_ok-lsn.ensures.client c.in_ok-lsn.ensures.number
+    ∙ ap (λ (t : State). hold_sizes area sizes t) c.in_ok-lsn.ensures.state in
+    crash_after c.put_draft.result _ asked s (g.D.Disk.state c.args.disk.now) (g.D.Disk.state c.put_draft.new.disk) (g.D.Disk.state c.finish.new.disk)
+    c.in_ok-lsn.was c.put_draft.ensures.writes (c.put_draft.ensures.moments asked s ready)
+    (c.finish.ensures.moments asked s (subst (λ (t : State). Survives asked s (cut t)) (sym same) held)
+    (subst (λ (t : State). Survives asked s (cut (seal_if draft.seal t))) (sym same) sealed)
+    (subst (λ (t : State). Survives asked s (cut (flush_if draft.flush (seal_if draft.seal t)))) (sym same) flushed))
+
+pub returns-in_err-lsn-clause-moments : goal.returns-in_err-lsn-clause-moments
+returns-in_err-lsn-clause-moments g c = λ asked s ready held sealed flushed. c.put_draft.ensures.moments asked s ready
+
+pub returns-clause-moments : goal.returns-clause-moments
+returns-clause-moments g c = λ asked s ready held sealed flushed.
+    let area : Area = area_at c.args.place c.args.self.now.areas.areas in
+    let here : Area = area_at c.args.place c.put_draft.new.self.areas.areas in
+    let sizes = c.args.sizes.now in
+    let draft = c.args.draft.now in
+    let u : State = spend_if c.args.reserved area (length draft.bytes) c.args.self.now.state.value in
+    let same : c.hold_sizes.new.self.state.value ≡ hold_sizes area sizes (put u (plain_record area draft)) =
+    c.hold_sizes.ensures.state
+    ∙ hold_named here area sizes c.put_draft.new.self.state.value c.in_ok-lsn.ensures.client c.in_ok-lsn.ensures.number
+    ∙ ap (λ (t : State). hold_sizes area sizes t) c.in_ok-lsn.ensures.state in
+    crash_after c.put_draft.result _ asked s (g.D.Disk.state c.args.disk.now) (g.D.Disk.state c.put_draft.new.disk) (g.D.Disk.state c.finish.new.disk)
+    c.in_ok-lsn.was c.put_draft.ensures.writes (c.put_draft.ensures.moments asked s ready)
+    (c.finish.ensures.moments asked s (subst (λ (t : State). Survives asked s (cut t)) (sym same) held)
+    (subst (λ (t : State). Survives asked s (cut (seal_if draft.seal t))) (sym same) sealed)
+    (subst (λ (t : State). Survives asked s (cut (flush_if draft.flush (seal_if draft.seal t)))) (sym same) flushed))

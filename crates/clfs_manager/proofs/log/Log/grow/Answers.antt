@@ -3,7 +3,8 @@ use Rattle.clfs_model.specs.declared.call.Call.TheVariants as calls
 use Rattle.clfs_model.specs.declared.reply.Happened.TheVariants.{Fine}
 use Rattle.clfs_model.specs.declared.reply.Reply.TheVariants as replies
 use Rattle.clfs_model.specs.declared.state.State.{State}
-use Rattle.clfs_model.specs.Space.{with_containers}
+use Rattle.clfs_model.specs.Space.{grown, with_containers}
+use Rattle.clfs_manager.proofs.Crashes.{crash_still, survives_as}
 use Rattle.clfs_manager.proofs.Reserved.{grown_is_sized, size_allowed}
 use Rattle.clfs_manager.proofs.log.Log.grow.Goals as goal
 
@@ -28,3 +29,15 @@ returns-clause-state g c =
     let s : State = c.args.self.now.state.value in
     subst (λ (t : State). OnOk c.resize.result (c.resize.new.self.state.value ≡ t))
     (grown_is_sized s c.args.need c.room_for-room.result.containers c.room_for-room.ensures.containers) c.resize.ensures.state
+
+pub returns-then-room-containers-clause-moments : goal.returns-then-room-containers-clause-moments
+returns-then-room-containers-clause-moments g c = λ asked s before larger.
+    crash_still c.logs_are_copies_and_blocks.ensures.stands c.logs_are_copies_and_blocks.ensures.by_file (g.D.Disk.state c.args.disk.now) c.args.self.now
+    c.requires.intact asked s before
+
+pub returns-clause-moments : goal.returns-clause-moments
+returns-clause-moments g c = λ asked s before larger.
+    let t : State = c.args.self.now.state.value in
+    let n = c.room_for-room.result.containers in
+    c.resize.ensures.moments asked s before
+    (survives_as asked s (with_containers n t) (grown t c.args.need) (grown_is_sized t c.args.need n c.room_for-room.ensures.containers) larger)

@@ -1,3 +1,4 @@
+use Rattle.clfs_manager.proofs.Crashes.{crash_still, survives_as}
 use Rattle.std.proofs.Common.{◌≡◌, ℕ, length, refl, sym, subst, ◌∙◌, false}
 use Rattle.clfs_laws.specs.Between.{readied, turned}
 use Rattle.clfs_lsn.specs.Place.{joins, begins_here}
@@ -70,3 +71,21 @@ returns-in-BeginsContainer-clause-quiet g c = λ quiet.
     let s : State = c.args.self.now.state.value in
     let turns = it_turns s.shape s.place c.args.len (sym c.placing.ensures ∙ c.in-BeginsContainer.is) in
     absurd (let wrong = rw (turns.0, turns.1) at quiet in cc wrong)
+
+pub returns-in-Joins-clause-moments : goal.returns-in-Joins-clause-moments
+returns-in-Joins-clause-moments g c = λ asked s is. crash_still c.logs_are_copies_and_blocks.ensures.stands c.logs_are_copies_and_blocks.ensures.by_file
+    (g.D.Disk.state c.args.disk.now) c.args.self.now c.requires.intact asked s is.before
+
+pub returns-in-BeginsBlock-clause-moments : goal.returns-in-BeginsBlock-clause-moments
+returns-in-BeginsBlock-clause-moments g c = λ asked t is.
+    let s : State = c.args.self.now.state.value in
+    let begin = it_begins s.shape s.place c.args.len (sym c.placing.ensures ∙ c.in-BeginsBlock.is) in
+    let same : seal s ≡ readied s c.args.len = rw (begin.0, begin.1) refl in
+    c.seal.ensures.moments asked t is.before (survives_as asked t (seal s) (readied s c.args.len) same is.ready)
+
+pub returns-in-BeginsContainer-clause-moments : goal.returns-in-BeginsContainer-clause-moments
+returns-in-BeginsContainer-clause-moments g c = λ asked t is.
+    let s : State = c.args.self.now.state.value in
+    let turns = it_turns s.shape s.place c.args.len (sym c.placing.ensures ∙ c.in-BeginsContainer.is) in
+    let same : turned (flush s) ≡ readied s c.args.len = rw (turns.0, turns.1) refl in
+    c.begin_container.ensures.moments asked t is.before (is.flushed turns.0 turns.1) (survives_as asked t (turned (flush s)) (readied s c.args.len) same is.ready)

@@ -1,3 +1,6 @@
+use Rattle.std.proofs.Common.{ap}
+use Rattle.clfs_model.specs.Space.{grown}
+use Rattle.clfs_manager.proofs.Crashes.{crash_still, survives_as}
 use Rattle.std.proofs.Common.{refl, ap}
 use Rattle.std.specs.Prelude.{IsErrOf}
 use Rattle.clfs_model.specs.declared.state.State.{State}
@@ -25,3 +28,25 @@ returns-clause-left g c =
 
 pub returns-clause-writes : goal.returns-clause-writes
 returns-clause-writes g c = writes_as (IsErrOf c.grow.result physical.DiskFault) _ _ _ (λ f. refl) (λ f. cc) c.grow.ensures.writes
+
+pub returns-in_err-room-clause-moments : goal.returns-in_err-room-clause-moments
+returns-in_err-room-clause-moments g c = λ asked s before grows. crash_still c.logs_are_copies_and_blocks.ensures.stands c.logs_are_copies_and_blocks.ensures.by_file
+    (g.D.Disk.state c.args.disk.now) c.args.self.now c.requires.intact asked s before
+
+pub returns-in-Ok-clause-moments : goal.returns-in-Ok-clause-moments
+returns-in-Ok-clause-moments g c = λ asked s before grows.
+    let same = ap (λ t. t.value) c.take_memory.ensures.same.state in
+    c.grow.ensures.moments asked s (survives_as asked s _ c.args.self.now.state.value same before)
+    (survives_as asked s _ (grown c.args.self.now.state.value c.args.need) (ap (λ t. grown t c.args.need) same) grows)
+
+pub returns-in-Err-NoMemory-clause-moments : goal.returns-in-Err-NoMemory-clause-moments
+returns-in-Err-NoMemory-clause-moments g c = λ asked s before grows.
+    let same = ap (λ t. t.value) c.take_memory.ensures.same.state in
+    c.grow.ensures.moments asked s (survives_as asked s _ c.args.self.now.state.value same before)
+    (survives_as asked s _ (grown c.args.self.now.state.value c.args.need) (ap (λ t. grown t c.args.need) same) grows)
+
+pub returns-clause-moments : goal.returns-clause-moments
+returns-clause-moments g c = λ asked s before grows.
+    let same = ap (λ t. t.value) c.take_memory.ensures.same.state in
+    c.grow.ensures.moments asked s (survives_as asked s _ c.args.self.now.state.value same before)
+    (survives_as asked s _ (grown c.args.self.now.state.value c.args.need) (ap (λ t. grown t c.args.need) same) grows)

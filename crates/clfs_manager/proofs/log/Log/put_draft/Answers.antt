@@ -1,3 +1,4 @@
+use Rattle.clfs_manager.specs.Crashes.{ReadyingSurvives}
 use Rattle.std.proofs.Common.{◌≡◌, ◌<◌, ℕ, refl, sym, ap, subst, ◌∙◌, List, length, false}
 use Rattle.clfs_areas.specs.Table.{AreaTable, area_at}
 use Rattle.clfs_lsn.specs.declared.entry.LogEntry.{LogEntry}
@@ -75,3 +76,12 @@ returns-clause-quiet g c = λ quiet.
     let spent : c.spend.new.self.state.value ≡ spend_if c.args.reserved area n s = c.spend.ensures.state ∙ ap (λ (k : ℕ). spend_if c.args.reserved area k s) c.len.ensures in
     c.put_record.ensures.quiet (subst (λ (u : State). making_ready_writes u (length c.as_slice.result.now) ≡ false) (sym spent)
     (subst (λ (bytes : List ℕ). making_ready_writes (spend_if c.args.reserved area n s) (length bytes) ≡ false) (sym c.as_slice.ensures) quiet))
+
+pub returns-clause-moments : goal.returns-clause-moments
+returns-clause-moments g c = λ asked t ready.
+    let s : State = c.args.self.now.state.value in
+    let area : Area = area_at c.args.place c.args.self.now.areas.areas in
+    let n = length c.args.draft.now.bytes in
+    let spent : c.spend.new.self.state.value ≡ spend_if c.args.reserved area n s = c.spend.ensures.state ∙ ap (λ (k : ℕ). spend_if c.args.reserved area k s) c.len.ensures in
+    c.put_record.ensures.moments asked t (subst (λ (u : State). ReadyingSurvives asked t u (length c.as_slice.result.now)) (sym spent)
+    (subst (λ (bytes : List ℕ). ReadyingSurvives asked t (spend_if c.args.reserved area n s) (length bytes)) (sym c.as_slice.ensures) ready))

@@ -1,4 +1,4 @@
-use Rattle.std.proofs.Common.{◌≡◌, true, false, ◌+◌, ◌%◌, ◌≤◌, max, refl, sym, ap, subst, ◌∙◌, map, arith}
+use Rattle.std.proofs.Common.{◌≡◌, true, false, refl, sym, ap, subst, ◌∙◌, arith}
 use Rattle.clfs_lsn.specs.Lsn.{container_of}
 use Rattle.clfs_base.specs.Writing.{older_of}
 use Rattle.clfs_model.specs.declared.state.State.{State}
@@ -7,13 +7,11 @@ use Rattle.clfs_model.specs.Space.{with_containers}
 use Rattle.clfs_physical.specs.Changes.{with_containers as counting, next_copy}
 use Rattle.clfs_physical.specs.Stored.{Newest}
 use Rattle.clfs_physical.specs.declared.change.Change.TheVariants as changes
-use Rattle.clfs_recover.specs.Logs.{from_container, stored_state}
-use Rattle.clfs_manager.specs.OnDisk.{IsStored}
 use Rattle.clfs_manager.specs.Written.{IsIntact}
-use Rattle.clfs_manager.proofs.CopiedLog.{copy_stored, hold_kept, stored_among}
+use Rattle.clfs_manager.proofs.CopiedMeanwhile.{crash_copied, size_copied}
 use Rattle.clfs_manager.proofs.Intact.{intact_done}
 use Rattle.clfs_manager.proofs.Numbers.{hold_within}
-use Rattle.clfs_manager.proofs.Sized.{holds_sized, intact_grown, kept_sized, sized_stored, writes_sized}
+use Rattle.clfs_manager.proofs.Sized.{holds_sized, intact_grown, kept_sized, writes_sized}
 use Rattle.clfs_manager.proofs.StillStorable.{storable_sized}
 use Rattle.clfs_manager.proofs.log.Log.resize.Goals as goal
 
@@ -47,11 +45,9 @@ returns-in-Ok-clause-intact g c =
     let holds = sound.holds in
     let image = old.physical.image in
     let slot = older_of old.physical.slot in
-    let turn = (image.turn + 1) % 3 in
     let first = c.container-first.result in
     let is_first : first ≡ container_of (hold s) = c.container-first.ensures.value ∙ ap container_of c.hold.ensures.value in
     let newest : c.set_containers.new.self ≡ record { slot = slot; image = counting n (next_copy first changes.Listing image) } = c.in-Ok.ensures.now in
-    let is_image = c.image-newest.ensures.image in
     intact_done (g.D.Disk.state c.args.disk.now) (g.D.Disk.state c.set_containers.new.disk) old _ t intact c.requires.valid (storable_sized s n sound.storable) (record {
       state = c.with_containers-self.ensures;
       unbroken = refl;
@@ -59,21 +55,12 @@ returns-in-Ok-clause-intact g c =
       holds = holds_sized old _ slot first n sound.valid holds c.with_containers-self.ensures newest is_first
           (record { tables = refl; areas = refl; archive = refl; policies = refl; queue = refl; buffers = refl; broken = refl });
       stored = λ blocks stored.
-          let kept = hold_kept s stored.entries sound.valid (stored_among s image.first stored.entries stored.records) in
-          let under : first ≤ container_of (hold (stored_state image (map blocks image.files) stored.entries s.buffers)) =
-          omega (arith, is_first, kept, ap (λ (u : State). container_of (hold u)) stored.state) in
-          let low : image.first ≤ first = omega (arith, holds.needed, is_first) in
-          let held = c.low_containers_are_left_out.ensures.held image blocks stored.entries s.buffers first is_image stored.log under in
-          let dropped : IsStored s (record { slot = slot; image = from_container first image }) blocks =
-          copy_stored s slot image blocks stored.entries first stored.state stored.records low is_first
-          (c.low_containers_are_left_out.ensures.log image blocks stored.entries first is_image low held.0 held.1 stored.log)
-          (c.low_containers_are_left_out.ensures.same image blocks stored.entries s.buffers first is_image stored.log low under) in
-          let lower = from_container first image in
-          let is = sized_stored s slot lower blocks n turn dropped
-          (c.settings_leave_the_records.ensures.log lower (map blocks lower.files) dropped.entries turn n (max lower.files_made n)
-          lower.maximum lower.minimum lower.growth lower.automatic dropped.log)
-          (c.settings_leave_the_records.ensures.state lower (map blocks lower.files) dropped.entries s.buffers turn n (max lower.files_made n)
-          lower.maximum lower.minimum lower.growth lower.automatic) in
+          let low = c.low_containers_are_left_out.ensures in
+          let settings = c.settings_leave_the_records.ensures in
+          let is = size_copied (record { log = low.log; held = low.held; same = low.same })
+          (record { log = settings.log; state = settings.state; archived = settings.archived; archive = settings.archive }) s n c.container-first.result
+          old.physical blocks c.requires.intact.sound.valid c.image-newest.ensures.image
+          (c.container-first.ensures.value ∙ ap container_of c.hold.ensures.value) stored in
           (blocks, (rw (c.with_containers-self.ensures, newest) is, λ tells whole stores. c.in-Ok.ensures.written tells whole blocks stores));
       kept = λ kept. rw c.with_containers-self.ensures (kept_sized s n old.buffers kept);
       settled = c.in-Ok.ensures.settled (λ wrong. cc);
@@ -105,3 +92,54 @@ returns-in-Err-NoMemory-clause-writes g c =
     let done = rw c.in-Err-NoMemory.field-0-is at c.in-Err-NoMemory.ensures in
     writes_sized _ (g.D.Disk.state c.args.disk.now) (g.D.Disk.state c.set_containers.new.disk) c.args.self.now c.args.self.now.physical
     c.requires.intact.opened done.time done.cause (λ none tells blocks stores. done.kept refl true blocks stores) done.steady
+
+pub returns-in-Ok-clause-moments : goal.returns-in-Ok-clause-moments
+returns-in-Ok-clause-moments g c =
+    let old = c.args.self.now in
+    let s : State = old.state.value in
+    let n = c.args.containers in
+    let low = c.low_containers_are_left_out.ensures in
+    let settings = c.settings_leave_the_records.ensures in
+    crash_copied c.logs_are_copies_and_blocks.ensures.stands c.logs_are_copies_and_blocks.ensures.by_file (g.D.Disk.state c.args.disk.now)
+    (g.D.Disk.state c.set_containers.new.disk) (with_containers n s)
+    (record { slot = older_of old.physical.slot; image = counting n (next_copy c.container-first.result changes.Listing old.physical.image) })
+    old c.requires.intact c.requires.valid
+    (λ blocks stored. size_copied (record { log = low.log; held = low.held; same = low.same })
+    (record { log = settings.log; state = settings.state; archived = settings.archived; archive = settings.archive }) s n c.container-first.result
+    old.physical blocks c.requires.intact.sound.valid c.image-newest.ensures.image
+    (c.container-first.ensures.value ∙ ap container_of c.hold.ensures.value) stored)
+    c.set_containers.ensures.moments
+
+pub returns-in-Err-DiskFault-clause-moments : goal.returns-in-Err-DiskFault-clause-moments
+returns-in-Err-DiskFault-clause-moments g c =
+    let old = c.args.self.now in
+    let s : State = old.state.value in
+    let n = c.args.containers in
+    let low = c.low_containers_are_left_out.ensures in
+    let settings = c.settings_leave_the_records.ensures in
+    crash_copied c.logs_are_copies_and_blocks.ensures.stands c.logs_are_copies_and_blocks.ensures.by_file (g.D.Disk.state c.args.disk.now)
+    (g.D.Disk.state c.set_containers.new.disk) (with_containers n s)
+    (record { slot = older_of old.physical.slot; image = counting n (next_copy c.container-first.result changes.Listing old.physical.image) })
+    old c.requires.intact c.requires.valid
+    (λ blocks stored. size_copied (record { log = low.log; held = low.held; same = low.same })
+    (record { log = settings.log; state = settings.state; archived = settings.archived; archive = settings.archive }) s n c.container-first.result
+    old.physical blocks c.requires.intact.sound.valid c.image-newest.ensures.image
+    (c.container-first.ensures.value ∙ ap container_of c.hold.ensures.value) stored)
+    c.set_containers.ensures.moments
+
+pub returns-in-Err-NoMemory-clause-moments : goal.returns-in-Err-NoMemory-clause-moments
+returns-in-Err-NoMemory-clause-moments g c =
+    let old = c.args.self.now in
+    let s : State = old.state.value in
+    let n = c.args.containers in
+    let low = c.low_containers_are_left_out.ensures in
+    let settings = c.settings_leave_the_records.ensures in
+    crash_copied c.logs_are_copies_and_blocks.ensures.stands c.logs_are_copies_and_blocks.ensures.by_file (g.D.Disk.state c.args.disk.now)
+    (g.D.Disk.state c.set_containers.new.disk) (with_containers n s)
+    (record { slot = older_of old.physical.slot; image = counting n (next_copy c.container-first.result changes.Listing old.physical.image) })
+    old c.requires.intact c.requires.valid
+    (λ blocks stored. size_copied (record { log = low.log; held = low.held; same = low.same })
+    (record { log = settings.log; state = settings.state; archived = settings.archived; archive = settings.archive }) s n c.container-first.result
+    old.physical blocks c.requires.intact.sound.valid c.image-newest.ensures.image
+    (c.container-first.ensures.value ∙ ap container_of c.hold.ensures.value) stored)
+    c.set_containers.ensures.moments

@@ -1,3 +1,7 @@
+use Rattle.clfs_model.specs.Flush.{cut}
+use Rattle.clfs_model.specs.Survivors.{Survives}
+use Rattle.clfs_manager.specs.Crashes.{ReadyingSurvives}
+use Rattle.clfs_manager.proofs.Crashes.{crash_after}
 use Rattle.std.proofs.Common.{refl, sym, ap, subst, ◌∙◌, length}
 use Rattle.std.specs.Prelude.{IsErr}
 use Rattle.clfs_areas.specs.Table.{area_at}
@@ -80,3 +84,27 @@ returns-clause-writes g c =
     (λ fault. let wrong = subst (λ r. IsErr r) c.in_ok-lsn.was fault in cc wrong) c.put_record.ensures.writes
     (writes_as (IsErr c.finish_restart.result) _ _ _ (λ fault. subst (λ r. IsErr r) c.in_ok-finish_restart.was fault) (λ fault. absurd (cc fault))
     c.finish_restart.ensures.writes)
+
+pub returns-in_err-lsn-clause-moments : goal.returns-in_err-lsn-clause-moments
+returns-in_err-lsn-clause-moments g c = λ asked s ready joined based.
+    c.put_record.ensures.moments asked s (subst (λ (u : State). ReadyingSurvives asked s u (length c.args.bytes.now)) (sym c.spend.ensures.state) ready)
+
+pub returns-in_err-finish_restart-clause-moments : goal.returns-in_err-finish_restart-clause-moments
+returns-in_err-finish_restart-clause-moments g c = λ asked s ready joined based.
+    let e : LogEntry = unplaced c.args.fields.now c.args.bytes.now in
+    let at = c.in_ok-lsn.ensures.state ∙ ap (λ (v : State). put v e) c.spend.ensures.state in
+    crash_after c.put_record.result _ asked s (g.D.Disk.state c.args.disk.now) (g.D.Disk.state c.put_record.new.disk) (g.D.Disk.state c.finish_restart.new.disk)
+    c.in_ok-lsn.was c.put_record.ensures.writes
+    (c.put_record.ensures.moments asked s (subst (λ (u : State). ReadyingSurvives asked s u (length c.args.bytes.now)) (sym c.spend.ensures.state) ready))
+    (c.finish_restart.ensures.moments asked s (subst (λ (p : State). Survives asked s (cut p)) (sym at) joined)
+    (subst (λ (p : State). Survives asked s (cut (rebased c.args.fields.now.stream c.args.fields.now.new_base (flush p)))) (sym at) based))
+
+pub returns-clause-moments : goal.returns-clause-moments
+returns-clause-moments g c = λ asked s ready joined based.
+    let e : LogEntry = unplaced c.args.fields.now c.args.bytes.now in
+    let at = c.in_ok-lsn.ensures.state ∙ ap (λ (v : State). put v e) c.spend.ensures.state in
+    crash_after c.put_record.result _ asked s (g.D.Disk.state c.args.disk.now) (g.D.Disk.state c.put_record.new.disk) (g.D.Disk.state c.finish_restart.new.disk)
+    c.in_ok-lsn.was c.put_record.ensures.writes
+    (c.put_record.ensures.moments asked s (subst (λ (u : State). ReadyingSurvives asked s u (length c.args.bytes.now)) (sym c.spend.ensures.state) ready))
+    (c.finish_restart.ensures.moments asked s (subst (λ (p : State). Survives asked s (cut p)) (sym at) joined)
+    (subst (λ (p : State). Survives asked s (cut (rebased c.args.fields.now.stream c.args.fields.now.new_base (flush p)))) (sym at) based))

@@ -1,33 +1,29 @@
-use Rattle.std.proofs.Common.{◌≡◌, ℕ, ◌+◌, ◌-◌, ◌%◌, ◌≤◌, refl, sym, ap, subst, ◌∙◌, map, length, arith}
+use Rattle.std.proofs.Common.{◌≡◌, ℕ, ◌+◌, ◌-◌, refl, sym, ap, subst, ◌∙◌, length, arith}
 use Rattle.std.specs.Prelude.{IsOk}
 use Rattle.std.proofs.lemmas.List.{length-drop, length-set}
 use Rattle.clfs_lsn.specs.Lsn.{container_of}
-use Rattle.clfs_lsn.specs.Place.{frontier}
 use Rattle.clfs_archive.specs.Blocks.{AreSealed}
-use Rattle.clfs_base.specs.Layout.{version_one}
-use Rattle.clfs_base.specs.Spelling.{IsImage, row_in}
+use Rattle.clfs_base.specs.Spelling.{row_in}
 use Rattle.clfs_base.specs.Writing.{older_of}
 use Rattle.clfs_base.specs.declared.image.BaseImage.{BaseImage}
 use Rattle.clfs_model.specs.declared.state.State.{State}
-use Rattle.clfs_model.specs.Flush.{block_start, cut, flushed}
+use Rattle.clfs_model.specs.Flush.{block_start, flushed}
 use Rattle.clfs_model.specs.Heads.{heads_of}
 use Rattle.clfs_model.specs.Live.{hold}
-use Rattle.clfs_model.specs.State.{base_of, set_base}
+use Rattle.clfs_model.specs.State.{set_base}
 use Rattle.clfs_physical.specs.Changes.{next_copy}
-use Rattle.clfs_physical.specs.Stored.{Newest}
+use Rattle.clfs_physical.specs.Stored.{Newest, Blocks}
 use Rattle.clfs_physical.specs.declared.change.Change.TheVariants as changes
-use Rattle.clfs_recover.specs.Logs.{from_container, stored_state}
 use Rattle.clfs_recover.specs.Walk.{shape_of}
 use Rattle.clfs_manager.specs.Base.{with_base}
 use Rattle.clfs_manager.specs.Flushing.{StoredAfter}
 use Rattle.clfs_manager.specs.Memory.{Holds}
 use Rattle.clfs_manager.specs.OnDisk.{IsStored, AreKept}
 use Rattle.clfs_manager.specs.declared.log.Log.{Log}
-use Rattle.clfs_manager.proofs.ArchivedLog.{cut_ends}
-use Rattle.clfs_manager.proofs.CopiedLog.{copy_stored, hold_kept, stored_among}
+use Rattle.clfs_manager.proofs.CopiedMeanwhile.{base_copied, crash_copied}
 use Rattle.clfs_manager.proofs.Holds.{hold_is}
 use Rattle.clfs_manager.proofs.Intact.{intact_done, writes_failed, writes_fine}
-use Rattle.clfs_manager.proofs.MovedBase.{base_stored, kept_moved, length_set_base, moved, moved_below, moved_image}
+use Rattle.clfs_manager.proofs.MovedBase.{kept_moved, length_set_base, moved_below}
 use Rattle.clfs_manager.proofs.Numbers.{hold_within}
 use Rattle.clfs_manager.proofs.Reached.{number_there}
 use Rattle.clfs_manager.proofs.log.Log.store_base.Goals as goal
@@ -67,6 +63,29 @@ returns-in-Err-clause-writes g c =
     writes_failed _ (g.D.Disk.state c.args.disk.now) (g.D.Disk.state c.write_copy.new.disk) old.state.value old refl c.requires.intact.opened
     c.write_copy.ensures.time c.in-Err.ensures.cause
     (λ calm made. let fine = (c.write_copy.ensures.steady calm made).0 in let wrong = subst (λ r. IsOk r) c.in-Err.is fine in cc wrong)
+
+pub returns-in-Err-clause-moments : goal.returns-in-Err-clause-moments
+returns-in-Err-clause-moments g c =
+    let old = c.args.self.now in
+    let s : State = old.state.value in
+    let t : State = with_base c.args.stream c.args.base s in
+    let sound = c.requires.intact.sound in
+    let low = c.low_containers_are_left_out.ensures in
+    let rows = c.bases_of_rows_move.ensures in
+    let holds = sound.holds in
+    let first_is = c.container.ensures.value ∙ ap container_of
+    (hold_is t c.place-place.result c.tail.result c.set_base.new.self.streams c.set_base.new.self.heads c.hold-needed.result c.hold-needed.ensures
+    (c.records_are_as_their_heads.ensures.hold t) c.place-place.ensures.value (c.tail.ensures ∙ holds.archive)
+    (c.set_base.ensures.streams ∙ ap (set_base c.args.stream c.args.base) holds.streams) (c.set_base.ensures.heads ∙ holds.heads)) in
+    crash_copied c.logs_are_copies_and_blocks.ensures.stands c.logs_are_copies_and_blocks.ensures.by_file (g.D.Disk.state c.args.disk.now)
+    (g.D.Disk.state c.write_copy.new.disk) t
+    (record { slot = older_of old.physical.slot; image = next_copy c.container.result (changes.Base c.args.stream c.args.base) old.physical.image })
+    old c.requires.intact c.requires.valid
+    (λ blocks stored. base_copied (record { log = low.log; held = low.held; same = low.same }) (record { log = rows.log; state = rows.state }) s
+    c.args.stream c.args.base c.container.result old.physical blocks sound.valid c.requires.valid
+    (c.numbers_fit_their_types.ensures.flushed s sound.valid sound.storable) c.requires.there c.requires.up c.requires.held holds.rows
+    c.image-newest.ensures.image first_is stored)
+    c.write_copy.ensures.moments
 
 module _ (g : Over) (c : goal.After-self-2-1 g) where
   -- the container from which on the copy lists is that of the hold behind the new base
@@ -125,43 +144,21 @@ module _ (g : Over) (c : goal.After-self-2-1 g) where
         needed = omega (arith, ap (λ (n : Newest). n.image.first) newest_is, is_first);
       }
 
+  copied : (blocks : Blocks) → IsStored s c.args.self.now.physical blocks → IsStored t (record {
+    slot = older_of c.args.self.now.physical.slot;
+    image = next_copy c.container.result (changes.Base c.args.stream c.args.base) c.args.self.now.physical.image;
+  }) blocks
+  copied = λ blocks stored.
+      let sound = c.requires.intact.sound in
+      let low = c.low_containers_are_left_out.ensures in
+      let rows = c.bases_of_rows_move.ensures in
+      base_copied (record { log = low.log; held = low.held; same = low.same }) (record { log = rows.log; state = rows.state }) s c.args.stream c.args.base
+      c.container.result c.args.self.now.physical blocks sound.valid c.requires.valid (c.numbers_fit_their_types.ensures.flushed s sound.valid sound.storable)
+      c.requires.there c.requires.up c.requires.held sound.holds.rows c.image-newest.ensures.image first_then stored
+
   stored_then : StoredAfter (g.D.Disk.state c.args.disk.now) (g.D.Disk.state c.write_copy.new.disk) s t c.args.self.now.physical c.write_copy.new.self
   stored_then = λ blocks stored.
-      let sound = c.requires.intact.sound in
-      let holds = sound.holds in
-      let stream = c.args.stream in
-      let base = c.args.base in
-      let slot = older_of old.physical.slot in
-      let turn = (image.turn + 1) % 3 in
-      let first = c.container.result in
-      let is_first : first ≡ container_of (hold t) = first_then in
-      let low : image.first ≤ container_of (hold t) = omega (arith, holds.needed, c.requires.held) in
-      let before : IsStored s (record { slot = slot; image = image }) blocks =
-      record { entries = stored.entries; log = stored.log; records = stored.records; state = stored.state; needed = stored.needed } in
-      let number = number_there s.streams stream c.requires.there in
-      let row : stream ≤ length image.streams = omega (arith, number.1, holds.rows) in
-      let below = moved_below (flushed t) stream base s.streams number.0 number.1 c.requires.valid.stable.bases in
-      let ends : base ≤ frontier (cut s).place = omega (arith, below, cut_ends s sound.valid) in
-      let up = c.requires.up in
-      let set : IsStored t (record { slot = slot; image = moved stream base turn image }) blocks = base_stored s slot image blocks stream base turn before low
-      (c.bases_of_rows_move.ensures.log image (map blocks image.files) stored.entries stream base number.0 row
-      (subst (λ (u : State). base ≤ frontier u.place) (sym stored.state) ends) stored.log)
-      (c.bases_of_rows_move.ensures.state image (map blocks image.files) stored.entries s.buffers stream base number.0 row
-      (subst (λ (u : State). base_of u stream ≤ base) (sym stored.state) up)) in
-      let changed = moved stream base turn image in
-      let next : IsImage version_one (next_copy first (changes.Base stream base) image) =
-      subst (λ (n : Newest). IsImage version_one n.image) newest_is c.image-moved.ensures.image in
-      let is_image : IsImage version_one changed = moved_image image stream base turn first c.image-newest.ensures.image (omega arith) next in
-      let kept = hold_kept t set.entries c.requires.valid (stored_among t image.first set.entries set.records) in
-      let under : first ≤ container_of (hold (stored_state changed (map blocks changed.files) set.entries t.buffers)) =
-      omega (arith, is_first, kept, ap (λ (u : State). container_of (hold u)) set.state) in
-      let from : image.first ≤ first = omega (arith, low, is_first) in
-      let held = c.low_containers_are_left_out.ensures.held changed blocks set.entries t.buffers first is_image set.log under in
-      let is : IsStored t (record { slot = slot; image = from_container first changed }) blocks =
-      copy_stored t slot changed blocks set.entries first set.state set.records from is_first
-      (c.low_containers_are_left_out.ensures.log changed blocks set.entries first is_image from held.0 held.1 set.log)
-      (c.low_containers_are_left_out.ensures.same changed blocks set.entries t.buffers first is_image set.log from under) in
-      (blocks, (rw newest_is is, λ tells whole stores. c.in_default.ensures.written tells whole blocks stores))
+      (blocks, (rw newest_is (copied blocks stored), λ tells whole stores. c.in_default.ensures.written tells whole blocks stores))
 
 pub returns-clause-intact : goal.returns-clause-intact
 returns-clause-intact g c =
@@ -190,3 +187,11 @@ returns-clause-writes g c =
     (with_base c.args.stream c.args.base old.state.value) old
     (record old { tables = c.set_base.new.self; physical = c.write_copy.new.self; state = c.with_base-self.result }) (λ f. cc f) c.requires.intact.opened
     (stored_then g c) c.write_copy.ensures.time (λ calm made. (c.write_copy.ensures.steady calm made).1)
+
+pub returns-clause-moments : goal.returns-clause-moments
+returns-clause-moments g c =
+    let old = c.args.self.now in
+    crash_copied c.logs_are_copies_and_blocks.ensures.stands c.logs_are_copies_and_blocks.ensures.by_file (g.D.Disk.state c.args.disk.now)
+    (g.D.Disk.state c.write_copy.new.disk) (with_base c.args.stream c.args.base old.state.value)
+    (record { slot = older_of old.physical.slot; image = next_copy c.container.result (changes.Base c.args.stream c.args.base) old.physical.image })
+    old c.requires.intact c.requires.valid (copied g c) c.write_copy.ensures.moments

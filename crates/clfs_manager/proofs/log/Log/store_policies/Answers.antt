@@ -1,5 +1,4 @@
-use Rattle.std.proofs.Common.{◌≡◌, ◌+◌, ◌-◌, ◌%◌, ◌≤◌, refl, ap, ◌∙◌, map, length, arith}
-use Rattle.std.specs.Prelude.{unwrap_or}
+use Rattle.std.proofs.Common.{◌≡◌, ◌+◌, ◌-◌, refl, ap, ◌∙◌, length, arith}
 use Rattle.std.proofs.lemmas.List.{length-drop}
 use Rattle.clfs_lsn.specs.Lsn.{container_of}
 use Rattle.clfs_base.specs.Writing.{older_of}
@@ -8,11 +7,9 @@ use Rattle.clfs_model.specs.Live.{hold}
 use Rattle.clfs_physical.specs.Changes.{next_copy}
 use Rattle.clfs_physical.specs.Stored.{Newest}
 use Rattle.clfs_physical.specs.declared.change.Change.{Change}
-use Rattle.clfs_recover.specs.Logs.{from_container, stored_state}
 use Rattle.clfs_recover.specs.Walk.{shape_of}
-use Rattle.clfs_manager.specs.OnDisk.{IsStored}
-use Rattle.clfs_manager.specs.Settings.{change_to}
-use Rattle.clfs_manager.proofs.CopiedLog.{copy_stored, hold_kept, stored_among, policies_stored}
+use Rattle.clfs_manager.specs.Settings.{change_to, with_policies}
+use Rattle.clfs_manager.proofs.CopiedMeanwhile.{copied_meanwhile, policies_copied}
 use Rattle.clfs_manager.proofs.Numbers.{hold_within}
 use Rattle.clfs_manager.proofs.log.Log.store_policies.Goals as goal
 
@@ -53,28 +50,40 @@ returns-clause-stored g c = λ blocks stored.
     let old = c.args.self.now in
     let s : State = old.state.value in
     let sound = c.requires.sound in
-    let holds = sound.holds in
-    let image = old.physical.image in
-    let slot = older_of old.physical.slot in
-    let p = c.args.policies in
-    let first = c.container-first.result in
-    let is_first : first ≡ container_of (hold s) = c.container-first.ensures.value ∙ ap container_of c.hold.ensures.value in
-    let newest : c.write_copy.new.self ≡ record { slot = slot; image = next_copy first (change_to p) image } =
-    c.in_default.ensures.now ∙ ap (λ (change : Change). let n : Newest = record { slot = slot; image = next_copy first change image } in n) c.change_to.ensures in
-    let is_image = c.image-newest.ensures.image in
-    let kept = hold_kept s stored.entries sound.valid (stored_among s image.first stored.entries stored.records) in
-    let under : first ≤ container_of (hold (stored_state image (map blocks image.files) stored.entries s.buffers)) = omega (arith, is_first, kept, ap (λ (t : State). container_of (hold t)) stored.state) in
-    let low : image.first ≤ first = omega (arith, holds.needed, is_first) in
-    let held = c.low_containers_are_left_out.ensures.held image blocks stored.entries s.buffers first is_image stored.log under in
-    let dropped : IsStored s (record { slot = slot; image = from_container first image }) blocks =
-    copy_stored s slot image blocks stored.entries first stored.state stored.records low is_first
-    (c.low_containers_are_left_out.ensures.log image blocks stored.entries first is_image low held.0 held.1 stored.log)
-    (c.low_containers_are_left_out.ensures.same image blocks stored.entries s.buffers first is_image stored.log low under) in
-    let lower = from_container first image in
-    let turn = (image.turn + 1) % 3 in
-    let is = policies_stored s slot lower blocks p turn holds.containers c.requires.allowed dropped
-    (c.settings_leave_the_records.ensures.log lower (map blocks lower.files) dropped.entries turn lower.containers lower.files_made
-    (unwrap_or p.maximum 0) (unwrap_or p.minimum 0) (unwrap_or p.growth 0) p.automatic dropped.log)
-    (c.settings_leave_the_records.ensures.state lower (map blocks lower.files) dropped.entries s.buffers turn lower.containers lower.files_made
-    (unwrap_or p.maximum 0) (unwrap_or p.minimum 0) (unwrap_or p.growth 0) p.automatic) in
-    (blocks, (rw (c.with_policies-self.ensures, newest) is, λ tells whole stores. c.in_default.ensures.written tells whole blocks stores))
+    let low = c.low_containers_are_left_out.ensures in
+    let settings = c.settings_leave_the_records.ensures in
+    let is = policies_copied (record { log = low.log; held = low.held; same = low.same })
+    (record { log = settings.log; state = settings.state; archived = settings.archived; archive = settings.archive }) s c.args.policies
+    c.change_to.result c.container-first.result old.physical blocks sound.valid c.image-newest.ensures.image sound.holds.containers c.requires.allowed
+    c.change_to.ensures (c.container-first.ensures.value ∙ ap container_of c.hold.ensures.value) stored in
+    (blocks, (rw (c.with_policies-self.ensures, c.in_default.ensures.now) is, λ tells whole stores. c.in_default.ensures.written tells whole blocks stores))
+
+pub returns-in-Err-clause-meanwhile : goal.returns-in-Err-clause-meanwhile
+returns-in-Err-clause-meanwhile g c =
+    let old = c.args.self.now in
+    let s : State = old.state.value in
+    let sound = c.requires.sound in
+    let low = c.low_containers_are_left_out.ensures in
+    let settings = c.settings_leave_the_records.ensures in
+    copied_meanwhile (g.D.Disk.state c.args.disk.now) (g.D.Disk.state c.write_copy.new.disk) s (with_policies c.args.policies s) old.physical
+    (record { slot = older_of old.physical.slot; image = next_copy c.container-first.result c.change_to.result old.physical.image })
+    (λ blocks stored. policies_copied (record { log = low.log; held = low.held; same = low.same })
+    (record { log = settings.log; state = settings.state; archived = settings.archived; archive = settings.archive }) s c.args.policies
+    c.change_to.result c.container-first.result old.physical blocks sound.valid c.image-newest.ensures.image sound.holds.containers c.requires.allowed
+    c.change_to.ensures (c.container-first.ensures.value ∙ ap container_of c.hold.ensures.value) stored)
+    c.write_copy.ensures.moments
+
+pub returns-clause-meanwhile : goal.returns-clause-meanwhile
+returns-clause-meanwhile g c =
+    let old = c.args.self.now in
+    let s : State = old.state.value in
+    let sound = c.requires.sound in
+    let low = c.low_containers_are_left_out.ensures in
+    let settings = c.settings_leave_the_records.ensures in
+    copied_meanwhile (g.D.Disk.state c.args.disk.now) (g.D.Disk.state c.write_copy.new.disk) s (with_policies c.args.policies s) old.physical
+    (record { slot = older_of old.physical.slot; image = next_copy c.container-first.result c.change_to.result old.physical.image })
+    (λ blocks stored. policies_copied (record { log = low.log; held = low.held; same = low.same })
+    (record { log = settings.log; state = settings.state; archived = settings.archived; archive = settings.archive }) s c.args.policies
+    c.change_to.result c.container-first.result old.physical blocks sound.valid c.image-newest.ensures.image sound.holds.containers c.requires.allowed
+    c.change_to.ensures (c.container-first.ensures.value ∙ ap container_of c.hold.ensures.value) stored)
+    c.write_copy.ensures.moments

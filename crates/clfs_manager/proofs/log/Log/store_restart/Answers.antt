@@ -1,3 +1,4 @@
+use Rattle.clfs_manager.proofs.CrashedRestart.{crash_restart}
 use Rattle.std.proofs.Common.{refl, subst}
 use Rattle.std.specs.Prelude.{IsOk}
 use Rattle.clfs_model.specs.declared.state.State.{State}
@@ -65,3 +66,57 @@ returns-clause-writes g c =
     (finished c.args.stream c.args.base old.state.value) old c.write_group.new.self (λ f. cc f) c.requires.opened
     (stored_by_group (g.D.Disk.state c.args.disk.now) (g.D.Disk.state c.write_group.new.disk) old c.write_group.new.self c.args.stream c.args.base (is_finished g c))
     c.write_group.ensures.time (λ calm made. (c.write_group.ensures.steady calm made).1)
+
+pub returns-in_err-write_group-clause-moments : goal.returns-in_err-write_group-clause-moments
+returns-in_err-write_group-clause-moments g c =
+    let old = c.args.self.now in
+    let s : State = old.state.value in
+    let image = old.physical.image in
+    let is_image = c.image-newest.ensures.image in
+    let laws = c.groups_come_behind_the_last_block.ensures in
+    let files = c.logs_are_copies_and_blocks.ensures in
+    let group_laws : GroupLaws image s.buffers = record {
+      state = λ before after more entries others have still. laws.state image before after more entries others s.buffers is_image have still;
+      moved = λ before after more entries others entry have still some few up.
+          laws.moved image before after more entries others entry s.buffers is_image have still some few up;
+    } in
+    crash_restart files.stands files.by_file (IsOk c.write_group.result) (g.D.Disk.state c.args.disk.now) (g.D.Disk.state c.write_group.new.disk) old c.args.stream c.args.base
+    (record {
+      laid = c.requires.laid;
+      opened = c.requires.opened;
+      flushed = c.seals_and_flushes_keep_a_log.ensures.flush_laid s c.requires.laid.laid;
+      some = is_image.some_listed;
+      laws = group_laws;
+      last = c.requires.last;
+      number = c.requires.there;
+      up = c.requires.up;
+      valid = c.requires.valid;
+      sends = c.write_group.ensures.group;
+    })
+
+pub returns-clause-moments : goal.returns-clause-moments
+returns-clause-moments g c =
+    let old = c.args.self.now in
+    let s : State = old.state.value in
+    let image = old.physical.image in
+    let is_image = c.image-newest.ensures.image in
+    let laws = c.groups_come_behind_the_last_block.ensures in
+    let files = c.logs_are_copies_and_blocks.ensures in
+    let group_laws : GroupLaws image s.buffers = record {
+      state = λ before after more entries others have still. laws.state image before after more entries others s.buffers is_image have still;
+      moved = λ before after more entries others entry have still some few up.
+          laws.moved image before after more entries others entry s.buffers is_image have still some few up;
+    } in
+    crash_restart files.stands files.by_file (IsOk c.write_group.result) (g.D.Disk.state c.args.disk.now) (g.D.Disk.state c.write_group.new.disk) old c.args.stream c.args.base
+    (record {
+      laid = c.requires.laid;
+      opened = c.requires.opened;
+      flushed = c.seals_and_flushes_keep_a_log.ensures.flush_laid s c.requires.laid.laid;
+      some = is_image.some_listed;
+      laws = group_laws;
+      last = c.requires.last;
+      number = c.requires.there;
+      up = c.requires.up;
+      valid = c.requires.valid;
+      sends = c.write_group.ensures.group;
+    })

@@ -1,4 +1,6 @@
+use Rattle.std.specs.Prelude.{IsOk}
 use Rattle.clfs_model.specs.declared.state.State.{State}
+use Rattle.clfs_manager.proofs.Crashes.{flushed_meanwhile}
 use Rattle.clfs_manager.proofs.FlushedLog.{laid_log, no_bases, stored_flushed}
 use Rattle.clfs_manager.proofs.Sealed.{on_ok_by}
 use Rattle.clfs_manager.proofs.log.Log.write_out.Goals as goal
@@ -20,3 +22,15 @@ returns-clause-stored g c =
     (λ blocks all more entries have. c.groups_come_behind_the_last_block.ensures.state old.physical.image blocks all more entries _ s.buffers is_image have
     (no_bases s sound.valid sound.storable))
     c.write_group.ensures.state (on_ok_by c.write_group.result (λ keeps. keeps.physical) c.write_group.ensures.same) c.write_group.ensures.written
+
+pub returns-clause-meanwhile : goal.returns-clause-meanwhile
+returns-clause-meanwhile g c =
+    let old = c.args.self.now in
+    let s : State = old.state.value in
+    let sound = c.requires.sound in
+    let is_image = c.image-newest.ensures.image in
+    flushed_meanwhile (IsOk c.write_group.result) (g.D.Disk.state c.args.disk.now) (g.D.Disk.state c.write_group.new.disk) s old.physical
+    (c.seals_and_flushes_keep_a_log.ensures.laid s sound.valid sound.storable) sound.holds.listed is_image.some_listed
+    (λ blocks all more entries have. c.groups_come_behind_the_last_block.ensures.state old.physical.image blocks all more entries _ s.buffers is_image have
+    (no_bases s sound.valid sound.storable))
+    c.write_group.ensures.group

@@ -1,3 +1,9 @@
+use Rattle.clfs_model.specs.Flush.{cut}
+use Rattle.clfs_model.specs.Run.{Request, asks}
+use Rattle.clfs_model.specs.Survivors.{Survives}
+use Rattle.clfs_manager.specs.Crashes.{CrashLeavesSurvivor, ReadyingSurvives}
+use Rattle.clfs_manager.proofs.Crashes.{crash_still, crash_then, survives_as}
+use Rattle.clfs_manager.proofs.Stages.{while_restarted}
 use Rattle.std.proofs.Common.{◌≡◌, ◌≤◌, ℕ, refl, sym, ap, subst, ◌∙◌, List, [], length}
 use Rattle.std.specs.Prelude.{IsErr, IsErrOf, Result}
 use Rattle.clfs_areas.specs.Table.{AreaTable, area_at}
@@ -167,3 +173,109 @@ returns-in-Err-clause-writes g c =
     (g.D.Disk.state c.restart_grown.new.disk) (λ fault. let wrong = subst (λ r. IsErrOf r refusals.DiskFault) c.in_ok-room.was fault in cc wrong)
     c.prepare.ensures.writes
     (writes_as (IsErr c.restart_grown.result) _ _ _ (λ _. refl) (λ _. subst (λ r. IsErr r) (sym c.in-Err.is) refl) c.restart_grown.ensures.writes)
+
+pub returns-in_err-place-clause-moments : goal.returns-in_err-place-clause-moments
+returns-in_err-place-clause-moments g c =
+    let s : State = c.args.self.now.state.value in
+    let call = calls.WriteRestart c.args.area c.args.bytes.now c.args.base c.args.reserved in
+    crash_still c.logs_are_copies_and_blocks.ensures.stands c.logs_are_copies_and_blocks.ensures.by_file (g.D.Disk.state c.args.disk.now) c.args.self.now
+    c.requires.intact (asks c.args.client call) s (c.states_between_survive.ensures.before s c.args.client call c.requires.intact.sound.valid)
+
+pub returns-in_err-room-clause-moments : goal.returns-in_err-room-clause-moments
+returns-in_err-room-clause-moments g c =
+    let old = c.args.self.now in
+    let s : State = old.state.value in
+    let place = c.in_ok-place.place in
+    let area : Area = area_at place old.areas.areas in
+    let read : List ℕ = c.as_slice-data.result.now in
+    let n : ℕ = length read in
+    let need : ℕ = need_of c.args.reserved n [] in
+    let sound = c.requires.intact.sound in
+    let request : Request = asks c.args.client (calls.WriteRestart c.args.area read c.args.base c.args.reserved) in
+    let while = while_restarted (λ (u : State). Survives request s (cut u)) s area read c.args.base c.args.reserved
+    (c.states_between_survive.ensures.restart s c.args.client c.args.area area read c.args.base c.args.reserved sound.valid sound.storable sound.whole
+    c.in_ok-place.ensures.allowed c.in_ok-place.ensures.there) in
+    let prepared = c.prepare.ensures.moments request s while.before
+    (survives_as request s (grown s c.need_of.result) (grown s need) (ap (grown s) c.need_of.ensures.value) while.grown_is) in
+    subst (λ (bytes : List ℕ). CrashLeavesSurvivor (asks c.args.client (calls.WriteRestart c.args.area bytes c.args.base c.args.reserved)) s
+    (g.D.Disk.state c.args.disk.now) (g.D.Disk.state c.prepare.new.disk)) c.as_slice-data.ensures prepared
+
+pub returns-in-Ok-clause-moments : goal.returns-in-Ok-clause-moments
+returns-in-Ok-clause-moments g c =
+    let old = c.args.self.now in
+    let s : State = old.state.value in
+    let place = c.in_ok-place.place in
+    let area : Area = area_at place old.areas.areas in
+    let read : List ℕ = c.as_slice-data.result.now in
+    let n : ℕ = length read in
+    let need : ℕ = need_of c.args.reserved n [] in
+    let sound = c.requires.intact.sound in
+    let request : Request = asks c.args.client (calls.WriteRestart c.args.area read c.args.base c.args.reserved) in
+    let while = while_restarted (λ (u : State). Survives request s (cut u)) s area read c.args.base c.args.reserved
+    (c.states_between_survive.ensures.restart s c.args.client c.args.area area read c.args.base c.args.reserved sound.valid sound.storable sound.whole
+    c.in_ok-place.ensures.allowed c.in_ok-place.ensures.there) in
+    let prepared = c.prepare.ensures.moments request s while.before
+    (survives_as request s (grown s c.need_of.result) (grown s need) (ap (grown s) c.need_of.ensures.value) while.grown_is) in
+    let fields = c.restart_fields-fields.result in
+    let entry : unplaced fields read ≡ restart_record s area read c.args.base =
+    c.restart_fields-fields.ensures.record s area read (sym c.area-stream.ensures.stream) (sym c.last_restart.ensures) in
+    let state : c.prepare.new.self.state.value ≡ grown s need = c.in_ok-room.ensures.state ∙ ap (grown s) c.need_of.ensures.value in
+    let stream : fields.stream ≡ area.stream = c.restart_fields-fields.ensures.stream ∙ c.area-stream.ensures.stream in
+    let spent : AreaTable → State → State = λ t v. spend_if c.args.reserved (area_at place t.areas) n v in
+    let all : AreaTable → State → LogEntry → ℕ → ℕ → Type 0 = λ t v e k b. ReadyingSurvives request s (spent t v) n
+    × (Survives request s (cut (put (spent t v) e)) × Survives request s (cut (rebased k b (flush (put (spent t v) e))))) in
+    let v : State = c.prepare.new.self.state.value in
+    let is : all c.prepare.new.self.areas v (unplaced fields read) fields.stream fields.new_base =
+    subst (λ (t : AreaTable). all t v (unplaced fields read) fields.stream fields.new_base) (sym c.in_ok-room.ensures.areas)
+    (subst (λ (u : State). all old.areas u (unplaced fields read) fields.stream fields.new_base) (sym state)
+    (subst (λ (e : LogEntry). all old.areas (grown s need) e fields.stream fields.new_base) (sym entry)
+    (subst (λ (k : ℕ). all old.areas (grown s need) (restart_record s area read c.args.base) k fields.new_base) (sym stream)
+    (subst (λ (b : ℕ). all old.areas (grown s need) (restart_record s area read c.args.base) area.stream b) (sym c.restart_fields-fields.ensures.base) (
+      record { before = while.readied_is.before; flushed = while.readied_is.flushed; ready = while.readied_is.ready },
+      (while.joined, while.rebased_is),
+    ))))) in
+    subst (λ (bytes : List ℕ). CrashLeavesSurvivor (asks c.args.client (calls.WriteRestart c.args.area bytes c.args.base c.args.reserved)) s
+    (g.D.Disk.state c.args.disk.now) (g.D.Disk.state c.restart_grown.new.disk)) c.as_slice-data.ensures
+    (crash_then (IsErrOf c.prepare.result refusals.DiskFault) request s (g.D.Disk.state c.args.disk.now) (g.D.Disk.state c.prepare.new.disk) (g.D.Disk.state c.restart_grown.new.disk)
+    (λ fault. let wrong = subst (λ r. IsErrOf r refusals.DiskFault) c.in_ok-room.was fault in cc wrong) c.prepare.ensures.writes prepared
+    (c.restart_grown.ensures.moments request s is.0 is.1.0 is.1.1))
+
+pub returns-in-Err-clause-moments : goal.returns-in-Err-clause-moments
+returns-in-Err-clause-moments g c =
+    let old = c.args.self.now in
+    let s : State = old.state.value in
+    let place = c.in_ok-place.place in
+    let area : Area = area_at place old.areas.areas in
+    let read : List ℕ = c.as_slice-data.result.now in
+    let n : ℕ = length read in
+    let need : ℕ = need_of c.args.reserved n [] in
+    let sound = c.requires.intact.sound in
+    let request : Request = asks c.args.client (calls.WriteRestart c.args.area read c.args.base c.args.reserved) in
+    let while = while_restarted (λ (u : State). Survives request s (cut u)) s area read c.args.base c.args.reserved
+    (c.states_between_survive.ensures.restart s c.args.client c.args.area area read c.args.base c.args.reserved sound.valid sound.storable sound.whole
+    c.in_ok-place.ensures.allowed c.in_ok-place.ensures.there) in
+    let prepared = c.prepare.ensures.moments request s while.before
+    (survives_as request s (grown s c.need_of.result) (grown s need) (ap (grown s) c.need_of.ensures.value) while.grown_is) in
+    let fields = c.restart_fields-fields.result in
+    let entry : unplaced fields read ≡ restart_record s area read c.args.base =
+    c.restart_fields-fields.ensures.record s area read (sym c.area-stream.ensures.stream) (sym c.last_restart.ensures) in
+    let state : c.prepare.new.self.state.value ≡ grown s need = c.in_ok-room.ensures.state ∙ ap (grown s) c.need_of.ensures.value in
+    let stream : fields.stream ≡ area.stream = c.restart_fields-fields.ensures.stream ∙ c.area-stream.ensures.stream in
+    let spent : AreaTable → State → State = λ t v. spend_if c.args.reserved (area_at place t.areas) n v in
+    let all : AreaTable → State → LogEntry → ℕ → ℕ → Type 0 = λ t v e k b. ReadyingSurvives request s (spent t v) n
+    × (Survives request s (cut (put (spent t v) e)) × Survives request s (cut (rebased k b (flush (put (spent t v) e))))) in
+    let v : State = c.prepare.new.self.state.value in
+    let is : all c.prepare.new.self.areas v (unplaced fields read) fields.stream fields.new_base =
+    subst (λ (t : AreaTable). all t v (unplaced fields read) fields.stream fields.new_base) (sym c.in_ok-room.ensures.areas)
+    (subst (λ (u : State). all old.areas u (unplaced fields read) fields.stream fields.new_base) (sym state)
+    (subst (λ (e : LogEntry). all old.areas (grown s need) e fields.stream fields.new_base) (sym entry)
+    (subst (λ (k : ℕ). all old.areas (grown s need) (restart_record s area read c.args.base) k fields.new_base) (sym stream)
+    (subst (λ (b : ℕ). all old.areas (grown s need) (restart_record s area read c.args.base) area.stream b) (sym c.restart_fields-fields.ensures.base) (
+      record { before = while.readied_is.before; flushed = while.readied_is.flushed; ready = while.readied_is.ready },
+      (while.joined, while.rebased_is),
+    ))))) in
+    subst (λ (bytes : List ℕ). CrashLeavesSurvivor (asks c.args.client (calls.WriteRestart c.args.area bytes c.args.base c.args.reserved)) s
+    (g.D.Disk.state c.args.disk.now) (g.D.Disk.state c.restart_grown.new.disk)) c.as_slice-data.ensures
+    (crash_then (IsErrOf c.prepare.result refusals.DiskFault) request s (g.D.Disk.state c.args.disk.now) (g.D.Disk.state c.prepare.new.disk) (g.D.Disk.state c.restart_grown.new.disk)
+    (λ fault. let wrong = subst (λ r. IsErrOf r refusals.DiskFault) c.in_ok-room.was fault in cc wrong) c.prepare.ensures.writes prepared
+    (c.restart_grown.ensures.moments request s is.0 is.1.0 is.1.1))

@@ -1,12 +1,16 @@
+use Rattle.std.proofs.Common.{ap}
+use Rattle.clfs_model.specs.Answers.{Outcome}
+use Rattle.clfs_model.specs.Run.{asks}
+use Rattle.clfs_manager.proofs.CopyingCalls.{crash_answered, crash_untouched, flush_survives}
 use Rattle.std.proofs.Common.{◌≡◌, refl, sym, ◌∙◌, true, false}
 use Rattle.clfs_model.specs.declared.call.Call.TheVariants as calls
 use Rattle.clfs_model.specs.declared.refusal.Refusal.TheVariants as refusals
 use Rattle.clfs_model.specs.declared.reply.Happened.TheVariants.{Fine}
 use Rattle.clfs_model.specs.declared.reply.Reply.TheVariants as replies
 use Rattle.clfs_model.specs.declared.state.State.{State}
-use Rattle.clfs_model.specs.Flush.{flush, flushed}
+use Rattle.clfs_model.specs.Flush.{flush}
 use Rattle.clfs_manager.specs.Base.{with_base}
-use Rattle.clfs_manager.proofs.AdvancedLog.{advanced_step, flushed_step, own_is_no_fault}
+use Rattle.clfs_manager.proofs.AdvancedLog.{advanced_step, own_is_no_fault}
 use Rattle.clfs_manager.proofs.FlushKeeps.{on_ok, on_err, managed_broken}
 use Rattle.clfs_manager.proofs.Intact.{managed_intact, writes_as, writes_nothing, writes_seen}
 use Rattle.clfs_manager.proofs.manager.Manager.advance.Goals as goal
@@ -17,16 +21,6 @@ returns-in-Err-clause-writes g c =
     c.in-Err.ensures.refused in
     writes_nothing _ (g.D.Disk.state c.args.self.now.1)
     (λ f. let same : c.in-Err.refusal ≡ refusals.DiskFault = cc f in own_is_no_fault c.in-Err.refusal own same)
-
-pub advance-requires-clause-flushed : goal.advance-requires-clause-flushed
-advance-requires-clause-flushed g c =
-    let s : State = c.self.inside.log.state.value in
-    let managed = c.self.invariant in
-    let step = flushed_step c.ways_of_a_step.ensures s c.args.client c.args.area c.args.lsn (managed.broken ∙ c.if-self.false) c.in-Ok.ensures.allowed in (
-      c.steps_keep_a_state_valid.ensures.step false s c.args.client (calls.Flush c.args.area) Fine (replies.Flushed (flushed (flush s))) (flush s) managed.valid step,
-      c.steps_keep_a_state_storable.ensures.step false s c.args.client (calls.Flush c.args.area) Fine (replies.Flushed (flushed (flush s))) (flush s) managed.valid
-          managed.storable (record { is_client = c.requires.client; arguments = tt }) step,
-    )
 
 pub advance-requires-clause-valid : goal.advance-requires-clause-valid
 advance-requires-clause-valid g c =
@@ -78,3 +72,47 @@ returns-clause-writes g c =
     writes_seen g.D.Disk.state (c.self.inside.log.state.value, c.self.inside.disk) c.args.self.now c.self.view_is _ (g.D.Disk.state c.advance.new.disk)
     (writes_as _ _ (g.D.Disk.state c.self.inside.disk) (g.D.Disk.state c.advance.new.disk)
     (λ f. absurd (let clash : false ≡ true = sym ok ∙ f in cc clash)) (λ f. absurd (cc f)) c.advance.ensures.writes)
+
+pub returns-then-self-clause-moments : goal.returns-then-self-clause-moments
+returns-then-self-clause-moments g c = crash_untouched (record {
+  stands = c.logs_are_copies_and_blocks.ensures.stands;
+  by_file = c.logs_are_copies_and_blocks.ensures.by_file;
+  before = c.states_between_survive.ensures.before;
+  after = c.states_between_survive.ensures.after;
+}) g.D.Disk.state c.self.inside.log c.self.inside.disk c.args.self.now c.self.view_is c.self.invariant c.args.client (calls.Advance c.args.area c.args.lsn)
+
+pub returns-in-Err-clause-moments : goal.returns-in-Err-clause-moments
+returns-in-Err-clause-moments g c = crash_untouched (record {
+  stands = c.logs_are_copies_and_blocks.ensures.stands;
+  by_file = c.logs_are_copies_and_blocks.ensures.by_file;
+  before = c.states_between_survive.ensures.before;
+  after = c.states_between_survive.ensures.after;
+}) g.D.Disk.state c.self.inside.log c.self.inside.disk c.args.self.now c.self.view_is c.self.invariant c.args.client (calls.Advance c.args.area c.args.lsn)
+
+pub returns-then-is_err-clause-moments : goal.returns-then-is_err-clause-moments
+returns-then-is_err-clause-moments g c =
+    let s : State = c.self.inside.log.state.value in
+    let managed = c.self.invariant in
+    crash_answered (record {
+      stands = c.logs_are_copies_and_blocks.ensures.stands;
+      by_file = c.logs_are_copies_and_blocks.ensures.by_file;
+      before = c.states_between_survive.ensures.before;
+      after = c.states_between_survive.ensures.after;
+    }) g.D.Disk.state c.self.inside.log c.self.inside.disk c.args.self.now c.self.view_is c.self.invariant c.args.client (calls.Advance c.args.area c.args.lsn)
+    (with_base c.in-Ok.stream c.args.lsn (flush s)) (g.D.Disk.state c.advance.new.disk) c.in-Ok.ensures.allowed (ap (λ (o : Outcome). o.state) c.in-Ok.ensures.answer) (λ before moved. c.advance.ensures.moments (asks c.args.client (calls.Advance c.args.area c.args.lsn)) s before
+    (flush_survives c.states_between_survive.ensures.advance s c.args.client c.args.area c.args.lsn managed.valid managed.storable
+    (managed.broken ∙ c.if-self.false) c.in-Ok.ensures.allowed) moved)
+
+pub returns-clause-moments : goal.returns-clause-moments
+returns-clause-moments g c =
+    let s : State = c.self.inside.log.state.value in
+    let managed = c.self.invariant in
+    crash_answered (record {
+      stands = c.logs_are_copies_and_blocks.ensures.stands;
+      by_file = c.logs_are_copies_and_blocks.ensures.by_file;
+      before = c.states_between_survive.ensures.before;
+      after = c.states_between_survive.ensures.after;
+    }) g.D.Disk.state c.self.inside.log c.self.inside.disk c.args.self.now c.self.view_is c.self.invariant c.args.client (calls.Advance c.args.area c.args.lsn)
+    (with_base c.in-Ok.stream c.args.lsn (flush s)) (g.D.Disk.state c.advance.new.disk) c.in-Ok.ensures.allowed (ap (λ (o : Outcome). o.state) c.in-Ok.ensures.answer) (λ before moved. c.advance.ensures.moments (asks c.args.client (calls.Advance c.args.area c.args.lsn)) s before
+    (flush_survives c.states_between_survive.ensures.advance s c.args.client c.args.area c.args.lsn managed.valid managed.storable
+    (managed.broken ∙ c.if-self.false) c.in-Ok.ensures.allowed) moved)

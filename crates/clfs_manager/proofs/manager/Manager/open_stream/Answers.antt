@@ -1,3 +1,8 @@
+use Rattle.clfs_model.specs.Run.{asks}
+use Rattle.std.proofs.Common.{ap}
+use Rattle.clfs_model.specs.Answers.{Outcome}
+use Rattle.clfs_manager.proofs.AddedStream.{new_answer}
+use Rattle.clfs_manager.proofs.CopyingCalls.{crash_answered, crash_untouched}
 use Rattle.std.proofs.Common.{◌≡◌, ◌+◌, ℕ, List, length, sym, subst, ◌∙◌, false}
 use Rattle.std.specs.Prelude.{None}
 use Rattle.clfs_model.specs.declared.call.Call.TheVariants as calls
@@ -45,3 +50,40 @@ invariant_of-self g c =
     managed_added (g.D.Disk.state c.self.inside.disk) (g.D.Disk.state c.add_stream.new.disk) c.self.inside.log c.add_stream.new.self c.add_stream.result
     c.steps_keep_a_state_valid.ensures.reopening c.steps_keep_a_state_storable.ensures.reopening c.self.invariant c.if-self.false
     c.add_stream.ensures.intact c.add_stream.ensures.refused
+
+pub returns-then-self-clause-moments : goal.returns-then-self-clause-moments
+returns-then-self-clause-moments g c = crash_untouched (record {
+  stands = c.logs_are_copies_and_blocks.ensures.stands;
+  by_file = c.logs_are_copies_and_blocks.ensures.by_file;
+  before = c.states_between_survive.ensures.before;
+  after = c.states_between_survive.ensures.after;
+}) g.D.Disk.state c.self.inside.log c.self.inside.disk c.args.self.now c.self.view_is c.self.invariant c.args.client (calls.OpenStream c.args.name.now)
+
+pub returns-in-Some-clause-moments : goal.returns-in-Some-clause-moments
+returns-in-Some-clause-moments g c = crash_untouched (record {
+  stands = c.logs_are_copies_and_blocks.ensures.stands;
+  by_file = c.logs_are_copies_and_blocks.ensures.by_file;
+  before = c.states_between_survive.ensures.before;
+  after = c.states_between_survive.ensures.after;
+}) g.D.Disk.state c.self.inside.log c.self.inside.disk c.args.self.now c.self.view_is c.self.invariant c.args.client (calls.OpenStream c.args.name.now)
+
+pub returns-in-Some-number-clause-moments : goal.returns-in-Some-number-clause-moments
+returns-in-Some-number-clause-moments g c = crash_untouched (record {
+  stands = c.logs_are_copies_and_blocks.ensures.stands;
+  by_file = c.logs_are_copies_and_blocks.ensures.by_file;
+  before = c.states_between_survive.ensures.before;
+  after = c.states_between_survive.ensures.after;
+}) g.D.Disk.state c.self.inside.log c.self.inside.disk c.args.self.now c.self.view_is c.self.invariant c.args.client (calls.OpenStream c.args.name.now)
+
+pub returns-clause-moments : goal.returns-clause-moments
+returns-clause-moments g c =
+    let s : State = c.self.inside.log.state.value in
+    let named = sym (c.number.ensures s (sym (c.self.invariant.whole c.if-self.false).memory.streams)) ∙ c.in_default-number.is in
+    let none : stream_number s c.args.name.now ≡ None = subst (λ (name : List ℕ). stream_number s name ≡ None) c.as_slice.ensures named in
+    crash_answered (record {
+      stands = c.logs_are_copies_and_blocks.ensures.stands;
+      by_file = c.logs_are_copies_and_blocks.ensures.by_file;
+      before = c.states_between_survive.ensures.before;
+      after = c.states_between_survive.ensures.after;
+    }) g.D.Disk.state c.self.inside.log c.self.inside.disk c.args.self.now c.self.view_is c.self.invariant c.args.client (calls.OpenStream c.args.name.now)
+    (with_stream c.args.name.now s) (g.D.Disk.state c.add_stream.new.disk) (sym c.open_refusal.ensures ∙ c.in_default.is) (ap (λ (o : Outcome). o.state) (new_answer s c.args.client c.args.name.now none)) (c.add_stream.ensures.moments (asks c.args.client (calls.OpenStream c.args.name.now)) c.self.inside.log.state.value)

@@ -8,3 +8,7 @@ pub returns-then-self-clause-step : goal.returns-then-self-clause-step
 returns-then-self-clause-step g c = c.ways_of_a_step.ensures.broken (g.D.Disk.state c.args.self.now.1).nature.tells_contents c.args.self.now.0 c.args.client
     (calls.ReadRestart c.args.area) Fine
     (broken_in (c.self.inside.log.state.value, c.self.inside.disk) c.args.self.now c.self.view_is (c.self.invariant.broken ∙ c.if-self.true))
+
+pub returns-clause-moments : goal.returns-clause-moments
+returns-clause-moments g c =
+    c.stored.ensures.survives c.args.client (calls.ReadRestart c.args.area) c.read_restart.new.disk (rw (← c.self.view_is) c.read_restart.ensures.reads.time)

@@ -1,3 +1,5 @@
+use Rattle.clfs_manager.specs.Settings.{with_policies}
+use Rattle.clfs_manager.proofs.CopyingCalls.{crash_untouched, crash_written}
 use Rattle.std.proofs.Common.{refl, sym, ◌∙◌, false, arith}
 use Rattle.clfs_model.specs.declared.call.Call.TheVariants as calls
 use Rattle.clfs_model.specs.declared.reply.Reply.TheVariants as replies
@@ -6,7 +8,7 @@ use Rattle.clfs_model.specs.Policies.{without_policy}
 use Rattle.clfs_manager.proofs.FlushKeeps.{on_ok, on_err, managed_broken}
 use Rattle.clfs_manager.proofs.SettingsKeep.{settings_done}
 use Rattle.clfs_manager.proofs.StoredKeeps.{managed_done}
-use Rattle.clfs_manager.proofs.Intact.{writes_fine, writes_seen}
+use Rattle.clfs_manager.proofs.Intact.{writes_as, writes_fine, writes_seen, writes_stored}
 use Rattle.clfs_manager.proofs.manager.Manager.remove_policy.Goals as goal
 
 pub invariant_of-self : goal.invariant_of-self
@@ -40,3 +42,47 @@ returns-clause-writes g c =
     (writes_fine _ (g.D.Disk.state c.self.inside.disk) (g.D.Disk.state c.store_policies.new.disk) old.state.value c.store_policies.new.self.state.value old c.store_policies.new.self (λ f. cc f)
     (c.self.invariant.whole c.if-self.false) (on_ok c.store_policies.result ok c.store_policies.ensures.stored) c.store_policies.ensures.time
     (λ calm made. (c.store_policies.ensures.steady calm made).1))
+
+pub returns-then-self-clause-moments : goal.returns-then-self-clause-moments
+returns-then-self-clause-moments g c = λ client. crash_untouched (record {
+  stands = c.logs_are_copies_and_blocks.ensures.stands;
+  by_file = c.logs_are_copies_and_blocks.ensures.by_file;
+  before = c.states_between_survive.ensures.before;
+  after = c.states_between_survive.ensures.after;
+}) g.D.Disk.state c.self.inside.log c.self.inside.disk c.args.self.now c.self.view_is c.self.invariant client (calls.RemovePolicy c.args.kind)
+
+pub returns-in_default-clause-moments : goal.returns-in_default-clause-moments
+returns-in_default-clause-moments g c = λ client. crash_untouched (record {
+  stands = c.logs_are_copies_and_blocks.ensures.stands;
+  by_file = c.logs_are_copies_and_blocks.ensures.by_file;
+  before = c.states_between_survive.ensures.before;
+  after = c.states_between_survive.ensures.after;
+}) g.D.Disk.state c.self.inside.log c.self.inside.disk c.args.self.now c.self.view_is c.self.invariant client (calls.RemovePolicy c.args.kind)
+
+pub returns-then-is_err-clause-moments : goal.returns-then-is_err-clause-moments
+returns-then-is_err-clause-moments g c = λ client. crash_written (record {
+  stands = c.logs_are_copies_and_blocks.ensures.stands;
+  by_file = c.logs_are_copies_and_blocks.ensures.by_file;
+  before = c.states_between_survive.ensures.before;
+  after = c.states_between_survive.ensures.after;
+}) c.ways_of_a_step.ensures c.steps_keep_a_state_valid.ensures.step g.D.Disk.state c.self.inside.log c.self.inside.disk c.args.self.now c.self.view_is c.self.invariant c.if-self.false client (calls.RemovePolicy c.args.kind)
+    (with_policies c.in-Some.policies c.self.inside.log.state.value) (g.D.Disk.state c.store_policies.new.disk) (rw c.in-Some.ensures.some refl) (sym c.in-Some.ensures.state) c.store_policies.ensures.meanwhile
+
+pub returns-clause-moments : goal.returns-clause-moments
+returns-clause-moments g c = λ client. crash_written (record {
+  stands = c.logs_are_copies_and_blocks.ensures.stands;
+  by_file = c.logs_are_copies_and_blocks.ensures.by_file;
+  before = c.states_between_survive.ensures.before;
+  after = c.states_between_survive.ensures.after;
+}) c.ways_of_a_step.ensures c.steps_keep_a_state_valid.ensures.step g.D.Disk.state c.self.inside.log c.self.inside.disk c.args.self.now c.self.view_is c.self.invariant c.if-self.false client (calls.RemovePolicy c.args.kind)
+    (with_policies c.in-Some.policies c.self.inside.log.state.value) (g.D.Disk.state c.store_policies.new.disk) (rw c.in-Some.ensures.some refl) (sym c.in-Some.ensures.state) c.store_policies.ensures.meanwhile
+
+pub returns-then-is_err-clause-writes : goal.returns-then-is_err-clause-writes
+returns-then-is_err-clause-writes g c =
+    let old = c.self.inside.log in
+    let err = sym c.is_err.ensures.value ∙ c.if-is_err.true in
+    writes_seen g.D.Disk.state (old.state.value, c.self.inside.disk) c.args.self.now c.self.view_is _ (g.D.Disk.state c.store_policies.new.disk)
+    (writes_as _ _ (g.D.Disk.state c.self.inside.disk) (g.D.Disk.state c.store_policies.new.disk) (λ f. refl) (λ f. err)
+    (writes_stored c.store_policies.result (g.D.Disk.state c.self.inside.disk) (g.D.Disk.state c.store_policies.new.disk) old.state.value
+    c.store_policies.new.self.state.value old c.store_policies.new.self (c.self.invariant.whole c.if-self.false) c.store_policies.ensures.stored
+    c.store_policies.ensures.time c.store_policies.ensures.cause c.store_policies.ensures.steady))

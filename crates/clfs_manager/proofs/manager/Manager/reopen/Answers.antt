@@ -38,8 +38,15 @@ invariant_of-self-in-Err g c = managed_refused c.in-Err.refusal c.refuse.result 
     c.steps_keep_a_state_valid.ensures.reopening c.steps_keep_a_state_storable.ensures.reopening c.self.invariant c.if-self.false c.in-Err.ensures.same c.in-Err.ensures.time
     c.refuse.ensures.refusal c.refuse.ensures.state c.refuse.ensures.memory c.refuse.ensures.broken
 
-pub returns-in-Err : goal.returns-in-Err
-returns-in-Err g c =
+pub returns-in-Err-clause-step : goal.returns-in-Err-clause-step
+returns-in-Err-clause-step g c =
+    let s = c.self.inside.log.state.value in
+    let whole = c.self.invariant.broken ∙ c.if-self.false in
+    rw (← c.self.view_is)
+    (rw c.refuse.ensures.refusal (refused_reopens c.in-Err.refusal _ s c.refuse.new.log.state.value whole (rw c.refuse.ensures.refusal at c.refuse.ensures.state)))
+
+pub returns-in-Err-clause-reads : goal.returns-in-Err-clause-reads
+returns-in-Err-clause-reads g c =
     let old = g.D.Disk.state c.self.inside.disk in
     let log = c.self.inside.log in
     let s = log.state.value in
@@ -47,10 +54,16 @@ returns-in-Err g c =
     let whole = managed.broken ∙ c.if-self.false in
     let opened = managed.whole c.if-self.false in
     let read = c.in-Err.ensures in
-    rw (← c.self.view_is) (record {
-      step = rw c.refuse.ensures.refusal (refused_reopens c.in-Err.refusal _ s c.refuse.new.log.state.value whole (rw c.refuse.ensures.refusal at c.refuse.ensures.state));
-      reads = rw c.refuse.ensures.refusal (refused_reads c.files_have_one_meaning.ensures.no_damage c.files_have_one_meaning.ensures.no_base c.in-Err.refusal old (g.D.Disk.state c.read_log.new.disk) s
-          (λ tells. files_hold c.logs_are_copies_and_blocks.ensures.stands c.logs_are_copies_and_blocks.ensures.by_file c.opening_anew_comes_to_the_cut.ensures.step
-          c.the_holds_container_never_falls.ensures.reopening s log.physical opened.blocks old.files managed.valid managed.storable whole opened.stored (opened.files tells))
-          read.refused read.same read.time read.cause read.steady);
-    })
+    rw (← c.self.view_is) (rw c.refuse.ensures.refusal (refused_reads c.files_have_one_meaning.ensures.no_damage c.files_have_one_meaning.ensures.no_base c.in-Err.refusal old
+    (g.D.Disk.state c.read_log.new.disk) s
+    (λ tells. files_hold c.logs_are_copies_and_blocks.ensures.stands c.logs_are_copies_and_blocks.ensures.by_file c.opening_anew_comes_to_the_cut.ensures.step
+    c.the_holds_container_never_falls.ensures.reopening s log.physical opened.blocks old.files managed.valid managed.storable whole opened.stored (opened.files tells))
+    read.refused read.same read.time read.cause read.steady))
+
+pub returns-in-Err-clause-moments : goal.returns-in-Err-clause-moments
+returns-in-Err-clause-moments g c = λ client.
+    c.stored.ensures.survives_opening client c.read_log.new.disk (rw (← c.self.view_is) c.in-Err.ensures.time)
+
+pub returns-in-Ok-clause-moments : goal.returns-in-Ok-clause-moments
+returns-in-Ok-clause-moments g c = λ client.
+    c.stored.ensures.survives_opening client c.read_log.new.disk (rw (← c.self.view_is) c.in-Ok.ensures.time)

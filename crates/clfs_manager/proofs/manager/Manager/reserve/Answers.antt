@@ -1,3 +1,6 @@
+use Rattle.clfs_model.specs.Run.{Request, asks}
+use Rattle.clfs_manager.proofs.Crashes.{crash_seen, survives_as}
+use Rattle.clfs_manager.proofs.CopyingCalls.{crash_untouched, growth_survives}
 use Rattle.std.proofs.Common.{◌≡◌, ℕ, ◌+◌, IsErrOf, refl, sym, ap, subst, ◌∙◌, arith, false, true}
 use Rattle.std.specs.Prelude.{None, Some, Result}
 use Rattle.clfs_areas.specs.Table.{AreaTable, all_held, area_at}
@@ -145,3 +148,72 @@ pub returns-in-Err-NoMemory-clause-writes : goal.returns-in-Err-NoMemory-clause-
 returns-in-Err-NoMemory-clause-writes g c =
     writes_seen g.D.Disk.state (c.self.inside.log.state.value, c.self.inside.disk) c.args.self.now c.self.view_is _ (g.D.Disk.state c.grow.new.disk)
     (writes_as (IsErrOf c.grow.result physical.DiskFault) _ _ _ (λ f. cc) (λ f. cc) c.grow.ensures.writes)
+
+pub returns-then-self-clause-moments : goal.returns-then-self-clause-moments
+returns-then-self-clause-moments g c = crash_untouched (record {
+  stands = c.logs_are_copies_and_blocks.ensures.stands;
+  by_file = c.logs_are_copies_and_blocks.ensures.by_file;
+  before = c.states_between_survive.ensures.before;
+  after = c.states_between_survive.ensures.after;
+}) g.D.Disk.state c.self.inside.log c.self.inside.disk c.args.self.now c.self.view_is c.self.invariant c.args.client (calls.Reserve c.args.area c.args.sizes.now)
+
+pub returns-in_err-place-clause-moments : goal.returns-in_err-place-clause-moments
+returns-in_err-place-clause-moments g c = crash_untouched (record {
+  stands = c.logs_are_copies_and_blocks.ensures.stands;
+  by_file = c.logs_are_copies_and_blocks.ensures.by_file;
+  before = c.states_between_survive.ensures.before;
+  after = c.states_between_survive.ensures.after;
+}) g.D.Disk.state c.self.inside.log c.self.inside.disk c.args.self.now c.self.view_is c.self.invariant c.args.client (calls.Reserve c.args.area c.args.sizes.now)
+
+pub returns-in-Some-clause-moments : goal.returns-in-Some-clause-moments
+returns-in-Some-clause-moments g c = crash_untouched (record {
+  stands = c.logs_are_copies_and_blocks.ensures.stands;
+  by_file = c.logs_are_copies_and_blocks.ensures.by_file;
+  before = c.states_between_survive.ensures.before;
+  after = c.states_between_survive.ensures.after;
+}) g.D.Disk.state c.self.inside.log c.self.inside.disk c.args.self.now c.self.view_is c.self.invariant c.args.client (calls.Reserve c.args.area c.args.sizes.now)
+
+pub returns-in-Ok-clause-moments : goal.returns-in-Ok-clause-moments
+returns-in-Ok-clause-moments g c =
+    let s : State = c.self.inside.log.state.value in
+    let sizes = c.args.sizes.now in
+    let managed = c.self.invariant in
+    let asked : Request = asks c.args.client (calls.Reserve c.args.area sizes) in
+    let none : refusal s c.args.client (calls.Reserve c.args.area sizes) ≡ None =
+    c.in_ok-place.ensures.found (λ (a : Area). too_long a.largest sizes (full s (own_sum sizes))) ∙ sym c.reserve_refusal.ensures ∙ c.in_default.is in
+    let need : c.own_sum-need.result ≡ own_sum sizes = c.own_sum-need.ensures.value ∙ ap own_sum c.as_slice.ensures.value in
+    let larger = growth_survives c.states_between_survive.ensures.reserve s c.args.client c.args.area _ sizes managed.valid managed.storable
+    (managed.broken ∙ c.if-self.false) none c.in_ok-place.ensures.there in
+    crash_seen g.D.Disk.state (s, c.self.inside.disk) c.args.self.now c.self.view_is asked (g.D.Disk.state c.grow.new.disk)
+    (λ whole. c.grow.ensures.moments asked s (c.states_between_survive.ensures.before s c.args.client (calls.Reserve c.args.area sizes) managed.valid)
+    (survives_as asked s (grown s c.own_sum-need.result) (grown s (own_sum sizes)) (ap (λ (n : ℕ). grown s n) need) larger))
+
+pub returns-in-Err-DiskFault-clause-moments : goal.returns-in-Err-DiskFault-clause-moments
+returns-in-Err-DiskFault-clause-moments g c =
+    let s : State = c.self.inside.log.state.value in
+    let sizes = c.args.sizes.now in
+    let managed = c.self.invariant in
+    let asked : Request = asks c.args.client (calls.Reserve c.args.area sizes) in
+    let none : refusal s c.args.client (calls.Reserve c.args.area sizes) ≡ None =
+    c.in_ok-place.ensures.found (λ (a : Area). too_long a.largest sizes (full s (own_sum sizes))) ∙ sym c.reserve_refusal.ensures ∙ c.in_default.is in
+    let need : c.own_sum-need.result ≡ own_sum sizes = c.own_sum-need.ensures.value ∙ ap own_sum c.as_slice.ensures.value in
+    let larger = growth_survives c.states_between_survive.ensures.reserve s c.args.client c.args.area _ sizes managed.valid managed.storable
+    (managed.broken ∙ c.if-self.false) none c.in_ok-place.ensures.there in
+    crash_seen g.D.Disk.state (s, c.self.inside.disk) c.args.self.now c.self.view_is asked (g.D.Disk.state c.grow.new.disk)
+    (λ whole. c.grow.ensures.moments asked s (c.states_between_survive.ensures.before s c.args.client (calls.Reserve c.args.area sizes) managed.valid)
+    (survives_as asked s (grown s c.own_sum-need.result) (grown s (own_sum sizes)) (ap (λ (n : ℕ). grown s n) need) larger))
+
+pub returns-in-Err-NoMemory-clause-moments : goal.returns-in-Err-NoMemory-clause-moments
+returns-in-Err-NoMemory-clause-moments g c =
+    let s : State = c.self.inside.log.state.value in
+    let sizes = c.args.sizes.now in
+    let managed = c.self.invariant in
+    let asked : Request = asks c.args.client (calls.Reserve c.args.area sizes) in
+    let none : refusal s c.args.client (calls.Reserve c.args.area sizes) ≡ None =
+    c.in_ok-place.ensures.found (λ (a : Area). too_long a.largest sizes (full s (own_sum sizes))) ∙ sym c.reserve_refusal.ensures ∙ c.in_default.is in
+    let need : c.own_sum-need.result ≡ own_sum sizes = c.own_sum-need.ensures.value ∙ ap own_sum c.as_slice.ensures.value in
+    let larger = growth_survives c.states_between_survive.ensures.reserve s c.args.client c.args.area _ sizes managed.valid managed.storable
+    (managed.broken ∙ c.if-self.false) none c.in_ok-place.ensures.there in
+    crash_seen g.D.Disk.state (s, c.self.inside.disk) c.args.self.now c.self.view_is asked (g.D.Disk.state c.grow.new.disk)
+    (λ whole. c.grow.ensures.moments asked s (c.states_between_survive.ensures.before s c.args.client (calls.Reserve c.args.area sizes) managed.valid)
+    (survives_as asked s (grown s c.own_sum-need.result) (grown s (own_sum sizes)) (ap (λ (n : ℕ). grown s n) need) larger))

@@ -1,3 +1,5 @@
+use Rattle.clfs_model.specs.Run.{asks}
+use Rattle.clfs_manager.proofs.CopyingCalls.{crash_answered, crash_untouched}
 use Rattle.std.proofs.Common.{IsErrOf, refl, sym, ◌∙◌, false}
 use Rattle.clfs_model.specs.declared.call.Call.TheVariants as calls
 use Rattle.clfs_model.specs.declared.refusal.Refusal.TheVariants as refusals
@@ -56,3 +58,36 @@ returns-clause-writes g c =
       | in-Err-DiskFault w ↦ writes_as fault told _ _ (λ f. cc) (λ f. cc) is
       | in-Err-NoMemory w ↦ writes_as fault told _ _ (λ f. cc) (λ f. cc) is
     ])
+
+pub returns-then-self-clause-moments : goal.returns-then-self-clause-moments
+returns-then-self-clause-moments g c = λ client. crash_untouched (record {
+  stands = c.logs_are_copies_and_blocks.ensures.stands;
+  by_file = c.logs_are_copies_and_blocks.ensures.by_file;
+  before = c.states_between_survive.ensures.before;
+  after = c.states_between_survive.ensures.after;
+}) g.D.Disk.state c.self.inside.log c.self.inside.disk c.args.self.now c.self.view_is c.self.invariant client (calls.SetSize c.args.containers)
+
+pub returns-in-Some-clause-moments : goal.returns-in-Some-clause-moments
+returns-in-Some-clause-moments g c = λ client. crash_untouched (record {
+  stands = c.logs_are_copies_and_blocks.ensures.stands;
+  by_file = c.logs_are_copies_and_blocks.ensures.by_file;
+  before = c.states_between_survive.ensures.before;
+  after = c.states_between_survive.ensures.after;
+}) g.D.Disk.state c.self.inside.log c.self.inside.disk c.args.self.now c.self.view_is c.self.invariant client (calls.SetSize c.args.containers)
+
+pub returns-then-containers-clause-moments : goal.returns-then-containers-clause-moments
+returns-then-containers-clause-moments g c = λ client. crash_untouched (record {
+  stands = c.logs_are_copies_and_blocks.ensures.stands;
+  by_file = c.logs_are_copies_and_blocks.ensures.by_file;
+  before = c.states_between_survive.ensures.before;
+  after = c.states_between_survive.ensures.after;
+}) g.D.Disk.state c.self.inside.log c.self.inside.disk c.args.self.now c.self.view_is c.self.invariant client (calls.SetSize c.args.containers)
+
+pub returns-clause-moments : goal.returns-clause-moments
+returns-clause-moments g c = λ client. crash_answered (record {
+  stands = c.logs_are_copies_and_blocks.ensures.stands;
+  by_file = c.logs_are_copies_and_blocks.ensures.by_file;
+  before = c.states_between_survive.ensures.before;
+  after = c.states_between_survive.ensures.after;
+}) g.D.Disk.state c.self.inside.log c.self.inside.disk c.args.self.now c.self.view_is c.self.invariant client (calls.SetSize c.args.containers)
+    (with_containers c.args.containers c.self.inside.log.state.value) (g.D.Disk.state c.resize.new.disk) (sym c.size_refusal.ensures ∙ c.in_default.is) (refl) (c.resize.ensures.moments (asks client (calls.SetSize c.args.containers)) c.self.inside.log.state.value)

@@ -1,5 +1,8 @@
-use Rattle.std.proofs.Common.{refl}
+use Rattle.std.proofs.Common.{refl, sym, subst}
+use Rattle.clfs_disk.specs.Files.{Unchanged}
+use Rattle.clfs_disk.specs.State.{Passes}
 use Rattle.clfs_model.specs.declared.reply.Reply.TheVariants as replies
+use Rattle.clfs_manager.proofs.ReadKeeps.{still as still_passes}
 use Rattle.clfs_manager.proofs.StepCalls.{undamaged, still, written}
 use Rattle.clfs_manager.proofs.manager.Manager.step.Goals as goal
 
@@ -116,3 +119,145 @@ returns-in-Info-clause-damage g c = λ tells. undamaged _ _ _ _ replies.Info _ _
 
 pub returns-in-Info-clause-writes : goal.returns-in-Info-clause-writes
 returns-in-Info-clause-writes g c = still _ _ _ _ replies.Info _ _ _ _ refl c.info_reply.ensures (c.info.ensures.step (g.D.Disk.state c.args.self.now.1).nature.tells_contents c.args.client)
+
+pub returns-in-OpenStream-clause-moments : goal.returns-in-OpenStream-clause-moments
+returns-in-OpenStream-clause-moments g c = rw c.in-OpenStream.is (c.open_stream.ensures.moments)
+
+pub returns-in-OpenStream-clause-stopped : goal.returns-in-OpenStream-clause-stopped
+returns-in-OpenStream-clause-stopped g c = c.open_stream.ensures.stopped
+
+pub returns-in-Reserve-clause-moments : goal.returns-in-Reserve-clause-moments
+returns-in-Reserve-clause-moments g c = rw c.in-Reserve.is (c.reserve.ensures.moments)
+
+pub returns-in-Reserve-clause-stopped : goal.returns-in-Reserve-clause-stopped
+returns-in-Reserve-clause-stopped g c = c.reserve.ensures.stopped
+
+pub returns-in-Append-clause-moments : goal.returns-in-Append-clause-moments
+returns-in-Append-clause-moments g c = rw c.in-Append.is (c.append.ensures.moments)
+
+pub returns-in-Append-clause-stopped : goal.returns-in-Append-clause-stopped
+returns-in-Append-clause-stopped g c = c.append.ensures.stopped
+
+pub returns-in-Flush-clause-moments : goal.returns-in-Flush-clause-moments
+returns-in-Flush-clause-moments g c = rw c.in-Flush.is (c.flush.ensures.moments)
+
+pub returns-in-Flush-clause-stopped : goal.returns-in-Flush-clause-stopped
+returns-in-Flush-clause-stopped g c = c.flush.ensures.stopped
+
+pub returns-in-FlushTo-clause-moments : goal.returns-in-FlushTo-clause-moments
+returns-in-FlushTo-clause-moments g c = rw c.in-FlushTo.is (c.flush_to.ensures.moments)
+
+pub returns-in-FlushTo-clause-stopped : goal.returns-in-FlushTo-clause-stopped
+returns-in-FlushTo-clause-stopped g c = c.flush_to.ensures.stopped
+
+pub returns-in-Read-clause-moments : goal.returns-in-Read-clause-moments
+returns-in-Read-clause-moments g c = rw c.in-Read.is (c.read.ensures.moments)
+
+pub returns-in-Read-clause-stopped : goal.returns-in-Read-clause-stopped
+returns-in-Read-clause-stopped g c = c.read.ensures.stopped
+
+pub returns-in-ReadNext-clause-moments : goal.returns-in-ReadNext-clause-moments
+returns-in-ReadNext-clause-moments g c = rw c.in-ReadNext.is (c.read_next.ensures.moments)
+
+pub returns-in-ReadNext-clause-stopped : goal.returns-in-ReadNext-clause-stopped
+returns-in-ReadNext-clause-stopped g c = c.read_next.ensures.stopped
+
+pub returns-in-WriteRestart-clause-moments : goal.returns-in-WriteRestart-clause-moments
+returns-in-WriteRestart-clause-moments g c = rw c.in-WriteRestart.is (c.write_restart.ensures.moments)
+
+pub returns-in-WriteRestart-clause-stopped : goal.returns-in-WriteRestart-clause-stopped
+returns-in-WriteRestart-clause-stopped g c = c.write_restart.ensures.stopped
+
+pub returns-in-ReadRestart-clause-moments : goal.returns-in-ReadRestart-clause-moments
+returns-in-ReadRestart-clause-moments g c = rw c.in-ReadRestart.is (c.read_restart.ensures.moments)
+
+pub returns-in-ReadRestart-clause-stopped : goal.returns-in-ReadRestart-clause-stopped
+returns-in-ReadRestart-clause-stopped g c = c.read_restart.ensures.stopped
+
+pub returns-in-PreviousRestart-clause-moments : goal.returns-in-PreviousRestart-clause-moments
+returns-in-PreviousRestart-clause-moments g c = rw c.in-PreviousRestart.is (c.previous_restart.ensures.moments)
+
+pub returns-in-PreviousRestart-clause-stopped : goal.returns-in-PreviousRestart-clause-stopped
+returns-in-PreviousRestart-clause-stopped g c = c.previous_restart.ensures.stopped
+
+pub returns-in-Advance-clause-moments : goal.returns-in-Advance-clause-moments
+returns-in-Advance-clause-moments g c = rw c.in-Advance.is (c.advance.ensures.moments)
+
+pub returns-in-Advance-clause-stopped : goal.returns-in-Advance-clause-stopped
+returns-in-Advance-clause-stopped g c = c.advance.ensures.stopped
+
+pub returns-in-SetArchive-clause-moments : goal.returns-in-SetArchive-clause-moments
+returns-in-SetArchive-clause-moments g c = rw c.in-SetArchive.is (c.set_archive.ensures.moments c.args.client)
+
+pub returns-in-SetArchive-clause-stopped : goal.returns-in-SetArchive-clause-stopped
+returns-in-SetArchive-clause-stopped g c = c.set_archive.ensures.stopped
+
+pub returns-in-SetArchiveTail-clause-moments : goal.returns-in-SetArchiveTail-clause-moments
+returns-in-SetArchiveTail-clause-moments g c = rw c.in-SetArchiveTail.is (c.set_archive_tail.ensures.moments c.args.client)
+
+pub returns-in-SetArchiveTail-clause-stopped : goal.returns-in-SetArchiveTail-clause-stopped
+returns-in-SetArchiveTail-clause-stopped g c = c.set_archive_tail.ensures.stopped
+
+pub returns-in-InstallPolicy-clause-moments : goal.returns-in-InstallPolicy-clause-moments
+returns-in-InstallPolicy-clause-moments g c = rw c.in-InstallPolicy.is (c.install_policy.ensures.moments c.args.client)
+
+pub returns-in-InstallPolicy-clause-stopped : goal.returns-in-InstallPolicy-clause-stopped
+returns-in-InstallPolicy-clause-stopped g c = c.install_policy.ensures.stopped
+
+pub returns-in-RemovePolicy-clause-moments : goal.returns-in-RemovePolicy-clause-moments
+returns-in-RemovePolicy-clause-moments g c = rw c.in-RemovePolicy.is (c.remove_policy.ensures.moments c.args.client)
+
+pub returns-in-RemovePolicy-clause-stopped : goal.returns-in-RemovePolicy-clause-stopped
+returns-in-RemovePolicy-clause-stopped g c = c.remove_policy.ensures.stopped
+
+pub returns-in-SetSize-clause-moments : goal.returns-in-SetSize-clause-moments
+returns-in-SetSize-clause-moments g c = rw c.in-SetSize.is (c.set_size.ensures.moments c.args.client)
+
+pub returns-in-SetSize-clause-stopped : goal.returns-in-SetSize-clause-stopped
+returns-in-SetSize-clause-stopped g c = c.set_size.ensures.stopped
+
+pub returns-in-CreateArea-clause-moments : goal.returns-in-CreateArea-clause-moments
+returns-in-CreateArea-clause-moments g c = c.stored.ensures.survives c.args.client _ _ (subst (λ d. Passes Unchanged (g.D.Disk.state c.args.self.now.1) (g.D.Disk.state d)) (sym c.create_area.ensures.disk)
+    (still_passes (g.D.Disk.state c.args.self.now.1)))
+
+pub returns-in-CreateArea-clause-stopped : goal.returns-in-CreateArea-clause-stopped
+returns-in-CreateArea-clause-stopped g c = λ _. c.create_area.ensures.disk
+
+pub returns-in-DeleteArea-clause-moments : goal.returns-in-DeleteArea-clause-moments
+returns-in-DeleteArea-clause-moments g c = c.stored.ensures.survives c.args.client _ _ (subst (λ d. Passes Unchanged (g.D.Disk.state c.args.self.now.1) (g.D.Disk.state d)) (sym c.delete_area.ensures.disk)
+    (still_passes (g.D.Disk.state c.args.self.now.1)))
+
+pub returns-in-DeleteArea-clause-stopped : goal.returns-in-DeleteArea-clause-stopped
+returns-in-DeleteArea-clause-stopped g c = λ _. c.delete_area.ensures.disk
+
+pub returns-in-Release-clause-moments : goal.returns-in-Release-clause-moments
+returns-in-Release-clause-moments g c = c.stored.ensures.survives c.args.client _ _ (subst (λ d. Passes Unchanged (g.D.Disk.state c.args.self.now.1) (g.D.Disk.state d)) (sym c.release.ensures.disk)
+    (still_passes (g.D.Disk.state c.args.self.now.1)))
+
+pub returns-in-Release-clause-stopped : goal.returns-in-Release-clause-stopped
+returns-in-Release-clause-stopped g c = λ _. c.release.ensures.disk
+
+pub returns-in-EndRead-clause-moments : goal.returns-in-EndRead-clause-moments
+returns-in-EndRead-clause-moments g c = c.stored.ensures.survives c.args.client _ _ (subst (λ d. Passes Unchanged (g.D.Disk.state c.args.self.now.1) (g.D.Disk.state d)) (sym c.end_read.ensures.disk)
+    (still_passes (g.D.Disk.state c.args.self.now.1)))
+
+pub returns-in-EndRead-clause-stopped : goal.returns-in-EndRead-clause-stopped
+returns-in-EndRead-clause-stopped g c = λ _. c.end_read.ensures.disk
+
+pub returns-in-Align-clause-moments : goal.returns-in-Align-clause-moments
+returns-in-Align-clause-moments g c = c.stored.ensures.survives c.args.client _ _ (still_passes (g.D.Disk.state c.args.self.now.1))
+
+pub returns-in-Align-clause-stopped : goal.returns-in-Align-clause-stopped
+returns-in-Align-clause-stopped g c = λ _. refl
+
+pub returns-in-ListExtents-clause-moments : goal.returns-in-ListExtents-clause-moments
+returns-in-ListExtents-clause-moments g c = c.stored.ensures.survives c.args.client _ _ (still_passes (g.D.Disk.state c.args.self.now.1))
+
+pub returns-in-ListExtents-clause-stopped : goal.returns-in-ListExtents-clause-stopped
+returns-in-ListExtents-clause-stopped g c = λ _. refl
+
+pub returns-in-Info-clause-moments : goal.returns-in-Info-clause-moments
+returns-in-Info-clause-moments g c = c.stored.ensures.survives c.args.client _ _ (still_passes (g.D.Disk.state c.args.self.now.1))
+
+pub returns-in-Info-clause-stopped : goal.returns-in-Info-clause-stopped
+returns-in-Info-clause-stopped g c = λ _. refl

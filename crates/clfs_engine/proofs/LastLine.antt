@@ -1,0 +1,144 @@
+-- How the answering of a script ends behind the lines that have their line feed: by the last line, where there is one.
+use Rattle.std.proofs.Common.{◌≡◌, ℕ, ◌<◌, Bool, true, false, List, [], ◌∷◌, ◌++◌, length, take, drop, refl, sym, ap, ◌∙◌, subst, inl, inr, arith}
+use Rattle.std.specs.Prelude.{◌==◌, Option}
+use Rattle.std.proofs.lemmas.Bool.{eqb-true}
+use Rattle.std.specs.Io.KnownBytes.{Appends}
+use Rattle.std.proofs.lemmas.List.{append-nil, take_all, take-append-drop}
+use Rattle.clfs_disk.specs.State.{DiskState}
+use Rattle.clfs_model.specs.declared.state.State.{State}
+use Rattle.clfs_model.specs.Lines.{lines_of, without_return}
+use Rattle.clfs_model.specs.Script.{line_request}
+use Rattle.clfs_model.specs.Text.{reply_line, client_of}
+use Rattle.clfs_engine.specs.Answered.{AnswersLine, AnswersLines, AnswersUnwritten, AnswersInPart}
+use Rattle.clfs_engine.specs.Ends.{AppendsFront}
+use Rattle.clfs_engine.specs.Feeds.{with_feeds}
+use Rattle.clfs_engine.specs.Reached.{HasAnsweredEnded}
+use Rattle.clfs_engine.specs.Serve.{StopsShort, IsWholeAnswer, Writes}
+use Rattle.clfs_engine.specs.Taken.{longest_script, IsWholeScript}
+use Rattle.clfs_engine.proofs.InPart.{all_written, front_written}
+use Rattle.clfs_engine.proofs.ScriptLines.{known_are_front, script_ended, script_cut, short_is_within, all_short_more}
+use Rattle.clfs_engine.proofs.UnderWay.{line_more}
+use Rattle.clfs_engine.proofs.WholeSteps.{AreOwn}
+use Rattle.clfs_engine.proofs.Written.{appends_more}
+
+-- what it says that there are no bytes, or some
+pub no_bytes : (bytes : List ℕ) (count : ℕ) (test : Bool) → length bytes ≡ count → test ≡ (count == 0) → test ≡ true → bytes ≡ []
+no_bytes [] count test many is holds = refl
+no_bytes (b ∷ bytes) count test many is holds = let never = eqb-true count 0 (sym is ∙ holds) in absurd (omega (arith, never, many))
+
+pub some_bytes : (bytes : List ℕ) (count : ℕ) (test : Bool) → length bytes ≡ count → test ≡ (count == 0) → test ≡ false → 0 < length bytes
+some_bytes [] count test many is fails =
+    let tested : (count == 0) ≡ true = ap (λ (n : ℕ). n == 0) (sym many) in
+    absurd (let never : true ≡ false = sym tested ∙ sym is ∙ fails in cc never)
+some_bytes (b ∷ bytes) count test many is fails = omega arith
+
+module _ (s : State) (old : DiskState) (left left_after written : Option (List ℕ)) where
+  -- all lines of a script, the last one too
+  all_lines : (line : List ℕ) (t : State) (new : DiskState) (w : Option (List ℕ)) (ended : HasAnsweredEnded s old left left_after written line t new w)
+      → 0 < length line → lines_of ended.script ≡ ended.so_far.lines ++ line ∷ []
+  all_lines line t new w ended some = script_cut ended.script ended.so_far.lines line ended.so_far.whole ended.so_far.split ended.one some
+
+  is_whole : (line : List ℕ) (t : State) (new : DiskState) (w : Option (List ℕ)) (ended : HasAnsweredEnded s old left left_after written line t new w)
+      → 0 < length line → IsWholeScript left left_after ended.script
+  is_whole line t new w ended some = record {
+    given = ended.given;
+    end = ended.end;
+    within = short_is_within ended.script (ended.so_far.lines ++ line ∷ []) ended.few (all_lines line t new w ended some)
+        (all_short_more ended.so_far.lines line ended.so_far.short ended.short);
+  }
+
+  -- the script ends with a line feed
+  pub none_left : (line : List ℕ) (t : State) (new : DiskState) (w : Option (List ℕ)) → HasAnsweredEnded s old left left_after written line t new w → line ≡ []
+      → Writes (IsWholeAnswer (AnswersLines s old t new) left left_after) written w
+  none_left line t new w ended none =
+      let so_far = ended.so_far in
+      let all : lines_of ended.script ≡ so_far.lines =
+      script_ended ended.script so_far.lines so_far.whole (ap (λ (rest : List ℕ). with_feeds so_far.lines ++ rest) (sym none) ∙ so_far.split) in (
+        so_far.text,
+        record {
+          script = ended.script;
+          read = record { given = ended.given; end = ended.end; within = short_is_within ended.script so_far.lines ended.few all so_far.short };
+          answered = subst (λ (lines : List (List ℕ)). AnswersLines s old t new lines so_far.text) (sym all) so_far.answered;
+        },
+        so_far.replies,
+      )
+
+  -- the last line was answered
+  pub last_answered : AreOwn → (line : List ℕ) (mid : State) (between : DiskState) (before text : List ℕ) (t : State) (new : DiskState) (w1 w2 : Option (List ℕ))
+      → HasAnsweredEnded s old left left_after written line mid between w1 → 0 < length line → AnswersLine mid between line before text t new → before ≡ []
+      → Appends w1 w2 text → Writes (IsWholeAnswer (AnswersLines s old t new) left left_after) written w2
+  last_answered own line mid between before text t new w1 w2 ended some step none wrote =
+      let so_far = ended.so_far in
+      let reply : List ℕ = reply_line (client_of (line_request (without_return line))) step.reply in
+      let is : text ≡ reply = step.text ∙ ap (λ (b : List ℕ). b ++ reply) none in (
+        so_far.text ++ reply,
+        record {
+          script = ended.script;
+          read = is_whole line mid between w1 ended some;
+          answered = subst (λ (lines : List (List ℕ)). AnswersLines s old t new lines (so_far.text ++ reply)) (sym (all_lines line mid between w1 ended some))
+              (line_more own s old so_far.lines line mid between so_far.text t new step.reply so_far.answered step.answered);
+        },
+        appends_more written w1 w2 so_far.text text (so_far.text ++ reply) (ap (λ (r : List ℕ). so_far.text ++ r) (sym is)) so_far.replies wrote,
+      )
+
+  -- memory ran out before it
+  pub last_unanswered : (line : List ℕ) (t : State) (new : DiskState) (w : Option (List ℕ)) → HasAnsweredEnded s old left left_after written line t new w
+      → StopsShort (AnswersInPart s old t new) left left_after written w
+  last_unanswered line t new w ended =
+      let so_far = ended.so_far in (
+        so_far.lines,
+        (
+          inl (record {
+            bytes = ended.script;
+            given = ended.given;
+            front = known_are_front ended.script so_far.lines line so_far.whole so_far.short (so_far.split ∙ sym (take_all longest_script ended.script ended.few));
+          }),
+          (so_far.text, all_written s old t new so_far.lines so_far.text so_far.answered, so_far.replies),
+        ),
+      )
+
+  -- memory ran out behind the answer to it
+  pub last_unwritten : AreOwn → (line : List ℕ) (mid : State) (between : DiskState) (t : State) (new : DiskState) (w : Option (List ℕ))
+      → HasAnsweredEnded s old left left_after written line mid between w → 0 < length line → AnswersUnwritten mid between line t new
+      → StopsShort (AnswersInPart s old t new) left left_after written w
+  last_unwritten own line mid between t new w ended some step =
+      let so_far = ended.so_far in (
+        so_far.lines ++ line ∷ [],
+        (
+          inr (record {
+            script = ended.script;
+            read = is_whole line mid between w ended some;
+            all = all_lines line mid between w ended some;
+          }),
+          (
+            so_far.text ++ [],
+            front_written own s old so_far.lines line mid between so_far.text t new step.reply [] (reply_line (client_of (line_request (without_return line))) step.reply)
+                so_far.answered step.answered refl,
+            subst (λ (text : List ℕ). Appends written w text) (sym (append-nil so_far.text)) so_far.replies,
+          ),
+        ),
+      )
+
+  -- the sink failed in the reply to it
+  pub last_cut : AreOwn → (line : List ℕ) (mid : State) (between : DiskState) (before text : List ℕ) (t : State) (new : DiskState) (w1 w2 : Option (List ℕ))
+      → HasAnsweredEnded s old left left_after written line mid between w1 → 0 < length line → AnswersLine mid between line before text t new → before ≡ []
+      → AppendsFront w1 w2 text → StopsShort (AnswersInPart s old t new) left left_after written w2
+  last_cut own line mid between before text t new w1 w2 ended some step none wrote =
+      let so_far = ended.so_far in
+      let reply : List ℕ = reply_line (client_of (line_request (without_return line))) step.reply in
+      let is : text ≡ reply = step.text ∙ ap (λ (b : List ℕ). b ++ reply) none in (
+        so_far.lines ++ line ∷ [],
+        (
+          inr (record {
+            script = ended.script;
+            read = is_whole line mid between w1 ended some;
+            all = all_lines line mid between w1 ended some;
+          }),
+          (
+            so_far.text ++ take wrote.count text,
+            front_written own s old so_far.lines line mid between so_far.text t new step.reply (take wrote.count text) (drop wrote.count text)
+                so_far.answered step.answered (take-append-drop wrote.count text ∙ is),
+            appends_more written w1 w2 so_far.text (take wrote.count text) (so_far.text ++ take wrote.count text) refl so_far.replies wrote.front,
+          ),
+        ),
+      )
