@@ -1,6 +1,6 @@
 -- Bytes encoded piece by piece.
 use Rattle.std.proofs.Common.{◌≡◌, ℕ, List, [], ◌∷◌, ◌++◌, take, drop, refl, sym, ◌∙◌, ap, append_assoc, arith}
-use Rattle.std.specs.Prelude.{◌==◌, length, true, ◌↔◌, IsOk, OnOk, Result, Ok, Err}
+use Rattle.std.specs.Prelude.{◌==◌, length, true}
 use Rattle.std.proofs.lemmas.List.{take-append-drop, append-nil}
 use Rattle.std.proofs.lemmas.Bool.{eqb-true}
 use Rattle.hex.specs.Hex.{encode_with, encode_lower, lower_digits}
@@ -27,8 +27,3 @@ encoded_more out whole rest piece behind text n so_far front back is =
 pub encoded_all : (out whole rest : List ℕ) → out ++ encode_lower rest ≡ whole → (length rest == 0) ≡ true → out ≡ whole
 encoded_all out whole [] so_far none = sym (append-nil out) ∙ rw encoded_none at so_far
 encoded_all out whole (b ∷ rest) so_far none = absurd (let e = eqb-true (length (b ∷ rest)) 0 none in omega (arith, e))
-
--- what is written where there is room
-pub written : {A E : Type 0} (result : Result A E) (P Q : Type 0) → (IsOk result ↔ P) → P → OnOk result Q → Q
-written (Ok x) P Q fits room text = text
-written (Err e) P Q fits room text = absurd (cc (fits.1 room))

@@ -1,9 +1,9 @@
 -- Pairs of hexadecimal digits, one after the other.
-use Rattle.std.proofs.Common.{◌≡◌, ℕ, suc, ◌+◌, ◌-◌, ◌*◌, ◌%◌, ◌≤◌, ◌<◌, List, [], ◌∷◌, ◌++◌, length, get_or, take, drop, set, true, false, Option, Some, None, Result, Ok, Err, refl, sym, ◌∙◌, ap, arith, inl, inr, drop-cons, add-one, append_assoc}
-use Rattle.std.specs.Prelude.{if◌then◌else◌, ◌&&◌, ◌||◌, ◌==◌, ◌⊎◌, nat_lt, nat_le}
+use Rattle.std.proofs.Common.{◌≡◌, ℕ, suc, ◌+◌, ◌-◌, ◌*◌, ◌%◌, ◌≤◌, ◌<◌, List, [], ◌∷◌, ◌++◌, length, get_or, take, drop, set, true, false, Option, Some, None, Result, Ok, Err, refl, sym, ◌∙◌, ap, arith, inl, inr, drop-cons, drop-drop, add-one, append_assoc}
+use Rattle.std.specs.Prelude.{if◌then◌else◌, ◌&&◌, ◌||◌, ◌==◌, ◌⊎◌, nat_lt, nat_le, max, MatchBool}
 use Rattle.std.specs.Option.{option_map}
 use Rattle.std.specs.Result.{result_ok}
-use Rattle.std.proofs.lemmas.Bool.{cases_Bool, and_parts, leb-true, lt-ltb, le-ltb, ne_eqb}
+use Rattle.std.proofs.lemmas.Bool.{cases_Bool, cases_lt, and_parts, leb-true, leb-false, lt-ltb, le-ltb, ne_eqb}
 use Rattle.hex.specs.declared.error.FromHexError.{FromHexError}
 use Rattle.hex.specs.Hex.{◌>>=◌, decode_of, decode_pairs, hex_digit_value}
 use Rattle.std.proofs.lemmas.List.{drop_all, take_all, append-nil}
@@ -130,3 +130,52 @@ pairs_end text out i even past so_far =
     let all : take i out ≡ out = take_all i out past in
     let whole = rw (none, all) at so_far in
     whole ∙ ap Some (append-nil out)
+
+-- the two digits at the front of what is left
+pub first_two : (text rest pair : List ℕ) (i : ℕ) → rest ≡ drop (2 * i) text → pair ≡ take 2 rest → 2 * i + 1 < length text
+    → (get_or pair 0 0 ≡ get_or text (2 * i) 0) × (get_or pair 1 0 ≡ get_or text (2 * i + 1) 0)
+first_two text rest pair i behind front within = let two = two_more text i within in (rw (front, behind, two) refl, rw (front, behind, two) refl)
+
+-- what is left behind them
+pub two_behind : (text rest after : List ℕ) (i : ℕ) → rest ≡ drop (2 * i) text → after ≡ drop 2 rest → after ≡ drop (2 * (i + 1)) text
+two_behind text rest after i behind back =
+    back ∙ ap (drop 2) behind ∙ drop-drop 2 (2 * i) text ∙ ap (λ n. drop n text) {x = 2 * i + 2} {y = 2 * (i + 1)} (omega arith)
+
+-- what is known of a byte by the number that was read for it
+abbrev pub IsRead : ℕ → ℕ → Type 0
+IsRead byte read = (read ≤ 15 → nibble_of byte ≡ read) × (15 < read → nibble_of byte ≡ 255)
+
+-- a pair of bytes, as long as all were digits
+pub good_pair : (text out : List ℕ) (i high low greatest : ℕ) → length text ≡ 2 * length out → i < length out
+    → IsRead (get_or text (2 * i) 0) high → IsRead (get_or text (2 * i + 1) 0) low
+    → (greatest ≤ 15 → pairs text ≡ behind (take i out) (pairs (drop (2 * i) text))) → max greatest (max high low) ≤ 15
+    → pairs text ≡ behind (take (i + 1) (set out i (high % 16 * 16 + low % 16))) (pairs (drop (2 * (i + 1)) text))
+good_pair text out i high low greatest even within h l so_far small =
+    let hs : high ≤ 15 = omega arith in
+    let ls : low ≤ 15 = omega arith in
+    let byte : high % 16 * 16 + low % 16 ≡ high * 16 + low = omega arith in
+    rw byte (pair_step text out i high low even within (sym (h.0 hs)) (sym (l.0 ls)) hs ls (so_far (omega arith)))
+
+-- once a byte was no digit
+pub bad_pair : (text out : List ℕ) (i high low greatest : ℕ) → length text ≡ 2 * length out → i < length out
+    → IsRead (get_or text (2 * i) 0) high → IsRead (get_or text (2 * i + 1) 0) low
+    → (greatest ≤ 15 → pairs text ≡ behind (take i out) (pairs (drop (2 * i) text))) → (15 < greatest → pairs text ≡ None)
+    → 15 < max greatest (max high low) → pairs text ≡ None
+bad_pair text out i high low greatest even within h l so_far bad large = elim (cases_lt 15 greatest) [
+  | inl before ↦ bad before
+  | inr before ↦ elim (cases_lt 15 high) [
+    | inl first ↦ let e = h.1 first in pair_bad text out i even within (inl (omega (arith, e))) (so_far before)
+    | inr first ↦
+        let second : 15 < low = omega arith in
+        let e = l.1 second in pair_bad text out i even within (inr (omega (arith, e))) (so_far before)
+  ]
+]
+
+-- what the greatest number shows in the end
+pub all_read : (text out : List ℕ) (i greatest : ℕ) → length text ≡ 2 * length out → length out ≤ i
+    → (greatest ≤ 15 → pairs text ≡ behind (take i out) (pairs (drop (2 * i) text))) → (15 < greatest → pairs text ≡ None)
+    → MatchBool (nat_le greatest 15) (result_ok (decode_of text) ≡ Some out) (result_ok (decode_of text) ≡ None)
+all_read text out i greatest even past so_far bad = elim (cases_Bool (nat_le greatest 15)) [
+  | inl t ↦ rw t (decoded text (length out) even ∙ pairs_end text out i even past (so_far (leb-true greatest 15 t)))
+  | inr t ↦ rw t (decoded text (length out) even ∙ bad (leb-false greatest 15 t))
+]

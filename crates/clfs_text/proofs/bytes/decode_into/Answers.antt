@@ -1,26 +1,26 @@
-use Rattle.std.proofs.Common.{◌≡◌, ◌*◌, ◌∙◌, arith, inl, inr, length}
-use Rattle.clfs_text.proofs.Pairs.{decoded, pair_step, pair_bad, pairs_end}
+use Rattle.std.proofs.Common.{◌≡◌, ◌*◌, ◌+◌, arith, length, get_or, subst}
+use Rattle.clfs_text.proofs.Pairs.{IsRead, first_two, two_behind, good_pair, bad_pair, all_read}
 use Rattle.clfs_text.proofs.bytes.decode_into.Goals as goal
-use Rattle.clfs_text.proofs.bytes.decode_into.Goals.{then-high-gt15-via-then-high-gt15, then-high-gt15-via-else-high-gt15+then-low-gt15}
-
-pub returns-then-high-gt15 : goal.returns-then-high-gt15
-returns-then-high-gt15 c =
-    let text = c.args.text.now in
-    let even : length text ≡ 2 * length c.loop-i.out = omega (arith, c.requires) in
-    decoded text (length c.loop-i.out) even ∙ elim c.then-high-gt15.branch [
-      | then-high-gt15-via-then-high-gt15 w ↦
-          pair_bad text c.loop-i.out c.loop-i.i even (omega arith) (inl (omega (arith, w.if-high-gt15.true, c.nibble-high.ensures))) c.loop-i.invariant
-      | then-high-gt15-via-else-high-gt15+then-low-gt15 w ↦
-          pair_bad text c.loop-i.out c.loop-i.i even (omega arith) (inr (omega (arith, w.if-low-gt15.true, c.nibble-low.ensures))) c.loop-i.invariant
-    ]
 
 pub loop-i-preserved : goal.loop-i-preserved
 loop-i-preserved c =
-    pair_step c.args.text.now c.loop-i.out c.loop-i.i c.nibble-high.result c.nibble-low.result (omega (arith, c.requires)) (omega arith)
-    c.nibble-high.ensures c.nibble-low.ensures c.if-high-gt15.false c.if-low-gt15.false c.loop-i.invariant
+    let text = c.args.text.now in
+    let i = c.loop-i.i in
+    let even : length text ≡ 2 * length c.loop-i.out = omega (arith, c.requires) in
+    let two = first_two text c.loop-i.rest.now c.split_at.result.0.now i c.loop-i.invariant.rest c.split_at.ensures.front (omega arith) in
+    let first : IsRead (get_or c.split_at.result.0.now 0 0) c.nibble-high.result = (c.nibble-high.ensures.digit, c.nibble-high.ensures.other) in
+    let second : IsRead (get_or c.split_at.result.0.now 1 0) c.nibble-low.result = (c.nibble-low.ensures.digit, c.nibble-low.ensures.other) in
+    let high : IsRead (get_or text (2 * i) 0) c.nibble-high.result = subst (λ b. IsRead b c.nibble-high.result) two.0 first in
+    let low : IsRead (get_or text (2 * i + 1) 0) c.nibble-low.result = subst (λ b. IsRead b c.nibble-low.result) two.1 second in
+    record {
+      rest = two_behind text c.loop-i.rest.now c.split_at.result.1.now i c.loop-i.invariant.rest c.split_at.ensures.back;
+      good = λ small. good_pair text c.loop-i.out i c.nibble-high.result c.nibble-low.result c.loop-i.greatest even (omega arith) high low
+          c.loop-i.invariant.good (omega (arith, small));
+      bad = λ large. bad_pair text c.loop-i.out i c.nibble-high.result c.nibble-low.result c.loop-i.greatest even (omega arith) high low
+          c.loop-i.invariant.good c.loop-i.invariant.bad (omega (arith, large));
+    }
 
 pub returns : goal.returns
 returns c =
-    let text = c.args.text.now in
-    let even : length text ≡ 2 * length c.loop-i.out = omega (arith, c.requires) in
-    decoded text (length c.loop-i.out) even ∙ pairs_end text c.loop-i.out c.loop-i.i even (omega arith) c.loop-i.invariant
+    all_read c.args.text.now c.loop-i.out c.loop-i.i c.loop-i.greatest (omega (arith, c.requires)) (omega arith) c.loop-i.invariant.good
+    c.loop-i.invariant.bad
