@@ -1,5 +1,5 @@
 // The text of replies: one line each.
-ghost use Rattle.std.specs.Prelude.{◌≡◌, ◌++◌, OnOk, codes, decimal, length};
+ghost use Rattle.std.specs.Prelude.{◌≡◌, ◌≤◌, ◌++◌, ℕ, List, OnOk, codes, decimal, length};
 ghost use Rattle.std.specs.List.{flat_map};
 ghost use Rattle.clfs_lsn.specs.Words.{lsn_text};
 ghost use Rattle.clfs_model.specs.Text.{kind_text, entry_text, extent_text, archive_text, info_space_text, info_lsns_text, info_text, refusal_text, reply_text, reply_line};
@@ -7,7 +7,7 @@ ghost use Rattle.clfs_model.specs.Text.{kind_text, entry_text, extent_text, arch
 use crate::refusals::push_refusal;
 use clfs_lsn::{Bytes, Kind, LogEntry, Lsn};
 use clfs_model::{Extent, LogInfo, Reply};
-use clfs_text::{push_data, push_decimal, push_hex, push_lsn};
+use clfs_text::{Lead, push_data, push_decimal, push_hex, push_lsn};
 use std::alloc::AllocError;
 
 // A text and then a number.
@@ -27,7 +27,8 @@ pub(crate) fn push_place(text: &[u8], lsn: Lsn, out: &mut Bytes) -> Result<(), A
 }
 
 fn kind_text(kind: Kind) -> &'static [u8]
-    ensures { result.now ≡ codes " " ++ (kind_text kind ++ codes " ") }
+    ensures text { result.now ≡ codes " " ++ (kind_text kind ++ codes " ") }
+    ensures short { length result.now ≤ 9 }
 {
     match kind {
         Kind::Plain => b" data ",
@@ -35,15 +36,39 @@ fn kind_text(kind: Kind) -> &'static [u8]
     }
 }
 
+// What stands before an entry's data.
+fn entry_lead(entry: &LogEntry) -> Lead
+    ensures short { length result ≤ 136 }
+    ensures text { (text : List ℕ) → result ++ text ≡ codes "record " ++ (lsn_text entry.now.lsn ++ (codes " " ++ (kind_text entry.now.kind ++ (codes " " ++ (lsn_text entry.now.previous ++ (codes " " ++ (lsn_text entry.now.undo_next ++ (codes " " ++ (lsn_text entry.now.new_base ++ (codes " " ++ text)))))))))) }
+{
+    let mut lead = Lead::new();
+    lead.put(b" ");
+    lead.put_lsn(entry.new_base);
+    lead.put(b" ");
+    lead.put_lsn(entry.undo_next);
+    lead.put(b" ");
+    lead.put_lsn(entry.previous);
+    lead.put(kind_text(entry.kind));
+    lead.put_lsn(entry.lsn);
+    lead.put(b"record ");
+    lead
+}
+
 fn push_entry(entry: &LogEntry, out: &mut Bytes) -> Result<(), AllocError>
     ensures { OnOk result (out.new ≡ out.old ++ entry_text entry.now) }
 {
-    push_place(b"record ", entry.lsn, out)?;
-    push_place(kind_text(entry.kind), entry.previous, out)?;
-    push_place(b" ", entry.undo_next, out)?;
-    push_place(b" ", entry.new_base, out)?;
-    out.extend_from_slice(b" ")?;
+    let lead = entry_lead(entry);
+    out.extend_from_slice(lead.as_slice())?;
     push_data(entry.bytes.as_slice(), out)
+}
+
+fn push_placed(lsn: Lsn, out: &mut Bytes) -> Result<(), AllocError>
+    ensures { OnOk result (out.new ≡ out.old ++ (codes "lsn " ++ lsn_text lsn)) }
+{
+    let mut lead = Lead::new();
+    lead.put_lsn(lsn);
+    lead.put(b"lsn ");
+    out.extend_from_slice(lead.as_slice())
 }
 
 fn push_extent(extent: &Extent, out: &mut Bytes) -> Result<(), AllocError>
@@ -106,9 +131,12 @@ fn push_info(info: &LogInfo, out: &mut Bytes) -> Result<(), AllocError>
 fn push_found(cursor: u16, entry: &LogEntry, out: &mut Bytes) -> Result<(), AllocError>
     ensures { OnOk result (out.new ≡ out.old ++ (codes "cursor " ++ (decimal cursor ++ (codes " " ++ entry_text entry.now)))) }
 {
-    push_number(b"cursor ", cursor as u32, out)?;
-    out.extend_from_slice(b" ")?;
-    push_entry(entry, out)
+    let mut lead = entry_lead(entry);
+    lead.put(b" ");
+    lead.put_decimal(cursor as u32);
+    lead.put(b"cursor ");
+    out.extend_from_slice(lead.as_slice())?;
+    push_data(entry.bytes.as_slice(), out)
 }
 
 fn push_all_extents(extents: &[Extent], out: &mut Bytes) -> Result<(), AllocError>
@@ -128,7 +156,7 @@ fn push_reply(reply: &Reply, out: &mut Bytes) -> Result<(), AllocError>
         Reply::Done => out.extend_from_slice(b"ok"),
         Reply::Held(sectors) => push_number(b"held ", *sectors, out),
         Reply::Sectors(sectors) => push_number(b"sectors ", *sectors, out),
-        Reply::Placed(lsn) => push_place(b"lsn ", *lsn, out),
+        Reply::Placed(lsn) => push_placed(*lsn, out),
         Reply::Flushed(lsn) => push_place(b"flushed ", *lsn, out),
         Reply::Found { cursor, entry } => push_found(*cursor, entry, out),
         Reply::Next(entry) => push_entry(entry, out),
@@ -148,8 +176,10 @@ fn push_reply(reply: &Reply, out: &mut Bytes) -> Result<(), AllocError>
 pub fn write_reply(client: u16, reply: &Reply, out: &mut Bytes) -> Result<(), AllocError>
     ensures { OnOk result (out.new ≡ out.old ++ reply_line client reply.now) }
 {
-    push_decimal(client as u64, out)?;
-    out.extend_from_slice(b" ")?;
+    let mut lead = Lead::new();
+    lead.put(b" ");
+    lead.put_decimal(client as u32);
+    out.extend_from_slice(lead.as_slice())?;
     push_reply(reply, out)?;
     out.extend_from_slice(b"\n")
 }

@@ -6,12 +6,14 @@
 #![tactic(auto)]
 
 mod bytes;
+mod lead;
 mod lsns;
 mod numbers;
 mod printing;
 mod words;
 
 pub use bytes::{data_of_word, push_data};
+pub use lead::Lead;
 pub use lsns::lsn_of_word;
 pub use numbers::{decimal_number, hex_number};
 pub use printing::{push_decimal, push_hex, push_lsn};

@@ -28,7 +28,7 @@ fn lower_digit(value: u32) -> u8
 }
 
 // Writes the hexadecimal digits of a number so that they end before `end`, and gives the place where they begin.
-fn write_hex(number: u32, digits: &mut [u8], end: usize) -> usize
+pub(crate) fn write_hex(number: u32, digits: &mut [u8], end: usize) -> usize
     requires room { 8 ≤ end }
     requires within { end ≤ length digits.old }
     ensures begins { result ≤ end }
