@@ -1,40 +1,17 @@
 -- LSNs from the pieces between the colons of a word.
-use Rattle.std.proofs.Common.{◌≡◌, ℕ, ◌+◌, ◌≤◌, ◌<◌, List, [], ◌∷◌, length, take, drop, Bool, true, false, Option, refl, arith, inl, inr, drop-drop}
-use Rattle.std.specs.Prelude.{◌⊎◌, Some, None, position, ◌==◌, nat_lt}
-use Rattle.std.specs.List.{position_or_len, list_all}
+use Rattle.std.proofs.Common.{◌≡◌, ℕ, List, [], ◌∷◌, length, Bool, true, false, Option, refl, inl, inr}
+use Rattle.std.specs.Prelude.{◌⊎◌, Some, None, ◌==◌, nat_lt}
+use Rattle.std.specs.List.{list_all}
 use Rattle.std.proofs.Math.Bool.{and-false}
-use Rattle.std.proofs.lemmas.Bool.{cases_Bool, eqb-true, ltb-true, ltb-false}
-use Rattle.std.proofs.lemmas.Option.{cond_some}
-use Rattle.std.proofs.lemmas.List.Splits.{slice_split_first}
+use Rattle.std.proofs.lemmas.Bool.{cases_Bool, eqb-true}
 use Rattle.clfs_lsn.specs.Words.{is_lower_hex_digit, hex_number, lsn_of_numbers, lsn_of_parts, lsn_of_pieces, lsn_of_word}
 use Rattle.clfs_text.specs.Pieces.{pieces_of, BeginsWithNumber, LacksNumber}
 
 abbrev is_colon : ℕ → Bool
 is_colon b = b == 58
 
-pub piece_at : (text : List ℕ) (i : ℕ) → position is_colon text ≡ Some i → pieces_of text ≡ take i text ∷ pieces_of (drop 1 (drop i text))
-piece_at text i e =
-    let at = cond_some (nat_lt (position_or_len is_colon text) (length text)) (position_or_len is_colon text) i e in
-    let lt : position_or_len is_colon text < length text = ltb-true (position_or_len is_colon text) (length text) at.0 in
-    let parts : pieces_of text ≡ take i text ∷ pieces_of (drop (i + 1) text) = rw (← at.1) (slice_split_first is_colon text 0 lt) in
-    rw (parts, drop-drop 1 i text) refl
-
-no_colon : (text : List ℕ) → length text ≤ position_or_len is_colon text → pieces_of text ≡ text ∷ []
-no_colon [] h = refl
-no_colon (b ∷ text) h = elim (cases_Bool (is_colon b)) [
-  | inl t ↦ absurd (let h' = rw t at h in omega (arith, h'))
-  | inr t ↦ let h' = rw t at h in rw (t, no_colon text (omega (arith, h'))) refl
-]
-
-pub one_piece : (text : List ℕ) → position is_colon text ≡ None → pieces_of text ≡ text ∷ []
-one_piece text e =
-    elim (cases_Bool (nat_lt (position_or_len is_colon text) (length text))) [
-      | inl t ↦ absurd (let e' = rw t at e in (cc e'))
-      | inr t ↦ no_colon text (ltb-false (position_or_len is_colon text) (length text) t)
-    ]
-
 -- a text with several pieces is no number, since a colon is no digit
-abbrev SeveralPieces : List ℕ → Type 0
+abbrev pub SeveralPieces : List ℕ → Type 0
 SeveralPieces text = (p : List ℕ) × (q : List ℕ) × (more : List (List ℕ)) × (pieces_of text ≡ p ∷ q
     ∷ more) × (list_all is_lower_hex_digit text ≡ false)
 
@@ -49,14 +26,14 @@ behind_other : (text : List ℕ) (b : ℕ) → is_colon b ≡ false → (pieces_
 behind_other text b t (inl one) = inl (rw (t, one) refl)
 behind_other text b t (inr (p, q, more, split, bad)) = inr (b ∷ p, q, more, rw (t, split) refl, rw (bad, and-false) refl)
 
-pieces_are : (text : List ℕ) → (pieces_of text ≡ text ∷ []) ⊎ SeveralPieces text
+pub pieces_are : (text : List ℕ) → (pieces_of text ≡ text ∷ []) ⊎ SeveralPieces text
 pieces_are [] = inl refl
 pieces_are (b ∷ text) = elim (cases_Bool (is_colon b)) [
   | inl t ↦ inr (behind_colon text b t (pieces_are text))
   | inr t ↦ behind_other text b t (pieces_are text)
 ]
 
-not_digits : (text : List ℕ) → list_all is_lower_hex_digit text ≡ false → hex_number text ≡ None
+pub not_digits : (text : List ℕ) → list_all is_lower_hex_digit text ≡ false → hex_number text ≡ None
 not_digits [] bad = refl
 not_digits (b ∷ text) bad = elim (cases_Bool (nat_lt 0 (length (b ∷ text)))) [
   | inl t ↦ rw (t, bad) refl
@@ -117,14 +94,3 @@ pub no_sequence : (container offset : ℕ) (word behind last : List ℕ) → Beg
     → hex_number last ≡ None → lsn_of_word word ≡ None
 no_sequence container offset word behind last first second none =
     rw (first.1, second.1) (last_none first.0 second.0 last none (pieces_are last))
-
--- what a search for the first colon shows
-pub number_there : (text digits rest behind : List ℕ) (i number : ℕ) → position is_colon text ≡ Some i → digits ≡ take i text → rest ≡ drop i text
-    → behind ≡ drop 1 rest → hex_number digits ≡ Some number → BeginsWithNumber number behind text
-number_there text digits rest behind i number found front back next is =
-    (digits, rw (front, next, back) (piece_at text i found), is)
-
-pub number_lacks : (text digits rest : List ℕ) (i : ℕ) → position is_colon text ≡ Some i → digits ≡ take i text → rest ≡ drop i text
-    → hex_number digits ≡ None → LacksNumber text
-number_lacks text digits rest i found front back none =
-    inr (digits, pieces_of (drop 1 (drop i text)), rw front (piece_at text i found), none)

@@ -2,5 +2,6 @@ mod Scans
 mod HexDigits
 mod WordEnds
 mod Colons
+mod Fields
 mod Encoded
 mod Pairs

@@ -12,7 +12,7 @@ fn decimal_digit(byte: u8) -> Option<u64>
     }
 }
 
-fn hex_digit(byte: u8) -> Option<u64>
+pub(crate) fn hex_digit(byte: u8) -> Option<u64>
     ensures { result ≡ (if is_lower_hex_digit byte then Some (digit_value byte) else None) }
 {
     match byte {

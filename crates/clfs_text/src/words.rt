@@ -81,8 +81,19 @@ impl<'a> Words<'a> {
         }
     }
 
-    /// Takes the next word if it is this text.
+    /// Takes the next word if it is this text. Most lines end before such a word, so that is told first, and where the call stands.
+    #[inline]
     pub fn skip(&mut self, text: &[u8]) -> bool
+        ensures found { result ≡ (skipping text.now self.old).0 }
+        ensures left { self.new ≡ (skipping text.now self.old).1 }
+    {
+        if self.is_at_end() {
+            return false;
+        }
+        self.skip_word(text)
+    }
+
+    fn skip_word(&mut self, text: &[u8]) -> bool
         ensures found { result ≡ (skipping text.now self.old).0 }
         ensures left { self.new ≡ (skipping text.now self.old).1 }
     {

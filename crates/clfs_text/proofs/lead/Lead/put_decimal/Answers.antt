@@ -1,4 +1,3 @@
-use Rattle.std.proofs.Common.{arith, ◌+◌, refl}
 use Rattle.std.proofs.lemmas.Fmt.{decimal_digit}
 use Rattle.clfs_text.proofs.lead.Lead.put_decimal.Goals as goal
 
