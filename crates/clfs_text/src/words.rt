@@ -81,7 +81,7 @@ impl<'a> Words<'a> {
         }
     }
 
-    /// Takes the next word if it is this text. Most lines end before such a word, so that is told first, and where the call stands.
+    /// Takes the next word if it is this text. Most lines end before such a word, so that is told first, where the call stands.
     #[inline]
     pub fn skip(&mut self, text: &[u8]) -> bool
         ensures found { result ≡ (skipping text.now self.old).0 }
@@ -93,6 +93,7 @@ impl<'a> Words<'a> {
         self.skip_word(text)
     }
 
+    #[inline(never)]
     fn skip_word(&mut self, text: &[u8]) -> bool
         ensures found { result ≡ (skipping text.now self.old).0 }
         ensures left { self.new ≡ (skipping text.now self.old).1 }
