@@ -31,8 +31,18 @@ fn area_line(words: &mut Words) -> Result<Call, LineRefusal>
     )
 }
 
-// Sizes where the word `hold` comes next, else none.
+// Sizes where the word `hold` comes next, else none. Most lines end here.
 fn held_sizes(alloc: Global, words: &mut Words) -> Result<Sizes, LineRefusal>
+    ensures { Answers result (held_sizes (option_word (codes "hold") (rest_of words.old))) }
+{
+    if words.is_at_end() {
+        return Ok(Sizes::none(alloc));
+    }
+    hold_line(alloc, words)
+}
+
+#[inline(never)]
+fn hold_line(alloc: Global, words: &mut Words) -> Result<Sizes, LineRefusal>
     ensures { Answers result (held_sizes (option_word (codes "hold") (rest_of words.old))) }
 {
     if words.skip(b"hold") {

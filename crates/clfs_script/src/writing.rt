@@ -2,6 +2,7 @@
 ghost use Rattle.std.specs.Prelude.{◌≡◌, ◌≤◌, ◌++◌, ℕ, List, OnOk, codes, decimal, length};
 ghost use Rattle.std.specs.List.{flat_map};
 ghost use Rattle.clfs_lsn.specs.Words.{lsn_text};
+ghost use Rattle.clfs_model.specs.declared.reply.Reply.TheVariants.{Placed};
 ghost use Rattle.clfs_model.specs.Text.{kind_text, entry_text, extent_text, archive_text, info_space_text, info_lsns_text, info_text, refusal_text, reply_text, reply_line};
 
 use crate::refusals::push_refusal;
@@ -60,15 +61,6 @@ fn push_entry(entry: &LogEntry, out: &mut Bytes) -> Result<(), AllocError>
     let lead = entry_lead(entry);
     out.extend_from_slice(lead.as_slice())?;
     push_data(entry.bytes.as_slice(), out)
-}
-
-fn push_placed(lsn: Lsn, out: &mut Bytes) -> Result<(), AllocError>
-    ensures { OnOk result (out.new ≡ out.old ++ (codes "lsn " ++ lsn_text lsn)) }
-{
-    let mut lead = Lead::new();
-    lead.put_lsn(lsn);
-    lead.put(b"lsn ");
-    out.extend_from_slice(lead.as_slice())
 }
 
 fn push_extent(extent: &Extent, out: &mut Bytes) -> Result<(), AllocError>
@@ -156,7 +148,7 @@ fn push_reply(reply: &Reply, out: &mut Bytes) -> Result<(), AllocError>
         Reply::Done => out.extend_from_slice(b"ok"),
         Reply::Held(sectors) => push_number(b"held ", *sectors, out),
         Reply::Sectors(sectors) => push_number(b"sectors ", *sectors, out),
-        Reply::Placed(lsn) => push_placed(*lsn, out),
+        Reply::Placed(lsn) => push_place(b"lsn ", *lsn, out),
         Reply::Flushed(lsn) => push_place(b"flushed ", *lsn, out),
         Reply::Found { cursor, entry } => push_found(*cursor, entry, out),
         Reply::Next(entry) => push_entry(entry, out),
@@ -172,8 +164,20 @@ fn push_reply(reply: &Reply, out: &mut Bytes) -> Result<(), AllocError>
     }
 }
 
-/// Adds the line of a reply at the end. Where memory lacks, nothing is said of `out`.
-pub fn write_reply(client: u16, reply: &Reply, out: &mut Bytes) -> Result<(), AllocError>
+// The whole line of a record's LSN, the reply that comes most often. It is put together on the stack and added at once.
+fn push_placed(client: u16, lsn: Lsn, out: &mut Bytes) -> Result<(), AllocError>
+    ensures { OnOk result (out.new ≡ out.old ++ reply_line client (Placed lsn)) }
+{
+    let mut lead = Lead::new();
+    lead.put(b"\n");
+    lead.put_lsn(lsn);
+    lead.put(b" lsn ");
+    lead.put_decimal(client as u32);
+    out.extend_from_slice(lead.as_slice())
+}
+
+// The same of any reply, part by part.
+fn push_line(client: u16, reply: &Reply, out: &mut Bytes) -> Result<(), AllocError>
     ensures { OnOk result (out.new ≡ out.old ++ reply_line client reply.now) }
 {
     let mut lead = Lead::new();
@@ -182,4 +186,14 @@ pub fn write_reply(client: u16, reply: &Reply, out: &mut Bytes) -> Result<(), Al
     out.extend_from_slice(lead.as_slice())?;
     push_reply(reply, out)?;
     out.extend_from_slice(b"\n")
+}
+
+/// Adds the line of a reply at the end. Where memory lacks, nothing is said of `out`.
+pub fn write_reply(client: u16, reply: &Reply, out: &mut Bytes) -> Result<(), AllocError>
+    ensures { OnOk result (out.new ≡ out.old ++ reply_line client reply.now) }
+{
+    match reply {
+        Reply::Placed(lsn) => push_placed(client, *lsn, out),
+        _ => push_line(client, reply, out),
+    }
 }
