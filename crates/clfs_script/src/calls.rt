@@ -32,6 +32,7 @@ fn area_line(words: &mut Words) -> Result<Call, LineRefusal>
 }
 
 // Sizes where the word `hold` comes next, else none. Most lines end here.
+#[inline(always)]
 fn held_sizes(alloc: Global, words: &mut Words) -> Result<Sizes, LineRefusal>
     ensures { Answers result (held_sizes (option_word (codes "hold") (rest_of words.old))) }
 {

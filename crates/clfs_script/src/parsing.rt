@@ -23,6 +23,7 @@ fn allowed_verb(language: Language, word: &[u8]) -> Option<Option<Verb>>
 }
 
 // What a client asks for behind its number.
+#[inline(always)]
 fn client_request(
     alloc: Global,
     language: Language,

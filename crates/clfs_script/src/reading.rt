@@ -81,6 +81,7 @@ pub(crate) fn name(alloc: Global, words: &mut Words) -> Result<Name, LineRefusal
     Ok(Name::from_vec(bytes))
 }
 
+#[inline(always)]
 pub(crate) fn data(alloc: Global, words: &mut Words) -> Result<Bytes, LineRefusal>
     ensures { Reads data_of_word words.old result words.new }
 {
