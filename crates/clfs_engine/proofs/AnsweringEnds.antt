@@ -1,5 +1,5 @@
 -- How answering ends, by why no further line is answered.
-use Rattle.std.proofs.Common.{◌≡◌, ℕ, ◌≤◌, ◌⊎◌, List, refl, sym, ◌∙◌, inl, inr, arith}
+use Rattle.std.proofs.Common.{◌≡◌, ℕ, ◌≤◌, ◌⊎◌, Bool, true, false, List, refl, sym, ◌∙◌, inl, inr, arith}
 use Rattle.std.specs.Prelude.{Option}
 use Rattle.std.specs.Io.KnownBytes.{Appends}
 use Rattle.clfs_ports.specs.Cause.{Rises}
@@ -8,7 +8,7 @@ use Rattle.clfs_engine.specs.Serve.{Answers, EndsAnswering, IsWholeAnswer, IsAns
 use Rattle.clfs_engine.specs.Stopped.{IsAnswerBeforeLimit}
 use Rattle.clfs_engine.proofs.Written.{appends_more}
 
-module _ (Is InPart : Answers) (left left' written written' : Option (List ℕ)) (source source' sink sink' : ℕ) (later : source ≤ source') (sink_later : sink ≤ sink') where
+module _ (Is : Answers) (InPart : Bool → Answers) (left left' written written' : Option (List ℕ)) (source source' sink sink' : ℕ) (later : source ≤ source') (sink_later : sink ≤ sink') where
   -- all lines are answered
   pub ends_done : Writes (IsWholeAnswer Is left left') written written' → EndsAnswering Is InPart 0 left left' written written' source source' sink sink'
   ends_done done = record {
@@ -41,7 +41,7 @@ module _ (Is InPart : Answers) (left left' written written' : Option (List ℕ))
   }
 
   -- the sink failed in the reply to a line
-  pub ends_at_sink : Rises sink sink' → StopsShort InPart left left' written written' → EndsAnswering Is InPart 3 left left' written written' source source' sink sink'
+  pub ends_at_sink : Rises sink sink' → StopsShort (InPart true) left left' written written' → EndsAnswering Is InPart 3 left left' written written' source source' sink sink'
   ends_at_sink cause stops = record {
     statuses = inr (inr (inl refl));
     done = λ e. absurd (omega (arith, e));
@@ -56,7 +56,7 @@ module _ (Is InPart : Answers) (left left' written written' : Option (List ℕ))
   }
 
   -- memory ran out
-  pub ends_without_memory : StopsShort InPart left left' written written' → EndsAnswering Is InPart 5 left left' written written' source source' sink sink'
+  pub ends_without_memory : StopsShort (InPart false) left left' written written' → EndsAnswering Is InPart 5 left left' written written' source source' sink sink'
   ends_without_memory stops = record {
     statuses = inr (inr (inr (inl refl)));
     done = λ e. absurd (omega (arith, e));
@@ -71,7 +71,7 @@ module _ (Is InPart : Answers) (left left' written written' : Option (List ℕ))
   }
 
 -- a limit is passed, and the line that says so was written, or the sink failed in it
-module _ (Is InPart : Answers) (left left' written between written' : Option (List ℕ)) (source source' sink mid sink' : ℕ) (later : source ≤ source') (sink_later : sink ≤ mid) where
+module _ (Is : Answers) (InPart : Bool → Answers) (left left' written between written' : Option (List ℕ)) (source source' sink mid sink' : ℕ) (later : source ≤ source') (sink_later : sink ≤ mid) where
   pub ends_at_limit : (result : ℕ) → Writes (IsAnswerBeforeLimit Is left left') written between → (result ≡ 7) ⊎ (result ≡ 3)
       → (result ≡ 7 → Appends between written' too_long_text) → (result ≡ 3 → AppendsFront between written' too_long_text) → (result ≡ 3 → Rises mid sink') → mid ≤ sink'
       → EndsAnswering Is InPart result left left' written written' source source' sink sink'

@@ -1,5 +1,5 @@
 -- What was written of the replies to lines that were answered.
-use Rattle.std.proofs.Common.{◌≡◌, ℕ, Bool, List, [], ◌∷◌, ◌++◌, refl, sym, ap, ◌∙◌, append_assoc, arith}
+use Rattle.std.proofs.Common.{◌≡◌, ℕ, Bool, false, List, [], ◌∷◌, ◌++◌, refl, sym, ap, ◌∙◌, append_assoc, arith}
 use Rattle.std.specs.Prelude.{map}
 use Rattle.std.proofs.lemmas.List.{append-nil, map-append}
 use Rattle.clfs_disk.specs.State.{DiskState}
@@ -29,9 +29,9 @@ same_text told s (x ∷ requests) more (y ∷ answers) mid run =
     ap (λ (text : List ℕ). reply_line (client_of x) y ++ text) (same_text told run.0 requests more answers mid run.1.1)
 
 -- all replies were written
-pub all_written : (s : State) (old : DiskState) (t : State) (new : DiskState) (lines : List (List ℕ)) (text : List ℕ) → AnswersLines s old t new lines text
-    → AnswersInPart s old t new lines text
-all_written s old t new lines text given = record {
+pub all_written : (s : State) (old : DiskState) (t : State) (new : DiskState) (torn : Bool) (lines : List (List ℕ)) (text : List ℕ) → AnswersLines s old t new lines text
+    → AnswersInPart s old t new torn lines text
+all_written s old t new torn lines text given = record {
   output = text;
   answered = given;
   front = record {
@@ -40,6 +40,7 @@ all_written s old t new lines text given = record {
     all = append-nil given.answers;
     at_most_one = omega arith;
     front = [];
+    untorn = λ e. refl;
     rest = [];
     is = given.is ∙ sym (append-nil (output_of (requests_of lines) given.answers));
     goes_on = append-nil text ∙ given.is;
@@ -48,10 +49,11 @@ all_written s old t new lines text given = record {
 
 -- one line more is answered, and a front of its reply was written
 pub front_written : AreOwn → (s : State) (old : DiskState) (done : List (List ℕ)) (line : List ℕ) (mid : State) (between : DiskState) (out : List ℕ) (t : State) (new : DiskState)
-    (reply : Reply) (front rest : List ℕ) → AnswersLines s old mid between done out → AnswersOne mid between (line_request (without_return line)) reply t new
-    → front ++ rest ≡ reply_line (client_of (line_request (without_return line))) reply → AnswersInPart s old t new (done ++ line ∷ []) (out ++ front)
+    (reply : Reply) (torn : Bool) (front rest : List ℕ) → AnswersLines s old mid between done out → AnswersOne mid between (line_request (without_return line)) reply t new
+    → front ++ rest ≡ reply_line (client_of (line_request (without_return line))) reply → (torn ≡ false → front ≡ [])
+    → AnswersInPart s old t new torn (done ++ line ∷ []) (out ++ front)
 unfolding line_more
-front_written own s old done line mid between out t new reply front rest so_far one split =
+front_written own s old done line mid between out t new reply torn front rest so_far one split untorn =
     let request : Request = line_request (without_return line) in
     let more = line_more own s old done line mid between out t new reply so_far one in record {
       output = out ++ reply_line (client_of request) reply;
@@ -62,6 +64,7 @@ front_written own s old done line mid between out t new reply front rest so_far 
         all = refl;
         at_most_one = omega arith;
         front = front;
+        untorn = untorn;
         rest = rest;
         is = ap (λ (text : List ℕ). text ++ front)
             (so_far.is ∙ sym (same_text old.nature.tells_contents s (requests_of done) (request ∷ []) so_far.answers mid so_far.answered.run)

@@ -83,7 +83,7 @@ module _ (s : State) (old : DiskState) (left left_after written : Option (List �
 
   -- memory ran out before it
   pub last_unanswered : (line : List ℕ) (t : State) (new : DiskState) (w : Option (List ℕ)) → HasAnsweredEnded s old left left_after written line t new w
-      → StopsShort (AnswersInPart s old t new) left left_after written w
+      → StopsShort (AnswersInPart s old t new false) left left_after written w
   last_unanswered line t new w ended =
       let so_far = ended.so_far in (
         so_far.lines,
@@ -93,14 +93,14 @@ module _ (s : State) (old : DiskState) (left left_after written : Option (List �
             given = ended.given;
             front = known_are_front ended.script so_far.lines line so_far.whole so_far.short (so_far.split ∙ sym (take_all longest_script ended.script ended.few));
           }),
-          (so_far.text, all_written s old t new so_far.lines so_far.text so_far.answered, so_far.replies),
+          (so_far.text, all_written s old t new false so_far.lines so_far.text so_far.answered, so_far.replies),
         ),
       )
 
   -- memory ran out behind the answer to it
   pub last_unwritten : AreOwn → (line : List ℕ) (mid : State) (between : DiskState) (t : State) (new : DiskState) (w : Option (List ℕ))
       → HasAnsweredEnded s old left left_after written line mid between w → 0 < length line → AnswersUnwritten mid between line t new
-      → StopsShort (AnswersInPart s old t new) left left_after written w
+      → StopsShort (AnswersInPart s old t new false) left left_after written w
   last_unwritten own line mid between t new w ended some step =
       let so_far = ended.so_far in (
         so_far.lines ++ line ∷ [],
@@ -112,8 +112,8 @@ module _ (s : State) (old : DiskState) (left left_after written : Option (List �
           }),
           (
             so_far.text ++ [],
-            front_written own s old so_far.lines line mid between so_far.text t new step.reply [] (reply_line (client_of (line_request (without_return line))) step.reply)
-                so_far.answered step.answered refl,
+            front_written own s old so_far.lines line mid between so_far.text t new step.reply false [] (reply_line (client_of (line_request (without_return line))) step.reply)
+                so_far.answered step.answered refl (λ e. refl),
             subst (λ (text : List ℕ). Appends written w text) (sym (append-nil so_far.text)) so_far.replies,
           ),
         ),
@@ -122,7 +122,7 @@ module _ (s : State) (old : DiskState) (left left_after written : Option (List �
   -- the sink failed in the reply to it
   pub last_cut : AreOwn → (line : List ℕ) (mid : State) (between : DiskState) (before text : List ℕ) (t : State) (new : DiskState) (w1 w2 : Option (List ℕ))
       → HasAnsweredEnded s old left left_after written line mid between w1 → 0 < length line → AnswersLine mid between line before text t new → before ≡ []
-      → AppendsFront w1 w2 text → StopsShort (AnswersInPart s old t new) left left_after written w2
+      → AppendsFront w1 w2 text → StopsShort (AnswersInPart s old t new true) left left_after written w2
   last_cut own line mid between before text t new w1 w2 ended some step none wrote =
       let so_far = ended.so_far in
       let reply : List ℕ = reply_line (client_of (line_request (without_return line))) step.reply in
@@ -136,8 +136,8 @@ module _ (s : State) (old : DiskState) (left left_after written : Option (List �
           }),
           (
             so_far.text ++ take wrote.count text,
-            front_written own s old so_far.lines line mid between so_far.text t new step.reply (take wrote.count text) (drop wrote.count text)
-                so_far.answered step.answered (take-append-drop wrote.count text ∙ is),
+            front_written own s old so_far.lines line mid between so_far.text t new step.reply true (take wrote.count text) (drop wrote.count text)
+                so_far.answered step.answered (take-append-drop wrote.count text ∙ is) (λ e. absurd (cc e)),
             appends_more written w1 w2 so_far.text (take wrote.count text) (so_far.text ++ take wrote.count text) refl so_far.replies wrote.front,
           ),
         ),

@@ -111,6 +111,7 @@ module _ (buffers : ℕ) (old mid new : DiskState) (s t : State) (loaded : IsLoa
       unbroken told none = (given.answered.unbroken (tells_mid told) whole_at_first none).0
 
   -- the same of replies that were written in part
-  pub is_answered_in_part : (lines : List (List ℕ)) (text : List ℕ) → AnswersInPart s mid t new lines text → IsAnsweredInPart buffers old new lines text
+  pub is_answered_in_part : (torn : Bool) (lines : List (List ℕ)) (text : List ℕ) → AnswersInPart s mid t new torn lines text
+      → IsAnsweredInPart buffers old new torn lines text
   unfolding is_answered
-  is_answered_in_part lines text given = record { output = given.output; answered = is_answered lines given.output given.answered; front = given.front }
+  is_answered_in_part torn lines text given = record { output = given.output; answered = is_answered lines given.output given.answered; front = given.front }

@@ -1,5 +1,5 @@
 -- Where the loop over the pieces of a script stands, and how it ends.
-use Rattle.std.proofs.Common.{◌≡◌, ℕ, ◌+◌, ◌-◌, ◌≤◌, ◌<◌, ◌⊎◌, List, [], ◌∷◌, ◌++◌, length, take, drop, false, refl, sym, ap, ◌∙◌, subst, append_assoc, length-append, inl, inr, arith}
+use Rattle.std.proofs.Common.{◌≡◌, ℕ, ◌+◌, ◌-◌, ◌≤◌, ◌<◌, ◌⊎◌, List, [], ◌∷◌, ◌++◌, length, take, drop, true, false, refl, sym, ap, ◌∙◌, subst, append_assoc, length-append, inl, inr, arith}
 use Rattle.std.specs.Prelude.{Option, Result, Ok, Err, IfErr, IsErrAnd}
 use Rattle.std.specs.Io.KnownBytes.{Consumes, Keeps, Appends, IsAtEnd}
 use Rattle.std.proofs.KnownBytes.{Consumes-nil, Consumes-trans, Consumes-kept}
@@ -226,7 +226,7 @@ module _ (s : State) (old : DiskState) (left written : Option (List ℕ)) where
 
   -- memory ran out before the next line
   pub memory_stops : (left_now : Option (List ℕ)) (rest : List ℕ) (given : ℕ) (t : State) (new : DiskState) (w : Option (List ℕ))
-      → IsReading s old left left_now written rest given t new w → StopsShort (AnswersInPart s old t new) left left_now written w
+      → IsReading s old left left_now written rest given t new w → StopsShort (AnswersInPart s old t new false) left left_now written w
   memory_stops left_now rest given t new w reading =
       let so_far = reading.so_far in (
         so_far.lines,
@@ -236,7 +236,7 @@ module _ (s : State) (old : DiskState) (left written : Option (List ℕ)) where
             given = reading.taken;
             front = known_are_front reading.bytes so_far.lines rest so_far.whole so_far.short so_far.split;
           }),
-          (so_far.text, all_written s old t new so_far.lines so_far.text so_far.answered, so_far.replies),
+          (so_far.text, all_written s old t new false so_far.lines so_far.text so_far.answered, so_far.replies),
         ),
       )
 
@@ -251,7 +251,7 @@ module _ (s : State) (old : DiskState) (left written : Option (List ℕ)) where
   -- memory ran out behind the answer to it
   pub unwritten_stops : AreOwn → (left_now : Option (List ℕ)) (line after : List ℕ) (given : ℕ) (mid : State) (between : DiskState) (t : State) (new : DiskState) (w : Option (List ℕ))
       → IsReading s old left left_now written (line ++ 10 ∷ after) given mid between w → HasNoFeed line → length line ≤ serve_limits.line
-      → AnswersUnwritten mid between line t new → StopsShort (AnswersInPart s old t new) left left_now written w
+      → AnswersUnwritten mid between line t new → StopsShort (AnswersInPart s old t new false) left left_now written w
   unwritten_stops own left_now line after given mid between t new w reading one few step =
       let so_far = reading.so_far in (
         so_far.lines ++ line ∷ [],
@@ -263,8 +263,8 @@ module _ (s : State) (old : DiskState) (left written : Option (List ℕ)) where
           }),
           (
             so_far.text ++ [],
-            front_written own s old so_far.lines line mid between so_far.text t new step.reply [] (reply_line (client_of (line_request (without_return line))) step.reply)
-                so_far.answered step.answered refl,
+            front_written own s old so_far.lines line mid between so_far.text t new step.reply false [] (reply_line (client_of (line_request (without_return line))) step.reply)
+                so_far.answered step.answered refl (λ e. refl),
             subst (λ (text : List ℕ). Appends written w text) (sym (append-nil so_far.text)) so_far.replies,
           ),
         ),
@@ -273,7 +273,7 @@ module _ (s : State) (old : DiskState) (left written : Option (List ℕ)) where
   -- the sink failed in the reply to it
   pub sink_stops : AreOwn → (left_now : Option (List ℕ)) (line after : List ℕ) (given : ℕ) (mid : State) (between : DiskState) (before text : List ℕ) (t : State) (new : DiskState)
       (w1 w2 : Option (List ℕ)) → IsReading s old left left_now written (line ++ 10 ∷ after) given mid between w1 → HasNoFeed line → length line ≤ serve_limits.line
-      → AnswersLine mid between line before text t new → before ≡ [] → AppendsFront w1 w2 text → StopsShort (AnswersInPart s old t new) left left_now written w2
+      → AnswersLine mid between line before text t new → before ≡ [] → AppendsFront w1 w2 text → StopsShort (AnswersInPart s old t new true) left left_now written w2
   sink_stops own left_now line after given mid between before text t new w1 w2 reading one few step none wrote =
       let so_far = reading.so_far in
       let reply : List ℕ = reply_line (client_of (line_request (without_return line))) step.reply in
@@ -287,8 +287,8 @@ module _ (s : State) (old : DiskState) (left written : Option (List ℕ)) where
           }),
           (
             so_far.text ++ take wrote.count text,
-            front_written own s old so_far.lines line mid between so_far.text t new step.reply (take wrote.count text) (drop wrote.count text)
-                so_far.answered step.answered (take-append-drop wrote.count text ∙ is),
+            front_written own s old so_far.lines line mid between so_far.text t new step.reply true (take wrote.count text) (drop wrote.count text)
+                so_far.answered step.answered (take-append-drop wrote.count text ∙ is) (λ e. absurd (cc e)),
             appends_more written w1 w2 so_far.text (take wrote.count text) (so_far.text ++ take wrote.count text) refl so_far.replies wrote.front,
           ),
         ),

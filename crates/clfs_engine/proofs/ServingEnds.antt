@@ -1,5 +1,5 @@
 -- How serving ends: by answering the lines of a log that was opened, or by why it wasn't.
-use Rattle.std.proofs.Common.{◌≡◌, ◌≢◌, ℕ, ◌⊎◌, List, refl, subst, inl, inr, arith}
+use Rattle.std.proofs.Common.{◌≡◌, ◌≢◌, ℕ, ◌⊎◌, Bool, true, false, List, refl, subst, inl, inr, arith}
 use Rattle.std.specs.Prelude.{Option}
 use Rattle.clfs_disk.specs.State.{DiskState}
 use Rattle.clfs_recover.specs.declared.refusal.LoadRefusal.{LoadRefusal}
@@ -46,9 +46,9 @@ not_refused status (inr (inr (inr (inr e)))) (inl f) = omega (arith, e, f)
 not_refused status (inr (inr (inr (inr e)))) (inr f) = omega (arith, e, f)
 
 -- the lines of a log that was opened are answered
-pub answering_serves : (Is InPart : Answers) (status buffers : ℕ) (old new : DiskState) (left left' written written' : Option (List ℕ)) (source source' sink sink' : ℕ)
+pub answering_serves : (Is : Answers) (InPart : Bool → Answers) (status buffers : ℕ) (old new : DiskState) (left left' written written' : Option (List ℕ)) (source source' sink sink' : ℕ)
     → ((lines : List (List ℕ)) (text : List ℕ) → Is lines text → IsAnswered buffers old new lines text)
-    → ((lines : List (List ℕ)) (text : List ℕ) → InPart lines text → IsAnsweredInPart buffers old new lines text)
+    → ((torn : Bool) (lines : List (List ℕ)) (text : List ℕ) → InPart torn lines text → IsAnsweredInPart buffers old new torn lines text)
     → EndsAnswering Is InPart status left left' written written' source source' sink sink'
     → EndsServing status buffers old new left left' written written' source source' sink sink'
 answering_serves Is InPart status buffers old new left left' written written' source source' sink sink' also also_part ends = record {
@@ -60,7 +60,7 @@ answering_serves Is InPart status buffers old new left left' written written' so
   sink_fault_front = λ e. inl (at_fault (ends.sink_fault_front e));
   disk_fault = λ e. absurd (not_refused status ends.statuses (inl e));
   disk_fault_line = λ e. absurd (not_refused status ends.statuses (inl e));
-  no_memory = λ e. inr (stops_as InPart OtherPart also_part left left' written written' (ends.no_memory e));
+  no_memory = λ e. inr (stops_as (InPart false) (OtherPart false) (also_part false) left left' written written' (ends.no_memory e));
   no_log = λ e. absurd (not_refused status ends.statuses (inr e));
   too_long = λ e. let found = ends.too_long e in (found.0, limit_as Is Other also left left' found.0 found.1, found.2);
   unread = λ e. absurd (not_refused status ends.statuses e);
@@ -71,11 +71,11 @@ answering_serves Is InPart status buffers old new left left' written written' so
     Other : Answers
     Other = IsAnswered buffers old new
 
-    OtherPart : Answers
+    OtherPart : Bool → Answers
     OtherPart = IsAnsweredInPart buffers old new
 
     at_fault : StopsAtFault Is InPart left left' written written' → StopsAtFault Other OtherPart left left' written written'
-    at_fault (inl stops) = inl (stops_as InPart OtherPart also_part left left' written written' stops)
+    at_fault (inl stops) = inl (stops_as (InPart true) (OtherPart true) (also_part true) left left' written written' stops)
     at_fault (inr cut) = inr (cut.0, at_limit_as Is Other also left left' cut.0 cut.1, cut.2)
 
 -- ---- a log that wasn't opened

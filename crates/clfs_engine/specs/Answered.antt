@@ -1,5 +1,5 @@
 -- How a log on a disk answers the lines of a script.
-use Rattle.std.specs.Prelude.{◌≡◌, ℕ, ◌≤◌, true, false, List, ◌++◌, map, length}
+use Rattle.std.specs.Prelude.{◌≡◌, ℕ, ◌≤◌, Bool, true, false, List, [], ◌++◌, map, length}
 use Rattle.clfs_disk.specs.State.{DiskState, TellsContents, IsHonest, IsSteady, IsSettled, Later, Rises}
 use Rattle.clfs_model.specs.declared.refusal.Refusal.TheVariants as refusals
 use Rattle.clfs_model.specs.declared.reply.Reply.{Reply}
@@ -73,22 +73,23 @@ pub record AnswersLines (s : State) (old : DiskState) (t : State) (new : DiskSta
   -- while they were, a crash left survivors, one line after the other
   pub crash : CrashLeavesRun s old (requests_of lines) answers t new
 
--- A text that is the replies to all requests, or to all but the last and a front of the reply to that one.
-pub record IsFrontOutput (requests : List Request) (answers : List Reply) (text : List ℕ) : Type 0 where
+-- A text that is the replies to all requests, or to all but the last and, where it is torn, a front of the reply to that one.
+pub record IsFrontOutput (torn : Bool) (requests : List Request) (answers : List Reply) (text : List ℕ) : Type 0 where
   pub whole : List Reply
   pub others : List Reply
   pub all : whole ++ others ≡ answers
   pub at_most_one : length others ≤ 1
   pub front : List ℕ
+  pub untorn : torn ≡ false → front ≡ []
   pub rest : List ℕ
   pub is : text ≡ output_of requests whole ++ front
   pub goes_on : text ++ rest ≡ output_of requests answers
 
--- The lines were answered, and this text is the replies to all of them, or to all but the last and a front of the reply to that one.
-pub record AnswersInPart (s : State) (old : DiskState) (t : State) (new : DiskState) (lines : List (List ℕ)) (text : List ℕ) : Type 0 where
+-- The lines were answered, and this text is the replies to all of them, or to all but the last and, where it is torn, a front of the reply to that one.
+pub record AnswersInPart (s : State) (old : DiskState) (t : State) (new : DiskState) (torn : Bool) (lines : List (List ℕ)) (text : List ℕ) : Type 0 where
   pub output : List ℕ
   pub answered : AnswersLines s old t new lines output
-  pub front : IsFrontOutput (requests_of lines) answered.answers text
+  pub front : IsFrontOutput torn (requests_of lines) answered.answers text
 
 -- The log on a disk was opened with so many write buffers, its lines were answered, and it was closed; this text is the replies.
 pub record IsAnswered (buffers : ℕ) (old new : DiskState) (lines : List (List ℕ)) (text : List ℕ) : Type 0 where
@@ -110,8 +111,8 @@ pub record IsAnswered (buffers : ℕ) (old new : DiskState) (lines : List (List 
   -- a crash at any moment from the end of loading on leaves files that open to a survivor of the line that is answered then
   pub crash : IsHonest old → IsLeftFrom old new first (requests_of lines) answers last
 
--- The same, and this text is the replies to all lines, or to all but the last and a front of the reply to that one.
-pub record IsAnsweredInPart (buffers : ℕ) (old new : DiskState) (lines : List (List ℕ)) (text : List ℕ) : Type 0 where
+-- The same, and this text is the replies to all lines, or to all but the last and, where it is torn, a front of the reply to that one.
+pub record IsAnsweredInPart (buffers : ℕ) (old new : DiskState) (torn : Bool) (lines : List (List ℕ)) (text : List ℕ) : Type 0 where
   pub output : List ℕ
   pub answered : IsAnswered buffers old new lines output
-  pub front : IsFrontOutput (requests_of lines) answered.answers text
+  pub front : IsFrontOutput torn (requests_of lines) answered.answers text

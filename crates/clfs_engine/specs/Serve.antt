@@ -1,5 +1,5 @@
 -- What the program answers, and how it ends.
-use Rattle.std.specs.Prelude.{◌≡◌, ℕ, ◌≤◌, ◌⊎◌, List, [], ◌++◌, codes, take, Option}
+use Rattle.std.specs.Prelude.{◌≡◌, ℕ, ◌≤◌, ◌⊎◌, Bool, true, false, List, [], ◌++◌, codes, take, Option}
 use Rattle.std.specs.Io.KnownBytes.{Consumes, Appends}
 use Rattle.clfs_ports.specs.Cause.{Rises}
 use Rattle.clfs_disk.specs.Files.{Unchanged}
@@ -65,23 +65,24 @@ Writes IsText written written_after = (text : List ℕ) × IsText text × Append
 abbrev pub WritesFront : (List ℕ → Type 0) → Option (List ℕ) → Option (List ℕ) → Type 0
 WritesFront IsText written written_after = (text : List ℕ) × IsText text × AppendsFront written written_after text
 
--- Lines up to some were answered, and the sink's new bytes are all their replies, or all but the last and a front of that one.
+-- Lines up to some were answered, and the sink's new bytes are a text of them of this kind.
 abbrev pub StopsShort : Answers → Option (List ℕ) → Option (List ℕ) → Option (List ℕ) → Option (List ℕ) → Type 0
 StopsShort InPart left left_after written written_after =
     (lines : List (List ℕ)) × (AreReached left left_after lines × Writes (InPart lines) written written_after)
 
 -- The sink failed in the reply to a line, and no line after that one was answered, or in the line that says that a limit is passed.
-abbrev pub StopsAtFault : Answers → Answers → Option (List ℕ) → Option (List ℕ) → Option (List ℕ) → Option (List ℕ) → Type 0
+abbrev pub StopsAtFault : Answers → (Bool → Answers) → Option (List ℕ) → Option (List ℕ) → Option (List ℕ) → Option (List ℕ) → Type 0
 StopsAtFault Is InPart left left_after written written_after =
-    StopsShort InPart left left_after written written_after ⊎ Writes (IsFrontUpToLimit Is left left_after) written written_after
+    StopsShort (InPart true) left left_after written written_after ⊎ Writes (IsFrontUpToLimit Is left left_after) written written_after
 
 -- the statuses of answering: done, a source fault, a sink fault, no memory, too long an input
 abbrev pub IsAnswerStatus : ℕ → Type 0
 IsAnswerStatus status = (status ≡ 0) ⊎ ((status ≡ 2) ⊎ ((status ≡ 3) ⊎ ((status ≡ 5) ⊎ (status ≡ 7))))
 
 -- How answering ends: what each status says of the bytes that the source has left, before and after, of those that the sink has taken, and of
--- the two counts of faults. `Is` says that a text is the replies to lines, `InPart` that it is that or breaks off in the last reply.
-pub record EndsAnswering (Is InPart : Answers) (status : ℕ) (left left_after written written_after : Option (List ℕ)) (source source_after sink sink_after : ℕ) : Type 0 where
+-- the two counts of faults. `Is` says that a text is the replies to lines, `InPart` that it is that or lacks the last reply, of which it has a front
+-- where it is torn.
+pub record EndsAnswering (Is : Answers) (InPart : Bool → Answers) (status : ℕ) (left left_after written written_after : Option (List ℕ)) (source source_after sink sink_after : ℕ) : Type 0 where
   -- there is no other status
   pub statuses : IsAnswerStatus status
   -- the source was read to its end, and the sink's new bytes are the replies to all its lines
@@ -92,8 +93,8 @@ pub record EndsAnswering (Is InPart : Answers) (status : ℕ) (left left_after w
   -- the sink failed in this call: of the last line that was answered a front of the reply was written, and all replies before it
   pub sink_fault : status ≡ 3 → Rises sink sink_after
   pub sink_fault_front : status ≡ 3 → StopsAtFault Is InPart left left_after written written_after
-  -- memory ran out: lines up to some were answered, and all their replies were written but for that of the last
-  pub no_memory : status ≡ 5 → StopsShort InPart left left_after written written_after
+  -- memory ran out: lines up to some were answered, and all their replies were written whole, or all but the last and nothing of that one
+  pub no_memory : status ≡ 5 → StopsShort (InPart false) left left_after written written_after
   -- what the source gave passes a limit; the lines that came whole before it are answered, and then the line that says so
   pub too_long : status ≡ 7 → Writes (IsAnswerUpToLimit Is left left_after) written written_after
   -- the counts of faults never fall
@@ -132,9 +133,9 @@ pub record EndsServing (status buffers : ℕ) (old new : DiskState) (left left_a
   pub disk_fault : status ≡ 4 → RefusesLog DiskFault old new
   pub disk_fault_line : status ≡ 4 → Appends written written_after disk_fault_text
   -- memory ran out: the log wasn't opened, no file has changed, and nothing was written, or lines up to some were answered, and all their
-  -- replies were written but for that of the last
+  -- replies were written whole, or all but the last and nothing of that one
   pub no_memory : status ≡ 5 → StaysUnopened old new left left_after written written_after
-      ⊎ StopsShort (IsAnsweredInPart buffers old new) left left_after written written_after
+      ⊎ StopsShort (IsAnsweredInPart buffers old new false) left left_after written written_after
   -- the files aren't a log's, and the line that says so was written
   pub no_log : status ≡ 6 → Writes (IsNoLogText old new) written written_after
   -- what the source gave passes a limit; the lines that came whole before it are answered, and then the line that says so

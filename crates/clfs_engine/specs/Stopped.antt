@@ -1,5 +1,5 @@
 -- Why no further line is answered, and what was answered and written until then.
-use Rattle.std.specs.Prelude.{◌⊎◌, ℕ, ◌<◌, ◌≤◌, List, length, Option}
+use Rattle.std.specs.Prelude.{◌⊎◌, ℕ, ◌<◌, ◌≤◌, Bool, true, false, List, length, Option}
 use Rattle.clfs_ports.specs.Cause.{Rises}
 use Rattle.clfs_model.specs.Accepted.{serve_limits, accepted}
 use Rattle.clfs_engine.specs.Serve.{Answers, IsAnswerUpToFault, StopsShort, Writes}
@@ -14,13 +14,13 @@ pub record IsAnswerBeforeLimit (Is : Answers) (left left_after : Option (List �
   pub answered : Is (accepted serve_limits bytes) text
 
 -- what was answered and written, by the cause
-abbrev pub HasStopped : Answers → Answers → Stop → Option (List ℕ) → Option (List ℕ) → Option (List ℕ) → Option (List ℕ) → ℕ → ℕ → ℕ → ℕ → Type 0
+abbrev pub HasStopped : Answers → (Bool → Answers) → Stop → Option (List ℕ) → Option (List ℕ) → Option (List ℕ) → Option (List ℕ) → ℕ → ℕ → ℕ → ℕ → Type 0
 HasStopped Is InPart SourceFault left left_after written written_after source source_after sink sink_after =
     Rises source source_after × Writes (IsAnswerUpToFault Is left left_after) written written_after
 HasStopped Is InPart SinkFault left left_after written written_after source source_after sink sink_after =
-    Rises sink sink_after × StopsShort InPart left left_after written written_after
+    Rises sink sink_after × StopsShort (InPart true) left left_after written written_after
 HasStopped Is InPart NoMemory left left_after written written_after source source_after sink sink_after =
-    StopsShort InPart left left_after written written_after
+    StopsShort (InPart false) left left_after written written_after
 HasStopped Is InPart TooLong left left_after written written_after source source_after sink sink_after =
     Writes (IsAnswerBeforeLimit Is left left_after) written written_after
 
