@@ -10,8 +10,9 @@ use std::fs::File;
 use std::io::{self, ErrorKind};
 use std::os::unix::fs::FileExt;
 
-// The most zeros that are written in one call.
-const PIECE: usize = 1 << 20;
+// The most zeros that are written in one call: a page. Where the pieces are larger Linux keeps the file in larger units of memory, and each later
+// sync of a few sectors takes longer.
+const PIECE: usize = 4096;
 
 /// An open file.
 #[derive(Drop)]
