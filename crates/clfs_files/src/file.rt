@@ -10,9 +10,9 @@ use std::fs::File;
 use std::io::{self, ErrorKind};
 use std::os::unix::fs::FileExt;
 
-// The most zeros that are written in one call: a page. Where the pieces are larger Linux keeps the file in larger units of memory, and each later
-// sync of a few sectors takes longer.
-const PIECE: usize = 4096;
+// The most zeros that are written in one call, as many as the bytes of a largest block. On Linux later syncs of a few sectors were slower behind
+// pieces of 1 MiB, and reading was slower behind pieces of a page (docs/SPEED.md).
+const PIECE: usize = 1 << 16;
 
 /// An open file.
 #[derive(Drop)]
