@@ -25,13 +25,15 @@ abbrev pub areas_by : List AreaRow → List AreaCursors → List Reservation →
 areas_by (row ∷ rows) (cursors ∷ others) (reservation ∷ reservations) = area_by row cursors reservation ∷ areas_by rows others reservations
 areas_by _ _ _ = []
 
--- the parts of an area
+-- what the row of an area says, but for its cursors and what it holds
 abbrev pub row_of : Area → AreaRow
 row_of area = record { client = area.client; number = area.number; stream = area.stream; largest = area.largest; reads = area.reads }
 
+-- an area's cursors, and how many it may have
 abbrev pub cursors_of : Area → AreaCursors
 cursors_of area = record { cursors = area.cursors; reads = area.reads }
 
+-- what an area holds, with whose it is
 abbrev pub reservation_of : Area → Reservation
 reservation_of area = record { client = area.client; area = area.number; held = area.held }
 

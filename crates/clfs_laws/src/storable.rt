@@ -1,6 +1,7 @@
 // Which states files can hold: those that every step leaves whose call meets its condition. What their numbers are then.
 ghost use Rattle.std.specs.Prelude.{◌≡◌, ◌+◌, ◌≤◌, ◌<◌, ◌*◌, ◌^◌, ℕ, Bool, List, length, All, IfSome};
 ghost use Rattle.std.specs.List.{Any};
+ghost use Rattle.clfs_lsn.specs.Format.{sector_bytes};
 ghost use Rattle.clfs_lsn.specs.Lsn.{container_of, offset_of};
 ghost use Rattle.clfs_lsn.specs.Place.{frontier, block_end};
 ghost use Rattle.clfs_lsn.specs.Limits.{most_containers, most_write_buffers};
@@ -60,7 +61,7 @@ pub fn numbers_fit_their_types()
     ensures new_bases { (s : State) → IsValid s → IsStorable s → All (λ (entry : LogEntry). entry.new_base < 2 ^ 64) s.records }
     ensures lengths { (s : State) → IsValid s → IsStorable s → All (λ (entry : LogEntry). length entry.bytes ≤ longest s.shape) s.records }
     ensures block_ends { (s : State) → IsValid s → IsStorable s
-        → All (λ (entry : LogEntry). end_of_block s.records entry.lsn ≤ 512 * s.shape.container_sectors) s.records }
+        → All (λ (entry : LogEntry). end_of_block s.records entry.lsn ≤ sector_bytes * s.shape.container_sectors) s.records }
     ensures frontier { (s : State) → IsValid s → IsStorable s → frontier s.place < 2 ^ 64 }
     ensures flushed { (s : State) → IsValid s → IsStorable s → flushed s < 2 ^ 64 }
     ensures offset { (s : State) → IsValid s → IsStorable s → s.place.offset < 2 ^ 32 }
@@ -77,12 +78,12 @@ pub fn open_blocks_end_at_the_place()
     ensures newest { (s : State) → IsValid s → IsStorable s → 1 ≤ s.place.records
         → Any (λ (entry : LogEntry). entry.lsn + 1 ≡ frontier s.place) s.records }
     ensures end { (s : State) → IsValid s → IsStorable s → 1 ≤ s.place.records → (lsn : ℕ) → container_of lsn ≡ s.place.container
-        → offset_of lsn ≡ s.place.offset → end_of_block s.records lsn ≡ 512 * block_end s.place }
+        → offset_of lsn ≡ s.place.offset → end_of_block s.records lsn ≡ sector_bytes * block_end s.place }
 {}
 
 /// The same where only the restart area that was put last keeps the state from being one that a log can be in.
 pub fn laid_blocks_end_at_the_place()
     ensures newest { (s : State) → IsLaid s → 1 ≤ s.place.records → Any (λ (entry : LogEntry). entry.lsn + 1 ≡ frontier s.place) s.records }
     ensures end { (s : State) → IsLaid s → 1 ≤ s.place.records → (lsn : ℕ) → container_of lsn ≡ s.place.container
-        → offset_of lsn ≡ s.place.offset → end_of_block s.records lsn ≡ 512 * block_end s.place }
+        → offset_of lsn ≡ s.place.offset → end_of_block s.records lsn ≡ sector_bytes * block_end s.place }
 {}
