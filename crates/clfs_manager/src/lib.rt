@@ -1,22 +1,25 @@
 //! The log manager over a disk.
 //!
-//! It makes a log, opens one and closes it: `Manager::format`, `load`, `close`. What files stand for is said by `clfs_recover`, and how a
-//! base copy and a closed gate come to be there by `clfs_base` and `clfs_disk`. A manager stands for a state of the log machine, which
-//! opening finds: it keeps the heads of the records, and their data stay on the disk. Neither opening nor closing writes anything, so a crash
-//! in them leaves the files as they were.
+//! It makes a log, opens one and closes it: `Manager::format`, `load`, `close`; `reopen` opens it anew. What files stand for is said by
+//! `clfs_recover`, and how a base copy and a closed gate come to be there by `clfs_base` and `clfs_disk`. A manager stands for a state of the
+//! log machine, which opening finds: it keeps the heads of the records, and their data stay on the disk. Neither opening nor closing writes
+//! anything, so a crash in them leaves what it would have left before. `step` makes any call, by its value; `stored` says of a log between two
+//! calls what its files stand for, and what a crash leaves of it.
 //!
-//! `create_area`, `delete_area`, `release`, `align` and `end_read` are calls on areas, which no disk has. `flush` and `flush_to` write what waits as one
-//! group of blocks, so that a crash leaves all of it or none. `open_stream`, `advance`, which moves the base of a stream, and the calls that set policies
-//! and archiving write the base copy that follows the newest one, so that a crash leaves the old setting or the new one.
+//! `create_area`, `delete_area`, `release`, `align` and `end_read` are calls on areas, which no disk has. `flush` and `flush_to` write what
+//! waits as one group of blocks, so that a crash leaves all of it or none. `open_stream`, `advance`, which moves the base of a stream, and the
+//! calls that set policies and archiving write the base copy that follows the newest one, so that a crash leaves the old setting or the new
+//! one.
 //!
-//! Records are read by `read` and `read_next`, restart areas by `read_restart` and `previous_restart`, each at a cursor of an area. A record that
-//! isn't on the disk yet is given from memory, each other one from its block, which is read as a whole and kept for those beside it. `info` and
-//! `extents` tell what the log is like and what is to be archived, from memory alone.
+//! Records are read by `read` and `read_next`, restart areas by `read_restart` and `previous_restart`, each at a cursor of an area. A record
+//! that isn't on the disk yet is given from memory, each other one from its block, which is read as a whole and kept for those beside it.
+//! `info` and `extents` tell what the log is like and what is to be archived, from memory alone.
 //!
-//! `set_size` gives the log more containers or fewer, and `reserve` sectors to an area, for which the log may grow. A change of the size is on the
-//! disk when it is answered; what areas hold never is.
+//! `set_size` gives the log more containers or fewer, and `reserve` sectors to an area, for which the log may grow. A change of the size is on
+//! the disk when it is answered; what areas hold never is.
 //!
-//! `write_restart` writes a restart area and flushes the log; with it, in one step, the base of its stream moves.
+//! `append` puts a record behind the others, in memory; it is on the disk once it was flushed. `write_restart` writes a restart area and
+//! flushes the log; with it, in one step, the base of its stream moves.
 #![tactic(auto)]
 
 mod appending;

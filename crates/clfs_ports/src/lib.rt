@@ -6,7 +6,7 @@
 //! failed" has to show that the count rose, and a port whose count stands at 0 never fails.
 //!
 //! What a source has left and what a sink was given is told where it is known. Ports in memory tell
-//! it; standard input and output do not.
+//! it, as far as they keep it; standard input and output do not.
 #![tactic(auto)]
 
 mod copying;

@@ -1,8 +1,8 @@
 //! Worked rows of the log machine: scripts and the replies to them, computed from the definitions alone.
 //!
 //! Each function does nothing and promises rows, one for each clause: a log that has just been made answers these lines with
-//! these replies, text for text. What is expected was worked out by hand from the rules of the log, so that a mistake in a
-//! definition makes some row fail. `specs/Worked.antt` says what a row means.
+//! these replies, text for text; or of a relation which states have it, and which don't. What is expected was worked out by hand
+//! from the rules of the log, so that a mistake in a definition makes some row fail. `specs/Worked.antt` says what a row of lines means.
 #![tactic(auto)]
 
 mod archive;
