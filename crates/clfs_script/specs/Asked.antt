@@ -4,6 +4,7 @@ use Rattle.clfs_model.specs.Script.{Rest, Read, words_from, word}
 use Rattle.clfs_text.specs.Left.{Left}
 use Rattle.clfs_model.specs.Script.{Language, calls_and_reopening, calls_alone, allowed_verb, request_behind, ◌>>=◌}
 use Rattle.clfs_model.specs.Run as run
+use Rattle.clfs_model.specs.declared.call.Call.{Call}
 use Rattle.clfs_script.specs.declared.line.Language.TheVariants as languages
 use Rattle.clfs_script.specs.declared.line.Language.{Language as CodeLanguage}
 use Rattle.clfs_script.specs.declared.line.Request.{Request}
@@ -46,15 +47,19 @@ requested client Reopen = run.reopens client
 abbrev pub request_of : ScriptLine → run.Request
 request_of line = requested line.client line.request
 
+-- what a client asks for by a call, where there is one
+abbrev pub asked : ℕ → Result Call ℕ → Result run.Request ℕ
+asked client defined = defined >>= (λ call. Ok (run.asks client call))
+
 -- what stands behind a client's number: a verb, and what stands behind it
 abbrev pub request_behind_client : Language → ℕ → Rest → Result run.Request ℕ
 request_behind_client language client rest = word (allowed_verb language) rest >>= (λ verb. request_behind client verb.value verb.rest)
 
--- A request is what the definition says for this client, or there was want of memory, which is free.
-abbrev pub AnswersRequest : ℕ → Result Request LineRefusal → Result run.Request ℕ → Type 0
-AnswersRequest client (Ok request) defined = defined ≡ Ok (requested client request)
-AnswersRequest client (Err NoMemory) defined = Unit
-AnswersRequest client (Err (BadLine at)) defined = defined ≡ Err at
+-- A client's request is what the definition says, or there was want of memory, which is free.
+abbrev pub AnswersRequest : Result ScriptLine LineRefusal → Result run.Request ℕ → Type 0
+AnswersRequest (Ok line) defined = defined ≡ Ok (request_of line)
+AnswersRequest (Err NoMemory) defined = Unit
+AnswersRequest (Err (BadLine at)) defined = defined ≡ Err at
 
 -- A line asks for what was read, or is bad at the place that was answered. Want of memory is free.
 abbrev pub AnswersLine : Result ScriptLine LineRefusal → run.Request → Type 0

@@ -1,5 +1,5 @@
 // What a whole line asks for.
-ghost use Rattle.std.specs.Prelude.{◌≡◌, ◌≤◌, ℕ, length};
+ghost use Rattle.std.specs.Prelude.{◌≡◌, ◌≤◌, length};
 ghost use Rattle.std.specs.Option.{option_map};
 ghost use Rattle.clfs_model.specs.Script.{allowed_verb, request_in};
 ghost use Rattle.clfs_script.specs.Asked.{rest_of, AnswersRequest, AnswersLine, language_of, request_behind_client};
@@ -27,18 +27,19 @@ fn allowed_verb(language: Language, word: &[u8]) -> Option<Option<Verb>>
 fn client_request(
     alloc: Global,
     language: Language,
+    client: u16,
     words: &mut Words,
-) -> Result<Request, LineRefusal>
-    ensures { (client : ℕ) → AnswersRequest client result (request_behind_client (language_of language) client (rest_of words.old)) }
+) -> Result<ScriptLine, LineRefusal>
+    ensures { AnswersRequest result (request_behind_client (language_of language) client (rest_of words.old)) }
 {
     let word = words.take()?;
     match allowed_verb(language, word.bytes) {
         None => Err(LineRefusal::BadLine { at: word.at }),
-        Some(None) => ending(Request::Reopen, words),
-        Some(Some(verb)) => {
-            let call = call_line(alloc, verb, words)?;
-            Ok(Request::Step(call))
+        Some(None) => {
+            let request = Request::Reopen;
+            ending(ScriptLine { client, request }, words)
         }
+        Some(Some(verb)) => call_line(alloc, client, verb, words),
     }
 }
 
@@ -49,6 +50,5 @@ pub fn parse_line(alloc: Global, language: Language, line: &[u8]) -> Result<Scri
 {
     let mut words = Words::of(line);
     let client = client(&mut words)?;
-    let request = client_request(alloc, language, &mut words)?;
-    Ok(ScriptLine { client, request })
+    client_request(alloc, language, client, &mut words)
 }
