@@ -2,7 +2,7 @@
 ghost use Rattle.std.specs.Prelude.{◌≡◌, ◌+◌, ◌≤◌, [], ◌++◌, length, decimal};
 ghost use Rattle.clfs_lsn.specs.Words.{lsn_text};
 
-use crate::printing::write_hex;
+use crate::printing::write_lsn;
 use clfs_lsn::Lsn;
 use itoa::Buffer;
 use std::marker::Model;
@@ -73,10 +73,6 @@ impl Lead {
         ensures text { self.new ≡ lsn_text lsn ++ self.old }
         ensures short { length self.new ≤ length self.old + 26 }
     {
-        let sequence = write_hex(lsn.sequence(), &mut self.bytes, self.start);
-        self.bytes[sequence - 1] = b':';
-        let offset = write_hex(lsn.offset(), &mut self.bytes, sequence - 1);
-        self.bytes[offset - 1] = b':';
-        self.start = write_hex(lsn.container(), &mut self.bytes, offset - 1);
+        self.start = write_lsn(lsn, &mut self.bytes, self.start);
     }
 }
