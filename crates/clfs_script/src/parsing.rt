@@ -43,7 +43,9 @@ fn reopen_line(client: u16, words: &mut Words) -> Result<ScriptLine, LineRefusal
     ending(ScriptLine { client, request }, words)
 }
 
-/// What a line asks for in a language, or the place where it goes wrong. The line comes without its carriage return.
+/// What a line asks for in a language, or the place where it goes wrong. The line comes without its carriage return. It is read where
+/// the call stands, so that what it asks for isn't moved on the way.
+#[inline(always)]
 pub fn parse_line(alloc: Global, language: Language, line: &[u8]) -> Result<ScriptLine, LineRefusal>
     requires { length line.now ≤ 4294967295 }
     ensures { AnswersLine result (request_in (language_of language) line.now) }
