@@ -1,11 +1,10 @@
 // Words that are data: a dash for no bytes, else two hexadecimal digits for each byte.
-ghost use Rattle.std.specs.Prelude.{◌≡◌, ◌*◌, ◌<◌, ◌≤◌, ◌++◌, Some, None, length, IfOk, OnOk, MatchBool};
+ghost use Rattle.std.specs.Prelude.{◌≡◌, ◌*◌, ◌<◌, ◌≤◌, ◌++◌, Some, None, length, slice_index, IfOk, OnOk, MatchBool};
 ghost use Rattle.std.specs.Result.{result_ok};
-ghost use Rattle.hex.specs.Hex.{decode_of, encode_lower};
+ghost use Rattle.hex.specs.Hex.{decode_of, encode_lower, lower_digits};
 ghost use Rattle.clfs_text.specs.Nibbles.{nibble_of};
 ghost use Rattle.clfs_lsn.specs.Words.{data_text, data_of_word};
 
-use crate::printing::lower_digit;
 use clfs_lsn::Bytes;
 use std::alloc::{AllocError, Global};
 
@@ -62,6 +61,17 @@ fn decode_into(text: &[u8], out: &mut [u8]) -> bool
 }
 
 const PIECE: usize = 128;
+
+fn lower_digit(value: u8) -> u8
+    requires { value < 16 }
+    ensures { result ≡ slice_index lower_digits value }
+{
+    if value < 10 {
+        b'0' + value
+    } else {
+        b'a' + (value - 10)
+    }
+}
 
 // Writes two lower-case hexadecimal digits for each byte. As above, it isn't taken into its caller.
 #[inline(never)]

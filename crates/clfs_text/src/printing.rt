@@ -1,7 +1,6 @@
 // Numbers and LSNs as text behind other text.
-ghost use Rattle.std.specs.Prelude.{◌≡◌, false, ◌++◌, ◌+◌, ◌-◌, ◌<◌, ◌≤◌, OnOk, OnErr, length, drop, slice_index, decimal};
+ghost use Rattle.std.specs.Prelude.{◌≡◌, false, ◌++◌, ◌+◌, ◌-◌, ◌<◌, ◌≤◌, OnOk, OnErr, length, drop, decimal};
 ghost use Rattle.std.specs.Fmt.{digit_glyph};
-ghost use Rattle.hex.specs.Hex.{lower_digits};
 ghost use Rattle.clfs_lsn.specs.Words.{hex_text, lsn_text};
 
 use clfs_lsn::{Bytes, Lsn};
@@ -17,17 +16,14 @@ pub fn push_decimal(number: u64, out: &mut Bytes) -> Result<(), AllocError>
     out.extend_from_slice(buffer.format(number).as_bytes())
 }
 
-// The lower-case hexadecimal digit of a value.
-pub(crate) fn lower_digit(value: u8) -> u8
-    requires { value < 16 }
-    ensures glyph { result ≡ digit_glyph false value }
-    ensures indexed { result ≡ slice_index lower_digits value }
+const GLYPHS: [u8; 16] = *b"0123456789abcdef";
+
+// A digit as text. A digit alone is looked up; where there are many, `bytes` makes them by sums.
+fn glyph(digit: u32) -> u8
+    requires { digit < 16 }
+    ensures { result ≡ digit_glyph false digit }
 {
-    if value < 10 {
-        b'0' + value
-    } else {
-        b'a' + (value - 10)
-    }
+    GLYPHS[digit as usize]
 }
 
 // Writes the hexadecimal digits of a number so that they end before `end`, and gives the place where they begin.
@@ -41,11 +37,11 @@ pub(crate) fn write_hex(number: u32, digits: &mut [u8], end: usize) -> usize
     let mut left = number;
     let mut start = end - 1;
     while left >= 16 {
-        digits[start] = lower_digit((left % 16) as u8);
+        digits[start] = glyph(left % 16);
         left /= 16;
         start -= 1;
     }
-    digits[start] = lower_digit(left as u8);
+    digits[start] = glyph(left);
     start
 }
 
