@@ -8,7 +8,8 @@ use Rattle.clfs_model.specs.declared.call.Call.TheVariants as calls
 use Rattle.clfs_model.specs.declared.call.Call.{Call}
 use Rattle.clfs_model.specs.Script.{◌>>=◌, Options, word, area_word, append_line, option_word, held_sizes}
 use Rattle.clfs_text.specs.Left.{Left, skipping}
-use Rattle.clfs_script.specs.Asked.{rest_of, Answers}
+use Rattle.clfs_script.specs.Asked.{rest_of, Answers, AnswersRequest, asked}
+use Rattle.clfs_script.specs.declared.line.ScriptLine.{ScriptLine}
 use Rattle.clfs_script.specs.declared.line.LineRefusal.{LineRefusal}
 use Rattle.clfs_script.specs.declared.line.LineRefusal.TheVariants.{NoMemory, BadLine}
 
@@ -63,10 +64,10 @@ append_is area previous undo_next bytes reserved seal flush l0 l1 l2 l3 l4 l5 l6
     options.reserved options.sizes))
 
 -- the sizes at the end go wrong, or memory lacks for them
-pub append_stops : (result : Result Call LineRefusal) (read : Result (List ℕ) LineRefusal) (e : LineRefusal) (held : Result (List ℕ) ℕ) (whole :
-    Result Call ℕ)
-    (call : List ℕ → Call) → IsErrAnd result (λ x. x ≡ e) → read ≡ Err e → Answers read held
-    → whole ≡ (held >>= (λ lengths. Ok (call lengths))) → Answers result whole
-append_stops (Ok x) read e held whole call is was answers so_far = absurd is
-append_stops (Err NoMemory) read e held whole call is was answers so_far = tt
-append_stops (Err (BadLine at)) read e held whole call is was answers so_far = let bad = rw (was, ← is) at answers in rw (so_far, bad) refl
+pub append_stops : (client : ℕ) (result : Result ScriptLine LineRefusal) (read : Result (List ℕ) LineRefusal) (e : LineRefusal) (held : Result (List ℕ) ℕ)
+    (whole : Result Call ℕ) (call : List ℕ → Call) → IsErrAnd result (λ x. x ≡ e) → read ≡ Err e → Answers read held
+    → whole ≡ (held >>= (λ lengths. Ok (call lengths))) → AnswersRequest result (asked client whole)
+append_stops client (Ok x) read e held whole call is was answers so_far = absurd is
+append_stops client (Err NoMemory) read e held whole call is was answers so_far = tt
+append_stops client (Err (BadLine at)) read e held whole call is was answers so_far =
+    let bad = rw (was, ← is) at answers in rw (so_far, bad) refl

@@ -1,14 +1,15 @@
 -- A whole line: a client, and what it asks for.
-use Rattle.std.proofs.Common.{◌≡◌, ℕ, ◌+◌, List, [], ◌∷◌, length, true, Result, Ok, Err, Option, Some, None, refl, ◌∙◌, ap, subst, arith}
+use Rattle.std.proofs.Common.{◌≡◌, ℕ, ◌+◌, List, [], ◌∷◌, length, true, Result, Ok, Err, Option, Some, refl, ◌∙◌, ap, subst, arith}
 use Rattle.std.specs.Prelude.{nat_le}
 use Rattle.std.specs.Result.{IsErrAnd}
 use Rattle.std.proofs.lemmas.Bool.{le-leb}
 use Rattle.clfs_model.specs.Lines.{words_of}
 use Rattle.clfs_model.specs.Run as run
-use Rattle.clfs_model.specs.Script.{Language, Rest, Word, word, client_word, words_from, request_in, last_of, allowed_verb, ends}
+use Rattle.clfs_model.specs.Script.{Language, Verb, Rest, Word, Read, word, client_word, words_from, request_in, request_behind, request_or_bad, last_of, allowed_verb, ◌>>=◌}
 use Rattle.clfs_text.specs.Left.{Left, left_from}
-use Rattle.clfs_script.specs.Asked.{rest_of, Answers, Reads, AnswersRequest, AnswersLine, request_behind_client, requested}
-use Rattle.clfs_script.specs.declared.line.Request.{Request}
+use Rattle.clfs_script.specs.Asked.{rest_of, Answers, ReadsVerb, AnswersRequest, AnswersLine, client_verb, request_of, asked}
+use Rattle.clfs_script.specs.declared.verbs.Verb.{Verb as CodeVerb}
+use Rattle.clfs_model.specs.declared.call.Call.{Call}
 use Rattle.clfs_script.specs.declared.line.Request.TheVariants.{Step, Reopen}
 use Rattle.clfs_script.specs.declared.line.ScriptLine.{ScriptLine}
 use Rattle.clfs_script.specs.declared.line.LineRefusal.{LineRefusal}
@@ -23,55 +24,69 @@ taken read old new w x words next end is = rw (words, is, next, end) refl
 whole_rest : (line : List ℕ) → rest_of (left_from line 0) ≡ record { words = words_from 0 (words_of line); end = length line }
 whole_rest line = let t : nat_le 0 (length line) ≡ true = le-leb 0 (length line) (omega arith) in rw t refl
 
--- there is no client
-pub no_client : (language : Language) (line : List ℕ) (left after : Left) (result : Result ScriptLine LineRefusal) (read : Result ℕ LineRefusal)
-    (e : LineRefusal)
-    → left ≡ left_from line 0 → IsErrAnd result (λ x. x ≡ e) → read ≡ Err e → Reads client_word left read after
-    → AnswersLine result (request_in language line)
-unfolding request_in
-no_client language line left after (Ok x) read e whole is was reads = absurd is
-no_client language line left after (Err NoMemory) read e whole is was reads = tt
-no_client language line left after (Err (BadLine at)) read e whole is was reads =
-    let bad = rw (was, ← is) at reads in
-    let there = subst (λ (rest : Rest). word client_word rest ≡ Err at) (ap rest_of whole ∙ whole_rest line) bad in
-    rw there refl
+both : (client : ℕ) (verb : Result (Read (Option Verb)) ℕ) (g : ℕ → Read (Option Verb) → Result run.Request ℕ)
+    → (verb >>= (λ read. g client read)) ≡ ((verb >>= (λ read. Ok (client, read))) >>= (λ (found : ℕ × Read (Option Verb)). g found.0 found.1))
+both client (Ok verb) g = refl
+both client (Err at) g = refl
 
--- there is a client, and what stands behind it goes wrong
-pub no_request : (language : Language) (line : List ℕ) (left mid : Left) (client : ℕ) (result : Result ScriptLine LineRefusal) (read : Result
-    Request LineRefusal)
-    (e : LineRefusal) → left ≡ left_from line 0 → word client_word (rest_of left) ≡ Ok (record { value = client; rest = rest_of mid })
-    → IsErrAnd result (λ x. x ≡ e) → read ≡ Err e → AnswersRequest client read (request_behind_client language client (rest_of mid))
-    → AnswersLine result (request_in language line)
-unfolding request_in
-no_request language line left mid client (Ok x) read e whole first is was reads = absurd is
-no_request language line left mid client (Err NoMemory) read e whole first is was reads = tt
-no_request language line left mid client (Err (BadLine at)) read e whole first is was reads =
-    let bad = rw (was, ← is) at reads in
-    let there = subst (λ (rest : Rest). word client_word rest ≡ Ok (record { value = client; rest = rest_of mid })) (ap rest_of whole
-    ∙ whole_rest line) first in
-    rw (there, bad) refl
+behind_both : (client : Result (Read ℕ) ℕ) (f : Read ℕ → Result (Read (Option Verb)) ℕ) (g : ℕ → Read (Option Verb) → Result run.Request ℕ)
+    → (client >>= (λ read. f read >>= (λ verb. g read.value verb)))
+    ≡ ((client >>= (λ read. f read >>= (λ verb. Ok (read.value, verb)))) >>= (λ (found : ℕ × Read (Option Verb)). g found.0 found.1))
+behind_both (Ok client) f g = both client.value (f client) g
+behind_both (Err at) f g = refl
 
--- there is a request
-pub line_read : (language : Language) (line : List ℕ) (left mid : Left) (client : ℕ) (request : Request)
-    → left ≡ left_from line 0 → word client_word (rest_of left) ≡ Ok (record { value = client; rest = rest_of mid })
-    → request_behind_client language client (rest_of mid) ≡ Ok (requested client request) → request_in language line ≡ requested client request
+-- what a line asks for, from its client and its verb
+line_is : (language : Language) (line : List ℕ) (left : Left) (read : Result (ℕ × Read (Option Verb)) ℕ) → left ≡ left_from line 0
+    → client_verb language (rest_of left) ≡ read
+    → request_in language line ≡ request_or_bad (read >>= (λ (found : ℕ × Read (Option Verb)). request_behind found.0 found.1.value found.1.rest))
 unfolding request_in
-line_read language line left mid client request whole first second =
-    let there = subst (λ (rest : Rest). word client_word rest ≡ Ok (record { value = client; rest = rest_of mid })) (ap rest_of whole
-    ∙ whole_rest line) first in
-    rw (there, second) refl
+line_is language line left read whole is =
+    let start : Rest = record { words = words_from 0 (words_of line); end = length line } in
+    let there : client_verb language start ≡ read = subst (λ (rest : Rest). client_verb language rest ≡ read) (ap rest_of whole ∙ whole_rest line) is in
+    ap request_or_bad
+    (behind_both (word client_word start) (λ client. word (allowed_verb language) client.rest) (λ client verb. request_behind client verb.value verb.rest)
+    ∙ ap (λ (r : Result (ℕ × Read (Option Verb)) ℕ). r >>= (λ (found : ℕ × Read (Option Verb)). request_behind found.0 found.1.value found.1.rest)) there)
+
+-- there is no client, or no verb behind it
+pub no_verb : (language : Language) (line : List ℕ) (left after : Left) (result : Result ScriptLine LineRefusal)
+    (read : Result (ℕ × Option CodeVerb) LineRefusal) (e : LineRefusal)
+    → left ≡ left_from line 0 → IsErrAnd result (λ x. x ≡ e) → read ≡ Err e → ReadsVerb language left read after
+    → AnswersLine result (request_in language line)
+no_verb language line left after (Ok x) read e whole is was reads = absurd is
+no_verb language line left after (Err NoMemory) read e whole is was reads = tt
+no_verb language line left after (Err (BadLine at)) read e whole is was reads =
+    let bad = rw (was, ← is) at reads in line_is language line left (Err at) whole bad
+
+-- there is a client with a verb, and what it asks for stands behind it
+pub line_asked : (language : Language) (line : List ℕ) (left mid : Left) (client : ℕ) (verb : Option Verb) (result : Result ScriptLine LineRefusal)
+    → left ≡ left_from line 0 → client_verb language (rest_of left) ≡ Ok (client, record { value = verb; rest = rest_of mid })
+    → AnswersRequest result (request_behind client verb (rest_of mid)) → AnswersLine result (request_in language line)
+line_asked language line left mid client verb (Err NoMemory) whole first behind = tt
+line_asked language line left mid client verb (Err (BadLine at)) whole first behind =
+    line_is language line left (Ok (client, record { value = verb; rest = rest_of mid })) whole first ∙ ap request_or_bad behind
+line_asked language line left mid client verb (Ok found) whole first behind =
+    line_is language line left (Ok (client, record { value = verb; rest = rest_of mid })) whole first ∙ ap request_or_bad behind
+
+-- the line ends behind what it asks for
+line_ends : (line : ScriptLine) (result : Result ScriptLine LineRefusal) (words : List Word) → Answers result (last_of line words)
+    → AnswersRequest result (last_of (request_of line) words)
+line_ends line (Err NoMemory) words last = tt
+line_ends line (Ok found) [] last = let same : line ≡ found = cc in rw same refl
+line_ends line (Ok found) (w ∷ words) last = absurd (cc)
+line_ends line (Err (BadLine at)) [] last = absurd (cc)
+line_ends line (Err (BadLine at)) (w ∷ words) last = let same : w.at ≡ at = cc in ap Err same
+
+asked_last : (client : ℕ) (call : Call) (words : List Word) → asked client (last_of call words) ≡ last_of (run.asks client call) words
+asked_last client call [] = refl
+asked_last client call (w ∷ words) = refl
+
+-- the line ends behind a call
+pub call_ends : (client : ℕ) (call : Call) (result : Result ScriptLine LineRefusal) (words : List Word)
+    → Answers result (last_of (record { client = client; request = Step call }) words) → AnswersRequest result (asked client (last_of call words))
+call_ends client call result words last =
+    rw (asked_last client call words) (line_ends (record { client = client; request = Step call }) result words last)
 
 -- the line ends behind `reopen`
-pub reopen_ends : (client : ℕ) (result : Result Request LineRefusal) (words : List Word) → Answers result (last_of Reopen words)
-    → AnswersRequest client result (last_of (run.reopens client) words)
-reopen_ends client (Err NoMemory) words last = tt
-reopen_ends client (Ok Reopen) [] last = refl
-reopen_ends client (Ok (Step call)) [] last = absurd (cc)
-reopen_ends client (Ok request) (w ∷ words) last = absurd (cc)
-reopen_ends client (Err (BadLine at)) [] last = absurd (cc)
-reopen_ends client (Err (BadLine at)) (w ∷ words) last = let same : w.at ≡ at = cc in ap Err same
-
-pub reopened : (language : Language) (client : ℕ) (old new : Left) (result : Result Request LineRefusal)
-    → word (allowed_verb language) (rest_of old) ≡ Ok (record { value = None; rest = rest_of new })
-    → Answers result (ends Reopen (rest_of new)) → AnswersRequest client result (request_behind_client language client (rest_of old))
-reopened language client old new result there last = rw there (reopen_ends client result (rest_of new).words last)
+pub reopened : (client : ℕ) (result : Result ScriptLine LineRefusal) (words : List Word)
+    → Answers result (last_of (record { client = client; request = Reopen }) words) → AnswersRequest result (last_of (run.reopens client) words)
+reopened client result words last = line_ends (record { client = client; request = Reopen }) result words last

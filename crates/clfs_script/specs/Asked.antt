@@ -1,14 +1,19 @@
 -- What the reader's values stand for in the definition of the language.
 use Rattle.std.specs.Prelude.{◌≡◌, ℕ, List, Result, Ok, Err, Option}
+use Rattle.std.specs.Option.{option_map}
 use Rattle.clfs_model.specs.Script.{Rest, Read, words_from, word}
 use Rattle.clfs_text.specs.Left.{Left}
-use Rattle.clfs_model.specs.Script.{Language, calls_and_reopening, calls_alone, allowed_verb, request_behind, ◌>>=◌}
+use Rattle.clfs_model.specs.Script.{Language, calls_and_reopening, calls_alone, client_word, allowed_verb, ◌>>=◌}
+use Rattle.clfs_model.specs.Script as script
 use Rattle.clfs_model.specs.Run as run
+use Rattle.clfs_model.specs.declared.call.Call.{Call}
 use Rattle.clfs_script.specs.declared.line.Language.TheVariants as languages
 use Rattle.clfs_script.specs.declared.line.Language.{Language as CodeLanguage}
 use Rattle.clfs_script.specs.declared.line.Request.{Request}
 use Rattle.clfs_script.specs.declared.line.Request.TheVariants.{Step, Reopen}
 use Rattle.clfs_script.specs.declared.line.ScriptLine.{ScriptLine}
+use Rattle.clfs_script.specs.Verbs.{verb_of}
+use Rattle.clfs_script.specs.declared.verbs.Verb.{Verb}
 use Rattle.clfs_script.specs.declared.line.LineRefusal.{LineRefusal}
 use Rattle.clfs_script.specs.declared.line.LineRefusal.TheVariants.{NoMemory, BadLine}
 
@@ -46,15 +51,29 @@ requested client Reopen = run.reopens client
 abbrev pub request_of : ScriptLine → run.Request
 request_of line = requested line.client line.request
 
--- what stands behind a client's number: a verb, and what stands behind it
-abbrev pub request_behind_client : Language → ℕ → Rest → Result run.Request ℕ
-request_behind_client language client rest = word (allowed_verb language) rest >>= (λ verb. request_behind client verb.value verb.rest)
+-- what a client asks for by a call, where there is one
+abbrev pub asked : ℕ → Result Call ℕ → Result run.Request ℕ
+asked client defined = defined >>= (λ call. Ok (run.asks client call))
 
--- A request is what the definition says for this client, or there was want of memory, which is free.
-abbrev pub AnswersRequest : ℕ → Result Request LineRefusal → Result run.Request ℕ → Type 0
-AnswersRequest client (Ok request) defined = defined ≡ Ok (requested client request)
-AnswersRequest client (Err NoMemory) defined = Unit
-AnswersRequest client (Err (BadLine at)) defined = defined ≡ Err at
+-- a client, the verb behind its number, and what stands behind that
+abbrev pub client_verb : Language → Rest → Result (ℕ × Read (Option script.Verb)) ℕ
+client_verb language rest = do
+  client ← word client_word rest
+  verb ← word (allowed_verb language) client.rest
+  Ok (client.value, verb)
+
+-- A client and its verb were read so. Want of memory is free.
+abbrev pub ReadsVerb : Language → Left → Result (ℕ × Option Verb) LineRefusal → Left → Type 0
+ReadsVerb language left (Ok found) after =
+    client_verb language (rest_of left) ≡ Ok (found.0, record { value = option_map verb_of found.1; rest = rest_of after })
+ReadsVerb language left (Err NoMemory) after = Unit
+ReadsVerb language left (Err (BadLine at)) after = client_verb language (rest_of left) ≡ Err at
+
+-- A client's request is what the definition says, or there was want of memory, which is free.
+abbrev pub AnswersRequest : Result ScriptLine LineRefusal → Result run.Request ℕ → Type 0
+AnswersRequest (Ok line) defined = defined ≡ Ok (request_of line)
+AnswersRequest (Err NoMemory) defined = Unit
+AnswersRequest (Err (BadLine at)) defined = defined ≡ Err at
 
 -- A line asks for what was read, or is bad at the place that was answered. Want of memory is free.
 abbrev pub AnswersLine : Result ScriptLine LineRefusal → run.Request → Type 0

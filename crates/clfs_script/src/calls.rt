@@ -1,10 +1,10 @@
 // What stands behind each verb.
-ghost use Rattle.std.specs.Prelude.{◌≡◌, codes};
-ghost use Rattle.clfs_model.specs.Script.{area_line, append_line, read_line, restart_line, policy_of, policy_line, call_line, option_word, held_sizes, open_verb, drop_verb, reserve_verb, release_verb, align_verb, flush_verb, flush_to_verb, next_verb, end_verb, read_restart_verb, previous_restart_verb, advance_verb, archive_verb, tail_verb, unpolicy_verb, size_verb, info_verb};
-ghost use Rattle.clfs_script.specs.Asked.{rest_of, Answers};
+ghost use Rattle.std.specs.Prelude.{Ok, codes};
+ghost use Rattle.clfs_model.specs.Script.{ends, area_line, append_line, read_line, restart_line, policy_of, policy_line, call_line, option_word, held_sizes, open_verb, drop_verb, reserve_verb, release_verb, align_verb, flush_verb, flush_to_verb, next_verb, end_verb, read_restart_verb, previous_restart_verb, advance_verb, archive_verb, tail_verb, unpolicy_verb, size_verb, info_verb};
+ghost use Rattle.clfs_script.specs.Asked.{rest_of, Answers, AnswersRequest, asked};
 ghost use Rattle.clfs_script.specs.Verbs.{verb_of};
 
-use crate::line::LineRefusal;
+use crate::line::{LineRefusal, Request, ScriptLine};
 use crate::reading::{
     area, base, cursor, data, ending, kind, long, lsn, mode, name, short, stream, switch,
 };
@@ -15,13 +15,32 @@ use clfs_model::{Call, Draft};
 use clfs_text::Words;
 use std::alloc::Global;
 
-fn area_line(words: &mut Words) -> Result<Call, LineRefusal>
-    ensures { Answers result (area_line (rest_of words.old)) }
+// What a client asks for by a call.
+#[inline(always)]
+fn asks(client: u16, call: Call) -> Result<ScriptLine, LineRefusal>
+    ensures { AnswersRequest result (asked client (Ok call)) }
+{
+    let request = Request::Step(call);
+    Ok(ScriptLine { client, request })
+}
+
+// The same of a call behind which the line ends.
+#[inline(always)]
+fn ending_call(client: u16, call: Call, words: &mut Words) -> Result<ScriptLine, LineRefusal>
+    ensures { AnswersRequest result (asked client (ends call (rest_of words.old))) }
+{
+    let request = Request::Step(call);
+    ending(ScriptLine { client, request }, words)
+}
+
+fn area_line(client: u16, words: &mut Words) -> Result<ScriptLine, LineRefusal>
+    ensures { AnswersRequest result (asked client (area_line (rest_of words.old))) }
 {
     let stream = stream(words)?;
     let largest = long(words)?;
     let reads = cursor(words)?;
-    ending(
+    ending_call(
+        client,
         Call::CreateArea {
             stream,
             largest,
@@ -53,8 +72,8 @@ fn hold_line(alloc: Global, words: &mut Words) -> Result<Sizes, LineRefusal>
     }
 }
 
-fn append_line(alloc: Global, words: &mut Words) -> Result<Call, LineRefusal>
-    ensures { Answers result (append_line (rest_of words.old)) }
+fn append_line(alloc: Global, client: u16, words: &mut Words) -> Result<ScriptLine, LineRefusal>
+    ensures { AnswersRequest result (asked client (append_line (rest_of words.old))) }
 {
     let area = area(words)?;
     let bytes = data(alloc, words)?;
@@ -71,31 +90,35 @@ fn append_line(alloc: Global, words: &mut Words) -> Result<Call, LineRefusal>
         seal,
         flush,
     };
-    Ok(Call::Append {
-        area,
-        draft,
-        reserved,
-        sizes,
-    })
+    asks(
+        client,
+        Call::Append {
+            area,
+            draft,
+            reserved,
+            sizes,
+        },
+    )
 }
 
-fn read_line(words: &mut Words) -> Result<Call, LineRefusal>
-    ensures { Answers result (read_line (rest_of words.old)) }
+fn read_line(client: u16, words: &mut Words) -> Result<ScriptLine, LineRefusal>
+    ensures { AnswersRequest result (asked client (read_line (rest_of words.old))) }
 {
     let area = area(words)?;
     let lsn = lsn(words)?;
     let mode = mode(words)?;
-    ending(Call::Read { area, lsn, mode }, words)
+    ending_call(client, Call::Read { area, lsn, mode }, words)
 }
 
-fn restart_line(alloc: Global, words: &mut Words) -> Result<Call, LineRefusal>
-    ensures { Answers result (restart_line (rest_of words.old)) }
+fn restart_line(alloc: Global, client: u16, words: &mut Words) -> Result<ScriptLine, LineRefusal>
+    ensures { AnswersRequest result (asked client (restart_line (rest_of words.old))) }
 {
     let area = area(words)?;
     let bytes = data(alloc, words)?;
     let base = base(words)?;
     let reserved = words.skip(b"reserved");
-    ending(
+    ending_call(
+        client,
         Call::WriteRestart {
             area,
             bytes,
@@ -107,8 +130,8 @@ fn restart_line(alloc: Global, words: &mut Words) -> Result<Call, LineRefusal>
 }
 
 // A policy of this kind, with its value.
-fn policy_of(kind: PolicyKind, words: &mut Words) -> Result<Call, LineRefusal>
-    ensures { Answers result (policy_of kind (rest_of words.old)) }
+fn policy_of(client: u16, kind: PolicyKind, words: &mut Words) -> Result<ScriptLine, LineRefusal>
+    ensures { AnswersRequest result (asked client (policy_of kind (rest_of words.old))) }
 {
     let policy = match kind {
         PolicyKind::Maximum => Policy::Maximum(short(words)?),
@@ -116,134 +139,135 @@ fn policy_of(kind: PolicyKind, words: &mut Words) -> Result<Call, LineRefusal>
         PolicyKind::Growth => Policy::Growth(short(words)?),
         PolicyKind::Automatic => Policy::Automatic,
     };
-    ending(Call::InstallPolicy { policy }, words)
+    ending_call(client, Call::InstallPolicy { policy }, words)
 }
 
-fn policy_line(words: &mut Words) -> Result<Call, LineRefusal>
-    ensures { Answers result (policy_line (rest_of words.old)) }
+fn policy_line(client: u16, words: &mut Words) -> Result<ScriptLine, LineRefusal>
+    ensures { AnswersRequest result (asked client (policy_line (rest_of words.old))) }
 {
     let kind = kind(words)?;
-    policy_of(kind, words)
+    policy_of(client, kind, words)
 }
 
-fn reserve_line(alloc: Global, words: &mut Words) -> Result<Call, LineRefusal>
-    ensures { Answers result (call_line reserve_verb (rest_of words.old)) }
+fn reserve_line(alloc: Global, client: u16, words: &mut Words) -> Result<ScriptLine, LineRefusal>
+    ensures { AnswersRequest result (asked client (call_line reserve_verb (rest_of words.old))) }
 {
     let area = area(words)?;
     let sizes = sizes(alloc, words)?;
-    Ok(Call::Reserve { area, sizes })
+    asks(client, Call::Reserve { area, sizes })
 }
 
-fn release_line(words: &mut Words) -> Result<Call, LineRefusal>
-    ensures { Answers result (call_line release_verb (rest_of words.old)) }
+fn release_line(client: u16, words: &mut Words) -> Result<ScriptLine, LineRefusal>
+    ensures { AnswersRequest result (asked client (call_line release_verb (rest_of words.old))) }
 {
     let area = area(words)?;
     let sectors = long(words)?;
-    ending(Call::Release { area, sectors }, words)
+    ending_call(client, Call::Release { area, sectors }, words)
 }
 
-fn align_line(alloc: Global, words: &mut Words) -> Result<Call, LineRefusal>
-    ensures { Answers result (call_line align_verb (rest_of words.old)) }
+fn align_line(alloc: Global, client: u16, words: &mut Words) -> Result<ScriptLine, LineRefusal>
+    ensures { AnswersRequest result (asked client (call_line align_verb (rest_of words.old))) }
 {
     let area = area(words)?;
     let sizes = sizes(alloc, words)?;
-    Ok(Call::Align { area, sizes })
+    asks(client, Call::Align { area, sizes })
 }
 
-fn open_line(alloc: Global, words: &mut Words) -> Result<Call, LineRefusal>
-    ensures { Answers result (call_line open_verb (rest_of words.old)) }
+fn open_line(alloc: Global, client: u16, words: &mut Words) -> Result<ScriptLine, LineRefusal>
+    ensures { AnswersRequest result (asked client (call_line open_verb (rest_of words.old))) }
 {
     let name = name(alloc, words)?;
-    ending(Call::OpenStream { name }, words)
+    ending_call(client, Call::OpenStream { name }, words)
 }
 
-fn drop_line(words: &mut Words) -> Result<Call, LineRefusal>
-    ensures { Answers result (call_line drop_verb (rest_of words.old)) }
+fn drop_line(client: u16, words: &mut Words) -> Result<ScriptLine, LineRefusal>
+    ensures { AnswersRequest result (asked client (call_line drop_verb (rest_of words.old))) }
 {
     let area = area(words)?;
-    ending(Call::DeleteArea { area }, words)
+    ending_call(client, Call::DeleteArea { area }, words)
 }
 
-fn flush_line(words: &mut Words) -> Result<Call, LineRefusal>
-    ensures { Answers result (call_line flush_verb (rest_of words.old)) }
+fn flush_line(client: u16, words: &mut Words) -> Result<ScriptLine, LineRefusal>
+    ensures { AnswersRequest result (asked client (call_line flush_verb (rest_of words.old))) }
 {
     let area = area(words)?;
-    ending(Call::Flush { area }, words)
+    ending_call(client, Call::Flush { area }, words)
 }
 
-fn flush_to_line(words: &mut Words) -> Result<Call, LineRefusal>
-    ensures { Answers result (call_line flush_to_verb (rest_of words.old)) }
-{
-    let area = area(words)?;
-    let lsn = lsn(words)?;
-    ending(Call::FlushTo { area, lsn }, words)
-}
-
-fn next_line(words: &mut Words) -> Result<Call, LineRefusal>
-    ensures { Answers result (call_line next_verb (rest_of words.old)) }
-{
-    let area = area(words)?;
-    let cursor = cursor(words)?;
-    ending(Call::ReadNext { area, cursor }, words)
-}
-
-fn end_line(words: &mut Words) -> Result<Call, LineRefusal>
-    ensures { Answers result (call_line end_verb (rest_of words.old)) }
-{
-    let area = area(words)?;
-    let cursor = cursor(words)?;
-    ending(Call::EndRead { area, cursor }, words)
-}
-
-fn read_restart_line(words: &mut Words) -> Result<Call, LineRefusal>
-    ensures { Answers result (call_line read_restart_verb (rest_of words.old)) }
-{
-    let area = area(words)?;
-    ending(Call::ReadRestart { area }, words)
-}
-
-fn previous_restart_line(words: &mut Words) -> Result<Call, LineRefusal>
-    ensures { Answers result (call_line previous_restart_verb (rest_of words.old)) }
-{
-    let area = area(words)?;
-    let cursor = cursor(words)?;
-    ending(Call::PreviousRestart { area, cursor }, words)
-}
-
-fn advance_line(words: &mut Words) -> Result<Call, LineRefusal>
-    ensures { Answers result (call_line advance_verb (rest_of words.old)) }
+fn flush_to_line(client: u16, words: &mut Words) -> Result<ScriptLine, LineRefusal>
+    ensures { AnswersRequest result (asked client (call_line flush_to_verb (rest_of words.old))) }
 {
     let area = area(words)?;
     let lsn = lsn(words)?;
-    ending(Call::Advance { area, lsn }, words)
+    ending_call(client, Call::FlushTo { area, lsn }, words)
 }
 
-fn archive_line(words: &mut Words) -> Result<Call, LineRefusal>
-    ensures { Answers result (call_line archive_verb (rest_of words.old)) }
+fn next_line(client: u16, words: &mut Words) -> Result<ScriptLine, LineRefusal>
+    ensures { AnswersRequest result (asked client (call_line next_verb (rest_of words.old))) }
+{
+    let area = area(words)?;
+    let cursor = cursor(words)?;
+    ending_call(client, Call::ReadNext { area, cursor }, words)
+}
+
+fn end_line(client: u16, words: &mut Words) -> Result<ScriptLine, LineRefusal>
+    ensures { AnswersRequest result (asked client (call_line end_verb (rest_of words.old))) }
+{
+    let area = area(words)?;
+    let cursor = cursor(words)?;
+    ending_call(client, Call::EndRead { area, cursor }, words)
+}
+
+fn read_restart_line(client: u16, words: &mut Words) -> Result<ScriptLine, LineRefusal>
+    ensures { AnswersRequest result (asked client (call_line read_restart_verb (rest_of words.old))) }
+{
+    let area = area(words)?;
+    ending_call(client, Call::ReadRestart { area }, words)
+}
+
+fn previous_restart_line(client: u16, words: &mut Words) -> Result<ScriptLine, LineRefusal>
+    ensures { AnswersRequest result (asked client (call_line previous_restart_verb (rest_of words.old))) }
+{
+    let area = area(words)?;
+    let cursor = cursor(words)?;
+    ending_call(client, Call::PreviousRestart { area, cursor }, words)
+}
+
+fn advance_line(client: u16, words: &mut Words) -> Result<ScriptLine, LineRefusal>
+    ensures { AnswersRequest result (asked client (call_line advance_verb (rest_of words.old))) }
+{
+    let area = area(words)?;
+    let lsn = lsn(words)?;
+    ending_call(client, Call::Advance { area, lsn }, words)
+}
+
+fn archive_line(client: u16, words: &mut Words) -> Result<ScriptLine, LineRefusal>
+    ensures { AnswersRequest result (asked client (call_line archive_verb (rest_of words.old))) }
 {
     let on = switch(words)?;
-    ending(Call::SetArchive { on }, words)
+    ending_call(client, Call::SetArchive { on }, words)
 }
 
-fn tail_line(words: &mut Words) -> Result<Call, LineRefusal>
-    ensures { Answers result (call_line tail_verb (rest_of words.old)) }
+fn tail_line(client: u16, words: &mut Words) -> Result<ScriptLine, LineRefusal>
+    ensures { AnswersRequest result (asked client (call_line tail_verb (rest_of words.old))) }
 {
     let lsn = lsn(words)?;
-    ending(Call::SetArchiveTail { lsn }, words)
+    ending_call(client, Call::SetArchiveTail { lsn }, words)
 }
 
-fn unpolicy_line(words: &mut Words) -> Result<Call, LineRefusal>
-    ensures { Answers result (call_line unpolicy_verb (rest_of words.old)) }
+fn unpolicy_line(client: u16, words: &mut Words) -> Result<ScriptLine, LineRefusal>
+    ensures { AnswersRequest result (asked client (call_line unpolicy_verb (rest_of words.old))) }
 {
     let kind = kind(words)?;
-    ending(Call::RemovePolicy { kind }, words)
+    ending_call(client, Call::RemovePolicy { kind }, words)
 }
 
-fn size_line(words: &mut Words) -> Result<Call, LineRefusal>
-    ensures { Answers result (call_line size_verb (rest_of words.old)) }
+fn size_line(client: u16, words: &mut Words) -> Result<ScriptLine, LineRefusal>
+    ensures { AnswersRequest result (asked client (call_line size_verb (rest_of words.old))) }
 {
     let containers = short(words)?;
-    ending(
+    ending_call(
+        client,
         Call::SetSize {
             containers: containers as u32,
         },
@@ -251,40 +275,45 @@ fn size_line(words: &mut Words) -> Result<Call, LineRefusal>
     )
 }
 
-fn info_line(words: &mut Words) -> Result<Call, LineRefusal>
-    ensures { Answers result (call_line info_verb (rest_of words.old)) }
+fn info_line(client: u16, words: &mut Words) -> Result<ScriptLine, LineRefusal>
+    ensures { AnswersRequest result (asked client (call_line info_verb (rest_of words.old))) }
 {
     let stream = stream(words)?;
-    ending(Call::Info { stream }, words)
+    ending_call(client, Call::Info { stream }, words)
 }
 
 // What stands behind a verb.
-pub(crate) fn call_line(alloc: Global, verb: Verb, words: &mut Words) -> Result<Call, LineRefusal>
-    ensures { Answers result (call_line (verb_of verb) (rest_of words.old)) }
+pub(crate) fn call_line(
+    alloc: Global,
+    client: u16,
+    verb: Verb,
+    words: &mut Words,
+) -> Result<ScriptLine, LineRefusal>
+    ensures { AnswersRequest result (asked client (call_line (verb_of verb) (rest_of words.old))) }
 {
     match verb {
-        Verb::Open => open_line(alloc, words),
-        Verb::Area => area_line(words),
-        Verb::DropArea => drop_line(words),
-        Verb::Reserve => reserve_line(alloc, words),
-        Verb::Release => release_line(words),
-        Verb::Align => align_line(alloc, words),
-        Verb::Append => append_line(alloc, words),
-        Verb::Flush => flush_line(words),
-        Verb::FlushTo => flush_to_line(words),
-        Verb::Read => read_line(words),
-        Verb::Next => next_line(words),
-        Verb::End => end_line(words),
-        Verb::Restart => restart_line(alloc, words),
-        Verb::ReadRestart => read_restart_line(words),
-        Verb::PreviousRestart => previous_restart_line(words),
-        Verb::Advance => advance_line(words),
-        Verb::Archive => archive_line(words),
-        Verb::Tail => tail_line(words),
-        Verb::Extents => ending(Call::ListExtents, words),
-        Verb::Policy => policy_line(words),
-        Verb::Unpolicy => unpolicy_line(words),
-        Verb::Size => size_line(words),
-        Verb::Info => info_line(words),
+        Verb::Open => open_line(alloc, client, words),
+        Verb::Area => area_line(client, words),
+        Verb::DropArea => drop_line(client, words),
+        Verb::Reserve => reserve_line(alloc, client, words),
+        Verb::Release => release_line(client, words),
+        Verb::Align => align_line(alloc, client, words),
+        Verb::Append => append_line(alloc, client, words),
+        Verb::Flush => flush_line(client, words),
+        Verb::FlushTo => flush_to_line(client, words),
+        Verb::Read => read_line(client, words),
+        Verb::Next => next_line(client, words),
+        Verb::End => end_line(client, words),
+        Verb::Restart => restart_line(alloc, client, words),
+        Verb::ReadRestart => read_restart_line(client, words),
+        Verb::PreviousRestart => previous_restart_line(client, words),
+        Verb::Advance => advance_line(client, words),
+        Verb::Archive => archive_line(client, words),
+        Verb::Tail => tail_line(client, words),
+        Verb::Extents => ending_call(client, Call::ListExtents, words),
+        Verb::Policy => policy_line(client, words),
+        Verb::Unpolicy => unpolicy_line(client, words),
+        Verb::Size => size_line(client, words),
+        Verb::Info => info_line(client, words),
     }
 }

@@ -85,7 +85,7 @@ pub(crate) fn name(alloc: Global, words: &mut Words) -> Result<Name, LineRefusal
 pub(crate) fn data(alloc: Global, words: &mut Words) -> Result<Bytes, LineRefusal>
     ensures { Reads data_of_word words.old result words.new }
 {
-    let word = words.take()?;
+    let word = words.take_long()?;
     match data_of_word(alloc, word.bytes)? {
         Some(bytes) => Ok(bytes),
         None => Err(LineRefusal::BadLine { at: word.at }),
@@ -187,6 +187,7 @@ pub(crate) fn kind(words: &mut Words) -> Result<PolicyKind, LineRefusal>
 }
 
 // This, behind which the line ends.
+#[inline(always)]
 pub(crate) fn ending<T: Drop>(value: T, words: &mut Words) -> Result<T, LineRefusal>
     ensures { Answers result (ends value (rest_of words.old)) }
 {

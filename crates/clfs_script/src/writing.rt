@@ -2,7 +2,7 @@
 ghost use Rattle.std.specs.Prelude.{◌≡◌, ◌≤◌, ◌++◌, ℕ, List, OnOk, codes, decimal, length};
 ghost use Rattle.std.specs.List.{flat_map};
 ghost use Rattle.clfs_lsn.specs.Words.{lsn_text};
-ghost use Rattle.clfs_model.specs.declared.reply.Reply.TheVariants.{Placed};
+ghost use Rattle.clfs_model.specs.declared.reply.Reply.TheVariants.{Placed, Found};
 ghost use Rattle.clfs_model.specs.Text.{kind_text, entry_text, extent_text, archive_text, info_space_text, info_lsns_text, info_text, refusal_text, reply_text, reply_line};
 
 use crate::refusals::push_refusal;
@@ -176,6 +176,25 @@ fn push_placed(client: u16, lsn: Lsn, out: &mut Bytes) -> Result<(), AllocError>
     out.extend_from_slice(lead.as_slice())
 }
 
+// The whole line of a record that was found, and its cursor: all that stands before the data is added at once.
+fn push_found_line(
+    client: u16,
+    cursor: u16,
+    entry: &LogEntry,
+    out: &mut Bytes,
+) -> Result<(), AllocError>
+    ensures { OnOk result (out.new ≡ out.old ++ reply_line client (Found cursor entry.now)) }
+{
+    let mut lead = entry_lead(entry);
+    lead.put(b" ");
+    lead.put_decimal(cursor as u32);
+    lead.put(b" cursor ");
+    lead.put_decimal(client as u32);
+    out.extend_from_slice(lead.as_slice())?;
+    push_data(entry.bytes.as_slice(), out)?;
+    out.extend_from_slice(b"\n")
+}
+
 // The same of any reply, part by part.
 fn push_line(client: u16, reply: &Reply, out: &mut Bytes) -> Result<(), AllocError>
     ensures { OnOk result (out.new ≡ out.old ++ reply_line client reply.now) }
@@ -194,6 +213,7 @@ pub fn write_reply(client: u16, reply: &Reply, out: &mut Bytes) -> Result<(), Al
 {
     match reply {
         Reply::Placed(lsn) => push_placed(client, *lsn, out),
+        Reply::Found { cursor, entry } => push_found_line(client, *cursor, entry, out),
         _ => push_line(client, reply, out),
     }
 }

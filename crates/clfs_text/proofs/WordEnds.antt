@@ -1,8 +1,8 @@
 -- Where the first word of a text ends.
-use Rattle.std.proofs.Common.{◌≡◌, ℕ, zero, suc, ◌+◌, ◌-◌, ◌≤◌, ◌<◌, List, [], ◌∷◌, length, get_or, take, drop, Bool, true, false, refl, ◌∙◌, ap, arith, inl, inr, drop-drop}
+use Rattle.std.proofs.Common.{◌≡◌, ℕ, zero, suc, ◌+◌, ◌-◌, ◌≤◌, ◌<◌, List, [], ◌∷◌, length, get_or, take, drop, Bool, true, false, refl, ◌∙◌, ap, subst, arith, inl, inr, drop-drop}
 use Rattle.std.specs.Prelude.{◌==◌, nat_le, nat_lt}
 use Rattle.std.specs.List.{slice_split, onto_first}
-use Rattle.std.proofs.lemmas.Bool.{cases_Bool, cases_lt, le-leb, lt-leb, lt-ltb, ltb-true}
+use Rattle.std.proofs.lemmas.Bool.{cases_Bool, cases_lt, eqb-true, le-leb, lt-leb, lt-ltb, ltb-true}
 use Rattle.std.proofs.lemmas.List.{length-drop, length-take}
 use Rattle.memchr.specs.Find.{NoneBefore, Nowhere, Passes, is_byte}
 use Rattle.clfs_text.specs.Left.{words_behind}
@@ -60,6 +60,16 @@ last_word line rest at within behind none =
     let t2 : nat_le (at + length rest + 1) (length line) ≡ false = lt-leb (at + length rest + 1) (length line) (omega arith) in
     let split = one_word rest (λ j h. not_true _ (none j (omega arith) h)) in
     rw (t, t2, ← behind) split
+
+-- one byte more that is no space
+pub no_space_yet : (rest : List ℕ) (i : ℕ) → Nowhere (Passes (is_byte 32) rest) 0 i → (get_or rest i 0 ≡ 32 → ⊥)
+    → Nowhere (Passes (is_byte 32) rest) 0 (i + 1)
+no_space_yet rest i before other = λ k low high passes. elim (cases_lt k i) [
+  | inl earlier ↦ before k low earlier passes
+  | inr there ↦
+      let same : k ≡ i = omega arith in
+      other (eqb-true (get_or rest i 0) 32 (subst (λ (n : ℕ). (get_or rest n 0 == 32) ≡ true) same passes))
+]
 
 onto_there : (b : ℕ) (parts : List (List ℕ)) → onto_first b parts ≡ [] → ⊥
 onto_there b [] e = absurd (cc)

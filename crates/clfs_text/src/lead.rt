@@ -2,15 +2,15 @@
 ghost use Rattle.std.specs.Prelude.{◌≡◌, ◌+◌, ◌≤◌, [], ◌++◌, length, decimal};
 ghost use Rattle.clfs_lsn.specs.Words.{lsn_text};
 
-use crate::printing::write_hex;
+use crate::printing::write_lsn;
 use clfs_lsn::Lsn;
 use itoa::Buffer;
 use std::marker::Model;
 
-/// Text of at most 160 bytes. Each part that is put goes before those that are there, since the digits of a number come from its end.
+/// Text of at most 176 bytes. Each part that is put goes before those that are there, since the digits of a number come from its end.
 #[derive(Debug, Drop)]
 pub struct Lead {
-    bytes: [u8; 160],
+    bytes: [u8; 176],
     // Where the text begins. It ends with the bytes.
     start: usize,
 }
@@ -22,7 +22,7 @@ impl Model for Lead {
 
     ghost view = { λ w. drop w.start w.bytes };
 
-    ghost invariant = { λ w. w.start ≤ 160 };
+    ghost invariant = { λ w. w.start ≤ 176 };
 }
 
 impl Lead {
@@ -31,8 +31,8 @@ impl Lead {
         ensures { result ≡ [] }
     {
         Lead {
-            bytes: [0; 160],
-            start: 160,
+            bytes: [0; 176],
+            start: 176,
         }
     }
 
@@ -45,7 +45,7 @@ impl Lead {
 
     /// Puts a text before the others.
     pub fn put(&mut self, text: &[u8])
-        requires { length text.now + length self.old ≤ 160 }
+        requires { length text.now + length self.old ≤ 176 }
         ensures { self.new ≡ text.now ++ self.old }
     {
         let start = self.start - text.len();
@@ -55,7 +55,7 @@ impl Lead {
 
     /// Puts a number in decimal digits before the others.
     pub fn put_decimal(&mut self, number: u32)
-        requires { length self.old ≤ 150 }
+        requires { length self.old ≤ 166 }
         ensures text { self.new ≡ decimal number ++ self.old }
         ensures short { length self.new ≤ length self.old + 10 }
     {
@@ -69,14 +69,10 @@ impl Lead {
 
     /// Puts an LSN before the others: container, offset and sequence in lower-case hexadecimal digits, with colons between them.
     pub fn put_lsn(&mut self, lsn: Lsn)
-        requires { length self.old ≤ 134 }
+        requires { length self.old ≤ 150 }
         ensures text { self.new ≡ lsn_text lsn ++ self.old }
         ensures short { length self.new ≤ length self.old + 26 }
     {
-        let sequence = write_hex(lsn.sequence(), &mut self.bytes, self.start);
-        self.bytes[sequence - 1] = b':';
-        let offset = write_hex(lsn.offset(), &mut self.bytes, sequence - 1);
-        self.bytes[offset - 1] = b':';
-        self.start = write_hex(lsn.container(), &mut self.bytes, offset - 1);
+        self.start = write_lsn(lsn, &mut self.bytes, self.start);
     }
 }

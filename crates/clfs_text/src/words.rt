@@ -81,6 +81,30 @@ impl<'a> Words<'a> {
         }
     }
 
+    /// Takes the next word, as `take` does, but looks for its end many bytes at a time: for words that may be long.
+    pub fn take_long(&mut self) -> Result<Word<'a>, BadWord>
+        ensures word { IfOk result (λ word. self.old.words ≡ word.bytes.now ∷ self.new.words) }
+        ensures at { IfOk result (λ word. word.at ≡ self.old.at) }
+        ensures next { IfOk result (λ word. self.new.at ≡ self.old.at + length word.bytes.now + 1) }
+        ensures none { IfErr result (λ bad. (self.old.words ≡ []) × (bad.at ≡ self.old.end)) }
+        ensures end { self.new.end ≡ self.old.end }
+    {
+        let line = self.line;
+        let at = self.at;
+        match long_word_at(line, at) {
+            Some(word) => {
+                self.at = at + word.len() + 1;
+                Ok(Word {
+                    at: at as u32,
+                    bytes: word,
+                })
+            }
+            None => Err(BadWord {
+                at: line.len() as u32,
+            }),
+        }
+    }
+
     /// Takes the next word if it is this text. Most lines end before such a word, so that is told first, where the call stands.
     #[inline]
     pub fn skip(&mut self, text: &[u8]) -> bool
@@ -113,8 +137,27 @@ impl<'a> Words<'a> {
     }
 }
 
-// The word that begins at a place, unless the line ends before it.
+// The word that begins at a place, unless the line ends before it. Most words are short, so its end is looked for byte by byte.
 fn word_at(line: &[u8], at: usize) -> Option<&[u8]>
+    requires { at ≤ length line.now + 1 }
+    ensures words { MatchOption result (words_behind line.now at ≡ []) (λ word. words_behind line.now at ≡ word.now ∷ words_behind line.now (at + length word.now + 1)) }
+    ensures within { IfSome result (λ word. at + length word.now ≤ length line.now) }
+{
+    if at > line.len() {
+        return None;
+    }
+    let (_, rest) = line.split_at(at);
+    for (i, byte) in rest.iter().enumerate() {
+        if *byte == b' ' {
+            let (word, _) = rest.split_at(i);
+            return Some(word);
+        }
+    }
+    Some(rest)
+}
+
+// The same of a word that may be long: its end is looked for many bytes at a time.
+fn long_word_at(line: &[u8], at: usize) -> Option<&[u8]>
     requires { at ≤ length line.now + 1 }
     ensures words { MatchOption result (words_behind line.now at ≡ []) (λ word. words_behind line.now at ≡ word.now ∷ words_behind line.now (at + length word.now + 1)) }
     ensures within { IfSome result (λ word. at + length word.now ≤ length line.now) }

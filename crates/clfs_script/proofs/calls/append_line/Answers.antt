@@ -13,7 +13,7 @@ returns-in_err-sizes c =
     c.skip-reserved.ensures.left)
     (skip_is (codes "seal") c.skip-reserved.new.self c.skip-seal.new.self c.skip-seal.result c.skip-seal.ensures.found c.skip-seal.ensures.left)
     (skip_is (codes "flush") c.skip-seal.new.self c.skip-flush.new.self c.skip-flush.result c.skip-flush.ensures.found c.skip-flush.ensures.left) in
-    append_stops c.from_residual-in_err-sizes.result c.held_sizes.result c.in_err-sizes.field-0.0 _ _ _ c.from_residual-in_err-sizes.ensures.1
+    append_stops c.args.client c.from_residual-in_err-sizes.result c.held_sizes.result c.in_err-sizes.field-0.0 _ _ _ c.from_residual-in_err-sizes.ensures.1
     c.in_err-sizes.was c.held_sizes.ensures so_far
 
 pub returns : goal.returns
@@ -27,4 +27,4 @@ returns c =
     c.skip-reserved.ensures.left)
     (skip_is (codes "seal") c.skip-reserved.new.self c.skip-seal.new.self c.skip-seal.result c.skip-seal.ensures.found c.skip-seal.ensures.left)
     (skip_is (codes "flush") c.skip-seal.new.self c.skip-flush.new.self c.skip-flush.result c.skip-flush.ensures.found c.skip-flush.ensures.left) in
-    rw c.in_ok-sizes.ensures at so_far
+    let read = rw c.in_ok-sizes.ensures at so_far in rw read c.asks.ensures

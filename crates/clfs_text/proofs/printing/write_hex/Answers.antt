@@ -17,9 +17,9 @@ loop-left-init c =
 pub loop-left-preserved : goal.loop-left-preserved
 loop-left-preserved c =
     let i = c.loop-left.invariant in
-    let s = step_back c.args.number c.loop-left.left c.loop-left.start c.args.end c.lower_digit.result c.loop-left.digits (drop c.args.end
+    let s = step_back c.args.number c.loop-left.left c.loop-left.start c.args.end c.glyph.result c.loop-left.digits (drop c.args.end
     c.args.digits.now)
-    c.requires.room i.within i.room (omega arith) c.loop-left-test.true i.small c.lower_digit.ensures i.so_far in
+    c.requires.room i.within i.room (omega arith) c.loop-left-test.true i.small c.glyph.ensures i.so_far in
     record {
       within = omega (arith, s.0);
       room = s.1;
@@ -30,6 +30,6 @@ loop-left-preserved c =
 pub returns-clause-written : goal.returns-clause-written
 returns-clause-written c =
     let i = c.loop-left.invariant in
-    last_step c.args.number c.loop-left.left c.loop-left.start c.args.end c.lower_digit-2.result c.loop-left.digits (drop c.args.end
+    last_step c.args.number c.loop-left.left c.loop-left.start c.args.end c.glyph-2.result c.loop-left.digits (drop c.args.end
     c.args.digits.now)
-    i.within i.room (omega arith) c.loop-left-test.false c.lower_digit-2.ensures i.so_far
+    i.within i.room (omega arith) c.loop-left-test.false c.glyph-2.ensures i.so_far
