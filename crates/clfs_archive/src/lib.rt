@@ -25,6 +25,3 @@ pub use archive::Archive;
 pub use block::BlockEnd;
 pub use laws::ends_of_blocks_go_on;
 pub use opening::open_archive;
-
-#[cfg(test)]
-mod tests;

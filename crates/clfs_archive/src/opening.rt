@@ -1,5 +1,5 @@
 // The ends of the blocks of a log that was opened. The heads of its records are gone through once; those of a block stand in a row.
-ghost use Rattle.std.specs.Prelude.{◌≡◌, ℕ, ◌+◌, ◌*◌, ◌<◌, ◌≤◌, ◌^◌, All, AllPairs, List, IfOk};
+ghost use Rattle.std.specs.Prelude.{◌≡◌, ◌+◌, ◌*◌, ◌<◌, ◌^◌, All, AllPairs, IfOk};
 ghost use Rattle.clfs_lsn.specs.Format.{sector_bytes, block_header};
 ghost use Rattle.clfs_lsn.specs.Lsn.{offset_of, sequence_of};
 ghost use Rattle.clfs_lsn.specs.Size.{size, sectors};

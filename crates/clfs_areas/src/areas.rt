@@ -1,6 +1,6 @@
 // The areas of all clients. A contract sees the machine's list of areas, and for how many cursors in all there is memory. A call by place is
 // one of the area that stands there, whose client and number no other area has.
-ghost use Rattle.std.specs.Prelude.{◌≡◌, ◌≢◌, ℕ, ◌+◌, ◌<◌, ◌≤◌, ◌==◌, ◌^◌, ◌∷◌, ◌++◌, [], AllPairs, IfOk, IfSome, OnOk, OnErr, Some, None, filter, length, nat_le, not, position};
+ghost use Rattle.std.specs.Prelude.{◌≡◌, ◌≢◌, ◌+◌, ◌<◌, ◌≤◌, ◌^◌, ◌∷◌, ◌++◌, [], AllPairs, IfOk, IfSome, OnOk, OnErr, Some, filter, length, nat_le, not, position};
 ghost use Rattle.std.specs.Option.{option_map};
 ghost use Rattle.clfs_lsn.specs.Limits.{most_areas};
 ghost use Rattle.clfs_model.specs.declared.state.State.{State};
@@ -95,14 +95,6 @@ impl Areas {
         count_of(&self.rows, client)
     }
 
-    /// The number of a client's next area.
-    pub fn unused(&self, client: u16) -> u16
-        requires { length (client_areas client self.now.areas) < most_areas }
-        ensures { (s : State) → s.areas ≡ self.now.areas → result ≡ unused_area s client }
-    {
-        least_unused(&self.rows, client)
-    }
-
     /// The sectors that all areas hold.
     pub fn total(&self) -> u32
         ensures value { result ≡ all_held self.now.areas }
@@ -154,16 +146,6 @@ impl Areas {
         self.rows.remove(place);
         self.cursors.remove_area(place);
         self.reservations.remove(client, number);
-    }
-
-    /// All areas go. It takes no memory.
-    pub fn clear(&mut self)
-        ensures areas { self.new.areas ≡ [] }
-        ensures capacity { self.new.capacity ≡ self.old.capacity }
-    {
-        self.reservations = Reservations::new(*self.rows.allocator());
-        self.rows.clear();
-        self.cursors.clear();
     }
 
     /// The area at a place holds so many sectors more. It takes no memory.

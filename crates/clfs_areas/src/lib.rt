@@ -17,6 +17,3 @@ mod row;
 
 pub use areas::Areas;
 pub use row::AreaInfo;
-
-#[cfg(test)]
-mod tests;

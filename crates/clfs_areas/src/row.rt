@@ -1,6 +1,6 @@
 // The row of an area, and how a row is found.
 ghost use Rattle.std.specs.Prelude.{◌≡◌, ◌+◌, ◌<◌, ◌-◌, ◌^◌, count_by, find, not, position};
-ghost use Rattle.std.specs.List.{list_any, range_with_len};
+ghost use Rattle.std.specs.List.{range_with_len};
 ghost use Rattle.clfs_model.specs.State.{least_unused};
 ghost use Rattle.clfs_areas.specs.Rows.{is_client_row, is_row, is_used};
 

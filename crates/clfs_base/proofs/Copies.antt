@@ -1,6 +1,6 @@
 -- The newest copy of a base file whose other slot is written.
 use Rattle.std.proofs.Common.{◌≡◌, ◌≢◌, ◌⊎◌, inl, inr, ⊎_elim, ℕ, zero, suc, ◌+◌, ◌-◌, ◌*◌, ◌%◌, ◌<◌, ◌≤◌, Bool, true, false, cond, ◌&&◌, ◌||◌, eqb, ltb, List, [], ◌∷◌, ◌++◌, length, get_or, take, drop}
-use Rattle.std.proofs.Common.{Option, Some, None, Result, Ok, Err, refl, sym, ◌∙◌, ap, subst, arith, length-drop}
+use Rattle.std.proofs.Common.{Option, Result, Ok, Err, refl, sym, ◌∙◌, ap, subst, arith, length-drop}
 use Rattle.std.proofs.lemmas.Bool.{cases_eq, cases_lt}
 use Rattle.std.proofs.lemmas.Bool.Decides.{nat_tests}
 use Rattle.std.proofs.lemmas.List.{ext_get_or, length-take, get_or-take, get_or-drop, drop_more, append-nil}
@@ -10,7 +10,7 @@ use Rattle.clfs_disk.specs.Overwriting.{StandsInPlace}
 use Rattle.clfs_base.specs.declared.image.BaseImage.{BaseImage}
 use Rattle.clfs_base.specs.declared.refusal.NewestRefusal.{NewestRefusal}
 use Rattle.clfs_base.specs.declared.refusal.NewestRefusal.TheVariants as refusals
-use Rattle.clfs_base.specs.Layout.{version_one, numbers_of, fields}
+use Rattle.clfs_base.specs.Layout.{version_one, version_two, layout_of, layout_in, numbers_of, fields}
 use Rattle.clfs_base.specs.Spelling.{IsImage, spelled}
 use Rattle.clfs_lsn.specs.Checks.{unless_wrong, unless_ok}
 use Rattle.clfs_base.specs.Checks.{slot_fault, image_of, image_at}
@@ -39,8 +39,21 @@ same_part a b from n same each = ext_get_or 0 (take n (drop from a)) (take n (dr
     get_or-take n (drop from a) i 0 within ∙ get_or-drop from a i 0 ∙ each (from + i) (omega arith) (omega (arith, within))
     ∙ sym (get_or-drop from b i 0) ∙ sym (get_or-take n (drop from b) i 0 within))
 
-pub version_one_fits : IsLayout version_one
-version_one_fits = record { version = omega arith; streams = omega arith; name = omega arith; rows = omega arith }
+-- each version's numbers fit their fields, and its rows the slot
+pub layout_fits : (version : ℕ) → IsLayout (layout_of version)
+layout_fits version = fits (eqb version 1)
+  where
+    fits : (b : Bool) → IsLayout (cond b version_one version_two)
+    fits true = record { version = omega arith; streams = omega arith; name = omega arith; rows = omega arith }
+    fits false = record { version = omega arith; streams = omega arith; name = omega arith; rows = omega arith }
+
+-- an image that is spelled behind a gate is read
+pub written : (image : BaseImage) (gate : ℕ) (rest bytes : List ℕ) → IsImage image → bytes ≡ gate ∷ (spelled image ++ rest) → image_at bytes ≡ Ok image
+written image gate rest bytes fits is =
+    let layout = layout_of image.version in
+    let read = spelled_is_read layout image gate rest bytes (layout_fits image.version) fits is in
+    ap (λ (version : ℕ). unless_wrong (λ (at : ℕ). at) (slot_fault (layout_of version) bytes) (Ok (image_of (layout_of version) bytes))) read.version
+    ∙ ap (λ (o : Option ℕ). unless_wrong (λ (at : ℕ). at) o (Ok (image_of layout bytes))) read.none_wrong ∙ ap (λ (i : BaseImage). Ok i) read.image_is
 
 -- ---- which slot counts, by gates and turns
 
@@ -196,7 +209,7 @@ still_used (suc (suc n)) old new is b = ⊎_elim
 -- a slot's image
 record HasImage (base : List ℕ) (slot : ℕ) (image : BaseImage) : Type 0 where
   pub used : used_slot base ≡ Ok slot
-  pub image_is : image_at version_one (slot_of base slot) ≡ Ok image
+  pub image_is : image_at (slot_of base slot) ≡ Ok image
 
 copied_ok : ℕ × BaseImage → Result (ℕ × BaseImage) NewestRefusal
 copied_ok x = Ok x
@@ -214,10 +227,10 @@ copied s slot (Err at) image e = absurd (cc e)
 used_copy : (base : List ℕ) (slot : ℕ) (image : BaseImage) (r : Result ℕ NewestRefusal) → used_slot base ≡ r → copy_of base r ≡ Ok (slot, image)
     → HasImage base slot image
 used_copy base slot image (Ok s) used e =
-    let both = copied s slot (image_at version_one (slot_of base s)) image e in
+    let both = copied s slot (image_at (slot_of base s)) image e in
     record {
       used = used ∙ ap (λ (k : ℕ). Ok k) both.0;
-      image_is = ap (λ (k : ℕ). image_at version_one (slot_of base k)) (sym both.0) ∙ both.1;
+      image_is = ap (λ (k : ℕ). image_at (slot_of base k)) (sym both.0) ∙ both.1;
     }
 used_copy base slot image (Err refusal) used e = absurd (refused refusal e)
   where
@@ -236,7 +249,7 @@ beside_keeps slot used image old new is newest b =
     let has = newest_parts old used image newest in
     newest_is new used image (record {
       used = still_used used old new has.used (subst (λ (s : ℕ). Beside s used old new) is b);
-      image_is = ap (λ (l : List ℕ). image_at version_one l) b.same ∙ has.image_is;
+      image_is = ap (λ (l : List ℕ). image_at l) b.same ∙ has.image_is;
     })
 
 used_le : (base : List ℕ) (used : ℕ) → used_slot base ≡ Ok used → used ≤ 1
@@ -283,7 +296,7 @@ module _ (slot used : ℕ) (image : BaseImage) (old : Files) (older : IsOlder sl
 
 -- ---- opening the slot of the next copy
 
-turn_ok : (size at turn : ℕ) → at + 40 ≤ size → turn ≤ 2 → (ltb size (at + 3) || ltb 2 turn) ≡ false
+turn_ok : (size at turn : ℕ) → at + 41 ≤ size → turn ≤ 2 → (ltb size (at + 3) || ltb 2 turn) ≡ false
 turn_ok size at turn there low = grind (arith, nat_tests)
 
 gate_ok : (gate : ℕ) → eqb gate 165 ≡ true → gate ≡ 165
@@ -322,16 +335,17 @@ record HasTurn (base : List ℕ) (slot : ℕ) (image : BaseImage) : Type 0 where
   pub low : turn_of base slot ≤ 2
   pub right : is_wrong_turn base slot ≡ false
 
-has_turn : (base : List ℕ) (slot : ℕ) (image : BaseImage) → image_at version_one (slot_of base slot) ≡ Ok image → HasTurn base slot image
+has_turn : (base : List ℕ) (slot : ℕ) (image : BaseImage) → image_at (slot_of base slot) ≡ Ok image → HasTurn base slot image
 has_turn base slot image is =
     let bytes = slot_of base slot in
     let n = numbers_of bytes in
-    let read = unless_ok (λ (at : ℕ). at) (slot_fault version_one bytes) (Ok (image_of version_one bytes)) image is in
-    let same : image_of version_one bytes ≡ image = cc read.1 in
-    let parts = both_none _ _ (sym (chained version_one bytes n refl) ∙ read.0) in
-    let right = pass_right version_one n bytes (all_pass bytes (fields version_one n) parts.0) in
+    let layout = layout_in bytes in
+    let read = unless_ok (λ (at : ℕ). at) (slot_fault layout bytes) (Ok (image_of layout bytes)) image is in
+    let same : image_of layout bytes ≡ image = cc read.1 in
+    let parts = both_none _ _ (sym (chained layout bytes n refl) ∙ read.0) in
+    let right = pass_right layout n bytes (all_pass bytes (fields layout n) parts.0) in
     let here : n.turn ≡ turn_of base slot = omega (arith, turn_is base slot, get_or-drop 2 bytes 0 0) in
-    let there : slot_place slot + 40 ≤ length base = omega (arith, right.1, length-take 16384 (drop (slot_place slot) base), length-drop (slot_place slot) base) in
+    let there : slot_place slot + 41 ≤ length base = omega (arith, right.1, length-take 16384 (drop (slot_place slot) base), length-drop (slot_place slot) base) in
     let low : turn_of base slot ≤ 2 = omega (arith, here, right.0.turn) in
     record {
       turn = sym here ∙ ap (λ (i : BaseImage). i.turn) same;
@@ -348,8 +362,8 @@ used_open base (suc (suc n)) is = absurd (omega (arith, used_le base (suc (suc n
 record NextTo (base : List ℕ) (slot used : ℕ) (image next : BaseImage) : Type 0 where
   pub open_used : is_open_slot base used ≡ true
   pub open_slot : is_open_slot base slot ≡ true
-  pub image_is : image_at version_one (slot_of base used) ≡ Ok image
-  pub next_is : image_at version_one (slot_of base slot) ≡ Ok next
+  pub image_is : image_at (slot_of base used) ≡ Ok image
+  pub next_is : image_at (slot_of base slot) ≡ Ok next
   pub turn : next.turn ≡ (image.turn + 1) % 3
 
 next_used : (base : List ℕ) (used : ℕ) (image next : BaseImage) → used ≤ 1 → NextTo base (older_of used) used image next → used_slot base ≡ Ok (older_of used)
@@ -374,17 +388,16 @@ gate_written stands at old new room is =
     ap (λ (k : ℕ). eqb k 165) gate
 
 -- A whole copy that stands behind a gate is read where only the gate is torn.
-opened_is_read : (slot : ℕ) (next : BaseImage) (old new : Files) → IsImage version_one next → body_of (old 0) slot ≡ spelled version_one next
-    → TornIn 0 (16384 * slot) 1 old new → image_at version_one (slot_of (new 0) slot) ≡ Ok next
+opened_is_read : (slot : ℕ) (next : BaseImage) (old new : Files) → IsImage next → body_of (old 0) slot ≡ spelled next
+    → TornIn 0 (16384 * slot) 1 old new → image_at (slot_of (new 0) slot) ≡ Ok next
 opened_is_read slot next old new fits whole torn =
     let gate = get_or (new 0) (slot_place slot) 0 in
-    let body : body_of (new 0) slot ≡ spelled version_one next =
+    let body : body_of (new 0) slot ≡ spelled next =
     same_part (new 0) (old 0) (16384 * slot + 1) 16383 torn.here.same_length (λ i from until. torn.here.above i (omega (arith, from))) ∙ whole in
-    let bytes : slot_of (new 0) slot ≡ gate ∷ (spelled version_one next ++ []) =
-    slot_is (new 0) slot (ap (λ (l : List ℕ). length l) body ∙ length-spelled version_one next version_one_fits fits)
-    ∙ ap (λ (l : List ℕ). gate ∷ l) (body ∙ sym (append-nil (spelled version_one next))) in
-    let read = spelled_is_read version_one next gate [] (slot_of (new 0) slot) version_one_fits fits bytes in
-    ap (λ (o : Option ℕ). unless_wrong (λ (at : ℕ). at) o (Ok (image_of version_one (slot_of (new 0) slot)))) read.none_wrong ∙ ap (λ (i : BaseImage). Ok i) read.image_is
+    let bytes : slot_of (new 0) slot ≡ gate ∷ (spelled next ++ []) =
+    slot_is (new 0) slot (ap (λ (l : List ℕ). length l) body ∙ length-spelled (layout_of next.version) next (layout_fits next.version) fits)
+    ∙ ap (λ (l : List ℕ). gate ∷ l) (body ∙ sym (append-nil (spelled next))) in
+    written next gate [] (slot_of (new 0) slot) fits bytes
 
 module _ (slot used : ℕ) (image next : BaseImage) (old : Files) (older : IsOlder slot used image old) (filled : IsFilled slot image next old) where
   -- its gate is open over the whole copy
@@ -397,7 +410,7 @@ module _ (slot used : ℕ) (image next : BaseImage) (old : Files) (older : IsOld
       let beside : NextTo (new 0) slot used image next = record {
         open_used = (same_slot used (old 0) (new 0) torn.here.same_length same).open_same ∙ used_open (old 0) used has.used;
         open_slot = gate;
-        image_is = ap (λ (l : List ℕ). image_at version_one l) same ∙ has.image_is;
+        image_is = ap (λ (l : List ℕ). image_at l) same ∙ has.image_is;
         next_is = next_is;
         turn = filled.turn;
       } in

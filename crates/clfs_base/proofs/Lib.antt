@@ -8,3 +8,4 @@ pub mod Spelled
 pub mod Taken
 pub mod Copies
 pub mod Images
+pub mod AskedFields

@@ -7,7 +7,7 @@ use Rattle.clfs_lsn.specs.Limits.{most_block_sectors, most_container_sectors, mo
 use Rattle.clfs_base.specs.declared.layout.Field.{Field}
 use Rattle.clfs_base.specs.declared.layout.Layout.{Layout}
 use Rattle.clfs_base.specs.declared.layout.Numbers.{Numbers}
-use Rattle.clfs_base.specs.Layout.{fields, most_listed, most_minimum, most_tail}
+use Rattle.clfs_base.specs.Layout.{fields, most_listed, most_minimum, most_tail, most_dedicated}
 use Rattle.clfs_base.specs.Spelling.{IsPolicy}
 use Rattle.clfs_base.specs.Checks.{is_wrong_field, wrong_field}
 
@@ -29,6 +29,7 @@ pub record IsRight (layout : Layout) (n : Numbers) : Type 0 where
   pub minimum : IsPolicy 2 (most_minimum n.maximum) n.minimum
   pub growth : n.growth ≤ most_containers - 2
   pub tail : n.tail ≤ most_tail n.archiving
+  pub dedicated : n.dedicated ≤ most_dedicated layout n.streams
 
 -- each field of a table passes
 pub AllPass : List ℕ → List Field → Type 0
@@ -52,7 +53,7 @@ range_is : (size at width number least most : ℕ) → (ltb size (at + width) ||
 range_is size at width number least most e = (grind (arith, nat_tests), grind (arith, nat_tests), grind (arith, nat_tests))
 
 -- numbers in their ranges, in bytes that are there, pass
-pub right_pass : (layout : Layout) (n : Numbers) (bytes : List ℕ) → 40 ≤ length bytes → IsRight layout n → AllPass bytes (fields layout n)
+pub right_pass : (layout : Layout) (n : Numbers) (bytes : List ℕ) → 41 ≤ length bytes → IsRight layout n → AllPass bytes (fields layout n)
 unfolding AllPass
 right_pass layout n bytes there r =
     let size = length bytes in (
@@ -87,7 +88,10 @@ right_pass layout n bytes there r =
                                   in_range size 30 2 n.growth 0 (most_containers - 2) (omega (arith, there)) (omega arith) r.growth,
                                   (
                                     in_range size 32 8 n.tail 0 (most_tail n.archiving) (omega (arith, there)) (omega arith) r.tail,
-                                    tt,
+                                    (
+                                      in_range size 40 1 n.dedicated 0 (most_dedicated layout n.streams) (omega (arith, there)) (omega arith) r.dedicated,
+                                      tt,
+                                    ),
                                   ),
                                 ),
                               ),
@@ -137,12 +141,12 @@ policy_is size at width number least most e = elim (cases_eq number 0) [
     high some = grind (arith, nat_tests)
 
 -- numbers that pass are in their ranges, in bytes that are there
-pub pass_right : (layout : Layout) (n : Numbers) (bytes : List ℕ) → AllPass bytes (fields layout n) → IsRight layout n × (40 ≤ length bytes)
+pub pass_right : (layout : Layout) (n : Numbers) (bytes : List ℕ) → AllPass bytes (fields layout n) → IsRight layout n × (41 ≤ length bytes)
 unfolding AllPass
-pass_right layout n bytes (p1, (p2, (p3, (p4, (p8, (p12, (p14, (p16, (p20, (p22, (p24, (p25, (p26, (p28, (p30, (p32, last)))))))))))))))) =
+pass_right layout n bytes (p1, (p2, (p3, (p4, (p8, (p12, (p14, (p16, (p20, (p22, (p24, (p25, (p26, (p28, (p30, (p32, (p40, last))))))))))))))))) =
     let size = length bytes in
     let version = range_is size 1 1 n.version layout.version layout.version p1 in
-    let tail = range_is size 32 8 n.tail 0 (most_tail n.archiving) p32 in
+    let dedicated = range_is size 40 1 n.dedicated 0 (most_dedicated layout n.streams) p40 in
     let block = range_is size 4 4 n.block_sectors 1 most_block_sectors p4 in
     let container = range_is size 8 4 n.container_sectors (2 * n.block_sectors) most_container_sectors p8 in
     let containers = range_is size 12 2 n.containers 1 most_containers p12 in
@@ -165,7 +169,8 @@ pass_right layout n bytes (p1, (p2, (p3, (p4, (p8, (p12, (p14, (p16, (p20, (p22,
         maximum = policy_is size 26 2 n.maximum 2 most_containers p26;
         minimum = policy_is size 28 2 n.minimum 2 (most_minimum n.maximum) p28;
         growth = (range_is size 30 2 n.growth 0 (most_containers - 2) p30).2;
-        tail = tail.2;
+        tail = (range_is size 32 8 n.tail 0 (most_tail n.archiving) p32).2;
+        dedicated = dedicated.2;
       },
-      omega (arith, tail.0),
+      omega (arith, dedicated.0),
     )

@@ -17,7 +17,7 @@ use Rattle.clfs_base.specs.declared.layout.Layout.{Layout}
 use Rattle.clfs_base.specs.declared.layout.Numbers.{Numbers}
 use Rattle.clfs_base.specs.Layout.{number_at, numbers_of, fields, row_place, file_place, most_minimum, most_tail}
 use Rattle.clfs_lsn.specs.Names.{is_name_byte}
-use Rattle.clfs_base.specs.Spelling.{IsName, AreFiles, AreRows, IsImage, IsPolicy, row_in, flag, numbers_for, filled, field_bytes, number_bytes, spelled_row, spelled}
+use Rattle.clfs_base.specs.Spelling.{IsName, AreFiles, AreRows, IsImageOf, IsPolicy, row_in, flag, numbers_for, filled, field_bytes, number_bytes, spelled_row, spelled_as}
 use Rattle.clfs_base.specs.Checks.{is_short, other_byte, file_in, files_in, wrong_file, name_len, name_in, is_taken, is_wrong_length, is_wrong_name, row_of, rows_of, row_fault, wrong_row, slot_fault, image_with, image_of}
 use Rattle.clfs_base.proofs.Searches.{goes_on, none_found}
 use Rattle.clfs_base.proofs.Chains.{chained}
@@ -60,12 +60,12 @@ minimum_small maximum minimum le is = let most = policy_small 2 (most_minimum ma
 tail_small : (archiving tail : ℕ) → tail ≤ most_tail archiving → tail < 2 ^ 64
 tail_small archiving tail le = grind (arith, nat_tests)
 
-pub numbers_read : (layout : Layout) (image : BaseImage) (gate : ℕ) (rest : List ℕ) → IsLayout layout → IsImage layout image
-    → numbers_of (gate ∷ (spelled layout image ++ rest)) ≡ numbers_for layout image
+pub numbers_read : (layout : Layout) (image : BaseImage) (gate : ℕ) (rest : List ℕ) → IsLayout layout → IsImageOf layout image
+    → numbers_of (gate ∷ (spelled_as layout image ++ rest)) ≡ numbers_for image
 numbers_read layout image gate rest l i =
     let maximum_le : image.maximum ≤ 256 = policy_small 2 256 image.maximum i.maximum in
     let minimum_le = minimum_small image.maximum image.minimum maximum_le i.minimum in
-    let version = little_number-reads_back 1 layout.version [] (omega (arith, l.version)) in
+    let version = little_number-reads_back 1 image.version [] (omega (arith, l.version, i.version)) in
     let turn = little_number-reads_back 1 image.turn [] (omega (arith, i.turn)) in
     let block = little_number-reads_back 4 image.block_sectors [] (omega (arith, i.shape.largest_block)) in
     let container = little_number-reads_back 4 image.container_sectors [] (omega (arith, i.shape.largest_container)) in
@@ -80,6 +80,7 @@ numbers_read layout image gate rest l i =
     let minimum = little_number-reads_back 2 image.minimum [] (omega (arith, minimum_le)) in
     let growth = little_number-reads_back 2 image.growth [] (omega (arith, i.growth)) in
     let tail = little_number-reads_back 8 image.tail [] (tail_small (flag image.archiving) image.tail i.tail) in
+    let dedicated = little_number-reads_back 1 (flag image.dedicated) [] (omega (arith, flag_small image.dedicated)) in
     λ k. record {
       version = version k;
       turn = turn k;
@@ -97,11 +98,12 @@ numbers_read layout image gate rest l i =
       minimum = minimum k;
       growth = growth k;
       tail = tail k;
+      dedicated = dedicated k;
     }
 
-pub image_right : (layout : Layout) (image : BaseImage) → IsImage layout image → IsRight layout (numbers_for layout image)
+pub image_right : (layout : Layout) (image : BaseImage) → IsImageOf layout image → IsRight layout (numbers_for image)
 image_right layout image i = record {
-  version = refl;
+  version = i.version;
   turn = i.turn;
   zero_is = refl;
   block = (i.shape.some_sectors, i.shape.largest_block);
@@ -117,6 +119,7 @@ image_right layout image i = record {
   minimum = i.minimum;
   growth = i.growth;
   tail = i.tail;
+  dedicated = i.dedicated;
 }
 
 -- ---- the file numbers
@@ -255,13 +258,14 @@ flag_read false = refl
 
 -- a slot with some gate that an image is spelled behind
 pub record Reads (layout : Layout) (bytes : List ℕ) (image : BaseImage) : Type 0 where
+  pub version : number_at 1 1 bytes ≡ image.version
   pub none_wrong : slot_fault layout bytes ≡ None
   pub image_is : image_of layout bytes ≡ image
 
-pub spelled_is_read : (layout : Layout) (image : BaseImage) (gate : ℕ) (rest bytes : List ℕ) → IsLayout layout → IsImage layout image
-    → bytes ≡ gate ∷ (spelled layout image ++ rest) → Reads layout bytes image
+pub spelled_is_read : (layout : Layout) (image : BaseImage) (gate : ℕ) (rest bytes : List ℕ) → IsLayout layout → IsImageOf layout image
+    → bytes ≡ gate ∷ (spelled_as layout image ++ rest) → Reads layout bytes image
 spelled_is_read layout image gate rest bytes l i is =
-    let n = numbers_for layout image in
+    let n = numbers_for image in
     let table : List ℕ = flat_map field_bytes (fields layout n) in
     let numbers : List ℕ = flat_map number_bytes image.files in
     let rows : List ℕ = flat_map (spelled_row layout.longest_name) image.streams in
@@ -291,9 +295,10 @@ spelled_is_read layout image gate rest bytes l i is =
     let files_are = files_read bytes image.files (replicate (512 - length numbers) 0 ++ back) image.files_made i.files i.few_made files_here in
     let rows_are = rows_read layout bytes (replicate (15808 - length rows) 0 ++ rest) image.streams l.name i.rows rows_here in
     record {
+      version = ap (λ (k : Numbers). k.version) read;
       none_wrong = chained layout bytes n (sym read)
           ∙ goes_on _ _ _ (none_wrong bytes (fields layout n) (right_pass layout n bytes (omega (arith, long)) (image_right layout image i)))
-          (goes_on _ _ _ (filling_passes bytes table middle 1 63 40 64 all (omega arith) (omega arith) (omega arith))
+          (goes_on _ _ _ (filling_passes bytes table middle 1 63 41 64 all (omega arith) (omega arith) (omega arith))
           (goes_on _ _ _ (files_pass bytes image.files (replicate (512 - length numbers) 0 ++ back) image.files_made i.files i.few_made files_here)
           (goes_on _ _ _ (filling_passes bytes numbers back 64 512 (file_place (length image.files)) 576 from_files files_fit (omega (arith, files_size)) (omega arith))
           (goes_on _ _ _ (rows_pass layout bytes (replicate (15808 - length rows) 0 ++ rest) image.streams l.name i.rows rows_here)
@@ -301,10 +306,10 @@ spelled_is_read layout image gate rest bytes l i is =
       image_is = ap (λ (k : Numbers). image_with k (files_in bytes k.listed) (rows_of layout bytes k.streams)) read
           ∙ ap (λ (f : List ℕ). image_with n f (rows_of layout bytes (length image.streams))) files_are
           ∙ ap (λ (r : List Row). image_with n image.files r) rows_are
-          ∙ (λ k. record image { archiving = flag_read image.archiving k; automatic = flag_read image.automatic k });
+          ∙ (λ k. record image { archiving = flag_read image.archiving k; automatic = flag_read image.automatic k; dedicated = flag_read image.dedicated k });
     }
 
-pub length-spelled : (layout : Layout) (image : BaseImage) → IsLayout layout → IsImage layout image → length (spelled layout image) ≡ 16383
+pub length-spelled : (layout : Layout) (image : BaseImage) → IsLayout layout → IsImageOf layout image → length (spelled_as layout image) ≡ 16383
 length-spelled layout image l i =
     let numbers : List ℕ = flat_map number_bytes image.files in
     let rows : List ℕ = flat_map (spelled_row layout.longest_name) image.streams in

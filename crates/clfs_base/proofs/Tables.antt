@@ -17,7 +17,7 @@ pub is_in_row : ℕ → ℕ → List Field → Bool
 is_in_row from end [] = leb from end
 is_in_row from end (f ∷ fs) = eqb f.at from && is_in_row (from + f.width) end fs
 
-pub fields_in_row : (layout : Layout) (n : Numbers) → is_in_row 1 40 (fields layout n) ≡ true
+pub fields_in_row : (layout : Layout) (n : Numbers) → is_in_row 1 41 (fields layout n) ≡ true
 unfolding is_in_row
 fields_in_row layout n = refl
 
@@ -52,7 +52,7 @@ placed from end (f ∷ fs) (suc i) row lt =
     (omega (arith, rest.0, size), omega (arith, rest.1, size))
 
 -- one field more
-pub fields_more : (layout : Layout) (n : Numbers) (table : List Field) (i : ℕ) (out new : List ℕ) → table ≡ fields layout n → i < 16
+pub fields_more : (layout : Layout) (n : Numbers) (table : List Field) (i : ℕ) (out new : List ℕ) → table ≡ fields layout n → i < 17
     → out ≡ filled 63 (flat_map field_bytes (take i (fields layout n)))
     → new ≡ take ((get_or table i no_field).at - 1) out ++ (field_bytes (get_or table i no_field)
     ++ drop ((get_or table i no_field).at - 1 + (get_or table i no_field).width) out)
@@ -60,7 +60,7 @@ pub fields_more : (layout : Layout) (n : Numbers) (table : List Field) (i : ℕ)
 fields_more layout n table i out new table_is lt is new_is =
     let fs = fields layout n in
     let f = get_or fs i no_field in
-    let place = placed 1 40 fs i (fields_in_row layout n) lt in
+    let place = placed 1 41 fs i (fields_in_row layout n) lt in
     new_is ∙ ap (λ (t : List Field). take ((get_or t i no_field).at - 1) out ++ (field_bytes (get_or t i no_field)
     ++ drop ((get_or t i no_field).at - 1 + (get_or t i no_field).width) out)) table_is
     ∙ put_more field_bytes fs f no_field i 63 (f.at - 1) f.width out lt refl (length-low 0 f.width f.number) is

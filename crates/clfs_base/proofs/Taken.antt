@@ -1,5 +1,5 @@
 -- What a slot without a wrong byte spells: the image that is read, which is one that there may be.
-use Rattle.std.proofs.Common.{◌≡◌, ◌≢◌, inl, inr, ℕ, ◌+◌, ◌-◌, ◌*◌, ◌%◌, ◌^◌, ◌<◌, ◌≤◌, Bool, true, false, not, ◌||◌, ◌&&◌, eqb, leb, ltb, List, [], ◌∷◌, ◌++◌, length, get_or, take, drop, replicate}
+use Rattle.std.proofs.Common.{◌≡◌, ◌≢◌, inl, inr, ℕ, ◌+◌, ◌-◌, ◌*◌, ◌%◌, ◌^◌, ◌<◌, ◌≤◌, Bool, true, false, not, ◌||◌, ◌&&◌, eqb, leb, ltb, cond, List, [], ◌∷◌, ◌++◌, length, get_or, take, drop, replicate}
 use Rattle.std.proofs.Common.{None, refl, sym, ◌∙◌, ap, subst, arith, length-drop, append_assoc, take-append-drop}
 use Rattle.std.proofs.Math.Nat.{mul-le-mul_left}
 use Rattle.std.proofs.lemmas.Bool.{cases_lt}
@@ -16,10 +16,10 @@ use Rattle.byteorder.specs.Numbers.{little_from-lt}
 use Rattle.clfs_base.specs.declared.image.Row.{Row}
 use Rattle.clfs_base.specs.declared.layout.Layout.{Layout}
 use Rattle.clfs_base.specs.declared.layout.Numbers.{Numbers}
-use Rattle.clfs_base.specs.Layout.{number_at, numbers_of, fields, row_place, file_place, most_tail}
+use Rattle.clfs_base.specs.Layout.{number_at, numbers_of, fields, row_place, file_place, most_tail, most_dedicated}
 use Rattle.clfs_lsn.specs.Names.{is_name_byte}
 use Rattle.clfs_lsn.specs.Size.{IsShape}
-use Rattle.clfs_base.specs.Spelling.{IsName, AreFiles, AreRows, IsImage, row_in, flag, numbers_for, filled, field_bytes, number_bytes, spelled_row, spelled}
+use Rattle.clfs_base.specs.Spelling.{IsName, AreFiles, AreRows, IsImageOf, row_in, flag, numbers_for, filled, field_bytes, number_bytes, spelled_row, spelled_as}
 use Rattle.clfs_base.specs.Checks.{file_in, files_in, wrong_file, name_len, name_in, is_taken, row_of, rows_of, row_fault, wrong_row, slot_fault, image_of}
 use Rattle.clfs_base.proofs.Searches.{both_none, each_none}
 use Rattle.clfs_base.proofs.Chains.{chained}
@@ -129,7 +129,7 @@ module _ (bytes : List ℕ) (fits : IsBytes bytes) where
       → drop at bytes ≡ little_bytes w (number_at at w bytes) ++ x
   and_then at w x here next = here ∙ ap (λ (l : List ℕ). little_bytes w (number_at at w bytes) ++ l) next
 
-  table_taken : (layout : Layout) → 40 ≤ length bytes → drop 1 bytes ≡ flat_map field_bytes (fields layout (numbers_of bytes)) ++ drop 40 bytes
+  table_taken : (layout : Layout) → 41 ≤ length bytes → drop 1 bytes ≡ flat_map field_bytes (fields layout (numbers_of bytes)) ++ drop 41 bytes
   table_taken layout there =
       and_then 1 1 _ (one 1 (omega (arith, there)))
       (and_then 2 1 _ (one 2 (omega (arith, there)))
@@ -146,7 +146,8 @@ module _ (bytes : List ℕ) (fits : IsBytes bytes) where
       (and_then 26 2 _ (two 26 (omega (arith, there)))
       (and_then 28 2 _ (two 28 (omega (arith, there)))
       (and_then 30 2 _ (two 30 (omega (arith, there)))
-      (eight 32 (omega (arith, there)))))))))))))))))
+      (and_then 32 8 _ (eight 32 (omega (arith, there)))
+      (one 40 (omega (arith, there))))))))))))))))))
 
   -- ---- the file numbers
 
@@ -274,7 +275,7 @@ small_bases layout bytes count fits i lt =
 
 -- ---- the whole slot
 
-flag_back : (number : ℕ) → number ≤ 1 → flag (eqb number 1) ≡ number
+pub flag_back : (number : ℕ) → number ≤ 1 → flag (eqb number 1) ≡ number
 flag_back number le = grind (arith, nat_tests)
 
 -- a slot without a wrong byte has blocks and containers of sizes that there are, and ids that fit four bytes
@@ -290,9 +291,16 @@ limits_hold layout bytes none =
       omega (arith, files_size, r.listed.1, r.first.1),
     )
 
+one_at_most : (layout : Layout) (streams number : ℕ) → number ≤ most_dedicated layout streams → number ≤ 1
+one_at_most layout streams number le = small (layout.has_dedicated && leb streams 1) le
+  where
+    small : (b : Bool) → number ≤ cond b 1 0 → number ≤ 1
+    small true le = le
+    small false le = omega (arith, le)
+
 -- and an image that there may be, where its bases are numbers of eight bytes
 pub image_may_be : (layout : Layout) (bytes : List ℕ) → slot_fault layout bytes ≡ None → HaveSmallBases (image_of layout bytes).streams
-    → IsImage layout (image_of layout bytes)
+    → IsImageOf layout (image_of layout bytes)
 image_may_be layout bytes none small =
     let n = numbers_of bytes in
     let image = image_of layout bytes in
@@ -303,6 +311,7 @@ image_may_be layout bytes none small =
     let files_size : length image.files ≡ n.listed = length-map-range_with_len (file_in bytes) 0 n.listed in
     let rows_size : length image.streams ≡ n.streams = length-map-range_with_len (row_of layout bytes) 0 n.streams in
     record {
+      version = r.version;
       turn = r.turn;
       shape = (limits_hold layout bytes none).0;
       some_containers = r.containers.0;
@@ -316,6 +325,9 @@ image_may_be layout bytes none small =
       minimum = r.minimum;
       growth = r.growth;
       tail = subst (λ (k : ℕ). n.tail ≤ most_tail k) (sym (flag_back n.archiving r.archiving)) r.tail;
+      dedicated = subst (λ (count : ℕ). flag image.dedicated ≤ most_dedicated layout count) (sym rows_size)
+          (subst (λ (k : ℕ). k ≤ most_dedicated layout n.streams)
+          (sym (flag_back n.dedicated (one_at_most layout n.streams n.dedicated r.dedicated))) r.dedicated);
       files = files_are bytes n.files_made n.listed c.0;
       few_streams = omega (arith, rows_size, r.streams);
       rows = rows_are layout bytes n.streams e.0 small;
@@ -323,8 +335,8 @@ image_may_be layout bytes none small =
 
 -- a slot of bytes without a wrong one spells an image
 pub record Spells (layout : Layout) (bytes : List ℕ) : Type 0 where
-  pub image : IsImage layout (image_of layout bytes)
-  pub spelled_is : drop 1 bytes ≡ spelled layout (image_of layout bytes) ++ drop 16384 bytes
+  pub image : IsImageOf layout (image_of layout bytes)
+  pub spelled_is : drop 1 bytes ≡ spelled_as layout (image_of layout bytes) ++ drop 16384 bytes
 
 pub read_is_spelled : (layout : Layout) (bytes : List ℕ) → IsLayout layout → IsBytes bytes → slot_fault layout bytes ≡ None → Spells layout bytes
 read_is_spelled layout bytes l fits none =
@@ -339,17 +351,17 @@ read_is_spelled layout bytes l fits none =
     let r = right.0 in
     let files_size : length image.files ≡ n.listed = length-map-range_with_len (file_in bytes) 0 n.listed in
     let rows_size : length image.streams ≡ n.streams = length-map-range_with_len (row_of layout bytes) 0 n.streams in
-    let version_is : layout.version ≡ n.version = sym r.version in
     let zero_is : 0 ≡ n.zero = sym r.zero_is in
     let archiving_is = flag_back n.archiving r.archiving in
     let automatic_is = flag_back n.automatic r.automatic in
-    let same : numbers_for layout image ≡ n = (λ k. record n {
-      version = version_is k;
+    let dedicated_is = flag_back n.dedicated (one_at_most layout n.streams n.dedicated r.dedicated) in
+    let same : numbers_for image ≡ n = (λ k. record n {
       zero = zero_is k;
       listed = files_size k;
       streams = rows_size k;
       archiving = archiving_is k;
       automatic = automatic_is k;
+      dedicated = dedicated_is k;
     }) in
     let numbers : List ℕ = flat_map number_bytes image.files in
     let rows : List ℕ = flat_map (spelled_row layout.longest_name) image.streams in
@@ -372,12 +384,12 @@ read_is_spelled layout bytes l fits none =
     record {
       image = may_be;
       spelled_is = table_taken bytes fits layout right.1
-          ∙ ap (λ (x : List ℕ). table ++ x) (passed_zeros bytes 40 64 (omega arith) b.0
-          ∙ ap (λ (x : List ℕ). replicate 24 0 ++ x) (files_taken bytes fits n.files_made n.listed c.0
+          ∙ ap (λ (x : List ℕ). table ++ x) (passed_zeros bytes 41 64 (omega arith) b.0
+          ∙ ap (λ (x : List ℕ). replicate 23 0 ++ x) (files_taken bytes fits n.files_made n.listed c.0
           ∙ ap (λ (x : List ℕ). numbers ++ x) (behind_files
           ∙ ap (λ (x : List ℕ). replicate (512 - length numbers) 0 ++ x) (rows_taken layout bytes n.streams e.0 fits
           ∙ ap (λ (x : List ℕ). rows ++ x) behind_rows))))
-          ∙ parts table (replicate 24 0) numbers (replicate (512 - length numbers) 0) rows (replicate (15808 - length rows) 0) (drop 16384 bytes)
+          ∙ parts table (replicate 23 0) numbers (replicate (512 - length numbers) 0) rows (replicate (15808 - length rows) 0) (drop 16384 bytes)
           ∙ ap (λ (k : Numbers). (filled 63 (flat_map field_bytes (fields layout k)) ++ (filled 512 numbers ++ filled 15808 rows)) ++ drop 16384 bytes) (sym same);
     }
   where

@@ -1,6 +1,6 @@
 -- The image that a slot spells, and the first wrong byte of one that spells none. A byte that isn't there is wrong.
 use Rattle.std.specs.Prelude.{ℕ, zero, suc, ◌+◌, ◌-◌, Bool, not, ◌&&◌, ◌||◌, ◌==◌, nat_lt, nat_le, if◌then◌else◌, List, length, take, drop, map, find, slice_index}
-use Rattle.std.specs.Prelude.{Option, Some, None, Result, Ok, Err}
+use Rattle.std.specs.Prelude.{Option, Some, None, Result, Ok}
 use Rattle.std.specs.List.{range_with_len, list_any, list_all}
 use Rattle.std.specs.Option.{option_map, option_or}
 use Rattle.std.specs.Str.{bytes_eq}
@@ -11,7 +11,7 @@ use Rattle.clfs_base.specs.declared.image.Row.{Row}
 use Rattle.clfs_base.specs.declared.layout.Layout.{Layout}
 use Rattle.clfs_base.specs.declared.layout.Numbers.{Numbers}
 use Rattle.clfs_base.specs.declared.layout.Field.{Field}
-use Rattle.clfs_base.specs.Layout.{slot_bytes, fields_end, files_at, rows_at, file_place, row_bytes, row_place, number_at, numbers_of, fields}
+use Rattle.clfs_base.specs.Layout.{slot_bytes, fields_end, files_at, rows_at, file_place, row_bytes, row_place, number_at, numbers_of, layout_in, fields}
 
 -- some of so many bytes from a place on aren't there
 abbrev pub is_short : List ℕ → ℕ → ℕ → Bool
@@ -112,21 +112,25 @@ row_fault layout bytes at earlier =
 abbrev pub wrong_row : Layout → List ℕ → ℕ → Option ℕ
 wrong_row layout bytes count = first_some (λ i. row_fault layout bytes (row_place layout i) (rows_of layout bytes i)) 0 count
 
--- The first wrong byte of a slot, its gate apart: the fields in their order, the zeros behind them, the file numbers, the zeros
--- behind those, the rows, and the zeros up to the slot's end.
-unfoldable pub slot_fault : Layout → List ℕ → Option ℕ
-slot_fault layout bytes =
-    let n = numbers_of bytes in
-    option_or (wrong_field bytes (fields layout n))
-    (option_or (other_byte bytes fields_end files_at)
+-- The first wrong byte behind the fields of a slot with these numbers: the zeros behind them, the file numbers, the zeros behind those,
+-- the rows, and the zeros up to the slot's end.
+abbrev pub behind_fields : Layout → List ℕ → Numbers → Option ℕ
+behind_fields layout bytes n =
+    option_or (other_byte bytes fields_end files_at)
     (option_or (wrong_file bytes n.files_made n.listed)
     (option_or (other_byte bytes (file_place n.listed) rows_at)
     (option_or (wrong_row layout bytes n.streams)
-    (other_byte bytes (row_place layout n.streams) slot_bytes)))))
+    (other_byte bytes (row_place layout n.streams) slot_bytes))))
+
+-- The first wrong byte of a slot, its gate apart: the fields in their order, and then what is behind them.
+unfoldable pub slot_fault : Layout → List ℕ → Option ℕ
+slot_fault layout bytes =
+    let n = numbers_of bytes in option_or (wrong_field bytes (fields layout n)) (behind_fields layout bytes n)
 
 -- the image of a slot's numbers, files and streams
 abbrev pub image_with : Numbers → List ℕ → List Row → BaseImage
 image_with n files streams = record {
+  version = n.version;
   turn = n.turn;
   block_sectors = n.block_sectors;
   container_sectors = n.container_sectors;
@@ -139,6 +143,7 @@ image_with n files streams = record {
   minimum = n.minimum;
   growth = n.growth;
   tail = n.tail;
+  dedicated = n.dedicated == 1;
   files = files;
   streams = streams;
 }
@@ -149,5 +154,5 @@ image_of layout bytes =
     let n = numbers_of bytes in image_with n (files_in bytes n.listed) (rows_of layout bytes n.streams)
 
 -- the image that a slot spells, or the first byte at which it is wrong
-abbrev pub image_at : Layout → List ℕ → Result BaseImage ℕ
-image_at layout bytes = unless_wrong (λ at. at) (slot_fault layout bytes) (Ok (image_of layout bytes))
+abbrev pub image_at : List ℕ → Result BaseImage ℕ
+image_at bytes = unless_wrong (λ at. at) (slot_fault (layout_in bytes) bytes) (Ok (image_of (layout_in bytes) bytes))

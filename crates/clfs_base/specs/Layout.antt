@@ -1,15 +1,23 @@
 -- Where each field of a base copy stands in its slot, and which numbers it may have. A slot has 16,384 bytes: its gate, the
 -- fields of this table and zeros, the numbers of the listed containers' files and zeros, the rows of the streams and zeros.
-use Rattle.std.specs.Prelude.{◌==◌, ℕ, ◌+◌, ◌-◌, ◌*◌, ◌^◌, min, true, false, if◌then◌else◌, List, [], ◌∷◌, drop}
+use Rattle.std.specs.Prelude.{◌==◌, ℕ, ◌+◌, ◌-◌, ◌*◌, ◌^◌, min, true, false, ◌&&◌, nat_le, if◌then◌else◌, List, [], ◌∷◌, drop}
 use Rattle.byteorder.specs.Endian.{little_number}
 use Rattle.clfs_lsn.specs.Limits.{most_block_sectors, most_container_sectors, most_containers, fewest_containers, greatest_rate, most_streams, longest_name}
 use Rattle.clfs_base.specs.declared.layout.Layout.{Layout}
 use Rattle.clfs_base.specs.declared.layout.Numbers.{Numbers}
 use Rattle.clfs_base.specs.declared.layout.Field.{Field}
 
--- the only version so far
+-- the first version, which is only read
 abbrev pub version_one : Layout
-version_one = record { version = 1; most_streams = most_streams; longest_name = longest_name }
+version_one = record { version = 1; most_streams = 128; longest_name = 32; has_dedicated = false }
+
+-- the second version, in which every copy is written
+abbrev pub version_two : Layout
+version_two = record { version = 2; most_streams = most_streams; longest_name = longest_name; has_dedicated = true }
+
+-- The layout of the copies of a version. Any number but 1 is judged as the second version, whose first field it then fails.
+abbrev pub layout_of : ℕ → Layout
+layout_of version = if version == 1 then version_one else version_two
 
 -- the bytes of a slot
 abbrev pub slot_bytes : ℕ
@@ -17,7 +25,7 @@ slot_bytes = 16384
 
 -- the first byte behind the fields
 abbrev pub fields_end : ℕ
-fields_end = 40
+fields_end = 41
 
 -- the first byte of the listed containers' file numbers
 abbrev pub files_at : ℕ
@@ -62,7 +70,12 @@ numbers_of bytes = record {
   minimum = number_at 28 2 bytes;
   growth = number_at 30 2 bytes;
   tail = number_at 32 8 bytes;
+  dedicated = number_at 40 1 bytes;
 }
+
+-- the layout of a slot's bytes, by their version
+abbrev pub layout_in : List ℕ → Layout
+layout_in bytes = layout_of (number_at 1 1 bytes)
 
 -- a field that has a number from the least to the most
 abbrev pub required : ℕ → ℕ → ℕ → ℕ → ℕ → Field
@@ -84,6 +97,10 @@ most_minimum maximum = if maximum == 0 then most_containers else maximum
 abbrev pub most_tail : ℕ → ℕ
 most_tail archiving = if archiving == 0 then 0 else 2 ^ 64 - 1
 
+-- 1 where a log may be dedicated and has no more than one stream, else 0.
+abbrev pub most_dedicated : Layout → ℕ → ℕ
+most_dedicated layout streams = if layout.has_dedicated && nat_le streams 1 then 1 else 0
+
 -- The table: each field's place and width, the number that is in it, and the least and the greatest that it may have.
 abbrev pub fields : Layout → Numbers → List Field
 fields layout n =
@@ -103,4 +120,5 @@ fields layout n =
     ∷ optional 28 2 n.minimum fewest_containers (most_minimum n.maximum)
     ∷ required 30 2 n.growth 0 greatest_rate
     ∷ required 32 8 n.tail 0 (most_tail n.archiving)
+    ∷ required 40 1 n.dedicated 0 (most_dedicated layout n.streams)
     ∷ []

@@ -5,7 +5,7 @@ use Rattle.clfs_base.specs.declared.image.BaseImage.{BaseImage}
 use Rattle.clfs_base.specs.declared.newest.Front.{Front}
 use Rattle.clfs_base.specs.declared.refusal.NewestRefusal.{NewestRefusal}
 use Rattle.clfs_base.specs.declared.refusal.NewestRefusal.TheVariants.{NoBase, BadByte}
-use Rattle.clfs_base.specs.Layout.{slot_bytes, version_one}
+use Rattle.clfs_base.specs.Layout.{slot_bytes}
 use Rattle.clfs_base.specs.Checks.{image_at}
 
 -- a slot's first byte in the base file
@@ -63,7 +63,7 @@ copy_in slot (Err at) = Err (BadByte slot at)
 
 -- the image of the slot that counts, where one does
 abbrev pub copy_of : List ℕ → Result ℕ NewestRefusal → Result (ℕ × BaseImage) NewestRefusal
-copy_of base (Ok slot) = copy_in slot (image_at version_one (slot_of base slot))
+copy_of base (Ok slot) = copy_in slot (image_at (slot_of base slot))
 copy_of base (Err refusal) = Err refusal
 
 -- The newest copy of a base file: the slot that counts and its image, or why there is none.

@@ -1,5 +1,5 @@
 -- How a base copy is spelled in the bytes of its slot behind the gate, and which images there are.
-use Rattle.std.specs.Prelude.{◌≡◌, ◌≢◌, ◌⊎◌, ℕ, ◌+◌, ◌-◌, ◌^◌, ◌<◌, ◌≤◌, Bool, true, ◌&&◌, ◌||◌, ◌==◌, nat_le, if◌then◌else◌, List, [], ◌∷◌, ◌++◌, length, replicate, slice_index, slice_index_or}
+use Rattle.std.specs.Prelude.{◌≡◌, ◌≢◌, ◌⊎◌, ℕ, ◌+◌, ◌-◌, ◌^◌, ◌<◌, ◌≤◌, Bool, true, false, if◌then◌else◌, List, [], ◌∷◌, ◌++◌, length, replicate, slice_index, slice_index_or}
 use Rattle.std.specs.List.{flat_map, list_all}
 use Rattle.byteorder.specs.Endian.{little_bytes}
 use Rattle.clfs_lsn.specs.Limits.{most_containers}
@@ -10,7 +10,7 @@ use Rattle.clfs_base.specs.declared.image.Row.{Row}
 use Rattle.clfs_base.specs.declared.layout.Layout.{Layout}
 use Rattle.clfs_base.specs.declared.layout.Numbers.{Numbers}
 use Rattle.clfs_base.specs.declared.layout.Field.{Field}
-use Rattle.clfs_base.specs.Layout.{slot_bytes, files_at, rows_at, fields, most_minimum, most_tail}
+use Rattle.clfs_base.specs.Layout.{slot_bytes, files_at, rows_at, fields, version_one, version_two, layout_of, most_minimum, most_tail, most_dedicated}
 
 -- ---- which images there are
 
@@ -44,8 +44,9 @@ IsPolicy least most value = (value ≡ 0) ⊎ ((least ≤ value) × (value ≤ m
 abbrev pub flag : Bool → ℕ
 flag on = if on then 1 else 0
 
--- What a base copy may say of its log.
-pub record IsImage (layout : Layout) (image : BaseImage) : Type 0 where
+-- What a base copy of this version may say of its log.
+pub record IsImageOf (layout : Layout) (image : BaseImage) : Type 0 where
+  pub version : image.version ≡ layout.version
   pub turn : image.turn ≤ 2
   pub shape : IsShape (record { block_sectors = image.block_sectors; container_sectors = image.container_sectors })
   pub some_containers : 1 ≤ image.containers
@@ -59,16 +60,31 @@ pub record IsImage (layout : Layout) (image : BaseImage) : Type 0 where
   pub minimum : IsPolicy 2 (most_minimum image.maximum) image.minimum
   pub growth : image.growth ≤ most_containers - 2
   pub tail : image.tail ≤ most_tail (flag image.archiving)
+  pub dedicated : flag image.dedicated ≤ most_dedicated layout (length image.streams)
   pub files : AreFiles image.files_made image.files
   pub few_streams : length image.streams ≤ layout.most_streams
   pub rows : AreRows layout.longest_name image.streams
 
+-- What a base copy may say of its log, in the version that it is of.
+abbrev pub IsImage : BaseImage → Type 0
+IsImage image = IsImageOf (layout_of image.version) image
+
+-- The image as a copy has it that is written from now on.
+abbrev pub current : BaseImage → BaseImage
+current image = record image { version = version_two.version }
+
+-- An image that the first version has room for: no dedicated log, and no more streams and no longer names than that version can have.
+pub record FitsOne (image : BaseImage) : Type 0 where
+  pub dedicated : image.dedicated ≡ false
+  pub few_streams : length image.streams ≤ version_one.most_streams
+  pub names : (i : ℕ) → i < length image.streams → length (row_in image.streams i).name ≤ version_one.longest_name
+
 -- ---- how they are spelled
 
 -- the numbers in the fields of an image
-abbrev pub numbers_for : Layout → BaseImage → Numbers
-numbers_for layout image = record {
-  version = layout.version;
+abbrev pub numbers_for : BaseImage → Numbers
+numbers_for image = record {
+  version = image.version;
   turn = image.turn;
   zero = 0;
   block_sectors = image.block_sectors;
@@ -84,6 +100,7 @@ numbers_for layout image = record {
   minimum = image.minimum;
   growth = image.growth;
   tail = image.tail;
+  dedicated = flag image.dedicated;
 }
 
 -- bytes filled up with zeros to so many
@@ -103,8 +120,12 @@ abbrev pub spelled_row : ℕ → Row → List ℕ
 spelled_row room row = length row.name ∷ replicate 7 0 ++ (little_bytes 8 row.base ++ filled room row.name)
 
 -- Bytes 1 to 16,383 of a slot: the fields, the file numbers and the rows, each filled up with zeros.
-abbrev pub spelled : Layout → BaseImage → List ℕ
-spelled layout image =
-    filled (files_at - 1) (flat_map field_bytes (fields layout (numbers_for layout image)))
+abbrev pub spelled_as : Layout → BaseImage → List ℕ
+spelled_as layout image =
+    filled (files_at - 1) (flat_map field_bytes (fields layout (numbers_for image)))
     ++ (filled (rows_at - files_at) (flat_map number_bytes image.files)
     ++ filled (slot_bytes - rows_at) (flat_map (spelled_row layout.longest_name) image.streams))
+
+-- The bytes of an image in the version that it is of.
+abbrev pub spelled : BaseImage → List ℕ
+spelled image = spelled_as (layout_of image.version) image

@@ -3,7 +3,7 @@ use Rattle.std.specs.Prelude.{◌≡◌, ◌≢◌, ◌⊎◌, ℕ, ◌+◌, ◌
 use Rattle.clfs_disk.specs.Files.{Files}
 use Rattle.clfs_disk.specs.State.{DiskState, Leaves}
 use Rattle.clfs_base.specs.declared.image.BaseImage.{BaseImage}
-use Rattle.clfs_base.specs.Layout.{slot_bytes, version_one}
+use Rattle.clfs_base.specs.Layout.{slot_bytes}
 use Rattle.clfs_base.specs.Spelling.{IsImage, spelled}
 use Rattle.clfs_base.specs.Slots.{slot_place, is_open_slot, newest_of}
 
@@ -28,16 +28,16 @@ pub record IsOlder (slot used : ℕ) (image : BaseImage) (files : Files) : Type 
 
 -- Behind its closed gate the older slot has all of a copy whose turn is the newest one's plus 1 modulo 3.
 pub record IsFilled (slot : ℕ) (image next : BaseImage) (files : Files) : Type 0 where
-  pub next_image : IsImage version_one next
+  pub next_image : IsImage next
   pub turn : next.turn ≡ (image.turn + 1) % 3
   pub closed : is_open_slot (files 0) slot ≡ false
-  pub body : body_of (files 0) slot ≡ spelled version_one next
+  pub body : body_of (files 0) slot ≡ spelled next
 
 -- No slot is open, and behind the gate of this one stands all of a copy: the first one of a new log.
 pub record IsFirst (slot : ℕ) (next : BaseImage) (files : Files) : Type 0 where
-  pub next_image : IsImage version_one next
+  pub next_image : IsImage next
   pub closed : (other : ℕ) → other ≤ 1 → is_open_slot (files 0) other ≡ false
-  pub body : body_of (files 0) slot ≡ spelled version_one next
+  pub body : body_of (files 0) slot ≡ spelled next
 
 -- No slot is open.
 abbrev pub HasNoCopy : Files → Type 0

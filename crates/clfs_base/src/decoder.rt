@@ -1,46 +1,77 @@
 // Reading a base copy from the bytes of its slot. The checks go from byte 1 on; memory is taken as the tables are read.
 ghost use Rattle.std.specs.Prelude.{◌≡◌, ◌+◌, ◌-◌, ◌^◌, ◌<◌, ◌==◌, ◌&&◌, ◌||◌, not, nat_le, ℕ, List, [], ◌∷◌, ◌++◌, IfOk, OnOk, Ok, Some, None, length, drop, take};
-ghost use Rattle.std.specs.List.{list_all, list_any};
+ghost use Rattle.std.specs.List.{list_all, list_any, zip};
 ghost use Rattle.clfs_base.specs.declared.image.BaseImage.{BaseImage};
-ghost use Rattle.clfs_base.specs.Layout.{version_one, number_at, slot_bytes};
+ghost use Rattle.clfs_base.specs.Layout.{layout_in, number_at, slot_bytes};
 ghost use Rattle.clfs_lsn.specs.Names.{is_name_byte};
 ghost use Rattle.clfs_base.specs.Spelling.{IsImage, spelled};
-ghost use Rattle.clfs_base.specs.Checks.{is_wrong_field, wrong_field, is_no_file, is_wrong_file, wrong_file, files_in, is_wrong_length, is_no_name, is_wrong_name, is_taken, row_fault, wrong_row, rows_of, name_in, slot_fault, image_with, image_of};
+ghost use Rattle.clfs_base.specs.Demands.{anything, is_wrong_within, wrong_within, fault_within, Meets};
+ghost use Rattle.clfs_base.specs.Checks.{is_wrong_field, is_no_file, is_wrong_file, wrong_file, files_in, is_wrong_length, is_no_name, is_wrong_name, is_taken, row_fault, wrong_row, rows_of, name_in, slot_fault, image_with, image_of, image_at};
 ghost use Rattle.clfs_base.specs.Decoding.{Gives};
 
+use crate::demands::{Asked, Demands};
 use crate::image::{BaseImage, Files, Row, Rows};
 use crate::layout::{
-    FIELDS_END, FILES_AT, Field, Layout, Numbers, ROWS_AT, SLOT, VERSION_ONE, fields, file_place,
+    FIELDS_END, FILES_AT, Field, Layout, Numbers, ROWS_AT, SLOT, fields, file_place, layout_of,
     row_bytes, row_place,
 };
-use crate::reading::{byte_at, is_short, name_in, number_2, number_8, numbers_of, other_byte};
+use crate::reading::{
+    byte_at, is_short, name_in, number_1, number_2, number_8, numbers_of, other_byte,
+};
 use crate::refusal::BaseRefusal;
 use clfs_lsn::{Lsn, Name};
 use std::alloc::{AllocError, Global};
 
-/// The base copy that the bytes of a slot spell. The gate isn't judged.
+/// The base copy that the bytes of a slot spell, in either version. The gate isn't judged.
 pub fn decode(alloc: Global, bytes: &[u8]) -> Result<BaseImage, BaseRefusal>
     // What is read is spelled so, and is an image that a log can have.
-    ensures found { IfOk result (λ image. IsImage version_one image
-        × (take (slot_bytes - 1) (drop 1 bytes.now) ≡ spelled version_one image)) }
+    ensures found { IfOk result (λ image. IsImage image
+        × (take (slot_bytes - 1) (drop 1 bytes.now) ≡ spelled image)) }
 
     // What is spelled so behind any gate is read, whatever follows it.
-    ensures only { (image : BaseImage) (gate : ℕ) (rest : List ℕ) → IsImage version_one image
-        → bytes.now ≡ gate ∷ (spelled version_one image ++ rest) → Gives result None image }
+    ensures only { (image : BaseImage) (gate : ℕ) (rest : List ℕ) → IsImage image
+        → bytes.now ≡ gate ∷ (spelled image ++ rest) → Gives result None image }
 
     // A refusal names the first byte that is wrong.
-    ensures exact { Gives result (slot_fault version_one bytes.now) (image_of version_one bytes.now) }
+    ensures exact { Gives result (slot_fault (layout_in bytes.now) bytes.now) (image_of (layout_in bytes.now) bytes.now) }
 {
-    decode_as(alloc, &VERSION_ONE, bytes)
+    decode_within(alloc, bytes, &Demands::anything())
+}
+
+/// The same of a copy that is one of those that are asked for. A field that has another number is told as a wrong one is.
+pub fn decode_within(
+    alloc: Global,
+    bytes: &[u8],
+    demands: &Demands,
+) -> Result<BaseImage, BaseRefusal>
+    // What is read is what the bytes spell, and is asked for.
+    ensures found { IfOk result (λ image. (image_at bytes.now ≡ Ok image) × Meets demands.now image) }
+
+    // What the bytes spell is read where it is asked for.
+    ensures only { (image : BaseImage) → image_at bytes.now ≡ Ok image → Meets demands.now image → Gives result None image }
+
+    // A refusal names the first byte that is wrong or has another number than is asked for.
+    ensures exact { Gives result (fault_within demands.now (layout_in bytes.now) bytes.now) (image_of (layout_in bytes.now) bytes.now) }
+
+    // Where anything is asked for, that is the first byte that is wrong.
+    ensures anything { demands.now ≡ anything → Gives result (slot_fault (layout_in bytes.now) bytes.now) (image_of (layout_in bytes.now) bytes.now) }
+{
+    let layout = layout_of(number_1(bytes, 1));
+    decode_as(alloc, &layout, bytes, demands)
 }
 
 // The same by one version of the copies.
-#[tactic(auto, unfolding(crate::specs::Checks::slot_fault))]
-fn decode_as(alloc: Global, layout: &Layout, bytes: &[u8]) -> Result<BaseImage, BaseRefusal>
-    ensures { Gives result (slot_fault layout.now bytes.now) (image_of layout.now bytes.now) }
+#[tactic(auto, unfolding(crate::specs::Demands::fault_within))]
+fn decode_as(
+    alloc: Global,
+    layout: &Layout,
+    bytes: &[u8],
+    demands: &Demands,
+) -> Result<BaseImage, BaseRefusal>
+    ensures { Gives result (fault_within demands.now layout.now bytes.now) (image_of layout.now bytes.now) }
 {
     let numbers = numbers_of(bytes);
-    if let Some(at) = wrong_field(bytes, &fields(layout, &numbers)) {
+    if let Some(at) = wrong_field(bytes, &fields(layout, &numbers), &demands.of_fields()) {
         return Err(BaseRefusal::BadByte { at });
     }
     if let Some(at) = other_byte(bytes, FIELDS_END, FILES_AT) {
@@ -57,14 +88,23 @@ fn decode_as(alloc: Global, layout: &Layout, bytes: &[u8]) -> Result<BaseImage, 
     Ok(image(&numbers, files, streams))
 }
 
-// The first byte of the first field that is wrong.
-fn wrong_field(bytes: &[u8], table: &[Field]) -> Option<u32>
-    ensures { result ≡ wrong_field bytes.now table.now }
+// The first byte of the first field that is wrong, or whose number isn't asked for.
+fn wrong_field(bytes: &[u8], table: &[Field], asked: &[Asked]) -> Option<u32>
+    requires { length table.now ≡ length asked.now }
+    ensures { result ≡ wrong_within bytes.now (zip table.now asked.now) }
 {
-    table
-        .iter()
-        .find(|field| is_wrong_field(bytes, field))
-        .map(|field| field.at)
+    for (i, field) in table.iter().enumerate() {
+        if is_wrong_within(bytes, field, &asked[i]) {
+            return Some(field.at);
+        }
+    }
+    None
+}
+
+fn is_wrong_within(bytes: &[u8], field: &Field, asked: &Asked) -> bool
+    ensures { result ≡ is_wrong_within bytes.now (field.now, asked.now) }
+{
+    is_wrong_field(bytes, field) || !asked.has(field.number)
 }
 
 // Whether a field isn't there, or has a number that it may not have.
@@ -229,6 +269,7 @@ fn image(n: &Numbers, files: Files, streams: Rows) -> BaseImage
     ensures { result ≡ image_with n.now files streams }
 {
     BaseImage {
+        version: n.version,
         turn: n.turn,
         block_sectors: n.block_sectors,
         container_sectors: n.container_sectors,
@@ -241,6 +282,7 @@ fn image(n: &Numbers, files: Files, streams: Rows) -> BaseImage
         minimum: n.minimum,
         growth: n.growth,
         tail: Lsn::of_number(n.tail),
+        dedicated: n.dedicated == 1,
         files,
         streams,
     }

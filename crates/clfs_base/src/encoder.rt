@@ -2,28 +2,28 @@
 ghost use Rattle.std.specs.Prelude.{◌≡◌, ◌+◌, ◌-◌, ◌*◌, ◌^◌, ◌<◌, ◌≤◌, ◌++◌, length, take, drop, replicate, EachIndex};
 ghost use Rattle.std.specs.List.{flat_map};
 ghost use Rattle.byteorder.specs.Endian.{little_bytes};
-ghost use Rattle.clfs_base.specs.Layout.{version_one, slot_bytes, files_at, rows_at, row_bytes, fields};
-ghost use Rattle.clfs_base.specs.Spelling.{IsImage, row_in, flag, numbers_for, filled, field_bytes, number_bytes, spelled_row, spelled};
+ghost use Rattle.clfs_base.specs.Layout.{slot_bytes, files_at, rows_at, row_bytes, fields};
+ghost use Rattle.clfs_base.specs.Spelling.{IsImage, IsImageOf, row_in, current, flag, numbers_for, filled, field_bytes, number_bytes, spelled_row, spelled_as, spelled};
 
 use crate::image::{BaseImage, Row};
-use crate::layout::{FILES_AT, Layout, Numbers, ROWS_AT, VERSION_ONE, fields, row_bytes};
+use crate::layout::{FILES_AT, Layout, Numbers, ROWS_AT, VERSION_TWO, fields, row_bytes};
 use byteorder::{ByteOrder, LittleEndian};
 
-/// Writes what stands in a slot behind its gate: bytes 1 to 16,383.
+/// Writes what stands in a slot behind its gate, bytes 1 to 16,383, in the second version, whatever the image's version.
 pub fn encode(image: &BaseImage, out: &mut [u8])
     requires length { length out.old ≡ slot_bytes - 1 }
-    requires image { IsImage version_one image.now }
-    ensures { out.new ≡ spelled version_one image.now }
+    requires image { IsImage image.now }
+    ensures { out.new ≡ spelled (current image.now) }
 {
-    encode_as(&VERSION_ONE, image, out)
+    encode_as(&VERSION_TWO, image, out)
 }
 
 // The same in one version of the copies.
 fn encode_as(layout: &Layout, image: &BaseImage, out: &mut [u8])
     requires length { length out.old ≡ slot_bytes - 1 }
-    requires image { IsImage layout.now image.now }
+    requires image { IsImageOf layout.now (record image.now { version = layout.now.version }) }
     requires room { row_bytes layout.now * layout.now.most_streams ≤ slot_bytes - rows_at }
-    ensures { out.new ≡ spelled layout.now image.now }
+    ensures { out.new ≡ spelled_as layout.now (record image.now { version = layout.now.version }) }
 {
     let files = FILES_AT as usize - 1;
     let rows = ROWS_AT as usize - 1;
@@ -36,7 +36,7 @@ fn encode_as(layout: &Layout, image: &BaseImage, out: &mut [u8])
 fn numbers_for(layout: &Layout, image: &BaseImage) -> Numbers
     requires files { length image.now.files < 2 ^ 16 }
     requires streams { length image.now.streams < 2 ^ 16 }
-    ensures { result ≡ numbers_for layout.now image.now }
+    ensures { result ≡ numbers_for (record image.now { version = layout.now.version }) }
 {
     Numbers {
         version: layout.version,
@@ -55,6 +55,7 @@ fn numbers_for(layout: &Layout, image: &BaseImage) -> Numbers
         minimum: image.minimum,
         growth: image.growth,
         tail: image.tail.number(),
+        dedicated: flag(image.dedicated),
     }
 }
 

@@ -91,9 +91,11 @@ impl Rows {
     }
 }
 
-/// A base copy without its gate and its version.
+/// A base copy without its gate.
 #[derive(Debug, Drop)]
 pub struct BaseImage {
+    /// 1 or 2: the version of the copy that it was read from. It says nothing of the log. A copy is written in the second one.
+    pub version: u8,
     /// 0, 1 or 2: that of the copy before it, plus 1 modulo 3.
     pub turn: u8,
     /// The sectors of the largest block.
@@ -118,6 +120,8 @@ pub struct BaseImage {
     pub growth: u16,
     /// The archive tail; null where archiving is off.
     pub tail: Lsn,
+    /// The log has one stream alone.
+    pub dedicated: bool,
     /// The files of the listed containers.
     pub files: Files,
     /// The streams.

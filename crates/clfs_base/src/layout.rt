@@ -1,7 +1,10 @@
 // Where each field of a base copy stands in its slot, and which numbers it may have: the table that both writing and reading follow.
 // What differs between versions of the copies is in `Layout`.
 ghost use Rattle.std.specs.Prelude.{◌≡◌, ◌+◌, ◌*◌, ◌<◌};
-ghost use Rattle.clfs_base.specs.Layout.{version_one, file_place, row_bytes, row_place, required, optional, most_listed, most_minimum, most_tail, fields};
+ghost use Rattle.clfs_base.specs.Layout.{layout_of, file_place, row_bytes, row_place, required, optional, most_listed, most_minimum, most_tail, most_dedicated, fields};
+
+/// The version of the copies that are written.
+pub const VERSION: u8 = 2;
 
 /// The bytes of a slot.
 pub const SLOT: u32 = 16384;
@@ -10,7 +13,7 @@ pub const SLOT: u32 = 16384;
 pub const TAIL_AT: u32 = 32;
 
 /// The first byte behind the fields.
-pub const FIELDS_END: u32 = 40;
+pub const FIELDS_END: u32 = 41;
 
 /// The first byte of the listed containers' file numbers.
 pub const FILES_AT: u32 = 64;
@@ -33,14 +36,36 @@ pub struct Layout {
     pub most_streams: u16,
     /// The most bytes of a stream's name, for which each row has room.
     pub longest_name: u8,
+    /// Whether a log may be a dedicated one.
+    pub has_dedicated: bool,
 }
 
-/// The only version so far.
+/// The first version, which is only read.
 pub const VERSION_ONE: Layout = Layout {
     version: 1,
     most_streams: 128,
     longest_name: 32,
+    has_dedicated: false,
 };
+
+/// The second version, in which every copy is written.
+pub const VERSION_TWO: Layout = Layout {
+    version: VERSION,
+    most_streams: 192,
+    longest_name: 64,
+    has_dedicated: true,
+};
+
+/// The layout of the copies of a version. Any number but 1 is judged as the second version, whose first field it then fails.
+pub fn layout_of(version: u8) -> Layout
+    ensures { result ≡ layout_of version }
+{
+    if version == VERSION_ONE.version {
+        VERSION_ONE
+    } else {
+        VERSION_TWO
+    }
+}
 
 /// The numbers in the fields of a base copy before its tables.
 #[derive(Clone, Copy, Debug)]
@@ -77,6 +102,8 @@ pub struct Numbers {
     pub growth: u16,
     /// Bytes 32 to 39.
     pub tail: u64,
+    /// Byte 40.
+    pub dedicated: u8,
 }
 
 /// One field: its place, its number, and the numbers that it may have.
@@ -149,8 +176,19 @@ fn most_tail(archiving: u8) -> u64
     if archiving == 0 { 0 } else { u64::MAX }
 }
 
+// 1 where a log may be dedicated and has no more than one stream, else 0.
+fn most_dedicated(layout: &Layout, streams: u16) -> u64
+    ensures { result ≡ most_dedicated layout.now streams }
+{
+    if layout.has_dedicated && streams <= 1 {
+        1
+    } else {
+        0
+    }
+}
+
 /// The table of the fields, with these numbers in them.
-pub fn fields(layout: &Layout, n: &Numbers) -> [Field; 16]
+pub fn fields(layout: &Layout, n: &Numbers) -> [Field; 17]
     ensures { result ≡ fields layout.now n.now }
 {
     let version = layout.version as u64;
@@ -190,6 +228,13 @@ pub fn fields(layout: &Layout, n: &Numbers) -> [Field; 16]
         ),
         required(30, 2, n.growth as u64, 0, clfs_lsn::GREATEST_GROWTH as u64),
         required(32, 8, n.tail, 0, most_tail(n.archiving)),
+        required(
+            40,
+            1,
+            n.dedicated as u64,
+            0,
+            most_dedicated(layout, n.streams),
+        ),
     ]
 }
 
@@ -214,9 +259,9 @@ pub fn row_place(layout: &Layout, i: u16) -> u32
     ROWS_AT + row_bytes(layout) * i as u32
 }
 
-/// The byte of a slot at which the base of the stream so many after the first stands.
-pub fn base_place(i: u16) -> u32
-    ensures { result ≡ row_place version_one i + 8 }
+/// The byte of a slot of a version at which the base of the stream so many after the first stands.
+pub fn base_place(version: u8, i: u16) -> u32
+    ensures { result ≡ row_place (layout_of version) i + 8 }
 {
-    row_place(&VERSION_ONE, i) + 8
+    row_place(&layout_of(version), i) + 8
 }

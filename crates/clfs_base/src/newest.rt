@@ -1,8 +1,7 @@
 // Reading the newest copy of the base file: three bytes of each slot say which one counts, and that one alone is read whole.
-ghost use Rattle.std.specs.Prelude.{◌≡◌, ◌⊎◌, ◌+◌, ◌-◌, ◌≤◌, ◌<◌, ◌==◌, Ok, OnErr, IfOk, IfErr, IsOk, IsErrOf};
+ghost use Rattle.std.specs.Prelude.{◌≡◌, ◌⊎◌, ◌+◌, ◌-◌, ◌≤◌, ◌<◌, ◌==◌, ℕ, List, take, drop, Ok, OnErr, IfOk, IfErr, IsOk, IsErrOf};
 ghost use Rattle.clfs_disk.specs.Files.{Unchanged};
 ghost use Rattle.clfs_disk.specs.State.{TellsContents, IsSteady, Passes, Rises, raised};
-ghost use Rattle.clfs_base.specs.Layout.{version_one};
 ghost use Rattle.clfs_base.specs.Spelling.{IsImage};
 ghost use Rattle.clfs_base.specs.Checks.{image_at};
 ghost use Rattle.clfs_base.specs.Slots.{slot_place, slot_of, front_of, newer_slot, slot_by, used_slot, copy_in, newest_of};
@@ -33,7 +32,7 @@ pub struct Front {
 pub fn read_newest<D: Disk>(alloc: Global, disk: &mut D) -> Result<(u32, BaseImage), NewestRefusal>
     ensures newest { TellsContents (D.state disk.old) → GivesNewest result (newest_of ((D.state disk.old).files 0)) }
     ensures slot { IfOk result (λ x. x.0 ≤ 1) }
-    ensures image { IfOk result (λ x. IsImage version_one x.1) }
+    ensures image { IfOk result (λ x. IsImage x.1) }
 
     ensures same { Unchanged (D.state disk.old).files (D.state disk.new).files }
     ensures time { Passes Unchanged (D.state disk.old) (D.state disk.new) }
@@ -75,10 +74,18 @@ fn read_front<D: Disk>(disk: &mut D, slot: u32) -> Result<Front, Failed>
 {
     let mut bytes = [0; 3];
     let count = disk.read(0, slot_place(slot), &mut bytes)?;
-    Ok(front_in(&bytes[..count]))
+    Ok(front_of_bytes(&bytes[..count]))
 }
 
-// What decides on a slot that begins with these bytes, as many of its first three as are there.
+/// What decides on a slot that begins with these bytes, as many of its first three as are there. More bytes of the slot say nothing
+/// more.
+pub fn front_of_bytes(bytes: &[u8]) -> Front
+    ensures exact { result ≡ front_of bytes.now 0 }
+    ensures in_file { (base : List ℕ) (slot n : ℕ) → 3 ≤ n → bytes.now ≡ take n (drop (slot_place slot) base) → result ≡ front_of base slot }
+{
+    front_in(bytes)
+}
+
 fn front_in(bytes: &[u8]) -> Front
     ensures { result ≡ front_of bytes.now 0 }
 {
@@ -89,8 +96,8 @@ fn front_in(bytes: &[u8]) -> Front
     }
 }
 
-// The slot that counts, by what decides on each.
-fn slot_by(first: &Front, second: &Front) -> Result<u32, NewestRefusal>
+/// The slot that counts, by what decides on each.
+pub fn slot_by(first: &Front, second: &Front) -> Result<u32, NewestRefusal>
     ensures exact { result ≡ slot_by first.now second.now }
     ensures slot { IfOk result (λ slot. slot ≤ 1) }
     ensures fine { IsErrOf result NewestRefusal.DiskFault → ⊥ }
@@ -147,9 +154,9 @@ fn read_slot<D: Disk>(alloc: Global, disk: &mut D, slot: u32) -> Result<Vec<u8>,
 
 // The image of a slot's bytes.
 fn decode_slot(alloc: Global, slot: u32, bytes: &[u8]) -> Result<(u32, BaseImage), NewestRefusal>
-    ensures newest { GivesNewest result (copy_in slot (image_at version_one bytes.now)) }
+    ensures newest { GivesNewest result (copy_in slot (image_at bytes.now)) }
     ensures slot { IfOk result (λ x. x.0 ≡ slot) }
-    ensures image { IfOk result (λ x. IsImage version_one x.1) }
+    ensures image { IfOk result (λ x. IsImage x.1) }
     ensures fine { IsErrOf result NewestRefusal.DiskFault → ⊥ }
 {
     match decode(alloc, bytes) {

@@ -76,6 +76,7 @@ pub fn numbers_of(bytes: &[u8]) -> Numbers
         minimum: number_2(bytes, 28),
         growth: number_2(bytes, 30),
         tail: number_8(bytes, 32),
+        dedicated: number_1(bytes, 40),
     }
 }
 

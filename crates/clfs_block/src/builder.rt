@@ -1,12 +1,12 @@
 // Building a block in memory that is taken once: a buffer with one block, from its first byte on. The gate of a sealed block is closed:
-// who writes the block opens it last, on the disk. The byte behind the block is a closed gate as well.
-ghost use Rattle.std.specs.Prelude.{◌≡◌, ◌+◌, ◌-◌, ◌*◌, ◌/◌, ◌%◌, ◌^◌, ◌<◌, ◌≤◌, ◌++◌, ◌∷◌, [], nat_le, ◌&&◌, nat_lt, ℕ, List, length, take, drop, replicate, slice_index, Some, None, IsSome, IfOk, vec_len, vec_capacity};
-ghost use Rattle.byteorder.specs.Endian.{little_bytes};
+// who writes the block opens it last, on the disk. The byte behind the block is a closed gate as well. The log makes its blocks in place and
+// calls nothing here: it is for other programs that write blocks.
+ghost use Rattle.std.specs.Prelude.{◌≡◌, ◌+◌, ◌-◌, ◌*◌, ◌/◌, ◌<◌, ◌≤◌, ◌++◌, ◌∷◌, [], nat_le, ◌&&◌, nat_lt, ℕ, List, length, drop, replicate, Some, None, IsSome, IfOk, vec_capacity};
 ghost use Rattle.clfs_lsn.specs.Format.{sector_bytes, sector_payload, block_header};
 ghost use Rattle.clfs_lsn.specs.Limits.{most_block_sectors, most_container_sectors, most_block_records};
 ghost use Rattle.clfs_lsn.specs.Lsn.{sequence_of, offset_of};
 ghost use Rattle.clfs_lsn.specs.Size.{IsShape, size, sectors};
-ghost use Rattle.clfs_block.specs.Frame.{place_of, payload_of, address, address_in, used_bytes, head_bytes, SpellsBlock};
+ghost use Rattle.clfs_block.specs.Frame.{place_of, payload_of, used_bytes, SpellsBlock};
 ghost use Rattle.clfs_block.specs.Building.{Building, fits, SealsAt};
 
 use crate::framing::{push_payload, seal_block};

@@ -1,6 +1,6 @@
 // Reading a block. The checks go from the first byte on, and the payload is filled before its
 // unused end is checked, so that a caller can judge the records first.
-ghost use Rattle.std.specs.Prelude.{◌≡◌, ◌⊎◌, ◌+◌, ◌-◌, ◌*◌, ◌/◌, ◌%◌, ◌^◌, ◌<◌, ◌≤◌, ◌++◌, ◌==◌, ◌||◌, ℕ, List, [], length, take, drop, slice_index, Some, None, IfOk, IfSome, OnOk, OnErr, Ok, Err, vec_capacity};
+ghost use Rattle.std.specs.Prelude.{◌≡◌, ◌⊎◌, ◌+◌, ◌-◌, ◌*◌, ◌/◌, ◌%◌, ◌^◌, ◌<◌, ◌≤◌, ◌++◌, ◌==◌, ◌||◌, ℕ, List, length, take, drop, slice_index, Some, None, IfOk, IfSome, OnOk, OnErr, Ok, Err};
 ghost use Rattle.std.specs.List.{list_all};
 ghost use Rattle.clfs_lsn.specs.Format.{sector_bytes, block_header, open_gate};
 ghost use Rattle.clfs_lsn.specs.Limits.{most_block_records};
@@ -18,7 +18,8 @@ use std::alloc::{AllocError, Global};
 use std::mem;
 
 /// The block at the front of bytes that are to hold one at this place, all checked but its records. Its used payload, of
-/// which the first 16 bytes are the header, takes the place of what `payload` held, before the bytes behind it are checked.
+/// which the first 16 bytes are the header, takes the place of what `payload` held, before the bytes behind it are checked. The log makes
+/// its parts one by one and doesn't call it: it is for other programs that read blocks.
 pub fn decode_block(
     alloc: Global,
     shape: &Shape,

@@ -30,6 +30,3 @@ const SECTOR: usize = clfs_lsn::SECTOR as usize;
 const PAYLOAD: usize = clfs_lsn::SECTOR_PAYLOAD as usize;
 
 const HEADER: usize = clfs_lsn::BLOCK_HEADER as usize;
-
-#[cfg(test)]
-mod tests;

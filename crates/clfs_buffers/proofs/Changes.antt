@@ -1,19 +1,17 @@
 -- What a change of the table of blocks leaves in it.
-use Rattle.std.proofs.Common.{◌≡◌, ◌≢◌, ◌⊎◌, inl, inr, ⊎_elim, ℕ, zero, suc, ◌+◌, ◌-◌, Bool, true, false, cond, eqb, not, List, [], ◌∷◌, length, take, Option, Some, None, refl, sym, ◌∙◌, ap, subst, arith}
-use Rattle.std.specs.Prelude.{find, Contains, IsSome}
-use Rattle.std.specs.Map.{keys_of, lookup, lookup_entry, remove_entry}
+use Rattle.std.proofs.Common.{◌≡◌, ◌⊎◌, inl, inr, ⊎_elim, ℕ, zero, suc, ◌-◌, Bool, true, false, cond, List, [], ◌∷◌, take, Option, Some, None, refl, sym, ◌∙◌, ap, subst, arith}
+use Rattle.std.specs.Prelude.{Contains, IsSome}
+use Rattle.std.specs.Map.{lookup, lookup_entry, remove_entry}
 use Rattle.std.specs.Option.{option_map_or}
 use Rattle.std.proofs.lemmas.Bool.Decides.{nat_tests}
-use Rattle.std.proofs.lemmas.Bool.{eq-eqb}
-use Rattle.std.proofs.lemmas.Map.Entries.{lookup-filter-keys}
-use Rattle.std.proofs.lemmas.List.Elements.{All-contains, All-contains_itself, All-filter, Contains-append_cases, Contains-push_cases}
+use Rattle.std.proofs.lemmas.List.Elements.{Contains-append_cases, Contains-push_cases}
 use Rattle.lru.specs.LruCache.{LruCache, lru_cache, promoted, put_entries}
 use Rattle.lru.proofs.CallerLemmas.{Contains-take, Contains-lookup_entry, Contains-lookup, Contains-promoted}
 use Rattle.clfs_lsn.specs.declared.entry.LogEntry.{LogEntry}
 use Rattle.clfs_buffers.specs.declared.place.BlockPlace.{BlockPlace}
 use Rattle.clfs_buffers.specs.Reading.{first_lsn}
 use Rattle.clfs_buffers.specs.Kept.{HaveLsns}
-use Rattle.clfs_buffers.specs.Buffered.{Buffered, most_blocks, is_same_place, kept_at, with_used, with_block, without_container, IsBuffered}
+use Rattle.clfs_buffers.specs.Buffered.{Buffered, most_blocks, is_same_place, kept_at, with_used, with_block, IsBuffered}
 
 -- where nothing is found, no entry is there
 pub no_entry : {K V : Type 0} (test : K → Bool) (es : List (K × V)) → lookup test es ≡ None → lookup_entry test es ≡ None
@@ -31,58 +29,6 @@ put_first eq c k v e = ap (λ o. option_map_or (λ x. (x.0, v) ∷ remove_entry 
 -- a place is its own
 pub same_place : (place : BlockPlace) → is_same_place place place ≡ true
 same_place place = grind (arith, nat_tests)
-
--- places in two containers are two
-other_place : (a b : BlockPlace) (container : ℕ) → eqb a.container container ≡ true → eqb b.container container ≡ false → is_same_place a b ≡ false
-other_place a b container p q = grind (arith, nat_tests)
-
-module _ (container : ℕ) where
-  abbrev is_in : BlockPlace → Bool
-  is_in place = eqb place.container container
-
-  -- what is found passes
-  found_in : (places : List BlockPlace) (place : BlockPlace) → find is_in places ≡ Some place → is_in place ≡ true
-  found_in [] place e = absurd (cc e)
-  found_in (x ∷ places) place e = (elim (is_in x) as (λ b. is_in x ≡ b → cond b (Some x) (find is_in places) ≡ Some place → is_in place ≡ true) [
-    | true ↦ λ b h. let same : x ≡ place = cc h in ap is_in (sym same) ∙ b
-    | false ↦ λ b h. found_in places place h
-  ]) refl e
-
-  -- the others stay where one of the container's goes
-  pub forgot_one : (es : Buffered) (place : BlockPlace) → find is_in (keys_of es) ≡ Some place
-      → without_container container (remove_entry (is_same_place place) es) ≡ without_container container es
-  forgot_one [] place e = absurd (cc e)
-  forgot_one (x ∷ es) place e = (elim (is_in x.0) as (λ b. is_in x.0 ≡ b → cond b (Some x.0) (find is_in (keys_of es)) ≡ Some place
-      → without_container container (remove_entry (is_same_place place) (x ∷ es)) ≡ without_container container (x ∷ es)) [
-        | true ↦ λ b h. let same : x.0 ≡ place = cc h in
-            let gone : is_same_place place x.0 ≡ true = ap (is_same_place place) same ∙ same_place place in
-            rw (gone, b) refl
-        | false ↦ λ b h. let stays = other_place place x.0 container (found_in (keys_of es) place h) b in
-            rw (stays, b) (ap (λ (l : Buffered). x ∷ l) (forgot_one es place h))
-      ]) refl e
-
-  -- and there is one fewer
-  pub one_fewer : (es : Buffered) (place : BlockPlace) → find is_in (keys_of es) ≡ Some place
-      → length (remove_entry (is_same_place place) es) + 1 ≡ length es
-  one_fewer [] place e = absurd (cc e)
-  one_fewer (x ∷ es) place e = (elim (is_in x.0) as (λ b. is_in x.0 ≡ b → cond b (Some x.0) (find is_in (keys_of es)) ≡ Some place
-      → length (remove_entry (is_same_place place) (x ∷ es)) + 1 ≡ length (x ∷ es)) [
-        | true ↦ λ b h. let same : x.0 ≡ place = cc h in
-            let gone : is_same_place place x.0 ≡ true = ap (is_same_place place) same ∙ same_place place in
-            rw gone (omega arith)
-        | false ↦ λ b h. let stays = other_place place x.0 container (found_in (keys_of es) place h) b in
-            let fewer = one_fewer es place h in
-            rw stays (omega (arith, fewer))
-      ]) refl e
-
-  -- where none is found, none goes
-  pub none_goes : (es : Buffered) → find is_in (keys_of es) ≡ None → without_container container es ≡ es
-  none_goes [] e = refl
-  none_goes (x ∷ es) e = (elim (is_in x.0) as (λ b. is_in x.0 ≡ b → cond b (Some x.0) (find is_in (keys_of es)) ≡ None
-      → without_container container (x ∷ es) ≡ x ∷ es) [
-        | true ↦ λ b h. absurd (cc h)
-        | false ↦ λ b h. rw b (ap (λ (l : Buffered). x ∷ l) (none_goes es h))
-      ]) refl e
 
 -- a test of places passes for one place alone
 pub one_place : (a b : BlockPlace) → is_same_place a b ≡ true → a ≡ b
@@ -141,16 +87,6 @@ pub joined_is : (table new : LruCache BlockPlace (List LogEntry)) (now : Buffere
     → new.entries ≡ with_block meant block now
 joined_is table new now place meant block room same is change =
     ap (λ (t : LruCache BlockPlace (List LogEntry)). t.entries) change ∙ (λ i. (is i, block) ∷ take (room i - 1) (same i))
-
--- and so it is without some
-pub forgotten_stays : (table new : LruCache BlockPlace (List LogEntry)) (container : ℕ) → IsBuffered table
-    → new ≡ lru_cache (without_container container table.entries) table.cap → IsBuffered new
-forgotten_stays table new container is change = subst IsBuffered (sym change) (record {
-  room = is.room;
-  lsns = λ p records has. is.lsns p records (All-contains (Contains table.entries) (without_container container table.entries) (p, records)
-      (All-filter (λ (block : BlockPlace × List LogEntry). not (eqb block.0.container container)) (Contains table.entries) table.entries
-      (All-contains_itself table.entries)) has);
-})
 
 -- ---- what is kept of a place after a change
 
@@ -213,20 +149,3 @@ module _ (other place : BlockPlace) where
 -- a block that is added is kept
 pub added_is_kept : (blocks : Buffered) (place : BlockPlace) (records : List LogEntry) → kept_at place (with_block place records blocks) ≡ Some records
 added_is_kept blocks place records = rw (same_place place) refl
-
--- what is kept without a container's blocks is of another one, and was kept before
-pub forgotten_or_before : (blocks : Buffered) (container : ℕ) (other : BlockPlace) (found : List LogEntry) → kept_at other (without_container container blocks) ≡ Some found
-    → (other.container ≢ container) × (kept_at other blocks ≡ Some found)
-forgotten_or_before blocks container other found e = (elim (eqb other.container container) as (λ b. eqb other.container container ≡ b
-    → (other.container ≢ container) × (kept_at other blocks ≡ Some found)) [
-      | true ↦ λ b. let none = filtered false (λ k t. ap (λ (p : BlockPlace). not (eqb p.container container)) (sym (one_place other k t)) ∙ ap not b) in
-          let clash = sym e ∙ none in absurd (cc clash)
-      | false ↦ λ b. (
-        λ same. let is : eqb other.container container ≡ true = eq-eqb other.container container same in let clash = sym is ∙ b in cc clash,
-        sym (filtered true (λ k t. ap (λ (p : BlockPlace). not (eqb p.container container)) (sym (one_place other k t)) ∙ ap not b)) ∙ e,
-      )
-    ]) refl
-  where
-    filtered : (b : Bool) → ((k : BlockPlace) → is_same_place other k ≡ true → not (eqb k.container container) ≡ b)
-        → kept_at other (without_container container blocks) ≡ cond b (kept_at other blocks) None
-    filtered b answers = lookup-filter-keys (is_same_place other) (λ (p : BlockPlace). not (eqb p.container container)) b answers blocks

@@ -1,5 +1,5 @@
 -- The blocks that are kept: where each lies and the records that were read there, the one used last first.
-use Rattle.std.specs.Prelude.{◌≡◌, ℕ, ◌-◌, ◌==◌, ◌&&◌, Bool, not, List, ◌∷◌, take, filter, Contains, Option, Ok}
+use Rattle.std.specs.Prelude.{◌≡◌, ℕ, ◌-◌, ◌==◌, ◌&&◌, Bool, List, ◌∷◌, take, Contains, Option, Ok}
 use Rattle.std.specs.Map.{lookup}
 use Rattle.lru.specs.LruCache.{LruCache, promoted}
 use Rattle.clfs_lsn.specs.declared.entry.LogEntry.{LogEntry}
@@ -32,10 +32,6 @@ with_used place blocks = promoted (is_same_place place) blocks
 -- another block is kept, and where there are too many, the one that wasn't used for longest goes
 abbrev pub with_block : BlockPlace → List LogEntry → Buffered → Buffered
 with_block place records blocks = (place, records) ∷ take (most_blocks - 1) blocks
-
--- no block of a container is kept
-abbrev pub without_container : ℕ → Buffered → Buffered
-without_container container blocks = filter (λ (block : BlockPlace × List LogEntry). not (block.0.container == container)) blocks
 
 -- Bytes were read of a place, and these are the records of the block in them, in a log of this shape and of so many streams.
 pub record IsRead (shape : Shape) (streams : ℕ) (place : BlockPlace) (records : List LogEntry) : Type 0 where

@@ -1,7 +1,7 @@
 -- One block that is kept: its used payload, and the bytes of that at which its records begin.
-use Rattle.std.specs.Prelude.{◌≡◌, ℕ, ◌+◌, ◌<◌, ◌≤◌, ◌^◌, List, [], ◌∷◌, length, drop, slice_get, Some, Result, Ok, Err}
-use Rattle.clfs_lsn.specs.Format.{record_header}
-use Rattle.clfs_lsn.specs.Limits.{most_block_records}
+use Rattle.std.specs.Prelude.{◌≡◌, ℕ, ◌+◌, ◌*◌, ◌<◌, ◌≤◌, ◌^◌, List, [], ◌∷◌, length, drop, slice_get, Some, Result, Ok, Err}
+use Rattle.clfs_lsn.specs.Format.{sector_payload, block_header, record_header}
+use Rattle.clfs_lsn.specs.Limits.{most_block_records, most_block_sectors}
 use Rattle.clfs_lsn.specs.Spelling.{record_at, entry_of}
 use Rattle.clfs_lsn.specs.declared.entry.LogEntry.{LogEntry}
 use Rattle.clfs_block.specs.declared.head.BlockRefusal.{BlockRefusal}
@@ -16,10 +16,11 @@ abbrev pub records_at : List ℕ → ℕ → List ℕ → List LogEntry
 records_at payload lsn [] = []
 records_at payload lsn (at ∷ starts) = entry_of lsn (drop at payload) ∷ records_at payload (lsn + 1) starts
 
--- a record begins at this byte, in a log of so many streams
+-- a record begins at this byte behind the header, in a log of so many streams
 pub record IsStart (streams : ℕ) (payload : List ℕ) (lsn at : ℕ) : Type 0 where
   pub size : ℕ
   pub is : record_at lsn streams (drop at payload) ≡ Ok (entry_of lsn (drop at payload), size)
+  pub behind : block_header ≤ at
   pub within : at + record_header ≤ length payload
 
 -- records begin at these bytes, the first of them at this LSN
@@ -27,12 +28,12 @@ abbrev pub AreStarts : ℕ → List ℕ → ℕ → List ℕ → Type 0
 AreStarts streams payload lsn [] = Unit {0}
 AreStarts streams payload lsn (at ∷ starts) = IsStart streams payload lsn at × AreStarts streams payload (lsn + 1) starts
 
--- What is kept of a block: at each of the bytes a record begins, and all have LSNs of the block's.
+-- What is kept of a block: at each of the bytes a record begins, and all have LSNs of the block's. The payload is that of a largest block at most.
 pub record IsKept (place : BlockPlace) (streams : ℕ) (payload starts : List ℕ) : Type 0 where
   pub records : AreStarts streams payload (first_lsn place) starts
   pub few : length starts ≤ most_block_records
   pub low : place.offset + most_block_records < 2 ^ 32
-  pub long : length payload < 2 ^ 32
+  pub long : length payload ≤ sector_payload * most_block_sectors
 
 -- these records lie one behind the other from an LSN on
 abbrev pub HaveLsns : ℕ → List LogEntry → Type 0

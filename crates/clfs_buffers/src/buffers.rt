@@ -1,15 +1,15 @@
 // The blocks that are kept, by their places. The memory of a block that goes serves the next one that is read, and that of the bytes as the
 // disk gives them serves all reads.
-ghost use Rattle.std.specs.Prelude.{◌≡◌, ◌-◌, ◌≤◌, ◌==◌, ◌∷◌, List, [], drop, take, find, None, Some, Ok, IsSome, IfOk, OnOk, OnErr, IsErrOf};
-ghost use Rattle.std.specs.Map.{keys_of, lookup};
+ghost use Rattle.std.specs.Prelude.{◌≡◌, ◌-◌, ◌≤◌, ◌∷◌, List, [], length, drop, take, None, Some, Ok, IsSome, IfOk, OnOk, OnErr, IsErrOf};
+ghost use Rattle.std.specs.Map.{lookup};
 ghost use Rattle.lru.specs.LruCache.{lru_cache};
 ghost use Rattle.clfs_lsn.specs.Lsn.{offset_of};
-ghost use Rattle.clfs_lsn.specs.Size.{IsShape};
+ghost use Rattle.clfs_lsn.specs.Size.{IsShape, most_data};
 ghost use Rattle.clfs_lsn.specs.declared.entry.LogEntry.{LogEntry};
 ghost use Rattle.clfs_disk.specs.Files.{Unchanged};
 ghost use Rattle.clfs_disk.specs.State.{TellsContents, IsSteady, Passes, Rises, raised};
 ghost use Rattle.clfs_buffers.specs.Reading.{block_place, record_in, record_by, Gives};
-ghost use Rattle.clfs_buffers.specs.Buffered.{is_same_place, kept_at, with_used, without_container, IsAdded};
+ghost use Rattle.clfs_buffers.specs.Buffered.{is_same_place, kept_at, with_used, IsAdded};
 
 use crate::kept::KeptBlock;
 use crate::place::BlockPlace;
@@ -89,6 +89,7 @@ impl Buffers {
         // After a refusal the blocks that are kept are as before.
         ensures refused { OnErr result (self.new ≡ self.old) }
         ensures lsn { IfOk result (λ entry. entry.lsn ≡ lsn) }
+        ensures small { IfOk result (λ entry. length entry.bytes ≤ most_data) }
         ensures same { Unchanged (D.state disk.old).files (D.state disk.new).files }
         ensures time { Passes Unchanged (D.state disk.old) (D.state disk.new) }
         ensures calls { kept_at (block_place lsn) self.old ≡ None → OnOk result ((D.state disk.new).calls ≡ raised 1 (D.state disk.old).calls) }
@@ -117,39 +118,6 @@ impl Buffers {
         let entry = block.entry(self.alloc, lsn.sequence())?;
         keep(&mut self.table, place, block, &mut self.spare)?;
         Ok(entry)
-    }
-
-    /// Forgets the blocks of a container, whose file is taken for another. It takes no memory.
-    pub fn forget_container(&mut self, container: u32)
-        ensures { self.new ≡ without_container container self.old }
-    {
-        forget_blocks(&mut self.table, container);
-    }
-
-    /// Forgets all blocks, for a log that is opened anew. It takes no memory.
-    pub fn clear(&mut self)
-        ensures { self.new ≡ [] }
-    {
-        self.table.clear();
-    }
-}
-
-// The place of a block of a container, if one is kept.
-fn place_in(table: &LruCache<BlockPlace, KeptBlock>, container: u32) -> Option<BlockPlace>
-    ensures { result ≡ find (λ (place : BlockPlace). place.container == container) (keys_of table.now.entries) }
-{
-    table
-        .iter()
-        .map(|(place, _)| *place)
-        .find(|place| place.container == container)
-}
-
-// Forgets the blocks of a container.
-fn forget_blocks(table: &mut LruCache<BlockPlace, KeptBlock>, container: u32)
-    ensures { table.new ≡ lru_cache (without_container container table.old.entries) table.old.cap }
-{
-    while let Some(place) = place_in(table, container) {
-        table.pop(&place);
     }
 }
 

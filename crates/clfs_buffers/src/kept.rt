@@ -1,9 +1,9 @@
 // One block that is kept: its used payload, in which each record stands in one piece, and the bytes at which the records begin. So a
 // record is found at once, wherever in the block it stands, and its data is copied once.
-ghost use Rattle.std.specs.Prelude.{◌≡◌, ◌+◌, ◌^◌, ◌<◌, [], slice_get, IfOk, IsErrOf};
+ghost use Rattle.std.specs.Prelude.{◌≡◌, ◌+◌, ◌^◌, ◌<◌, ◌≤◌, [], length, slice_get, IfOk, IsErrOf};
 ghost use Rattle.std.specs.Option.{ok_or};
 ghost use Rattle.clfs_lsn.specs.Limits.{most_block_records};
-ghost use Rattle.clfs_lsn.specs.Size.{IsShape};
+ghost use Rattle.clfs_lsn.specs.Size.{IsShape, most_data};
 ghost use Rattle.clfs_block.specs.Records.{block_records};
 ghost use Rattle.clfs_buffers.specs.Reading.{first_lsn, Gives};
 ghost use Rattle.clfs_buffers.specs.Kept.{HaveLsns, GivesRecords};
@@ -101,6 +101,7 @@ impl KeptBlock {
     pub fn entry(&self, alloc: Global, sequence: u32) -> Result<LogEntry, ReadRefusal>
         ensures exact { Gives result (ok_or (slice_get self.now sequence) 4) }
         ensures no_fault { IsErrOf result ReadRefusal.DiskFault → ⊥ }
+        ensures small { IfOk result (λ entry. length entry.bytes ≤ most_data) }
     {
         let place = self.place;
         if self.starts.len() <= sequence as usize {

@@ -5,8 +5,8 @@
 //! other records of it cost no call. Where 32 are kept, the one that wasn't used for longest goes.
 //!
 //! What is on the disk below the end of what was flushed doesn't change while a log is open, but for files that are taken for another
-//! container. So a block that is kept stays what the disk has there as long as no container gets the id of an earlier one, or whoever gives it
-//! says so: `forget_container`. Nothing here is written, so there is nothing of it that a crash could leave.
+//! container. So a block that is kept stays what the disk has there, as long as no container gets the id of an earlier one. Nothing here
+//! is written, so there is nothing of it that a crash could leave.
 #![tactic(auto)]
 
 mod buffers;
@@ -21,6 +21,3 @@ pub use buffers::Buffers;
 pub use laws::changes_keep_blocks;
 pub use place::BlockPlace;
 pub use refusal::ReadRefusal;
-
-#[cfg(test)]
-mod tests;

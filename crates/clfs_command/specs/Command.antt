@@ -1,6 +1,6 @@
 -- The command that the words behind FOLDER name: what clap finds in them, with numbers that a log can have.
-use Rattle.std.specs.Prelude.{ℕ, Bool, ◌&&◌, ◌*◌, ◌≤◌, nat_le, if◌then◌else◌, List, codes, Option, Some, None}
-use Rattle.std.specs.Option.{option_and_then}
+use Rattle.std.specs.Prelude.{ℕ, Bool, ◌&&◌, ◌*◌, ◌≤◌, nat_le, false, if◌then◌else◌, List, codes, Option, Some, None}
+use Rattle.std.specs.Option.{option_and_then, option_map_or}
 use Rattle.std.specs.Str.{bytes_eq}
 use Rattle.clap.specs.Walk.{Row, Text, first_of, is_empty}
 use Rattle.clap.specs.Simple.{subcommand_of}
@@ -10,11 +10,19 @@ use Rattle.clfs_lsn.specs.Size.{IsShape}
 use Rattle.clfs_lsn.specs.Words.{decimal_number}
 use Rattle.clfs_command.specs.Line.{command_line}
 use Rattle.clfs_command.specs.declared.words.Command.{Command}
-use Rattle.clfs_command.specs.declared.words.Command.TheVariants.{Format, Serve}
+use Rattle.clfs_command.specs.declared.words.Command.TheVariants.{Format, Serve, Trial}
 
 -- the decimal number of 32 bits that an option has, without a sign or a leading zero
 abbrev pub number_of : Text → List Row → Option ℕ
 number_of name options = option_and_then (decimal_number 4294967295) (first_of name options)
+
+-- whether an option without a value is there: clap reads it as `true` or `false`
+abbrev pub is_set : Text → List Row → Bool
+is_set name options = option_map_or (λ text. bytes_eq text (codes "true")) (first_of name options) false
+
+-- the most lines of a trial
+abbrev pub most_trial_lines : ℕ
+most_trial_lines = 100000
 
 -- the sizes that a log can have: its blocks, two of which fit into a container, and its containers
 abbrev pub is_size : ℕ → ℕ → ℕ → Bool
@@ -22,24 +30,31 @@ is_size block container containers =
     nat_le 1 block && nat_le block most_block_sectors && nat_le (2 * block) container && nat_le container most_container_sectors
     && nat_le 1 containers && nat_le containers most_containers
 
--- making a log of these sizes, where a log can have them
-abbrev pub format_of : Option ℕ → Option ℕ → Option ℕ → Option Command
-format_of (Some block) (Some container) (Some containers) =
+-- making a log of these sizes, dedicated or not, if a log can have them
+abbrev pub format_of : Option ℕ → Option ℕ → Option ℕ → Bool → Option Command
+format_of (Some block) (Some container) (Some containers) dedicated =
     if is_size block container containers
-    then Some (Format (record { block_sectors = block; container_sectors = container }) containers) else None
-format_of _ _ _ = None
+    then Some (Format (record { block_sectors = block; container_sectors = container }) containers dedicated) else None
+format_of _ _ _ dedicated = None
 
 -- serving with so many write buffers, where a log can have them
 abbrev pub serve_of : Option ℕ → Option Command
 serve_of (Some buffers) = if nat_le 1 buffers && nat_le buffers most_write_buffers then Some (Serve buffers) else None
 serve_of None = None
 
+-- a trial of this number with so many lines, if it can have them
+abbrev pub trial_of : Option ℕ → Option ℕ → Option Command
+trial_of (Some number) (Some count) = if nat_le 1 count && nat_le count most_trial_lines then Some (Trial number count) else None
+trial_of _ _ = None
+
 -- the command that a subcommand and its options stand for
 abbrev pub with_options : Text × List Row → Option Command
 with_options (name, options) =
     if bytes_eq name (codes "format")
     then format_of (number_of (codes "block-sectors") options) (number_of (codes "container-sectors") options) (number_of (codes "containers") options)
-    else if bytes_eq name (codes "serve") then serve_of (number_of (codes "write-buffers") options) else None
+    (is_set (codes "dedicated") options)
+    else if bytes_eq name (codes "serve") then serve_of (number_of (codes "write-buffers") options)
+    else if bytes_eq name (codes "trial") then trial_of (number_of (codes "NUMBER") options) (number_of (codes "COUNT") options) else None
 
 -- The command that words name. They name none where clap finds a fault in them, or a number isn't one that a log can have.
 abbrev pub command_of : List Text → Option Command
@@ -47,5 +62,6 @@ command_of words = if is_empty (fault_of command_line words) then option_and_the
 
 -- the numbers of a command are such
 abbrev pub HasItsRanges : Command → Type 0
-HasItsRanges (Format shape containers) = IsShape shape × (1 ≤ containers) × (containers ≤ most_containers)
+HasItsRanges (Format shape containers dedicated) = IsShape shape × (1 ≤ containers) × (containers ≤ most_containers)
 HasItsRanges (Serve buffers) = (1 ≤ buffers) × (buffers ≤ most_write_buffers)
+HasItsRanges (Trial number count) = (1 ≤ count) × (count ≤ most_trial_lines)

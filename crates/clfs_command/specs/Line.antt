@@ -1,8 +1,9 @@
--- The program's command line behind FOLDER, as clap reads it: one command whose subcommands have options with a value each. There is no help
--- among the words that it takes.
+-- The program's command line behind FOLDER, as clap reads it: one command whose subcommands have options, with a value or none, and words of their
+-- own. There is no help among the words that it takes.
 use Rattle.std.specs.Prelude.{true, [], ◌∷◌, codes, Some}
 use Rattle.clap.specs.Simple.{App, on_top, new_app, new_rule, with_rule, with_subcommand}
 use Rattle.clap.specs.Walk.{Rule, Text}
+use Rattle.clap.specs.declared.builder.action.ArgAction.TheVariants.{SetTrue}
 
 -- the option `--name`, which has one value
 abbrev pub option : Text → Rule
@@ -16,21 +17,33 @@ needed name = record (option name) { required = true }
 abbrev pub with_default : Text → Text → Rule
 with_default name value = record (option name) { defaults = value ∷ [] }
 
+-- the option `--name`, which has no value
+abbrev pub flag : Text → Rule
+flag name = record (new_rule name) { long = Some name; action = Some SetTrue }
+
+-- a word that has to be there; words are taken in the order in which a command has them
+abbrev pub word : Text → Rule
+word name = record (new_rule name) { required = true }
+
 -- a command of this name that no word asks for help
 abbrev pub command_named : Text → App
 command_named name = on_top (λ s. record s { disable_help_flag = true }) (new_app name)
 
--- `format --block-sectors B --container-sectors S --containers N`
+-- `format --block-sectors B --container-sectors S --containers N [--dedicated]`
 abbrev pub format_line : App
-format_line = with_rule (with_rule (with_rule (command_named (codes "format")) (needed (codes "block-sectors"))) (needed (codes "container-sectors")))
-    (needed (codes "containers"))
+format_line = with_rule (with_rule (with_rule (with_rule (command_named (codes "format")) (needed (codes "block-sectors")))
+    (needed (codes "container-sectors"))) (needed (codes "containers"))) (flag (codes "dedicated"))
 
 -- `serve [--write-buffers W]`
 abbrev pub serve_line : App
 serve_line = with_rule (command_named (codes "serve")) (with_default (codes "write-buffers") (codes "4"))
 
+-- `trial NUMBER COUNT`
+abbrev pub trial_line : App
+trial_line = with_rule (with_rule (command_named (codes "trial")) (word (codes "NUMBER"))) (word (codes "COUNT"))
+
 -- the words behind FOLDER, of which the first names the subcommand
 abbrev pub command_line : App
-command_line = with_subcommand (with_subcommand (on_top
+command_line = with_subcommand (with_subcommand (with_subcommand (on_top
     (λ s. record s { no_binary_name = true; disable_help_subcommand = true; subcommand_required = true }) (command_named (codes "clfs")))
-    format_line.top) serve_line.top
+    format_line.top) serve_line.top) trial_line.top

@@ -1,5 +1,5 @@
 // What `clfs --help` prints: the commands, and the options of each.
-use crate::line::{command_line, format_line, serve_line};
+use crate::line::{command_line, format_line, serve_line, trial_line};
 use std::alloc::{AllocError, Global};
 
 // How the program is called.
@@ -18,7 +18,10 @@ pub fn help_text(alloc: Global) -> Result<String, AllocError> {
     let serve = serve_line(alloc)?
         .bin_name("clfs FOLDER serve")?
         .render_help()?;
-    for part in [&format, &serve] {
+    let trial = trial_line(alloc)?
+        .bin_name("clfs FOLDER trial")?
+        .render_help()?;
+    for part in [&format, &serve, &trial] {
         text.push('\n')?;
         text.push_str(part.as_str())?;
     }

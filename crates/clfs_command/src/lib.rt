@@ -11,6 +11,3 @@ mod words;
 
 pub use help::help_text;
 pub use words::{Command, WordsRefusal, read_command};
-
-#[cfg(test)]
-mod tests;

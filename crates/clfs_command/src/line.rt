@@ -1,9 +1,9 @@
 // The command line behind FOLDER, as clap takes it.
 ghost use Rattle.std.specs.Prelude.{◌≡◌, IfOk, false};
 ghost use Rattle.clap.specs.Words.{app_of, rule_of};
-ghost use Rattle.clfs_command.specs.Line.{option, needed, with_default, command_named, format_line, serve_line, command_line};
+ghost use Rattle.clfs_command.specs.Line.{option, needed, with_default, flag, word, command_named, format_line, serve_line, trial_line, command_line};
 
-use clap::{Arg, Command};
+use clap::{Arg, ArgAction, Command};
 use std::alloc::{AllocError, Global};
 
 // A command that takes no word that asks for help: the help is the program's own.
@@ -34,6 +34,25 @@ fn needed<'a>(alloc: Global, name: &'a str, value: &'a str, help: &'a str) -> Ar
     option(alloc, name, value, help).required(true)
 }
 
+// The flag `--name`, which has no value.
+fn flag<'a>(alloc: Global, name: &'a str, help: &'a str) -> Arg<'a>
+    ensures rule { rule_of result ≡ flag name.entry.now }
+    ensures local { result.global ≡ false }
+{
+    Arg::new(alloc, name)
+        .long(name)
+        .help(help)
+        .action(ArgAction::SetTrue)
+}
+
+// A word that has to be there, after those that come before it.
+fn word<'a>(alloc: Global, name: &'a str, help: &'a str) -> Arg<'a>
+    ensures rule { rule_of result ≡ word name.entry.now }
+    ensures local { result.global ≡ false }
+{
+    Arg::new(alloc, name).help(help).required(true)
+}
+
 /// The line of `format`.
 pub fn format_line<'a>(alloc: Global) -> Result<Command<'a>, AllocError>
     ensures { IfOk result (λ r. app_of r ≡ format_line) }
@@ -41,10 +60,12 @@ pub fn format_line<'a>(alloc: Global) -> Result<Command<'a>, AllocError>
     let block = "Sectors of the largest block, 1 to 128; a sector has 512 bytes";
     let container = "Sectors of a container, twice B to 16384";
     let containers = "Containers of the log, 1 to 256";
+    let dedicated = "Makes a log that has one stream";
     command_named(alloc, "format", "Makes a log in FOLDER")
         .arg(needed(alloc, "block-sectors", "B", block))?
         .arg(needed(alloc, "container-sectors", "S", container))?
-        .arg(needed(alloc, "containers", "N", containers))
+        .arg(needed(alloc, "containers", "N", containers))?
+        .arg(flag(alloc, "dedicated", dedicated))
 }
 
 /// The line of `serve`.
@@ -55,6 +76,19 @@ pub fn serve_line<'a>(alloc: Global) -> Result<Command<'a>, AllocError>
     let help = "Full blocks that may wait before all are written, 1 to 64";
     let buffers = option(alloc, "write-buffers", "W", help).default_value("4");
     command_named(alloc, "serve", about).arg(buffers)
+}
+
+/// The line of `trial`.
+pub fn trial_line<'a>(alloc: Global) -> Result<Command<'a>, AllocError>
+    ensures { IfOk result (λ r. app_of r ≡ trial_line) }
+{
+    let about =
+        "Answers lines that are made of a number, over a log in memory, and prints their sums";
+    let number = "The number, 0 to 4294967295";
+    let count = "How many lines are made, 1 to 100000";
+    command_named(alloc, "trial", about)
+        .arg(word(alloc, "NUMBER", number))?
+        .arg(word(alloc, "COUNT", count))
 }
 
 /// All of the line, of which the first word names the subcommand.
@@ -68,5 +102,6 @@ pub fn command_line<'a>(alloc: Global) -> Result<Command<'a>, AllocError>
         .disable_help_subcommand(true)
         .subcommand_required(true)
         .subcommand(format_line(alloc)?)?
-        .subcommand(serve_line(alloc)?)
+        .subcommand(serve_line(alloc)?)?
+        .subcommand(trial_line(alloc)?)
 }

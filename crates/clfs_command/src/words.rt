@@ -4,7 +4,7 @@ ghost use Rattle.std.specs.Option.{option_and_then};
 ghost use Rattle.std.specs.String.{string_bytes};
 ghost use Rattle.clap.specs.Words.{rows_of, found_of, subcommand_rows_of};
 ghost use Rattle.clfs_lsn.specs.Limits.{most_containers, most_write_buffers};
-ghost use Rattle.clfs_command.specs.Command.{number_of, is_size, format_of, serve_of, with_options, command_of, HasItsRanges};
+ghost use Rattle.clfs_command.specs.Command.{number_of, is_set, is_size, format_of, serve_of, trial_of, with_options, command_of, HasItsRanges};
 
 use crate::line::command_line;
 use clap::ArgMatches;
@@ -23,11 +23,20 @@ pub enum Command {
         shape: Shape,
         /// How many containers it has, 1 to 256.
         containers: u32,
+        /// Whether it has one stream alone.
+        dedicated: bool,
     },
     /// To answer a script.
     Serve {
         /// The write buffers of the log, 1 to 64.
         write_buffers: u32,
+    },
+    /// To answer generated lines over a log in memory.
+    Trial {
+        /// The number that the lines are made of.
+        number: u32,
+        /// How many lines come after those that open the streams, 1 to 100,000.
+        count: u32,
     },
 }
 
@@ -61,6 +70,9 @@ const MOST_CONTAINER_SECTORS: u32 = 16384;
 // The most write buffers of a log.
 const MOST_WRITE_BUFFERS: u32 = 64;
 
+// The most lines of a trial.
+const MOST_TRIAL_LINES: u32 = 100000;
+
 fn is_size(block: u32, container: u32, containers: u32) -> bool
     ensures { result ≡ is_size block container containers }
 {
@@ -70,15 +82,30 @@ fn is_size(block: u32, container: u32, containers: u32) -> bool
         && (1..=MOST_CONTAINERS as u32).contains(&containers)
 }
 
-// The number that an option has.
+// Whether an option without a value is there.
+fn is_set(name: &str, options: &ArgMatches) -> bool
+    ensures { result ≡ is_set name.now (rows_of (found_of options.now)) }
+{
+    match options.get_str(name) {
+        Some(text) => text == "true",
+        None => false,
+    }
+}
+
+// The number that an option or a word has.
 fn number_of(name: &str, options: &ArgMatches) -> Option<u32>
     ensures { result ≡ number_of name.now (rows_of (found_of options.now)) }
 {
     decimal_number(u32::MAX, options.get_str(name)?.as_bytes())
 }
 
-fn format_of(block: Option<u32>, container: Option<u32>, containers: Option<u32>) -> Option<Command>
-    ensures command { result ≡ format_of block container containers }
+fn format_of(
+    block: Option<u32>,
+    container: Option<u32>,
+    containers: Option<u32>,
+    dedicated: bool,
+) -> Option<Command>
+    ensures command { result ≡ format_of block container containers dedicated }
     ensures ranges { IfSome result HasItsRanges }
 {
     let block_sectors = block?;
@@ -93,6 +120,7 @@ fn format_of(block: Option<u32>, container: Option<u32>, containers: Option<u32>
             container_sectors,
         },
         containers,
+        dedicated,
     })
 }
 
@@ -107,6 +135,18 @@ fn serve_of(write_buffers: Option<u32>) -> Option<Command>
     Some(Command::Serve { write_buffers })
 }
 
+fn trial_of(number: Option<u32>, count: Option<u32>) -> Option<Command>
+    ensures command { result ≡ trial_of number count }
+    ensures ranges { IfSome result HasItsRanges }
+{
+    let number = number?;
+    let count = count?;
+    if !(1..=MOST_TRIAL_LINES).contains(&count) {
+        return None;
+    }
+    Some(Command::Trial { number, count })
+}
+
 // The command that a subcommand and its options stand for.
 fn with_options(name: &str, options: &ArgMatches) -> Option<Command>
     ensures command { result ≡ with_options (name.now, rows_of (found_of options.now)) }
@@ -117,8 +157,10 @@ fn with_options(name: &str, options: &ArgMatches) -> Option<Command>
             number_of("block-sectors", options),
             number_of("container-sectors", options),
             number_of("containers", options),
+            is_set("dedicated", options),
         ),
         "serve" => serve_of(number_of("write-buffers", options)),
+        "trial" => trial_of(number_of("NUMBER", options), number_of("COUNT", options)),
         _ => None,
     }
 }

@@ -90,8 +90,3 @@ pub fn open_blocks_are_one_list()
     ensures whole { (sectors : ℕ) (bytes : List ℕ) (blocks : List (List ℕ)) → AreWhole sectors bytes blocks → AreOpen sectors bytes blocks }
     ensures empty { (sectors : ℕ) (blocks : List (List ℕ)) → 0 < sectors → AreWhole sectors [] blocks → ⊥ }
 {}
-
-#[cfg(test)]
-mod disk_tests;
-#[cfg(test)]
-mod tests;

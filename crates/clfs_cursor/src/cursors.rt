@@ -64,15 +64,6 @@ impl Cursors {
         free(&mut self.slots, row.as_slice());
     }
 
-    /// All areas go with their cursors. It takes no memory.
-    pub fn clear(&mut self)
-        ensures areas { self.new.areas ≡ [] }
-        ensures capacity { self.new.capacity ≡ self.old.capacity }
-    {
-        self.slots.clear();
-        self.rows.clear();
-    }
-
     /// How many cursors an area has.
     pub fn count(&self, place: usize) -> usize
         requires { place < length self.now.areas }

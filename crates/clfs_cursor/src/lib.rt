@@ -6,7 +6,7 @@
 //! so what one area's client does changes no other area's cursors, and when an area goes none of its cursors stays.
 //!
 //! The memory of a row is taken when its area is added, and that of a cursor's place in the slab by a call of its own, so that no
-//! read can fail for want of it once it has found its record. Ending a cursor, an area or all of them never can. Nothing of this is
+//! read can fail for want of it once it has found its record. Ending a cursor or an area never can. Nothing of this is
 //! stored on the disk: cursors end with a crash.
 //!
 //! Where reading goes from a record hangs on the cursor's mode and the record's links. What is to be searched for is told here; the
@@ -20,6 +20,3 @@ mod standing;
 
 pub use cursors::Cursors;
 pub use search::{Search, search_from};
-
-#[cfg(test)]
-mod tests;

@@ -4,7 +4,8 @@
 //! that was grown; bytes outside stay, and after a sync that succeeded a crash leaves what is read. The trait `Disk` says
 //! this once, of one ghost value that has the files, a clock and the images of each moment, and code over a disk is proved
 //! against it. `Memory` keeps a record of its calls, so that its images can be spelled out and a crash be taken. `Fuse`
-//! stops another disk after so many calls. `Steady` fails only in a write past a file's end, and tells nothing of crashes.
+//! stops another disk after so many calls. `Steady` fails only in a write past a file's end, and tells nothing of crashes. The program
+//! calls none of these three: its disk is a folder of the system, and they are for tests.
 #![tactic(auto)]
 
 mod bytes;

@@ -15,3 +15,4 @@ pub mod Loaded
 pub mod ServingEnds
 pub mod Refusals
 pub mod Crashing
+pub mod Trials

@@ -11,3 +11,4 @@ pub mod Stopped
 pub mod Format
 pub mod Worked
 pub mod Crashed
+pub mod Trial

@@ -1,6 +1,8 @@
 // The answer to one line, by the manager of a log.
-ghost use Rattle.std.specs.Prelude.{◌≡◌, ◌≤◌, ◌⊎◌, ◌++◌, [], length, OnOk, OnErr, IfErr};
+ghost use Rattle.std.specs.Prelude.{◌≡◌, ◌≤◌, ◌⊎◌, ◌++◌, [], length, OnOk, OnErr, IfOk, IfErr};
+ghost use Rattle.clfs_model.specs.Lines.{without_return};
 ghost use Rattle.clfs_model.specs.Run.{reopens};
+ghost use Rattle.clfs_model.specs.Script.{line_request};
 ghost use Rattle.clfs_model.specs.declared.reply.Reply.TheVariants as replies;
 ghost use Rattle.clfs_manager.specs.Calls.{replied};
 ghost use Rattle.clfs_model.specs.Accepted.{serve_limits};
@@ -54,6 +56,20 @@ fn reply_to<D: Disk>(manager: &mut Manager<D>, asked: &Asked) -> Reply
         Asked::Reopen { client } => reopened(manager, *client),
         Asked::Nothing { at } => Reply::Refused(Refusal::BadLine { at: *at }),
     }
+}
+
+/// The reply to one line.
+pub fn reply_to_line<D: Disk>(
+    alloc: Global,
+    manager: &mut Manager<D>,
+    line: &[u8],
+) -> Result<Reply, AllocError>
+    requires { length line.now ≤ 4294967295 }
+    ensures { IfOk result (λ reply. AnswersOne manager.old.0 (D.state manager.old.1) (line_request (without_return line.now)) reply
+        manager.new.0 (D.state manager.new.1)) }
+{
+    let asked = read_line(alloc, without_return(line))?;
+    Ok(reply_to(manager, &asked))
 }
 
 /// Answers one line.

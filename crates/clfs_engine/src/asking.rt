@@ -10,7 +10,7 @@ use clfs_script::{Language, LineRefusal, Request, ScriptLine, parse_line};
 use std::alloc::{AllocError, Global};
 
 /// What a line asks for.
-#[derive(Debug, Drop)]
+#[derive(Drop)]
 pub enum Asked {
     /// A client's call.
     Step {

@@ -12,21 +12,22 @@ use clfs_manager::{FormatRefusal, FormatRefused, Manager};
 use clfs_ports::Sink;
 use std::alloc::Global;
 
-/// Makes a log of these sizes on a disk where none is, and says so.
+/// Makes a log of these sizes on a disk where none is, for one stream or for several, and says so.
 pub fn format<K: Sink, D: Disk + Drop>(
     alloc: Global,
     shape: Shape,
     containers: u32,
+    dedicated: bool,
     sink: &mut K,
     disk: D,
 ) -> Outcome<D>
     requires shape { IsShape shape }
     requires some { 1 ≤ containers }
     requires few { containers ≤ most_containers }
-    ensures { EndsFormat result.status shape containers (D.state disk) (D.state result.disk)
+    ensures { EndsFormat result.status shape containers dedicated (D.state disk) (D.state result.disk)
         (K.written sink.old) (K.written sink.new) (K.faults sink.old) (K.faults sink.new) }
 {
-    match Manager::format(alloc, disk, shape, containers) {
+    match Manager::format(alloc, disk, shape, containers, dedicated) {
         Ok(disk) => Outcome {
             status: printed(sink, b"formatted\n", DONE),
             disk,

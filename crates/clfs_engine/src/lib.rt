@@ -5,6 +5,8 @@
 //! machine over the lines of the bytes that it took, over a disk that tells what its files hold from the state for which they stood; and where
 //! no line is answered a fault, such files stand behind it for the flushed part of the state that the run leaves, up to records that no reply can
 //! show.
+//!
+//! `trial` answers lines that `clfs_trial` makes, by a log in memory, and prints their sums.
 #![tactic(auto)]
 
 mod answering;
@@ -19,6 +21,8 @@ mod rows;
 mod serving;
 mod status;
 mod streaming;
+mod tally;
+mod trying;
 
 pub use formatting::format;
 pub use program::run;
@@ -28,10 +32,4 @@ pub use status::{
     DISK_FAULT, DONE, EXISTS, INPUT_TOO_LONG, NO_MEMORY, NOT_A_LOG, Outcome, SINK_FAULT,
     SOURCE_FAULT, USAGE,
 };
-
-#[cfg(test)]
-mod crashes;
-#[cfg(test)]
-mod tests;
-#[cfg(test)]
-mod worked;
+pub use trying::trial;

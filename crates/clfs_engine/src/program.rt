@@ -1,23 +1,25 @@
 // The commands of the program.
-ghost use Rattle.std.specs.Prelude.{◌≡◌, ◌≢◌, ℕ, map, Some, None};
+ghost use Rattle.std.specs.Prelude.{◌≡◌, ◌≢◌, ℕ, Bool, map, Some, None};
 ghost use Rattle.std.specs.String.{string_bytes};
 ghost use Rattle.clfs_lsn.specs.declared.shape.Shape.{Shape};
 ghost use Rattle.clfs_command.specs.Command.{command_of};
-ghost use Rattle.clfs_command.specs.declared.words.Command.TheVariants.{Format, Serve};
+ghost use Rattle.clfs_command.specs.declared.words.Command.TheVariants.{Format, Serve, Trial};
 ghost use Rattle.clfs_engine.specs.Format.{EndsFormat};
 ghost use Rattle.clfs_engine.specs.Serve.{EndsServing, EndsByUsage};
+ghost use Rattle.clfs_engine.specs.Trial.{EndsTrial};
 
 use crate::formatting::format;
 use crate::output::printed;
 use crate::serving::serve;
 use crate::status::{NO_MEMORY, Outcome, USAGE};
+use crate::trying::trial;
 use clfs_command::{Command, WordsRefusal, read_command};
 use clfs_disk::Disk;
 use clfs_ports::{Sink, Source};
 use std::alloc::Global;
 
-/// Runs the command that the words name: `serve` with its write buffers, or `format` with the sizes of the log. The words are those
-/// behind the folder.
+/// Runs the command that the words name: `serve` with its write buffers, `format` with the sizes of the log and whether it is dedicated, or
+/// `trial` with its number and its count. The words are those after the folder.
 pub fn run<S: Source, K: Sink, D: Disk + Drop>(
     alloc: Global,
     words: &[String],
@@ -28,20 +30,32 @@ pub fn run<S: Source, K: Sink, D: Disk + Drop>(
     ensures serves { (buffers : ℕ) → command_of (map string_bytes words.now) ≡ Some (Serve buffers)
         → EndsServing result.status buffers (D.state disk) (D.state result.disk) (S.left source.old) (S.left source.new)
         (K.written sink.old) (K.written sink.new) (S.faults source.old) (S.faults source.new) (K.faults sink.old) (K.faults sink.new) }
-    ensures formats { (shape : Shape) (containers : ℕ) → command_of (map string_bytes words.now) ≡ Some (Format shape containers)
-        → EndsFormat result.status shape containers (D.state disk) (D.state result.disk)
+    ensures formats { (shape : Shape) (containers : ℕ) (dedicated : Bool) → command_of (map string_bytes words.now) ≡ Some (Format shape containers dedicated)
+        → EndsFormat result.status shape containers dedicated (D.state disk) (D.state result.disk)
         (K.written sink.old) (K.written sink.new) (K.faults sink.old) (K.faults sink.new) }
+    ensures tries { (number count : ℕ) → command_of (map string_bytes words.now) ≡ Some (Trial number count)
+        → EndsTrial result.status number count (K.written sink.old) (K.written sink.new) (K.faults sink.old) (K.faults sink.new) }
     ensures usage { command_of (map string_bytes words.now) ≡ None → EndsByUsage result.status (K.written sink.old) (K.written sink.new)
         (K.faults sink.old) (K.faults sink.new) }
-    // Only a script is read from the source, and only a command calls the disk.
+    // Only a script is read from the source, and only serving and making a log call the disk.
     ensures unread { ((buffers : ℕ) → command_of (map string_bytes words.now) ≢ Some (Serve buffers)) → source.new ≡ source.old }
-    ensures untouched { command_of (map string_bytes words.now) ≡ None → result.disk ≡ disk }
+    ensures untouched { ((buffers : ℕ) → command_of (map string_bytes words.now) ≢ Some (Serve buffers))
+        → ((shape : Shape) (containers : ℕ) (dedicated : Bool) → command_of (map string_bytes words.now) ≢ Some (Format shape containers dedicated))
+        → result.disk ≡ disk }
 {
     match read_command(alloc, words) {
         Ok(Command::Serve { write_buffers }) => serve(alloc, write_buffers, source, sink, disk),
-        Ok(Command::Format { shape, containers }) => {
-            format(alloc, shape, containers, sink, disk)
-        }
+        Ok(
+            Command::Format {
+                shape,
+                containers,
+                dedicated,
+            },
+        ) => format(alloc, shape, containers, dedicated, sink, disk),
+        Ok(Command::Trial { number, count }) => Outcome {
+            status: trial(alloc, number, count, sink),
+            disk,
+        },
         Err(WordsRefusal::Usage) => {
             let line = b"usage: clfs FOLDER format, serve, race, trial or crew\n";
             Outcome {

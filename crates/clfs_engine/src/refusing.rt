@@ -14,8 +14,8 @@ use clfs_ports::Sink;
 use clfs_text::push_decimal;
 use std::alloc::{AllocError, Global};
 
-// A text and then a number.
-fn push_number(text: &[u8], number: u32, out: &mut Bytes) -> Result<(), AllocError>
+/// Adds a text and then a number at the end.
+pub fn push_number(text: &[u8], number: u32, out: &mut Bytes) -> Result<(), AllocError>
     ensures { OnOk result (out.new ≡ out.old ++ (text.now ++ decimal number)) }
 {
     out.extend_from_slice(text)?;

@@ -18,8 +18,8 @@ use clfs_manager::Manager;
 use clfs_ports::{Sink, Source};
 use std::alloc::Global;
 
-// The same memory without the bytes.
-fn cleared(bytes: Bytes) -> Bytes
+/// The same memory without the bytes.
+pub fn cleared(bytes: Bytes) -> Bytes
     ensures { result ≡ [] }
 {
     let mut bytes = bytes.into_vec();

@@ -1,13 +1,14 @@
 // Whether the folder can be used. It is looked at in the first call, so that a program that makes none leaves it alone. From then on
-// it is locked, so that two processes never write one log. After a sync that failed nothing is read or written any more: what the
-// system has lost of the files can't be known, and a second sync would succeed over it.
+// it is locked, so that two processes never write one log. After a sync that failed nothing is read or written any more, and a mark is
+// left for the runs that come (`unsynced.rt`). Why the first call failed that did is said on standard error, at once.
 ghost use Rattle.std.specs.Prelude.{◌≤◌, length, IfOk};
 
 use crate::directory::Directory;
+use crate::fault::{Call, Cause, Fault, Place};
 use crate::file::zeros;
 use crate::location::Location;
-use clfs_disk::GrowRefusal;
-use std::io::{self, ErrorKind};
+use crate::unsynced::leave_mark;
+use clfs_disk::{Failed, GrowRefusal};
 
 /// What is known of the folder.
 #[derive(Drop)]
@@ -24,11 +25,24 @@ pub(crate) enum State {
     Lost,
 }
 
+impl State {
+    // Why a call on a folder that isn't open fails.
+    fn refuses(&self, place: Place, call: Call) -> Fault {
+        match self {
+            State::Taken => Fault::new(Place::Folder, Call::Lock, Cause::Taken),
+            State::Lost => Fault::new(place, call, Cause::AfterFailedSync),
+            _ => Fault::new(place, call, Cause::Absent),
+        }
+    }
+}
+
 /// A folder, and how far it can be used.
 #[derive(Drop)]
 pub(crate) struct Access {
     location: Location,
     state: State,
+    // Why a call failed was said already.
+    has_told: bool,
 }
 
 impl Access {
@@ -37,6 +51,7 @@ impl Access {
         Access {
             location,
             state: State::Unknown,
+            has_told: false,
         }
     }
 
@@ -45,16 +60,25 @@ impl Access {
         matches!(self.state, State::Taken)
     }
 
+    // Says why a call failed, if it is the first one.
+    fn tell(&mut self, fault: Fault) -> Failed {
+        if !self.has_told {
+            self.location.tell(fault);
+            self.has_told = true;
+        }
+        Failed
+    }
+
     // Finds out about the folder in the first call.
-    fn look(&mut self) -> io::Result<()> {
+    fn look(&mut self) -> Result<(), Fault> {
         if matches!(self.state, State::Unknown) {
             self.state = Directory::open(&self.location)?;
         }
         Ok(())
     }
 
-    // Finds out about the folder, and makes it where it isn't there.
-    fn look_or_make(&mut self) -> io::Result<()> {
+    // Finds out about the folder, and makes it if it isn't there.
+    fn look_or_make(&mut self) -> Result<(), Fault> {
         self.look()?;
         if matches!(self.state, State::Absent) {
             self.state = Directory::make(&self.location)?;
@@ -63,7 +87,17 @@ impl Access {
     }
 
     /// What a file has from `at` on. A file that isn't there is empty.
-    pub fn read(&mut self, file: u16, at: u64, out: &mut [u8]) -> io::Result<usize>
+    pub fn read(&mut self, file: u16, at: u64, out: &mut [u8]) -> Result<usize, Failed>
+        requires { file ≤ 256 }
+        ensures { IfOk result (λ n. n ≤ length out.old) }
+    {
+        match self.try_read(file, at, out) {
+            Ok(count) => Ok(count),
+            Err(fault) => Err(self.tell(fault)),
+        }
+    }
+
+    fn try_read(&mut self, file: u16, at: u64, out: &mut [u8]) -> Result<usize, Fault>
         requires { file ≤ 256 }
         ensures { IfOk result (λ n. n ≤ length out.old) }
     {
@@ -71,18 +105,27 @@ impl Access {
         match &self.state {
             State::Open(directory) => directory.read(file, at, out),
             State::Absent => Ok(0),
-            _ => Err(ErrorKind::PermissionDenied.into()),
+            state => Err(state.refuses(Place::File(file), Call::Read)),
         }
     }
 
     /// Writes within a file.
-    pub fn write(&mut self, file: u16, at: u64, bytes: &[u8]) -> io::Result<()>
+    pub fn write(&mut self, file: u16, at: u64, bytes: &[u8]) -> Result<(), Failed>
+        requires { file ≤ 256 }
+    {
+        match self.try_write(file, at, bytes) {
+            Ok(()) => Ok(()),
+            Err(fault) => Err(self.tell(fault)),
+        }
+    }
+
+    fn try_write(&mut self, file: u16, at: u64, bytes: &[u8]) -> Result<(), Fault>
         requires { file ≤ 256 }
     {
         self.look()?;
         match &mut self.state {
             State::Open(directory) => directory.write(file, at, bytes),
-            _ => Err(ErrorKind::PermissionDenied.into()),
+            state => Err(state.refuses(Place::File(file), Call::Write)),
         }
     }
 
@@ -93,34 +136,54 @@ impl Access {
         let Ok(zeros) = zeros(self.location.alloc(), len) else {
             return Err(GrowRefusal::NoMemory);
         };
-        match self.grow_by(file, len, &zeros) {
+        match self.try_grow(file, len, &zeros) {
             Ok(()) => Ok(()),
-            Err(_) => Err(GrowRefusal::Failed),
+            Err(fault) => {
+                self.tell(fault);
+                Err(GrowRefusal::Failed)
+            }
         }
     }
 
     // Makes a file at least so long, with zeros in pieces of these.
-    fn grow_by(&mut self, file: u16, len: u64, zeros: &[u8]) -> io::Result<()>
+    fn try_grow(&mut self, file: u16, len: u64, zeros: &[u8]) -> Result<(), Fault>
         requires { file ≤ 256 }
     {
         self.look_or_make()?;
         match &mut self.state {
             State::Open(directory) => directory.grow(&self.location, file, len, zeros),
-            _ => Err(ErrorKind::PermissionDenied.into()),
+            state => Err(state.refuses(Place::File(file), Call::Write)),
         }
     }
 
     /// Syncs all files.
-    pub fn sync(&mut self) -> io::Result<()> {
+    pub fn sync(&mut self) -> Result<(), Failed> {
+        match self.try_sync() {
+            Ok(()) => Ok(()),
+            Err(fault) => Err(self.tell(fault)),
+        }
+    }
+
+    fn try_sync(&mut self) -> Result<(), Fault> {
         self.look()?;
         let done = match &mut self.state {
             State::Open(directory) => directory.sync(),
             State::Absent => return Ok(()),
-            _ => return Err(ErrorKind::PermissionDenied.into()),
+            state => return Err(state.refuses(Place::Folder, Call::Sync)),
         };
-        if done.is_err() {
-            self.state = State::Lost;
+        if let Err(fault) = done {
+            self.tell(fault);
+            self.give_up();
         }
         done
+    }
+
+    // After a sync that failed: leaves the mark, or says that it can't be left, and makes every later call fail.
+    fn give_up(&mut self) {
+        if let Err(fault) = leave_mark(&self.location) {
+            self.location.tell(fault);
+            self.location.tell_no_mark();
+        }
+        self.state = State::Lost;
     }
 }

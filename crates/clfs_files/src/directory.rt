@@ -2,18 +2,20 @@
 //
 // A sync that is answered with Ok says that all that was written and grown, in all files, is on the medium, and that the files are found
 // in the folder:
-// - a file is synced where it was written or grown since its last sync, the folder where a file was made in it since;
+// - a file is synced if it was written or grown since its last sync, the folder if a file was made in it since;
 // - the first sync of a run syncs every file that is there, the folder, and the folder that it lies in. Who wrote them may have been
 //   killed before it synced, so that they are read and still not on the medium.
-// What this can't do: after a sync that failed, in this run or an earlier one, the system may keep bytes in memory that the medium doesn't
-// have, and take them as synced. A later sync then succeeds over what is lost, until the system has let go of those bytes.
+// If a sync of an earlier run failed, the files are replaced by synced copies before anything is read (`unsynced.rt`).
 ghost use Rattle.std.specs.Prelude.{◌≡◌, ◌≤◌, length, IfOk};
 
 use crate::access::State;
+use crate::fault::{Call, Cause, Fault, Place};
 use crate::file::StoredFile;
 use crate::location::Location;
+use crate::unsynced::renew;
+use std::alloc::AllocError;
 use std::fs::{File, TryLockError};
-use std::io::{self, ErrorKind};
+use std::io;
 
 // How many files a disk has.
 const FILES: u16 = 257;
@@ -25,85 +27,140 @@ pub(crate) struct Directory {
     files: Vec<Option<StoredFile>>,
     // A file was made since the folder's last sync, or may have been before it was opened.
     is_unsynced: bool,
-    // The folder that this one lies in, until the first sync. None also where this process may not open it.
+    // The folder that this one lies in, until the first sync. None also if this process may not read it.
     parent: Option<File>,
     ghost count: { length files.items ≡ 257 },
 }
 
+// Out of memory while the folder is opened.
+fn no_memory(error: AllocError) -> Fault {
+    Fault::said(Place::Folder, Call::Open, error.into())
+}
+
+// The file among these that is the same one of the system.
+fn twin<'a>(files: &'a [Option<StoredFile>], file: &StoredFile) -> Option<&'a StoredFile> {
+    for slot in files {
+        if let Some(other) = slot
+            && other.is_same(file)
+        {
+            return Some(other);
+        }
+    }
+    None
+}
+
+// Opens a file, if it is there and none of the earlier ones.
+fn open_other(
+    location: &Location,
+    earlier: &[Option<StoredFile>],
+    file: u16,
+) -> Result<Option<StoredFile>, Fault> {
+    let Some(opened) = location.open_file(file)? else {
+        return Ok(None);
+    };
+    if let Some(other) = twin(earlier, &opened) {
+        let cause = Cause::SameAs(other.place());
+        return Err(Fault::new(opened.place(), Call::Open, cause));
+    }
+    Ok(Some(opened))
+}
+
 // All files, those that are in the folder open.
-fn open_files(location: &Location) -> io::Result<Vec<Option<StoredFile>>>
+fn open_files(location: &Location) -> Result<Vec<Option<StoredFile>>, Fault>
     ensures { IfOk result (λ files. length files.items ≡ 257) }
 {
-    let mut files = Vec::with_capacity(location.alloc(), FILES as usize)?;
+    let mut files = match Vec::with_capacity(location.alloc(), FILES as usize) {
+        Ok(files) => files,
+        Err(error) => return Err(no_memory(error)),
+    };
     for file in 0..FILES {
-        files.push(location.open_file(file)?)?;
+        let opened = open_other(location, &files, file)?;
+        if let Err(error) = files.push(opened) {
+            return Err(no_memory(error.into()));
+        }
     }
     Ok(files)
 }
 
 impl Directory {
-    /// Opens and locks the folder, where it is there and no other process has it.
-    pub fn open(location: &Location) -> io::Result<State> {
-        let folder = match location.open_folder() {
-            Ok(folder) => folder,
-            Err(error) if error.kind() == ErrorKind::NotFound => return Ok(State::Absent),
-            Err(error) => return Err(error),
+    /// Opens and locks the folder, if it is there and no other process has it. If the folder that it lies in may not be read, that is said, and
+    /// the folder is used all the same.
+    pub fn open(location: &Location) -> Result<State, Fault> {
+        let Some(folder) = location.open_folder()? else {
+            return Ok(State::Absent);
         };
-        let parent = match location.open_parent() {
-            Ok(parent) => Some(parent),
-            Err(error) if error.kind() == ErrorKind::PermissionDenied => None,
-            Err(error) => return Err(error),
-        };
-        Directory::lock(location, folder, parent)
+        match location.open_parent() {
+            Ok(parent) => Directory::lock(location, folder, Some(parent)),
+            Err(fault) if fault.is_denied() => {
+                location.tell_unsynced_name(fault);
+                Directory::lock(location, folder, None)
+            }
+            Err(fault) => Err(fault),
+        }
     }
 
     /// Makes the folder, and opens and locks it. The folder that it lies in has to be one that can be opened and synced, since the new name
     /// stands there.
-    pub fn make(location: &Location) -> io::Result<State> {
+    pub fn make(location: &Location) -> Result<State, Fault> {
         location.make_folder()?;
-        let folder = location.open_folder()?;
+        let Some(folder) = location.open_folder()? else {
+            return Ok(State::Absent);
+        };
         let parent = location.open_parent()?;
         Directory::lock(location, folder, Some(parent))
     }
 
     // Locks the folder, and opens what is in it.
-    fn lock(location: &Location, folder: File, parent: Option<File>) -> io::Result<State> {
+    fn lock(location: &Location, folder: File, parent: Option<File>) -> Result<State, Fault> {
         match folder.try_lock() {
             Ok(()) => {}
             Err(TryLockError::WouldBlock) => return Ok(State::Taken),
-            Err(TryLockError::Error(error)) => return Err(error),
+            Err(TryLockError::Error(error)) => {
+                return Err(Fault::said(Place::Folder, Call::Lock, error));
+            }
+        }
+        let mut files = open_files(location)?;
+        if location.has(Place::Mark)? {
+            renew(location, &folder, &files)?;
+            files = open_files(location)?;
         }
         Ok(State::Open(Directory {
             folder,
-            files: open_files(location)?,
+            files,
             is_unsynced: true,
             parent,
         }))
     }
 
     /// What a file has from `at` on. A file that isn't there is empty.
-    pub fn read(&self, file: u16, at: u64, out: &mut [u8]) -> io::Result<usize>
+    pub fn read(&self, file: u16, at: u64, out: &mut [u8]) -> Result<usize, Fault>
         requires { file ≤ 256 }
         ensures { IfOk result (λ n. n ≤ length out.old) }
     {
         match &self.files[file as usize] {
-            Some(file) => file.read(at, out),
+            Some(stored) => stored.read(at, out),
             None => Ok(0),
         }
     }
 
     /// Writes within a file.
-    pub fn write(&mut self, file: u16, at: u64, bytes: &[u8]) -> io::Result<()>
+    pub fn write(&mut self, file: u16, at: u64, bytes: &[u8]) -> Result<(), Fault>
         requires { file ≤ 256 }
     {
         match &mut self.files[file as usize] {
-            Some(file) => file.write(at, bytes),
-            None => Err(ErrorKind::NotFound.into()),
+            Some(stored) => stored.write(at, bytes),
+            None => Err(Fault::new(Place::File(file), Call::Write, Cause::Absent)),
         }
     }
 
-    /// Makes a file at least so long, and the file itself where it isn't there.
-    pub fn grow(&mut self, location: &Location, file: u16, len: u64, zeros: &[u8]) -> io::Result<()>
+    /// Makes a file at least so long, and the file itself if it isn't there.
+    pub fn grow(
+        &mut self,
+        location: &Location,
+        file: u16,
+        len: u64,
+        zeros: &[u8],
+    ) -> Result<(), Fault>
         requires { file ≤ 256 }
     {
         let slot = &mut self.files[file as usize];
@@ -112,22 +169,36 @@ impl Directory {
             self.is_unsynced = true;
         }
         match slot {
-            Some(file) => file.grow(len, zeros),
+            Some(stored) => stored.grow(len, zeros),
             None => Ok(()),
         }
     }
 
     /// Syncs what was written, grown and made since the last sync; the first time all that is there.
-    pub fn sync(&mut self) -> io::Result<()> {
+    pub fn sync(&mut self) -> Result<(), Fault> {
         for slot in self.files.iter_mut() {
             if let Some(file) = slot {
                 file.sync()?;
             }
         }
+        if let Err(error) = self.sync_folder() {
+            return Err(Fault::said(Place::Folder, Call::Sync, error));
+        }
+        match self.sync_parent() {
+            Ok(()) => Ok(()),
+            Err(error) => Err(Fault::said(Place::Parent, Call::Sync, error)),
+        }
+    }
+
+    fn sync_folder(&mut self) -> io::Result<()> {
         if self.is_unsynced {
             self.folder.sync_all()?;
             self.is_unsynced = false;
         }
+        Ok(())
+    }
+
+    fn sync_parent(&mut self) -> io::Result<()> {
         match self.parent.take() {
             Some(parent) => parent.sync_all(),
             None => Ok(()),

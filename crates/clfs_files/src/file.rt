@@ -1,23 +1,34 @@
 // One file of the folder.
 //
-// Its length is known from its opening on, since the folder is locked and the file changes by these calls alone. A growth writes
-// zeros and doesn't only move the end: so the medium has room for all that is written later within the length, and a later sync has
-// no metadata to write.
+// It has one name, since another name could be another file of this log or of a second one, and what is written by one name would stand
+// under the other. Its length is known from its opening on, since the folder is locked and the file changes by these calls alone. A
+// growth writes zeros and doesn't only move the end: so the medium has room for all that is written later within the length, and a later
+// sync has no metadata to write. (docs/DECISIONS.md says when that isn't so.)
 ghost use Rattle.std.specs.Prelude.{◌≤◌, length, IfOk};
 
+use crate::fault::{Call, Cause, Fault, Place};
 use std::alloc::{AllocError, Global};
-use std::fs::File;
+use std::fs::{File, Metadata};
 use std::io::{self, ErrorKind};
-use std::os::unix::fs::FileExt;
+use std::os::unix::fs::{FileExt, MetadataExt};
 
-// The most zeros that are written in one call, as many as the bytes of a largest block. On Linux later syncs of a few sectors were slower behind
-// pieces of 1 MiB, and reading was slower behind pieces of a page (docs/SPEED.md).
-const PIECE: usize = 1 << 16;
+// The most zeros that are written in one call, as many as the bytes of a largest block. On Linux later syncs of a few sectors were slower after
+// pieces of 1 MiB, and reading was slower after pieces of a page (docs/SPEED.md).
+pub(crate) const PIECE: usize = 1 << 16;
 
-/// An open file.
+// What tells a file of the system from all others.
+#[derive(Clone, Copy, PartialEq, Eq)]
+struct Identity {
+    device: u64,
+    number: u64,
+}
+
+/// An open file of the log.
 #[derive(Drop)]
 pub(crate) struct StoredFile {
+    place: Place,
     file: File,
+    identity: Identity,
     len: u64,
     // Something of it was written or grown since its last sync, or may have been before it was opened.
     is_unsynced: bool,
@@ -32,21 +43,49 @@ pub(crate) fn zeros(alloc: Global, most: u64) -> Result<Vec<u8>, AllocError> {
 }
 
 impl StoredFile {
-    /// A file that was just opened. Only a regular file is taken.
-    pub fn new(file: File) -> io::Result<StoredFile> {
+    /// A file that was just opened. Only a regular file of one name is taken.
+    pub fn new(place: Place, file: File) -> Result<StoredFile, Cause> {
         let found = file.metadata()?;
         if !found.is_file() {
-            return Err(ErrorKind::InvalidInput.into());
+            return Err(Cause::NoRegularFile);
+        }
+        if found.nlink() > 1 {
+            return Err(Cause::Names(found.nlink()));
         }
         Ok(StoredFile {
+            place,
             file,
+            identity: Identity {
+                device: found.dev(),
+                number: found.ino(),
+            },
             len: found.len(),
             is_unsynced: true,
         })
     }
 
+    /// Whether both are one file of the system.
+    pub fn is_same(&self, other: &StoredFile) -> bool {
+        self.identity == other.identity
+    }
+
+    /// Which one of the log's files it is.
+    pub fn place(&self) -> Place {
+        self.place
+    }
+
+    /// How many bytes it has.
+    pub fn len(&self) -> u64 {
+        self.len
+    }
+
+    /// What the system says of it.
+    pub fn metadata(&self) -> io::Result<Metadata> {
+        self.file.metadata()
+    }
+
     /// The bytes that are there from `at` on, as many as fit, however many the system gives in one call.
-    pub fn read(&self, at: u64, out: &mut [u8]) -> io::Result<usize>
+    pub fn read(&self, at: u64, out: &mut [u8]) -> Result<usize, Fault>
         ensures { IfOk result (λ n. n ≤ length out.old) }
     {
         let mut done = 0;
@@ -61,37 +100,44 @@ impl StoredFile {
                 Ok(0) => break,
                 Ok(count) => done += count,
                 Err(error) if error.kind() == ErrorKind::Interrupted => {}
-                Err(error) => return Err(error),
+                Err(error) => return Err(Fault::said(self.place, Call::Read, error)),
             }
         }
         Ok(done)
     }
 
-    /// Writes within the file. It is refused where the range ends past the file's end.
-    pub fn write(&mut self, at: u64, bytes: &[u8]) -> io::Result<()> {
+    /// Writes within the file. It is refused if the range ends past the file's end.
+    pub fn write(&mut self, at: u64, bytes: &[u8]) -> Result<(), Fault> {
         match at.checked_add(bytes.len() as u64) {
             Some(end) if end <= self.len => {}
-            _ => return Err(ErrorKind::InvalidInput.into()),
+            _ => return Err(Fault::new(self.place, Call::Write, Cause::TooShort)),
         }
         self.is_unsynced = true;
-        self.file.write_all_at(bytes, at)
+        match self.file.write_all_at(bytes, at) {
+            Ok(()) => Ok(()),
+            Err(error) => Err(Fault::said(self.place, Call::Write, error)),
+        }
     }
 
     /// Writes zeros, in pieces of `zeros`, from the file's end up to `len`.
-    pub fn grow(&mut self, len: u64, zeros: &[u8]) -> io::Result<()> {
+    pub fn grow(&mut self, len: u64, zeros: &[u8]) -> Result<(), Fault> {
         for at in (self.len..len).step_by(PIECE) {
             self.is_unsynced = true;
             let count = ((len - at) as usize).min(zeros.len());
-            self.file.write_all_at(&zeros[..count], at)?;
+            if let Err(error) = self.file.write_all_at(&zeros[..count], at) {
+                return Err(Fault::said(self.place, Call::Write, error));
+            }
             self.len = at + count as u64;
         }
         Ok(())
     }
 
     /// Syncs what was written and grown since the last sync.
-    pub fn sync(&mut self) -> io::Result<()> {
+    pub fn sync(&mut self) -> Result<(), Fault> {
         if self.is_unsynced {
-            self.file.sync_data()?;
+            if let Err(error) = self.file.sync_data() {
+                return Err(Fault::said(self.place, Call::Sync, error));
+            }
             self.is_unsynced = false;
         }
         Ok(())

@@ -1,5 +1,5 @@
 // A folder as a disk: files `base` and `c1` to `c256`. It tells nothing of what they hold, so what its calls do is not proved; what is
-// proved is that each call counts as one, and fails only where the count of faults rises.
+// proved is that each call counts as one, and fails only if the count of faults rises.
 ghost use Rattle.std.specs.Prelude.{◌≡◌};
 ghost use Rattle.clfs_files.specs.Shown.{shown};
 
@@ -29,7 +29,7 @@ impl Folder {
         }
     }
 
-    /// Whether another process was found to have the folder. Every call fails then.
+    /// Whether another process was found to have the folder. Every call fails then. Tests ask it; users read it on standard error.
     pub fn is_taken(&self) -> bool {
         self.access.is_taken()
     }

@@ -2,20 +2,19 @@
 //!
 //! What lies here is trusted, not proved: that the system reads and writes what it is asked to, and that what it says it has synced
 //! outlasts a crash. What is proved of it is the little that needs no knowledge of the system: nothing undefined happens, each call
-//! of the disk counts as one, and a call fails only where the count of faults rose. So what is done for the safety of the files has to be
-//! read: `folder.rt` says when a folder is opened, locked and given up, `directory.rt` how its files are made and synced, `file.rt`
-//! what is done with one of them.
+//! of the disk counts as one, and a call fails only if the count of faults rose. So what is done for the safety of the files has to be
+//! read: `access.rt` says when a folder is opened, locked and given up, `location.rt` what is taken for a file of a log, `directory.rt` how
+//! files are made and synced, `file.rt` what is done with one of them, `unsynced.rt` what follows a sync that failed.
 #![tactic(auto)]
 
 mod access;
 mod directory;
+mod fault;
 mod file;
 mod folder;
 mod location;
 mod standard;
+mod unsynced;
 
 pub use folder::Folder;
 pub use standard::{ReaderSource, WriterSink};
-
-#[cfg(test)]
-mod tests;

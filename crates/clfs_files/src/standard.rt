@@ -1,5 +1,5 @@
 // Standard input as a source and standard output as a sink. What the system gives and takes is not told; what is proved is
-// that a call fails only where the count of faults rises. A call that a signal interrupts is made again.
+// that a call fails only if the count of faults rises. A call that a signal interrupts is made again.
 ghost use Rattle.std.specs.Prelude.{◌≡◌};
 
 use clfs_ports::{Failed, Sink, Source};

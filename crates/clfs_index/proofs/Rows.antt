@@ -32,12 +32,6 @@ pub record IsRow (row : Row) (base room : ℕ) (heads searched taken : List Head
   pub same_searched : searched ≡ heads
   pub same_taken : taken ≡ heads
 
-heads_of_row : (row : Row) (base room : ℕ) (heads searched taken : List Head) → IsRow row base room heads searched taken → heads ≡ row.heads
-heads_of_row row base room heads searched taken is = ap (λ (r : Row). r.heads) is.view
-
-base_of_row : (row : Row) (base room : ℕ) (heads searched taken : List Head) → IsRow row base room heads searched taken → base ≡ row.base
-base_of_row row base room heads searched taken is = ap (λ (r : Row). r.base) is.view
-
 pub first_is : (row : Row) (base room place : ℕ) (heads searched taken : List Head) (found : Option Head)
     → IsRow row base room heads searched taken → IsPlaceOf lsn_of_head searched base place → found ≡ slice_get taken place
     → found ≡ slice_get (heads_from row.base row.heads) 0

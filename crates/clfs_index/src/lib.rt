@@ -13,6 +13,3 @@ mod place;
 mod row;
 
 pub use row::{Found, StreamIndex};
-
-#[cfg(test)]
-mod tests;

@@ -131,13 +131,6 @@ impl StreamIndex {
         }
     }
 
-    /// The base.
-    pub fn base(&self) -> Lsn
-        ensures { result ≡ self.now.base }
-    {
-        self.base
-    }
-
     /// The base moves. Nothing is forgotten, and no memory is taken.
     pub fn set_base(&mut self, lsn: Lsn)
         ensures base { self.new.base ≡ lsn }

@@ -2,6 +2,7 @@
 use Rattle.std.proofs.Common.{◌≡◌, ℕ, Bool, true, false, refl, sym, ap, subst, List, [], ◌∷◌}
 use Rattle.std.specs.Prelude.{Option, Some, None, if◌then◌else◌, not, ◌==◌, ◌||◌, ◌&&◌, nat_lt, nat_le, find, length, is_none, unwrap_or}
 use Rattle.std.specs.Option.{option_map_or}
+use Rattle.clfs_lsn.specs.Limits.{most_streams}
 use Rattle.clfs_lsn.specs.Lsn.{null_lsn}
 use Rattle.clfs_lsn.specs.Size.{longest}
 use Rattle.clfs_lsn.specs.Place.{frontier}
@@ -196,9 +197,12 @@ told_create s held taken client stream largest =
 
 told_open : (s : State) (held taken : ℕ) (name : List ℕ) → Told (quiet s held taken) (refusal s 0 (calls.OpenStream name))
 told_open s held taken name =
-    let test = is_none (stream_number s name) && nat_le 128 (length s.streams) in
-    told_option (quiet s held taken) (name_fault name) (λ at. Some (refusals.NameInvalid at)) (refused_if test (refusals.StreamLimit (length s.streams)) None)
-    (λ (at : ℕ). refl) (told_last s held taken test (refusals.StreamLimit (length s.streams)) refl)
+    let test = is_none (stream_number s name) && nat_le most_streams (length s.streams) in
+    let limit = refused_if test (refusals.StreamLimit (length s.streams)) None in
+    let single = is_none (stream_number s name) && (s.dedicated && nat_le 1 (length s.streams)) in
+    told_option (quiet s held taken) (name_fault name) (λ at. Some (refusals.NameInvalid at)) (refused_if single refusals.Dedicated limit)
+    (λ (at : ℕ). refl)
+    (told_if (quiet s held taken) single refusals.Dedicated limit (λ _. refl) (told_last s held taken test (refusals.StreamLimit (length s.streams)) refl))
 
 -- a call in an area whose other refusals need no room
 told_quiet_area : (s : State) (client number taken : ℕ) (rest : Area → Option Refusal)

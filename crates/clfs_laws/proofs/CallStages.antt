@@ -152,11 +152,12 @@ cut_hold area (size ∷ sizes) s = refl
 -- a log that has grown and whose area has spent differs in its containers and its areas alone
 record IsSpent (s u : State) : Type 0 where
   pub shape : u.shape ≡ s.shape
+  pub dedicated : u.dedicated ≡ s.dedicated
   pub streams : u.streams ≡ s.streams
 
 spent_by : (is_reserved : Bool) (area : Area) (n : ℕ) (s : State) → IsSpent s (spend_if is_reserved area n s)
-spent_by false area n s = record { shape = refl; streams = refl }
-spent_by true area n s = record { shape = refl; streams = refl }
+spent_by false area n s = record { shape = refl; dedicated = refl; streams = refl }
+spent_by true area n s = record { shape = refl; dedicated = refl; streams = refl }
 
 begun_by : (s : State) (need : ℕ) (is_reserved : Bool) (area : Area) (n : ℕ) → IsValid (spend_if is_reserved area n (grown s need))
     → HasBlocks (spend_if is_reserved area n (grown s need))
@@ -167,6 +168,7 @@ begun_by s need is_reserved area n valid blocks =
       valid = valid;
       blocks = blocks;
       shape = same.shape ∙ ap (λ (x : State). x.shape) (grown_is s need);
+      dedicated = same.dedicated ∙ ap (λ (x : State). x.dedicated) (grown_is s need);
       streams = same.streams ∙ ap (λ (x : State). x.streams) (grown_is s need);
       flushed = flushed_spend is_reserved area n (grown s need) ∙ flushed_grown s need;
     }
@@ -389,7 +391,7 @@ advance_flushed : (client number lsn : ℕ) (s : State) (stream : ℕ) → IsVal
 advance_flushed client number lsn s stream valid storable =
     let v : State = flush s in
     let t : State = advanced s stream lsn in
-    let begun : IsBegun s s = record { valid = valid; blocks = storable.blocks; shape = refl; streams = refl; flushed = refl } in
+    let begun : IsBegun s s = record { valid = valid; blocks = storable.blocks; shape = refl; dedicated = refl; streams = refl; flushed = refl } in
     let stage = flush_stage s valid storable.blocks in
     let leads : LeadsTo v t = record {
       more = [];

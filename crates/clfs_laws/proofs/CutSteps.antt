@@ -1,17 +1,15 @@
 -- Opening a log anew may come to its flushed part, so what is computed where nothing happens is a run.
-use Rattle.std.proofs.Common.{◌≡◌, ℕ, ◌+◌, ◌*◌, ◌/◌, ◌%◌, Bool, true, false, refl, sym, ap, ◌∙◌, subst, inl, inr, arith, List, [], ◌∷◌}
+use Rattle.std.proofs.Common.{◌≡◌, ℕ, Bool, true, false, refl, sym, ap, subst, inr, List, [], ◌∷◌}
 use Rattle.std.specs.Prelude.{All, MatchBool, if◌then◌else◌}
 use Rattle.std.specs.List.{AllByRecursion, list_all}
 use Rattle.std.proofs.lemmas.List.Elements.{recursion_from_All}
-use Rattle.clfs_lsn.specs.Lsn.{lsn_number, container_of, offset_of, sequence_of}
-use Rattle.clfs_model.specs.declared.call.Call.{Call}
 use Rattle.clfs_model.specs.declared.refusal.Refusal.TheVariants as refusals
 use Rattle.clfs_model.specs.declared.reply.Happened.TheVariants.{Fine}
 use Rattle.clfs_model.specs.declared.reply.Reply.TheVariants as replies
 use Rattle.clfs_model.specs.declared.state.State.{State}
 use Rattle.clfs_model.specs.Flush.{flushed, cut, IsSame}
 use Rattle.clfs_model.specs.Answers.{Outcome, outcome}
-use Rattle.clfs_model.specs.Step.{ReopenStep, Reopens, IsReopened, IsOpenedAnew, IsBroken, IsOutOfMemory}
+use Rattle.clfs_model.specs.Step.{ReopenStep, Reopens, IsOpenedAnew}
 use Rattle.clfs_model.specs.Storable.{IsStorable}
 use Rattle.clfs_model.specs.Run.{Request, asks, reopens, bad_line, RequestStep, Run, all_fine, fine_outcome, replies_of, state_after, is_no_reopening}
 use Rattle.clfs_model.specs.Valid.{IsValid}

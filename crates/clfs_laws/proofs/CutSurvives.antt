@@ -77,6 +77,7 @@ survives_as asked s t valid rises records bases =
     let block = flushed_block s valid in
     record {
       shape = refl;
+      dedicated = refl;
       place = record {
         closed = (refl, refl);
         from = omega (arith, at);
@@ -246,6 +247,7 @@ survives_after space told s t client call reply valid storable step =
     let block = flushed_block t valid_t in
     record {
       shape = turn.shape;
+      dedicated = turn.dedicated;
       place = record {
         closed = (refl, refl);
         from = omega (arith, at, rises);

@@ -52,7 +52,7 @@ reply_fine true stable answered reply is = ap happened_of is
 reply_fine false stable answered reply is = read_fine stable answered reply is
 
 -- where nothing happened, the reply tells so
-fine_told : (told : Bool) (s : State) (client : ℕ) (call : Call) (reply : Reply) (t : State) (first : Option Refusal) → Told (terms_of s client call) first
+pub fine_told : (told : Bool) (s : State) (client : ℕ) (call : Call) (reply : Reply) (t : State) (first : Option Refusal) → Told (terms_of s client call) first
     → MatchOption first (Comes told (flushed s) (answer s client call) reply t) (λ r. (reply ≡ replies.Refused r) × (t ≡ s)) → happened_of reply ≡ Fine
 fine_told told s client call reply t None tells comes = reply_fine told (flushed s) (answer s client call).reply reply comes.0 ∙ fine_reply (answer s client call).reply (answer_own s client call)
 fine_told told s client call reply t (Some first) tells comes = ap happened_of comes.0 ∙ fine_refusal first (own_of (terms_of s client call) first tells)

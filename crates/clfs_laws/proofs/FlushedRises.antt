@@ -218,7 +218,7 @@ flushed_rises space told s client call happened reply t valid step =
     step_leads P told s client call happened reply t step
     (record { same = omega arith; broken = omega arith; answered = λ none. rises_answer space s client call none valid })
 
-rises_through : HasSpaceLaws → (told : Bool) (before : List Entry) (s t : State) (entries : List Entry) → GoesOn told before s entries t → IsValid s → flushed s ≤ flushed t
+pub rises_through : HasSpaceLaws → (told : Bool) (before : List Entry) (s t : State) (entries : List Entry) → GoesOn told before s entries t → IsValid s → flushed s ≤ flushed t
 rises_through space told before s t [] goes valid = same_rises (flushed s) (flushed t) (ap flushed goes)
 rises_through space told before s t (entry ∷ entries) goes valid =
     let step = goes.1.0.step in

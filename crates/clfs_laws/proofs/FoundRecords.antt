@@ -1,6 +1,6 @@
 -- A read finds its record where a chain begins there and the area has a free cursor.
-use Rattle.std.proofs.Common.{◌≡◌, ◌≢◌, ℕ, zero, suc, ◌<◌, Bool, true, false, refl, sym, ap, ◌∙◌, arith, List, [], ◌∷◌, length}
-use Rattle.std.specs.Prelude.{Option, Some, None, nat_le, is_none, slice_get}
+use Rattle.std.proofs.Common.{◌≡◌, ◌≢◌, ℕ, zero, suc, ◌<◌, Bool, true, false, refl, ap, ◌∙◌, List, ◌∷◌, length}
+use Rattle.std.specs.Prelude.{Option, Some, None, is_none, slice_get}
 use Rattle.std.specs.Option.{option_map_or}
 use Rattle.std.proofs.lemmas.Bool.{lt-leb}
 use Rattle.clfs_lsn.specs.declared.entry.LogEntry.{LogEntry}
@@ -21,8 +21,8 @@ use Rattle.clfs_model.specs.Live.{live_at}
 use Rattle.clfs_model.specs.Flush.{flushed}
 use Rattle.clfs_model.specs.Reading.{chain, chain_from, newest_restart, restart_areas}
 use Rattle.clfs_model.specs.Refusals.{refusal, refused_if, read_refusal, too_many_cursors}
-use Rattle.clfs_model.specs.Answers.{Outcome, outcome, answer, found_with_cursor, read_at, read_newest_restart}
-use Rattle.clfs_model.specs.Step.{Step, Comes, IsReply}
+use Rattle.clfs_model.specs.Answers.{outcome, answer, found_with_cursor, read_at, read_newest_restart}
+use Rattle.clfs_model.specs.Step.{Step, IsReply}
 use Rattle.clfs_laws.proofs.FineSteps.{fine_answered, comes_as}
 use Rattle.clfs_laws.proofs.ReadCalls.{in_area_is, over_area_is}
 

@@ -3,6 +3,7 @@ pub mod OwnSectors
 pub mod CallRefusals
 pub mod OwnAnswers
 pub mod Replies
+pub mod ReplyKinds
 pub mod Quiet
 pub mod CutSteps
 pub mod RoomOfSteps
@@ -11,6 +12,9 @@ pub mod FoundRecords
 pub mod FlushedTo
 pub mod StepCases
 pub mod Faults
+pub mod Unbroken
+pub mod FewExtents
+pub mod PlainWork
 pub mod Room
 pub mod JournalChains
 pub mod Finding

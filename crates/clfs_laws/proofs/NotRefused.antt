@@ -1,6 +1,6 @@
 -- What follows from a call that isn't refused.
 use Rattle.std.proofs.Common.{◌≡◌, ℕ, Bool, true, false, refl, List}
-use Rattle.std.specs.Prelude.{Option, Some, None, find, nat_lt}
+use Rattle.std.specs.Prelude.{Option, Some, None, find, nat_lt, ◌&&◌}
 use Rattle.std.specs.Option.{option_map_or}
 use Rattle.clfs_model.specs.declared.refusal.Refusal.{Refusal}
 use Rattle.clfs_model.specs.declared.refusal.Refusal.TheVariants as refusals
@@ -11,6 +11,11 @@ use Rattle.clfs_model.specs.Refusals.{refused_if, too_long}
 pub passed : (test : Bool) (given : Refusal) (others : Option Refusal) → refused_if test given others ≡ None → (test ≡ false) × (others ≡ None)
 passed true given others none = absurd (cc)
 passed false given others none = (refl, none)
+
+-- the second part of a test fails if the first passes and the whole fails
+pub second_false : (a b : Bool) → a ≡ true → (a && b) ≡ false → b ≡ false
+second_false true b passes fails = fails
+second_false false b passes fails = absurd (cc)
 
 -- what stands behind an option that refuses doesn't refuse
 pub passed_option : {A : Type 0} (found : Option A) (given : A → Refusal) (others : Option Refusal)

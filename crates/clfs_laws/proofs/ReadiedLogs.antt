@@ -101,7 +101,7 @@ may_along s r entry same more at may =
     }
 
 -- a sealed log has the same free sectors
-free_seal : (s : State) → IsSound s → free (seal s) ≡ free s
+pub free_seal : (s : State) → IsSound s → free (seal s) ≡ free s
 free_seal s sound = let held = seal_hold s sound in elim (cases_Bool (nat_lt 0 s.place.records)) [
   | inl some ↦
       let same : free_sectors s.shape (sealed s.place) (hold s) s.containers ≡ free s = omega arith in

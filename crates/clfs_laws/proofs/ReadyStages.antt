@@ -26,7 +26,7 @@ use Rattle.clfs_laws.proofs.LsnOrder.{small_offset}
 use Rattle.clfs_laws.proofs.ReadiedLogs.{is_readied, turned_log}
 use Rattle.clfs_laws.proofs.LaidPuts.{takes_of}
 use Rattle.clfs_laws.proofs.RecordsOfCalls.{Adds, adds_none, seal_records}
-use Rattle.clfs_laws.proofs.StorableBlocks.{blocks_seal, blocks_flush, seal_shape}
+use Rattle.clfs_laws.proofs.StorableBlocks.{blocks_seal, blocks_flush, seal_shape, seal_dedicated}
 use Rattle.clfs_laws.proofs.SurvivingRecords.{none_below}
 use Rattle.clfs_laws.proofs.Turns.{IsTurn, stays, seal_container, turn_by}
 use Rattle.clfs_laws.proofs.ValidBases.{flush_streams}
@@ -73,7 +73,7 @@ itself u valid blocks = record {
   streams = refl;
   settings = kept u;
   adds = adds_none u u refl;
-  turn = stays u u refl refl;
+  turn = stays u u refl refl refl;
   rises = omega arith;
 }
 
@@ -85,7 +85,7 @@ seal_stage u valid blocks = record {
   streams = flush_streams u;
   settings = kept_seal u;
   adds = adds_none u (seal u) (seal_records u);
-  turn = stays u (seal u) (seal_shape u) (seal_container u);
+  turn = stays u (seal u) (seal_shape u) (seal_dedicated u) (seal_container u);
   rises = flushed_seal u (sound_of u valid);
 }
 
@@ -97,7 +97,7 @@ flush_stage u valid blocks = record {
   streams = flush_streams u;
   settings = kept_flush u;
   adds = adds_none u (flush u) (seal_records u);
-  turn = stays u (flush u) (seal_shape u) (seal_container u);
+  turn = stays u (flush u) (seal_shape u) (seal_dedicated u) (seal_container u);
   rises = flushed_flush u (sound_of u valid);
 }
 
@@ -127,6 +127,7 @@ turned_stage space u entry valid storable may apart beyond =
       adds = adds_none u (turned (flush u)) has.records;
       turn = record {
         shape = has.tables.shape;
+        dedicated = seal_dedicated u;
         container = subst C (sym (seal_container u)) (turn_by u n false false beyond valid.ranges.shape may.short);
       };
       rises = omega (arith, flush_rises, turn_rises);

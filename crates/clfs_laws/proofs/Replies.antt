@@ -1,7 +1,7 @@
 -- A call that isn't refused isn't answered by a refusal, and one that is answers the first of its list.
-use Rattle.std.proofs.Common.{◌≡◌, ◌≢◌, ℕ, Bool, true, false, refl, sym, ap, ◌∙◌, subst, inl, inr, [], ◌∷◌}
+use Rattle.std.proofs.Common.{◌≡◌, ℕ, Bool, true, false, refl, ap, ◌∙◌, subst, inl, inr}
 use Rattle.std.specs.Prelude.{Option, Some, None, MatchOption, is_none}
-use Rattle.std.specs.Option.{option_map_or, option_and_then}
+use Rattle.std.specs.Option.{option_map_or}
 use Rattle.clfs_lsn.specs.declared.entry.LogEntry.{LogEntry}
 use Rattle.clfs_model.specs.declared.call.Call.{Call}
 use Rattle.clfs_model.specs.declared.call.Call.TheVariants as calls
@@ -25,13 +25,12 @@ use Rattle.clfs_model.specs.Reading.{newest_restart, record_cursor, restart_curs
 use Rattle.clfs_model.specs.Refusals.{refusal, refused_if, in_area, append_refusal, restart_refusal, invalid_base, read_refusal, next_refusal, too_many_cursors, too_long, full, short, end_of_kind, stream_number}
 use Rattle.clfs_model.specs.Answers.{Outcome, outcome, answer, found_with_cursor, read_at, read_newest_restart, moved_on, reserved_for, released, restarted, advanced}
 use Rattle.clfs_model.specs.Put.{appended}
-use Rattle.clfs_model.specs.Step.{Step, Goes, Comes, IsReply, IsReplyRead, IsDamaged}
-use Rattle.clfs_laws.specs.Refused.{is_of_call, is_own_reply}
+use Rattle.clfs_model.specs.Step.{Step, Goes, Comes, IsReply, IsDamaged}
+use Rattle.clfs_laws.specs.Refused.{is_of_call}
 use Rattle.clfs_laws.proofs.CallRefusals.{Told, own_of, terms_of, refusal_told}
 use Rattle.clfs_laws.proofs.FineSteps.{IsNoRefusal}
 use Rattle.clfs_laws.proofs.NotRefused.{passed}
 use Rattle.clfs_laws.proofs.OutcomeCases.{of_option}
-use Rattle.clfs_laws.proofs.OwnAnswers.{answer_own}
 use Rattle.clfs_laws.proofs.StepCases.{broken_step, whole_step, given_refusal}
 use Rattle.clfs_laws.proofs.ValidSteps.{two_of}
 
@@ -117,7 +116,7 @@ answers_it s client (calls.SetSize containers) none = λ given e. absurd (cc)
 answers_it s client (calls.Info stream) none = λ given e. absurd (cc)
 
 -- what is read of a record doesn't turn an answer into a refusal
-no_refusal_read : (told : Bool) (stable : ℕ) (answered : Reply) (given : Refusal) → IsNoRefusal answered → IsReply told stable answered (replies.Refused given) → ⊥
+pub no_refusal_read : (told : Bool) (stable : ℕ) (answered : Reply) (given : Refusal) → IsNoRefusal answered → IsReply told stable answered (replies.Refused given) → ⊥
 no_refusal_read told stable answered given none is = none given (given_refusal told stable answered given is)
 
 -- A call that isn't refused answers none; one that is answers the first of its list.

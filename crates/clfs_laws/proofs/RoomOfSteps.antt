@@ -1,6 +1,6 @@
 -- What a step's reply tells of room, and that a reserved append that is covered isn't refused for it.
-use Rattle.std.proofs.Common.{◌≡◌, ℕ, ◌≤◌, ◌<◌, Bool, true, false, refl, sym, ap, ◌∙◌, inl, inr, List, [], length}
-use Rattle.std.specs.Prelude.{Some, None, nat_lt}
+use Rattle.std.proofs.Common.{◌≡◌, ℕ, ◌≤◌, ◌<◌, Bool, true, false, refl, inl, inr, [], length}
+use Rattle.std.specs.Prelude.{Some}
 use Rattle.std.proofs.lemmas.Bool.{cases_Bool}
 use Rattle.clfs_lsn.specs.Size.{own}
 use Rattle.clfs_model.specs.declared.call.Call.{Call}

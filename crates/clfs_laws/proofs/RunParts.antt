@@ -1,5 +1,5 @@
 -- Runs join and part.
-use Rattle.std.proofs.Common.{◌≡◌, Bool, refl, ap, subst, sym, List, [], ◌∷◌, ◌++◌}
+use Rattle.std.proofs.Common.{Bool, refl, ap, subst, List, [], ◌∷◌, ◌++◌}
 use Rattle.clfs_model.specs.declared.reply.Happened.{Happened}
 use Rattle.clfs_model.specs.declared.reply.Reply.{Reply}
 use Rattle.clfs_model.specs.declared.state.State.{State}

@@ -36,6 +36,7 @@ pub record IsBegun (s u : State) : Type 0 where
   pub valid : IsValid u
   pub blocks : HasBlocks u
   pub shape : u.shape ≡ s.shape
+  pub dedicated : u.dedicated ≡ s.dedicated
   pub streams : u.streams ≡ s.streams
   pub flushed : flushed u ≡ flushed s
 
@@ -99,6 +100,7 @@ stage_survives asked s u v t begun stage leads bases =
     ∙ append-nil (below_lsn (flushed v) v.records) in
     record {
       shape = stage.turn.shape ∙ begun.shape;
+      dedicated = stage.turn.dedicated ∙ begun.dedicated;
       place = record {
         closed = (refl, refl);
         from = omega (arith, at, stage.rises, begun.flushed);

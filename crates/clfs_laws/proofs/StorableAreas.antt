@@ -1,11 +1,12 @@
 -- New streams, areas and cursors are within their limits, and so are cursors that move and areas and cursors that end.
-use Rattle.std.proofs.Common.{◌≡◌, ℕ, zero, suc, ◌+◌, ◌<◌, ◌≤◌, Bool, true, false, refl, sym, ap, ◌∙◌, subst, inl, inr, arith, List, [], ◌∷◌, ◌++◌, length, length-append}
+use Rattle.std.proofs.Common.{◌≡◌, ℕ, zero, suc, ◌+◌, ◌<◌, ◌≤◌, Bool, true, refl, sym, ap, ◌∙◌, subst, inl, inr, arith, List, [], ◌∷◌, ◌++◌, length, length-append}
 use Rattle.std.specs.Prelude.{Option, Some, None, All, find, filter, map, not, nat_le, is_none, ◌==◌, ◌&&◌, unwrap_or}
 use Rattle.std.specs.List.{range_with_len}
 use Rattle.std.specs.Option.{option_map_or}
 use Rattle.std.proofs.lemmas.Bool.{cases_Bool, eqb-true, leb-false, and_parts}
 use Rattle.std.proofs.lemmas.List.{append-nil, length-map}
 use Rattle.std.proofs.lemmas.List.Elements.{All-weaker, All-push, All-filter, All-from_recursion, recursion_from_All, filter-append}
+use Rattle.clfs_lsn.specs.Limits.{most_streams}
 use Rattle.clfs_lsn.specs.Lsn.{null_lsn}
 use Rattle.clfs_lsn.specs.Size.{longest}
 use Rattle.clfs_lsn.specs.declared.entry.LogEntry.{LogEntry}
@@ -25,7 +26,7 @@ use Rattle.clfs_model.specs.Storable.{IsCursor, IsAreaWithinLimits, IsWithinLimi
 use Rattle.clfs_model.specs.Valid.{IsValid, IsArea}
 use Rattle.clfs_laws.proofs.Among.{IsAmong, found}
 use Rattle.clfs_laws.proofs.CursorSteps.{moved_if}
-use Rattle.clfs_laws.proofs.NotRefused.{passed, passed_option, passed_long}
+use Rattle.clfs_laws.proofs.NotRefused.{passed, passed_option, passed_long, second_false}
 use Rattle.clfs_laws.proofs.RowChanges.{area_named}
 use Rattle.clfs_laws.proofs.StorableCursors.{IsRead, cursor_at_read, cursor_kept, cursors_moved, read_on_by}
 use Rattle.clfs_laws.proofs.StorableLimits.{area_kept, alike_itself, limits_found}
@@ -37,11 +38,6 @@ areas_in s t areas records all =
     All-weaker (IsAreaWithinLimits s) (IsAreaWithinLimits t)
     (λ area is. area_kept s t area area [] (records ∙ sym (append-nil s.records)) (alike_itself area) is) areas all
 
--- the second part of a test fails where the first passes and the whole fails
-second_false : (a b : Bool) → a ≡ true → (a && b) ≡ false → b ≡ false
-second_false true b passes fails = fails
-second_false false b passes fails = absurd (cc)
-
 -- a stream of a new name
 opened_by : (s : State) (name : List ℕ) (number : Option ℕ) → stream_number s name ≡ number → open_refusal s name ≡ None → IsWithinLimits s
     → IsWithinLimits (option_map_or (λ n. outcome (replies.Stream n) s) number
@@ -50,11 +46,13 @@ opened_by s name (Some number) is none limits = limits
 opened_by s name None is none limits =
     let new : Stream = record { name = name; base = null_lsn } in
     let t : State = record s { streams = s.streams ++ new ∷ [] } in
-    let limit = refused_if (is_none (stream_number s name) && nat_le 128 (length s.streams)) (refusals.StreamLimit (length s.streams)) None in
-    let legal = none_of_option (name_fault name) (λ at. refusals.NameInvalid at) limit none in
-    let rest = passed_option (name_fault name) (λ at. refusals.NameInvalid at) limit none in
-    let test = (passed (is_none (stream_number s name) && nat_le 128 (length s.streams)) (refusals.StreamLimit (length s.streams)) None rest).0 in
-    let few : length s.streams < 128 = leb-false 128 (length s.streams) (second_false _ _ (ap is_none is) test) in
+    let limit = refused_if (is_none (stream_number s name) && nat_le most_streams (length s.streams)) (refusals.StreamLimit (length s.streams)) None in
+    let single = is_none (stream_number s name) && (s.dedicated && nat_le 1 (length s.streams)) in
+    let legal = none_of_option (name_fault name) (λ at. refusals.NameInvalid at) (refused_if single refusals.Dedicated limit) none in
+    let rest = passed_option (name_fault name) (λ at. refusals.NameInvalid at) (refused_if single refusals.Dedicated limit) none in
+    let last = (passed single refusals.Dedicated limit rest).1 in
+    let test = (passed (is_none (stream_number s name) && nat_le most_streams (length s.streams)) (refusals.StreamLimit (length s.streams)) None last).0 in
+    let few : length s.streams < most_streams = leb-false most_streams (length s.streams) (second_false _ _ (ap is_none is) test) in
     record {
       names = All-push (λ (stream : Stream). name_fault stream.name ≡ None) s.streams new limits.names legal;
       few_streams = omega (arith, few, length-append s.streams (new ∷ []));

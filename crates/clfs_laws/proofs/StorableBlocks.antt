@@ -74,6 +74,18 @@ put_by_shape false false s entry = seal_shape s
 pub put_shape : (s : State) (entry : LogEntry) → (put s entry).shape ≡ s.shape
 put_shape s entry = put_by_shape (joins s.shape s.place (length entry.bytes)) (begins_here s.shape s.place (length entry.bytes)) s entry
 
+-- nor does it become a dedicated log, or stop being one
+pub seal_dedicated : (s : State) → (seal s).dedicated ≡ s.dedicated
+seal_dedicated s = elim (cases_Bool (nat_lt 0 s.place.records)) [ inl some ↦ rw some refl | inr none ↦ rw none refl ]
+
+put_by_dedicated : (joining beginning : Bool) (s : State) (entry : LogEntry) → (put_by joining beginning s entry).dedicated ≡ s.dedicated
+put_by_dedicated true beginning s entry = refl
+put_by_dedicated false true s entry = seal_dedicated s
+put_by_dedicated false false s entry = seal_dedicated s
+
+pub put_dedicated : (s : State) (entry : LogEntry) → (put s entry).dedicated ≡ s.dedicated
+put_dedicated s entry = put_by_dedicated (joins s.shape s.place (length entry.bytes)) (begins_here s.shape s.place (length entry.bytes)) s entry
+
 -- a record that is put lies behind the others
 pub blocks_put : HasSpaceLaws → (s : State) (entry : LogEntry) → IsSound s → TakesRecord s (length entry.bytes)
     → IsJoining s (placed entry (next_lsn s (length entry.bytes)))

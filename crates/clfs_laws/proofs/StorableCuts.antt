@@ -30,8 +30,8 @@ use Rattle.clfs_laws.proofs.ValidCuts.{flushed_block}
 use Rattle.clfs_laws.proofs.ValidPlaces.{sound_of, opened_first}
 
 -- a log that has just been made
-pub storable_fresh : (shape : Shape) (containers buffers : ℕ) → IsStorable (fresh shape containers buffers)
-storable_fresh shape containers buffers = let s = fresh shape containers buffers in record {
+pub storable_fresh : (shape : Shape) (dedicated : Bool) (containers buffers : ℕ) → IsStorable (fresh shape dedicated containers buffers)
+storable_fresh shape dedicated containers buffers = let s = fresh shape dedicated containers buffers in record {
   bases = All-from_recursion (HasMovedBase s) [] tt;
   blocks = record { laid = tt; place = inr (inr (omega arith, refl)); container = omega arith };
   limits = record {

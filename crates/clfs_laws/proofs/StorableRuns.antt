@@ -55,11 +55,15 @@ storable_through space told before s t (entry ∷ entries) goes valid storable m
     (valid_step space told s entry.client entry.call entry.happened entry.reply goes.0 valid step)
     (storable_step space told s entry.client entry.call entry.happened entry.reply goes.0 valid storable meets.0 step) meets.1
 
--- so does a journal whose calls meet their conditions
+-- so do any part of a journal whose calls meet their conditions, and the whole
+pub storable_part : HasSpaceLaws → (told : Bool) (before : List Entry) (s t : State) (entries : List Entry) → GoesOn told before s entries t → IsValid s → IsStorable s
+    → All (λ (entry : Entry). MeetsCondition entry.client entry.call) entries → IsStorable t
+storable_part space told before s t entries goes valid storable meets =
+    storable_through space told before s t entries goes valid storable (recursion_from_All (λ (entry : Entry). MeetsCondition entry.client entry.call) entries meets)
+
 pub storable_journal : HasSpaceLaws → (told : Bool) (s t : State) (journal : List Entry) → IsLegal told journal s t → IsValid s → IsStorable s
     → All (λ (entry : Entry). MeetsCondition entry.client entry.call) journal → IsStorable t
-storable_journal space told s t journal legal valid storable meets =
-    storable_through space told [] s t journal legal valid storable (recursion_from_All (λ (entry : Entry). MeetsCondition entry.client entry.call) journal meets)
+storable_journal space told s t journal legal valid storable meets = storable_part space told [] s t journal legal valid storable meets
 
 -- what one request leaves
 pub record IsKept (t : State) : Type 0 where

@@ -126,9 +126,10 @@ records_are told s t x client call reply valid step leaves survives =
     ∙ append-nil (below_lsn (flushed s) s.records)
 
 -- states that have all in common are the same
-abbrev state_of : Shape → ℕ → ℕ → List Stream → List LogEntry → Place → List ℕ → List Area → Option ℕ → Option ℕ → Option ℕ → Option ℕ → Bool → Bool → State
-state_of shape containers buffers streams records place waiting areas archive maximum minimum growth automatic broken = record {
+abbrev state_of : Shape → Bool → ℕ → ℕ → List Stream → List LogEntry → Place → List ℕ → List Area → Option ℕ → Option ℕ → Option ℕ → Option ℕ → Bool → Bool → State
+state_of shape dedicated containers buffers streams records place waiting areas archive maximum minimum growth automatic broken = record {
   shape = shape;
+  dedicated = dedicated;
   containers = containers;
   buffers = buffers;
   streams = streams;
@@ -144,12 +145,12 @@ state_of shape containers buffers streams records place waiting areas archive ma
   broken = broken;
 }
 
-pub same_states : (a b : State) → a.shape ≡ b.shape → a.containers ≡ b.containers → a.buffers ≡ b.buffers → a.streams ≡ b.streams → a.records ≡ b.records
+pub same_states : (a b : State) → a.shape ≡ b.shape → a.dedicated ≡ b.dedicated → a.containers ≡ b.containers → a.buffers ≡ b.buffers → a.streams ≡ b.streams → a.records ≡ b.records
     → a.place ≡ b.place → a.waiting ≡ b.waiting → a.areas ≡ b.areas → a.archive ≡ b.archive → a.maximum ≡ b.maximum → a.minimum ≡ b.minimum
     → a.growth ≡ b.growth → a.automatic ≡ b.automatic → a.broken ≡ b.broken → a ≡ b
-same_states a b shape containers buffers streams records place waiting areas archive maximum minimum growth automatic broken =
-    let same : state_of a.shape a.containers a.buffers a.streams a.records a.place a.waiting a.areas a.archive a.maximum a.minimum a.growth a.automatic a.broken
-    ≡ state_of b.shape b.containers b.buffers b.streams b.records b.place b.waiting b.areas b.archive b.maximum b.minimum b.growth b.automatic b.broken = cc in
+same_states a b shape dedicated containers buffers streams records place waiting areas archive maximum minimum growth automatic broken =
+    let same : state_of a.shape a.dedicated a.containers a.buffers a.streams a.records a.place a.waiting a.areas a.archive a.maximum a.minimum a.growth a.automatic a.broken
+    ≡ state_of b.shape b.dedicated b.containers b.buffers b.streams b.records b.place b.waiting b.areas b.archive b.maximum b.minimum b.growth b.automatic b.broken = cc in
     same
 
 -- a survivor with the flushed records is the flushed part, but for the number of write buffers
@@ -157,7 +158,7 @@ pub is_cut_by : (asked : Request) (s t x : State) → LeavesStable s t → IsSur
     → record x { buffers = s.buffers } ≡ cut s
 is_cut_by asked s t x leaves survives records low =
     let settings = settings_are asked s t x leaves survives in
-    same_states (record x { buffers = s.buffers }) (cut s) survives.shape settings.containers refl
+    same_states (record x { buffers = s.buffers }) (cut s) survives.shape survives.dedicated settings.containers refl
     (streams_are s x settings.names (bases_are asked s t x leaves survives)) records
     (place_at x.place (flushed s) low (whole_sector s t x survives.place.end) survives.place.closed (frontier_is asked s t x leaves survives))
     survives.nothing_waits survives.no_areas settings.archive settings.maximum settings.minimum settings.growth settings.automatic survives.whole

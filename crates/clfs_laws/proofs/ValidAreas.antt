@@ -45,6 +45,7 @@ valid_areas s areas broken valid has = record {
     numbers = has.numbers;
     areas = All-weaker (IsArea s) (IsArea (record s { areas = areas; broken = broken }))
         (λ area is. record { stream = is.stream; largest = is.largest; cursors = is.cursors }) areas has.each;
+    dedicated = valid.tables.dedicated;
   };
   records = record {
     rising = valid.records.rising;

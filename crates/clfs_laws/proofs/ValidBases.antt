@@ -24,9 +24,10 @@ use Rattle.clfs_laws.proofs.Links.{found_at, all_below}
 abbrev pub needing : State → List Stream → Option ℕ → State
 needing s streams archive = record s { streams = streams; archive = archive }
 
--- what makes it valid: every stream is still there, its base doesn't fall, and all of it is on the disk
+-- what makes it valid: a dedicated log has no second stream, every stream is still there, its base doesn't fall, and all of it is on the disk
 pub record HasNeeds (s t : State) : Type 0 where
   pub names : AllPairs (λ (a b : Stream). a.name ≢ b.name) t.streams
+  pub alone : s.dedicated ≡ true → length t.streams ≤ 1
   pub there : (number : ℕ) → IsSome (stream_at s number) → IsSome (stream_at t number)
   pub bases : All (λ (stream : Stream). stream.base ≤ flushed s) t.streams
   pub higher : (number : ℕ) → IsSome (stream_at s number) → base_of s number ≤ base_of t number
@@ -80,6 +81,7 @@ valid_needing s streams archive valid has =
         numbers = valid.tables.numbers;
         areas = All-weaker (IsArea s) (IsArea t)
             (λ area is. record { stream = has.there area.stream is.stream; largest = is.largest; cursors = is.cursors }) s.areas valid.tables.areas;
+        dedicated = has.alone;
       };
       records = record {
         rising = valid.records.rising;
@@ -190,6 +192,7 @@ valid_set_base s number lsn valid some rises stable =
     let above : base_at s.streams (number - 1) ≤ lsn = omega (arith, rises, at.1) in
     valid_needing s (set_base number lsn s.streams) s.archive valid (record {
       names = set_names number lsn s.streams valid.tables.names;
+      alone = λ is. omega (arith, valid.tables.dedicated is, set_length number lsn s.streams);
       there = λ other. there_of s t other (set_there number lsn s.streams (other - 1));
       bases = All-from_recursion (λ (stream : Stream). stream.base ≤ flushed s) (set_base number lsn s.streams)
           (set_bases number lsn (flushed s) s.streams stable (recursion_from_All (λ (stream : Stream). stream.base ≤ flushed s) s.streams valid.stable.bases));
@@ -203,6 +206,7 @@ pub valid_archive : (s : State) (archive : Option ℕ) → IsValid s → IfSome 
     → IsValid (record s { archive = archive })
 valid_archive s archive valid stable later = valid_needing s s.streams archive valid (record {
   names = valid.tables.names;
+  alone = valid.tables.dedicated;
   there = λ number some. some;
   bases = valid.stable.bases;
   higher = λ number some. omega arith;

@@ -22,9 +22,9 @@ use Rattle.clfs_laws.proofs.HoldOrder.{hold_later, hold_below_archive, hold_belo
 use Rattle.clfs_laws.proofs.ValidStreams.{hold_flushed}
 
 -- a log that has just been made
-pub valid_fresh : (shape : Shape) (containers buffers : ℕ) → IsShape shape → 1 ≤ containers → containers ≤ 256 → 1 ≤ buffers → buffers ≤ 64
-    → IsValid (fresh shape containers buffers)
-valid_fresh shape containers buffers is some few some_buffers few_buffers = let s = fresh shape containers buffers in record {
+pub valid_fresh : (shape : Shape) (dedicated : Bool) (containers buffers : ℕ) → IsShape shape → 1 ≤ containers → containers ≤ 256 → 1 ≤ buffers → buffers ≤ 64
+    → IsValid (fresh shape dedicated containers buffers)
+valid_fresh shape dedicated containers buffers is some few some_buffers few_buffers = let s = fresh shape dedicated containers buffers in record {
   ranges = record {
     shape = is;
     some_containers = some;
@@ -38,6 +38,7 @@ valid_fresh shape containers buffers is some few some_buffers few_buffers = let 
     names = λ i j d below within. absurd (omega (arith, within));
     numbers = λ i j d below within. absurd (omega (arith, within));
     areas = All-from_recursion (IsArea s) [] tt;
+    dedicated = λ _. omega arith;
   };
   records = record {
     rising = λ k within. absurd (omega (arith, within));
@@ -149,6 +150,7 @@ valid_cut s valid =
         names = valid.tables.names;
         numbers = λ i j d less within. absurd (omega (arith, within));
         areas = All-from_recursion (IsArea t) [] tt;
+        dedicated = valid.tables.dedicated;
       };
       records = record {
         rising = subst IsStrictlyIncreasing (filter_lsns f s.records) (IsStrictlyIncreasing-filter (λ n. nat_lt n f) (map (λ (entry : LogEntry). entry.lsn) s.records) valid.records.rising);

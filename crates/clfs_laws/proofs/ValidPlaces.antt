@@ -106,6 +106,7 @@ sound_moved s records place waiting sound has = record {
     numbers = sound.tables.numbers;
     areas = All-weaker (IsArea s) (IsArea (moved s records place waiting))
         (λ area is. record { stream = is.stream; largest = is.largest; cursors = is.cursors }) s.areas sound.tables.areas;
+    dedicated = sound.tables.dedicated;
   };
   records = has.records;
   stable = has.stable;

@@ -37,7 +37,7 @@ pub valid_reopened : (told : Bool) (s : State) (happened : Happened) (reply : Re
 unfolding ReopenStep
 valid_reopened told s happened reply t step valid = reopened_by told s happened reply t s.broken step valid
 
-valid_through : HasSpaceLaws → (told : Bool) (before : List Entry) (s t : State) (entries : List Entry) → GoesOn told before s entries t → IsValid s → IsValid t
+pub valid_through : HasSpaceLaws → (told : Bool) (before : List Entry) (s t : State) (entries : List Entry) → GoesOn told before s entries t → IsValid s → IsValid t
 valid_through space told before s t [] goes valid = valid_as s t goes valid
 valid_through space told before s t (entry ∷ entries) goes valid =
     valid_through space told (before ++ entry ∷ []) goes.0 t entries goes.1.1

@@ -48,6 +48,7 @@ valid_containers s n valid some few used room two = record {
     numbers = valid.tables.numbers;
     areas = All-weaker (IsArea s) (IsArea (with_containers n s))
         (λ area is. record { stream = is.stream; largest = is.largest; cursors = is.cursors }) s.areas valid.tables.areas;
+    dedicated = valid.tables.dedicated;
   };
   records = record {
     rising = valid.records.rising;
@@ -112,6 +113,7 @@ valid_policies s maximum minimum growth_policy automatic valid fits = let t : St
     names = valid.tables.names;
     numbers = valid.tables.numbers;
     areas = All-weaker (IsArea s) (IsArea t) (λ area is. record { stream = is.stream; largest = is.largest; cursors = is.cursors }) s.areas valid.tables.areas;
+    dedicated = valid.tables.dedicated;
   };
   records = record {
     rising = valid.records.rising;

@@ -96,7 +96,7 @@ valid_reserving space s client number sizes area two there none valid =
 
 -- what a call that isn't refused leaves
 pub valid_answer : HasSpaceLaws → (s : State) (client : ℕ) (call : Call) → refusal s client call ≡ None → IsValid s → IsValid (answer s client call).state
-valid_answer space s client (calls.OpenStream name) none valid = valid_opened s name valid
+valid_answer space s client (calls.OpenStream name) none valid = valid_opened s name none valid
 valid_answer space s client (calls.CreateArea stream largest reads) none valid = valid_created s client stream largest reads none valid
 valid_answer space s client (calls.DeleteArea number) none valid = valid_deleted s (is_area client number) valid
 valid_answer space s client (calls.Reserve number sizes) none valid =

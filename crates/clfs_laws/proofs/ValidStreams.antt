@@ -1,13 +1,14 @@
 -- A new stream, archiving and a new base keep a state valid.
-use Rattle.std.proofs.Common.{◌≡◌, ◌≢◌, ℕ, zero, suc, ◌+◌, ◌-◌, ◌≤◌, Bool, true, false, refl, sym, ap, subst, inl, inr, arith, List, [], ◌∷◌, ◌++◌, length}
-use Rattle.std.specs.Prelude.{Option, Some, None, IfSome, IsSome, find, slice_get, nat_lt, not, ◌||◌, ◌==◌}
+use Rattle.std.proofs.Common.{◌≡◌, ◌≢◌, ℕ, zero, suc, ◌+◌, ◌-◌, ◌<◌, ◌≤◌, Bool, true, false, refl, sym, ap, subst, inl, inr, arith, List, [], ◌∷◌, ◌++◌, length, length-append}
+use Rattle.std.specs.Prelude.{Option, Some, None, IfSome, IsSome, is_none, find, slice_get, nat_lt, nat_le, not, ◌&&◌, ◌||◌, ◌==◌}
 use Rattle.std.specs.List.{AllByRecursion}
 use Rattle.std.specs.Option.{option_map_or, option_to_list}
 use Rattle.std.specs.Str.{bytes_eq}
-use Rattle.std.proofs.lemmas.Bool.{cases_Bool, eqb-true, ltb-true, ltb-false, le-leb}
+use Rattle.std.proofs.lemmas.Bool.{cases_Bool, eqb-true, ltb-true, ltb-false, leb-false, le-leb}
 use Rattle.std.proofs.lemmas.List.Elements.{All-push, All-from_recursion, recursion_from_All}
 use Rattle.std.proofs.lemmas.List.Quantifiers.{all_pairs_push}
 use Rattle.std.proofs.lemmas.Slice.Eq.{bytes_eq-Decides}
+use Rattle.clfs_lsn.specs.Limits.{most_streams}
 use Rattle.clfs_lsn.specs.Lsn.{null_lsn}
 use Rattle.clfs_lsn.specs.Place.{frontier}
 use Rattle.clfs_lsn.specs.declared.entry.LogEntry.{LogEntry}
@@ -17,11 +18,11 @@ use Rattle.clfs_model.specs.declared.state.Stream.{Stream}
 use Rattle.clfs_model.specs.State.{stream_at, base_of, set_base}
 use Rattle.clfs_model.specs.Live.{is_live, hold, last_live}
 use Rattle.clfs_model.specs.Flush.{block_start, first_or, flushed, flush}
-use Rattle.clfs_model.specs.Refusals.{refused_if, stream_number, stream_number_from, is_base, invalid_base, tail_refusal}
+use Rattle.clfs_model.specs.Refusals.{refused_if, name_fault, stream_number, stream_number_from, open_refusal, is_base, invalid_base, tail_refusal}
 use Rattle.clfs_model.specs.declared.reply.Reply.TheVariants as replies
 use Rattle.clfs_model.specs.Answers.{outcome, opened, archiving, advanced}
 use Rattle.clfs_model.specs.Valid.{IsValid, IsWaiting}
-use Rattle.clfs_laws.proofs.NotRefused.{passed}
+use Rattle.clfs_laws.proofs.NotRefused.{passed, passed_option, second_false}
 use Rattle.clfs_laws.proofs.ValidPlaces.{IsSound, sound_of, opened_first, valid_flush}
 use Rattle.clfs_laws.proofs.HoldOrder.{hold_below_archive, hold_below_live, hold_below_frontier}
 use Rattle.clfs_laws.proofs.Links.{base_stable}
@@ -52,15 +53,26 @@ stream_more s new number some = elim (cases_Bool (number == 0)) [
   | inr has ↦ rw has (get_more s.streams (new ∷ []) (number - 1) (rw has at some))
 ]
 
+-- a dedicated log in which a stream is to be made has none
+alone : (s : State) (name : List ℕ) → open_refusal s name ≡ None → stream_number s name ≡ None → s.dedicated ≡ true → length s.streams ≡ 0
+alone s name none unused is =
+    let limit = refused_if (is_none (stream_number s name) && nat_le most_streams (length s.streams)) (refusals.StreamLimit (length s.streams)) None in
+    let single = is_none (stream_number s name) && (s.dedicated && nat_le 1 (length s.streams)) in
+    let rest = passed_option (name_fault name) (λ at. refusals.NameInvalid at) (refused_if single refusals.Dedicated limit) none in
+    let test = (passed single refusals.Dedicated limit rest).0 in
+    let few : length s.streams < 1 = leb-false 1 (length s.streams) (second_false _ _ is (second_false _ _ (ap is_none unused) test)) in
+    omega (arith, few)
+
 -- a stream of a new name, without a base
-pub valid_new_stream : (s : State) (name : List ℕ) → stream_number s name ≡ None → IsValid s
+pub valid_new_stream : (s : State) (name : List ℕ) → open_refusal s name ≡ None → stream_number s name ≡ None → IsValid s
     → IsValid (record s { streams = s.streams ++ record { name = name; base = null_lsn } ∷ [] })
-valid_new_stream s name unused valid =
+valid_new_stream s name none unused valid =
     let new : Stream = record { name = name; base = null_lsn } in
     let t : State = needing s (s.streams ++ new ∷ []) s.archive in
     valid_needing s (s.streams ++ new ∷ []) s.archive valid (record {
       names = all_pairs_push (λ (a b : Stream). a.name ≢ b.name) s.streams new valid.tables.names
           (All-from_recursion (λ (stream : Stream). stream.name ≢ name) s.streams (not_found 1 name s.streams unused));
+      alone = λ is. omega (arith, alone s name none unused is, length-append s.streams (new ∷ []));
       there = λ number some.
           let F : Option Stream → Type 0 = λ found. IsSome found in
           subst F (sym (stream_more s new number some)) some;
@@ -74,14 +86,14 @@ valid_new_stream s name unused valid =
     })
 
 -- opening a stream
-opened_by : (s : State) (name : List ℕ) (found : Option ℕ) → stream_number s name ≡ found → IsValid s
+opened_by : (s : State) (name : List ℕ) (found : Option ℕ) → open_refusal s name ≡ None → stream_number s name ≡ found → IsValid s
     → IsValid (option_map_or (λ number. outcome (replies.Stream number) s) found
     (outcome (replies.Stream (length s.streams + 1)) (record s { streams = s.streams ++ record { name = name; base = null_lsn } ∷ [] }))).state
-opened_by s name None is valid = valid_new_stream s name is valid
-opened_by s name (Some number) is valid = valid
+opened_by s name None none is valid = valid_new_stream s name none is valid
+opened_by s name (Some number) none is valid = valid
 
-pub valid_opened : (s : State) (name : List ℕ) → IsValid s → IsValid (opened s name).state
-valid_opened s name valid = opened_by s name (stream_number s name) refl valid
+pub valid_opened : (s : State) (name : List ℕ) → open_refusal s name ≡ None → IsValid s → IsValid (opened s name).state
+valid_opened s name none valid = opened_by s name (stream_number s name) none refl valid
 
 -- a record at or above what is on the disk is live, so the hold isn't above it
 hold_at : (s : State) (lsn : ℕ) (entries : List LogEntry) → IsSound s → flushed s ≤ lsn

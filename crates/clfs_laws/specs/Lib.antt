@@ -8,3 +8,5 @@ pub mod Stable
 pub mod Meets
 pub mod Between
 pub mod Stages
+pub mod ReplyKinds
+pub mod PlainWork

@@ -34,11 +34,13 @@ pub fn numbers_count_up()
         → map (λ (entry : Entry). entry.number) (mine journal client) ≡ range_with_len 1 (length (mine journal client)) }
 {}
 
-/// The LSN up to which the log is on the disk never falls, neither in a step from a valid state nor along a legal journal.
+/// The LSN up to which the log is on the disk never falls, neither in a step from a valid state nor along a legal journal nor along any
+/// part of one.
 pub fn flushed_never_falls()
     ensures step { (told : Bool) (s : State) (client : ℕ) (call : Call) (happened : Happened) (reply : Reply) (t : State)
         → IsValid s → Step told s client call happened reply t → flushed s ≤ flushed t }
     ensures journal { (told : Bool) (s t : State) (journal : List Entry) → IsValid s → IsLegal told journal s t → flushed s ≤ flushed t }
+    ensures part { (told : Bool) (before : List Entry) (s t : State) (entries : List Entry) → IsValid s → GoesOn told before s entries t → flushed s ≤ flushed t }
 {
     space_laws();
 }

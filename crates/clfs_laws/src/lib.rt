@@ -24,16 +24,19 @@ pub use between::{
 };
 pub use journals::{flushed_never_falls, fronts_are_legal, journals_join, numbers_count_up};
 pub use reading::{reading_gives_the_chain, reading_on_gives_all, restart_areas_come_newest_first};
-pub use refusals::{broken_stays, faults_break, opening_anew_ends_areas, refusals_change_nothing};
+pub use refusals::{
+    broken_stays, faults_break, opening_anew_ends_areas, refusals_change_nothing, unbroken_stays,
+};
 pub use runs::{opening_anew_comes_to_the_cut, runs_join};
 pub use same::{sameness, the_holds_container_never_falls, the_same_answer_alike};
 pub use space::{
-    full_where_no_room, held_sectors_suffice, reserved_is_free, short_where_less_is_held,
+    full_where_no_room, held_sectors_suffice, plain_work_takes_its_own_sectors, reserved_is_free,
+    short_where_less_is_held,
 };
 pub use stages::states_between_survive;
 pub use steps::{
     a_flush_goes_past_its_lsn, quiet_calls_leave_the_cut, reads_find_records,
-    refusals_are_the_calls_own, steps_only_add_records,
+    refusals_are_the_calls_own, replies_are_of_their_calls, steps_only_add_records,
 };
 pub use storable::{
     first_states_are_storable, laid_blocks_end_at_the_place, numbers_fit_their_types,
@@ -43,4 +46,4 @@ pub use survivors::{
     opening_anew_survives_as_the_cut, quiet_calls_survive_as_the_cut,
     survivors_keep_what_was_flushed, the_cut_survives,
 };
-pub use validity::{first_states_are_valid, steps_keep_a_state_valid};
+pub use validity::{extents_are_few, first_states_are_valid, steps_keep_a_state_valid};

@@ -1,10 +1,13 @@
 // What refusals leave.
-ghost use Rattle.std.specs.Prelude.{◌≡◌, ℕ, Bool, true, []};
+ghost use Rattle.std.specs.Prelude.{◌≡◌, ◌≢◌, ℕ, Bool, true, false, List, [], All};
 ghost use Rattle.clfs_model.specs.declared.call.Call.{Call};
 ghost use Rattle.clfs_model.specs.declared.reply.Happened.{Happened};
 ghost use Rattle.clfs_model.specs.declared.reply.Reply.{Reply};
 ghost use Rattle.clfs_model.specs.declared.reply.Reply.TheVariants as replies;
 ghost use Rattle.clfs_model.specs.declared.refusal.Refusal.{Refusal};
+ghost use Rattle.clfs_model.specs.declared.refusal.Refusal.TheVariants as refusals;
+ghost use Rattle.clfs_model.specs.declared.journal.Entry.{Entry};
+ghost use Rattle.clfs_model.specs.Journals.{GoesOn};
 ghost use Rattle.clfs_model.specs.declared.state.State.{State};
 ghost use Rattle.clfs_model.specs.Happened.{happened_of, happened_of_refusal};
 ghost use Rattle.clfs_model.specs.Step.{Step, ReopenStep, IsBroken};
@@ -39,4 +42,21 @@ pub fn broken_stays()
 pub fn opening_anew_ends_areas()
     ensures { (told : Bool) (s : State) (happened : Happened) (lsn : ℕ) (t : State)
         → ReopenStep told s happened (replies.Flushed lsn) t → t.areas ≡ [] }
+{}
+
+/// A log that isn't broken stays so in every step that tells neither a fault nor damage, and where it is opened anew without them, and
+/// the reply doesn't say that it is broken. A step in which nothing happened tells neither. So along any part of a legal journal in
+/// which nothing happened the log stays so, and no entry says that it is broken.
+pub fn unbroken_stays()
+    ensures calls { (told : Bool) (s : State) (client : ℕ) (call : Call) (happened : Happened) (reply : Reply) (t : State)
+        → s.broken ≡ false → happened_of reply ≡ Happened.Fine → Step told s client call happened reply t
+        → (t.broken ≡ false) × (reply ≢ replies.Refused refusals.Broken) }
+    ensures reopening { (told : Bool) (s : State) (happened : Happened) (reply : Reply) (t : State)
+        → s.broken ≡ false → happened_of reply ≡ Happened.Fine → ReopenStep told s happened reply t
+        → (t.broken ≡ false) × (reply ≢ replies.Refused refusals.Broken) }
+    ensures fine { (told : Bool) (s : State) (client : ℕ) (call : Call) (reply : Reply) (t : State)
+        → Step told s client call Happened.Fine reply t → happened_of reply ≡ Happened.Fine }
+    ensures part { (told : Bool) (before : List Entry) (s t : State) (entries : List Entry)
+        → s.broken ≡ false → GoesOn told before s entries t → All (λ (entry : Entry). entry.happened ≡ Happened.Fine) entries
+        → (t.broken ≡ false) × All (λ (entry : Entry). entry.reply ≢ replies.Refused refusals.Broken) entries }
 {}

@@ -6,10 +6,12 @@ ghost use Rattle.clfs_model.specs.declared.journal.Entry.{Entry};
 ghost use Rattle.clfs_model.specs.declared.reply.Happened.{Happened};
 ghost use Rattle.clfs_model.specs.declared.reply.Reply.{Reply};
 ghost use Rattle.clfs_model.specs.declared.state.State.{State};
-ghost use Rattle.clfs_model.specs.Live.{hold};
+ghost use Rattle.clfs_model.specs.Live.{hold, live};
 ghost use Rattle.clfs_model.specs.Flush.{cut, IsSame};
 ghost use Rattle.clfs_model.specs.Journals.{IsLegal};
+ghost use Rattle.clfs_model.specs.Reading.{restart_areas};
 ghost use Rattle.clfs_model.specs.Refusals.{refusal};
+ghost use Rattle.clfs_model.specs.State.{base_of};
 ghost use Rattle.clfs_model.specs.Step.{Step, ReopenStep, calls_disk};
 ghost use Rattle.clfs_model.specs.Run.{Request, Run};
 ghost use Rattle.clfs_model.specs.Valid.{IsValid};
@@ -36,12 +38,16 @@ pub fn the_same_answer_alike()
 }
 
 /// Every state is the same as itself; where one is the same as another, so is the other as the one; and what is the same as a third is
-/// so through it. The flushed parts of valid states that are the same are the same.
+/// so through it. The flushed parts of valid states that are the same are the same. States that are the same have the same live records
+/// of each stream, the same bases and the same restart areas.
 pub fn sameness()
     ensures itself { (s : State) → IsSame s s }
     ensures turned { (s t : State) → IsSame s t → IsSame t s }
     ensures through { (s t u : State) → IsSame s t → IsSame t u → IsSame s u }
     ensures cut { (s u : State) → IsValid s → IsValid u → IsSame s u → IsSame (cut s) (cut u) }
+    ensures live { (s u : State) (stream : ℕ) → IsSame s u → live s stream ≡ live u stream }
+    ensures bases { (s u : State) (stream : ℕ) → IsSame s u → base_of s stream ≡ base_of u stream }
+    ensures restarts { (s u : State) (stream : ℕ) → IsSame s u → restart_areas s stream ≡ restart_areas u stream }
 {}
 
 /// The container of the hold never falls: in a step from a valid state, where a valid log is opened anew over a disk that tells what

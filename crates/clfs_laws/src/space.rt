@@ -1,10 +1,11 @@
 // When a call is refused for space, and when it can't be.
-ghost use Rattle.std.specs.Prelude.{◌≡◌, ◌≤◌, ◌<◌, ◌==◌, ◌||◌, nat_lt, ℕ, Bool, true, false, List, [], ◌∷◌, length, Some, None};
+ghost use Rattle.std.specs.Prelude.{◌≡◌, ◌≤◌, ◌<◌, ◌+◌, ◌==◌, ◌||◌, nat_lt, ℕ, Bool, true, false, List, [], ◌∷◌, length, All, Some, None};
 ghost use Rattle.clfs_lsn.specs.Lsn.{null_lsn};
 ghost use Rattle.clfs_lsn.specs.Size.{own};
 ghost use Rattle.clfs_model.specs.declared.call.Call.{Call};
 ghost use Rattle.clfs_model.specs.declared.call.Call.TheVariants as calls;
 ghost use Rattle.clfs_model.specs.declared.call.Draft.{Draft};
+ghost use Rattle.clfs_model.specs.declared.journal.Entry.{Entry};
 ghost use Rattle.clfs_model.specs.declared.refusal.Refusal.{Refusal};
 ghost use Rattle.clfs_model.specs.declared.refusal.Refusal.TheVariants as refusals;
 ghost use Rattle.clfs_model.specs.declared.reply.Happened.{Happened};
@@ -13,10 +14,12 @@ ghost use Rattle.clfs_model.specs.declared.state.State.{State};
 ghost use Rattle.clfs_model.specs.declared.state.Area.{Area};
 ghost use Rattle.clfs_model.specs.State.{area_of};
 ghost use Rattle.clfs_model.specs.Space.{own_sum, free, reserved, grown, has_room};
+ghost use Rattle.clfs_model.specs.Journals.{GoesOn};
 ghost use Rattle.clfs_model.specs.Put.{need_of, spent_of};
 ghost use Rattle.clfs_model.specs.Refusals.{is_link, is_base, refusal};
 ghost use Rattle.clfs_model.specs.Step.{Step};
 ghost use Rattle.clfs_model.specs.Valid.{IsValid};
+ghost use Rattle.clfs_laws.specs.PlainWork.{is_plain_work, sectors_of_records};
 ghost use Rattle.clfs_laws.specs.Needs.{needed_sectors, taken_sectors, area_number, held_if_there, first_too_long, is_for_room};
 
 use clfs_space::space_laws;
@@ -104,3 +107,14 @@ pub fn held_sectors_suffice()
         → IsValid s → area_of s client number ≡ Some area → own (length draft.bytes) ≤ area.held
         → Step told s client (calls.Append number draft true []) happened (replies.Refused given) t → is_for_room given ≡ false }
 {}
+
+/// Plain work takes no more of the free sectors than the records that it appends, each in a block of its own, and leaves the number of
+/// containers, in a log without automatic growth: along any part of a legal journal whose calls are openings of streams, makings of
+/// areas, flushes up to an LSN, and appends that neither take held sectors nor ask for more.
+pub fn plain_work_takes_its_own_sectors()
+    ensures { (told : Bool) (before : List Entry) (s t : State) (entries : List Entry)
+        → IsValid s → s.automatic ≡ false → GoesOn told before s entries t → All (λ (entry : Entry). is_plain_work entry.call ≡ true) entries
+        → (t.containers ≡ s.containers) × ((t.automatic ≡ s.automatic) × (free s ≤ free t + sectors_of_records entries)) }
+{
+    space_laws();
+}

@@ -19,7 +19,9 @@ ghost use Rattle.clfs_model.specs.Reading.{chain, restart_areas};
 ghost use Rattle.clfs_model.specs.Refusals.{refusal};
 ghost use Rattle.clfs_model.specs.Step.{Step, calls_disk};
 ghost use Rattle.clfs_model.specs.Valid.{IsValid};
+ghost use Rattle.clfs_laws.specs.Needs.{area_number};
 ghost use Rattle.clfs_laws.specs.Refused.{is_of_call};
+ghost use Rattle.clfs_laws.specs.ReplyKinds.{is_reply_of};
 
 use clfs_space::space_laws;
 
@@ -36,6 +38,15 @@ pub fn refusals_are_the_calls_own()
         → refusal s client call ≡ None → Step told s client call happened (replies.Refused given) t → is_of_call given ≡ false }
     ensures no_bad_line { (told : Bool) (s : State) (client : ℕ) (call : Call) (happened : Happened) (at : ℕ) (t : State)
         → Step told s client call happened (replies.Refused (refusals.BadLine at)) t → ⊥ }
+{}
+
+/// A call is answered by a reply of its own kind, or refused by a refusal that it may meet: one of its own list, that the log is
+/// broken, or, where it takes memory, may call the disk, or reads, for that. That there is no such area is told only where it isn't there.
+pub fn replies_are_of_their_calls()
+    ensures kind { (told : Bool) (s : State) (client : ℕ) (call : Call) (happened : Happened) (reply : Reply) (t : State)
+        → Step told s client call happened reply t → is_reply_of call reply ≡ true }
+    ensures missing { (told : Bool) (s : State) (client : ℕ) (call : Call) (happened : Happened) (t : State)
+        → Step told s client call happened (replies.Refused refusals.NoSuchArea) t → area_of s client (area_number call) ≡ None }
 {}
 
 /// A step keeps all records and adds only such as lie at or above the frontier that it began with.

@@ -19,7 +19,7 @@ ghost use Rattle.clfs_model.specs.declared.state.Stream.{Stream};
 ghost use Rattle.clfs_model.specs.Archive.{end_of_block};
 ghost use Rattle.clfs_model.specs.Conditions.{MeetsCondition};
 ghost use Rattle.clfs_model.specs.Flush.{flushed, cut};
-ghost use Rattle.clfs_model.specs.Journals.{IsLegal};
+ghost use Rattle.clfs_model.specs.Journals.{GoesOn, IsLegal};
 ghost use Rattle.clfs_model.specs.Run.{Request, Run};
 ghost use Rattle.clfs_model.specs.State.{fresh};
 ghost use Rattle.clfs_model.specs.Step.{Step, ReopenStep};
@@ -32,13 +32,13 @@ use clfs_space::space_laws;
 
 /// Files can hold a log that has just been made, and the flushed part of a log that they can hold.
 pub fn first_states_are_storable()
-    ensures fresh { (shape : Shape) (containers buffers : ℕ) → IsShape shape → 1 ≤ containers → containers ≤ most_containers → 1 ≤ buffers → buffers ≤ most_write_buffers
-        → IsStorable (fresh shape containers buffers) }
+    ensures fresh { (shape : Shape) (dedicated : Bool) (containers buffers : ℕ) → IsShape shape → 1 ≤ containers → containers ≤ most_containers → 1 ≤ buffers → buffers ≤ most_write_buffers
+        → IsStorable (fresh shape dedicated containers buffers) }
     ensures cut { (s : State) → IsValid s → IsStorable s → IsStorable (cut s) }
 {}
 
 /// Every step of a call that meets its condition leaves a state that files can hold, whatever happens, where it began in one; so do
-/// opening the log anew, a legal journal of such calls and a run of such requests.
+/// opening the log anew, a legal journal of such calls, any part of one, and a run of such requests.
 pub fn steps_keep_a_state_storable()
     ensures step { (told : Bool) (s : State) (client : ℕ) (call : Call) (happened : Happened) (reply : Reply) (t : State)
         → IsValid s → IsStorable s → MeetsCondition client call → Step told s client call happened reply t → IsStorable t }
@@ -46,6 +46,8 @@ pub fn steps_keep_a_state_storable()
         → IsValid s → IsStorable s → ReopenStep told s happened reply t → IsStorable t }
     ensures journal { (told : Bool) (s t : State) (journal : List Entry) → IsValid s → IsStorable s
         → All (λ (entry : Entry). MeetsCondition entry.client entry.call) journal → IsLegal told journal s t → IsStorable t }
+    ensures part { (told : Bool) (before : List Entry) (s t : State) (entries : List Entry) → IsValid s → IsStorable s
+        → All (λ (entry : Entry). MeetsCondition entry.client entry.call) entries → GoesOn told before s entries t → IsStorable t }
     ensures run { (told : Bool) (s : State) (requests : List Request) (happened : List Happened) (replies : List Reply) (t : State)
         → IsValid s → IsStorable s → All RequestMeets requests → Run told s requests happened replies t → IsStorable t }
 {

@@ -11,6 +11,3 @@ mod row;
 
 pub use reservations::{Reservations, Short};
 pub use row::Reservation;
-
-#[cfg(test)]
-mod tests;

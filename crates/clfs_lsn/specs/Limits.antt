@@ -31,11 +31,11 @@ most_write_buffers = 64
 
 -- the most streams of a log
 abbrev pub most_streams : ℕ
-most_streams = 128
+most_streams = 192
 
 -- the most bytes of a stream's name
 abbrev pub longest_name : ℕ
-longest_name = 32
+longest_name = 64
 
 -- the highest number of a client
 abbrev pub most_clients : ℕ

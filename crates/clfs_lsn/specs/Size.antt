@@ -27,3 +27,7 @@ own n = sectors (block_header + size n)
 -- the most bytes of data of a record: those that fill a largest block
 abbrev pub longest : Shape → ℕ
 longest shape = sector_payload * shape.block_sectors - (block_header + record_header)
+
+-- the most bytes of data of a record of any log: those that fill a block of 128 sectors
+abbrev pub most_data : ℕ
+most_data = sector_payload * most_block_sectors - (block_header + record_header)

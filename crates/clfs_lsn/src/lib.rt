@@ -26,7 +26,7 @@ pub use format::{
     BLOCK_HEADER, MOST_BLOCK_RECORDS, OPEN_GATE, RECORD_HEADER, SECTOR, SECTOR_PAYLOAD, sectors_of,
     size_of_record,
 };
-pub use limits::{FEWEST_CONTAINERS, GREATEST_GROWTH, MOST_CONTAINERS};
+pub use limits::{FEWEST_CONTAINERS, GREATEST_GROWTH, LONGEST_NAME, MOST_CONTAINERS, MOST_STREAMS};
 pub use lsn::{Lsn, every_number_is_an_lsn};
 pub use name::Name;
 pub use place::{Place, frontier, place_after, sealed};
@@ -34,6 +34,3 @@ pub use policy::{Policy, PolicyKind};
 pub use room::{push_reserved, push_zeros};
 pub use shape::{Shape, longest, own};
 pub use sizes::Sizes;
-
-#[cfg(test)]
-mod tests;

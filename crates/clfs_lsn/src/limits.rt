@@ -8,3 +8,9 @@ pub const FEWEST_CONTAINERS: u16 = 2;
 
 /// The most containers that a log grows by in one step: from the fewest to the most.
 pub const GREATEST_GROWTH: u16 = 254;
+
+/// The most streams of a log.
+pub const MOST_STREAMS: u16 = 192;
+
+/// The most bytes of a stream's name.
+pub const LONGEST_NAME: u16 = 64;

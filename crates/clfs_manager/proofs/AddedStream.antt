@@ -89,23 +89,31 @@ open_allowed s name allowed none = by_fault (name_fault name) refl
     full : Refusal
     full = refusals.StreamLimit (length s.streams)
 
+    single : Bool
+    single = s.dedicated && nat_le 1 (length s.streams)
+
+    -- what is refused behind the name
+    rest : Option ℕ → Option Refusal
+    rest found = refused_if (is_none found && single) refusals.Dedicated (refused_if (is_none found && nat_le most_streams (length s.streams)) full None)
+
     by_long : (b : Bool) → nat_le most_streams (length s.streams) ≡ b → refused_if (true && b) full None ≡ None → length s.streams < most_streams
     by_long true is refused = absurd (cc refused)
     by_long false is refused = grind (arith, nat_tests, is)
 
+    by_single : (b : Bool) → refused_if (true && b) refusals.Dedicated (refused_if (true && nat_le most_streams (length s.streams)) full None) ≡ None
+        → length s.streams < most_streams
+    by_single true refused = absurd (cc refused)
+    by_single false refused = by_long (nat_le most_streams (length s.streams)) refl refused
+
     by_fault : (o : Option ℕ) → name_fault name ≡ o → (name_fault name ≡ None) × (length s.streams < most_streams)
     by_fault (Some at) is =
-        let refused : Some (refusals.NameInvalid at) ≡ None = subst (λ (o : Option ℕ). option_map_or (λ at. Some (refusals.NameInvalid at)) o
-        (refused_if (is_none (stream_number s name) && nat_le most_streams (length s.streams)) full None) ≡ None) is allowed in
+        let refused : Some (refusals.NameInvalid at) ≡ None =
+        subst (λ (o : Option ℕ). option_map_or (λ at. Some (refusals.NameInvalid at)) o (rest (stream_number s name)) ≡ None) is allowed in
         absurd (cc refused)
     by_fault None is =
-        let rest : refused_if (is_none (stream_number s name) && nat_le most_streams (length s.streams)) full None ≡ None =
-        subst (λ (o : Option ℕ). option_map_or (λ at. Some (refusals.NameInvalid at)) o
-        (refused_if (is_none (stream_number s name) && nat_le most_streams (length s.streams)) full None) ≡ None) is allowed in (
-          is,
-          by_long (nat_le most_streams (length s.streams)) refl
-              (subst (λ (o : Option ℕ). refused_if (is_none o && nat_le most_streams (length s.streams)) full None ≡ None) none rest),
-        )
+        let passed : rest (stream_number s name) ≡ None =
+        subst (λ (o : Option ℕ). option_map_or (λ at. Some (refusals.NameInvalid at)) o (rest (stream_number s name)) ≡ None) is allowed in
+        (is, by_single single (subst (λ (o : Option ℕ). rest o ≡ None) none passed))
 
 -- No row has a name that no stream has.
 pub no_row : (rows : List Row) (bases : List ℕ) (number : ℕ) (name : List ℕ) → length (streams_with rows bases) ≡ length rows
@@ -125,22 +133,22 @@ no_row (row ∷ rows) (base ∷ bases) number name long none (suc i) within same
 
 -- ---- the copy
 
--- a copy with one row more, which has no base, and another turn
+-- a copy with one row more, which has no base, and another turn, of the version that is written
 abbrev pub added : List ℕ → ℕ → BaseImage → BaseImage
-added name turn image = record image { turn = turn; streams = image.streams ++ record { name = name; base = null_lsn } ∷ [] }
+added name turn image = record image { version = 2; turn = turn; streams = image.streams ++ record { name = name; base = null_lsn } ∷ [] }
 
 -- Of a state that is stored there is a stream more, in the copy too.
-pub stream_stored : (s : State) (slot : ℕ) (image : BaseImage) (blocks : Blocks) (name : List ℕ) (turn : ℕ)
+pub stream_stored : (s : State) (slot : ℕ) (image : BaseImage) (blocks : Blocks) (name : List ℕ)
     → (stored : IsStored s (record { slot = slot; image = image }) blocks) → image.first ≤ container_of (hold (with_stream name s))
     → IsLogWith (record image { streams = image.streams ++ record { name = name; base = null_lsn } ∷ [] }) (map blocks image.files) stored.entries
     → stored_state (record image { streams = image.streams ++ record { name = name; base = null_lsn } ∷ [] }) (map blocks image.files) stored.entries s.buffers
     ≡ record (stored_state image (map blocks image.files) stored.entries s.buffers) {
       streams = (stored_state image (map blocks image.files) stored.entries s.buffers).streams ++ record { name = name; base = null_lsn } ∷ [];
     }
-    → IsStored (with_stream name s) (record { slot = slot; image = added name turn image }) blocks
-stream_stored s slot image blocks name turn stored low log state = record {
+    → IsStored (with_stream name s) (record { slot = slot; image = record image { streams = image.streams ++ record { name = name; base = null_lsn } ∷ [] } }) blocks
+stream_stored s slot image blocks name stored low log state = record {
   entries = stored.entries;
-  log = record { within = log.within; read = log.read; right = log.right };
+  log = log;
   records = stored.records;
   state = state ∙ ap (λ (u : State). record u { streams = u.streams ++ record { name = name; base = null_lsn } ∷ [] }) stored.state;
   needed = low;
@@ -170,6 +178,7 @@ intact_reserved disk log tables same intact =
       policies = holds.policies;
       containers = holds.containers;
       image_shape = holds.image_shape;
+      dedicated = holds.dedicated;
       rows = holds.rows;
       listed = holds.listed;
       needed = holds.needed;

@@ -4,8 +4,8 @@ use Rattle.std.specs.Prelude.{Option, Some, None, is_some, unwrap_or}
 use Rattle.std.specs.Option.{option_to_list}
 use Rattle.clfs_lsn.specs.Lsn.{null_lsn, container_of}
 use Rattle.clfs_lsn.specs.Place.{frontier}
-use Rattle.clfs_base.specs.Layout.{version_one, most_tail}
-use Rattle.clfs_base.specs.Spelling.{IsImage, flag}
+use Rattle.clfs_base.specs.Layout.{most_tail}
+use Rattle.clfs_base.specs.Spelling.{IsImage, current, flag}
 use Rattle.clfs_base.specs.declared.image.BaseImage.{BaseImage}
 use Rattle.clfs_model.specs.declared.state.State.{State}
 use Rattle.clfs_model.specs.Flush.{cut, flushed}
@@ -20,13 +20,14 @@ use Rattle.clfs_manager.proofs.Among.{here}
 use Rattle.clfs_manager.proofs.ClosedPlace.{is_start}
 use Rattle.clfs_manager.proofs.Reached.{least_below}
 
--- a copy with archiving so, and another turn
+-- a copy with archiving so, and another turn, of the version that is written
 abbrev pub archived : Option ℕ → ℕ → BaseImage → BaseImage
-archived tail turn image = record image { turn = turn; archiving = is_some tail; tail = unwrap_or tail null_lsn }
+archived tail turn image = record image { version = 2; turn = turn; archiving = is_some tail; tail = unwrap_or tail null_lsn }
 
-pub archived_image : (image : BaseImage) (tail : Option ℕ) (turn : ℕ) → IsImage version_one image → turn ≤ 2
-    → unwrap_or tail null_lsn ≤ most_tail (flag (is_some tail)) → IsImage version_one (archived tail turn image)
+pub archived_image : (image : BaseImage) (tail : Option ℕ) (turn : ℕ) → IsImage (current image) → turn ≤ 2
+    → unwrap_or tail null_lsn ≤ most_tail (flag (is_some tail)) → IsImage (archived tail turn image)
 archived_image image tail turn is of_turn of_tail = record {
+  version = refl;
   turn = of_turn;
   shape = is.shape;
   some_containers = is.some_containers;
@@ -40,6 +41,7 @@ archived_image image tail turn is of_turn of_tail = record {
   minimum = is.minimum;
   growth = is.growth;
   tail = of_tail;
+  dedicated = is.dedicated;
   files = is.files;
   few_streams = is.few_streams;
   rows = is.rows;
@@ -73,15 +75,15 @@ archive_back : (tail : Option ℕ) → (if is_some tail then Some (unwrap_or tai
 archive_back None = refl
 archive_back (Some lsn) = refl
 
-pub archived_stored : (s : State) (slot : ℕ) (image : BaseImage) (blocks : Blocks) (tail : Option ℕ) (turn : ℕ)
+pub archived_stored : (s : State) (slot : ℕ) (image : BaseImage) (blocks : Blocks) (tail : Option ℕ)
     → (stored : IsStored s (record { slot = slot; image = image }) blocks) → image.first ≤ container_of (hold (with_archive tail s))
     → IsLogWith (record image { archiving = is_some tail; tail = unwrap_or tail null_lsn }) (map blocks image.files) stored.entries
     → stored_state (record image { archiving = is_some tail; tail = unwrap_or tail null_lsn }) (map blocks image.files) stored.entries s.buffers
     ≡ record (stored_state image (map blocks image.files) stored.entries s.buffers) { archive = if is_some tail then Some (unwrap_or tail null_lsn) else None }
-    → IsStored (with_archive tail s) (record { slot = slot; image = archived tail turn image }) blocks
-archived_stored s slot image blocks tail turn stored low log state = record {
+    → IsStored (with_archive tail s) (record { slot = slot; image = record image { archiving = is_some tail; tail = unwrap_or tail null_lsn } }) blocks
+archived_stored s slot image blocks tail stored low log state = record {
   entries = stored.entries;
-  log = record { within = log.within; read = log.read; right = log.right };
+  log = log;
   records = stored.records;
   state = state ∙ ap (λ (u : State). record u { archive = if is_some tail then Some (unwrap_or tail null_lsn) else None }) stored.state
       ∙ ap (λ (value : Option ℕ). let u : State = record (cut s) { records = stored.entries; archive = value } in u) (archive_back tail);

@@ -56,6 +56,7 @@ holds_still old new areas changes are holds = record {
   policies = changes.policies ∙ holds.policies;
   containers = rw changes.physical holds.containers;
   image_shape = rw changes.physical holds.image_shape;
+  dedicated = rw changes.physical holds.dedicated;
   rows = rw changes.physical holds.rows;
   listed = rw changes.physical holds.listed;
   needed = rw changes.physical holds.needed;

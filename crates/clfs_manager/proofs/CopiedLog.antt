@@ -108,9 +108,10 @@ stored_among s first entries is entry among =
     let from = contains_all (λ (e : LogEntry). nat_le (lsn_number first 0 0) e.lsn) (cut s).records entry (subst (λ (es : List LogEntry). Contains es entry) is among) in
     (contains_all (λ (e : LogEntry). nat_lt e.lsn (flushed s)) s.records entry from.0).0
 
--- a copy with these policies, and another turn
+-- a copy with these policies, and another turn, of the version that is written
 abbrev pub settled : Policies → ℕ → BaseImage → BaseImage
 settled policies turn image = record image {
+  version = 2;
   turn = turn;
   automatic = policies.automatic;
   maximum = unwrap_or policies.maximum 0;

@@ -2,7 +2,6 @@
 use Rattle.std.proofs.Common.{◌≡◌, inl, inr, ⊎_elim, ℕ, zero, suc, List, eqb, ◌∙◌, ap, arith}
 use Rattle.clfs_disk.specs.Files.{Files, TornIn}
 use Rattle.clfs_base.specs.declared.image.BaseImage.{BaseImage}
-use Rattle.clfs_base.specs.Layout.{version_one}
 use Rattle.clfs_base.specs.Spelling.{IsImage, spelled}
 use Rattle.clfs_base.specs.Writing.{body_of, HasNewest, IsFirst, HasNoCopy, NoneOrFirst}
 use Rattle.clfs_manager.specs.Formatting.{HasNoGates}
@@ -20,7 +19,7 @@ gates_stay old new none torn (suc zero) le = ap (λ (k : ℕ). eqb k 165) (torn.
 gates_stay old new none torn (suc (suc n)) le = absurd (omega (arith, le))
 
 -- behind the closed gates the copy stands whole
-pub first_is : (image : BaseImage) (body : List ℕ) (old mid : Files) → IsImage version_one image → body ≡ spelled version_one image
+pub first_is : (image : BaseImage) (body : List ℕ) (old mid : Files) → IsImage image → body ≡ spelled image
     → HasNoGates old → TornIn 0 1 16383 old mid → body_of (mid 0) 0 ≡ body → IsFirst 0 image mid
 first_is image body old mid fits is none torn stands = record {
   next_image = fits;

@@ -15,8 +15,8 @@ use Rattle.clfs_block.specs.declared.head.BlockHead.{BlockHead}
 use Rattle.clfs_block.specs.declared.head.BlockRefusal.{BlockRefusal}
 use Rattle.clfs_block.specs.declared.head.BlockRefusal.TheVariants as blocks
 use Rattle.clfs_model.specs.State.{fresh}
-use Rattle.clfs_base.specs.Layout.{slot_bytes, version_one}
-use Rattle.clfs_base.specs.Spelling.{IsImage}
+use Rattle.clfs_base.specs.Layout.{slot_bytes}
+use Rattle.clfs_base.specs.Spelling.{IsImage, flag}
 use Rattle.clfs_base.specs.Slots.{is_open_slot}
 use Rattle.clfs_base.specs.Writing.{HasNewest, HasNoCopy, NoneOrFirst}
 use Rattle.clfs_recover.specs.declared.parts.Parts.{Parts}
@@ -36,8 +36,8 @@ abbrev first_container : Files → Container
 first_container files = record { bytes = files 1; blocks = [] }
 
 -- what is opened
-abbrev made_parts : Shape → ℕ → Files → Parts
-made_parts shape containers files = parts_with 0 (first_image shape containers) (first_container files ∷ []) []
+abbrev made_parts : Shape → Bool → ℕ → Files → Parts
+made_parts shape dedicated containers files = parts_with 0 (first_image shape dedicated containers) (first_container files ∷ []) []
 
 no_records : (shape : Shape) (bytes : List ℕ) → 0 < length bytes → slice_index bytes 0 ≢ open_gate → blocks_end shape 1 bytes 0 ≡ Ok []
 no_records shape bytes there closed =
@@ -52,25 +52,25 @@ no_records shape bytes there closed =
     either false = refl
 
 -- the walk finds no records
-walked_made : (shape : Shape) (containers : ℕ) (files : Files) → IsMade shape containers files
-    → walked 0 (first_image shape containers) (first_container files ∷ []) ≡ Ok (made_parts shape containers files)
-walked_made shape containers files made = rw (no_records shape (files 1) made.there made.closed) refl
+walked_made : (shape : Shape) (dedicated : Bool) (containers : ℕ) (files : Files) → IsMade shape dedicated containers files
+    → walked 0 (first_image shape dedicated containers) (first_container files ∷ []) ≡ Ok (made_parts shape dedicated containers files)
+walked_made shape dedicated containers files made = rw (no_records shape (files 1) made.there made.closed) refl
 
 -- files that were just made stand for a fresh log
-pub stands_for_fresh : (shape : Shape) (containers buffers : ℕ) (files : Files) → IsMade shape containers files
-    → StandsFor files (fresh shape containers buffers)
-stands_for_fresh shape containers buffers files made = record {
-  parts = made_parts shape containers files;
-  found = subst (FindsBehind files (Ok (made_parts shape containers files))) (sym made.newest)
-      (first_container files ∷ [], (refl, (shape.container_sectors, refl, inr (inl made.closed)), tt), sym (walked_made shape containers files made));
+pub stands_for_fresh : (shape : Shape) (dedicated : Bool) (containers buffers : ℕ) (files : Files) → IsMade shape dedicated containers files
+    → StandsFor files (fresh shape dedicated containers buffers)
+stands_for_fresh shape dedicated containers buffers files made = record {
+  parts = made_parts shape dedicated containers files;
+  found = subst (FindsBehind files (Ok (made_parts shape dedicated containers files))) (sym made.newest)
+      (first_container files ∷ [], (refl, (shape.container_sectors, refl, inr (inl made.closed)), tt), sym (walked_made shape dedicated containers files made));
   is = refl;
 }
 
 -- and are whole
-pub whole : (shape : Shape) (containers : ℕ) (files : Files) → IsMade shape containers files → AreLong shape (containers + 1) files → AreWholeFiles files
-whole shape containers files made long = record {
+pub whole : (shape : Shape) (dedicated : Bool) (containers : ℕ) (files : Files) → IsMade shape dedicated containers files → AreLong shape (containers + 1) files → AreWholeFiles files
+whole shape dedicated containers files made long = record {
   slot = 0;
-  image = first_image shape containers;
+  image = first_image shape dedicated containers;
   newest = made.newest;
   base_file = long 0 (omega arith);
   containers = λ file some few. subst (λ (b : Bool). (if b then 2 * slot_bytes else sector_bytes * shape.container_sectors) ≤ length (files file))
@@ -81,33 +81,34 @@ whole shape containers files made long = record {
     no_zero file some = grind (arith, nat_tests)
 
 -- the first copy was written, and the other files are as they were
-pub made_by : (shape : Shape) (containers : ℕ) (mid files : Files) → HasNoGates mid → HasNewest 0 (first_image shape containers) mid files
-    → IsMade shape containers files
-made_by shape containers mid files gates has = record {
+pub made_by : (shape : Shape) (dedicated : Bool) (containers : ℕ) (mid files : Files) → HasNoGates mid → HasNewest 0 (first_image shape dedicated containers) mid files
+    → IsMade shape dedicated containers files
+made_by shape dedicated containers mid files gates has = record {
   newest = has.newest;
   there = subst (λ (l : List ℕ). 0 < length l) (sym (has.elsewhere 1 (λ is. omega (arith, is)))) gates.there;
   closed = subst (λ (l : List ℕ). slice_index l 0 ≢ open_gate) (sym (has.elsewhere 1 (λ is. omega (arith, is)))) gates.closed;
 }
 
 -- the log comes to be there at once
-pub comes_at_once : (shape : Shape) (containers : ℕ) (old mid new : DiskState) → Later old mid → IsSettled mid → HasNoGates mid.files
-    → Leaves (NoneOrFirst 0 (first_image shape containers) mid.files) mid new → ComesAtOnce shape containers old new
-comes_at_once shape containers old mid new past settled gates leaves = record {
+pub comes_at_once : (shape : Shape) (dedicated : Bool) (containers : ℕ) (old mid new : DiskState) → Later old mid → IsSettled mid → HasNoGates mid.files
+    → Leaves (NoneOrFirst 0 (first_image shape dedicated containers) mid.files) mid new → ComesAtOnce shape dedicated containers old new
+comes_at_once shape dedicated containers old mid new past settled gates leaves = record {
   since = mid.clock;
   begun = past.later;
   none = λ image at slot few.
       ap (λ (l : List ℕ). is_open_slot l slot) (settled.only image (leaves.past mid.clock image (omega arith) at) 0) ∙ none_open mid.files gates slot few;
   later = λ moment image from until at. ⊎_elim
       (λ (none : HasNoCopy image). inl none)
-      (λ (has : HasNewest 0 (first_image shape containers) mid.files image).
-      inr (λ buffers. stands_for_fresh shape containers buffers image (made_by shape containers mid.files image gates has)))
+      (λ (has : HasNewest 0 (first_image shape dedicated containers) mid.files image).
+      inr (λ buffers. stands_for_fresh shape dedicated containers buffers image (made_by shape dedicated containers mid.files image gates has)))
       (leaves.each moment image from until at);
 }
 
 -- the first copy is one that a log can have
-pub first_fits : (shape : Shape) (containers : ℕ) → IsShape shape → 1 ≤ containers → containers ≤ most_containers
-    → IsImage version_one (first_image shape containers)
-first_fits shape containers is_shape some few = record {
+pub first_fits : (shape : Shape) (dedicated : Bool) (containers : ℕ) → IsShape shape → 1 ≤ containers → containers ≤ most_containers
+    → IsImage (first_image shape dedicated containers)
+first_fits shape dedicated containers is_shape some few = record {
+  version = refl;
   turn = omega arith;
   shape = record {
     some_sectors = is_shape.some_sectors;
@@ -126,6 +127,7 @@ first_fits shape containers is_shape some few = record {
   minimum = inl refl;
   growth = omega arith;
   tail = omega arith;
+  dedicated = may_be dedicated;
   files = record { from_one = one_file; to_last = last_file; different = λ i j before lt. absurd (omega (arith, before, lt)) };
   few_streams = omega arith;
   rows = record {
@@ -135,6 +137,10 @@ first_fits shape containers is_shape some few = record {
   };
 }
   where
+    may_be : (b : Bool) → flag b ≤ 1
+    may_be true = omega arith
+    may_be false = omega arith
+
     one_file : (i : ℕ) → i < 1 → 1 ≤ slice_index (1 ∷ []) i
     one_file zero lt = omega arith
     one_file (suc i) lt = absurd (omega (arith, lt))

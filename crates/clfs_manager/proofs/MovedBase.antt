@@ -10,8 +10,8 @@ use Rattle.clfs_lsn.specs.Head.{head_of}
 use Rattle.clfs_lsn.specs.Lsn.{lsn_number, null_lsn, container_of}
 use Rattle.clfs_lsn.specs.declared.entry.Head.{Head}
 use Rattle.clfs_lsn.specs.declared.entry.LogEntry.{LogEntry}
-use Rattle.clfs_base.specs.Layout.{version_one}
-use Rattle.clfs_base.specs.Spelling.{IsImage, IsName, AreRows, row_in}
+use Rattle.clfs_base.specs.Layout.{version_two, most_dedicated}
+use Rattle.clfs_base.specs.Spelling.{IsImage, IsName, AreRows, current, flag, row_in}
 use Rattle.clfs_base.specs.declared.image.BaseImage.{BaseImage}
 use Rattle.clfs_base.specs.declared.image.Row.{Row}
 use Rattle.clfs_model.specs.declared.state.State.{State}
@@ -141,9 +141,9 @@ sealed_later low high next blocks heads le are =
 
 -- ---- the copy
 
--- a copy with the base of a stream moved, and another turn
+-- a copy with the base of a stream moved, and another turn, of the version that is written
 abbrev pub moved : ℕ → ℕ → ℕ → BaseImage → BaseImage
-moved stream base turn image = record (with_row_base stream base image) { turn = turn }
+moved stream base turn image = record (with_row_base stream base image) { version = 2; turn = turn }
 
 -- the rows keep their names
 name_kept : (stream base : ℕ) (rows : List Row) (i : ℕ) → i < length rows → (row_in (row_bases stream base rows) i).name ≡ (row_in rows i).name
@@ -169,9 +169,10 @@ moved_rows room stream base rows few are = record {
     near i within = omega (arith, within, length-set rows (stream - 1) (record (row_in rows (stream - 1)) { base = base }))
 
 -- It is one that a log can have.
-pub moved_image : (image : BaseImage) (stream base turn : ℕ) → IsImage version_one image → turn ≤ 2 → base < 2 ^ 64
-    → IsImage version_one (moved stream base turn image)
+pub moved_image : (image : BaseImage) (stream base turn : ℕ) → IsImage (current image) → turn ≤ 2 → base < 2 ^ 64
+    → IsImage (moved stream base turn image)
 moved_image image stream base turn is of_turn few = record {
+  version = refl;
   turn = of_turn;
   shape = is.shape;
   some_containers = is.some_containers;
@@ -185,23 +186,25 @@ moved_image image stream base turn is of_turn few = record {
   minimum = is.minimum;
   growth = is.growth;
   tail = is.tail;
+  dedicated = subst (λ (n : ℕ). flag image.dedicated ≤ most_dedicated version_two n)
+      (sym (length-set image.streams (stream - 1) (record (row_in image.streams (stream - 1)) { base = base }))) is.dedicated;
   files = is.files;
   few_streams = omega (arith, is.few_streams, length-set image.streams (stream - 1) (record (row_in image.streams (stream - 1)) { base = base }));
-  rows = moved_rows 32 stream base image.streams few is.rows;
+  rows = moved_rows version_two.longest_name stream base image.streams few is.rows;
 }
 
 -- Of a state that is stored a base is moved, in the copy too.
-pub base_stored : (s : State) (slot : ℕ) (image : BaseImage) (blocks : Blocks) (stream base turn : ℕ)
+pub base_stored : (s : State) (slot : ℕ) (image : BaseImage) (blocks : Blocks) (stream base : ℕ)
     → (stored : IsStored s (record { slot = slot; image = image }) blocks) → image.first ≤ container_of (hold (with_base stream base s))
     → IsLogWith (with_row_base stream base image) (map blocks image.files) stored.entries
     → stored_state (with_row_base stream base image) (map blocks image.files) stored.entries s.buffers
     ≡ record (stored_state image (map blocks image.files) stored.entries s.buffers) {
       streams = set_base stream base (stored_state image (map blocks image.files) stored.entries s.buffers).streams;
     }
-    → IsStored (with_base stream base s) (record { slot = slot; image = moved stream base turn image }) blocks
-base_stored s slot image blocks stream base turn stored low log state = record {
+    → IsStored (with_base stream base s) (record { slot = slot; image = with_row_base stream base image }) blocks
+base_stored s slot image blocks stream base stored low log state = record {
   entries = stored.entries;
-  log = record { within = log.within; read = log.read; right = log.right };
+  log = log;
   records = stored.records;
   state = state ∙ ap (λ (u : State). record u { streams = set_base stream base u.streams }) stored.state;
   needed = low;

@@ -13,16 +13,15 @@ use Rattle.clfs_model.specs.Heads.{block_end}
 use Rattle.clfs_lsn.specs.Spelling.{FitsAt}
 use Rattle.clfs_lsn.specs.declared.entry.Head.{Head}
 use Rattle.clfs_lsn.specs.declared.entry.LogEntry.{LogEntry}
-use Rattle.clfs_base.specs.Layout.{version_one}
 use Rattle.clfs_base.specs.declared.image.Row.{Row}
 use Rattle.clfs_recover.specs.Files.{streams_with}
-use Rattle.clfs_base.specs.Spelling.{IsImage}
+use Rattle.clfs_base.specs.Spelling.{IsImage, current}
 use Rattle.clfs_recover.specs.declared.parts.Parts.{Parts}
 use Rattle.clfs_tables.specs.Opening.{AreRowsAndHeads}
 use Rattle.clfs_manager.proofs.Heads.{heads_rise, ends_as_heads}
 
 -- the streams, their bases and the heads of their records fit each other
-pub rows_and_heads : (parts : Parts) → IsImage version_one parts.image → length parts.bases ≡ length parts.image.streams
+pub rows_and_heads : (parts : Parts) → IsImage (current parts.image) → length parts.bases ≡ length parts.image.streams
     → IsStrictlyIncreasing (map (λ (entry : LogEntry). entry.lsn) parts.entries)
     → All (λ (entry : LogEntry). FitsAt entry.lsn (length parts.image.streams) entry) parts.entries
     → AreRowsAndHeads parts.image.streams parts.bases (map head_of parts.entries)

@@ -208,6 +208,7 @@ holds_put before after fields bytes valid holds ready above keeps go_on room que
       policies = policies ∙ holds.policies;
       containers = ap (λ (n : Newest). n.image.containers) physical ∙ holds.containers;
       image_shape = ap (λ (n : Newest). shape_of n.image) physical ∙ holds.image_shape;
+      dedicated = ap (λ (n : Newest). n.image.dedicated) physical ∙ holds.dedicated;
       rows = ap (λ (n : Newest). length n.image.streams) physical ∙ holds.rows;
       listed = ap (λ (n : Newest). n.image.first + length n.image.files) physical ∙ holds.listed ∙ ap (λ (k : ℕ). k + 1) (sym goes.container);
       needed = omega (arith, ap (λ (n : Newest). n.image.first) physical, holds.needed, up);

@@ -189,6 +189,7 @@ holds_finished s stream base before moved laid laid_done number up holds first b
       policies = ap (λ (l : Log). l.policies) same ∙ holds.policies;
       containers = ap (λ (n : Newest). n.image.containers) physical ∙ holds.containers;
       image_shape = rw physical holds.image_shape;
+      dedicated = rw physical holds.dedicated;
       rows = ap (λ (n : Newest). length n.image.streams) physical ∙ holds.rows ∙ sym (streams_long stream base s.streams);
       listed = ap (λ (n : Newest). n.image.first + length n.image.files) physical ∙ holds.listed;
       needed = omega (arith, ap (λ (n : Newest). n.image.first) physical, first, held);

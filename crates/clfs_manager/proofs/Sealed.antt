@@ -129,6 +129,7 @@ intact_sealed disk before after told intact fills open_block whole keeps ended i
       policies = ended.policies ∙ holds.policies;
       containers = ap (λ (n : Newest). n.image.containers) ended.physical ∙ holds.containers;
       image_shape = ap (λ (n : Newest). shape_of n.image) ended.physical ∙ holds.image_shape;
+      dedicated = ap (λ (n : Newest). n.image.dedicated) ended.physical ∙ holds.dedicated;
       rows = ap (λ (n : Newest). length n.image.streams) ended.physical ∙ holds.rows;
       listed = ap (λ (n : Newest). n.image.first + length n.image.files) ended.physical ∙ holds.listed;
       needed = omega (arith, ap (λ (n : Newest). n.image.first) ended.physical, holds.needed, up);

@@ -27,9 +27,9 @@ use Rattle.clfs_manager.proofs.Numbers.{hold_within}
 use Rattle.clfs_manager.proofs.ReadKeeps.{tells_before}
 use Rattle.clfs_manager.proofs.Settled.{stays_settled}
 
--- a copy that counts so many containers, and has another turn
+-- a copy that counts so many containers, and has another turn, of the version that is written
 abbrev pub sized : ℕ → ℕ → BaseImage → BaseImage
-sized containers turn image = record image { turn = turn; containers = containers; files_made = max image.files_made containers }
+sized containers turn image = record image { version = 2; turn = turn; containers = containers; files_made = max image.files_made containers }
 
 pub sized_stored : (s : State) (slot : ℕ) (image : BaseImage) (blocks : Blocks) (containers turn : ℕ)
     → (stored : IsStored s (record { slot = slot; image = image }) blocks)
@@ -72,6 +72,7 @@ holds_sized before after slot first containers valid holds state newest is_first
       policies = same.policies ∙ holds.policies;
       containers = ap (λ (n : Newest). n.image.containers) newest;
       image_shape = ap (λ (n : Newest). shape_of n.image) newest ∙ holds.image_shape;
+      dedicated = ap (λ (n : Newest). n.image.dedicated) newest ∙ holds.dedicated;
       rows = ap (λ (n : Newest). length n.image.streams) newest ∙ holds.rows;
       listed = ap (λ (n : Newest). n.image.first + length n.image.files) newest
           ∙ omega (arith, holds.listed, holds.needed, is_first, hold_within before.state.value valid, length-drop (first - image.first) image.files);

@@ -1,6 +1,7 @@
 -- What a call by name tells, by its step.
 use Rattle.std.proofs.Common.{◌≡◌, ◌≢◌, ℕ, Bool, true, false, sym, ap, subst, ◌∙◌, inl, inr, Ok, Err}
-use Rattle.std.specs.Prelude.{◌⊎◌, Result, MatchBool, IsTrue, IsErrOf}
+use Rattle.std.specs.Prelude.{◌⊎◌, Result, MatchBool, IsTrue, IfErr, IsErrOf}
+use Rattle.clfs_laws.specs.Refused.{is_of_call}
 use Rattle.clfs_disk.specs.State.{DiskState}
 use Rattle.clfs_model.specs.declared.call.Call.{Call}
 use Rattle.clfs_model.specs.declared.refusal.Refusal.{Refusal}
@@ -10,7 +11,7 @@ use Rattle.clfs_model.specs.declared.reply.Reply.TheVariants as replies
 use Rattle.clfs_model.specs.declared.state.State.{State}
 use Rattle.clfs_model.specs.Happened.{happened_of}
 use Rattle.clfs_model.specs.Step.{Step, IsBroken, IsOutOfMemory, IsDamaged, reads_disk, calls_disk}
-use Rattle.clfs_manager.specs.Calls.{replied, Steps}
+use Rattle.clfs_manager.specs.Calls.{IsRefused, replied, Steps}
 use Rattle.clfs_manager.specs.Written.{WritesDisk}
 use Rattle.clfs_manager.proofs.Intact.{writes_as, writes_nothing}
 
@@ -62,3 +63,9 @@ written {A} answer result reply old new never is writes = writes_as _ _ old new 
     from : (r : Result A Refusal) → replied answer r ≡ replies.Refused refusals.DiskFault → IsErrOf r refusals.DiskFault
     from (Ok x) fault = absurd (never x fault)
     from (Err refusal) fault = cc fault
+
+-- What a call keeps that is refused for what was asked, a reply of that kind tells too.
+pub refused_by : {A : Type 0} {P : Type 0} (answer : A → Reply) (result : Result A Refusal) (reply : Reply) → ((x : A) → IsRefused (answer x) → ⊥)
+    → reply ≡ replied answer result → IfErr result (λ refusal. is_of_call refusal ≡ true → P) → IsRefused reply → P
+refused_by answer (Ok x) reply never is keeps refused = absurd (never x (subst IsRefused is refused))
+refused_by answer (Err refusal) reply never is keeps refused = keeps (subst IsRefused is refused)

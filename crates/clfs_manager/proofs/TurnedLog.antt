@@ -11,8 +11,7 @@ use Rattle.clfs_lsn.specs.declared.entry.Head.{Head}
 use Rattle.clfs_lsn.specs.declared.entry.LogEntry.{LogEntry}
 use Rattle.clfs_archive.specs.Blocks.{AreSealed, BlocksGoOn}
 use Rattle.clfs_base.specs.declared.image.BaseImage.{BaseImage}
-use Rattle.clfs_base.specs.Layout.{version_one}
-use Rattle.clfs_base.specs.Spelling.{IsImage, AreFiles}
+use Rattle.clfs_base.specs.Spelling.{IsImage, AreFiles, current}
 use Rattle.clfs_buffers.specs.Buffered.{Buffered}
 use Rattle.clfs_laws.specs.Between.{turned}
 use Rattle.clfs_model.specs.declared.state.State.{State}
@@ -36,14 +35,16 @@ use Rattle.clfs_manager.proofs.SplitRecords.{all_below}
 
 -- ---- the copy
 
--- the copy that lists no low containers, by its turn
+-- the copy that lists no low containers, by its version and its turn
 pub record IsLow (first : ℕ) (now : Newest) : Type 0 where
+  pub version : ℕ
   pub turn : ℕ
+  pub fits : IsImage (record now.image { version = version })
   pub few : turn ≤ 2
-  pub is : (low_of first now).image ≡ from_container first (record now.image { turn = turn })
+  pub is : (low_of first now).image ≡ from_container first (record now.image { version = version; turn = turn })
 
-pub low_is : (first : ℕ) (now : Newest) → now.image.turn ≤ 2 → IsLow first now
-low_is first now few = by_test (first == now.image.first) refl
+pub low_is : (first : ℕ) (now : Newest) → IsImage now.image → IsImage (current now.image) → IsLow first now
+low_is first now is_image is_current = by_test (first == now.image.first) refl
   where
     part : ℕ → ℕ → BaseImage
     part f k = record now.image { first = f; files = drop k now.image.files }
@@ -52,8 +53,8 @@ low_is first now few = by_test (first == now.image.first) refl
     by_test true is =
         let same : now.image.first ≡ first = sym (eqb-true first now.image.first is) in
         let none : 0 ≡ first - now.image.first = omega (arith, same) in
-        record { turn = now.image.turn; few = few; is = rw is (ap (λ f. part f 0) same ∙ ap (part first) none) }
-    by_test false isnt = record { turn = (now.image.turn + 1) % 3; few = omega arith; is = rw isnt refl }
+        record { version = now.image.version; turn = now.image.turn; fits = is_image; few = is_image.turn; is = rw is (ap (λ f. part f 0) same ∙ ap (part first) none) }
+    by_test false isnt = record { version = 2; turn = (now.image.turn + 1) % 3; fits = is_current; few = omega arith; is = rw isnt refl }
 
 fewer_files : (made gone : ℕ) (files : List ℕ) → AreFiles made files → AreFiles made (drop gone files)
 fewer_files made gone files are = record {
@@ -67,9 +68,10 @@ fewer_files made gone files are = record {
     near i within = omega (arith, within, length-drop gone files)
 
 -- it is one that a log can have
-pub low_image : (image : BaseImage) (first turn : ℕ) → IsImage version_one image → turn ≤ 2 → image.first ≤ first → first + 1 ≤ image.first + length image.files
-    → IsImage version_one (from_container first (record image { turn = turn }))
+pub low_image : (image : BaseImage) (first turn : ℕ) → IsImage image → turn ≤ 2 → image.first ≤ first → first + 1 ≤ image.first + length image.files
+    → IsImage (from_container first (record image { turn = turn }))
 low_image image first turn is few from some = record {
+  version = is.version;
   turn = few;
   shape = is.shape;
   some_containers = is.some_containers;
@@ -83,13 +85,15 @@ low_image image first turn is few from some = record {
   minimum = is.minimum;
   growth = is.growth;
   tail = is.tail;
+  dedicated = is.dedicated;
   files = fewer_files image.files_made (first - image.first) image.files is.files;
   few_streams = is.few_streams;
   rows = is.rows;
 }
 
-pub turned_image : (image : BaseImage) (turn : ℕ) → IsImage version_one image → turn ≤ 2 → IsImage version_one (record image { turn = turn })
+pub turned_image : (image : BaseImage) (turn : ℕ) → IsImage image → turn ≤ 2 → IsImage (record image { turn = turn })
 turned_image image turn is few = record {
+  version = is.version;
   turn = few;
   shape = is.shape;
   some_containers = is.some_containers;
@@ -103,6 +107,7 @@ turned_image image turn is few = record {
   minimum = is.minimum;
   growth = is.growth;
   tail = is.tail;
+  dedicated = is.dedicated;
   files = is.files;
   few_streams = is.few_streams;
   rows = is.rows;
@@ -114,15 +119,17 @@ pub record HasLow (s : State) (low : BaseImage) : Type 0 where
   pub listed : low.first + length low.files ≡ s.place.container + 1
   pub containers : low.containers ≡ s.containers
   pub shape : shape_of low ≡ s.shape
+  pub dedicated : low.dedicated ≡ s.dedicated
   pub rows : length low.streams ≡ length s.streams
 
-pub has_low : (s : State) (first turn : ℕ) (log : Log) → IsValid s → Holds s log → first ≡ container_of (hold s)
-    → HasLow s (from_container first (record log.physical.image { turn = turn }))
-has_low s first turn log valid holds is_first = record {
+pub has_low : (s : State) (first version turn : ℕ) (log : Log) → IsValid s → Holds s log → first ≡ container_of (hold s)
+    → HasLow s (from_container first (record log.physical.image { version = version; turn = turn }))
+has_low s first version turn log valid holds is_first = record {
   first = is_first;
   listed = omega (arith, holds.listed, holds.needed, hold_within s valid, is_first, length-drop (first - log.physical.image.first) log.physical.image.files);
   containers = holds.containers;
   shape = holds.image_shape;
+  dedicated = holds.dedicated;
   rows = holds.rows;
 }
 
@@ -176,12 +183,12 @@ cut_turned s valid may =
 pub taken_stored : (s : State) (slot turn file : ℕ) (low : BaseImage) (blocks : Blocks) → IsValid s → MayTurnTo s → HasLow s low
     → (entries : List LogEntry) → entries ≡ records_from_container low.first (cut s).records
     → stored_state low (map blocks low.files) entries s.buffers ≡ record (cut s) { records = entries }
-    → IsLogWith (record low { turn = turn; files = low.files ++ file ∷ [] }) (map (with_blocks file [] blocks) (low.files ++ file ∷ [])) entries
-    → stored_state (record low { turn = turn; files = low.files ++ file ∷ [] }) (map (with_blocks file [] blocks) (low.files ++ file ∷ [])) entries s.buffers
+    → IsLogWith (record low { version = 2; turn = turn; files = low.files ++ file ∷ [] }) (map (with_blocks file [] blocks) (low.files ++ file ∷ [])) entries
+    → stored_state (record low { version = 2; turn = turn; files = low.files ++ file ∷ [] }) (map (with_blocks file [] blocks) (low.files ++ file ∷ [])) entries s.buffers
     ≡ record (stored_state low (map blocks low.files) entries s.buffers) {
       place = record { container = low.first + length low.files; offset = 0; used = 0; records = 0 };
     }
-    → IsStored (turned s) (record { slot = slot; image = record low { turn = turn; files = low.files ++ file ∷ [] } }) (with_blocks file [] blocks)
+    → IsStored (turned s) (record { slot = slot; image = record low { version = 2; turn = turn; files = low.files ++ file ∷ [] } }) (with_blocks file [] blocks)
 taken_stored s slot turn file low blocks valid may has entries records state log after =
     let cuts = cut_turned s valid may in
     record {
@@ -219,8 +226,9 @@ pub holds_turned : (before after : Log) → IsValid before.state.value → Holds
     → after.physical.image.first ≡ container_of (hold before.state.value)
     → after.physical.image.first + length after.physical.image.files ≡ before.state.value.place.container + 1 + 1
     → after.physical.image.containers ≡ before.state.value.containers → shape_of after.physical.image ≡ before.state.value.shape
+    → after.physical.image.dedicated ≡ before.state.value.dedicated
     → length after.physical.image.streams ≡ length before.state.value.streams → Holds after.state.value after
-holds_turned before after valid holds may go_on queue tables areas archive policies state first listed containers shape rows =
+holds_turned before after valid holds may go_on queue tables areas archive policies state first listed containers shape dedicated rows =
     let s : State = before.state.value in
     let t : State = turned s in
     let all = all_before s valid may.closed in
@@ -251,6 +259,7 @@ holds_turned before after valid holds may go_on queue tables areas archive polic
       policies = policies ∙ holds.policies;
       containers = containers;
       image_shape = shape;
+      dedicated = dedicated;
       rows = rows;
       listed = listed;
       needed = omega (arith, first, may.hold);

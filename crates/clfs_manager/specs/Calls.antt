@@ -1,5 +1,7 @@
 -- What a manager's call answers, as a step of the log machine.
-use Rattle.std.specs.Prelude.{ℕ, Bool, Result, Ok, Err}
+use Rattle.std.specs.Prelude.{◌≡◌, ℕ, ◌≤◌, Bool, true, Result, Ok, Err, length}
+use Rattle.clfs_laws.specs.Refused.{is_of_call}
+use Rattle.clfs_lsn.specs.Size.{most_data}
 use Rattle.clfs_model.specs.declared.call.Call.{Call}
 use Rattle.clfs_model.specs.declared.refusal.Refusal.{Refusal}
 use Rattle.clfs_model.specs.declared.reply.Reply.{Reply}
@@ -16,3 +18,14 @@ replied answer (Err refusal) = replies.Refused refusal
 -- A call that a client made was answered so, which is a step of the machine from one state to another.
 abbrev pub Steps : {A : Type 0} → Bool → State → ℕ → Call → (A → Reply) → Result A Refusal → State → Type 0
 Steps told s client call answer result t = Step told s client call (happened_of (replied answer result)) (replied answer result) t
+
+-- A reply no larger than the memory that serves any: a record's data has the bytes of a largest record at most.
+abbrev pub IsSmall : Reply → Type 0
+IsSmall (replies.Found cursor entry) = length entry.bytes ≤ most_data
+IsSmall (replies.Next entry) = length entry.bytes ≤ most_data
+IsSmall _ = Unit {0}
+
+-- The call was refused for what was asked: not for want of memory, nor by a fault, by damage or because the log is broken.
+abbrev pub IsRefused : Reply → Type 0
+IsRefused (replies.Refused refusal) = is_of_call refusal ≡ true
+IsRefused _ = ⊥

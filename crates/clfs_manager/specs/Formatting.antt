@@ -1,5 +1,5 @@
 -- What making a log leaves in its files.
-use Rattle.std.specs.Prelude.{◌≡◌, ◌≢◌, ◌⊎◌, ◌==◌, ℕ, ◌*◌, ◌<◌, ◌≤◌, false, if◌then◌else◌, List, [], ◌∷◌, length, slice_index, Option, Some, None, Result, Ok, Err}
+use Rattle.std.specs.Prelude.{◌≡◌, ◌≢◌, ◌⊎◌, ◌==◌, ℕ, ◌*◌, ◌<◌, ◌≤◌, Bool, false, if◌then◌else◌, List, [], ◌∷◌, length, slice_index, Option, Some, None, Result, Ok, Err}
 use Rattle.clfs_lsn.specs.Format.{sector_bytes, open_gate}
 use Rattle.clfs_lsn.specs.Lsn.{null_lsn}
 use Rattle.clfs_lsn.specs.declared.shape.Shape.{Shape}
@@ -22,8 +22,9 @@ growth_refused growths.Failed = DiskFault
 growth_refused growths.NoMemory = NoMemory
 
 -- The base copy of a log that has just been made: container 1 alone is listed, in file 1. It has no streams and no policies, and archiving is off.
-abbrev pub first_image : Shape → ℕ → BaseImage
-first_image shape containers = record {
+abbrev pub first_image : Shape → Bool → ℕ → BaseImage
+first_image shape dedicated containers = record {
+  version = 2;
   turn = 0;
   block_sectors = shape.block_sectors;
   container_sectors = shape.container_sectors;
@@ -36,6 +37,7 @@ first_image shape containers = record {
   minimum = 0;
   growth = 0;
   tail = null_lsn;
+  dedicated = dedicated;
   files = 1 ∷ [];
   streams = [];
 }
@@ -60,19 +62,19 @@ pub record HasNoGates (files : Files) : Type 0 where
   pub closed : slice_index (files 1) 0 ≢ open_gate
 
 -- The files of a log that has just been made: its newest base copy is the first one, and file 1 begins with a gate that is there and closed.
-pub record IsMade (shape : Shape) (containers : ℕ) (files : Files) : Type 0 where
-  pub newest : newest_of (files 0) ≡ Ok (0, first_image shape containers)
+pub record IsMade (shape : Shape) (dedicated : Bool) (containers : ℕ) (files : Files) : Type 0 where
+  pub newest : newest_of (files 0) ≡ Ok (0, first_image shape dedicated containers)
   pub there : 0 < length (files 1)
   pub closed : slice_index (files 1) 0 ≢ open_gate
 
 -- There is a moment of a call at which no slot is open, and from which on a crash leaves no open slot, or files that stand for a fresh log: so it
 -- comes to be there at once.
-pub record ComesAtOnce (shape : Shape) (containers : ℕ) (old new : DiskState) : Type 0 where
+pub record ComesAtOnce (shape : Shape) (dedicated : Bool) (containers : ℕ) (old new : DiskState) : Type 0 where
   pub since : ℕ
   pub begun : old.clock ≤ since
   pub none : (image : Files) → new.image_at since image → HasNoCopy image
   pub later : (moment : ℕ) (image : Files) → since ≤ moment → moment ≤ new.clock → new.image_at moment image
-      → HasNoCopy image ⊎ ((buffers : ℕ) → StandsFor image (fresh shape containers buffers))
+      → HasNoCopy image ⊎ ((buffers : ℕ) → StandsFor image (fresh shape dedicated containers buffers))
 
 -- Each file is as long as it was.
 abbrev pub SameLengths : Files → Files → Type 0

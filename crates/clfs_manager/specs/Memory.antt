@@ -51,6 +51,7 @@ pub record Holds (s : State) (log : Log) : Type 0 where
   pub policies : log.policies ≡ policies_of s
   pub containers : log.physical.image.containers ≡ s.containers
   pub image_shape : shape_of log.physical.image ≡ s.shape
+  pub dedicated : log.physical.image.dedicated ≡ s.dedicated
   pub rows : length log.physical.image.streams ≡ length s.streams
   pub listed : log.physical.image.first + length log.physical.image.files ≡ s.place.container + 1
   pub needed : log.physical.image.first ≤ container_of (hold s)

@@ -69,4 +69,5 @@ pub record TakesContainer (s : State) (image : BaseImage) : Type 0 where
   pub listed : image.first + length image.files ≡ s.place.container + 1 + 1
   pub containers : image.containers ≡ s.containers
   pub shape : shape_of image ≡ s.shape
+  pub dedicated : image.dedicated ≡ s.dedicated
   pub rows : length image.streams ≡ length s.streams

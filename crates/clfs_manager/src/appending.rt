@@ -25,6 +25,7 @@ ghost use Rattle.clfs_model.specs.Storable.{IsStorable};
 ghost use Rattle.clfs_model.specs.Valid.{IsValid};
 ghost use Rattle.clfs_areas.specs.Table.{area_at};
 ghost use Rattle.clfs_laws.specs.Between.{MayPut, TakesThrough};
+ghost use Rattle.clfs_laws.specs.Refused.{is_of_call};
 ghost use Rattle.clfs_manager.specs.Calls.{Steps};
 ghost use Rattle.clfs_manager.specs.Crashes.{CrashLeavesSurvivor, CrashSurvives, ReadyingSurvives};
 ghost use Rattle.clfs_manager.specs.Fetching.{IsLeft};
@@ -333,6 +334,7 @@ impl Log {
         ensures quiet { calls_disk self.old.state.value (calls.Append area draft.now reserved sizes.now) ≡ false → disk.new ≡ disk.old }
         ensures writes { WritesDisk (IsErrOf result Refusal.DiskFault) (D.state disk.old) (D.state disk.new) }
         ensures moments { CrashLeavesSurvivor (asks client (calls.Append area draft.now reserved sizes.now)) self.old.state.value (D.state disk.old) (D.state disk.new) }
+        ensures refused { IfErr result (λ refusal. is_of_call refusal ≡ true → disk.new ≡ disk.old) }
     {
         refusals_are_the_calls_own();
         ways_of_a_step();
@@ -396,6 +398,7 @@ impl<D: Disk> Manager<D> {
         ensures writes { WritesDisk (IsErrOf result Refusal.DiskFault) (D.state self.old.1) (D.state self.new.1) }
         ensures moments { CrashSurvives (asks client (calls.Append area draft.now reserved sizes.now)) self.old.0 (D.state self.old.1) (D.state self.new.1) }
         ensures stopped { self.old.0.broken ≡ true → self.new.1 ≡ self.old.1 }
+        ensures refused { IfErr result (λ refusal. is_of_call refusal ≡ true → self.new.1 ≡ self.old.1) }
     {
         ways_of_a_step();
         if self.log.broken {

@@ -6,10 +6,7 @@ ghost use Rattle.clfs_model.specs.Put.{need_of, spent_of};
 ghost use Rattle.clfs_model.specs.Refusals.{name_fault};
 ghost use Rattle.clfs_model.specs.Space.{own_sum};
 
-use clfs_lsn::own;
-
-// The most bytes of a stream's name.
-const LONGEST_NAME: usize = 32;
+use clfs_lsn::{LONGEST_NAME, own};
 
 // The first byte of a name that is wrong, by its place: one that no name may have, or the one behind the longest name. An empty name is
 // wrong at 0.
@@ -20,11 +17,11 @@ pub(crate) fn name_fault(name: &[u8]) -> Option<u32>
         return Some(0);
     }
     if let Some(at) = first_illegal(name) {
-        if at < LONGEST_NAME {
+        if at < LONGEST_NAME as usize {
             return Some(at as u32);
         }
     }
-    if LONGEST_NAME < name.len() {
+    if (LONGEST_NAME as usize) < name.len() {
         return Some(LONGEST_NAME as u32);
     }
     None

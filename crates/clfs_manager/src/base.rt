@@ -16,6 +16,7 @@ ghost use Rattle.clfs_model.specs.State.{base_of, stream_at};
 ghost use Rattle.clfs_model.specs.Storable.{IsStorable};
 ghost use Rattle.clfs_model.specs.Survivors.{Survives};
 ghost use Rattle.clfs_model.specs.Valid.{IsValid};
+ghost use Rattle.clfs_laws.specs.Refused.{is_of_call};
 ghost use Rattle.clfs_manager.specs.Base.{KeepsAllButTables, with_base};
 ghost use Rattle.clfs_manager.specs.Calls.{Steps};
 ghost use Rattle.clfs_manager.specs.Crashes.{CrashLeavesSurvivor, CrashSurvives};
@@ -34,7 +35,10 @@ use clfs_laws::{
 use clfs_lsn::Lsn;
 use clfs_model::{Refusal, State, records_are_as_their_heads, ways_of_a_step};
 use clfs_physical::Change;
-use clfs_recover::{bases_of_rows_move, logs_are_copies_and_blocks, low_containers_are_left_out};
+use clfs_recover::{
+    bases_of_rows_move, logs_are_copies_and_blocks, low_containers_are_left_out,
+    settings_leave_the_records,
+};
 use clfs_told::Told;
 
 // The state with the base of a stream moved.
@@ -78,6 +82,7 @@ impl Log {
     {
         bases_of_rows_move();
         low_containers_are_left_out();
+        settings_leave_the_records();
         logs_are_copies_and_blocks();
         records_are_as_their_heads();
         numbers_fit_their_types();
@@ -151,6 +156,7 @@ impl<D: Disk> Manager<D> {
         ensures stopped { self.old.0.broken ≡ true → self.new.1 ≡ self.old.1 }
         ensures writes { WritesDisk (IsErrOf result Refusal.DiskFault) (D.state self.old.1) (D.state self.new.1) }
         ensures moments { CrashSurvives (asks client (calls.Advance area lsn)) self.old.0 (D.state self.old.1) (D.state self.new.1) }
+        ensures refused { IfErr result (λ refusal. is_of_call refusal ≡ true → self.new.1 ≡ self.old.1) }
     {
         steps_keep_a_state_valid();
         steps_keep_a_state_storable();

@@ -6,15 +6,16 @@
 ghost use Rattle.std.specs.Prelude.{◌≡◌, ◌+◌, ◌<◌, ◌≤◌, nat_lt, true, length, Ok, IfOk, IfErr, OnOk, OnErr, IsErrOf};
 ghost use Rattle.clfs_lsn.specs.Head.{head_of};
 ghost use Rattle.clfs_lsn.specs.Lsn.{container_of};
+ghost use Rattle.clfs_lsn.specs.Size.{most_data};
 ghost use Rattle.clfs_lsn.specs.declared.entry.LogEntry.{LogEntry};
 ghost use Rattle.clfs_disk.specs.Files.{Unchanged};
 ghost use Rattle.clfs_disk.specs.State.{TellsContents, IsSteady, Passes, Rises};
-ghost use Rattle.clfs_base.specs.Layout.{version_one};
 ghost use Rattle.clfs_base.specs.Spelling.{IsImage};
 ghost use Rattle.clfs_model.specs.Flush.{flushed};
 ghost use Rattle.clfs_model.specs.Step.{with_broken};
 ghost use Rattle.clfs_buffers.specs.Reading.{Gives};
 ghost use Rattle.clfs_recover.specs.Reading.{file_of};
+ghost use Rattle.clfs_laws.specs.Refused.{is_of_call};
 ghost use Rattle.clfs_manager.specs.Memory.{IsSound};
 ghost use Rattle.clfs_manager.specs.OnDisk.{IsOpen, AreKept};
 ghost use Rattle.clfs_manager.specs.Fetching.{IsNeeded, IsNeededHead, IsReadAs, LeavesState, IsLeft, OnlyReads, refused_as};
@@ -23,6 +24,7 @@ use crate::log::{Log, shape_of};
 use clfs_base::BaseImage;
 use clfs_buffers::{ReadRefusal, changes_keep_blocks};
 use clfs_disk::Disk;
+use clfs_laws::numbers_fit_their_types;
 use clfs_lsn::{Bytes, Head, LogEntry, Lsn};
 use clfs_model::{Refusal, State};
 use clfs_recover::stored_records_are_read;
@@ -97,15 +99,17 @@ fn waiting_entry(log: &Log, head: Head) -> Result<LogEntry, AllocError>
     requires sound { IsSound log.now }
     requires there { IsNeededHead log.now.state.value head }
     requires waits { flushed log.now.state.value ≤ head.lsn }
-    ensures { IfOk result (λ read. (entry : LogEntry) → IsNeeded log.now.state.value entry → head_of entry ≡ head → read ≡ entry) }
+    ensures exact { IfOk result (λ read. (entry : LogEntry) → IsNeeded log.now.state.value entry → head_of entry ≡ head → read ≡ entry) }
+    ensures small { IfOk result (λ read. length read.bytes ≤ most_data) }
 {
+    numbers_fit_their_types();
     let bytes = log.queue.read(log.alloc, head.lsn)?;
     Ok(entry_of(head, bytes))
 }
 
 // The number of the file in which an LSN's container lies.
 fn file_of(image: &BaseImage, lsn: Lsn) -> u16
-    requires image { IsImage version_one image.now }
+    requires image { IsImage image.now }
     requires listed { image.now.first ≤ container_of lsn }
     requires within { container_of lsn + 1 ≤ image.now.first + length image.now.files }
     ensures file { result ≡ file_of image.now lsn }
@@ -122,6 +126,7 @@ fn stored_entry<D: Disk>(log: &mut Log, disk: &mut D, lsn: Lsn) -> Result<LogEnt
     requires stable { lsn < flushed log.old.state.value }
     ensures exact { TellsContents (D.state disk.old) → (entry : LogEntry) → IsNeeded log.old.state.value entry → entry.lsn ≡ lsn → Gives result (Ok entry) }
     ensures lsn { IfOk result (λ read. read.lsn ≡ lsn) }
+    ensures small { IfOk result (λ read. length read.bytes ≤ most_data) }
     ensures log { log.new ≡ record log.old { buffers = log.new.buffers } }
     ensures kept { TellsContents (D.state disk.old) → AreKept log.old.state.value log.new.buffers }
     ensures refused { OnErr result (log.new ≡ log.old) }
@@ -147,10 +152,13 @@ pub(crate) fn fetch<D: Disk>(log: &mut Log, disk: &mut D, head: Head) -> Result<
     requires there { IsNeededHead log.old.state.value head }
     ensures read { IfOk result (λ read. (entry : LogEntry) → IsNeeded log.old.state.value entry → head_of entry ≡ head
         → IsReadAs (D.state disk.old).nature.tells_contents (flushed log.old.state.value) entry read) }
+    ensures small { IfOk result (λ read. length read.bytes ≤ most_data) }
     ensures log { OnOk result (log.new ≡ record log.old { buffers = log.new.buffers }) }
     ensures state { IfErr result (λ refusal. LeavesState refusal log.old.state.value log.new.state.value) }
     ensures left { IsLeft (D.state disk.new) log.new }
     ensures reads { OnlyReads result (D.state disk.old) (D.state disk.new) }
+    ensures refused { IfErr result (λ refusal. is_of_call refusal ≡ true → disk.new ≡ disk.old) }
+    ensures waits { IfOk result (λ read. flushed log.old.state.value ≤ read.lsn → disk.new ≡ disk.old) }
 {
     if !is_stable(log, head.lsn) {
         return Ok(waiting_entry(log, head)?);

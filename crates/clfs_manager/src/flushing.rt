@@ -1,7 +1,7 @@
 // Writing what waits. The open block ends, so that all records stand in blocks that wait, and these are written as one group behind the blocks that
 // are on the disk: a crash leaves all of the group or none of it. No memory is taken: the group's bytes stand in the queue's buffer, and there is
 // room for the end of the open block since its first record was appended.
-ghost use Rattle.std.specs.Prelude.{◌≡◌, [], Bool, IsOk, IsErrOf, ◌+◌, ◌*◌, ◌<◌, ◌≤◌, false, true, OnOk, OnErr};
+ghost use Rattle.std.specs.Prelude.{◌≡◌, [], Bool, IsOk, IsErrOf, ◌+◌, ◌*◌, ◌<◌, ◌≤◌, false, true, OnOk, OnErr, IfErr};
 ghost use Rattle.clfs_disk.specs.State.{IsSettled, IsSteady, Later, Rises};
 ghost use Rattle.clfs_lsn.specs.Format.{sector_bytes};
 ghost use Rattle.clfs_lsn.specs.Place.{IsClosed, IsSmall, block_end, frontier};
@@ -13,6 +13,7 @@ ghost use Rattle.clfs_physical.specs.Stored.{AreMade};
 ghost use Rattle.clfs_model.specs.declared.call.Call.TheVariants as calls;
 ghost use Rattle.clfs_model.specs.declared.reply.Reply.TheVariants as replies;
 ghost use Rattle.clfs_model.specs.Conditions.{IsClient};
+ghost use Rattle.clfs_laws.specs.Refused.{is_of_call};
 ghost use Rattle.clfs_manager.specs.Calls.{Steps};
 ghost use Rattle.clfs_manager.specs.Flushing.{EndsBlock, IsBroken, KeepsOthers, StoredAfter};
 ghost use Rattle.clfs_manager.specs.Crashes.{CrashSurvives, StoredMeanwhile};
@@ -161,6 +162,7 @@ impl<D: Disk> Manager<D> {
         ensures writes { WritesDisk (IsErrOf result Refusal.DiskFault) (D.state self.old.1) (D.state self.new.1) }
         ensures moments { CrashSurvives (asks client (calls.Flush area)) self.old.0 (D.state self.old.1) (D.state self.new.1) }
         ensures stopped { self.old.0.broken ≡ true → self.new.1 ≡ self.old.1 }
+        ensures refused { IfErr result (λ refusal. is_of_call refusal ≡ true → self.new.1 ≡ self.old.1) }
     {
         steps_keep_a_state_valid();
         steps_keep_a_state_storable();
@@ -186,6 +188,7 @@ impl<D: Disk> Manager<D> {
         ensures writes { WritesDisk (IsErrOf result Refusal.DiskFault) (D.state self.old.1) (D.state self.new.1) }
         ensures moments { CrashSurvives (asks client (calls.FlushTo area lsn)) self.old.0 (D.state self.old.1) (D.state self.new.1) }
         ensures stopped { self.old.0.broken ≡ true → self.new.1 ≡ self.old.1 }
+        ensures refused { IfErr result (λ refusal. is_of_call refusal ≡ true → self.new.1 ≡ self.old.1) }
     {
         steps_keep_a_state_valid();
         steps_keep_a_state_storable();

@@ -8,7 +8,7 @@ ghost use Rattle.clfs_disk.specs.Files.{Unchanged};
 ghost use Rattle.clfs_disk.specs.State.{TellsContents, IsSteady, IsHonest, IsSettled, Later, Leaves, Passes, Rises};
 ghost use Rattle.clfs_disk.specs.Calls.{Writes};
 ghost use Rattle.clfs_base.specs.declared.image.BaseImage.{BaseImage};
-ghost use Rattle.clfs_base.specs.Layout.{slot_bytes, version_one};
+ghost use Rattle.clfs_base.specs.Layout.{slot_bytes};
 ghost use Rattle.clfs_base.specs.Spelling.{IsImage, spelled};
 ghost use Rattle.clfs_base.specs.Slots.{is_open_slot, slot_place};
 ghost use Rattle.clfs_base.specs.Writing.{HasNewest, NoneOrFirst};
@@ -97,14 +97,14 @@ fn close_gates<D: Disk>(disk: &mut D) -> Result<(), Failed>
 // Writes the first copy behind the closed gate of slot 0, syncs it, and opens the gate.
 fn write_copy<D: Disk>(disk: &mut D, body: &[u8]) -> Result<(), Failed>
     requires { length body.now ≡ slot_bytes - 1 }
-    ensures written { OnOk result (TellsContents (D.state disk.old) → (image : BaseImage) → IsImage version_one image
-        → body.now ≡ spelled version_one image → HasNoGates (D.state disk.old).files
+    ensures written { OnOk result (TellsContents (D.state disk.old) → (image : BaseImage) → IsImage image
+        → body.now ≡ spelled image → HasNoGates (D.state disk.old).files
         → HasNewest 0 image (D.state disk.old).files (D.state disk.new).files) }
     ensures settled { OnOk result (IsHonest (D.state disk.old) → IsSettled (D.state disk.new)) }
 
     // Whatever the answer, a crash at any moment leaves no open slot or this copy.
-    ensures moments { IsSettled (D.state disk.old) → (image : BaseImage) → IsImage version_one image
-        → body.now ≡ spelled version_one image → HasNoGates (D.state disk.old).files
+    ensures moments { IsSettled (D.state disk.old) → (image : BaseImage) → IsImage image
+        → body.now ≡ spelled image → HasNoGates (D.state disk.old).files
         → Leaves (NoneOrFirst 0 image (D.state disk.old).files) (D.state disk.old) (D.state disk.new) }
 
     ensures lengths { SameLengths (D.state disk.old).files (D.state disk.new).files }
@@ -160,15 +160,16 @@ pub(crate) fn format_disk<D: Disk>(
     alloc: Global,
     disk: &mut D,
     shape: &Shape,
+    dedicated: bool,
     containers: u16,
 ) -> Result<(), FormatRefusal>
     requires shape { IsShape shape.now }
     requires some { 1 ≤ containers }
     requires few { containers ≤ most_containers }
-    ensures made { OnOk result (TellsContents (D.state disk.old) → IsMade shape.now containers (D.state disk.new).files) }
+    ensures made { OnOk result (TellsContents (D.state disk.old) → IsMade shape.now dedicated containers (D.state disk.new).files) }
     ensures long { OnOk result (TellsContents (D.state disk.old) → AreLong shape.now (containers + 1) (D.state disk.new).files) }
     ensures settled { OnOk result (IsHonest (D.state disk.old) → IsSettled (D.state disk.new)) }
-    ensures moments { OnOk result (IsHonest (D.state disk.old) → ComesAtOnce shape.now containers (D.state disk.old) (D.state disk.new)) }
+    ensures moments { OnOk result (IsHonest (D.state disk.old) → ComesAtOnce shape.now dedicated containers (D.state disk.old) (D.state disk.new)) }
     ensures free { TellsContents (D.state disk.old) → IsFree result ((D.state disk.old).files 0) }
     ensures same { (slot : ℕ) → IsErrOf result (FormatRefusal.Exists slot) → Unchanged (D.state disk.old).files (D.state disk.new).files
         × Passes Unchanged (D.state disk.old) (D.state disk.new) }
@@ -177,26 +178,28 @@ pub(crate) fn format_disk<D: Disk>(
     ensures steady { IsSteady (D.state disk.old) → (IsErrOf result FormatRefusal.DiskFault → ⊥)
         × ((D.state disk.new).faults ≡ (D.state disk.old).faults) }
 {
-    let body = first_copy(alloc, shape, containers)?;
+    calls_join::<D>();
     is_free(disk)?;
-    fill_disk(disk, shape, containers, &body)
+    let body = first_copy(alloc, shape, dedicated, containers)?;
+    fill_disk(disk, shape, dedicated, containers, &body)
 }
 
 // Makes the files of a log and writes its first copy.
 fn fill_disk<D: Disk>(
     disk: &mut D,
     shape: &Shape,
+    dedicated: bool,
     containers: u16,
     body: &[u8],
 ) -> Result<(), FormatRefusal>
     requires shape { IsShape shape.now }
     requires some { 1 ≤ containers }
     requires few { containers ≤ most_containers }
-    requires body { body.now ≡ spelled version_one (first_image shape.now containers) }
-    ensures made { OnOk result (TellsContents (D.state disk.old) → IsMade shape.now containers (D.state disk.new).files) }
+    requires body { body.now ≡ spelled (first_image shape.now dedicated containers) }
+    ensures made { OnOk result (TellsContents (D.state disk.old) → IsMade shape.now dedicated containers (D.state disk.new).files) }
     ensures long { OnOk result (TellsContents (D.state disk.old) → AreLong shape.now (containers + 1) (D.state disk.new).files) }
     ensures settled { OnOk result (IsHonest (D.state disk.old) → IsSettled (D.state disk.new)) }
-    ensures moments { OnOk result (IsHonest (D.state disk.old) → ComesAtOnce shape.now containers (D.state disk.old) (D.state disk.new)) }
+    ensures moments { OnOk result (IsHonest (D.state disk.old) → ComesAtOnce shape.now dedicated containers (D.state disk.old) (D.state disk.new)) }
     ensures other { (slot : ℕ) → IsErrOf result (FormatRefusal.Exists slot) → ⊥ }
     ensures time { Later (D.state disk.old) (D.state disk.new) }
     ensures cause { IsErrOf result FormatRefusal.DiskFault → Rises (D.state disk.old).faults (D.state disk.new).faults }

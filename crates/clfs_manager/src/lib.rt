@@ -54,6 +54,3 @@ mod stored;
 pub use clfs_recover::LoadRefusal;
 pub use manager::{FormatRefused, LoadRefused, Manager};
 pub use refusal::FormatRefusal;
-
-#[cfg(test)]
-mod tests;

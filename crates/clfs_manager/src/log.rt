@@ -12,7 +12,7 @@ ghost use Rattle.clfs_manager.specs.Memory.{Holds, policies_in};
 
 use clfs_archive::{Archive, open_archive};
 use clfs_areas::Areas;
-use clfs_base::BaseImage;
+use clfs_base::{BaseImage, copies_are_read_as_written};
 use clfs_buffers::Buffers;
 use clfs_laws::numbers_fit_their_types;
 use clfs_lsn::{Lsn, Place, Shape};
@@ -115,6 +115,7 @@ pub(crate) fn open_log(
     ensures kept { IfOk result (λ log. log.buffers ≡ []) }
     ensures whole { IfOk result (λ log. log.broken ≡ false) }
 {
+    copies_are_read_as_written();
     logs_are_found_in_files();
     copies_without_fault_fit();
     opened_states_are_valid();

@@ -63,7 +63,8 @@ pub struct FormatRefused<D> {
 }
 
 impl<D: Disk> Manager<D> {
-    /// Makes a log on a disk, with containers of this shape, where none is there. The disk is given back with it.
+    /// Makes a log on a disk, with containers of this shape, if none is there: a dedicated one, which has one stream, or one for several. The
+    /// disk is given back with it.
     ///
     /// After a fault, after want of memory and after a crash in the call nothing is promised of what is read of the files; they are to be
     /// thrown away.
@@ -72,6 +73,7 @@ impl<D: Disk> Manager<D> {
         disk: D,
         shape: Shape,
         containers: u32,
+        dedicated: bool,
     ) -> Result<D, FormatRefused<D>>
         requires shape { IsShape shape }
         requires some { 1 ≤ containers }
@@ -79,12 +81,12 @@ impl<D: Disk> Manager<D> {
 
         // The files stand for a fresh log, are at full length, and nothing is pending.
         ensures formatted { IfOk result (λ new. TellsContents (D.state disk)
-            → (buffers : ℕ) → StandsFor (D.state new).files (fresh shape containers buffers)) }
+            → (buffers : ℕ) → StandsFor (D.state new).files (fresh shape dedicated containers buffers)) }
         ensures whole { IfOk result (λ new. TellsContents (D.state disk) → AreWholeFiles (D.state new).files) }
         ensures settled { IfOk result (λ new. IsHonest (D.state disk) → IsSettled (D.state new)) }
 
         // The log comes to be there at once: from a moment of the call on, a crash leaves none or all of it.
-        ensures moments { IfOk result (λ new. IsHonest (D.state disk) → ComesAtOnce shape containers (D.state disk) (D.state new)) }
+        ensures moments { IfOk result (λ new. IsHonest (D.state disk) → ComesAtOnce shape dedicated containers (D.state disk) (D.state new)) }
 
         // Where a slot is open that is told, and nothing has changed.
         ensures free { IfOk result (λ new. TellsContents (D.state disk) → open_slot_of ((D.state disk).files 0) ≡ None) }
@@ -102,7 +104,7 @@ impl<D: Disk> Manager<D> {
         ensures steady { IsSteady (D.state disk) → IfErr result (λ refused. refused.cause ≢ FormatRefusal.DiskFault) }
     {
         let mut disk = disk;
-        match format_disk(alloc, &mut disk, &shape, containers as u16) {
+        match format_disk(alloc, &mut disk, &shape, dedicated, containers as u16) {
             Ok(()) => Ok(disk),
             Err(cause) => Err(FormatRefused { disk, cause }),
         }

@@ -14,6 +14,7 @@ ghost use Rattle.clfs_model.specs.Step.{calls_disk};
 ghost use Rattle.clfs_model.specs.Storable.{IsStorable};
 ghost use Rattle.clfs_model.specs.Survivors.{Survives};
 ghost use Rattle.clfs_model.specs.Valid.{IsValid};
+ghost use Rattle.clfs_laws.specs.Refused.{is_of_call};
 ghost use Rattle.clfs_manager.specs.Calls.{Steps};
 ghost use Rattle.clfs_manager.specs.Crashes.{CrashLeavesSurvivor, CrashSurvives};
 ghost use Rattle.clfs_manager.specs.Streams.{IsNotAdded, with_stream};
@@ -31,7 +32,10 @@ use clfs_laws::{
 use clfs_lsn::{Lsn, Name};
 use clfs_model::{Refusal, State, ways_of_a_step};
 use clfs_physical::PhysicalRefusal;
-use clfs_recover::{logs_are_copies_and_blocks, low_containers_are_left_out, streams_come_last};
+use clfs_recover::{
+    logs_are_copies_and_blocks, low_containers_are_left_out, settings_leave_the_records,
+    streams_come_last,
+};
 use clfs_told::Told;
 use std::alloc::AllocError;
 
@@ -79,6 +83,7 @@ impl Log {
     {
         streams_come_last();
         low_containers_are_left_out();
+        settings_leave_the_records();
         logs_are_copies_and_blocks();
         let _newest = self.physical.image();
         let first = self.hold().container();
@@ -105,7 +110,8 @@ impl<D: Disk> Manager<D> {
     /// Opens the stream of a name, and gives its number, from 1 in the order of their first opening: the one that has the name, or a new one,
     /// which is on the disk then. The disk is called for a new one alone.
     ///
-    /// Refused where the name isn't legal, by its first wrong byte, and where a new stream would be the 129th. Memory may be wanting.
+    /// Refused if the name isn't legal, by its first wrong byte; if a new stream would be the second one of a dedicated log; and if it would be
+    /// the 193rd. Memory may run out.
     pub fn open_stream(&mut self, client: u16, name: &Name) -> Result<u16, Refusal>
         requires client { IsClient client }
         requires name { length name.now < 2 ^ 32 }
@@ -114,6 +120,7 @@ impl<D: Disk> Manager<D> {
         ensures stopped { self.old.0.broken ≡ true → self.new.1 ≡ self.old.1 }
         ensures writes { WritesDisk (IsErrOf result Refusal.DiskFault) (D.state self.old.1) (D.state self.new.1) }
         ensures moments { CrashSurvives (asks client (calls.OpenStream name.now)) self.old.0 (D.state self.old.1) (D.state self.new.1) }
+        ensures refused { IfErr result (λ refusal. is_of_call refusal ≡ true → self.new.1 ≡ self.old.1) }
     {
         steps_keep_a_state_valid();
         steps_keep_a_state_storable();

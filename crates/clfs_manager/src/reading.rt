@@ -1,8 +1,9 @@
 // The calls that read records. Each finds the head of its record in the tables first, or is refused by what these and the areas say. Then it
 // takes the memory that a new cursor wants, gets the record, and makes or moves the cursor: so a call that is refused, or for which memory is
 // wanting, leaves the log as it was.
-ghost use Rattle.std.specs.Prelude.{◌≡◌, ◌<◌, ℕ, true, length, Err, IfOk, IfErr, IsErrOf};
+ghost use Rattle.std.specs.Prelude.{◌≡◌, ◌<◌, ◌≤◌, ℕ, true, length, Err, IfOk, IfErr, IsErrOf};
 ghost use Rattle.clfs_lsn.specs.Head.{head_of};
+ghost use Rattle.clfs_lsn.specs.Size.{most_data};
 ghost use Rattle.clfs_lsn.specs.declared.entry.LogEntry.{LogEntry};
 ghost use Rattle.clfs_disk.specs.Files.{Unchanged};
 ghost use Rattle.clfs_disk.specs.State.{TellsContents, IsSteady, Passes, Rises};
@@ -15,6 +16,7 @@ ghost use Rattle.clfs_model.specs.Run.{asks};
 ghost use Rattle.clfs_model.specs.Reading.{unused_cursor, with_cursor, with_cursor_at};
 ghost use Rattle.clfs_model.specs.State.{change_area};
 ghost use Rattle.clfs_areas.specs.Table.{area_at};
+ghost use Rattle.clfs_laws.specs.Refused.{is_of_call};
 ghost use Rattle.clfs_manager.specs.Calls.{Steps};
 ghost use Rattle.clfs_manager.specs.Crashes.{CrashSurvives};
 ghost use Rattle.clfs_manager.specs.Memory.{IsSound};
@@ -72,8 +74,11 @@ impl Log {
         ensures state { IfOk result (λ found. let here = area_at place self.old.areas.areas in self.new.state.value
             ≡ change_area (with_cursor (record { number = found.0; kind = kind; last = head.lsn })) here.client here.number self.old.state.value) }
         ensures refused { IfErr result (λ refusal. LeavesState refusal self.old.state.value self.new.state.value) }
+        ensures small { IfOk result (λ found. length found.1.bytes ≤ most_data) }
         ensures left { IsLeft (D.state disk.new) self.new }
         ensures reads { OnlyReads result (D.state disk.old) (D.state disk.new) }
+        ensures untouched { IfErr result (λ refusal. is_of_call refusal ≡ true → disk.new ≡ disk.old) }
+        ensures waits { IfOk result (λ found. flushed self.old.state.value ≤ found.1.lsn → disk.new ≡ disk.old) }
     {
         let last = head.lsn;
         let info = self.areas.area(place);
@@ -102,8 +107,11 @@ impl Log {
         ensures state { IfOk result (λ found. let here = area_at place self.old.areas.areas in self.new.state.value
             ≡ change_area (with_cursor_at cursor head.lsn) here.client here.number self.old.state.value) }
         ensures refused { IfErr result (λ refusal. LeavesState refusal self.old.state.value self.new.state.value) }
+        ensures small { IfOk result (λ entry. length entry.bytes ≤ most_data) }
         ensures left { IsLeft (D.state disk.new) self.new }
         ensures reads { OnlyReads result (D.state disk.old) (D.state disk.new) }
+        ensures untouched { IfErr result (λ refusal. is_of_call refusal ≡ true → disk.new ≡ disk.old) }
+        ensures waits { IfOk result (λ entry. flushed self.old.state.value ≤ entry.lsn → disk.new ≡ disk.old) }
     {
         let last = head.lsn;
         let info = self.areas.area(place);
@@ -126,8 +134,11 @@ impl Log {
         requires open { IsOpen (D.state disk.old) self.old.state.value self.old }
         ensures step { Steps (D.state disk.old).nature.tells_contents self.old.state.value client (calls.Read area lsn mode)
             (λ (found : ℕ × LogEntry). replies.Found found.0 found.1) result self.new.state.value }
+        ensures small { IfOk result (λ found. length found.1.bytes ≤ most_data) }
         ensures left { IsLeft (D.state disk.new) self.new }
         ensures reads { OnlyReads result (D.state disk.old) (D.state disk.new) }
+        ensures refused { IfErr result (λ refusal. is_of_call refusal ≡ true → disk.new ≡ disk.old) }
+        ensures waits { IfOk result (λ found. flushed self.old.state.value ≤ found.1.lsn → disk.new ≡ disk.old) }
     {
         refusals_are_the_calls_own();
         ways_of_a_step();
@@ -148,8 +159,11 @@ impl Log {
         requires open { IsOpen (D.state disk.old) self.old.state.value self.old }
         ensures step { Steps (D.state disk.old).nature.tells_contents self.old.state.value client (calls.ReadRestart area)
             (λ (found : ℕ × LogEntry). replies.Found found.0 found.1) result self.new.state.value }
+        ensures small { IfOk result (λ found. length found.1.bytes ≤ most_data) }
         ensures left { IsLeft (D.state disk.new) self.new }
         ensures reads { OnlyReads result (D.state disk.old) (D.state disk.new) }
+        ensures refused { IfErr result (λ refusal. is_of_call refusal ≡ true → disk.new ≡ disk.old) }
+        ensures waits { IfOk result (λ found. flushed self.old.state.value ≤ found.1.lsn → disk.new ≡ disk.old) }
     {
         refusals_are_the_calls_own();
         ways_of_a_step();
@@ -171,8 +185,11 @@ impl Log {
         requires open { IsOpen (D.state disk.old) self.old.state.value self.old }
         ensures step { Steps (D.state disk.old).nature.tells_contents self.old.state.value client (calls.ReadNext area cursor)
             replies.Next result self.new.state.value }
+        ensures small { IfOk result (λ entry. length entry.bytes ≤ most_data) }
         ensures left { IsLeft (D.state disk.new) self.new }
         ensures reads { OnlyReads result (D.state disk.old) (D.state disk.new) }
+        ensures refused { IfErr result (λ refusal. is_of_call refusal ≡ true → disk.new ≡ disk.old) }
+        ensures waits { IfOk result (λ entry. flushed self.old.state.value ≤ entry.lsn → disk.new ≡ disk.old) }
     {
         refusals_are_the_calls_own();
         ways_of_a_step();
@@ -194,8 +211,11 @@ impl Log {
         requires open { IsOpen (D.state disk.old) self.old.state.value self.old }
         ensures step { Steps (D.state disk.old).nature.tells_contents self.old.state.value client (calls.PreviousRestart area cursor)
             replies.Next result self.new.state.value }
+        ensures small { IfOk result (λ entry. length entry.bytes ≤ most_data) }
         ensures left { IsLeft (D.state disk.new) self.new }
         ensures reads { OnlyReads result (D.state disk.old) (D.state disk.new) }
+        ensures refused { IfErr result (λ refusal. is_of_call refusal ≡ true → disk.new ≡ disk.old) }
+        ensures waits { IfOk result (λ entry. flushed self.old.state.value ≤ entry.lsn → disk.new ≡ disk.old) }
     {
         refusals_are_the_calls_own();
         ways_of_a_step();
@@ -235,8 +255,11 @@ impl<D: Disk> Manager<D> {
         ensures cause { IsErrOf result refusals.DiskFault → Rises (D.state self.old.1).faults (D.state self.new.1).faults }
         ensures steady { IsSteady (D.state self.old.1) → (IsErrOf result refusals.DiskFault → ⊥)
             × ((D.state self.new.1).faults ≡ (D.state self.old.1).faults) }
+        ensures small { IfOk result (λ found. length found.1.bytes ≤ most_data) }
         ensures moments { CrashSurvives (asks client (calls.Read area lsn mode)) self.old.0 (D.state self.old.1) (D.state self.new.1) }
         ensures stopped { self.old.0.broken ≡ true → self.new.1 ≡ self.old.1 }
+        ensures refused { IfErr result (λ refusal. is_of_call refusal ≡ true → self.new.1 ≡ self.old.1) }
+        ensures waits { IfOk result (λ found. flushed self.old.0 ≤ found.1.lsn → self.new.1 ≡ self.old.1) }
     {
         self.stored();
         ways_of_a_step();
@@ -270,8 +293,11 @@ impl<D: Disk> Manager<D> {
         ensures cause { IsErrOf result refusals.DiskFault → Rises (D.state self.old.1).faults (D.state self.new.1).faults }
         ensures steady { IsSteady (D.state self.old.1) → (IsErrOf result refusals.DiskFault → ⊥)
             × ((D.state self.new.1).faults ≡ (D.state self.old.1).faults) }
+        ensures small { IfOk result (λ entry. length entry.bytes ≤ most_data) }
         ensures moments { CrashSurvives (asks client (calls.ReadNext area cursor)) self.old.0 (D.state self.old.1) (D.state self.new.1) }
         ensures stopped { self.old.0.broken ≡ true → self.new.1 ≡ self.old.1 }
+        ensures refused { IfErr result (λ refusal. is_of_call refusal ≡ true → self.new.1 ≡ self.old.1) }
+        ensures waits { IfOk result (λ entry. flushed self.old.0 ≤ entry.lsn → self.new.1 ≡ self.old.1) }
     {
         self.stored();
         ways_of_a_step();
@@ -305,8 +331,11 @@ impl<D: Disk> Manager<D> {
         ensures cause { IsErrOf result refusals.DiskFault → Rises (D.state self.old.1).faults (D.state self.new.1).faults }
         ensures steady { IsSteady (D.state self.old.1) → (IsErrOf result refusals.DiskFault → ⊥)
             × ((D.state self.new.1).faults ≡ (D.state self.old.1).faults) }
+        ensures small { IfOk result (λ found. length found.1.bytes ≤ most_data) }
         ensures moments { CrashSurvives (asks client (calls.ReadRestart area)) self.old.0 (D.state self.old.1) (D.state self.new.1) }
         ensures stopped { self.old.0.broken ≡ true → self.new.1 ≡ self.old.1 }
+        ensures refused { IfErr result (λ refusal. is_of_call refusal ≡ true → self.new.1 ≡ self.old.1) }
+        ensures waits { IfOk result (λ found. flushed self.old.0 ≤ found.1.lsn → self.new.1 ≡ self.old.1) }
     {
         self.stored();
         ways_of_a_step();
@@ -345,8 +374,11 @@ impl<D: Disk> Manager<D> {
         ensures cause { IsErrOf result refusals.DiskFault → Rises (D.state self.old.1).faults (D.state self.new.1).faults }
         ensures steady { IsSteady (D.state self.old.1) → (IsErrOf result refusals.DiskFault → ⊥)
             × ((D.state self.new.1).faults ≡ (D.state self.old.1).faults) }
+        ensures small { IfOk result (λ entry. length entry.bytes ≤ most_data) }
         ensures moments { CrashSurvives (asks client (calls.PreviousRestart area cursor)) self.old.0 (D.state self.old.1) (D.state self.new.1) }
         ensures stopped { self.old.0.broken ≡ true → self.new.1 ≡ self.old.1 }
+        ensures refused { IfErr result (λ refusal. is_of_call refusal ≡ true → self.new.1 ≡ self.old.1) }
+        ensures waits { IfOk result (λ entry. flushed self.old.0 ≤ entry.lsn → self.new.1 ≡ self.old.1) }
     {
         self.stored();
         ways_of_a_step();

@@ -1,27 +1,25 @@
 // Which refusal a call meets first: each function is the chain of tests that the machine's definition makes of one call or of one part of
 // several, in its order. A call that is refused has changed nothing yet, and none of the tests makes a call on the disk.
-ghost use Rattle.std.specs.Prelude.{◌≡◌, ◌==◌, ◌||◌, ◌<◌, ◌≤◌, ◌^◌, [], ◌∷◌, List, ℕ, Option, IsSome, IfOk, IfErr, Some, None, length, is_some, find, nat_lt};
-ghost use Rattle.clfs_lsn.specs.Limits.{most_sizes};
+ghost use Rattle.std.specs.Prelude.{◌≡◌, ◌==◌, ◌&&◌, ◌||◌, ◌<◌, ◌≤◌, ◌^◌, [], ◌∷◌, List, ℕ, Option, IsSome, IfOk, IfErr, Some, None, length, is_some, find, nat_le, nat_lt};
+ghost use Rattle.clfs_lsn.specs.Limits.{most_sizes, most_streams};
 ghost use Rattle.clfs_lsn.specs.Lsn.{null_lsn};
 ghost use Rattle.clfs_model.specs.declared.refusal.Refusal.{Refusal};
+ghost use Rattle.clfs_model.specs.declared.refusal.Refusal.TheVariants.{Dedicated, StreamLimit};
 ghost use Rattle.clfs_model.specs.declared.state.Area.{Area};
 ghost use Rattle.clfs_model.specs.State.{area_of, stream_at, base_of};
 ghost use Rattle.clfs_model.specs.Live.{last_live};
 ghost use Rattle.clfs_model.specs.Policies.{policy_refusal};
 ghost use Rattle.clfs_model.specs.Put.{need_of, spent_of};
-ghost use Rattle.clfs_model.specs.Refusals.{append_refusal, full, in_area, invalid_base, is_base, is_link, open_refusal, restart_refusal, short, size_refusal, tail_refusal, too_long, unless_two_containers};
+ghost use Rattle.clfs_model.specs.Refusals.{append_refusal, full, in_area, invalid_base, is_base, is_link, open_refusal, refused_if, restart_refusal, short, size_refusal, tail_refusal, too_long, unless_two_containers};
 ghost use Rattle.clfs_model.specs.Space.{own_sum};
 ghost use Rattle.clfs_areas.specs.Table.{area_at};
 ghost use Rattle.clfs_manager.specs.Memory.{IsSound};
 
 use crate::arguments::{longer, name_fault, need_of, own_sum, spent_of};
 use crate::log::Log;
-use clfs_lsn::{Lsn, Name, Policy, Sizes};
+use clfs_lsn::{Lsn, MOST_STREAMS, Name, Policy, Sizes};
 use clfs_model::{Draft, Refusal};
 use clfs_policy::Conflict;
-
-// The most streams of a log.
-const MOST_STREAMS: usize = 128;
 
 impl Log {
     // Where the client's area of a number stands, for a call that a log of fewer than two containers takes from no area.
@@ -41,7 +39,7 @@ impl Log {
         self.area_place(client, number)
     }
 
-    // Opening a stream: the name, then the number of streams where one is to be made.
+    // Opening a stream: the name; then, if a stream is to be made, that a dedicated log has none yet, and the number of streams.
     pub(crate) fn open_refusal(&self, name: &Name) -> Option<Refusal>
         requires sound { IsSound self.now }
         ensures { result ≡ open_refusal self.now.state.value name.now }
@@ -50,8 +48,23 @@ impl Log {
         if let Some(at) = name_fault(bytes) {
             return Some(Refusal::NameInvalid { at });
         }
+        if self.tables.number(bytes).is_some() {
+            return None;
+        }
+        self.stream_refusal()
+    }
+
+    // Why no stream is made: a dedicated log has its one stream, or the log has as many as it can.
+    fn stream_refusal(&self) -> Option<Refusal>
+        requires sound { IsSound self.now }
+        ensures { result ≡ refused_if (self.now.state.value.dedicated && nat_le 1 (length self.now.state.value.streams)) Dedicated
+            (refused_if (nat_le most_streams (length self.now.state.value.streams)) (StreamLimit (length self.now.state.value.streams)) None) }
+    {
         let count = self.tables.len();
-        if self.tables.number(bytes).is_some() || count < MOST_STREAMS {
+        if self.physical.image().dedicated && 1 <= count {
+            return Some(Refusal::Dedicated);
+        }
+        if count < MOST_STREAMS as usize {
             return None;
         }
         Some(Refusal::StreamLimit {

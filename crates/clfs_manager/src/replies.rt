@@ -1,15 +1,17 @@
 // What a call answers, as a reply: its value in the reply that has it, or why it was refused.
-ghost use Rattle.std.specs.Prelude.{◌≡◌, ℕ};
+ghost use Rattle.std.specs.Prelude.{◌≡◌, ◌≤◌, ℕ, length, IfOk};
+ghost use Rattle.clfs_lsn.specs.Size.{most_data};
 ghost use Rattle.clfs_lsn.specs.declared.entry.LogEntry.{LogEntry};
 ghost use Rattle.clfs_model.specs.declared.reply.Reply.TheVariants as replies;
-ghost use Rattle.clfs_manager.specs.Calls.{replied};
+ghost use Rattle.clfs_manager.specs.Calls.{IsSmall, replied};
 
 use clfs_lsn::{LogEntry, Lsn};
 use clfs_model::{Extents, LogInfo, Refusal, Reply};
 
 // A stream's number.
 pub(crate) fn stream_reply(answer: Result<u16, Refusal>) -> Reply
-    ensures { result ≡ replied replies.Stream answer }
+    ensures exact { result ≡ replied replies.Stream answer }
+    ensures small { IsSmall result }
 {
     match answer {
         Ok(number) => Reply::Stream(number),
@@ -19,7 +21,8 @@ pub(crate) fn stream_reply(answer: Result<u16, Refusal>) -> Reply
 
 // An area's number.
 pub(crate) fn area_reply(answer: Result<u16, Refusal>) -> Reply
-    ensures { result ≡ replied replies.Area answer }
+    ensures exact { result ≡ replied replies.Area answer }
+    ensures small { IsSmall result }
 {
     match answer {
         Ok(number) => Reply::Area(number),
@@ -29,7 +32,8 @@ pub(crate) fn area_reply(answer: Result<u16, Refusal>) -> Reply
 
 // That it was done.
 pub(crate) fn done_reply(answer: Result<(), Refusal>) -> Reply
-    ensures { result ≡ replied (λ _. replies.Done) answer }
+    ensures exact { result ≡ replied (λ _. replies.Done) answer }
+    ensures small { IsSmall result }
 {
     match answer {
         Ok(()) => Reply::Done,
@@ -39,7 +43,8 @@ pub(crate) fn done_reply(answer: Result<(), Refusal>) -> Reply
 
 // The sectors that an area holds.
 pub(crate) fn held_reply(answer: Result<u32, Refusal>) -> Reply
-    ensures { result ≡ replied replies.Held answer }
+    ensures exact { result ≡ replied replies.Held answer }
+    ensures small { IsSmall result }
 {
     match answer {
         Ok(sectors) => Reply::Held(sectors),
@@ -49,7 +54,8 @@ pub(crate) fn held_reply(answer: Result<u32, Refusal>) -> Reply
 
 // The sectors of records to come.
 pub(crate) fn sectors_reply(answer: Result<u32, Refusal>) -> Reply
-    ensures { result ≡ replied replies.Sectors answer }
+    ensures exact { result ≡ replied replies.Sectors answer }
+    ensures small { IsSmall result }
 {
     match answer {
         Ok(sectors) => Reply::Sectors(sectors),
@@ -59,7 +65,8 @@ pub(crate) fn sectors_reply(answer: Result<u32, Refusal>) -> Reply
 
 // A new record's LSN.
 pub(crate) fn placed_reply(answer: Result<Lsn, Refusal>) -> Reply
-    ensures { result ≡ replied replies.Placed answer }
+    ensures exact { result ≡ replied replies.Placed answer }
+    ensures small { IsSmall result }
 {
     match answer {
         Ok(lsn) => Reply::Placed(lsn),
@@ -69,7 +76,8 @@ pub(crate) fn placed_reply(answer: Result<Lsn, Refusal>) -> Reply
 
 // The LSN below which all records are on the disk.
 pub(crate) fn flushed_reply(answer: Result<Lsn, Refusal>) -> Reply
-    ensures { result ≡ replied replies.Flushed answer }
+    ensures exact { result ≡ replied replies.Flushed answer }
+    ensures small { IsSmall result }
 {
     match answer {
         Ok(lsn) => Reply::Flushed(lsn),
@@ -79,7 +87,8 @@ pub(crate) fn flushed_reply(answer: Result<Lsn, Refusal>) -> Reply
 
 // A new cursor and its record.
 pub(crate) fn found_reply(answer: Result<(u16, LogEntry), Refusal>) -> Reply
-    ensures { result ≡ replied (λ (found : ℕ × LogEntry). replies.Found found.0 found.1) answer }
+    ensures exact { result ≡ replied (λ (found : ℕ × LogEntry). replies.Found found.0 found.1) answer }
+    ensures small { IfOk answer (λ found. length found.1.bytes ≤ most_data) → IsSmall result }
 {
     match answer {
         Ok((cursor, entry)) => Reply::Found { cursor, entry },
@@ -89,7 +98,8 @@ pub(crate) fn found_reply(answer: Result<(u16, LogEntry), Refusal>) -> Reply
 
 // The record that a cursor came to.
 pub(crate) fn next_reply(answer: Result<LogEntry, Refusal>) -> Reply
-    ensures { result ≡ replied replies.Next answer }
+    ensures exact { result ≡ replied replies.Next answer }
+    ensures small { IfOk answer (λ entry. length entry.bytes ≤ most_data) → IsSmall result }
 {
     match answer {
         Ok(entry) => Reply::Next(entry),
@@ -99,7 +109,8 @@ pub(crate) fn next_reply(answer: Result<LogEntry, Refusal>) -> Reply
 
 // A stream's base.
 pub(crate) fn base_reply(answer: Result<Lsn, Refusal>) -> Reply
-    ensures { result ≡ replied replies.Base answer }
+    ensures exact { result ≡ replied replies.Base answer }
+    ensures small { IsSmall result }
 {
     match answer {
         Ok(lsn) => Reply::Base(lsn),
@@ -109,7 +120,8 @@ pub(crate) fn base_reply(answer: Result<Lsn, Refusal>) -> Reply
 
 // The archive tail.
 pub(crate) fn tail_reply(answer: Result<Lsn, Refusal>) -> Reply
-    ensures { result ≡ replied replies.Tail answer }
+    ensures exact { result ≡ replied replies.Tail answer }
+    ensures small { IsSmall result }
 {
     match answer {
         Ok(lsn) => Reply::Tail(lsn),
@@ -119,7 +131,8 @@ pub(crate) fn tail_reply(answer: Result<Lsn, Refusal>) -> Reply
 
 // What is to be archived.
 pub(crate) fn extents_reply(answer: Result<Extents, Refusal>) -> Reply
-    ensures { result ≡ replied replies.Extents answer }
+    ensures exact { result ≡ replied replies.Extents answer }
+    ensures small { IsSmall result }
 {
     match answer {
         Ok(extents) => Reply::Extents(extents),
@@ -129,7 +142,8 @@ pub(crate) fn extents_reply(answer: Result<Extents, Refusal>) -> Reply
 
 // The containers of the log.
 pub(crate) fn containers_reply(answer: Result<u32, Refusal>) -> Reply
-    ensures { result ≡ replied replies.Containers answer }
+    ensures exact { result ≡ replied replies.Containers answer }
+    ensures small { IsSmall result }
 {
     match answer {
         Ok(containers) => Reply::Containers(containers),
@@ -139,7 +153,8 @@ pub(crate) fn containers_reply(answer: Result<u32, Refusal>) -> Reply
 
 // What the log and a stream are like.
 pub(crate) fn info_reply(answer: Result<LogInfo, Refusal>) -> Reply
-    ensures { result ≡ replied replies.Info answer }
+    ensures exact { result ≡ replied replies.Info answer }
+    ensures small { IsSmall result }
 {
     match answer {
         Ok(info) => Reply::Info(info),

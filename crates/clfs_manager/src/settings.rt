@@ -1,12 +1,13 @@
 // What is set: the policies of a log. A change of these writes the base copy that follows the newest one, with the containers from the hold's on, so
 // that a crash leaves the old settings or the new ones. No call here takes memory.
-ghost use Rattle.std.specs.Prelude.{◌≡◌, ℕ, Bool, true, false, None, IfSome, IfNone, OnOk, OnErr, IsErrOf, IsOk};
+ghost use Rattle.std.specs.Prelude.{◌≡◌, ℕ, Bool, true, false, None, IfSome, IfNone, OnOk, OnErr, IsErrOf, IsOk, IfErr};
 ghost use Rattle.clfs_disk.specs.State.{IsSettled, IsSteady, Later, Rises};
 ghost use Rattle.clfs_model.specs.declared.call.Call.TheVariants as calls;
 ghost use Rattle.clfs_model.specs.declared.reply.Reply.TheVariants as replies;
 ghost use Rattle.clfs_model.specs.Policies.{is_installed, policy_refusal, with_policy, without_policy};
 ghost use Rattle.clfs_model.specs.Run.{asks};
 ghost use Rattle.clfs_physical.specs.Stored.{AreMade};
+ghost use Rattle.clfs_laws.specs.Refused.{is_of_call};
 ghost use Rattle.clfs_manager.specs.Calls.{Steps};
 ghost use Rattle.clfs_policy.specs.Ranges.{AreAllowed};
 ghost use Rattle.clfs_manager.specs.Crashes.{CrashSurvives, StoredMeanwhile};
@@ -119,6 +120,7 @@ impl<D: Disk> Manager<D> {
         ensures stopped { self.old.0.broken ≡ true → self.new.1 ≡ self.old.1 }
         ensures writes { WritesDisk (IsErrOf result Refusal.DiskFault) (D.state self.old.1) (D.state self.new.1) }
         ensures moments { (client : ℕ) → CrashSurvives (asks client (calls.InstallPolicy policy)) self.old.0 (D.state self.old.1) (D.state self.new.1) }
+        ensures refused { IfErr result (λ refusal. is_of_call refusal ≡ true → self.new.1 ≡ self.old.1) }
     {
         steps_keep_a_state_valid();
         steps_keep_a_state_storable();
@@ -144,6 +146,7 @@ impl<D: Disk> Manager<D> {
         ensures stopped { self.old.0.broken ≡ true → self.new.1 ≡ self.old.1 }
         ensures writes { WritesDisk (IsErrOf result Refusal.DiskFault) (D.state self.old.1) (D.state self.new.1) }
         ensures moments { (client : ℕ) → CrashSurvives (asks client (calls.RemovePolicy kind)) self.old.0 (D.state self.old.1) (D.state self.new.1) }
+        ensures refused { IfErr result (λ refusal. is_of_call refusal ≡ true → self.new.1 ≡ self.old.1) }
     {
         steps_keep_a_state_valid();
         steps_keep_a_state_storable();

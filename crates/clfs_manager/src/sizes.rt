@@ -1,7 +1,7 @@
 // The size of the log, in containers: what a client asks for, and growth for a call that needs sectors. Files that aren't there are made and synced, and
 // then the base copy that follows the newest one counts them, with the containers from the hold's on: so a crash leaves the old size or the new one.
 // Making files takes memory; where it fails, and where the size stays, the log is as before.
-ghost use Rattle.std.specs.Prelude.{◌≡◌, ◌<◌, ◌^◌, ℕ, Bool, true, false, IsOk, IsErrOf, OnOk};
+ghost use Rattle.std.specs.Prelude.{◌≡◌, ◌<◌, ◌^◌, ℕ, Bool, true, false, IsOk, IsErrOf, OnOk, IfErr};
 ghost use Rattle.clfs_model.specs.declared.call.Call.TheVariants as calls;
 ghost use Rattle.clfs_model.specs.declared.reply.Reply.TheVariants as replies;
 ghost use Rattle.clfs_model.specs.declared.state.State.{State};
@@ -11,6 +11,7 @@ ghost use Rattle.clfs_model.specs.Space.{grown, with_containers};
 ghost use Rattle.clfs_model.specs.Survivors.{Survives};
 ghost use Rattle.clfs_model.specs.Step.{calls_disk, grows};
 ghost use Rattle.clfs_model.specs.Valid.{IsValid};
+ghost use Rattle.clfs_laws.specs.Refused.{is_of_call};
 ghost use Rattle.clfs_manager.specs.Calls.{Steps};
 ghost use Rattle.clfs_manager.specs.Crashes.{CrashLeavesSurvivor, CrashSurvives};
 ghost use Rattle.clfs_manager.specs.Flushing.{IsBroken};
@@ -112,6 +113,7 @@ impl<D: Disk> Manager<D> {
         ensures stopped { self.old.0.broken ≡ true → self.new.1 ≡ self.old.1 }
         ensures writes { WritesDisk (IsErrOf result Refusal.DiskFault) (D.state self.old.1) (D.state self.new.1) }
         ensures moments { (client : ℕ) → CrashSurvives (asks client (calls.SetSize containers)) self.old.0 (D.state self.old.1) (D.state self.new.1) }
+        ensures refused { IfErr result (λ refusal. is_of_call refusal ≡ true → self.new.1 ≡ self.old.1) }
     {
         steps_keep_a_state_valid();
         steps_keep_a_state_storable();

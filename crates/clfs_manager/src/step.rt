@@ -7,6 +7,7 @@ ghost use Rattle.clfs_model.specs.Conditions.{MeetsCondition};
 ghost use Rattle.clfs_model.specs.Happened.{happened_of};
 ghost use Rattle.clfs_model.specs.Run.{asks};
 ghost use Rattle.clfs_model.specs.Step.{Step, IsDamaged, calls_disk};
+ghost use Rattle.clfs_manager.specs.Calls.{IsRefused, IsSmall};
 ghost use Rattle.clfs_manager.specs.Crashes.{CrashSurvives};
 ghost use Rattle.clfs_manager.specs.Written.{WritesDisk};
 
@@ -28,8 +29,12 @@ impl<D: Disk> Manager<D> {
         // apart; a record that waits is exact.
         ensures step { Step (D.state self.old.1).nature.tells_contents self.old.0 client call.now (happened_of result) result self.new.0 }
 
-        // A call that has nothing to write or to read leaves the disk as it was.
+        // A reply is no larger than the memory that serves any.
+        ensures small { IsSmall result }
+
+        // A call that has nothing to write or to read leaves the disk as it was, and so does one that is refused for what was asked.
         ensures quiet { calls_disk self.old.0 call.now ≡ false → self.new.1 ≡ self.old.1 }
+        ensures refused { IsRefused result → self.new.1 ≡ self.old.1 }
 
         // Damage is told only over a disk that doesn't tell what its files hold; a fault only where the disk failed in the call, and never over a
         // steady disk whose files are at full length, as which they stay.

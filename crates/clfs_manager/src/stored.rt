@@ -4,6 +4,8 @@ ghost use Rattle.clfs_disk.specs.Files.{Unchanged};
 ghost use Rattle.clfs_disk.specs.State.{TellsContents, IsHonest, IsSettled, Passes};
 ghost use Rattle.clfs_model.specs.declared.call.Call.{Call};
 ghost use Rattle.clfs_model.specs.Run.{asks, reopens, bad_line};
+ghost use Rattle.clfs_model.specs.Storable.{IsStorable};
+ghost use Rattle.clfs_model.specs.Valid.{IsValid};
 ghost use Rattle.clfs_manager.specs.Crashes.{CrashSurvives};
 ghost use Rattle.clfs_manager.specs.Reopening.{HoldsFlushed};
 
@@ -17,6 +19,10 @@ use clfs_recover::logs_are_copies_and_blocks;
 impl<D: Disk> Manager<D> {
     /// What the disk has of a log that isn't broken. This does nothing; a caller cites its clauses.
     pub fn stored(&self)
+        // The state is one that a log can be in and that files can hold.
+        ensures valid { IsValid self.now.0 }
+        ensures storable { IsStorable self.now.0 }
+
         // The files hold the flushed part of the log's state, where the disk tells what they hold.
         ensures files { self.now.0.broken ≡ false → TellsContents (D.state self.now.1) → HoldsFlushed (D.state self.now.1).files self.now.0 }
 

@@ -62,7 +62,7 @@ short area need others = refused_if (nat_lt area.held need) (refusals.Reservatio
 abbrev pub full : State → ℕ → Option Refusal
 full s need = refused_if (not (has_room s need)) (refusals.Full (free (grown s need)) (reserved (grown s need)) need) None
 
--- The first wrong byte of a name, which has 1 to 32 bytes: a byte that none may have, or the one behind the longest name. An
+-- The first wrong byte of a name, which has 1 to 64 bytes: a byte that none may have, or the one behind the longest name. An
 -- empty name is wrong at 0.
 abbrev pub name_fault : List ℕ → Option ℕ
 name_fault name =
@@ -82,11 +82,12 @@ stream_number_from number name (stream ∷ streams) =
 abbrev pub stream_number : State → List ℕ → Option ℕ
 stream_number s name = stream_number_from 1 name s.streams
 
--- opening: the name, then the number of streams where one is to be made
+-- Opening: the name; then, if a stream is to be made, that a dedicated log has none yet, and the number of streams.
 abbrev pub open_refusal : State → List ℕ → Option Refusal
 open_refusal s name =
     option_map_or (λ at. Some (refusals.NameInvalid at)) (name_fault name)
-    (refused_if (is_none (stream_number s name) && nat_le most_streams (length s.streams)) (refusals.StreamLimit (length s.streams)) None)
+    (refused_if (is_none (stream_number s name) && (s.dedicated && nat_le 1 (length s.streams))) refusals.Dedicated
+    (refused_if (is_none (stream_number s name) && nat_le most_streams (length s.streams)) (refusals.StreamLimit (length s.streams)) None))
 
 -- a new area: its stream, its largest record, the number of the client's areas
 abbrev pub create_refusal : State → ℕ → ℕ → ℕ → Option Refusal

@@ -11,10 +11,11 @@ use Rattle.clfs_model.specs.declared.state.Stream.{Stream}
 use Rattle.clfs_model.specs.declared.state.Area.{Area}
 
 -- A log that has just been made: its place is the first byte of the container with the id 1, and of its other containers none is in use
--- yet. It has no streams, records, areas or policies, and archiving is off.
-abbrev pub fresh : Shape → ℕ → ℕ → State
-fresh shape containers buffers = record {
+-- yet. It has no streams, records, areas or policies, and archiving is off. A dedicated log will have one stream, another log several.
+abbrev pub fresh : Shape → Bool → ℕ → ℕ → State
+fresh shape dedicated containers buffers = record {
   shape = shape;
+  dedicated = dedicated;
   containers = containers;
   buffers = buffers;
   streams = [];
@@ -30,10 +31,11 @@ fresh shape containers buffers = record {
   broken = false;
 }
 
--- a log that has just been made, by the sectors of its largest block and of a container, its containers and its write buffers
+-- a log for several streams that has just been made, by the sectors of its largest block and of a container, its containers and its
+-- write buffers
 abbrev pub log_of : ℕ → ℕ → ℕ → ℕ → State
 log_of block container containers buffers =
-    fresh (record { block_sectors = block; container_sectors = container }) containers buffers
+    fresh (record { block_sectors = block; container_sectors = container }) false containers buffers
 
 -- One stream `a` and an area of client 1 on it, in an empty log of 256 containers: where scripts begin while no log is kept on
 -- a disk.

@@ -74,6 +74,7 @@ HasBasesOfRequest request s s2 x = Unit {0}
 -- A bad line asks for nothing, so s2 is s there; for opening anew s2 is the flushed part of s, and nothing else survives.
 pub record IsSurvivor (asked : Request) (s s2 x : State) : Type 0 where
   pub shape : x.shape ≡ s.shape
+  pub dedicated : x.dedicated ≡ s.dedicated
   pub place : IsSurvivingPlace s s2 x
   pub records : x.records ≡ records_below x.place s2.records
   pub settings : HasSettings s x ⊎ HasSettings s2 x

@@ -85,6 +85,7 @@ refusal_text (refusals.ContainerLimit limit) = codes "25 ContainerLimit " ++ dec
 refusal_text (refusals.PolicyConflict least greatest) = codes "26 PolicyConflict " ++ (decimal least ++ (codes " " ++ decimal greatest))
 refusal_text refusals.PolicyNotInstalled = codes "27 PolicyNotInstalled"
 refusal_text (refusals.BadLine at) = codes "28 BadLine " ++ decimal at
+refusal_text refusals.Dedicated = codes "29 Dedicated"
 
 -- what was answered; numbers are decimal, LSNs and extents hexadecimal
 abbrev pub reply_text : Reply → List ℕ

@@ -1,5 +1,5 @@
 -- Which states a log can be in. Every step from such a state leaves such a state.
-use Rattle.std.specs.Prelude.{◌≡◌, ◌≢◌, ◌<◌, ◌≤◌, ℕ, ◌&&◌, ◌==◌, ◌⊎◌, All, AllPairs, IsSome, IfSome, List, length, map, filter}
+use Rattle.std.specs.Prelude.{◌≡◌, ◌≢◌, ◌<◌, ◌≤◌, ℕ, true, ◌&&◌, ◌==◌, ◌⊎◌, All, AllPairs, IsSome, IfSome, List, length, map, filter}
 use Rattle.std.specs.List.{range_with_len}
 use Rattle.std.specs.List.Sorted.{IsStrictlyIncreasing}
 use Rattle.clfs_lsn.specs.Limits.{most_containers, most_write_buffers, greatest_rate}
@@ -44,11 +44,12 @@ pub record IsArea (s : State) (area : Area) : Type 0 where
   pub largest : area.largest ≤ longest s.shape
   pub cursors : AllPairs (λ (a b : Cursor). a.number ≢ b.number) area.cursors
 
--- Streams have different names, areas of one client different numbers.
+-- Streams have different names, areas of one client different numbers. A dedicated log has at most one stream.
 pub record HasTables (s : State) : Type 0 where
   pub names : AllPairs (λ (a b : Stream). a.name ≢ b.name) s.streams
   pub numbers : AllPairs AreDifferentAreas s.areas
   pub areas : All (IsArea s) s.areas
+  pub dedicated : s.dedicated ≡ true → length s.streams ≤ 1
 
 -- a record of a stream that is there, above the null LSN and below the frontier, whose links are null or below it
 pub record IsRecord (s : State) (entry : LogEntry) : Type 0 where

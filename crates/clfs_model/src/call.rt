@@ -14,7 +14,7 @@ pub enum Mode {
 }
 
 /// A record that a client appends.
-#[derive(Clone, Debug, Drop)]
+#[derive(Clone, Drop)]
 pub struct Draft {
     /// Its data, of less than 2^32 bytes.
     pub bytes: Bytes,
@@ -29,11 +29,11 @@ pub struct Draft {
 }
 
 /// A client's call. An area is named by its number among the client's, from 1 to 16.
-#[derive(Clone, Debug, Drop)]
+#[derive(Clone, Drop)]
 pub enum Call {
     /// The number of the stream of this name, which is made where there is none.
     OpenStream {
-        /// The name, of less than 2^32 bytes; a legal one has 1 to 32.
+        /// The name, of less than 2^32 bytes; a legal one has 1 to 64.
         name: Name,
     },
     /// A new area on a stream.

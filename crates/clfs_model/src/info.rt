@@ -16,7 +16,7 @@ pub struct Extent {
 }
 
 /// Extents in the order of their containers.
-#[derive(Clone, Debug, Drop)]
+#[derive(Clone, Drop)]
 pub struct Extents {
     extents: Vec<Extent>,
 }

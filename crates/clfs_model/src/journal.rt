@@ -6,7 +6,7 @@ use crate::reply::{Happened, Reply};
 use std::marker::Model;
 
 /// One call of one client, and what came of it.
-#[derive(Clone, Debug, Drop)]
+#[derive(Clone, Drop)]
 pub struct Entry {
     /// The client, 1 to 64.
     pub client: u16,
@@ -21,7 +21,7 @@ pub struct Entry {
 }
 
 /// Entries in the order in which the log took their calls.
-#[derive(Clone, Debug, Drop)]
+#[derive(Clone, Drop)]
 pub struct Journal {
     entries: Vec<Entry>,
 }

@@ -21,6 +21,3 @@ pub use laws::{calm_replies_are_a_run, records_are_as_their_heads, ways_of_a_ste
 pub use refusal::Refusal;
 pub use reply::{Happened, Reply};
 pub use state::{Area, Cursor, CursorKind, State, Stream};
-
-#[cfg(test)]
-mod tests;

@@ -169,6 +169,9 @@ pub enum Refusal {
         /// The first byte of the line that is wrong.
         at: u32,
     },
+    /// A dedicated log has its one stream already.
+    #[error("the log is dedicated and has its stream")]
+    Dedicated,
 }
 
 impl From<AllocError> for Refusal {

@@ -7,7 +7,7 @@ use crate::refusal::Refusal;
 use clfs_lsn::{LogEntry, Lsn};
 
 /// The reply to a call.
-#[derive(Clone, Debug, Drop)]
+#[derive(Clone, Drop)]
 pub enum Reply {
     /// The number of the stream, from 1.
     Stream(u16),

@@ -6,7 +6,7 @@ use clfs_lsn::{LogEntry, Lsn, Name, Place, Shape};
 use std::collections::LinkedList;
 
 /// A stream. Its number is its place in the list of streams, from 1.
-#[derive(Debug, Drop)]
+#[derive(Drop)]
 pub struct Stream {
     /// Its name, which no other stream has.
     pub name: Name,
@@ -35,7 +35,7 @@ pub struct Cursor {
 }
 
 /// A client's area on a stream.
-#[derive(Debug, Drop)]
+#[derive(Drop)]
 pub struct Area {
     /// The client, 1 to 64.
     pub client: u16,
@@ -54,10 +54,12 @@ pub struct Area {
 }
 
 /// The state of a log.
-#[derive(Debug, Drop)]
+#[derive(Drop)]
 pub struct State {
     /// How large its blocks and containers are.
     pub shape: Shape,
+    /// Whether it is dedicated: it has at most one stream. It stays as it was made.
+    pub dedicated: bool,
     /// The containers that it has, 1 to 256.
     pub containers: u32,
     /// The number of write buffers, 1 to 64, which bounds the blocks that wait.

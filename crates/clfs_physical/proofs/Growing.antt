@@ -5,7 +5,6 @@ use Rattle.clfs_disk.specs.Files.{Files}
 use Rattle.clfs_disk.specs.State.{DiskState, IsSettled, Passes, Leaves}
 use Rattle.clfs_container.specs.OpenBlocks.{AreWhole}
 use Rattle.clfs_base.specs.declared.image.BaseImage.{BaseImage}
-use Rattle.clfs_base.specs.Layout.{version_one}
 use Rattle.clfs_base.specs.Spelling.{IsImage}
 use Rattle.clfs_base.specs.Slots.{newest_of}
 use Rattle.clfs_physical.specs.Changes.{with_containers}
@@ -21,7 +20,7 @@ made_longer image old new grown made = record {
   made = λ file from to. omega (arith, made.made file from to, grown.longer file);
 }
 
-pub log_grown : (whole : Bool) (slot : ℕ) (image : BaseImage) (blocks : Blocks) (old new : Files) → IsImage version_one image
+pub log_grown : (whole : Bool) (slot : ℕ) (image : BaseImage) (blocks : Blocks) (old new : Files) → IsImage image
     → IsLog whole slot image blocks old → GrownAbove image.files_made old new → IsLog whole slot image blocks new
 log_grown whole slot image blocks old new is log grown = record {
   newest = ap newest_of (grown.same 0 (omega arith)) ∙ log.newest;
@@ -47,7 +46,7 @@ made_more image containers old new made grown long = record {
 -- ---- files that were made, and the copy that counts them; `count` is the copy by which they were made
 
 module _ (whole : Bool) (now : Newest) (containers : ℕ) (blocks : Blocks) (count : BaseImage) (is : count ≡ now.image)
-    (image_is : IsImage version_one now.image) (old mid : Files) (stores : Stores whole now blocks old) (grown : GrownAbove count.files_made old mid) where
+    (image_is : IsImage now.image) (old mid : Files) (stores : Stores whole now blocks old) (grown : GrownAbove count.files_made old mid) where
   grown_now : GrownAbove now.image.files_made old mid
   grown_now = subst (λ (i : BaseImage). GrownAbove i.files_made old mid) is grown
 
@@ -59,7 +58,7 @@ module _ (whole : Bool) (now : Newest) (containers : ℕ) (blocks : Blocks) (cou
   made_grown long full = made_more now.image containers old mid (stores.holds.made full) grown_now
       (subst (λ (i : BaseImage). (file : ℕ) → i.files_made < file → file ≤ containers → 512 * i.container_sectors ≤ length (mid file)) is long)
 
-pub grown_leaves : (whole : Bool) (now next : Newest) (blocks : Blocks) (count : BaseImage) → count ≡ now.image → IsImage version_one now.image
+pub grown_leaves : (whole : Bool) (now next : Newest) (blocks : Blocks) (count : BaseImage) → count ≡ now.image → IsImage now.image
     → (a m : DiskState) → IsSettled a → Stores whole now blocks a.files → Passes (GrownAbove count.files_made) a m
     → Leaves (λ f. Stores whole now blocks f ⊎ Stores whole next blocks f) a m
 grown_leaves whole now next blocks count is image_is a m settled stores time =

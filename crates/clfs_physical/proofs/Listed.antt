@@ -5,7 +5,6 @@ use Rattle.clfs_disk.specs.Files.{Files}
 use Rattle.clfs_base.specs.declared.image.BaseImage.{BaseImage}
 use Rattle.clfs_base.specs.declared.image.Row.{Row}
 use Rattle.clfs_disk.specs.State.{DiskState, Leaves}
-use Rattle.clfs_base.specs.Layout.{version_one}
 use Rattle.clfs_base.specs.Spelling.{IsImage}
 use Rattle.clfs_physical.specs.declared.change.Change.{Change}
 use Rattle.clfs_physical.specs.declared.change.Change.TheVariants as changes
@@ -79,7 +78,7 @@ containers_hold whole first containers image blocks files holds made = record {
 
 module _ (whole : Bool) (next_of : BaseImage → BaseImage) (turns : (image : BaseImage) → (next_of image).turn ≡ (image.turn + 1) % 3)
     (slot : ℕ) (image next : BaseImage) (now : Newest) (view : record { slot = slot; image = image } ≡ now)
-    (is : next ≡ next_of image) (image_is : IsImage version_one image) where
+    (is : next ≡ next_of image) (image_is : IsImage image) where
   turn_is : next.turn ≡ (image.turn + 1) % 3
   turn_is = ap (λ (n : BaseImage). n.turn) is ∙ turns image
 
@@ -88,7 +87,7 @@ module _ (whole : Bool) (next_of : BaseImage → BaseImage) (turns : (image : Ba
   holds_next blocks files then holds = subst (λ (n : BaseImage). Holds whole n blocks files) (sym is) (then holds)
 
   pub copy_leaves : (a b : DiskState) → ((blocks : Blocks) → Holds whole now.image blocks a.files → Holds whole (next_of now.image) blocks a.files)
-      → ((before : BaseImage) (blocks : Blocks) → IsImage version_one before → next.turn ≡ (before.turn + 1) % 3 → IsLog whole slot before blocks a.files
+      → ((before : BaseImage) (blocks : Blocks) → IsImage before → next.turn ≡ (before.turn + 1) % 3 → IsLog whole slot before blocks a.files
       → Holds whole next blocks a.files → Leaves (λ files. IsLog whole slot before blocks files ⊎ IsLog whole (1 - slot) next blocks files) a b)
       → (blocks : Blocks) → Stores whole now blocks a.files
       → Leaves (λ files. Stores whole now blocks files ⊎ Stores whole (record { slot = 1 - now.slot; image = next_of now.image }) blocks files) a b
@@ -102,7 +101,7 @@ module _ (whole : Bool) (next_of : BaseImage → BaseImage) (turns : (image : Ba
 
   pub copy_written : (used : ℕ) (old new : Files) → used ≡ 1 - slot
       → ((blocks : Blocks) → Holds whole now.image blocks old → Holds whole (next_of now.image) blocks old)
-      → ((before : BaseImage) (blocks : Blocks) → IsImage version_one before → next.turn ≡ (before.turn + 1) % 3 → IsLog whole slot before blocks old
+      → ((before : BaseImage) (blocks : Blocks) → IsImage before → next.turn ≡ (before.turn + 1) % 3 → IsLog whole slot before blocks old
       → Holds whole next blocks old → IsLog whole (1 - slot) next blocks new)
       → (blocks : Blocks) → Stores whole now blocks old → IsLog whole used next blocks new
   copy_written used old new beside still written = subst

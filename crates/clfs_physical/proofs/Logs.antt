@@ -9,7 +9,6 @@ use Rattle.clfs_disk.specs.State.{DiskState, Leaves}
 use Rattle.clfs_container.specs.OpenBlocks.{block_sectors, Opens, total, AreWhole}
 use Rattle.clfs_container.specs.Writing.{IsBehind, HasBlocks, IsGroup}
 use Rattle.clfs_base.specs.declared.image.BaseImage.{BaseImage}
-use Rattle.clfs_base.specs.Layout.{version_one}
 use Rattle.clfs_base.specs.Spelling.{IsImage}
 use Rattle.clfs_base.specs.Slots.{newest_of}
 use Rattle.clfs_base.specs.Writing.{HasNewest, EitherNewest}
@@ -35,13 +34,13 @@ pub elsewhere : (file : ℕ) (is : List (List ℕ)) (blocks : Blocks) (other : �
 elsewhere file is blocks other apart = grind (arith, nat_tests)
 
 -- a listed file is none of the base file's number
-pub listed_some : (image : BaseImage) (file : ℕ) → IsImage version_one image → Lists image file → 1 ≤ file
+pub listed_some : (image : BaseImage) (file : ℕ) → IsImage image → Lists image file → 1 ≤ file
 listed_some image file is listed = omega (arith, is.files.from_one listed.place listed.within, listed.is)
 
-pub listed_made : (image : BaseImage) (file : ℕ) → IsImage version_one image → Lists image file → file ≤ image.files_made
+pub listed_made : (image : BaseImage) (file : ℕ) → IsImage image → Lists image file → file ≤ image.files_made
 listed_made image file is listed = omega (arith, is.files.to_last listed.place listed.within, listed.is)
 
-pub last_listed : (image : BaseImage) → IsImage version_one image → Lists image (last_file image)
+pub last_listed : (image : BaseImage) → IsImage image → Lists image (last_file image)
 last_listed image is = record { place = length image.files - 1; within = omega (arith, is.some_listed); is = refl }
 
 -- ---- one file has changed
@@ -98,7 +97,7 @@ made_beside_base image slot copy old new has made = record {
   made = λ file from to. omega (arith, ap (λ (l : List ℕ). length l) (has.elsewhere file (λ none. absurd (omega (arith, from, none)))), made.made file from to);
 }
 
-pub holds_beside_base : (whole : Bool) (image : BaseImage) (blocks : Blocks) (slot : ℕ) (copy : BaseImage) (old new : Files) → IsImage version_one image
+pub holds_beside_base : (whole : Bool) (image : BaseImage) (blocks : Blocks) (slot : ℕ) (copy : BaseImage) (old new : Files) → IsImage image
     → Holds whole image blocks old → HasNewest slot copy old new → Holds whole image blocks new
 holds_beside_base whole image blocks slot copy old new is holds has = record {
   made = λ full. made_beside_base image slot copy old new has (holds.made full);
@@ -106,14 +105,14 @@ holds_beside_base whole image blocks slot copy old new is holds has = record {
       (sym (has.elsewhere file (λ none. absurd (omega (arith, listed_some image file is listed, none))))) (holds.opens file listed);
 }
 
-pub log_by_copy : (whole : Bool) (image : BaseImage) (blocks : Blocks) (slot : ℕ) (old new : Files) → IsImage version_one image
+pub log_by_copy : (whole : Bool) (image : BaseImage) (blocks : Blocks) (slot : ℕ) (old new : Files) → IsImage image
     → Holds whole image blocks old → HasNewest slot image old new → IsLog whole slot image blocks new
 log_by_copy whole image blocks slot old new is holds has = record {
   newest = has.newest;
   holds = holds_beside_base whole image blocks slot image old new is holds has;
 }
 
-pub log_by_either : (whole : Bool) (image next : BaseImage) (blocks : Blocks) (used slot : ℕ) (old new : Files) → IsImage version_one image → IsImage version_one next
+pub log_by_either : (whole : Bool) (image next : BaseImage) (blocks : Blocks) (used slot : ℕ) (old new : Files) → IsImage image → IsImage next
     → Holds whole image blocks old → Holds whole next blocks old → EitherNewest slot used image next old new
     → IsLog whole used image blocks new ⊎ IsLog whole slot next blocks new
 log_by_either whole image next blocks used slot old new is next_is holds next_holds either = ⊎_elim
@@ -170,7 +169,7 @@ behind_whole sectors file blocks at files whole place some =
 
 -- where the group goes
 pub log_behind : (whole : Bool) (slot : ℕ) (image : BaseImage) (blocks : Blocks) (at : ℕ) (body : List ℕ) (more : List (List ℕ)) (old : Files)
-    → IsImage version_one image → IsLog whole slot image blocks old → (placed : IsPlaced image blocks at body more)
+    → IsImage image → IsLog whole slot image blocks old → (placed : IsPlaced image blocks at body more)
     → IsBehind image.container_sectors (last_file image) (blocks (last_file image)) (image.container_sectors - at / 512) at old
 log_behind whole slot image blocks at body more old is log placed =
     behind_whole image.container_sectors (last_file image) (blocks (last_file image)) at old
@@ -179,7 +178,7 @@ log_behind whole slot image blocks at body more old is log placed =
 
 -- all of the group is there
 pub log_with : ((sectors file : ℕ) (blocks : List (List ℕ)) (rest : ℕ) (files : Files) → HasBlocks sectors file blocks rest files → AreWhole sectors (files file) blocks)
-    → (whole : Bool) (slot : ℕ) (image : BaseImage) (blocks : Blocks) (more : List (List ℕ)) (left : ℕ) (old new : Files) → IsImage version_one image
+    → (whole : Bool) (slot : ℕ) (image : BaseImage) (blocks : Blocks) (more : List (List ℕ)) (left : ℕ) (old new : Files) → IsImage image
     → IsLog whole slot image blocks old → HasGroup image.container_sectors (last_file image) (blocks (last_file image)) more left old new
     → IsLog whole slot image (with_group image more blocks) new
 log_with law whole slot image blocks more left old new is log has =
@@ -192,7 +191,7 @@ log_with law whole slot image blocks more left old new is log has =
 
 -- none of it is
 pub log_still : ((sectors file : ℕ) (blocks : List (List ℕ)) (rest at : ℕ) (files : Files) → IsBehind sectors file blocks rest at files → AreWhole sectors (files file) blocks)
-    → (whole : Bool) (slot : ℕ) (image : BaseImage) (blocks : Blocks) (rest at : ℕ) (old new : Files) → IsImage version_one image
+    → (whole : Bool) (slot : ℕ) (image : BaseImage) (blocks : Blocks) (rest at : ℕ) (old new : Files) → IsImage image
     → IsLog whole slot image blocks old → HasNone image.container_sectors (last_file image) (blocks (last_file image)) rest at old new
     → IsLog whole slot image blocks new
 log_still law whole slot image blocks rest at old new is log has =
@@ -223,7 +222,7 @@ log_no_group whole slot image blocks more files none log = record {
 
 -- what waited, written
 module _ (whole : Bool) (slot : ℕ) (image : BaseImage) (blocks : Blocks) (at : ℕ) (body : List ℕ) (more : List (List ℕ)) (old : Files) (file : ℕ)
-    (last : file ≡ last_file image) (is : IsImage version_one image) (log : IsLog whole slot image blocks old) (placed : IsPlaced image blocks at body more) where
+    (last : file ≡ last_file image) (is : IsImage image) (log : IsLog whole slot image blocks old) (placed : IsPlaced image blocks at body more) where
   behind_last : IsBehind image.container_sectors file (blocks (last_file image)) (image.container_sectors - at / 512) at old
   behind_last = subst (λ (k : ℕ). IsBehind image.container_sectors k (blocks (last_file image)) (image.container_sectors - at / 512) at old) (sym last)
       (log_behind whole slot image blocks at body more old is log placed)

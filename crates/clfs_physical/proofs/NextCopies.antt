@@ -1,13 +1,14 @@
 -- That the next copy is one that a log can have.
-use Rattle.std.proofs.Common.{◌≡◌, ◌≢◌, ⊎_elim, ℕ, ◌+◌, ◌-◌, ◌^◌, ◌<◌, ◌≤◌, max, List, [], ◌∷◌, ◌++◌, length, drop, refl, sym, ◌∙◌, ap, subst, arith, length-drop, length-append}
+use Rattle.std.proofs.Common.{◌≡◌, ◌≢◌, ⊎_elim, ℕ, ◌+◌, ◌-◌, ◌^◌, ◌<◌, ◌≤◌, max, Bool, true, false, List, [], ◌∷◌, ◌++◌, length, drop, refl, sym, ◌∙◌, ap, subst, arith, length-drop, length-append}
 use Rattle.std.proofs.Math.ListN.{get_or-append}
 use Rattle.std.proofs.Math.Seq.{get_or-append_seam}
 use Rattle.std.proofs.lemmas.Bool.{cases_lt, cases_eq}
 use Rattle.std.proofs.lemmas.List.{get_or-drop, get_or-set_same, get_or-set_other, length-set}
 use Rattle.clfs_base.specs.declared.image.BaseImage.{BaseImage}
 use Rattle.clfs_base.specs.declared.image.Row.{Row}
-use Rattle.clfs_base.specs.Layout.{version_one}
-use Rattle.clfs_base.specs.Spelling.{IsImage, AreFiles, AreRows, IsName, row_in}
+use Rattle.clfs_base.specs.Layout.{version_two, layout_of, most_dedicated}
+use Rattle.clfs_base.specs.Spelling.{IsImage, AreFiles, AreRows, IsName, row_in, current, flag}
+use Rattle.clfs_lsn.specs.Limits.{longest_name}
 use Rattle.clfs_physical.specs.declared.change.Change.{Change}
 use Rattle.clfs_physical.specs.declared.change.Change.TheVariants as changes
 use Rattle.clfs_physical.specs.Changes.{with_next_turn, listed_from, with_base, with_stream, with_containers, changed, next_copy, Suits, CanHave, IsNewRow}
@@ -24,9 +25,10 @@ fewer_files made more gone files le are = record {
     near : (i : ℕ) → i < length (drop gone files) → gone + i < length files
     near i within = omega (arith, within, length-drop gone files)
 
-listed_image : (first : ℕ) (image : BaseImage) → IsImage version_one image → image.first ≤ first → first + 1 ≤ image.first + length image.files
-    → IsImage version_one (listed_from first (with_next_turn image))
+listed_image : (first : ℕ) (image : BaseImage) → IsImage (current image) → image.first ≤ first → first + 1 ≤ image.first + length image.files
+    → IsImage (listed_from first (with_next_turn image))
 listed_image first image is from some = record {
+  version = is.version;
   turn = omega arith;
   shape = is.shape;
   some_containers = is.some_containers;
@@ -40,6 +42,7 @@ listed_image first image is from some = record {
   minimum = is.minimum;
   growth = is.growth;
   tail = is.tail;
+  dedicated = is.dedicated;
   files = fewer_files image.files_made image.files_made (first - image.first) image.files (omega arith) is.files;
   few_streams = is.few_streams;
   rows = is.rows;
@@ -68,9 +71,10 @@ base_rows room stream base rows fits are = record {
     near : (i : ℕ) → i < length (with_base stream base rows) → i < length rows
     near i within = omega (arith, within, length-set rows (stream - 1) (record (row_in rows (stream - 1)) { base = base }))
 
-changed_image : (change : Change) (image : BaseImage) → IsImage version_one image → Suits change image → IsImage version_one (changed change image)
+changed_image : (change : Change) (image : BaseImage) → IsImage image → Suits change image → IsImage (changed change image)
 changed_image changes.Listing image is suits = is
 changed_image (changes.Base stream base) image is suits = record {
+  version = is.version;
   turn = is.turn;
   shape = is.shape;
   some_containers = is.some_containers;
@@ -84,11 +88,14 @@ changed_image (changes.Base stream base) image is suits = record {
   minimum = is.minimum;
   growth = is.growth;
   tail = is.tail;
+  dedicated = subst (λ (count : ℕ). flag image.dedicated ≤ most_dedicated (layout_of image.version) count)
+      (sym (length-set image.streams (stream - 1) (record (row_in image.streams (stream - 1)) { base = base }))) is.dedicated;
   files = is.files;
   few_streams = omega (arith, is.few_streams, length-set image.streams (stream - 1) (record (row_in image.streams (stream - 1)) { base = base }));
-  rows = base_rows 32 stream base image.streams suits.2 is.rows;
+  rows = base_rows _ stream base image.streams suits.2 is.rows;
 }
 changed_image (changes.Archive archiving tail) image is suits = record {
+  version = is.version;
   turn = is.turn;
   shape = is.shape;
   some_containers = is.some_containers;
@@ -102,11 +109,13 @@ changed_image (changes.Archive archiving tail) image is suits = record {
   minimum = is.minimum;
   growth = is.growth;
   tail = suits;
+  dedicated = is.dedicated;
   files = is.files;
   few_streams = is.few_streams;
   rows = is.rows;
 }
 changed_image (changes.Policies automatic maximum minimum growth) image is suits = record {
+  version = is.version;
   turn = is.turn;
   shape = is.shape;
   some_containers = is.some_containers;
@@ -120,10 +129,18 @@ changed_image (changes.Policies automatic maximum minimum growth) image is suits
   minimum = suits.1;
   growth = suits.2;
   tail = is.tail;
+  dedicated = is.dedicated;
   files = is.files;
   few_streams = is.few_streams;
   rows = is.rows;
 }
+
+-- a change leaves the version
+pub changed_version : (change : Change) (image : BaseImage) → (changed change image).version ≡ image.version
+changed_version changes.Listing image = refl
+changed_version (changes.Base stream base) image = refl
+changed_version (changes.Archive archiving tail) image = refl
+changed_version (changes.Policies automatic maximum minimum growth) image = refl
 
 suits_listed : (first : ℕ) (change : Change) (image : BaseImage) → Suits change image → Suits change (listed_from first (with_next_turn image))
 suits_listed first changes.Listing image suits = suits
@@ -131,15 +148,16 @@ suits_listed first (changes.Base stream base) image suits = suits
 suits_listed first (changes.Archive archiving tail) image suits = suits
 suits_listed first (changes.Policies automatic maximum minimum growth) image suits = suits
 
-pub next_image : (first : ℕ) (change : Change) (image : BaseImage) → IsImage version_one image → image.first ≤ first
-    → first + 1 ≤ image.first + length image.files → Suits change image → IsImage version_one (next_copy first change image)
+pub next_image : (first : ℕ) (change : Change) (image : BaseImage) → IsImage (current image) → image.first ≤ first
+    → first + 1 ≤ image.first + length image.files → Suits change image → IsImage (next_copy first change image)
 next_image first change image is from some suits =
     changed_image change (listed_from first (with_next_turn image)) (listed_image first image is from some) (suits_listed first change image suits)
 
-pub containers_image : (containers first : ℕ) (image : BaseImage) → IsImage version_one image → image.first ≤ first
+pub containers_image : (containers first : ℕ) (image : BaseImage) → IsImage (current image) → image.first ≤ first
     → first + 1 ≤ image.first + length image.files → CanHave containers first image
-    → IsImage version_one (with_containers containers (next_copy first changes.Listing image))
+    → IsImage (with_containers containers (next_copy first changes.Listing image))
 containers_image containers first image is from some can = record {
+  version = is.version;
   turn = omega arith;
   shape = is.shape;
   some_containers = can.some;
@@ -153,6 +171,7 @@ containers_image containers first image is from some can = record {
   minimum = is.minimum;
   growth = is.growth;
   tail = is.tail;
+  dedicated = is.dedicated;
   files = fewer_files image.files_made (max image.files_made containers) (first - image.first) image.files (omega arith) is.files;
   few_streams = is.few_streams;
   rows = is.rows;
@@ -170,11 +189,11 @@ row_last rows row i above within =
     at_end : i ≡ length rows
     at_end = omega (arith, above, within, length-append rows (row ∷ []))
 
-more_rows : (rows : List Row) (row : Row) (image : BaseImage) → rows ≡ image.streams → IsNewRow row image → AreRows 32 rows → AreRows 32 (rows ++ row ∷ [])
+more_rows : (rows : List Row) (row : Row) (image : BaseImage) → rows ≡ image.streams → IsNewRow row image → AreRows longest_name rows → AreRows longest_name (rows ++ row ∷ [])
 more_rows rows row image same new are = record {
   named = λ i within. ⊎_elim
-      (λ (below : i < length rows). subst (λ (r : Row). IsName 32 r.name) (sym (row_before rows row i below)) (are.named i below))
-      (λ (above : length rows ≤ i). subst (λ (r : Row). IsName 32 r.name) (sym (row_last rows row i above within)) new.name)
+      (λ (below : i < length rows). subst (λ (r : Row). IsName longest_name r.name) (sym (row_before rows row i below)) (are.named i below))
+      (λ (above : length rows ≤ i). subst (λ (r : Row). IsName longest_name r.name) (sym (row_last rows row i above within)) new.name)
       (cases_lt i (length rows));
   different = λ i j below within alike. ⊎_elim
       (λ (both : j < length rows).
@@ -193,12 +212,27 @@ more_rows rows row image same new are = record {
       (cases_lt i (length rows));
 }
 
-pub stream_image : (first : ℕ) (row : Row) (image : BaseImage) → IsImage version_one image → image.first ≤ first
+flag_small : (on : Bool) → flag on ≤ 1
+flag_small true = omega arith
+flag_small false = omega arith
+
+still_alone : (row : Row) (image : BaseImage) → IsNewRow row image
+    → flag image.dedicated ≤ most_dedicated version_two (length (image.streams ++ row ∷ []))
+still_alone row image new = by image.dedicated refl
+  where
+    by : (b : Bool) → image.dedicated ≡ b → flag image.dedicated ≤ most_dedicated version_two (length (image.streams ++ row ∷ []))
+    by true is =
+        subst (λ (l : List Row). flag image.dedicated ≤ most_dedicated version_two (length (l ++ row ∷ []))) (sym (new.alone is)) (flag_small image.dedicated)
+    by false is =
+        subst (λ (b : Bool). flag b ≤ most_dedicated version_two (length (image.streams ++ row ∷ []))) (sym is) (omega arith)
+
+pub stream_image : (first : ℕ) (row : Row) (image : BaseImage) → IsImage (current image) → image.first ≤ first
     → first + 1 ≤ image.first + length image.files → IsNewRow row image
-    → IsImage version_one (with_stream row (next_copy first changes.Listing image))
+    → IsImage (with_stream row (next_copy first changes.Listing image))
 stream_image first row image before from some new =
     let is = listed_image first image before from some in
     record {
+      version = is.version;
       turn = is.turn;
       shape = is.shape;
       some_containers = is.some_containers;
@@ -212,6 +246,7 @@ stream_image first row image before from some new =
       minimum = is.minimum;
       growth = is.growth;
       tail = is.tail;
+      dedicated = still_alone row image new;
       files = is.files;
       few_streams = omega (arith, length-append image.streams (row ∷ []), new.few);
       rows = more_rows image.streams row image refl new before.rows;

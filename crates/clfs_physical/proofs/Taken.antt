@@ -7,8 +7,7 @@ use Rattle.clfs_disk.specs.Files.{Files, TornIn}
 use Rattle.clfs_disk.specs.State.{DiskState, Leaves}
 use Rattle.clfs_container.specs.OpenBlocks.{AreWhole}
 use Rattle.clfs_base.specs.declared.image.BaseImage.{BaseImage}
-use Rattle.clfs_base.specs.Layout.{version_one}
-use Rattle.clfs_base.specs.Spelling.{IsImage, AreFiles}
+use Rattle.clfs_base.specs.Spelling.{IsImage, AreFiles, current}
 use Rattle.clfs_physical.specs.declared.change.Change.TheVariants as changes
 use Rattle.std.proofs.lemmas.Bool.Decides.{nat_tests}
 use Rattle.clfs_physical.specs.Changes.{with_next_turn, with_file, next_copy}
@@ -58,9 +57,10 @@ more_files made files file are is = record {
       (cases_lt j (length files));
 }
 
-pub file_image : (image : BaseImage) (file : ℕ) → IsImage version_one image → IsFree image.files_made image.files file → HasRoom image
-    → IsImage version_one (with_file file (with_next_turn image))
+pub file_image : (image : BaseImage) (file : ℕ) → IsImage (current image) → IsFree image.files_made image.files file → HasRoom image
+    → IsImage (with_file file (with_next_turn image))
 file_image image file is free room = record {
+  version = is.version;
   turn = omega arith;
   shape = is.shape;
   some_containers = is.some_containers;
@@ -74,6 +74,7 @@ file_image image file is free room = record {
   minimum = is.minimum;
   growth = is.growth;
   tail = is.tail;
+  dedicated = is.dedicated;
   files = more_files image.files_made image.files file is.files free;
   few_streams = is.few_streams;
   rows = is.rows;
@@ -125,7 +126,7 @@ holds_taken whole image blocks file files holds none = record {
 -- ---- the file, taken
 
 module _ (whole : Bool) (slot : ℕ) (image next : BaseImage) (now : Newest) (view : record { slot = slot; image = image } ≡ now) (file : ℕ)
-    (is : next ≡ with_file file (with_next_turn image)) (image_is : IsImage version_one image)
+    (is : next ≡ with_file file (with_next_turn image)) (image_is : IsImage image)
     (free_now : IsFree now.image.files_made now.image.files file) where
   free : IsFree image.files_made image.files file
   free = subst (λ (n : Newest). IsFree n.image.files_made n.image.files file) (sym view) free_now
@@ -152,7 +153,7 @@ module _ (whole : Bool) (slot : ℕ) (image next : BaseImage) (now : Newest) (vi
 
   pub taken_leaves : (a m b : DiskState) → TornIn file 0 1 a.files m.files → AreWhole image.container_sectors (m.files file) []
       → Leaves (TornIn file 0 1 a.files) a m
-      → ((before : BaseImage) (blocks : Blocks) → IsImage version_one before → next.turn ≡ (before.turn + 1) % 3 → IsLog whole slot before blocks m.files
+      → ((before : BaseImage) (blocks : Blocks) → IsImage before → next.turn ≡ (before.turn + 1) % 3 → IsLog whole slot before blocks m.files
       → Holds whole next blocks m.files → Leaves (λ f. IsLog whole slot before blocks f ⊎ IsLog whole (1 - slot) next blocks f) m b)
       → (blocks : Blocks) → Stores whole now blocks a.files
       → Leaves (λ f. Stores whole now blocks f ⊎ Stores whole (taken_of file now) (with_blocks file [] blocks) f) a b
@@ -171,7 +172,7 @@ module _ (whole : Bool) (slot : ℕ) (image next : BaseImage) (now : Newest) (vi
       (second image (with_blocks file [] blocks) image_is turn_is closed (holds_next blocks m.files closed.holds none)))
 
   pub taken_written : (used : ℕ) (old mid new : Files) → used ≡ 1 - slot → TornIn file 0 1 old mid → AreWhole image.container_sectors (mid file) []
-      → ((before : BaseImage) (blocks : Blocks) → IsImage version_one before → next.turn ≡ (before.turn + 1) % 3 → IsLog whole slot before blocks mid
+      → ((before : BaseImage) (blocks : Blocks) → IsImage before → next.turn ≡ (before.turn + 1) % 3 → IsLog whole slot before blocks mid
       → Holds whole next blocks mid → IsLog whole (1 - slot) next blocks new)
       → (blocks : Blocks) → Stores whole now blocks old → IsLog whole used next (with_blocks file [] blocks) new
   taken_written used old mid new beside torn none written blocks stores =

@@ -1,16 +1,16 @@
 -- What the next copy says, by what is to change.
-use Rattle.std.specs.Prelude.{◌≢◌, ℕ, ◌+◌, ◌-◌, ◌%◌, ◌^◌, ◌<◌, ◌≤◌, max, List, [], ◌∷◌, ◌++◌, length, drop, slice_set}
+use Rattle.std.specs.Prelude.{◌≡◌, ◌≢◌, true, ℕ, ◌+◌, ◌-◌, ◌%◌, ◌^◌, ◌<◌, ◌≤◌, max, List, [], ◌∷◌, ◌++◌, length, drop, slice_set}
 use Rattle.clfs_base.specs.declared.image.BaseImage.{BaseImage}
 use Rattle.clfs_base.specs.declared.image.Row.{Row}
 use Rattle.clfs_base.specs.Layout.{most_minimum, most_tail}
-use Rattle.clfs_base.specs.Spelling.{IsName, row_in, IsPolicy, flag}
+use Rattle.clfs_base.specs.Spelling.{IsName, row_in, IsPolicy, current, flag}
 use Rattle.clfs_lsn.specs.Limits.{most_containers, fewest_containers, greatest_rate, most_streams, longest_name}
 use Rattle.clfs_physical.specs.declared.change.Change.{Change}
 use Rattle.clfs_physical.specs.declared.change.Change.TheVariants as changes
 
--- A copy with the turn that follows.
+-- A copy with the turn that follows, in the version in which copies are written.
 abbrev pub with_next_turn : BaseImage → BaseImage
-with_next_turn image = record image { turn = (image.turn + 1) % 3 }
+with_next_turn image = record (current image) { turn = (image.turn + 1) % 3 }
 
 -- A copy that lists no container below this one.
 abbrev pub listed_from : ℕ → BaseImage → BaseImage
@@ -58,9 +58,11 @@ pub record CanHave (containers first : ℕ) (image : BaseImage) : Type 0 where
   pub few : containers ≤ most_containers
   pub listed : image.first + length image.files ≤ first + containers
 
--- A stream that the log can have besides: there is room for it, and its name is one that no other stream has.
+-- A stream that the log can have besides: there is room for it, a dedicated log has none yet, and its name is one that no other stream
+-- has.
 pub record IsNewRow (row : Row) (image : BaseImage) : Type 0 where
   pub few : length image.streams < most_streams
+  pub alone : image.dedicated ≡ true → image.streams ≡ []
   pub name : IsName longest_name row.name
   pub other : (i : ℕ) → i < length image.streams → (row_in image.streams i).name ≢ row.name
   pub base : row.base < 2 ^ 64

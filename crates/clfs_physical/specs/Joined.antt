@@ -3,7 +3,6 @@ use Rattle.std.specs.Prelude.{◌≡◌, ℕ, ◌+◌, ◌%◌, ◌≤◌, List,
 use Rattle.clfs_disk.specs.Files.{Files}
 use Rattle.clfs_container.specs.Writing.{IsBehind, HasBlocks, OthersStay}
 use Rattle.clfs_base.specs.declared.image.BaseImage.{BaseImage}
-use Rattle.clfs_base.specs.Layout.{version_one}
 use Rattle.clfs_base.specs.Spelling.{IsImage, spelled}
 use Rattle.clfs_base.specs.Writing.{IsOlder}
 
@@ -31,6 +30,6 @@ pub record HasNone (sectors file : ℕ) (blocks : List (List ℕ)) (rest at : �
 -- These bytes are a copy that follows the newest one, whose slot is beside this one.
 pub record Follows (slot used : ℕ) (image next : BaseImage) (body : List ℕ) (files : Files) : Type 0 where
   pub older : IsOlder slot used image files
-  pub next_image : IsImage version_one next
+  pub next_image : IsImage next
   pub turn : next.turn ≡ (image.turn + 1) % 3
-  pub spells : body ≡ spelled version_one next
+  pub spells : body ≡ spelled next

@@ -5,7 +5,7 @@ use Rattle.clfs_disk.specs.Files.{Files}
 use Rattle.clfs_container.specs.OpenBlocks.{total, AreWhole}
 use Rattle.clfs_container.specs.Writing.{IsGroup}
 use Rattle.clfs_base.specs.declared.image.BaseImage.{BaseImage}
-use Rattle.clfs_base.specs.Layout.{slot_bytes, version_one}
+use Rattle.clfs_base.specs.Layout.{slot_bytes}
 use Rattle.clfs_base.specs.Spelling.{IsImage}
 use Rattle.clfs_base.specs.Slots.{newest_of}
 
@@ -76,5 +76,5 @@ with_group image more blocks = with_blocks (last_file image) (blocks (last_file 
 -- What is true of a newest copy in memory: it is one that a log can have, in one of the two slots, and the bytes of the next one have room.
 pub record IsKept (slot : ℕ) (image : BaseImage) (room : ℕ) : Type 0 where
   pub slot_is : slot ≤ 1
-  pub image_is : IsImage version_one image
+  pub image_is : IsImage image
   pub room_is : room ≡ slot_bytes - 1

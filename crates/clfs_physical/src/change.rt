@@ -1,11 +1,10 @@
 // What the next copy says.
 ghost use Rattle.std.specs.Prelude.{◌≡◌, ◌+◌, ◌≤◌, ◌-◌, ◌∷◌, ◌++◌, [], length, OnOk, OnErr};
-ghost use Rattle.clfs_base.specs.Layout.{version_one};
 ghost use Rattle.clfs_base.specs.Spelling.{IsImage};
 ghost use Rattle.clfs_physical.specs.Changes.{with_next_turn, with_file, listed_from, with_base, with_stream, with_containers, changed, next_copy, Suits, CanHave, IsNewRow};
 ghost use Rattle.clfs_physical.specs.Taking.{IsNextFile, HasRoom};
 
-use clfs_base::{BaseImage, Files, Row, Rows};
+use clfs_base::{BaseImage, Files, Row, Rows, VERSION, copies_are_read_as_written};
 use clfs_lsn::Lsn;
 use std::alloc::{AllocError, Global};
 use std::mem;
@@ -38,12 +37,14 @@ pub enum Change {
 pub fn apply(alloc: Global, image: &mut BaseImage, first: u32, change: &Change)
     requires first { image.old.first ≤ first }
     requires listed { first + 1 ≤ image.old.first + length image.old.files }
-    requires image { IsImage version_one image.old }
+    requires image { IsImage image.old }
     requires change { Suits change.now image.old }
     ensures exact { image.new ≡ next_copy first change.now image.old }
-    ensures image { IsImage version_one image.new }
+    ensures image { IsImage image.new }
+    ensures version { image.new.version ≡ VERSION }
 {
-    image.turn = (image.turn + 1) % 3;
+    copies_are_read_as_written();
+    follow(image);
     list_from(alloc, image, first);
     change_fields(alloc, image, change);
 }
@@ -53,12 +54,23 @@ pub fn apply_file(image: &mut BaseImage, file: u16, files: Vec<u16>)
     requires free { IsNextFile image.old file }
     requires files { files.items ≡ image.old.files ++ file ∷ [] }
     requires room { HasRoom image.old }
-    requires image { IsImage version_one image.old }
+    requires image { IsImage image.old }
     ensures exact { image.new ≡ with_file file (with_next_turn image.old) }
-    ensures image { IsImage version_one image.new }
+    ensures image { IsImage image.new }
+    ensures version { image.new.version ≡ VERSION }
 {
-    image.turn = (image.turn + 1) % 3;
+    copies_are_read_as_written();
+    follow(image);
     image.files = Files::from_vec(files);
+}
+
+// Gives a copy the turn that follows, and the version in which copies are written.
+fn follow(image: &mut BaseImage)
+    requires { image.old.turn ≤ 2 }
+    ensures { image.new ≡ with_next_turn image.old }
+{
+    image.version = VERSION;
+    image.turn = (image.turn + 1) % 3;
 }
 
 // Lists no container below this one.
@@ -136,14 +148,16 @@ pub fn apply_stream(
 ) -> Result<(), AllocError>
     requires first { image.old.first ≤ first }
     requires listed { first + 1 ≤ image.old.first + length image.old.files }
-    requires image { IsImage version_one image.old }
+    requires image { IsImage image.old }
     requires row { IsNewRow row image.old }
-    ensures image { OnOk result (IsImage version_one image.new) }
+    ensures image { OnOk result (IsImage image.new) }
+    ensures version { OnOk result (image.new.version ≡ VERSION) }
     ensures ok { OnOk result (image.new ≡ with_stream row (next_copy first Change.Listing image.old)) }
     ensures err { OnErr result (image.new ≡ image.old) }
 {
+    copies_are_read_as_written();
     push_stream(alloc, image, row)?;
-    image.turn = (image.turn + 1) % 3;
+    follow(image);
     list_from(alloc, image, first);
     Ok(())
 }
@@ -152,11 +166,13 @@ pub fn apply_stream(
 pub fn apply_containers(alloc: Global, image: &mut BaseImage, first: u32, containers: u16)
     requires first { image.old.first ≤ first }
     requires listed { first + 1 ≤ image.old.first + length image.old.files }
-    requires image { IsImage version_one image.old }
+    requires image { IsImage image.old }
     requires containers { CanHave containers first image.old }
     ensures exact { image.new ≡ with_containers containers (next_copy first Change.Listing image.old) }
-    ensures image { IsImage version_one image.new }
+    ensures image { IsImage image.new }
+    ensures version { image.new.version ≡ VERSION }
 {
+    copies_are_read_as_written();
     apply(alloc, image, first, &Change::Listing);
     image.containers = containers;
     image.files_made = image.files_made.max(containers);

@@ -2,14 +2,14 @@
 ghost use Rattle.std.specs.Prelude.{◌≡◌, ◌⊎◌, ◌+◌, ◌-◌, ◌*◌, ◌%◌, ◌≤◌, Bool, ℕ, true, false, length, IfOk, OnOk, OnErr, IsOk};
 ghost use Rattle.clfs_disk.specs.State.{TellsContents, IsHonest, IsSettled, IsSteady, Later, Leaves, Rises, raised};
 ghost use Rattle.clfs_base.specs.declared.image.BaseImage.{BaseImage};
-ghost use Rattle.clfs_base.specs.Layout.{slot_bytes, version_one};
+ghost use Rattle.clfs_base.specs.Layout.{slot_bytes};
 ghost use Rattle.clfs_base.specs.Spelling.{IsImage};
 ghost use Rattle.clfs_base.specs.Slots.{is_open_slot};
 ghost use Rattle.clfs_base.specs.Writing.{older_of, HasNewest, EitherNewest};
 ghost use Rattle.clfs_physical.specs.Joined.{SameLengths, Follows};
 ghost use Rattle.clfs_physical.specs.Stored.{Blocks, Holds, IsLog};
 
-use clfs_base::{BaseImage, encode};
+use clfs_base::{BaseImage, VERSION, encode};
 use clfs_disk::{Disk, Failed};
 
 /// Closes the gate of the older slot where it is open, writes a copy behind it, and opens it, each part synced: by seven calls of
@@ -51,17 +51,18 @@ pub fn store_copy<D: Disk>(
     bytes: &mut [u8],
 ) -> Result<u32, Failed>
     requires slot { used ≤ 1 }
-    requires image { IsImage version_one next.now }
+    requires image { IsImage next.now }
+    requires version { next.now.version ≡ VERSION }
     requires room { length bytes.old ≡ slot_bytes - 1 }
     ensures slot { IfOk result (λ slot. slot ≡ older_of used) }
     ensures room { length bytes.new ≡ length bytes.old }
     ensures written { OnOk result (TellsContents (D.state disk.old) → (whole : Bool) (image : BaseImage) (blocks : Blocks)
-        → IsImage version_one image → next.now.turn ≡ (image.turn + 1) % 3
+        → IsImage image → next.now.turn ≡ (image.turn + 1) % 3
         → IsLog whole used image blocks (D.state disk.old).files → Holds whole next.now blocks (D.state disk.old).files
         → IsLog whole (older_of used) next.now blocks (D.state disk.new).files) }
     ensures settled { OnOk result (IsHonest (D.state disk.old) → IsSettled (D.state disk.new)) }
     ensures moments { IsSettled (D.state disk.old) → (whole : Bool) (image : BaseImage) (blocks : Blocks)
-        → IsImage version_one image → next.now.turn ≡ (image.turn + 1) % 3
+        → IsImage image → next.now.turn ≡ (image.turn + 1) % 3
         → IsLog whole used image blocks (D.state disk.old).files → Holds whole next.now blocks (D.state disk.old).files
         → Leaves (λ files. IsLog whole used image blocks files ⊎ IsLog whole (older_of used) next.now blocks files)
         (D.state disk.old) (D.state disk.new) }

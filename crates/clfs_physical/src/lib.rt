@@ -32,6 +32,3 @@ mod turn;
 pub use change::Change;
 pub use physical::Physical;
 pub use refusal::PhysicalRefusal;
-
-#[cfg(test)]
-mod tests;

@@ -5,8 +5,7 @@ ghost use Rattle.std.specs.Prelude.{◌≡◌, ◌⊎◌, ◌+◌, ◌-◌, ◌*
 ghost use Rattle.clfs_lsn.specs.Format.{sector_bytes};
 ghost use Rattle.clfs_disk.specs.State.{TellsContents, IsHonest, IsSettled, IsSteady, Later, Leaves, Rises, raised};
 ghost use Rattle.clfs_base.specs.declared.image.BaseImage.{BaseImage};
-ghost use Rattle.clfs_base.specs.Layout.{version_one};
-ghost use Rattle.clfs_base.specs.Spelling.{IsImage};
+ghost use Rattle.clfs_base.specs.Spelling.{IsImage, current};
 ghost use Rattle.clfs_base.specs.Slots.{is_open_slot};
 ghost use Rattle.clfs_base.specs.Writing.{older_of};
 ghost use Rattle.clfs_physical.specs.Changes.{with_stream, with_containers, next_copy, Suits, CanHave, IsNewRow};
@@ -18,7 +17,7 @@ use crate::change::{Change, apply, apply_containers, apply_file, apply_stream};
 use crate::copy::store_copy;
 use crate::group::write_group;
 use crate::refusal::PhysicalRefusal;
-use clfs_base::{BaseImage, Row, SLOT_BYTES};
+use clfs_base::{BaseImage, Row, SLOT_BYTES, copies_are_read_as_written};
 use clfs_container::{close_first, open_blocks_are_one_list};
 use clfs_disk::{Disk, Failed};
 use std::alloc::{AllocError, Global};
@@ -38,7 +37,6 @@ pub struct Physical {
 
 impl Model for Physical {
     ghost use Rattle.std.specs.Prelude.{◌≡◌, ◌≤◌, vec_len};
-    ghost use Rattle.clfs_base.specs.Layout.{version_one};
     ghost use Rattle.clfs_base.specs.Spelling.{IsImage};
     ghost use Rattle.clfs_physical.specs.Stored.{Newest, IsKept};
 
@@ -53,7 +51,7 @@ impl Physical {
     /// What was read of the base file. The memory of a copy's bytes is taken here.
     pub fn new(alloc: Global, slot: u32, image: BaseImage) -> Result<Physical, AllocError>
         requires slot { slot ≤ 1 }
-        requires image { IsImage version_one image }
+        requires image { IsImage image }
         ensures { IfOk result (λ p. p ≡ record { slot = slot; image = image }) }
     {
         let mut bytes = Vec::new(alloc);
@@ -69,9 +67,11 @@ impl Physical {
     /// The newest copy.
     pub fn image(&self) -> &BaseImage
         ensures exact { result.now ≡ self.now.image }
-        ensures image { IsImage version_one self.now.image }
+        ensures image { IsImage self.now.image }
+        ensures current { IsImage (current self.now.image) }
         ensures slot { self.now.slot ≤ 1 }
     {
+        copies_are_read_as_written();
         &self.image
     }
 
@@ -112,7 +112,7 @@ impl Physical {
     fn last_file(&self) -> u16
         ensures file { result ≡ last_file self.now.image }
         ensures few { result ≤ 256 }
-        ensures image { IsImage version_one self.now.image }
+        ensures image { IsImage self.now.image }
     {
         let files = self.image.files.as_slice();
         files[files.len() - 1]

@@ -9,6 +9,3 @@
 mod policies;
 
 pub use policies::{Conflict, NotInstalled, Policies};
-
-#[cfg(test)]
-mod tests;

@@ -6,7 +6,8 @@
 //! failed" has to show that the count rose, and a port whose count stands at 0 never fails.
 //!
 //! What a source has left and what a sink was given is told where it is known. Ports in memory tell
-//! it, as far as they keep it; standard input and output do not.
+//! it, as far as they keep it; standard input and output do not. The program has those of the system
+//! alone; the ports in memory are for tests.
 #![tactic(auto)]
 
 mod copying;
@@ -19,6 +20,3 @@ pub use memory_sink::MemorySink;
 pub use memory_source::MemorySource;
 pub use ports::{Failed, Sink, Source};
 pub use steady::{SteadySink, SteadySource};
-
-#[cfg(test)]
-mod tests;

@@ -1,5 +1,5 @@
 // Laws of the rule for places, for who seals or turns before a record is put. Their functions do nothing.
-ghost use Rattle.std.specs.Prelude.{◌≡◌, ◌+◌, ◌≤◌, ◌<◌, true, false, ℕ};
+ghost use Rattle.std.specs.Prelude.{◌≡◌, ◌≤◌, ◌<◌, true, false, ℕ};
 ghost use Rattle.clfs_lsn.specs.Place.{IsWithin, joins, begins_here, place_after, sealed, frontier};
 ghost use Rattle.clfs_lsn.specs.Lsn.{null_lsn};
 ghost use Rattle.clfs_lsn.specs.Size.{IsShape, longest};

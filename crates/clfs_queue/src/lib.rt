@@ -18,6 +18,3 @@ mod writing;
 pub use laws::{a_record_goes_where_it_went, the_next_lsn_is_above_all};
 pub use placing::Placing;
 pub use queue::Queue;
-
-#[cfg(test)]
-mod tests;

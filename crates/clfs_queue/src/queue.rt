@@ -113,7 +113,7 @@ impl Queue {
         self.buffers
     }
 
-    /// How many blocks wait.
+    /// How many blocks wait. The log asks `fills_buffers` alone; tests ask this.
     pub fn waiting(&self) -> usize
         ensures count { result ≡ length self.now.waiting }
         ensures few { result ≤ self.now.buffers + 1 }

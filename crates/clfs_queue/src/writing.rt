@@ -1,6 +1,6 @@
 // Putting a record into the open block, in place: its header, its data and the zeros behind them are each copied once, to where they are
 // to lie in the block's sectors.
-ghost use Rattle.std.specs.Prelude.{◌≡◌, ◌+◌, ◌-◌, ◌<◌, ◌≤◌, ◌++◌, ◌^◌, ℕ, List, length, take, drop, replicate, vec_capacity};
+ghost use Rattle.std.specs.Prelude.{◌≡◌, ◌+◌, ◌-◌, ◌<◌, ◌≤◌, ◌++◌, ◌^◌, ℕ, length, take, drop, replicate, vec_capacity};
 ghost use Rattle.clfs_lsn.specs.Format.{block_header};
 ghost use Rattle.clfs_lsn.specs.Size.{size};
 ghost use Rattle.clfs_lsn.specs.Spelling.{filling, record_bytes};

@@ -85,7 +85,3 @@ header_takes bytes long fits =
     ∙ ap (λ (l : List ℕ). get_or bytes 7 0 ∷ l) (previous
     ∙ ap (λ (l : List ℕ). little_bytes 8 (little_number 8 (drop 8 bytes)) ++ l) (undo
     ∙ ap (λ (l : List ℕ). little_bytes 8 (little_number 8 (drop 16 bytes)) ++ l) base)))))
-
-pub length-header_spelled : (h : Header) (rest : List ℕ) → length (header_spelled h rest) ≡ record_header + length rest
-unfolding header_spelled
-length-header_spelled h rest = omega arith

@@ -1,6 +1,6 @@
 // Reading a record from the front of bytes. The checks go from the first byte on, and the data are copied once, when all
 // else is right.
-ghost use Rattle.std.specs.Prelude.{◌≡◌, ◌+◌, ◌-◌, ◌*◌, ◌/◌, ◌^◌, ◌<◌, ◌≤◌, ◌++◌, ◌==◌, ◌||◌, ◌↔◌, not, nat_lt, if◌then◌else◌, ℕ, List, length, take, drop, position, IfOk, IfErr, IfSome, Ok, Err};
+ghost use Rattle.std.specs.Prelude.{◌≡◌, ◌+◌, ◌-◌, ◌*◌, ◌^◌, ◌<◌, ◌≤◌, ◌++◌, ◌==◌, ◌||◌, ◌↔◌, not, nat_lt, if◌then◌else◌, ℕ, List, length, take, drop, position, IfOk, IfErr, IfSome, Ok, Err};
 ghost use Rattle.std.specs.List.{list_all, slice_range};
 ghost use Rattle.byteorder.specs.Endian.{little_number};
 ghost use Rattle.clfs_lsn.specs.Format.{record_header};

@@ -17,6 +17,3 @@ pub use decoder::{
 pub use encoder::{encode, spell_header};
 pub use fields::Fields;
 pub use refusal::{HeadRefusal, RecordRefusal};
-
-#[cfg(test)]
-mod tests;

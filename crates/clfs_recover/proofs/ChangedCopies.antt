@@ -15,7 +15,6 @@ use Rattle.clfs_container.specs.OpenBlocks.{total}
 use Rattle.clfs_block.specs.Judging.{AreReadAsWritten}
 use Rattle.clfs_base.specs.declared.image.BaseImage.{BaseImage}
 use Rattle.clfs_base.specs.declared.image.Row.{Row}
-use Rattle.clfs_base.specs.Layout.{version_one}
 use Rattle.clfs_base.specs.Spelling.{IsImage, row_in}
 use Rattle.clfs_model.specs.declared.state.State.{State}
 use Rattle.clfs_model.specs.State.{base_of, set_base}
@@ -115,7 +114,7 @@ module _ (image : BaseImage) (blocks : List (List (List ℕ))) (entries : List L
           });
         }
 
-    pub state_more_streams : AreReadAsWritten → ReadsFit → (buffers : ℕ) → IsImage version_one image → IsLogWith image blocks entries
+    pub state_more_streams : AreReadAsWritten → ReadsFit → (buffers : ℕ) → IsImage image → IsLogWith image blocks entries
         → stored_state more blocks entries buffers
         ≡ record (stored_state image blocks entries buffers) {
           streams = (stored_state image blocks entries buffers).streams ++ record { name = new.name; base = new.base } ∷ [];
@@ -135,10 +134,15 @@ module _ (image : BaseImage) (blocks : List (List (List ℕ))) (entries : List L
 
   -- ---- other settings
 
-  pub log_settings : (turn containers files_made maximum minimum growth : ℕ) (automatic : Bool) → IsLogWith image blocks entries
-      → IsLogWith (record image { turn = turn; containers = containers; files_made = files_made; automatic = automatic; maximum = maximum; minimum = minimum; growth = growth })
+  pub log_settings : (version turn containers files_made maximum minimum growth : ℕ) (automatic : Bool) → IsLogWith image blocks entries
+      → IsLogWith (record image { version = version; turn = turn; containers = containers; files_made = files_made; automatic = automatic; maximum = maximum; minimum = minimum; growth = growth })
       blocks entries
-  log_settings turn containers files_made maximum minimum growth automatic with = record { within = with.within; read = with.read; right = with.right }
+  log_settings version turn containers files_made maximum minimum growth automatic with =
+      let fits = fault_fits image end with.right in record {
+        within = with.within;
+        read = with.read;
+        right = fits_right (record image { version = version }) end (record { rows = fits.rows; tail = fits.tail });
+      }
 
   pub log_archived : (archiving : Bool) (tail : ℕ) → (archiving ≡ true → (tail ≤ end) × (image.first ≤ container_of tail)) → IsLogWith image blocks entries
       → IsLogWith (record image { archiving = archiving; tail = tail }) blocks entries
@@ -167,7 +171,7 @@ module _ (image : BaseImage) (old new : ℕ → List (List ℕ)) (entries : List
   end_with more = record (stored_place image (map old image.files)) { offset = total (old (file_at_end image)) + total more }
 
   -- a group whose records have no new bases
-  pub state_more_blocks : (more : List (List ℕ)) (others : List LogEntry) → IsImage version_one image → HaveMore image more old new
+  pub state_more_blocks : (more : List (List ℕ)) (others : List LogEntry) → IsImage image → HaveMore image more old new
       → All (λ (entry : LogEntry). entry.new_base ≡ 0) others
       → stored_state image (map new image.files) (entries ++ others) buffers ≡ record before { records = entries ++ others; place = end_with more }
   state_more_blocks more others good have zeros =
@@ -176,7 +180,7 @@ module _ (image : BaseImage) (old new : ℕ → List (List ℕ)) (entries : List
       λ i. record before { records = entries ++ others; place = place i; streams = streams_are i }
 
   -- a group whose last record alone may have one
-  pub state_moved_blocks : (more : List (List ℕ)) (others : List LogEntry) (entry : LogEntry) → IsImage version_one image → HaveMore image more old new
+  pub state_moved_blocks : (more : List (List ℕ)) (others : List LogEntry) (entry : LogEntry) → IsImage image → HaveMore image more old new
       → All (λ (other : LogEntry). other.new_base ≡ 0) others → 1 ≤ entry.stream → entry.stream ≤ length image.streams
       → base_of before entry.stream ≤ entry.new_base
       → stored_state image (map new image.files) (entries ++ (others ++ entry ∷ [])) buffers

@@ -20,8 +20,8 @@ use Rattle.clfs_base.specs.declared.image.Row.{Row}
 use Rattle.clfs_base.specs.declared.newest.Front.{Front}
 use Rattle.clfs_base.specs.declared.refusal.NewestRefusal.{NewestRefusal}
 use Rattle.clfs_base.specs.declared.refusal.NewestRefusal.TheVariants.{NoBase, BadByte}
-use Rattle.clfs_base.specs.Layout.{version_one, row_place}
-use Rattle.clfs_base.specs.Spelling.{IsImage, row_in}
+use Rattle.clfs_base.specs.Layout.{layout_of, row_place}
+use Rattle.clfs_base.specs.Spelling.{IsImage, row_in, current}
 use Rattle.clfs_base.specs.Checks.{told, image_at}
 use Rattle.clfs_base.specs.Slots.{slot_of, newer_slot, front_of, slot_by, used_slot, copy_in, copy_of, newest_of}
 use Rattle.clfs_model.specs.Storable.{before_all}
@@ -43,7 +43,7 @@ Copy = Result (ℕ × BaseImage) NewestRefusal
 
 -- an image is read from some bytes
 abbrev IsReadFrom : BaseImage → Type 0
-IsReadFrom image = (bytes : List ℕ) × (image_at version_one bytes ≡ Ok image)
+IsReadFrom image = (bytes : List ℕ) × (image_at bytes ≡ Ok image)
 
 abbrev copied : ℕ × BaseImage → Copy
 copied copy = Ok copy
@@ -78,20 +78,20 @@ newest_slot base slot image is = by_slot (used_slot base) (used_is_slot (front_o
     by_image k (Err at) small is = absurd (cc is)
 
     by_slot : (r : Result ℕ NewestRefusal) → IsSlot r → copy_of base r ≡ Ok (slot, image) → slot ≤ 1
-    by_slot (Ok k) small is = by_image k (image_at version_one (slot_of base k)) small is
+    by_slot (Ok k) small is = by_image k (image_at (slot_of base k)) small is
     by_slot (Err refusal) small is = absurd (cc is)
 
 newest_read : (base : List ℕ) (slot : ℕ) (image : BaseImage) → newest_of base ≡ Ok (slot, image) → IsReadFrom image
 newest_read base slot image is = by_slot (used_slot base) is
   where
-    by_image : (k : ℕ) (r : Result BaseImage ℕ) → image_at version_one (slot_of base k) ≡ r → copy_in k r ≡ Ok (slot, image) → IsReadFrom image
+    by_image : (k : ℕ) (r : Result BaseImage ℕ) → image_at (slot_of base k) ≡ r → copy_in k r ≡ Ok (slot, image) → IsReadFrom image
     by_image k (Ok found) e is =
         let same : found ≡ image = ap (λ (copy : ℕ × BaseImage). copy.1) (one_value (copied (k, found)) (k, found) (slot, image) refl is) in
         subst IsReadFrom same (slot_of base k, e)
     by_image k (Err at) e is = absurd (cc is)
 
     by_slot : (r : Result ℕ NewestRefusal) → copy_of base r ≡ Ok (slot, image) → IsReadFrom image
-    by_slot (Ok k) is = by_image k (image_at version_one (slot_of base k)) refl is
+    by_slot (Ok k) is = by_image k (image_at (slot_of base k)) refl is
     by_slot (Err refusal) is = absurd (cc is)
 
 -- ---- what of a copy fits the records
@@ -112,10 +112,10 @@ not_found false at is = refl
 abbrev pub AreRowsBelow : List Row → ℕ → Type 0
 AreRowsBelow rows lsn = (i : ℕ) → i < length rows → (row_in rows i).base ≤ lsn
 
-pub rows_below : (rows : List Row) (lsn : ℕ) → high_row rows lsn ≡ None → AreRowsBelow rows lsn
-rows_below rows lsn none i lt =
+pub rows_below : (version : ℕ) (rows : List Row) (lsn : ℕ) → high_row version rows lsn ≡ None → AreRowsBelow rows lsn
+rows_below version rows lsn none i lt =
     let p : Row → Bool = λ row. ltb lsn row.base in
-    let far = ltb-false _ _ (not_found _ _ (mapped_none (λ i. row_place version_one i + 8) (position p rows) none)) in
+    let far = ltb-false _ _ (not_found _ _ (mapped_none (λ i. row_place (layout_of version) i + 8) (position p rows) none)) in
     ltb-false lsn (row_in rows i).base (fails_before_first p rows i (record { name = []; base = 0 }) (omega (arith, lt, far)))
 
 -- the tail of a log with archiving lies from the first listed container to an LSN
@@ -157,15 +157,17 @@ all_laid written reads shape good streams id files (number ∷ numbers) (contain
 
 -- what is read of a slot, whatever numbers stand for bytes
 pub record AreImagesRead : Type 0 where
-  pub limits : (bytes : List ℕ) (image : BaseImage) → image_at version_one bytes ≡ Ok image
+  pub limits : (bytes : List ℕ) (image : BaseImage) → image_at bytes ≡ Ok image
       → IsShape (record { block_sectors = image.block_sectors; container_sectors = image.container_sectors }) × (image.first + length image.files ≤ 2 ^ 32)
   pub may_be : (bytes : List ℕ) (image : BaseImage) → ((i : ℕ) → i < length image.streams → (row_in image.streams i).base < 2 ^ 64)
-      → image_at version_one bytes ≡ Ok image → IsImage version_one image
+      → image_at bytes ≡ Ok image → IsImage image
+  pub current : (image : BaseImage) → IsImage image → IsImage (current image)
 
 -- What opening finds: a copy that a log can have, records in blocks from the first listed container's first byte to the place, the bases with
 -- them, and rows and a tail that fit.
 pub record AreOpened (parts : Parts) : Type 0 where
-  pub image_is : IsImage version_one parts.image
+  pub image_is : IsImage parts.image
+  pub current_is : IsImage (current parts.image)
   pub laid : AreLaid (shape_of parts.image) (length parts.image.streams) before_all (lsn_number parts.image.first 0 0) parts.place.container parts.place.offset
       parts.entries
   pub rows : AreRowsBelow parts.image.streams (frontier parts.place)
@@ -198,10 +200,11 @@ module _ (images : AreImagesRead) (written : AreReadAsWritten) (reads : ReadsFit
       let limits = images.limits from.0 image from.1 in
       let end = end_within image.container_sectors files image.files listed are in
       let small : frontier place < 2 ^ 64 = omega (arith, limits.1, end, limits.0.largest_container) in
-      let fits = both_none (high_row image.streams (frontier place)) (told (is_wrong_tail image (frontier place)) 32) right in
-      let rows = rows_below image.streams (frontier place) fits.0 in
+      let fits = both_none (high_row image.version image.streams (frontier place)) (told (is_wrong_tail image (frontier place)) 32) right in
+      let rows = rows_below image.version image.streams (frontier place) fits.0 in
       let good = images.may_be from.0 image (λ i lt. omega (arith, rows i lt, small)) from.1 in record {
         image_is = good;
+        current_is = images.current image good;
         laid = all_laid written reads (shape_of image) good.shape (length image.streams) image.first files image.files listed entries good.first good.some_listed
             are read;
         rows = rows;

@@ -66,12 +66,12 @@ module _ (rows : List Row) (bases : List ℕ) (same : length bases ≡ length ro
     base_there number some few = ap (λ (found : Option Stream). option_map_or (λ (stream : Stream). stream.base) found 0) (stream_there number some few)
 
 -- a name that a row may have is legal
-pub legal_name : (name : List ℕ) → IsName 32 name → name_fault name ≡ None
+pub legal_name : (name : List ℕ) → IsName 64 name → name_fault name ≡ None
 legal_name name is =
     let bad : ℕ = position_or_len (λ b. not (is_name_byte b)) name in
     let pass = AllPass-from_list_all is_name_byte name is.bytes in
     let far : bad ≡ length name = position_or_len_is (λ b. not (is_name_byte b)) name (length name) 0 (omega arith)
     (λ k lt. not_from_true (is_name_byte (get_or name k 0)) (pass k 0 lt)) (λ lt. absurd (omega (arith, lt))) in
     pass_check (eqb (length name) 0) 0 _ (ne_eqb (length name) 0 (λ none. omega (arith, none, is.some)))
-    (pass_check (ltb bad (length name) && ltb bad 32) bad _ (and_left (ltb bad (length name)) (ltb bad 32) (le-ltb bad (length name) (omega (arith, far))))
-    (pass_check (ltb 32 (length name)) 32 None (le-ltb 32 (length name) is.few) refl))
+    (pass_check (ltb bad (length name) && ltb bad 64) bad _ (and_left (ltb bad (length name)) (ltb bad 64) (le-ltb bad (length name) (omega (arith, far))))
+    (pass_check (ltb 64 (length name)) 64 None (le-ltb 64 (length name) is.few) refl))

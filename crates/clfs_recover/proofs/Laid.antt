@@ -10,7 +10,6 @@ use Rattle.clfs_container.specs.OpenBlocks.{block_sectors, BeginsWith, Opens, Ar
 use Rattle.clfs_base.specs.declared.image.BaseImage.{BaseImage}
 use Rattle.clfs_base.specs.declared.newest.Front.{Front}
 use Rattle.clfs_base.specs.declared.refusal.NewestRefusal.{NewestRefusal}
-use Rattle.clfs_base.specs.Layout.{version_one}
 use Rattle.clfs_base.specs.Spelling.{IsImage, spelled}
 use Rattle.clfs_base.specs.Checks.{image_at}
 use Rattle.clfs_base.specs.Slots.{front_of, slot_by, slot_of, copy_in, copy_of, newest_of}
@@ -151,7 +150,7 @@ first_open first second p q = rw (p, q) refl
 second_open : (first second : Front) → first.is_open ≡ false → second.is_open ≡ true → slot_by first second ≡ Ok 1
 second_open first second p q = rw (p, q) refl
 
-module _ (image : BaseImage) (bytes : List ℕ) (long : length bytes ≡ 16383) (read : image_at version_one (165 ∷ bytes) ≡ Ok image) where
+module _ (image : BaseImage) (bytes : List ℕ) (long : length bytes ≡ 16383) (read : image_at (165 ∷ bytes) ≡ Ok image) where
   -- a copy in slot 0 alone
   newest_first : newest_of (165 ∷ bytes) ≡ Ok (0, image)
   newest_first =
@@ -159,7 +158,7 @@ module _ (image : BaseImage) (bytes : List ℕ) (long : length bytes ≡ 16383) 
       let past : get_or base 16384 0 ≡ 0 = get_or_past base 16384 0 (omega (arith, long)) in
       let used = first_open (front_of base 0) (front_of base 1) refl (ap (λ (n : ℕ). eqb n 165) past) in
       let copy : slot_of base 0 ≡ base = take_all 16384 base (omega (arith, long)) in
-      ap (copy_of base) used ∙ ap (λ (l : List ℕ). copy_in 0 (image_at version_one l)) copy ∙ ap (copy_in 0) read
+      ap (copy_of base) used ∙ ap (λ (l : List ℕ). copy_in 0 (image_at l)) copy ∙ ap (copy_in 0) read
 
   -- a copy in slot 1 alone
   newest_second : newest_of (zeros 16384 ++ 165 ∷ bytes) ≡ Ok (1, image)
@@ -170,7 +169,7 @@ module _ (image : BaseImage) (bytes : List ℕ) (long : length bytes ≡ 16383) 
       let gate : get_or base 16384 0 ≡ 165 = get_or_at (zeros 16384) 165 bytes 0 16384 count in
       let used = second_open (front_of base 0) (front_of base 1) (ap (λ (n : ℕ). eqb n 165) closed) (ap (λ (n : ℕ). eqb n 165) gate) in
       let copy : slot_of base 1 ≡ 165 ∷ bytes = ap (take 16384) (drop_at (zeros 16384) (165 ∷ bytes) 16384 count) ∙ take_all 16384 (165 ∷ bytes) (omega (arith, long)) in
-      ap (copy_of base) used ∙ ap (λ (l : List ℕ). copy_in 1 (image_at version_one l)) copy ∙ ap (copy_in 1) read
+      ap (copy_of base) used ∙ ap (λ (l : List ℕ). copy_in 1 (image_at l)) copy ∙ ap (copy_in 1) read
 
   -- a base file with a copy in one slot alone
   newest_there : (slot : ℕ) → slot ≤ 1 → (base : List ℕ) × (newest_of base ≡ Ok (slot, image))
@@ -182,20 +181,20 @@ module _ (image : BaseImage) (bytes : List ℕ) (long : length bytes ≡ 16383) 
 
 -- a copy is read as it was written
 abbrev pub ReadsCopies : Type 0
-ReadsCopies = (image : BaseImage) (gate : ℕ) (rest : List ℕ) → IsImage version_one image
-    → image_at version_one (gate ∷ (spelled version_one image ++ rest)) ≡ Ok image
+ReadsCopies = (image : BaseImage) (gate : ℕ) (rest : List ℕ) → IsImage image
+    → image_at (gate ∷ (spelled image ++ rest)) ≡ Ok image
 
 -- a copy has as many bytes as a slot has behind its gate
 abbrev pub FillSlots : Type 0
-FillSlots = (image : BaseImage) → IsImage version_one image → length (spelled version_one image) ≡ 16383
+FillSlots = (image : BaseImage) → IsImage image → length (spelled image) ≡ 16383
 
 -- a log is found in some files
 pub log_found : WholeAreOpen → ReadsCopies → FillSlots → (parts : Parts) → IsLogOf parts → (files : Files) × Finds files (Ok parts)
 log_found open_too reads fills parts log =
     let image = parts.image in
-    let bytes : List ℕ = spelled version_one image in
-    let read : image_at version_one (165 ∷ bytes) ≡ Ok image =
-    ap (λ (l : List ℕ). image_at version_one (165 ∷ l)) (sym (append-nil bytes)) ∙ reads image 165 [] log.image in
+    let bytes : List ℕ = spelled image in
+    let read : image_at (165 ∷ bytes) ≡ Ok image =
+    ap (λ (l : List ℕ). image_at (165 ∷ l)) (sym (append-nil bytes)) ∙ reads image 165 [] log.image in
     let base = newest_there image bytes (fills image log.image) read parts.slot log.slot in
     let files : Files = with_containers (λ file. base.0) image.files log.blocks in
     let is_log : HasLog parts.slot image log.blocks files = record {

@@ -25,6 +25,8 @@ pub mod ValidStates
 pub mod StorableStates
 pub mod Laid
 pub mod Counting
+pub mod BlockCounts
+pub mod Fronts
 pub mod PartsInOrder
 pub mod CleanEnds
 pub mod StoredLogs
@@ -35,3 +37,4 @@ pub mod StoredRecords
 pub mod ChangedCopies
 pub mod LowContainers
 pub mod RecordPlaces
+pub mod WholeFiles

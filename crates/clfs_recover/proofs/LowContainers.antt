@@ -14,7 +14,6 @@ use Rattle.clfs_lsn.specs.declared.entry.LogEntry.{LogEntry}
 use Rattle.clfs_container.specs.OpenBlocks.{total}
 use Rattle.clfs_block.specs.Judging.{AreReadAsWritten}
 use Rattle.clfs_base.specs.declared.image.BaseImage.{BaseImage}
-use Rattle.clfs_base.specs.Layout.{version_one}
 use Rattle.clfs_base.specs.Spelling.{IsImage, row_in}
 use Rattle.clfs_model.specs.declared.state.State.{State}
 use Rattle.clfs_model.specs.declared.state.Stream.{Stream}
@@ -56,7 +55,7 @@ place_left image blocks first from to =
     ap stored_end (sym (drop-map blocks n image.files)) ∙ end_of_rest n (map blocks image.files) (omega (arith, long, from, to)) in
     λ i. record { container = container i; offset = end i; used = 0; records = 0 }
 
-module _ (written : AreReadAsWritten) (reads : ReadsFit) (image : BaseImage) (good : IsImage version_one image) (blocks : ℕ → List (List ℕ))
+module _ (written : AreReadAsWritten) (reads : ReadsFit) (image : BaseImage) (good : IsImage image) (blocks : ℕ → List (List ℕ))
     (entries : List LogEntry) (with : IsLogWith image (map blocks image.files) entries) where
   abbrev all : List (List (List ℕ))
   all = map blocks image.files

@@ -7,7 +7,6 @@ use Rattle.clfs_lsn.specs.declared.place.Place.{Place}
 use Rattle.clfs_disk.specs.Files.{Files, Unchanged}
 use Rattle.clfs_disk.specs.State.{DiskState, TellsContents}
 use Rattle.clfs_base.specs.declared.image.BaseImage.{BaseImage}
-use Rattle.clfs_base.specs.Layout.{version_one}
 use Rattle.clfs_base.specs.Spelling.{IsImage}
 use Rattle.clfs_base.specs.Slots.{newest_of}
 use Rattle.clfs_recover.specs.Walk.{Container, shape_of, slot_offset, image_fault, walked}
@@ -50,7 +49,7 @@ module _ (has : List LogEntry → Type 0) (told : Type 0) (files : Files) (slot 
       (ap (λ (p : Place). image_fault image (frontier p)) (sym (there moved place end taken placed)) ∙ fault)
 
   -- and one that does
-  pub fits_records : slot ≤ 1 → IsImage version_one image → (bases moved : List ℕ) (place : Place) (end : ℕ) → Taken moved end → bases ≡ moved
+  pub fits_records : slot ≤ 1 → IsImage image → (bases moved : List ℕ) (place : Place) (end : ℕ) → Taken moved end → bases ≡ moved
       → place ≡ record { container = image.first + length image.files - 1; offset = end; used = 0; records = 0 }
       → image_fault image (frontier place) ≡ None
       → IsWalkedLog has told files slot image (record { slot = slot; image = image; bases = bases; place = place })

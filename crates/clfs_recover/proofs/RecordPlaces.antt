@@ -12,7 +12,6 @@ use Rattle.clfs_lsn.specs.declared.shape.Shape.{Shape}
 use Rattle.clfs_disk.specs.Files.{Files}
 use Rattle.clfs_container.specs.OpenBlocks.{block_sectors, BeginsWith, Opens, AreWhole, total}
 use Rattle.clfs_base.specs.declared.image.BaseImage.{BaseImage}
-use Rattle.clfs_base.specs.Layout.{version_one}
 use Rattle.clfs_base.specs.Spelling.{IsImage}
 use Rattle.clfs_block.specs.Checks.{IsEnough}
 use Rattle.clfs_block.specs.Judging.{AreReadAsWritten}
@@ -140,7 +139,7 @@ module _ (shape : Shape) (streams : ℕ) where
 
 -- each record of a log lies in a listed container
 pub lie_listed : AreReadAsWritten → ReadsFit → (image : BaseImage) (blocks : ℕ → List (List ℕ)) (entries : List LogEntry) (entry : LogEntry)
-    → IsImage version_one image → IsLogWith image (map blocks image.files) entries → Contains entries entry
+    → IsImage image → IsLogWith image (map blocks image.files) entries → Contains entries entry
     → (image.first ≤ container_of entry.lsn) × (container_of entry.lsn + 1 ≤ image.first + length image.files)
 lie_listed written reads image blocks entries entry good with among =
     let all : List (List (List ℕ)) = map blocks image.files in
@@ -157,7 +156,7 @@ lie_listed written reads image blocks entries entry good with among =
 
 -- and is read there
 pub read_there : ReadAlone → AreFew → HavePositions → (image : BaseImage) (blocks : ℕ → List (List ℕ)) (entries : List LogEntry) (entry : LogEntry)
-    → IsImage version_one image → IsLogWith image (map blocks image.files) entries → Contains entries entry → (files : Files)
+    → IsImage image → IsLogWith image (map blocks image.files) entries → Contains entries entry → (files : Files)
     → ((i : ℕ) → i < length image.files → AreWhole image.container_sectors (files (get_or image.files i 0)) (blocks (get_or image.files i 0)))
     → IsReadAt (shape_of image) (length image.streams) (files (file_of image entry.lsn)) entry
 read_there alone few positions image blocks entries entry good with among files whole =

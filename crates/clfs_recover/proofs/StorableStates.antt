@@ -63,9 +63,9 @@ module _ (parts : Parts) (buffers : ℕ) (is : AreOpened parts) where
     };
     limits = record {
       names = all_streams image.streams parts.bases (same_length parts buffers is) (λ (stream : Stream). name_fault stream.name ≡ None)
-          (λ i lt. legal_name _ (is.image_is.rows.named i lt));
+          (λ i lt. legal_name _ (is.current_is.rows.named i lt));
       few_streams =
-          let long = length-streams_with image.streams parts.bases (same_length parts buffers is) in omega (arith, long, is.image_is.few_streams);
+          let long = length-streams_with image.streams parts.bases (same_length parts buffers is) in omega (arith, long, is.current_is.few_streams);
       few_areas = λ client. omega arith;
       areas = All-from_recursion (IsAreaWithinLimits s) [] tt;
     };

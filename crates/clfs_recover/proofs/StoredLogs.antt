@@ -12,7 +12,7 @@ use Rattle.clfs_disk.specs.Files.{Files}
 use Rattle.clfs_block.specs.Judging.{AreReadAsWritten}
 use Rattle.clfs_base.specs.declared.image.BaseImage.{BaseImage}
 use Rattle.clfs_base.specs.declared.image.Row.{Row}
-use Rattle.clfs_base.specs.Layout.{version_one, row_place}
+use Rattle.clfs_base.specs.Layout.{layout_of, row_place}
 use Rattle.clfs_base.specs.Spelling.{row_in}
 use Rattle.clfs_base.specs.Checks.{told}
 use Rattle.clfs_recover.specs.Walk.{Container, shape_of, last_end, high_row, is_wrong_tail, image_fault, parts_with}
@@ -29,19 +29,19 @@ use Rattle.clfs_recover.proofs.ReadBlocks.{ReadsFit}
 
 pub fault_fits : (image : BaseImage) (lsn : ℕ) → image_fault image lsn ≡ None → FitsUpTo image lsn
 fault_fits image lsn right =
-    let parts = both_none (high_row image.streams lsn) (told (is_wrong_tail image lsn) 32) right in
-    record { rows = rows_below image.streams lsn parts.0; tail = tail_within image lsn parts.1 }
+    let parts = both_none (high_row image.version image.streams lsn) (told (is_wrong_tail image lsn) 32) right in
+    record { rows = rows_below image.version image.streams lsn parts.0; tail = tail_within image lsn parts.1 }
 
 -- no row is too high
-no_high_row : (rows : List Row) (lsn : ℕ) → ((i : ℕ) → i < length rows → (row_in rows i).base ≤ lsn) → high_row rows lsn ≡ None
-no_high_row rows lsn low =
+no_high_row : (version : ℕ) (rows : List Row) (lsn : ℕ) → ((i : ℕ) → i < length rows → (row_in rows i).base ≤ lsn) → high_row version rows lsn ≡ None
+no_high_row version rows lsn low =
     let p : Row → Bool = λ row. ltb lsn row.base in
     let none : Row = record { name = []; base = 0 } in
     let far : position_or_len p rows ≡ length rows = position_or_len_is p rows (length rows) none (omega arith)
     (λ k lt. le-ltb lsn (row_in rows k).base (low k lt)) (λ lt. absurd (omega (arith, lt))) in
     let nothing : position p rows ≡ None =
     ap (λ b. cond b (Some (position_or_len p rows)) None) (le-ltb (position_or_len p rows) (length rows) (omega (arith, far))) in
-    ap (λ (o : Option ℕ). option_map (λ i. row_place version_one i + 8) o) nothing
+    ap (λ (o : Option ℕ). option_map (λ i. row_place (layout_of version) i + 8) o) nothing
 
 -- the tail is right
 right_tail : (image : BaseImage) (lsn : ℕ) → (image.archiving ≡ true → (image.tail ≤ lsn) × (image.first ≤ container_of image.tail))
@@ -56,7 +56,7 @@ right_tail image lsn within = elim (cases_Bool image.archiving) [
 
 pub fits_right : (image : BaseImage) (lsn : ℕ) → FitsUpTo image lsn → image_fault image lsn ≡ None
 fits_right image lsn fits =
-    ap (λ (o : Option ℕ). option_or o (told (is_wrong_tail image lsn) 32)) (no_high_row image.streams lsn fits.rows)
+    ap (λ (o : Option ℕ). option_or o (told (is_wrong_tail image lsn) 32)) (no_high_row image.version image.streams lsn fits.rows)
     ∙ ap (λ b. told b 32) (right_tail image lsn fits.tail)
 
 -- ---- files and logs

@@ -10,7 +10,6 @@ use Rattle.clfs_lsn.specs.declared.entry.LogEntry.{LogEntry}
 use Rattle.clfs_lsn.specs.declared.place.Place.{Place}
 use Rattle.clfs_container.specs.OpenBlocks.{total}
 use Rattle.clfs_base.specs.declared.image.BaseImage.{BaseImage}
-use Rattle.clfs_base.specs.Layout.{version_one}
 use Rattle.clfs_base.specs.Spelling.{IsImage}
 use Rattle.clfs_recover.specs.Walk.{shape_of, image_fault}
 use Rattle.clfs_recover.specs.Stored.{stored_in, stored_records, stored_end, stored_place}
@@ -73,7 +72,7 @@ module _ (image : BaseImage) (file : ℕ) (old new : ℕ → List (List ℕ)) (h
       let end : stored_end (map new (image.files ++ file ∷ [])) ≡ 0 = ap stored_end empty_are ∙ end_of_last (map old image.files) [] in
       λ i. record { container = container i; offset = end i; used = 0; records = 0 }
 
-module _ (image : BaseImage) (good : IsImage version_one image) where
+module _ (image : BaseImage) (good : IsImage image) where
   abbrev count : ℕ
   count = length image.files
 

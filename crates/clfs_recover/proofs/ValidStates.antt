@@ -1,10 +1,11 @@
 -- The state of parts that opening finds is one that a log can have.
-use Rattle.std.proofs.Common.{◌≡◌, inl, inr, ℕ, ◌<◌, ◌≤◌, Bool, true, false, cond, eqb, List, [], length, get_or, map}
+use Rattle.std.proofs.Common.{◌≡◌, inl, inr, ℕ, ◌<◌, ◌≤◌, Bool, true, false, cond, eqb, leb, List, [], length, get_or, map}
 use Rattle.std.proofs.Common.{Option, Some, None, refl, sym, ◌∙◌, ap, subst, arith}
 use Rattle.std.specs.Prelude.{All, IfSome}
 use Rattle.std.specs.List.{AllByRecursion, range_with_len}
 use Rattle.std.specs.Option.{option_to_list}
 use Rattle.std.proofs.lemmas.Bool.{cases_Bool, eq-eqb, eqb-true, eqb-false}
+use Rattle.std.proofs.lemmas.Bool.Decides.{nat_tests}
 use Rattle.std.proofs.lemmas.List.Elements.{All-from_recursion}
 use Rattle.clfs_lsn.specs.Lsn.{lsn_number, sequence_of}
 use Rattle.clfs_lsn.specs.Limits.{most_containers}
@@ -13,8 +14,8 @@ use Rattle.clfs_lsn.specs.Spelling.{FitsAt}
 use Rattle.clfs_lsn.specs.declared.entry.LogEntry.{LogEntry}
 use Rattle.clfs_lsn.specs.declared.entry.Kind.TheVariants.{Restart}
 use Rattle.clfs_base.specs.declared.image.BaseImage.{BaseImage}
-use Rattle.clfs_base.specs.Layout.{version_one, most_minimum}
-use Rattle.clfs_base.specs.Spelling.{IsImage, IsPolicy}
+use Rattle.clfs_base.specs.Layout.{version_two, most_minimum, most_dedicated}
+use Rattle.clfs_base.specs.Spelling.{IsImage, IsPolicy, flag}
 use Rattle.clfs_model.specs.declared.state.State.{State}
 use Rattle.clfs_model.specs.declared.state.Stream.{Stream}
 use Rattle.clfs_model.specs.Valid.{IsValid, HasRanges, HasPolicies, IsArea, IsRecord, IsWaiting}
@@ -24,7 +25,7 @@ use Rattle.clfs_recover.specs.declared.parts.Parts.{Parts}
 use Rattle.clfs_recover.proofs.FoundBases.{base_low, base_to}
 use Rattle.clfs_recover.proofs.FoundParts.{AreOpened}
 use Rattle.clfs_recover.proofs.FoundRecords.{all_below, all_above, all_rise, none_of_block}
-use Rattle.clfs_recover.proofs.FoundStreams.{all_streams, different_streams, has_stream}
+use Rattle.clfs_recover.proofs.FoundStreams.{length-streams_with, all_streams, different_streams, has_stream}
 use Rattle.clfs_recover.proofs.HoldOrder.{hold_above}
 use Rattle.clfs_recover.proofs.KeptRecords.{from_both}
 use Rattle.clfs_recover.proofs.Raising.{base_at, length-bases_with}
@@ -63,7 +64,7 @@ in_order maximum minimum is = elim (cases_Bool (eqb maximum 0)) [
       rw on (policy_ranges (λ least. least ≤ maximum) 2 maximum minimum (omega arith) bound (λ low high. high))
 ]
 
-policies_hold : (image : BaseImage) → IsImage version_one image → (s : State) → s.maximum ≡ policy_of image.maximum → s.minimum ≡ policy_of image.minimum
+policies_hold : (image : BaseImage) → IsImage image → (s : State) → s.maximum ≡ policy_of image.maximum → s.minimum ≡ policy_of image.minimum
     → s.growth ≡ policy_of image.growth → HasPolicies s
 policies_hold image is s maximum_is minimum_is growth_is = record {
   maximum = subst (λ (o : Option ℕ). IfSome o (λ most. (2 ≤ most) × (most ≤ 256))) (sym maximum_is)
@@ -83,6 +84,15 @@ policies_hold image is s maximum_is minimum_is growth_is = record {
       | inl none ↦ inl (eqb-true value 0 none)
       | inr there ↦ inr (let other = eqb-false value 0 there in omega (arith, other), le)
     ]
+
+-- a dedicated log has one stream at most
+has_one : (on : Bool) (count : ℕ) → flag on ≤ most_dedicated version_two count → on ≡ true → count ≤ 1
+has_one false count few is = absurd (cc is)
+has_one true count few is = by (leb count 1) refl few
+  where
+    by : (b : Bool) → leb count 1 ≡ b → 1 ≤ cond b 1 0 → count ≤ 1
+    by true within few = grind (arith, nat_tests)
+    by false within few = absurd (omega (arith, few))
 
 -- ---- the state
 
@@ -173,9 +183,12 @@ module _ (parts : Parts) (buffers : ℕ) (is : AreOpened parts) where
     ranges = ranges some few;
     policies = policies_hold image is.image_is s refl refl refl;
     tables = record {
-      names = different_streams image.streams parts.bases same_length 32 is.image_is.rows;
+      names = different_streams image.streams parts.bases same_length 64 is.current_is.rows;
       numbers = λ i j d lt within. absurd (omega (arith, within));
       areas = All-from_recursion (IsArea s) [] tt;
+      dedicated = λ alone.
+          let long = length-streams_with image.streams parts.bases same_length in
+          let few = has_one image.dedicated (length image.streams) is.current_is.dedicated alone in omega (arith, long, few);
     };
     records = record {
       rising = all_rise (lsn_number image.first 0 0) here parts.entries is.laid.rise;

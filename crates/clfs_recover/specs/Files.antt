@@ -57,6 +57,7 @@ streams_with (row ∷ rows) (base ∷ bases) = record { name = row.name; base = 
 abbrev pub state_of : Parts → ℕ → State
 state_of parts buffers = record {
   shape = shape_of parts.image;
+  dedicated = parts.image.dedicated;
   containers = parts.image.containers;
   buffers = buffers;
   streams = streams_with parts.image.streams parts.bases;

@@ -5,7 +5,6 @@ use Rattle.clfs_lsn.specs.Place.{frontier}
 use Rattle.clfs_disk.specs.State.{DiskState, TellsContents}
 use Rattle.clfs_container.specs.OpenBlocks.{block_sectors, BeginsWith}
 use Rattle.clfs_block.specs.Frame.{AreBytes}
-use Rattle.clfs_base.specs.Layout.{version_one}
 use Rattle.clfs_base.specs.Spelling.{IsImage}
 use Rattle.clfs_recover.specs.Walk.{shape_of, image_fault}
 use Rattle.clfs_recover.specs.Files.{Finds}
@@ -31,7 +30,7 @@ pub record IsLogOf (parts : Parts) : Type 0 where
   -- the base copy fits them
   pub fits : image_fault parts.image (frontier (stored_place parts.image blocks)) ≡ None
   -- and is one that a log can have
-  pub image : IsImage version_one parts.image
+  pub image : IsImage parts.image
   -- in one of the two slots
   pub slot : parts.slot ≤ 1
 

@@ -7,5 +7,7 @@ pub mod Fronts
 pub mod Opening
 pub mod Stored
 pub mod KnownLogs
+pub mod Counting
 pub mod Logs
 pub mod Reading
+pub mod Whole

@@ -16,7 +16,7 @@ use Rattle.clfs_block.specs.declared.head.BlockRefusal.{BlockRefusal}
 use Rattle.clfs_block.specs.declared.head.BlockRefusal.TheVariants as blocks
 use Rattle.clfs_base.specs.declared.image.BaseImage.{BaseImage}
 use Rattle.clfs_base.specs.declared.image.Row.{Row}
-use Rattle.clfs_base.specs.Layout.{version_one, slot_bytes, row_place}
+use Rattle.clfs_base.specs.Layout.{slot_bytes, layout_of, row_place}
 use Rattle.clfs_base.specs.Spelling.{row_in}
 use Rattle.clfs_base.specs.Checks.{told}
 use Rattle.clfs_block.specs.Records.{◌>>=◌, told_as, block_records}
@@ -92,9 +92,10 @@ base_with rows entries i =
 abbrev pub bases_with : List Row → List LogEntry → List ℕ
 bases_with rows entries = map (base_with rows entries) (range_with_len 0 (length rows))
 
--- The first base of a row that lies above the log's last record, told at the row's base. No record goes there any more.
-abbrev pub high_row : List Row → ℕ → Option ℕ
-high_row rows frontier = option_map (λ i. row_place version_one i + 8) (position (λ (row : Row). nat_lt frontier row.base) rows)
+-- The first base of a row that lies above the log's last record, told at the row's base in a slot of the copy's version. No record goes there
+-- any more.
+abbrev pub high_row : ℕ → List Row → ℕ → Option ℕ
+high_row version rows frontier = option_map (λ i. row_place (layout_of version) i + 8) (position (λ (row : Row). nat_lt frontier row.base) rows)
 
 -- With archiving on, the tail lies above the log's last record, or in a container below the listed ones.
 abbrev pub is_wrong_tail : BaseImage → ℕ → Bool
@@ -102,7 +103,7 @@ is_wrong_tail image frontier = image.archiving && (nat_lt frontier image.tail ||
 
 -- what of a base copy is wrong by the records: a base, or else the tail
 abbrev pub image_fault : BaseImage → ℕ → Option ℕ
-image_fault image frontier = option_or (high_row image.streams frontier) (told (is_wrong_tail image frontier) 32)
+image_fault image frontier = option_or (high_row image.version image.streams frontier) (told (is_wrong_tail image frontier) 32)
 
 -- what is opened with the slot of a base copy, the copy, the listed containers and their records
 abbrev pub parts_with : ℕ → BaseImage → List Container → List LogEntry → Parts

@@ -52,8 +52,9 @@ fn open_frame(
     }
 }
 
-// Hands on the records of the block at the front of bytes, and answers its sectors, or None where its gate is closed.
-pub(crate) fn gather_block<G: Gatherer>(
+/// Judges the block at the front of bytes, as the walk does, and hands its records on; it answers the block's sectors, or None where its
+/// gate is closed. `payload` is memory that serves all blocks, and what was in it is gone; `bases` has a base for each stream.
+pub fn gather_block<G: Gatherer>(
     alloc: Global,
     shape: &Shape,
     place: &BlockPlace,

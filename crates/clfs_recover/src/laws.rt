@@ -1,22 +1,17 @@
 // Laws of what files stand for. Their functions do nothing; a caller cites their clauses.
-ghost use Rattle.std.specs.Prelude.{◌≡◌, ◌+◌, ◌^◌, ◌<◌, ℕ, List, length, Result, Ok, Err, None};
-ghost use Rattle.clfs_lsn.specs.Limits.{most_block_records};
+ghost use Rattle.std.specs.Prelude.{◌≡◌, ℕ, List, length, Result, Ok, None};
 ghost use Rattle.clfs_lsn.specs.Place.{frontier};
-ghost use Rattle.clfs_lsn.specs.declared.shape.Shape.{Shape};
 ghost use Rattle.clfs_lsn.specs.declared.entry.LogEntry.{LogEntry};
 ghost use Rattle.clfs_disk.specs.Files.{Files};
 ghost use Rattle.clfs_base.specs.declared.image.BaseImage.{BaseImage};
 ghost use Rattle.clfs_model.specs.declared.state.State.{State};
-ghost use Rattle.clfs_block.specs.Records.{block_records};
 ghost use Rattle.clfs_recover.specs.Walk.{shape_of, image_fault};
 ghost use Rattle.clfs_recover.specs.Files.{Finds, StandsFor, IsDamaged, HasNoBase};
-ghost use Rattle.clfs_recover.specs.Stored.{HasLog, HasRecords, stored_records, stored_place, stored_parts};
+ghost use Rattle.clfs_recover.specs.Stored.{HasLog, stored_records, stored_place, stored_parts};
 ghost use Rattle.clfs_recover.specs.declared.parts.Parts.{Parts};
 ghost use Rattle.clfs_recover.specs.declared.refusal.LoadRefusal.{LoadRefusal};
 
-use clfs_block::blocks_are_read_as_written;
 use clfs_container::open_blocks_are_one_list;
-use clfs_record::records_are_read_as_written;
 
 /// Opening finds one thing in any files: a state, up to the number of write buffers, or damage at one place, or no base copy.
 pub fn files_have_one_meaning()
@@ -39,13 +34,4 @@ pub fn copies_and_blocks_decide()
         → HasLog slot image blocks files → HasLog slot image blocks others → StandsFor files s → StandsFor others s }
 {
     open_blocks_are_one_list();
-}
-
-/// A block that was written with records is read as these.
-pub fn written_blocks_are_read()
-    ensures { (shape : Shape) (streams start : ℕ) (entries : List LogEntry) (block : List ℕ) → streams < 2 ^ 16 → start + most_block_records < 2 ^ 64
-        → HasRecords shape streams start entries block → block_records shape streams start block ≡ Ok entries }
-{
-    blocks_are_read_as_written();
-    records_are_read_as_written();
 }

@@ -36,15 +36,17 @@ mod records;
 mod refusal;
 mod rows;
 mod stored;
+mod whole;
 
+pub use block::gather_block;
 pub use changes::{
     bases_of_rows_move, further_containers_begin_empty, groups_come_behind_the_last_block,
-    low_containers_are_left_out, records_move_bases, settings_leave_the_records, streams_come_last,
+    low_containers_are_left_out, settings_leave_the_records, streams_come_last,
 };
 pub use counts::Counts;
 pub use gatherer::Gatherer;
-pub use laws::{copies_and_blocks_decide, files_have_one_meaning, written_blocks_are_read};
-pub use logs::{logs_are_found_in_files, logs_have_few_records};
+pub use laws::{copies_and_blocks_decide, files_have_one_meaning};
+pub use logs::{blocks_begin_with_sequence_0, logs_are_found_in_files, logs_have_few_records};
 pub use opened::{
     opened_bases_are_moved_by_records, opened_copies_fit, opened_records_lie_in_order,
     opened_states_are_cut, opened_states_are_valid,
@@ -52,9 +54,8 @@ pub use opened::{
 pub use opening::{Walked, load, load_heads, walk};
 pub use parts::{Bases, Entries, HeadParts, Heads, Parts};
 pub use reading::stored_records_are_read;
+pub use records::BlockPlace;
 pub use refusal::LoadRefusal;
 pub use rows::{changes_of_a_small_log, walks_of_a_small_log};
 pub use stored::{blocks_are_read_in_order, copies_without_fault_fit, logs_are_copies_and_blocks};
-
-#[cfg(test)]
-mod tests;
+pub use whole::whole_files_pass_the_test;

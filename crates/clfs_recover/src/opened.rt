@@ -8,7 +8,6 @@ ghost use Rattle.clfs_lsn.specs.Spelling.{FitsAt};
 ghost use Rattle.clfs_lsn.specs.declared.entry.Kind.TheVariants.{Restart};
 ghost use Rattle.clfs_lsn.specs.declared.entry.LogEntry.{LogEntry};
 ghost use Rattle.clfs_disk.specs.Files.{Files};
-ghost use Rattle.clfs_base.specs.Layout.{version_one};
 ghost use Rattle.clfs_base.specs.Spelling.{IsImage, row_in};
 ghost use Rattle.clfs_base.specs.Slots.{newest_of};
 ghost use Rattle.clfs_model.specs.declared.state.State.{State};
@@ -52,7 +51,7 @@ pub fn opened_states_are_cut()
 pub fn opened_copies_fit()
     ensures newest { (files : Files) (parts : Parts) → Finds files (Ok parts) → newest_of (files 0) ≡ Ok (parts.slot, parts.image) }
     ensures slot { (files : Files) (parts : Parts) → Finds files (Ok parts) → parts.slot ≤ 1 }
-    ensures image { (files : Files) (parts : Parts) → Finds files (Ok parts) → IsImage version_one parts.image }
+    ensures image { (files : Files) (parts : Parts) → Finds files (Ok parts) → IsImage parts.image }
     ensures right { (files : Files) (parts : Parts) → Finds files (Ok parts) → image_fault parts.image (frontier parts.place) ≡ None }
     ensures container { (files : Files) (parts : Parts) → Finds files (Ok parts)
         → parts.place.container + 1 ≡ parts.image.first + length parts.image.files }

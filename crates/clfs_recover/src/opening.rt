@@ -8,7 +8,7 @@ ghost use Rattle.clfs_lsn.specs.declared.entry.LogEntry.{LogEntry};
 ghost use Rattle.clfs_disk.specs.Files.{Unchanged};
 ghost use Rattle.clfs_disk.specs.State.{TellsContents, IsHonest, IsSteady, IsSettled, Passes, Rises};
 ghost use Rattle.clfs_base.specs.declared.image.Row.{Row};
-ghost use Rattle.clfs_base.specs.Layout.{version_one, row_place};
+ghost use Rattle.clfs_base.specs.Layout.{row_place};
 ghost use Rattle.clfs_base.specs.Spelling.{IsImage};
 ghost use Rattle.clfs_recover.specs.Walk.{Container, walked, shape_of, image_fault, is_wrong_tail};
 ghost use Rattle.clfs_recover.specs.Files.{AreListed};
@@ -64,7 +64,7 @@ fn wrong_image(image: &BaseImage, frontier: Lsn) -> Option<u32>
     ensures { result ≡ image_fault image.now frontier }
 {
     if let Some(row) = first_high(image.streams.as_slice(), frontier) {
-        return Some(base_place(row as u16));
+        return Some(base_place(image.version, row as u16));
     }
     if is_wrong_tail(image, frontier) {
         return Some(TAIL_AT);
@@ -89,7 +89,7 @@ fn piece_bytes(shape: &Shape) -> usize
 
 // The place behind the last block of the last listed container.
 fn place_behind(image: &BaseImage, end: u32) -> Place
-    requires { IsImage version_one image.now }
+    requires { IsImage image.now }
     ensures { result ≡ record { container = image.now.first + length image.now.files - 1; offset = end; used = 0; records = 0 } }
 {
     let others = image.files.as_slice().len() as u32 - 1;
@@ -110,7 +110,7 @@ fn walk_image<D: Disk, G: Gatherer>(
     gatherer: &mut G,
 ) -> Result<Walked, LoadRefusal>
     requires slot { slot ≤ 1 }
-    requires image { IsImage version_one image }
+    requires image { IsImage image }
     ensures log { G.has gatherer.old [] → IfOk result (λ walked.
         IsWalkedLog (G.has gatherer.new) (TellsContents (D.state disk.old)) (D.state disk.old).files slot image walked) }
     ensures refused { TellsContents (D.state disk.old) → G.has gatherer.old [] → (listed : List Container)

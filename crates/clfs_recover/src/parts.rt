@@ -41,14 +41,6 @@ impl Entries {
     {
         self.entries.as_slice()
     }
-
-    /// The records given back, where they are.
-    pub fn into_vec(self) -> Vec<LogEntry>
-        ensures { result.items ≡ self }
-    {
-        let Entries { entries } = self;
-        entries
-    }
 }
 
 impl Gatherer for Entries {
@@ -99,14 +91,6 @@ impl Heads {
         ensures { result.now ≡ self.now }
     {
         self.heads.as_slice()
-    }
-
-    /// The heads given back, where they are.
-    pub fn into_vec(self) -> Vec<Head>
-        ensures { result.items ≡ self }
-    {
-        let Heads { heads } = self;
-        heads
     }
 }
 
@@ -187,14 +171,6 @@ impl Bases {
         ensures { result.now ≡ self.now }
     {
         self.bases.as_slice()
-    }
-
-    /// The bases given back, where they are.
-    pub fn into_vec(self) -> Vec<Lsn>
-        ensures { result.items ≡ self }
-    {
-        let Bases { bases } = self;
-        bases
     }
 }
 

@@ -25,15 +25,17 @@ const HEADER: usize = RECORD_HEADER as usize;
 // The byte of a block at which the field of its used bytes begins.
 const USED_FIELD: u32 = 8;
 
-// Where a block lies, and so where damage in it is told.
-#[derive(Clone, Copy)]
-pub(crate) struct BlockPlace {
+/// Where a block lies, and so where damage in it is told.
+#[derive(Clone, Copy, Debug, PartialEq, Eq)]
+pub struct BlockPlace {
+    /// The id of its container.
     pub container: u32,
+    /// Its first byte in the container.
     pub offset: u32,
 }
 
 impl BlockPlace {
-    // The LSN of the record at a position of the block.
+    /// The LSN of the record at a position of the block.
     pub fn lsn(&self, sequence: u32) -> Lsn
         requires { self.now.offset + sequence < 2 ^ 32 }
         ensures { result ≡ lsn_number self.now.container self.now.offset 0 + sequence }
@@ -41,7 +43,7 @@ impl BlockPlace {
         Lsn::from_parts(self.container, self.offset, sequence)
     }
 
-    // A byte of the block is wrong.
+    /// A byte of the block is wrong.
     pub fn damaged(&self, at: u32) -> LoadRefusal
         ensures { result ≡ Damaged self.now.container self.now.offset at }
     {

@@ -1,17 +1,20 @@
 // Laws of logs as base copies and open blocks, for whoever writes these: what is found again in what was written, and what each step of
 // writing makes of the log. Their functions do nothing; a caller cites their clauses.
-ghost use Rattle.std.specs.Prelude.{◌≡◌, ◌+◌, ◌*◌, ◌^◌, ◌<◌, ◌≤◌, ℕ, List, [], ◌∷◌, ◌++◌, length, map, slice_index, Ok, None};
-ghost use Rattle.clfs_lsn.specs.Format.{sector_bytes};
+ghost use Rattle.std.specs.Prelude.{◌≡◌, ◌+◌, ◌*◌, ◌^◌, ◌<◌, ◌≤◌, ℕ, List, [], ◌∷◌, ◌++◌, length, map, slice_index, take, Ok, None};
+ghost use Rattle.std.specs.List.{flat_map};
+ghost use Rattle.clfs_lsn.specs.Format.{sector_bytes, open_gate};
 ghost use Rattle.clfs_lsn.specs.Size.{IsShape};
+ghost use Rattle.clfs_lsn.specs.Spelling.{record_bytes};
 ghost use Rattle.clfs_lsn.specs.declared.entry.LogEntry.{LogEntry};
 ghost use Rattle.clfs_lsn.specs.declared.shape.Shape.{Shape};
 ghost use Rattle.clfs_disk.specs.Files.{Files};
 ghost use Rattle.clfs_container.specs.OpenBlocks.{AreWhole, total};
+ghost use Rattle.clfs_block.specs.Frame.{SpellsBlock};
 ghost use Rattle.clfs_base.specs.declared.image.BaseImage.{BaseImage};
 ghost use Rattle.clfs_base.specs.Slots.{newest_of};
 ghost use Rattle.clfs_recover.specs.Files.{Finds, StandsFor};
 ghost use Rattle.clfs_recover.specs.Logs.{IsLogWith, IsStoredIn, FitsUpTo, HaveRecords, all_records, stored_state};
-ghost use Rattle.clfs_recover.specs.Stored.{HasLog, stored_in, stored_records};
+ghost use Rattle.clfs_recover.specs.Stored.{HasLog, HasRecords, stored_in, stored_records};
 ghost use Rattle.clfs_recover.specs.Walk.{image_fault};
 ghost use Rattle.clfs_recover.specs.declared.parts.Parts.{Parts};
 
@@ -43,7 +46,8 @@ pub fn copies_without_fault_fit()
 {}
 
 /// What is read of blocks is what they were written with, one behind the other; what is read of more blocks, or of more containers, comes
-/// behind what was read before; and what fits a log of some streams fits one of more, and is read in it as before.
+/// behind what was read before; and what fits a log of some streams fits one of more, and is read in it as before. The records at the front of
+/// a block's make a block too.
 pub fn blocks_are_read_in_order()
     ensures written { (shape : Shape) (streams id offset : ℕ) (groups : List (List LogEntry)) (blocks : List (List ℕ))
         → IsShape shape → streams < 2 ^ 16 → id < 2 ^ 32 → offset + total blocks ≤ sector_bytes * shape.container_sectors
@@ -53,6 +57,9 @@ pub fn blocks_are_read_in_order()
         → HaveRecords shape streams id offset (groups ++ others) (blocks ++ more) }
     ensures further { (shape : Shape) (streams more id offset : ℕ) (groups : List (List LogEntry)) (blocks : List (List ℕ)) → streams ≤ more
         → HaveRecords shape streams id offset groups blocks → HaveRecords shape more id offset groups blocks }
+    ensures front { (shape : Shape) (streams start n : ℕ) (entries : List LogEntry) (block cut : List ℕ)
+        → HasRecords shape streams start entries block → 1 ≤ n → n ≤ length entries
+        → SpellsBlock start open_gate n (flat_map record_bytes (take n entries)) cut → HasRecords shape streams start (take n entries) cut }
     ensures behind { (shape : Shape) (streams id offset : ℕ) (blocks more : List (List ℕ)) (entries others : List LogEntry)
         → stored_in shape streams id offset blocks ≡ Ok entries → stored_in shape streams id (offset + total blocks) more ≡ Ok others
         → stored_in shape streams id offset (blocks ++ more) ≡ Ok (entries ++ others) }

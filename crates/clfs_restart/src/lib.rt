@@ -11,6 +11,3 @@
 mod row;
 
 pub use row::RestartAreas;
-
-#[cfg(test)]
-mod tests;

@@ -235,10 +235,11 @@ same_area a b = like (area_of_parts a b) (parts_of_area a b) (both (equal a.clie
     (both (equal a.number b.number) (both (equal a.stream b.stream) (both (equal a.largest b.largest)
     (both (equal a.reads b.reads) (both (equal a.held b.held) (same_lists same_cursor a.cursors b.cursors)))))))
 
-abbrev state_with : Shape → ℕ → ℕ → List Stream → List LogEntry → Place → List ℕ → List Area → Option ℕ → Option ℕ → Option ℕ → Option ℕ → Bool → Bool
+abbrev state_with : Shape → Bool → ℕ → ℕ → List Stream → List LogEntry → Place → List ℕ → List Area → Option ℕ → Option ℕ → Option ℕ → Option ℕ → Bool → Bool
     → State
-state_with shape containers buffers streams records place waiting areas archive maximum minimum growth automatic broken = record {
+state_with shape dedicated containers buffers streams records place waiting areas archive maximum minimum growth automatic broken = record {
   shape = shape;
+  dedicated = dedicated;
   containers = containers;
   buffers = buffers;
   streams = streams;
@@ -255,43 +256,46 @@ state_with shape containers buffers streams records place waiting areas archive 
 }
 
 abbrev pub StateParts : State → State → Type 0
-StateParts a b = (a.shape ≡ b.shape) × ((a.containers ≡ b.containers) ×
+StateParts a b = (a.shape ≡ b.shape) × ((a.dedicated ≡ b.dedicated) × ((a.containers ≡ b.containers) ×
     ((a.buffers ≡ b.buffers) × ((a.streams ≡ b.streams) × ((a.records ≡ b.records) ×
     ((a.place ≡ b.place) × ((a.waiting ≡ b.waiting) × ((a.areas ≡ b.areas) ×
     ((a.archive ≡ b.archive) × ((a.maximum ≡ b.maximum) × ((a.minimum ≡ b.minimum) ×
-    ((a.growth ≡ b.growth) × ((a.automatic ≡ b.automatic) × (a.broken ≡ b.broken)))))))))))))
+    ((a.growth ≡ b.growth) × ((a.automatic ≡ b.automatic) × (a.broken ≡ b.broken))))))))))))))
 
 pub state_of_parts : (a b : State) → StateParts a b → a ≡ b
 state_of_parts a b e =
-    let whole : state_with a.shape a.containers a.buffers a.streams a.records a.place a.waiting a.areas a.archive a.maximum a.minimum a.growth a.automatic a.broken ≡ state_with b.shape b.containers b.buffers b.streams b.records b.place b.waiting b.areas b.archive b.maximum b.minimum b.growth b.automatic b.broken = cc in
+    let whole : state_with a.shape a.dedicated a.containers a.buffers a.streams a.records a.place a.waiting a.areas a.archive a.maximum a.minimum a.growth a.automatic a.broken ≡ state_with b.shape b.dedicated b.containers b.buffers b.streams b.records b.place b.waiting b.areas b.archive b.maximum b.minimum b.growth b.automatic b.broken = cc in
     whole
 
 pub parts_of_state : (a b : State) → a ≡ b → StateParts a b
 parts_of_state a b e = (
   ap (λ (one : State). one.shape) e,
   (
-    ap (λ (one : State). one.containers) e,
+    ap (λ (one : State). one.dedicated) e,
     (
-      ap (λ (one : State). one.buffers) e,
+      ap (λ (one : State). one.containers) e,
       (
-        ap (λ (one : State). one.streams) e,
+        ap (λ (one : State). one.buffers) e,
         (
-          ap (λ (one : State). one.records) e,
+          ap (λ (one : State). one.streams) e,
           (
-            ap (λ (one : State). one.place) e,
+            ap (λ (one : State). one.records) e,
             (
-              ap (λ (one : State). one.waiting) e,
+              ap (λ (one : State). one.place) e,
               (
-                ap (λ (one : State). one.areas) e,
+                ap (λ (one : State). one.waiting) e,
                 (
-                  ap (λ (one : State). one.archive) e,
+                  ap (λ (one : State). one.areas) e,
                   (
-                    ap (λ (one : State). one.maximum) e,
+                    ap (λ (one : State). one.archive) e,
                     (
-                      ap (λ (one : State). one.minimum) e,
+                      ap (λ (one : State). one.maximum) e,
                       (
-                        ap (λ (one : State). one.growth) e,
-                        (ap (λ (one : State). one.automatic) e, ap (λ (one : State). one.broken) e),
+                        ap (λ (one : State). one.minimum) e,
+                        (
+                          ap (λ (one : State). one.growth) e,
+                          (ap (λ (one : State). one.automatic) e, ap (λ (one : State). one.broken) e),
+                        ),
                       ),
                     ),
                   ),
@@ -306,10 +310,10 @@ parts_of_state a b e = (
 )
 
 abbrev pub same_state : (a b : State) → Decision (a ≡ b)
-same_state a b = like (state_of_parts a b) (parts_of_state a b) (both (same_shape a.shape b.shape)
+same_state a b = like (state_of_parts a b) (parts_of_state a b) (both (same_shape a.shape b.shape) (both (alike a.dedicated b.dedicated)
     (both (equal a.containers b.containers) (both (equal a.buffers b.buffers)
     (both (same_lists same_stream a.streams b.streams) (both (same_lists same_entry a.records b.records)
     (both (same_place a.place b.place) (both (same_numbers a.waiting b.waiting)
     (both (same_lists same_area a.areas b.areas) (both (same_number_options a.archive b.archive)
     (both (same_number_options a.maximum b.maximum) (both (same_number_options a.minimum b.minimum)
-    (both (same_number_options a.growth b.growth) (both (alike a.automatic b.automatic) (alike a.broken b.broken))))))))))))))
+    (both (same_number_options a.growth b.growth) (both (alike a.automatic b.automatic) (alike a.broken b.broken)))))))))))))))

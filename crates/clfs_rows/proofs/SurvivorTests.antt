@@ -109,32 +109,34 @@ has_bases_of_request (asks client (calls.Advance area lsn)) s s2 x = implies (ha
 has_bases_of_request _ s s2 x = always
 
 abbrev SurvivorParts : Request → State → State → State → Type 0
-SurvivorParts asked s s2 x = (x.shape ≡ s.shape) × (IsSurvivingPlace s s2 x × ((x.records ≡ records_below x.place s2.records)
+SurvivorParts asked s s2 x = (x.shape ≡ s.shape) × ((x.dedicated ≡ s.dedicated) × (IsSurvivingPlace s s2 x × ((x.records ≡ records_below x.place s2.records)
     × ((HasSettings s x ⊎ HasSettings s2 x) × ((HasMore x.records s → HasSettings s2 x)
     × (((stream : ℕ) → (base_of x stream ≡ base_of s stream) ⊎ (base_of x stream ≡ base_of s2 stream))
-    × (HasBasesOfRequest asked s s2 x × ((x.areas ≡ []) × ((x.waiting ≡ []) × (x.broken ≡ false)))))))))
+    × (HasBasesOfRequest asked s s2 x × ((x.areas ≡ []) × ((x.waiting ≡ []) × (x.broken ≡ false))))))))))
 
 pub survivor_of_parts : (asked : Request) (s s2 x : State) → SurvivorParts asked s s2 x → IsSurvivor asked s s2 x
 survivor_of_parts asked s s2 x p = record {
   shape = p.0;
-  place = p.1.0;
-  records = p.1.1.0;
-  settings = p.1.1.1.0;
-  new_settings = p.1.1.1.1.0;
-  bases = p.1.1.1.1.1.0;
-  bases_of_request = p.1.1.1.1.1.1.0;
-  no_areas = p.1.1.1.1.1.1.1.0;
-  nothing_waits = p.1.1.1.1.1.1.1.1.0;
-  whole = p.1.1.1.1.1.1.1.1.1;
+  dedicated = p.1.0;
+  place = p.1.1.0;
+  records = p.1.1.1.0;
+  settings = p.1.1.1.1.0;
+  new_settings = p.1.1.1.1.1.0;
+  bases = p.1.1.1.1.1.1.0;
+  bases_of_request = p.1.1.1.1.1.1.1.0;
+  no_areas = p.1.1.1.1.1.1.1.1.0;
+  nothing_waits = p.1.1.1.1.1.1.1.1.1.0;
+  whole = p.1.1.1.1.1.1.1.1.1.1;
 }
 
 pub parts_of_survivor : (asked : Request) (s s2 x : State) → IsSurvivor asked s s2 x → SurvivorParts asked s s2 x
 parts_of_survivor asked s s2 x h =
-    (h.shape, (h.place, (h.records, (h.settings, (h.new_settings, (h.bases, (h.bases_of_request, (h.no_areas, (h.nothing_waits, h.whole)))))))))
+    (h.shape, (h.dedicated, (h.place, (h.records, (h.settings, (h.new_settings, (h.bases, (h.bases_of_request, (h.no_areas, (h.nothing_waits, h.whole))))))))))
 
 abbrev pub is_survivor : (asked : Request) (s s2 x : State) → Decision (IsSurvivor asked s s2 x)
 is_survivor asked s s2 x = like (survivor_of_parts asked s s2 x) (parts_of_survivor asked s s2 x)
     (both (same_shape x.shape s.shape)
+    (both (alike x.dedicated s.dedicated)
     (both (surviving_place s s2 x)
     (both (same_lists same_entry x.records (records_below x.place s2.records))
     (both (either (has_settings s x) (has_settings s2 x))
@@ -143,7 +145,7 @@ is_survivor asked s s2 x = like (survivor_of_parts asked s s2 x) (parts_of_survi
     (both (has_bases_of_request asked s s2 x)
     (both (same_lists same_area x.areas [])
     (both (same_numbers x.waiting [])
-    (alike x.broken false))))))))))
+    (alike x.broken false)))))))))))
 
 -- of a line, where nothing else happens
 abbrev pub is_survivor_of_line : (s : State) (line : List ℕ) (x : State) → Decision (SurvivesLine s line x)

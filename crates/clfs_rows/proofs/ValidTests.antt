@@ -1,5 +1,5 @@
 -- Tests that decide whether a state is one that a log can be in.
-use Rattle.std.proofs.Common.{◌≡◌, ◌⊎◌, ℕ, ◌+◌, ◌*◌, ◌%◌, ◌<◌, ◌≤◌, List, length, arith}
+use Rattle.std.proofs.Common.{◌≡◌, ◌⊎◌, ℕ, true, ◌+◌, ◌*◌, ◌%◌, ◌<◌, ◌≤◌, List, length, arith}
 use Rattle.std.specs.Prelude.{◌≢◌, All, AllPairs, IsSome, IfSome, map, slice_index}
 use Rattle.std.specs.List.{range_with_len}
 use Rattle.std.specs.List.Sorted.{IsStrictlyIncreasing}
@@ -21,7 +21,7 @@ use Rattle.clfs_model.specs.Space.{free, reserved}
 use Rattle.clfs_model.specs.Flush.{flushed, block_start}
 use Rattle.clfs_model.specs.Reading.{entry_at}
 use Rattle.clfs_model.specs.Valid.{HasRanges, HasPolicies, AreDifferentAreas, IsArea, HasTables, IsRecord, open_sequences, HasRecords, HasStable, IsWaiting, HasWaiting, HasSpace, IsValid}
-use Rattle.clfs_rows.proofs.Decisions.{Decision, like, both, either, implies, refuted, equal, less, at_most, each, each_two, each_below, is_there, where_some}
+use Rattle.clfs_rows.proofs.Decisions.{Decision, like, both, either, implies, refuted, alike, equal, less, at_most, each, each_two, each_below, is_there, where_some}
 use Rattle.clfs_rows.proofs.SameStates.{same_numbers, same_kinds}
 
 abbrev IsShapeParts : Shape → Type 0
@@ -160,23 +160,25 @@ is_area_of s area = like (is_area_of_of_parts s area) (parts_of_is_area_of s are
     (each_two (λ (a b : Cursor). refuted (equal a.number b.number)) area.cursors)))
 
 abbrev HasTablesParts : State → Type 0
-HasTablesParts s = (AllPairs (λ (a b : Stream). a.name ≢ b.name) s.streams) × ((AllPairs AreDifferentAreas s.areas) × (All (IsArea s) s.areas))
+HasTablesParts s = (AllPairs (λ (a b : Stream). a.name ≢ b.name) s.streams) × ((AllPairs AreDifferentAreas s.areas) ×
+    ((All (IsArea s) s.areas) × (s.dedicated ≡ true → length s.streams ≤ 1)))
 
 pub has_tables_of_parts : (s : State) → HasTablesParts s → HasTables s
 has_tables_of_parts s p = record {
   names = p.0;
   numbers = p.1.0;
-  areas = p.1.1;
+  areas = p.1.1.0;
+  dedicated = p.1.1.1;
 }
 
 pub parts_of_has_tables : (s : State) → HasTables s → HasTablesParts s
-parts_of_has_tables s h = (h.names, (h.numbers, h.areas))
+parts_of_has_tables s h = (h.names, (h.numbers, (h.areas, h.dedicated)))
 
 abbrev pub has_tables : (s : State) → Decision (HasTables s)
 has_tables s = like (has_tables_of_parts s) (parts_of_has_tables s)
     (both (each_two (λ (a b : Stream). refuted (same_numbers a.name b.name)) s.streams)
     (both (each_two (λ (a b : Area). either (refuted (equal a.client b.client)) (refuted (equal a.number b.number))) s.areas)
-    (each (is_area_of s) s.areas)))
+    (both (each (is_area_of s) s.areas) (implies (alike s.dedicated true) (at_most (length s.streams) 1)))))
 
 abbrev IsRecordParts : State → LogEntry → Type 0
 IsRecordParts s entry = (IsSome (stream_at s entry.stream)) × ((null_lsn < entry.lsn) ×

@@ -1,5 +1,5 @@
 -- Logs and places that rows begin with, some of which only a long script comes to.
-use Rattle.std.specs.Prelude.{ℕ, ◌+◌, ◌*◌, [], ◌∷◌, ◌++◌, map, codes}
+use Rattle.std.specs.Prelude.{ℕ, ◌+◌, ◌*◌, true, [], ◌∷◌, ◌++◌, map, codes}
 use Rattle.std.specs.List.{range_with_len}
 use Rattle.std.specs.Fmt.{decimal}
 use Rattle.clfs_lsn.specs.Lsn.{null_lsn, lsn_number}
@@ -17,6 +17,10 @@ abbrev pub streams_of : ℕ → State
 streams_of count = record worked {
   streams = map (λ n. record { name = codes "s" ++ decimal n; base = null_lsn }) (range_with_len 1 count);
 }
+
+-- the same log as a dedicated one
+abbrev pub dedicated : State → State
+dedicated log = record log { dedicated = true }
 
 -- an empty record of the first stream in the first block
 abbrev pub empty_record : ℕ → LogEntry

@@ -75,6 +75,7 @@ pub fn settings_that_a_crash_leaves()
     ensures not_with_another_minimum { ¬ SurvivesLine flushed_log (codes "1 open b") (record (cut flushed_log) { minimum = Some 2 }) }
     ensures not_with_another_growth { ¬ SurvivesLine flushed_log (codes "1 open b") (record (cut flushed_log) { growth = Some 1 }) }
     ensures not_with_growth_by_itself { ¬ SurvivesLine flushed_log (codes "1 open b") (record (cut flushed_log) { automatic = true }) }
+    ensures not_as_a_dedicated_log { ¬ SurvivesLine flushed_log (codes "1 open b") (record (cut flushed_log) { dedicated = true }) }
     ensures not_some_of_each { ¬ IsSurvivor (line_request (codes "1 open b")) flushed_log
         (record (state_behind flushed_log (codes "1 open b")) { containers = 3 })
         (record (cut flushed_log) { containers = 3 }) }

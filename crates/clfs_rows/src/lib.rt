@@ -8,6 +8,7 @@
 mod archive;
 mod bases_and_recycling;
 mod crashes;
+mod dedicated_logs;
 mod disk_and_memory;
 mod faults;
 mod heads;
@@ -37,6 +38,7 @@ pub use crashes::{
     places_that_a_crash_leaves, records_that_a_crash_leaves, settings_that_a_crash_leaves,
     what_else_a_crash_leaves,
 };
+pub use dedicated_logs::{refusals_of_opening, the_stream_of_a_dedicated_log};
 pub use disk_and_memory::{calls_that_leave_the_disk_alone, calls_that_reach_the_disk};
 pub use faults::{texts_of_faults, what_a_broken_log_answers, what_a_fault_leaves};
 pub use heads::{hold_and_extents_by_heads, live_heads_of_streams, reading_by_heads};

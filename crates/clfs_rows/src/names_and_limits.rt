@@ -6,7 +6,7 @@ ghost use Rattle.clfs_model.specs.Conditions.{IsClient, HasArguments};
 ghost use Rattle.clfs_rows.specs.Filled.{streams_of};
 ghost use Rattle.clfs_rows.specs.Worked.{worked, answers_to, ◌⟹◌, IsDialogue, opening, zeros, append_of_zeros};
 
-/// A name has 1 to 32 bytes, each a letter, a digit, `_`, `-` or `.`; the first wrong byte is told, or the place behind the longest
+/// A name has 1 to 64 bytes, each a letter, a digit, `_`, `-` or `.`; the first wrong byte is told, or the place behind the longest
 /// name.
 pub fn names_of_streams()
     ensures bytes_of_a_name { IsDialogue worked (
@@ -24,12 +24,13 @@ pub fn names_of_streams()
         ∷ codes "1 open AB" ⟹ codes "1 stream 3"
         ∷ []) }
     ensures longest_name { IsDialogue worked (
-        codes "1 open abcdefghijklmnopqrstuvwxyz012345" ⟹ codes "1 stream 1"
-        ∷ codes "1 open abcdefghijklmnopqrstuvwxyz0123456" ⟹ codes "1 refused 16 NameInvalid 32"
-        ∷ codes "1 open abcdefghijklmnopqrstuvwxyz012345:" ⟹ codes "1 refused 16 NameInvalid 32"
-        ∷ codes "1 open abcdefghijklmnopqrstuvwxyz0123456789::" ⟹ codes "1 refused 16 NameInvalid 32"
-        ∷ codes "1 open abcde:ghijklmnopqrstuvwxyz0123456" ⟹ codes "1 refused 16 NameInvalid 5"
-        ∷ codes "1 open abcdefghijklmnopqrstuvwxyz01234:" ⟹ codes "1 refused 16 NameInvalid 31"
+        codes "1 open abcdefghijklmnopqrstuvwxyzABCDEFGHIJKLMNOPQRSTUVWXYZ0123456789_-" ⟹ codes "1 stream 1"
+        ∷ codes "1 open abcdefghijklmnopqrstuvwxyzABCDEFGHIJKLMNOPQRSTUVWXYZ0123456789_-." ⟹ codes "1 refused 16 NameInvalid 64"
+        ∷ codes "1 open abcdefghijklmnopqrstuvwxyzABCDEFGHIJKLMNOPQRSTUVWXYZ0123456789_-:" ⟹ codes "1 refused 16 NameInvalid 64"
+        ∷ codes "1 open abcdefghijklmnopqrstuvwxyzABCDEFGHIJKLMNOPQRSTUVWXYZ0123456789_-....::" ⟹ codes "1 refused 16 NameInvalid 64"
+        ∷ codes "1 open abcde:ghijklmnopqrstuvwxyzABCDEFGHIJKLMNOPQRSTUVWXYZ0123456789_-." ⟹ codes "1 refused 16 NameInvalid 5"
+        ∷ codes "1 open abcdefghijklmnopqrstuvwxyzABCDEFGHIJKLMNOPQRSTUVWXYZ0123456789_:" ⟹ codes "1 refused 16 NameInvalid 63"
+        ∷ codes "1 open abcdefghijklmnopqrstuvwxyz0123456789" ⟹ codes "1 stream 2"
         ∷ []) }
     ensures empty_name { name_fault [] ≡ Some 0 }
     ensures bytes_above_127 { answers_to worked (codes "1 open a" ++ 233 ∷ codes "\n") ≡ codes "1 refused 16 NameInvalid 1\n" }
@@ -42,19 +43,19 @@ pub fn names_of_streams()
         ∷ []) }
 {}
 
-/// A log has 128 streams; those that are there can still be opened.
+/// A log has 192 streams; those that are there can still be opened.
 pub fn limit_of_streams()
-    ensures the_129th { IsDialogue (streams_of 128) (
-        codes "1 open s128" ⟹ codes "1 stream 128"
+    ensures the_193rd { IsDialogue (streams_of 192) (
+        codes "1 open s192" ⟹ codes "1 stream 192"
         ∷ codes "1 open s1" ⟹ codes "1 stream 1"
-        ∷ codes "1 open t" ⟹ codes "1 refused 13 StreamLimit 128"
+        ∷ codes "1 open t" ⟹ codes "1 refused 13 StreamLimit 192"
         ∷ codes "1 open a:b" ⟹ codes "1 refused 16 NameInvalid 1"
-        ∷ codes "1 area 128 960 1" ⟹ codes "1 area 1"
-        ∷ codes "1 area 129 960 1" ⟹ codes "1 refused 9 NoSuchStream"
+        ∷ codes "1 area 192 960 1" ⟹ codes "1 area 1"
+        ∷ codes "1 area 193 960 1" ⟹ codes "1 refused 9 NoSuchStream"
         ∷ []) }
-    ensures the_128th { IsDialogue (streams_of 127) (
-        codes "1 open t" ⟹ codes "1 stream 128"
-        ∷ codes "1 open u" ⟹ codes "1 refused 13 StreamLimit 128"
+    ensures the_192nd { IsDialogue (streams_of 191) (
+        codes "1 open t" ⟹ codes "1 stream 192"
+        ∷ codes "1 open u" ⟹ codes "1 refused 13 StreamLimit 192"
         ∷ []) }
 {}
 

@@ -56,12 +56,12 @@ pub fn places_that_files_hold()
 
 /// Names are legal, and streams and areas are no more than there can be.
 pub fn streams_and_areas_within_limits()
-    ensures a_longest_name { IsStorable (stream_named (replicate 32 97)) }
-    ensures no_longer_name { ¬ IsStorable (stream_named (replicate 33 97)) }
+    ensures a_longest_name { IsStorable (stream_named (replicate 64 97)) }
+    ensures no_longer_name { ¬ IsStorable (stream_named (replicate 65 97)) }
     ensures no_empty_name { ¬ IsStorable (stream_named []) }
     ensures no_name_with_another_byte { ¬ IsStorable (stream_named (codes "a:b")) }
-    ensures the_most_streams { IsStorable (streams_of 128) }
-    ensures no_more_streams { ¬ IsStorable (streams_of 129) }
+    ensures the_most_streams { IsStorable (streams_of 192) }
+    ensures no_more_streams { ¬ IsStorable (streams_of 193) }
     ensures the_most_areas { IsStorable (with_areas (record an_area { client = 2 } ∷ replicate 16 an_area) worked) }
     ensures no_more_areas_of_a_client { ¬ IsStorable (with_areas (record an_area { client = 2 } ∷ replicate 17 an_area) worked) }
     ensures the_last_client { IsStorable (with_areas (record an_area { client = 64 } ∷ []) worked) }

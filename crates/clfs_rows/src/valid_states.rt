@@ -1,12 +1,12 @@
 // The states that a log can be in.
-ghost use Rattle.std.specs.Prelude.{[], ◌∷◌, Some, codes, take};
+ghost use Rattle.std.specs.Prelude.{[], ◌∷◌, Some, codes, take, true};
 ghost use Rattle.clfs_lsn.specs.Lsn.{null_lsn, lsn_number};
 ghost use Rattle.clfs_model.specs.declared.call.Mode.TheVariants.{Forward};
 ghost use Rattle.clfs_model.specs.declared.state.CursorKind.TheVariants.{Records};
 ghost use Rattle.clfs_model.specs.State.{log_of};
 ghost use Rattle.clfs_model.specs.Valid.{IsValid};
 ghost use Rattle.clfs_rows.specs.Worked.{worked, opened_log};
-ghost use Rattle.clfs_rows.specs.Filled.{empty_record};
+ghost use Rattle.clfs_rows.specs.Filled.{empty_record, streams_of};
 ghost use Rattle.clfs_rows.specs.Crashes.{closed_at, with_base, waiting_log, long_log};
 ghost use Rattle.clfs_rows.specs.Compared.{two_containers, with_one_changed, with_link_to_itself};
 ghost use Rattle.clfs_rows.specs.Arranged.{arranged_log, an_area, with_areas, with_cursors, cursor_at, with_place, with_records, empty_restart, open_log, block_of};
@@ -53,7 +53,7 @@ pub fn policies_in_their_ranges()
 {}
 
 /// Streams have different names, areas of one client different numbers, and cursors of one area too. An area is on a stream that is
-/// there, with records that fit a block.
+/// there, with records that fit a block. A dedicated log has at most one stream.
 pub fn tables_of_a_log()
     ensures different_names { ¬ IsValid (record worked {
       streams = record { name = codes "a"; base = null_lsn } ∷ record
@@ -66,6 +66,9 @@ pub fn tables_of_a_log()
     ensures an_areas_largest_record { ¬ IsValid (with_areas (record an_area { largest = 961 } ∷ []) opened_log) }
     ensures different_numbers_of_cursors { ¬ IsValid (with_cursors (cursor_at 1 (Records Forward) (lsn_number 1 0 0) ∷ cursor_at 1 (Records Forward)
         (lsn_number 1 0 0) ∷ []) arranged_log) }
+    ensures one_stream_of_a_dedicated_log { IsValid (record (streams_of 1) { dedicated = true }) }
+    ensures two_streams_of_another { IsValid (streams_of 2) }
+    ensures no_two_streams_of_a_dedicated_log { ¬ IsValid (record (streams_of 2) { dedicated = true }) }
 {}
 
 /// LSNs rise from above null to below the place, links point down, and the open block has the records that the place says.

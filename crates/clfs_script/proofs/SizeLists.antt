@@ -1,8 +1,7 @@
 -- Sizes read one after the other.
-use Rattle.std.proofs.Common.{◌≡◌, ℕ, suc, List, [], ◌∷◌, ◌++◌, Result, Ok, Err, Option, Some, None, refl, sym, ◌∙◌, ap, append_assoc, append-nil, inl, inr}
-use Rattle.std.specs.Prelude.{◌⊎◌}
+use Rattle.std.proofs.Common.{◌≡◌, ℕ, suc, List, [], ◌∷◌, ◌++◌, Result, Ok, Err, Option, Some, None, refl, sym, ◌∙◌, ap, append_assoc}
 use Rattle.std.specs.Result.{IsErrAnd}
-use Rattle.clfs_model.specs.Script.{words_from, ◌>>=◌, Word, Rest, Read, word_at, long_word, sizes_at, sizes_up_to, last_of}
+use Rattle.clfs_model.specs.Script.{words_from, ◌>>=◌, Word, Rest, Read, word_at, long_word, sizes_up_to}
 use Rattle.clfs_script.specs.Asked.{rest_of, Answers, Reads}
 use Rattle.clfs_text.specs.Left.{Left}
 use Rattle.clfs_script.specs.declared.line.LineRefusal.{LineRefusal}
@@ -63,12 +62,6 @@ pub size_more : (room n : ℕ) (words : List Word) (end : ℕ) (rest : Rest) →
 size_more room n [] end rest read = absurd (cc)
 size_more room n (w ∷ words) end rest read = read_value room n w words end rest (long_word w.bytes) refl read
 
--- the first size was read
-pub size_first : (n : ℕ) (words : List Word) (end : ℕ) (rest : Rest) → word_at long_word words end ≡ Ok (record { value = n; rest = rest })
-    → sizes_at words end ≡ behind (n ∷ []) (sizes_up_to 15 rest.words)
-size_first n [] end rest read = absurd (cc)
-size_first n (w ∷ words) end rest read = size_more 15 n (w ∷ words) end rest read
-
 -- a word is no size
 bad_value : (room at : ℕ) (w : Word) (words : List Word) (end : ℕ) (value : Option ℕ) → long_word w.bytes ≡ value
     → word_at long_word (w ∷ words) end ≡ Err at → sizes_up_to (suc room) (w ∷ words) ≡ Err at
@@ -80,27 +73,12 @@ pub size_bad : (room at : ℕ) (words : List Word) (end : ℕ) → (words ≡ []
 size_bad room at [] end some read = absurd (some refl)
 size_bad room at (w ∷ words) end some read = bad_value room at w words end (long_word w.bytes) refl read
 
--- no word is a first size
-pub first_bad : (at : ℕ) (words : List Word) (end : ℕ) → word_at long_word words end ≡ Err at → sizes_at words end ≡ Err at
-first_bad at [] end read = same_place end at read
-first_bad at (w ∷ words) end read = bad_value 15 at w words end (long_word w.bytes) refl read
-
 -- one size more behind others
 pub sizes_step : (whole : Result (List ℕ) ℕ) (lengths : List ℕ) (room n : ℕ) (words : List Word) (end : ℕ) (rest : Rest)
     → whole ≡ behind lengths (sizes_up_to (suc room) words) → word_at long_word words end ≡ Ok (record { value = n; rest = rest })
     → whole ≡ behind (lengths ++ n ∷ []) (sizes_up_to room rest.words)
 sizes_step whole lengths room n words end rest so_far read =
     so_far ∙ ap (behind lengths) (size_more room n words end rest read) ∙ sym (behind_more lengths n (sizes_up_to room rest.words))
-
--- the line ends behind the sizes, or goes on where no more are allowed
-pub sizes_end : (result : Result (List ℕ) LineRefusal) (lengths : List ℕ) (room : ℕ) (words : List Word) → (room ≡ 0) ⊎ (words ≡ [])
-    → Answers result (last_of lengths words) → Answers result (behind lengths (sizes_up_to room words))
-sizes_end (Err NoMemory) lengths room words stop last = tt
-sizes_end (Ok x) lengths room [] stop last = ap Ok (append-nil lengths) ∙ last
-sizes_end (Ok x) lengths room (w ∷ words) stop last = absurd (cc)
-sizes_end (Err (BadLine at)) lengths room [] stop last = absurd (cc)
-sizes_end (Err (BadLine at)) lengths room (w ∷ words) (inl none) last = rw none last
-sizes_end (Err (BadLine at)) lengths room (w ∷ words) (inr empty) last = absurd (cc)
 
 -- a word that is no size behind sizes
 pub sizes_stop : (result : Result (List ℕ) LineRefusal) (read : Result ℕ LineRefusal) (e : LineRefusal) (whole : Result (List ℕ) ℕ) (lengths :

@@ -16,6 +16,3 @@ mod writing;
 pub use line::{Language, LineRefusal, Request, ScriptLine};
 pub use parsing::parse_line;
 pub use writing::write_reply;
-
-#[cfg(test)]
-mod tests;

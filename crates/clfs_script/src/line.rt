@@ -17,7 +17,7 @@ pub enum Language {
 }
 
 /// What a client asks for.
-#[derive(Debug, Drop)]
+#[derive(Drop)]
 pub enum Request {
     /// A call.
     Step(Call),
@@ -26,7 +26,7 @@ pub enum Request {
 }
 
 /// A line of a script.
-#[derive(Debug, Drop)]
+#[derive(Drop)]
 pub struct ScriptLine {
     /// The client, 1 to 64.
     pub client: u16,

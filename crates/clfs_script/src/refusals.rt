@@ -102,5 +102,6 @@ pub(crate) fn push_refusal(refusal: &Refusal, out: &mut Bytes) -> Result<(), All
         Refusal::PolicyConflict { min, max } => push_two(b"26 PolicyConflict ", min, max, out),
         Refusal::PolicyNotInstalled => out.extend_from_slice(b"27 PolicyNotInstalled"),
         Refusal::BadLine { at } => push_number(b"28 BadLine ", at, out),
+        Refusal::Dedicated => out.extend_from_slice(b"29 Dedicated"),
     }
 }

@@ -1,5 +1,4 @@
 // Sizes at the end of a line.
-ghost use Rattle.std.specs.Prelude.{◌≡◌};
 ghost use Rattle.clfs_model.specs.Script.{sizes};
 ghost use Rattle.clfs_script.specs.Asked.{rest_of, Answers};
 

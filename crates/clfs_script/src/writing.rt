@@ -3,7 +3,7 @@ ghost use Rattle.std.specs.Prelude.{◌≡◌, ◌≤◌, ◌++◌, ℕ, List, O
 ghost use Rattle.std.specs.List.{flat_map};
 ghost use Rattle.clfs_lsn.specs.Words.{lsn_text};
 ghost use Rattle.clfs_model.specs.declared.reply.Reply.TheVariants.{Placed, Found};
-ghost use Rattle.clfs_model.specs.Text.{kind_text, entry_text, extent_text, archive_text, info_space_text, info_lsns_text, info_text, refusal_text, reply_text, reply_line};
+ghost use Rattle.clfs_model.specs.Text.{kind_text, entry_text, extent_text, archive_text, info_space_text, info_lsns_text, info_text, reply_text, reply_line};
 
 use crate::refusals::push_refusal;
 use clfs_lsn::{Bytes, Kind, LogEntry, Lsn};

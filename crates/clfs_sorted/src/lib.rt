@@ -8,6 +8,3 @@
 mod row;
 
 pub use row::{HasLsn, forget_below, place_of};
-
-#[cfg(test)]
-mod tests;

@@ -1,9 +1,9 @@
 // The laws of free sectors, over every shape, place, hold and number of containers.
-ghost use Rattle.std.specs.Prelude.{◌≡◌, ◌+◌, ◌-◌, ◌^◌, ◌≤◌, ◌<◌, ℕ, false, Some, None};
+ghost use Rattle.std.specs.Prelude.{◌≡◌, ◌-◌, ◌^◌, ◌≤◌, ◌<◌, ℕ, false, Some, None};
 ghost use Rattle.clfs_lsn.specs.Limits.{most_containers};
 ghost use Rattle.clfs_lsn.specs.declared.place.Place.{Place};
 ghost use Rattle.clfs_lsn.specs.declared.shape.Shape.{Shape};
-ghost use Rattle.clfs_lsn.specs.Size.{IsShape, own};
+ghost use Rattle.clfs_lsn.specs.Size.{own};
 ghost use Rattle.clfs_lsn.specs.Place.{IsWithin, joins, begins_here, place_after, sealed};
 ghost use Rattle.clfs_lsn.specs.Space.{active_containers, free_sectors, growth, least_containers};
 ghost use Rattle.clfs_space.specs.Appending.{HasRoom};

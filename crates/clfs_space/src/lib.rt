@@ -23,6 +23,3 @@ pub use laws::{
     least_containers_are_the_fewest_that_are_enough, more_containers_or_a_later_hold_free_no_less,
     sealing_keeps_the_free_sectors, space_laws,
 };
-
-#[cfg(test)]
-mod tests;

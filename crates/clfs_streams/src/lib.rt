@@ -9,6 +9,3 @@
 mod streams;
 
 pub use streams::Streams;
-
-#[cfg(test)]
-mod tests;

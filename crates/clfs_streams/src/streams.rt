@@ -1,10 +1,10 @@
 // The rows, by name and by number.
-ghost use Rattle.std.specs.Prelude.{◌≡◌, ◌≢◌, ℕ, ◌+◌, ◌^◌, ◌<◌, ◌≤◌, List, [], ◌∷◌, ◌++◌, None, length, AllPairs, option_copied, OnOk, OnErr};
+ghost use Rattle.std.specs.Prelude.{◌≡◌, ◌≢◌, ◌+◌, ◌^◌, ◌<◌, ◌≤◌, [], ◌∷◌, ◌++◌, None, length, AllPairs, option_copied, OnOk};
 ghost use Rattle.std.specs.Option.{option_map};
 ghost use Rattle.clfs_lsn.specs.Lsn.{null_lsn};
 ghost use Rattle.clfs_model.specs.declared.state.State.{State};
 ghost use Rattle.clfs_model.specs.declared.state.Stream.{Stream};
-ghost use Rattle.clfs_model.specs.State.{stream_at, base_of, set_base};
+ghost use Rattle.clfs_model.specs.State.{stream_at, set_base};
 ghost use Rattle.clfs_model.specs.Refusals.{stream_number, stream_number_from};
 
 use clfs_lsn::{Lsn, Name};
@@ -56,7 +56,7 @@ impl Streams {
         Some(place as u16 + 1)
     }
 
-    /// The name of the stream of a number.
+    /// The name of the stream of a number. The log finds streams by their names and asks for none; tests do.
     pub fn name(&self, number: u16) -> Option<&[u8]>
         ensures { (s : State) → s.streams ≡ self.now.streams → option_copied result ≡ option_map (λ (stream : Stream). stream.name) (stream_at s number) }
     {

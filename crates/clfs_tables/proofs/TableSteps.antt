@@ -240,9 +240,6 @@ pub record Forgets (lsn : ℕ) (old new : StreamRow) : Type 0 where
   pub index : IsKept lsn old.index.heads new.index.heads
   pub restarts : IsKept lsn old.restarts.heads new.restarts.heads
 
-pub forgets_none : (lsn : ℕ) (row : StreamRow) → Forgets lsn row row
-forgets_none lsn row = record { index_base = refl; restarts_base = refl; index = all_kept lsn row.index.heads; restarts = all_kept lsn row.restarts.heads }
-
 pub forgets_more : (lsn : ℕ) (old mid new : StreamRow) → Forgets lsn old mid → Forgets lsn mid new → Forgets lsn old new
 forgets_more lsn old mid new first more = record {
   index_base = more.index_base ∙ first.index_base;

@@ -115,7 +115,3 @@ heads_before heads i head rising inside read = λ k d within.
     let less = rising k i d before inside in
     let own : head ≡ get_or heads i d = read ∙ get_or_default heads i head d inside in
     rw (get_or-take i heads k d before, own) less
-
--- one head more
-pub heads_more : (heads : List Head) (i : ℕ) (head : Head) → i < length heads → head ≡ get_or heads i head → take i heads ++ head ∷ [] ≡ take (i + 1) heads
-heads_more heads i head inside read = sym (take_more heads i head inside ∙ ap (λ (h : Head). take i heads ++ h ∷ []) (sym read))

@@ -14,6 +14,3 @@ mod tables;
 
 pub use opening::open_tables;
 pub use tables::Tables;
-
-#[cfg(test)]
-mod tests;

@@ -1,7 +1,7 @@
 // The tables of the records of all streams, joined. What a search of the log asks for is answered here by searches of sorted rows, in terms of
 // the heads of all records. Heads are forgotten below an LSN below which nothing is live: a link that leads there leads nowhere, and
 // reading forward from there begins at the first live record, so no answer needs them. The list of all heads is told and not kept.
-ghost use Rattle.std.specs.Prelude.{◌≡◌, ◌≢◌, ℕ, ◌+◌, ◌-◌, ◌^◌, ◌<◌, ◌≤◌, List, [], ◌∷◌, ◌++◌, length, All, Option, Some, None, OnOk, slice_get, slice_index};
+ghost use Rattle.std.specs.Prelude.{◌≡◌, ◌+◌, ◌-◌, ◌^◌, ◌<◌, ◌≤◌, [], ◌∷◌, ◌++◌, length, All, Option, Some, None, OnOk, slice_get, slice_index};
 ghost use Rattle.std.specs.Option.{option_map};
 ghost use Rattle.clfs_lsn.specs.Lsn.{null_lsn};
 ghost use Rattle.clfs_lsn.specs.Place.{IsSmall, frontier};

@@ -1,4 +1,4 @@
-//! How far back the log is still needed: the hold and the containers in use.
+//! How far back the log is still needed: the hold.
 //!
 //! The hold is the least of the LSNs of all live records and, with archiving on, the archive tail; where there is none of them it is
 //! the frontier. The definitions filter one list of all records. Here each stream's first live LSN is kept, since the least of a
@@ -18,6 +18,3 @@ mod tree;
 
 pub use laws::first_live_lsns_give_the_hold;
 pub use tail::LogTail;
-
-#[cfg(test)]
-mod tests;

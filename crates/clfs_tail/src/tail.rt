@@ -1,7 +1,6 @@
 // The first live LSNs of the streams, and what they hold back.
-ghost use Rattle.std.specs.Prelude.{◌≡◌, ◌≢◌, All, ℕ, ◌+◌, ◌-◌, ◌^◌, ◌<◌, ◌≤◌, List, [], ◌∷◌, ◌++◌, Option, None, Some, is_some, if◌then◌else◌, length, slice_set, slice_index_or, OnOk};
+ghost use Rattle.std.specs.Prelude.{◌≡◌, ◌≢◌, All, ℕ, ◌+◌, ◌-◌, ◌<◌, ◌≤◌, List, [], ◌∷◌, ◌++◌, Option, None, Some, is_some, if◌then◌else◌, length, slice_set, slice_index_or, OnOk};
 ghost use Rattle.clfs_lsn.specs.Place.{IsSmall, frontier};
-ghost use Rattle.clfs_lsn.specs.Space.{active_containers};
 ghost use Rattle.clfs_lsn.specs.declared.entry.Head.{Head};
 ghost use Rattle.clfs_model.specs.Heads.{hold_of};
 ghost use Rattle.clfs_tail.specs.Firsts.{first_live, AreFirsts, hold_among};
@@ -102,15 +101,5 @@ impl LogTail {
         ensures hold { (bases : ℕ → ℕ) (heads : List Head) → AreFirsts self.now.firsts bases heads → result ≡ hold_of (frontier place.now) archive bases heads }
     {
         lesser(archive, least_at(&self.nodes, 0)).unwrap_or(frontier(place))
-    }
-
-    /// The number of containers in use, from the hold's to the place's. Ids are numbered from 1, so there are never 2^32 of them.
-    pub fn active(&self, archive: Option<Lsn>, place: &Place) -> u32
-        requires place { IsSmall place.now }
-        requires few { active_containers place.now (hold_among (frontier place.now) archive self.now.firsts) < 2 ^ 32 }
-        ensures { (bases : ℕ → ℕ) (heads : List Head) → AreFirsts self.now.firsts bases heads → result ≡ active_containers place.now (hold_of (frontier place.now) archive bases heads) }
-    {
-        let hold = self.hold(archive, place);
-        place.container.saturating_sub(hold.container()) + 1
     }
 }

@@ -1,5 +1,5 @@
 // The tree of the streams' first live LSNs, in one vector.
-ghost use Rattle.std.specs.Prelude.{◌≡◌, ℕ, ◌+◌, ◌*◌, ◌<◌, length, map, vec_capacity, vec_len};
+ghost use Rattle.std.specs.Prelude.{◌≡◌, ◌+◌, ◌*◌, ◌<◌, length, vec_capacity, vec_len};
 ghost use Rattle.clfs_tail.specs.declared.tree.Node.{Node};
 ghost use Rattle.clfs_tail.specs.Tree.{lesser, least_at, least_below, firsts_of, IsTree, IsTreeBut};
 

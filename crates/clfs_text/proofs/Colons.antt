@@ -45,10 +45,6 @@ no_third None offset = refl
 no_third (Some c) None = refl
 no_third (Some c) (Some o) = refl
 
-no_second : (container sequence : Option ℕ) → lsn_of_numbers container None sequence ≡ None
-no_second None sequence = refl
-no_second (Some c) sequence = refl
-
 -- all three numbers are there
 last_there : (container offset sequence : ℕ) (p o last : List ℕ) → hex_number p ≡ Some container → hex_number o ≡ Some offset
     → hex_number last ≡ Some sequence → (pieces_of last ≡ last ∷ []) ⊎ SeveralPieces last
@@ -73,16 +69,6 @@ first_none piece (o ∷ s ∷ x ∷ more) none = refl
 pub no_container : (word : List ℕ) → LacksNumber word → lsn_of_word word ≡ None
 no_container word (inl one) = rw one refl
 no_container word (inr (piece, more, split, none)) = rw split (first_none piece more none)
-
-second_none : (p piece : List ℕ) (more : List (List ℕ)) → hex_number piece ≡ None → lsn_of_pieces (p ∷ piece ∷ more) ≡ None
-second_none p piece [] none = refl
-second_none p piece (s ∷ []) none = rw none (no_second (hex_number p) (hex_number s))
-second_none p piece (s ∷ x ∷ more) none = refl
-
--- the second number isn't there
-pub no_offset : (container : ℕ) (word behind : List ℕ) → BeginsWithNumber container behind word → LacksNumber behind → lsn_of_word word ≡ None
-no_offset container word behind first (inl one) = rw (first.1, one) refl
-no_offset container word behind first (inr (piece, more, split, none)) = rw (first.1, split) (second_none first.0 piece more none)
 
 last_none : (p o last : List ℕ) → hex_number last ≡ None → (pieces_of last ≡ last ∷ []) ⊎ SeveralPieces last
     → lsn_of_pieces (p ∷ o ∷ pieces_of last) ≡ None

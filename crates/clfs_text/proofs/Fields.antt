@@ -2,12 +2,12 @@
 use Rattle.std.proofs.Common.{◌≡◌, ℕ, ◌+◌, ◌-◌, ◌*◌, ◌^◌, ◌≤◌, ◌<◌, List, [], ◌∷◌, length, get_or, drop, true, false, Option, Some, None, refl, sym, ◌∙◌, ap, arith, inl, inr, drop-cons, add-one}
 use Rattle.std.specs.Prelude.{if◌then◌else◌, ◌&&◌, ◌⊎◌, ◌==◌, nat_le, nat_lt}
 use Rattle.std.specs.Char.{digit_value}
-use Rattle.std.proofs.lemmas.Bool.{cases_Bool, cases_lt, agree_below_at, leb-true, eqb-true, eq-eqb, ne_eqb, lt-ltb, lt-leb, le-leb}
+use Rattle.std.proofs.lemmas.Bool.{cases_Bool, cases_lt, agree_below_at, leb-true, eqb-true, eq-eqb, lt-ltb, lt-leb, le-leb}
 use Rattle.std.proofs.lemmas.List.{drop_all}
 use Rattle.std.proofs.Math.Bool.{and-false}
 use Rattle.clfs_lsn.specs.Words.{is_lower_hex_digit, has_no_leading_zero, hex_number}
 use Rattle.clfs_text.specs.Pieces.{pieces_of, BeginsWithNumber, LacksNumber}
-use Rattle.clfs_text.proofs.Scans.{scan, scan_word, no_number}
+use Rattle.clfs_text.proofs.Scans.{scan, scan_word}
 use Rattle.clfs_text.proofs.Colons.{SeveralPieces, pieces_are, not_digits}
 
 -- the number that digits before a colon make behind those read so far, and what stands behind the colon
@@ -176,23 +176,6 @@ no_first (b ∷ text) some bad = elim (cases_Bool (b == 58)) [
 pub zero_read : (rest behind : List ℕ) → 0 < length rest → get_or rest 0 0 ≡ 58 → behind ≡ drop 1 rest → BeginsWithNumber 0 behind (48 ∷ rest)
 zero_read [] behind some colon back = absurd (omega arith)
 zero_read (b ∷ rest) behind some colon back = (48 ∷ [], rw (colon, back) refl, refl)
-
-leading : (b : ℕ) (piece : List ℕ) → (nat_lt 0 (length (48 ∷ b ∷ piece)) && has_no_leading_zero (48 ∷ b ∷ piece)) ≡ false
-leading b piece =
-    let some : nat_lt 0 (length (48 ∷ b ∷ piece)) ≡ true = lt-ltb 0 (length (48 ∷ b ∷ piece)) (omega arith) in
-    let long : (length (48 ∷ b ∷ piece) == 1) ≡ false = ne_eqb (length (48 ∷ b ∷ piece)) 1 (λ e. omega (arith, e)) in
-    rw (some, long) refl
-
--- a zero before another byte
-pub zero_leads : (rest : List ℕ) → 0 < length rest → (get_or rest 0 0 ≡ 58 → ⊥) → LacksNumber (48 ∷ rest)
-zero_leads [] some other = absurd (omega arith)
-zero_leads (b ∷ rest) some other =
-    elim (cases_Bool (b == 58)) [
-      | inl colon ↦ absurd (other (eqb-true b 58 colon))
-      | inr t ↦
-          let first = first_piece b rest t (pieces_are rest) in
-          inr (48 ∷ b ∷ first.0, first.1, rw first.2 refl, no_number is_lower_hex_digit 16 (2 ^ 32 - 1) (48 ∷ b ∷ first.0) (leading b first.0))
-    ]
 
 -- a text that isn't empty
 pub some_byte : (text : List ℕ) → (length text == 0) ≡ false → 0 < length text

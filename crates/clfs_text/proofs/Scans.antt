@@ -6,7 +6,6 @@ use Rattle.std.specs.List.{list_all}
 use Rattle.std.specs.Str.Parse.{digits_value_after}
 use Rattle.std.proofs.lemmas.Bool.{cases_Bool, lt-ltb, lt-leb, leb-true, leb-false, le-leb, and_parts}
 use Rattle.std.proofs.lemmas.Option.{cond_some}
-use Rattle.std.proofs.lemmas.List.{drop_all}
 use Rattle.std.proofs.Math.Nat.{mul-le-mul_left}
 use Rattle.std.proofs.Math.Bool.{and-false}
 use Rattle.clfs_lsn.specs.Words.{number_of_word, has_no_leading_zero}
@@ -59,19 +58,6 @@ scan_word is_digit base most (b ∷ word) h begins =
       | inr bad ↦ read ∙ rw (bad, parts.0) refl
     ]
 
--- a word that doesn't
-pub no_number : (is_digit : ℕ → Bool) (base most : ℕ) (word : List ℕ) → (nat_lt 0 (length word) && has_no_leading_zero word) ≡ false
-    → number_of_word is_digit base most word ≡ None
-no_number is_digit base most [] begins = refl
-no_number is_digit base most (b ∷ word) begins =
-    let w : List ℕ = b ∷ word in
-    let first : nat_lt 0 (length w) ≡ true = lt-ltb 0 (length w) (omega arith) in
-    let lead : has_no_leading_zero w ≡ false = rw first at begins in
-    elim (cases_Bool (list_all is_digit w)) [
-      | inl good ↦ rw (first, good, lead) refl
-      | inr bad ↦ rw (first, bad) refl
-    ]
-
 -- one digit more
 pub scan_step : (is_digit : ℕ → Bool) (base most value : ℕ) (word : List ℕ) (i : ℕ) → i < length word → is_digit (get_or word i 0) ≡ true
     → value * base + digit_value (get_or word i 0) ≤ most
@@ -79,11 +65,6 @@ pub scan_step : (is_digit : ℕ → Bool) (base most value : ℕ) (word : List �
 scan_step is_digit base most value word i within good small =
     let t : nat_le (value * base + digit_value (get_or word i 0)) most ≡ true = le-leb (value * base + digit_value (get_or word i 0)) most small in
     rw (add-one, drop-cons word i 0, good, t) refl
-
--- a byte that is no digit
-pub scan_bad : (is_digit : ℕ → Bool) (base most value : ℕ) (word : List ℕ) (i : ℕ) → i < length word → is_digit (get_or word i 0) ≡ false
-    → scan is_digit base most value (drop i word) ≡ None
-scan_bad is_digit base most value word i within bad = rw (drop-cons word i 0, bad) refl
 
 -- a digit that makes the number too large
 pub scan_large : (is_digit : ℕ → Bool) (base most value : ℕ) (word : List ℕ) (i : ℕ) → i < length word
@@ -95,11 +76,6 @@ scan_large is_digit base most value word i within large =
       | inl good ↦ rw (drop-cons word i 0, good, t) refl
       | inr bad ↦ rw (drop-cons word i 0, bad) refl
     ]
-
--- the end of a word
-pub scan_end : (is_digit : ℕ → Bool) (base most value : ℕ) (word : List ℕ) (i : ℕ) → length word ≤ i
-    → scan is_digit base most value (drop i word) ≡ Some value
-scan_end is_digit base most value word i past = rw (drop_all i word past) refl
 
 -- a digit's value, where there is one
 pub digit_there : (is_digit : Bool) (value digit : ℕ) → (if is_digit then Some value else None) ≡ Some digit → (is_digit ≡ true) × (value ≡ digit)

@@ -1,5 +1,5 @@
 // How a new lock's seats are made: the first seat at the table stands for all clients, and a seat is cut off for each.
-ghost use Rattle.std.specs.Prelude.{◌≡◌, ◌≤◌, [], ◌∷◌, true, false, Some, length, map, All, is_some, vec_capacity};
+ghost use Rattle.std.specs.Prelude.{◌≡◌, ◌≤◌, [], ◌∷◌, true, false, length, map, All, is_some, vec_capacity};
 ghost use Rattle.clfs_turn.specs.Lists.{is_in, are_distinct};
 ghost use Rattle.clfs_turn.specs.Steps.{other_clients};
 ghost use Rattle.clfs_turn.specs.Views.{at_rest, IsDealt};

@@ -13,6 +13,3 @@ mod writing;
 pub use diary::{Diary, Note, Write};
 pub use joining::two_writers;
 pub use writing::{Lock, Writer, write_all};
-
-#[cfg(test)]
-mod tests;

@@ -2,6 +2,7 @@ use Rattle.std.proofs.Common.{◌≡◌, ◌*◌, ◌≤◌, ℕ, List, ◌++◌
 use Rattle.std.proofs.lemmas.List.{length-take-le}
 use Rattle.std.specs.List.{flat_map}
 use Rattle.clfs_base.specs.declared.layout.Numbers.{Numbers}
+use Rattle.clfs_base.specs.declared.image.BaseImage.{BaseImage}
 use Rattle.clfs_base.specs.declared.image.Row.{Row}
 use Rattle.clfs_base.specs.Layout.{fields}
 use Rattle.clfs_base.specs.Spelling.{numbers_for, filled, field_bytes, number_bytes, spelled_row}
@@ -17,9 +18,9 @@ put_fields-requires c = length-take-le 63 c.args.out.now (omega (arith, c.requir
 pub returns : goal.returns
 returns c =
     let layout = c.args.layout.now in
-    let image = c.args.image.now in
+    let image : BaseImage = record c.args.image.now { version = layout.version } in
     let fits = c.requires.image in
-    let front : c.put_fields.new.out ≡ filled 63 (flat_map field_bytes (fields layout (numbers_for layout image))) =
+    let front : c.put_fields.new.out ≡ filled 63 (flat_map field_bytes (fields layout (numbers_for image))) =
     c.put_fields.ensures ∙ ap (λ (n : Numbers). filled 63 (flat_map field_bytes (fields layout n))) c.numbers_for.ensures in
     let middle : c.put_files.new.out ≡ filled 512 (flat_map number_bytes image.files) =
     c.put_files.ensures ∙ ap (λ (l : List ℕ). filled 512 (flat_map number_bytes l)) c.as_slice.ensures in
@@ -32,5 +33,5 @@ returns c =
     (ap (λ (l : List ℕ). length l) front)
     (ap (λ (l : List ℕ). length l) middle ∙ length-filled 512 (flat_map number_bytes image.files) size)
     ∙ ap (λ (l : List ℕ). l ++ (c.put_files.new.out ++ c.put_rows.new.out)) front
-    ∙ ap (λ (l : List ℕ). filled 63 (flat_map field_bytes (fields layout (numbers_for layout image))) ++ (l ++ c.put_rows.new.out)) middle
-    ∙ ap (λ (l : List ℕ). filled 63 (flat_map field_bytes (fields layout (numbers_for layout image))) ++ (filled 512 (flat_map number_bytes image.files) ++ l)) back
+    ∙ ap (λ (l : List ℕ). filled 63 (flat_map field_bytes (fields layout (numbers_for image))) ++ (l ++ c.put_rows.new.out)) middle
+    ∙ ap (λ (l : List ℕ). filled 63 (flat_map field_bytes (fields layout (numbers_for image))) ++ (filled 512 (flat_map number_bytes image.files) ++ l)) back

@@ -1,10 +1,8 @@
-use Rattle.std.proofs.Common.{◌≡◌, ℕ, List, Ok, Result, IsTrue, ap, subst, sym, ◌∙◌}
-use Rattle.clfs_disk.specs.Files.{Files}
-use Rattle.clfs_disk.specs.State.{DiskState, Nature, TellsContents}
+use Rattle.std.proofs.Common.{ℕ, List, Result, IsTrue, ap, subst, sym, ◌∙◌}
+use Rattle.clfs_disk.specs.State.{Nature, TellsContents}
 use Rattle.clfs_base.specs.declared.refusal.NewestRefusal.{NewestRefusal}
-use Rattle.clfs_base.specs.Layout.{version_one}
 use Rattle.clfs_base.specs.Checks.{image_at}
-use Rattle.clfs_base.specs.Slots.{slot_of, used_slot, copy_in, copy_of}
+use Rattle.clfs_base.specs.Slots.{slot_of, copy_in, copy_of}
 use Rattle.clfs_base.specs.Decoding.{GivesNewest}
 use Rattle.clfs_base.proofs.newest.read_newest.Goals as goal
 
@@ -15,7 +13,7 @@ returns-clause-newest g c tells =
     subst (λ (k : Nature). IsTrue k.tells_contents) (sym c.in_ok-slot.ensures.time.nature) tells in
     let read = c.deref.ensures.value ∙ c.in_ok-bytes.ensures.bytes later ∙ ap (λ (l : List ℕ). slot_of l c.in_ok-slot.slot) (c.in_ok-slot.ensures.same 0) in
     subst (λ (used : Result ℕ NewestRefusal). GivesNewest c.decode_slot.result (copy_of base used)) (sym (c.in_ok-slot.ensures.used tells))
-    (subst (λ (bytes : List ℕ). GivesNewest c.decode_slot.result (copy_in c.in_ok-slot.slot (image_at version_one bytes))) read
+    (subst (λ (bytes : List ℕ). GivesNewest c.decode_slot.result (copy_in c.in_ok-slot.slot (image_at bytes))) read
     c.decode_slot.ensures.newest)
 
 pub returns-clause-time : goal.returns-clause-time

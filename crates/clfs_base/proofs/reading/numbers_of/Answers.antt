@@ -18,4 +18,5 @@ returns c = λ i. record {
   minimum = c.number_2-6.ensures i;
   growth = c.number_2-7.ensures i;
   tail = c.number_8.ensures i;
+  dedicated = c.number_1-6.ensures i;
 }

@@ -1,4 +1,4 @@
-use Rattle.std.proofs.Common.{◌*◌, ℕ, [], ◌∷◌, inl, subst, arith}
+use Rattle.std.proofs.Common.{◌*◌, ℕ, [], ◌∷◌, subst, arith}
 use Rattle.std.proofs.lemmas.Result.{on_ok_weaker}
 use Rattle.clfs_disk.specs.Files.{Files, TornIn, WrittenIn}
 use Rattle.clfs_disk.specs.State.{Leaves}

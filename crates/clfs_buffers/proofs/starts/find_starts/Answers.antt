@@ -86,7 +86,7 @@ loop-sequence-preserved c =
     let long = length-drop at payload in
     let end = head.end in
     let rest = ap length c.split_at.ensures.back in
-    let one : IsStart c.args.streams payload lsn at = record { size = c.in-Ok.size; is = first; within = omega (arith, long, entry.1) } in
+    let one : IsStart c.args.streams payload lsn at = record { size = c.in-Ok.size; is = first; behind = c.loop-sequence.invariant.low; within = omega (arith, long, entry.1) } in
     let items : c.push_reserved.new.self.items ≡ starts ++ at ∷ [] = c.push_reserved.ensures.items in record {
       low = omega (arith, c.loop-sequence.invariant.low);
       high = omega (arith, c.loop-sequence.invariant.high, end, rest, long);

@@ -1,9 +1,12 @@
-use Rattle.std.proofs.Common.{◌≡◌, ℕ, ◌≤◌, Some, refl, sym, ap, subst}
+use Rattle.std.proofs.Common.{◌≡◌, ℕ, ◌≤◌, Some, refl, sym, ap, subst, arith, length}
+use Rattle.std.proofs.lemmas.List.Elements.{All-contains}
 use Rattle.std.specs.Prelude.{find, ◌==◌}
 use Rattle.std.specs.Option.{option_map}
 use Rattle.clfs_lsn.specs.Head.{head_of}
+use Rattle.clfs_lsn.specs.Size.{longest}
 use Rattle.clfs_lsn.specs.declared.entry.Head.{Head}
 use Rattle.clfs_lsn.specs.declared.entry.LogEntry.{LogEntry}
+use Rattle.clfs_model.specs.declared.state.State.{State}
 use Rattle.clfs_model.specs.Flush.{flushed}
 use Rattle.clfs_manager.specs.Memory.{IsSound}
 use Rattle.clfs_manager.specs.Fetching.{IsNeeded}
@@ -25,8 +28,17 @@ read-requires c =
     let there = c.requires.there in
     rw (in_queue c.args.log.now c.args.head c.requires.sound c.requires.waits there.entry there.needed there.head_is) refl
 
-pub returns : goal.returns
-returns c entry needed is =
+pub returns-clause-exact : goal.returns-clause-exact
+returns-clause-exact c entry needed is =
     let there = ap (option_map (λ (e : LogEntry). e.bytes)) (in_queue c.args.log.now c.args.head c.requires.sound c.requires.waits entry needed is) in
     let same : entry.bytes ≡ c.in_ok-bytes.bytes = cc (there, c.in_ok-bytes.ensures) in
     c.entry_of.ensures entry is same
+
+pub returns-clause-small : goal.returns-clause-small
+returns-clause-small c =
+    let there = c.requires.there in
+    let s : State = c.args.log.now.state.value in
+    let same = ap (λ (e : LogEntry). length e.bytes) (returns-clause-exact c there.entry there.needed there.head_is) in
+    let lengths = c.numbers_fit_their_types.ensures.lengths s c.requires.sound.valid c.requires.sound.storable in
+    let few : length there.entry.bytes ≤ longest s.shape = All-contains (λ (e : LogEntry). length e.bytes ≤ longest s.shape) s.records there.entry lengths there.needed.there in
+    omega (arith, same, few, c.requires.sound.valid.ranges.shape.largest_block)

@@ -8,15 +8,15 @@ use Rattle.clfs_manager.proofs.format.fill_disk.Goals as goal
 pub returns-clause-made : goal.returns-clause-made
 returns-clause-made g c tells =
     let gates = c.in_ok-prepare.ensures.none tells in
-    made_by c.args.shape.now c.args.containers _ _ gates
+    made_by c.args.shape.now c.args.dedicated c.args.containers _ _ gates
     (c.in_ok-write_copy.ensures.written (subst (λ (n : Nature). IsTrue n.tells_contents) (sym c.prepare.ensures.time.nature) tells)
-    (first_image c.args.shape.now c.args.containers)
-    (first_fits c.args.shape.now c.args.containers c.requires.shape c.requires.some c.requires.few) c.requires.body gates)
+    (first_image c.args.shape.now c.args.dedicated c.args.containers)
+    (first_fits c.args.shape.now c.args.dedicated c.args.containers c.requires.shape c.requires.some c.requires.few) c.requires.body gates)
 
 pub returns-clause-moments : goal.returns-clause-moments
 returns-clause-moments g c honest =
     let gates = c.in_ok-prepare.ensures.none honest.0 in
     let settled = c.in_ok-prepare.ensures.settled honest in
-    comes_at_once c.args.shape.now c.args.containers _ _ _ c.prepare.ensures.time settled gates
-    (c.write_copy.ensures.moments settled (first_image c.args.shape.now c.args.containers)
-    (first_fits c.args.shape.now c.args.containers c.requires.shape c.requires.some c.requires.few) c.requires.body gates)
+    comes_at_once c.args.shape.now c.args.dedicated c.args.containers _ _ _ c.prepare.ensures.time settled gates
+    (c.write_copy.ensures.moments settled (first_image c.args.shape.now c.args.dedicated c.args.containers)
+    (first_fits c.args.shape.now c.args.dedicated c.args.containers c.requires.shape c.requires.some c.requires.few) c.requires.body gates)

@@ -15,7 +15,7 @@ open_tables-requires c =
     let parts = told_parts c.args.opened in
     let f = c.logs_are_found_in_files.ensures.found parts c.requires.log in
     rw (c.as_slice-rows.ensures, c.as_slice.ensures, c.as_slice-heads.ensures, c.requires.heads)
-    (rows_and_heads parts (c.opened_copies_fit.ensures.image f.0 parts f.1) (c.opened_bases_are_moved_by_records.ensures.all f.0 parts f.1)
+    (rows_and_heads parts (c.copies_are_read_as_written.ensures.current parts.image (c.opened_copies_fit.ensures.image f.0 parts f.1)) (c.opened_bases_are_moved_by_records.ensures.all f.0 parts f.1)
     (c.opened_records_lie_in_order.ensures.rising f.0 parts f.1) (c.opened_records_lie_in_order.ensures.fit f.0 parts f.1))
 
 pub open_archive-requires-clause-rising : goal.open_archive-requires-clause-rising
@@ -82,6 +82,7 @@ returns-clause-holds c =
       policies = c.policies_in-policies.ensures;
       containers = ap (λ (n : Newest). n.image.containers) c.in_ok-physical.ensures;
       image_shape = ap (λ (n : Newest). shape_of n.image) c.in_ok-physical.ensures;
+      dedicated = ap (λ (n : Newest). n.image.dedicated) c.in_ok-physical.ensures;
       rows = ap (λ (n : Newest). length n.image.streams) c.in_ok-physical.ensures
           ∙ sym (streams_long parts.image.streams parts.bases (c.opened_bases_are_moved_by_records.ensures.all f.0 parts f.1));
       listed = rw c.in_ok-physical.ensures (sym (c.opened_copies_fit.ensures.container f.0 parts f.1));

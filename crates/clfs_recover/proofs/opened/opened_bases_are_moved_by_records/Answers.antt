@@ -5,7 +5,7 @@ use Rattle.clfs_recover.proofs.opened.opened_bases_are_moved_by_records.Goals as
 
 pub returns : goal.returns
 returns c =
-    let images : AreImagesRead = record { limits = c.copies_are_read_as_written.ensures.limits; may_be = c.copies_are_read_as_written.ensures.may_be } in
+    let images : AreImagesRead = record { limits = c.copies_are_read_as_written.ensures.limits; may_be = c.copies_are_read_as_written.ensures.may_be; current = c.copies_are_read_as_written.ensures.current } in
     let opened = found_opened images c.blocks_are_read_as_written.ensures c.records_are_read_as_written.ensures.fits in
     record {
       all = λ files parts finds. same_length parts 1 (opened files parts finds);

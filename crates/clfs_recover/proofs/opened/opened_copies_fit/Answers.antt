@@ -4,7 +4,7 @@ use Rattle.clfs_recover.proofs.opened.opened_copies_fit.Goals as goal
 
 pub returns : goal.returns
 returns c =
-    let images : AreImagesRead = record { limits = c.copies_are_read_as_written.ensures.limits; may_be = c.copies_are_read_as_written.ensures.may_be } in
+    let images : AreImagesRead = record { limits = c.copies_are_read_as_written.ensures.limits; may_be = c.copies_are_read_as_written.ensures.may_be; current = c.copies_are_read_as_written.ensures.current } in
     let found = found_in images c.blocks_are_read_as_written.ensures c.records_are_read_as_written.ensures.fits in
     record {
       newest = λ files parts finds. (found files parts finds).newest;

@@ -1,4 +1,5 @@
 use Rattle.clfs_recover.proofs.ReadStored.{records_both, written_read, read_behind, containers_both, read_in_last, read_with_empty, have_more, stored_more}
+use Rattle.clfs_recover.proofs.Fronts.{front_has}
 use Rattle.clfs_recover.proofs.stored.blocks_are_read_in_order.Goals as goal
 
 pub returns : goal.returns
@@ -8,6 +9,7 @@ returns c = record {
       shape streams id good few_streams small offset groups blocks within have;
   joined = λ shape streams id offset groups others blocks more have behind. records_both shape streams id offset groups blocks others more have behind;
   further = λ shape streams more id offset groups blocks le have. have_more shape streams more le id offset groups blocks have;
+  front = front_has;
   behind = read_behind;
   containers = containers_both;
   last = read_in_last;

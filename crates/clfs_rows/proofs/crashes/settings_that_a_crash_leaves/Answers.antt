@@ -24,6 +24,7 @@ returns c = record {
   not_with_another_minimum = no (is_survivor_of_line flushed_log (codes "1 open b") (record (cut flushed_log) { minimum = Some 2 })) refl;
   not_with_another_growth = no (is_survivor_of_line flushed_log (codes "1 open b") (record (cut flushed_log) { growth = Some 1 })) refl;
   not_with_growth_by_itself = no (is_survivor_of_line flushed_log (codes "1 open b") (record (cut flushed_log) { automatic = true })) refl;
+  not_as_a_dedicated_log = no (is_survivor_of_line flushed_log (codes "1 open b") (record (cut flushed_log) { dedicated = true })) refl;
   not_some_of_each = no (is_survivor (line_request (codes "1 open b")) flushed_log
       (record (state_behind flushed_log (codes "1 open b")) { containers = 3 }) (record (cut flushed_log) { containers = 3 })) refl;
   three_containers = refl;

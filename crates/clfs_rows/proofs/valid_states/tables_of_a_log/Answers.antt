@@ -8,8 +8,9 @@ use Rattle.clfs_model.specs.Script.{request_in}
 use Rattle.clfs_model.specs.declared.call.Mode.TheVariants.{Forward}
 use Rattle.clfs_model.specs.declared.state.CursorKind.TheVariants.{Records}
 use Rattle.clfs_rows.specs.Arranged.{an_area, arranged_log, cursor_at, with_areas, with_cursors}
+use Rattle.clfs_rows.specs.Filled.{streams_of}
 use Rattle.clfs_rows.specs.Worked.{opened_log, worked}
-use Rattle.std.specs.Prelude.{codes, ◌∷◌, []}
+use Rattle.std.specs.Prelude.{codes, true, ◌∷◌, []}
 use Rattle.clfs_rows.proofs.Decisions.{yes, no}
 use Rattle.clfs_rows.proofs.ValidTests.{is_valid}
 use Rattle.clfs_rows.proofs.valid_states.tables_of_a_log.Goals as goal
@@ -28,4 +29,7 @@ returns c = record {
   an_areas_largest_record = no (is_valid (with_areas (record an_area { largest = 961 } ∷ []) opened_log)) refl;
   different_numbers_of_cursors = no (is_valid (with_cursors (cursor_at 1 (Records Forward) (lsn_number 1 0 0) ∷ cursor_at 1 (Records Forward)
       (lsn_number 1 0 0) ∷ []) arranged_log)) refl;
+  one_stream_of_a_dedicated_log = yes (is_valid (record (streams_of 1) { dedicated = true })) refl;
+  two_streams_of_another = yes (is_valid (streams_of 2)) refl;
+  no_two_streams_of_a_dedicated_log = no (is_valid (record (streams_of 2) { dedicated = true })) refl;
 }

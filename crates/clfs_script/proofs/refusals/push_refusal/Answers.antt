@@ -83,3 +83,6 @@ returns-in-PolicyNotInstalled c = rw c.in-PolicyNotInstalled.is c.extend_from_sl
 
 pub returns-in-BadLine : goal.returns-in-BadLine
 returns-in-BadLine c = rw c.in-BadLine.is c.push_number-in-BadLine.ensures
+
+pub returns-in-Dedicated : goal.returns-in-Dedicated
+returns-in-Dedicated c = rw c.in-Dedicated.is c.extend_from_slice-in-Dedicated.ensures.ok

@@ -1,7 +1,8 @@
 use Rattle.std.proofs.Common.{◌≡◌, ℕ, ◌+◌, List, length, Option, Some, Result, Ok, Err, get_or, drop, sym, ◌∙◌, ap, arith, length-drop}
+use Rattle.std.proofs.lemmas.List.{length-take}
 use Rattle.std.specs.Option.{ok_or}
 use Rattle.std.specs.Prelude.{slice_get}
-use Rattle.clfs_lsn.specs.Spelling.{record_at, entry_of}
+use Rattle.clfs_lsn.specs.Spelling.{record_at, entry_of, header_of}
 use Rattle.clfs_lsn.specs.declared.entry.LogEntry.{LogEntry}
 use Rattle.clfs_buffers.specs.Reading.{first_lsn}
 use Rattle.clfs_buffers.specs.Kept.{IsStart}
@@ -74,3 +75,17 @@ returns-in-Err-BadByte-clause-exact c =
     absurd (not_wrong c.self.inside.streams lsn
     (get_or c.self.inside.starts.items c.args.sequence c.index.result.now) c.lsn.result c.self.inside.payload c.split_at.result.1.now there.0 c.lsn.ensures from
     _ (rw c.in-Err-BadByte.field-0-is at c.in-Err-BadByte.ensures.exact))
+
+pub returns-in-Ok-clause-small : goal.returns-in-Ok-clause-small
+returns-in-Ok-clause-small c =
+    let lsn = first_lsn c.self.inside.place + c.args.sequence in
+    let at = get_or c.self.inside.starts.items c.args.sequence c.index.result.now in
+    let there = record_there c.self.inside.payload c.self.inside.streams (first_lsn c.self.inside.place) c.self.inside.starts.items c.args.sequence
+    c.index.result.now c.self.invariant.records (omega (arith, c.if-len-sequence.false, c.len.ensures)) in
+    let start = there.0 in
+    let from = c.split_at.ensures.back ∙ (λ i. drop (c.index.ensures i) (c.as_slice.ensures i)) in
+    let is = ap (λ (e : LogEntry). length e.bytes) (read_there c.self.inside.streams lsn at c.lsn.result c.self.inside.payload c.split_at.result.1.now start
+    c.lsn.ensures from (c.in-Ok.entry, c.in-Ok.field-0-1) c.in-Ok.ensures.exact) in
+    let rest = drop at c.self.inside.payload in
+    let few = length-take (header_of rest).len (drop 32 rest) in
+    omega (arith, is, few, length-drop 32 rest, length-drop at c.self.inside.payload, start.behind, c.self.invariant.long)

@@ -49,7 +49,17 @@ add_stream-requires-clause-row g c =
       name = is_name c.args.name.now parts.0;
       other = λ i within same. no_row image.streams bases 1 c.args.name.now long none i within same;
       base = omega arith;
+      alone = λ is. no_rows image.streams (omega (
+        arith,
+        c.requires.valid.tables.dedicated (sym holds.dedicated ∙ is),
+        holds.rows,
+        length-append s.streams (record { name = c.args.name.now; base = null_lsn } ∷ []),
+      ));
     })
+  where
+    no_rows : (rows : List Row) → length rows ≡ 0 → rows ≡ []
+    no_rows [] none = refl
+    no_rows (row ∷ rows) none = absurd (cc none)
 
 pub returns-in-Err-NoMemory-clause-refused : goal.returns-in-Err-NoMemory-clause-refused
 returns-in-Err-NoMemory-clause-refused g c =
@@ -124,6 +134,7 @@ module _ (g : Over) (c : goal.After-self-2-1 g) where
         policies = holds.policies;
         containers = ap (λ (n : Newest). n.image.containers) newest_is ∙ holds.containers;
         image_shape = ap (λ (n : Newest). shape_of n.image) newest_is ∙ holds.image_shape;
+        dedicated = ap (λ (n : Newest). n.image.dedicated) newest_is ∙ holds.dedicated;
         rows = ap (λ (n : Newest). length n.image.streams) newest_is
             ∙ (length-append image.streams (row ∷ []) ∙ ap (λ (n : ℕ). n + 1) holds.rows ∙ sym (length-append s.streams (stream ∷ [])));
         listed = ap (λ (n : Newest). n.image.first + length n.image.files) newest_is
@@ -135,8 +146,10 @@ module _ (g : Over) (c : goal.After-self-2-1 g) where
   stored_then = λ blocks stored.
       let low = c.low_containers_are_left_out.ensures in
       let last = c.streams_come_last.ensures in
-      let is = stream_copied (record { log = low.log; held = low.held; same = low.same }) (record { log = last.log; state = last.state }) s c.args.name.now
-      c.in_ok-row.row c.container-first.result c.args.self.now.physical blocks c.requires.intact.sound.valid c.requires.held c.image-newest.ensures.image
+      let settings = c.settings_leave_the_records.ensures in
+      let is = stream_copied (record { log = low.log; held = low.held; same = low.same })
+      (record { log = settings.log; state = settings.state; archived = settings.archived; archive = settings.archive }) (record { log = last.log; state = last.state }) s c.args.name.now
+      c.in_ok-row.row c.container-first.result c.args.self.now.physical blocks c.requires.intact.sound.valid c.requires.held c.image-newest.ensures.image c.image-newest.ensures.current
       c.in_ok-row.ensures (c.container-first.ensures.value ∙ ap container_of c.hold.ensures.value) stored in
       (blocks, (rw c.in-Ok.ensures.now is, λ tells whole stores. c.in-Ok.ensures.written tells whole blocks stores))
 
@@ -185,12 +198,14 @@ returns-in-Err-NoMemory-clause-moments g c =
     let s : State = old.state.value in
     let low = c.low_containers_are_left_out.ensures in
     let last = c.streams_come_last.ensures in
+    let settings = c.settings_leave_the_records.ensures in
     crash_copied c.logs_are_copies_and_blocks.ensures.stands c.logs_are_copies_and_blocks.ensures.by_file (g.D.Disk.state c.args.disk.now)
     (g.D.Disk.state c.add_stream.new.disk) (with_stream c.args.name.now s)
     (record { slot = older_of old.physical.slot; image = with_row c.in_ok-row.row (next_copy c.container-first.result changes.Listing old.physical.image) })
     old c.requires.intact c.requires.valid
-    (λ blocks stored. stream_copied (record { log = low.log; held = low.held; same = low.same }) (record { log = last.log; state = last.state }) s c.args.name.now
-    c.in_ok-row.row c.container-first.result c.args.self.now.physical blocks c.requires.intact.sound.valid c.requires.held c.image-newest.ensures.image
+    (λ blocks stored. stream_copied (record { log = low.log; held = low.held; same = low.same })
+    (record { log = settings.log; state = settings.state; archived = settings.archived; archive = settings.archive }) (record { log = last.log; state = last.state }) s c.args.name.now
+    c.in_ok-row.row c.container-first.result c.args.self.now.physical blocks c.requires.intact.sound.valid c.requires.held c.image-newest.ensures.image c.image-newest.ensures.current
     c.in_ok-row.ensures (c.container-first.ensures.value ∙ ap container_of c.hold.ensures.value) stored)
     c.add_stream.ensures.moments
 
@@ -200,12 +215,14 @@ returns-in-Err-DiskFault-clause-moments g c =
     let s : State = old.state.value in
     let low = c.low_containers_are_left_out.ensures in
     let last = c.streams_come_last.ensures in
+    let settings = c.settings_leave_the_records.ensures in
     crash_copied c.logs_are_copies_and_blocks.ensures.stands c.logs_are_copies_and_blocks.ensures.by_file (g.D.Disk.state c.args.disk.now)
     (g.D.Disk.state c.add_stream.new.disk) (with_stream c.args.name.now s)
     (record { slot = older_of old.physical.slot; image = with_row c.in_ok-row.row (next_copy c.container-first.result changes.Listing old.physical.image) })
     old c.requires.intact c.requires.valid
-    (λ blocks stored. stream_copied (record { log = low.log; held = low.held; same = low.same }) (record { log = last.log; state = last.state }) s c.args.name.now
-    c.in_ok-row.row c.container-first.result c.args.self.now.physical blocks c.requires.intact.sound.valid c.requires.held c.image-newest.ensures.image
+    (λ blocks stored. stream_copied (record { log = low.log; held = low.held; same = low.same })
+    (record { log = settings.log; state = settings.state; archived = settings.archived; archive = settings.archive }) (record { log = last.log; state = last.state }) s c.args.name.now
+    c.in_ok-row.row c.container-first.result c.args.self.now.physical blocks c.requires.intact.sound.valid c.requires.held c.image-newest.ensures.image c.image-newest.ensures.current
     c.in_ok-row.ensures (c.container-first.ensures.value ∙ ap container_of c.hold.ensures.value) stored)
     c.add_stream.ensures.moments
 
@@ -215,11 +232,13 @@ returns-clause-moments g c =
     let s : State = old.state.value in
     let low = c.low_containers_are_left_out.ensures in
     let last = c.streams_come_last.ensures in
+    let settings = c.settings_leave_the_records.ensures in
     crash_copied c.logs_are_copies_and_blocks.ensures.stands c.logs_are_copies_and_blocks.ensures.by_file (g.D.Disk.state c.args.disk.now)
     (g.D.Disk.state c.add_stream.new.disk) (with_stream c.args.name.now s)
     (record { slot = older_of old.physical.slot; image = with_row c.in_ok-row.row (next_copy c.container-first.result changes.Listing old.physical.image) })
     old c.requires.intact c.requires.valid
-    (λ blocks stored. stream_copied (record { log = low.log; held = low.held; same = low.same }) (record { log = last.log; state = last.state }) s c.args.name.now
-    c.in_ok-row.row c.container-first.result c.args.self.now.physical blocks c.requires.intact.sound.valid c.requires.held c.image-newest.ensures.image
+    (λ blocks stored. stream_copied (record { log = low.log; held = low.held; same = low.same })
+    (record { log = settings.log; state = settings.state; archived = settings.archived; archive = settings.archive }) (record { log = last.log; state = last.state }) s c.args.name.now
+    c.in_ok-row.row c.container-first.result c.args.self.now.physical blocks c.requires.intact.sound.valid c.requires.held c.image-newest.ensures.image c.image-newest.ensures.current
     c.in_ok-row.ensures (c.container-first.ensures.value ∙ ap container_of c.hold.ensures.value) stored)
     c.add_stream.ensures.moments

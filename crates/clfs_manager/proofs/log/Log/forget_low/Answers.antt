@@ -48,6 +48,7 @@ returns-clause-sound c =
         policies = holds.policies;
         containers = holds.containers;
         image_shape = holds.image_shape;
+        dedicated = holds.dedicated;
         rows = holds.rows;
         listed = holds.listed;
         needed = holds.needed;

@@ -1,8 +1,7 @@
 use Rattle.std.proofs.Common.{◌≡◌, ◌⊎◌, ℕ, ◌+◌, ◌*◌, ◌≤◌, sym, ap, subst, ◌∙◌, arith, inl, inr, List, length}
 use Rattle.std.specs.Prelude.{All, Ok, IsOk, ◌-◌, ◌/◌}
 use Rattle.clfs_lsn.specs.Size.{IsShape}
-use Rattle.clfs_base.specs.Layout.{version_one}
-use Rattle.clfs_base.specs.Spelling.{IsImage}
+use Rattle.clfs_base.specs.Spelling.{IsImage, current}
 use Rattle.clfs_lsn.specs.declared.entry.LogEntry.{LogEntry}
 use Rattle.clfs_lsn.specs.declared.place.Place.{Place}
 use Rattle.clfs_lsn.specs.declared.shape.Shape.{Shape}
@@ -45,7 +44,8 @@ returns-clause-group g c =
     let group : IsGroupOf (seal old.queue) at body = subst (λ (u : Queued). IsGroupOf u at body) ended.queue c.group-at.ensures in
     let more = group.blocks in
     let after : Blocks = with_group image more blocks in
-    let is_image : IsImage version_one image = subst (λ (n : Newest). IsImage version_one n.image) newest c.image-newest.ensures.image in
+    let is_image : IsImage image = subst (λ (n : Newest). IsImage n.image) newest c.image-newest.ensures.image in
+    let is_current : IsImage (current image) = subst (λ (n : Newest). IsImage (current n.image)) newest c.image-newest.ensures.current in
     let begins = begins_at s old.queue at body firm.laid holds.place holds.waiting group in
     let closed = is_closed_of s.shape s.place firm.laid.ranges.place in
     let end : at + total more ≡ (closed_place s.place).offset = group.end ∙ ap (λ (p : Place). p.offset) (q.place ∙ ap closed_place holds.place) in
@@ -63,7 +63,7 @@ returns-clause-group g c =
     omega (arith, end, closed.low, ap (λ (n : Shape). n.container_sectors) (q.shape ∙ holds.shape)) in
     let own_read : stored_in (seal old.queue).shape (length image.streams) (seal old.queue).place.container at more ≡ Ok (all_records groups.0) =
     c.blocks_are_read_in_order.ensures.written (seal old.queue).shape (length image.streams) (seal old.queue).place.container at groups.0 more
-    (subst IsShape (sym shape) is_image.shape) (omega (arith, is_image.few_streams)) (omega (arith, id, is_image.last_id)) low groups.1.1 in
+    (subst IsShape (sym shape) is_image.shape) (omega (arith, is_current.few_streams)) (omega (arith, id, is_image.last_id)) low groups.1.1 in
     let records : all_records groups.0 ≡ unflushed s = groups.1.0 ∙ q.records ∙ holds.records in
     let F : Shape → ℕ → ℕ → Type 0 = λ sh i o. stored_in sh (length image.streams) i o more ≡ Ok (unflushed s) in
     let read : F (shape_of image) (image.first + length image.files - 1) (total (blocks (file_at_end image))) =

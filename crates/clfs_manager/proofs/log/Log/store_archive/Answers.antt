@@ -61,6 +61,7 @@ returns-clause-holds g c =
       policies = holds.policies;
       containers = ap (λ (n : Newest). n.image.containers) newest ∙ holds.containers;
       image_shape = ap (λ (n : Newest). shape_of n.image) newest ∙ holds.image_shape;
+      dedicated = ap (λ (n : Newest). n.image.dedicated) newest ∙ holds.dedicated;
       rows = ap (λ (n : Newest). length n.image.streams) newest ∙ holds.rows;
       listed = ap (λ (n : Newest). n.image.first + length n.image.files) newest
           ∙ omega (arith, holds.listed, holds.needed, c.requires.up, is_first, hold_within t c.requires.valid, length-drop (first - image.first) image.files);
@@ -82,7 +83,7 @@ returns-clause-stored g c = λ blocks stored.
     let is = archive_copied (record { log = low.log; held = low.held; same = low.same })
     (record { log = settings.log; state = settings.state; archived = settings.archived; archive = settings.archive }) s tail
     c.archive_change-change.result c.container.result old.physical blocks sound.valid c.requires.valid
-    (c.numbers_fit_their_types.ensures.flushed s sound.valid sound.storable) c.requires.up c.image-newest.ensures.image c.archive_change-change.ensures
+    (c.numbers_fit_their_types.ensures.flushed s sound.valid sound.storable) c.requires.up c.image-newest.ensures.current c.archive_change-change.ensures
     (c.container.ensures.value ∙ ap container_of needed) stored in
     (blocks, (rw (c.with_archive-self.ensures, c.in_default.ensures.now) is, λ tells whole stores. c.in_default.ensures.written tells whole blocks stores))
 
@@ -103,7 +104,7 @@ returns-in-Err-clause-meanwhile g c =
     (λ blocks stored. archive_copied (record { log = low.log; held = low.held; same = low.same })
     (record { log = settings.log; state = settings.state; archived = settings.archived; archive = settings.archive }) s tail
     c.archive_change-change.result c.container.result old.physical blocks sound.valid c.requires.valid
-    (c.numbers_fit_their_types.ensures.flushed s sound.valid sound.storable) c.requires.up c.image-newest.ensures.image c.archive_change-change.ensures
+    (c.numbers_fit_their_types.ensures.flushed s sound.valid sound.storable) c.requires.up c.image-newest.ensures.current c.archive_change-change.ensures
     (c.container.ensures.value ∙ ap container_of needed) stored)
     c.write_copy.ensures.moments
 
@@ -124,6 +125,6 @@ returns-clause-meanwhile g c =
     (λ blocks stored. archive_copied (record { log = low.log; held = low.held; same = low.same })
     (record { log = settings.log; state = settings.state; archived = settings.archived; archive = settings.archive }) s tail
     c.archive_change-change.result c.container.result old.physical blocks sound.valid c.requires.valid
-    (c.numbers_fit_their_types.ensures.flushed s sound.valid sound.storable) c.requires.up c.image-newest.ensures.image c.archive_change-change.ensures
+    (c.numbers_fit_their_types.ensures.flushed s sound.valid sound.storable) c.requires.up c.image-newest.ensures.current c.archive_change-change.ensures
     (c.container.ensures.value ∙ ap container_of needed) stored)
     c.write_copy.ensures.moments

@@ -41,6 +41,11 @@ module _ (g : Over) (c : goal.After-change-1 g) where
       (c.records_are_as_their_heads.ensures.hold t) c.place-place.ensures.value (c.tail.ensures ∙ holds.archive)
       (c.set_base.ensures.streams ∙ ap (set_base c.args.stream c.args.base) holds.streams) (c.set_base.ensures.heads ∙ holds.heads))
 
+pub set_base-requires-clause-there : goal.set_base-requires-clause-there
+set_base-requires-clause-there g c =
+    let number = number_there c.args.self.now.state.value.streams c.args.stream c.requires.there in
+    (number.0, omega (arith, number.1, ap length c.requires.intact.sound.holds.streams))
+
 pub write_copy-requires-clause-first : goal.write_copy-requires-clause-first
 write_copy-requires-clause-first g c = omega (arith, c.requires.intact.sound.holds.needed, c.requires.held, first_is g c)
 
@@ -72,6 +77,7 @@ returns-in-Err-clause-moments g c =
     let sound = c.requires.intact.sound in
     let low = c.low_containers_are_left_out.ensures in
     let rows = c.bases_of_rows_move.ensures in
+    let settings = c.settings_leave_the_records.ensures in
     let holds = sound.holds in
     let first_is = c.container.ensures.value ∙ ap container_of
     (hold_is t c.place-place.result c.tail.result c.set_base.new.self.streams c.set_base.new.self.heads c.hold-needed.result c.hold-needed.ensures
@@ -81,10 +87,11 @@ returns-in-Err-clause-moments g c =
     (g.D.Disk.state c.write_copy.new.disk) t
     (record { slot = older_of old.physical.slot; image = next_copy c.container.result (changes.Base c.args.stream c.args.base) old.physical.image })
     old c.requires.intact c.requires.valid
-    (λ blocks stored. base_copied (record { log = low.log; held = low.held; same = low.same }) (record { log = rows.log; state = rows.state }) s
+    (λ blocks stored. base_copied (record { log = low.log; held = low.held; same = low.same })
+    (record { log = settings.log; state = settings.state; archived = settings.archived; archive = settings.archive }) (record { log = rows.log; state = rows.state }) s
     c.args.stream c.args.base c.container.result old.physical blocks sound.valid c.requires.valid
     (c.numbers_fit_their_types.ensures.flushed s sound.valid sound.storable) c.requires.there c.requires.up c.requires.held holds.rows
-    c.image-newest.ensures.image first_is stored)
+    c.image-newest.ensures.current first_is stored)
     c.write_copy.ensures.moments
 
 module _ (g : Over) (c : goal.After-self-2-1 g) where
@@ -136,6 +143,7 @@ module _ (g : Over) (c : goal.After-self-2-1 g) where
         policies = holds.policies;
         containers = ap (λ (n : Newest). n.image.containers) newest_is ∙ holds.containers;
         image_shape = ap (λ (n : Newest). shape_of n.image) newest_is ∙ holds.image_shape;
+        dedicated = ap (λ (n : Newest). n.image.dedicated) newest_is ∙ holds.dedicated;
         rows = ap (λ (n : Newest). length n.image.streams) newest_is
             ∙ length-set image.streams (c.args.stream - 1) (record (row_in image.streams (c.args.stream - 1)) { base = c.args.base })
             ∙ holds.rows ∙ sym (length_set_base c.args.stream c.args.base s.streams);
@@ -152,9 +160,11 @@ module _ (g : Over) (c : goal.After-self-2-1 g) where
       let sound = c.requires.intact.sound in
       let low = c.low_containers_are_left_out.ensures in
       let rows = c.bases_of_rows_move.ensures in
-      base_copied (record { log = low.log; held = low.held; same = low.same }) (record { log = rows.log; state = rows.state }) s c.args.stream c.args.base
+      let settings = c.settings_leave_the_records.ensures in
+      base_copied (record { log = low.log; held = low.held; same = low.same })
+      (record { log = settings.log; state = settings.state; archived = settings.archived; archive = settings.archive }) (record { log = rows.log; state = rows.state }) s c.args.stream c.args.base
       c.container.result c.args.self.now.physical blocks sound.valid c.requires.valid (c.numbers_fit_their_types.ensures.flushed s sound.valid sound.storable)
-      c.requires.there c.requires.up c.requires.held sound.holds.rows c.image-newest.ensures.image first_then stored
+      c.requires.there c.requires.up c.requires.held sound.holds.rows c.image-newest.ensures.current first_then stored
 
   stored_then : StoredAfter (g.D.Disk.state c.args.disk.now) (g.D.Disk.state c.write_copy.new.disk) s t c.args.self.now.physical c.write_copy.new.self
   stored_then = λ blocks stored.

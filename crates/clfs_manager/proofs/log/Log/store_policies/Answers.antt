@@ -39,6 +39,7 @@ returns-clause-holds g c =
       policies = refl;
       containers = ap (λ (n : Newest). n.image.containers) newest ∙ holds.containers;
       image_shape = ap (λ (n : Newest). shape_of n.image) newest ∙ holds.image_shape;
+      dedicated = ap (λ (n : Newest). n.image.dedicated) newest ∙ holds.dedicated;
       rows = ap (λ (n : Newest). length n.image.streams) newest ∙ holds.rows;
       listed = ap (λ (n : Newest). n.image.first + length n.image.files) newest
           ∙ omega (arith, holds.listed, holds.needed, is_first, hold_within s c.requires.sound.valid, length-drop (first - image.first) image.files);

@@ -1,8 +1,7 @@
 use Rattle.std.proofs.Common.{◌≡◌, ℕ, ◌+◌, ◌%◌, ◌≤◌, sym, ap, subst, ◌∙◌, arith, [], ◌∷◌, length, map, length-append}
 use Rattle.clfs_lsn.specs.Lsn.{container_of}
 use Rattle.clfs_base.specs.declared.image.BaseImage.{BaseImage}
-use Rattle.clfs_base.specs.Layout.{version_one}
-use Rattle.clfs_base.specs.Spelling.{IsImage}
+use Rattle.clfs_base.specs.Spelling.{IsImage, current}
 use Rattle.clfs_base.specs.Writing.{older_of}
 use Rattle.clfs_laws.specs.Between.{turned}
 use Rattle.clfs_model.specs.declared.state.State.{State}
@@ -43,10 +42,10 @@ module _ (g : Over) (c : goal.After-turn g) where
   both blocks stored =
       let sound = c.requires.intact.sound in
       let may = c.requires.may in
-      let low = low_is first now c.image-newest.ensures.image.turn in
-      let early : BaseImage = record now.image { turn = low.turn } in
+      let low = low_is first now c.image-newest.ensures.image c.image-newest.ensures.current in
+      let early : BaseImage = record now.image { version = low.version; turn = low.turn } in
       let thin : BaseImage = from_container first early in
-      let has = has_low s first low.turn c.args.self.now sound.valid sound.holds is_first in
+      let has = has_low s first low.version low.turn c.args.self.now sound.valid sound.holds is_first in
       let slot = (low_of first now).slot in
       let next : IsFree thin.files_made thin.files file = subst (λ (i : BaseImage). IsFree i.files_made i.files file) low.is c.turn.ensures.file.1 in
       let from : early.first ≤ first = omega (arith, sound.holds.needed, is_first) in
@@ -56,11 +55,13 @@ module _ (g : Over) (c : goal.After-turn g) where
       let laws : SettingsLeave = record { log = settings.log; state = settings.state; archived = settings.archived; archive = settings.archive } in
       let is : IsStored s (record { slot = slot; image = thin }) blocks =
       without_low (record { log = leave_out.log; held = leave_out.held; same = leave_out.same }) s slot first (record { slot = now.slot; image = early }) blocks
-      sound.valid (turned_image now.image low.turn c.image-newest.ensures.image low.few) is_first (with_turn laws s low.turn now blocks stored) in
+      sound.valid (turned_image (record now.image { version = low.version }) low.turn low.fits low.few) is_first
+      (with_turn laws s low.version low.turn now blocks stored) in
       let turn = (thin.turn + 1) % 3 in
-      let later : BaseImage = record thin { turn = turn } in
-      let is_later : IsImage version_one later = turned_image thin turn (low_image now.image first low.turn c.image-newest.ensures.image low.few from some) (omega arith) in
-      let again : IsLogWith later (map blocks later.files) is.entries = c.settings_leave_the_records.ensures.log thin (map blocks thin.files) is.entries turn
+      let later : BaseImage = record thin { version = 2; turn = turn } in
+      let is_later : IsImage later = turned_image (record thin { version = 2 }) turn
+      (low_image (current now.image) first low.turn c.image-newest.ensures.current low.few from some) (omega arith) in
+      let again : IsLogWith later (map blocks later.files) is.entries = c.settings_leave_the_records.ensures.log thin (map blocks thin.files) is.entries 2 turn
       thin.containers thin.files_made thin.maximum thin.minimum thin.growth thin.automatic is.log in
       let have : HaveEmpty later file blocks (with_blocks file [] blocks) = c.further_containers_begin_empty.ensures.by_file later file blocks
       (λ i within same. next.free (record { place = i; within = within; is = same })) in
@@ -77,9 +78,9 @@ returns-clause-takes g c =
     let old = c.args.self.now in
     let s : State = old.state.value in
     let sound = c.requires.intact.sound in
-    let low = low_is (first g c) old.physical c.image-newest.ensures.image.turn in
-    let thin : BaseImage = from_container (first g c) (record old.physical.image { turn = low.turn }) in
-    let has = has_low s (first g c) low.turn old sound.valid sound.holds (is_first g c) in
+    let low = low_is (first g c) old.physical c.image-newest.ensures.image c.image-newest.ensures.current in
+    let thin : BaseImage = from_container (first g c) (record old.physical.image { version = low.version; turn = low.turn }) in
+    let has = has_low s (first g c) low.version low.turn old sound.valid sound.holds (is_first g c) in
     on_ok_by c.turn.result (λ now.
     let image : c.turn.new.self.image ≡ with_file (file g c) (with_next_turn thin) =
     ap (λ (n : Newest). n.image) (now (file g c) c.turn.ensures.file.1) ∙ ap (λ (i : BaseImage). with_file (file g c) (with_next_turn i)) low.is in
@@ -88,6 +89,7 @@ returns-clause-takes g c =
       listed = omega (arith, has.listed, length-append thin.files (file g c ∷ []));
       containers = has.containers;
       shape = has.shape;
+      dedicated = has.dedicated;
       rows = has.rows;
     } in
     subst (TakesContainer s) (sym image) is) c.turn.ensures.now

@@ -28,7 +28,7 @@ returns-clause-intact g c =
     let memory : Holds c.turned-self.result.value after = holds_turned old after sound.valid sound.holds may c.ends_of_blocks_go_on.ensures
     (c.turn.ensures ∙ ap (λ (l : Log). record l.queue { place = queues.turned l.queue.place }) same)
     (ap (λ (l : Log). l.tables) same) (ap (λ (l : Log). l.areas) same) (ap (λ (l : Log). l.archive) same) (ap (λ (l : Log). l.policies) same) to
-    takes.first takes.listed takes.containers takes.shape takes.rows in
+    takes.first takes.listed takes.containers takes.shape takes.dedicated takes.rows in
     let before = g.D.Disk.state c.args.disk.now in
     let behind = g.D.Disk.state c.take_container.new.disk in
     let nature = c.take_container.ensures.time.nature in

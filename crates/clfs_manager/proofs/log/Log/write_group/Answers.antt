@@ -46,6 +46,7 @@ returns-clause-holds g c =
       policies = ended.policies ∙ holds.policies;
       containers = ap (λ (n : Newest). n.image.containers) ended.physical ∙ holds.containers;
       image_shape = ap (λ (n : Newest). shape_of n.image) ended.physical ∙ holds.image_shape;
+      dedicated = ap (λ (n : Newest). n.image.dedicated) ended.physical ∙ holds.dedicated;
       rows = ap (λ (n : Newest). length n.image.streams) ended.physical ∙ holds.rows;
       listed = ap (λ (n : Newest). n.image.first + length n.image.files) ended.physical ∙ holds.listed
           ∙ ap (λ (k : ℕ). k + 1) (sym (is_closed_of s.shape s.place firm.laid.ranges.place).container);

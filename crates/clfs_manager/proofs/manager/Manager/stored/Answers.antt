@@ -11,6 +11,8 @@ returns g c =
     let log = c.self.inside.log in
     let managed = c.self.invariant in
     rw (← c.self.view_is) (record {
+      valid = managed.valid;
+      storable = managed.storable;
       files = λ whole tells.
           let opened = managed.whole (sym managed.broken ∙ whole) in
           files_hold c.logs_are_copies_and_blocks.ensures.stands c.logs_are_copies_and_blocks.ensures.by_file c.opening_anew_comes_to_the_cut.ensures.step

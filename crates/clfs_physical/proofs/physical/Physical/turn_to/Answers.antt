@@ -1,10 +1,9 @@
-use Rattle.std.proofs.Common.{◌⊎◌, ◌∙◌, [], sym, subst, inl, inr, IsTrue}
+use Rattle.std.proofs.Common.{◌⊎◌, ◌∙◌, [], sym, subst, IsTrue}
 use Rattle.std.proofs.lemmas.Result.{on_ok_weaker}
-use Rattle.clfs_disk.specs.Files.{Files}
 use Rattle.clfs_disk.specs.State.{Nature, Leaves}
-use Rattle.clfs_physical.specs.Stored.{Blocks, Newest, AreMade, Stores, with_blocks}
-use Rattle.clfs_physical.specs.Taking.{low_of, taken_of, InTurn}
-use Rattle.clfs_physical.proofs.Joining.{later_then, leaves_then}
+use Rattle.clfs_physical.specs.Stored.{Newest, AreMade, Stores, with_blocks}
+use Rattle.clfs_physical.specs.Taking.{low_of, taken_of}
+use Rattle.clfs_physical.proofs.Joining.{later_then}
 use Rattle.clfs_physical.proofs.Logs.{made_still}
 use Rattle.clfs_physical.proofs.Taken.{low_counts, first_part, turn_leaves}
 use Rattle.clfs_physical.proofs.physical.Physical.turn_to.Goals as goal

@@ -1,0 +1,57 @@
+ghost use Rattle.std.specs.Prelude.{◌≤◌};
+
+use clfs_container::{close_first, open_gate, read_block, write_body};
+use clfs_disk::{Disk, Fuse, Memory};
+use std::alloc::Global;
+use std::test::Fail;
+
+// One block of one sector, all of its bytes but the gate 7, and the closed gate behind it.
+fn body() -> [u8; 512] {
+    let mut bytes = [7; 512];
+    bytes[511] = 0;
+    bytes
+}
+
+// The first sector and the byte behind it, as a crash leaves them of a file of zeros into which a block was written on a
+// disk that passes so many calls.
+fn left_by(alloc: Global, passes: u64, pick: u8) -> Result<[u8; 513], Fail>
+    requires { pick ≤ 2 }
+{
+    let mut memory = Memory::new(alloc, 10, 4096, &[])?;
+    memory.grow(1, 4096)?;
+    close_first(&mut memory, 1)?;
+    memory.sync()?;
+    let mut fuse = Fuse::new(memory, passes);
+    if write_body(&mut fuse, 1, 0, &body()).is_ok() {
+        let _ = open_gate(&mut fuse, 1, 0);
+    }
+    let mut left = fuse.into_inner().crash(pick);
+    let mut bytes = [9; 513];
+    read_block(&mut left, 1, 0, &mut bytes)?;
+    Ok(bytes)
+}
+
+#[test]
+fn gate_opens_over_a_whole_body(rt: HostRuntime) -> Result<(), Fail> {
+    // the calls that pass, and whether each of the three picks leaves an open gate
+    let table = [
+        (0, [false; 3]),
+        (1, [false; 3]),
+        (2, [false; 3]),
+        (3, [false, true, true]),
+        (4, [true; 3]),
+    ];
+    for (passes, gates) in table {
+        for pick in 0..3 {
+            let bytes = left_by(rt.alloc(), passes, pick)?;
+            let is_open = bytes[0] == 0xA5;
+            assert_eq!(rt; is_open, gates[pick as usize], "after {passes} calls");
+            assert!(rt; is_open || bytes[0] == 0, "after {passes} calls");
+            assert!(rt;
+                !is_open || bytes[1..].starts_with(&body()),
+                "after {passes} calls"
+            );
+        }
+    }
+    Ok(())
+}

@@ -1,0 +1,4 @@
+pub mod Counting
+pub mod Crashing
+pub mod Reaching
+pub mod Telling

@@ -1,0 +1,6 @@
+pub mod Rooms
+pub mod Journal
+pub mod Counts
+pub mod Crashes
+pub mod Reached
+pub mod Sessions

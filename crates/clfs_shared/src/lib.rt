@@ -1,0 +1,23 @@
+//! Sessions of several clients over one log, one call at a time, each with one place in one journal.
+//!
+//! A shared log is a manager behind the turn lock, with the journal of all calls that were made since it was shared. A session is a seat at the
+//! lock: it knows a beginning of the journal, in which are all calls of its own client. A call waits for the turn, is made by the manager, and
+//! stands at the end of the journal with its reply; the session has then seen all of it. So each reply is the log machine's at the end of a legal
+//! journal that begins with all that the session had seen.
+//!
+//! What a step needs is taken before the manager is called: room for the entry, a copy of the call, and memory for a copy of any reply. Where one
+//! of these can't be had the answer is want of memory, and nothing has changed. So no call is made without its entry.
+//!
+//! Nothing of a call lies behind the lock while it waits, and the lock tells nothing of who comes next. `order.rt` lets calls that wait to the
+//! lock one at a time, those that flush behind the others, so that one flush writes what several wait for; no clause rests on that.
+#![tactic(auto)]
+
+mod copies;
+mod entries;
+mod locked;
+mod opening;
+mod order;
+mod shared;
+
+pub use opening::Opening;
+pub use shared::{Closed, Session, SharedLog, StartRefused};

@@ -1,0 +1,126 @@
+ghost use Rattle.std.specs.Prelude.{◌≡◌, ◌<◌, ℕ, All, [], IfOk};
+ghost use Rattle.clfs_lsn.specs.Lsn.{lsn_number};
+ghost use Rattle.clfs_archive.specs.declared.block.BlockEnd.{BlockEnd};
+
+use clfs_archive::{Archive, BlockEnd, open_archive};
+use clfs_lsn::{Head, Kind, Lsn};
+use clfs_model::{Extent, Refusal};
+use std::alloc::{AllocError, Global};
+use std::test::Fail;
+
+// The LSN of these parts.
+fn at(container: u32, offset: u16, sequence: u16) -> Lsn
+    ensures { result ≡ lsn_number container offset sequence }
+{
+    Lsn::from_parts(container, offset as u32, sequence as u32)
+}
+
+// An archive with one more block, where that lies behind the others.
+fn with_block(mut archive: Archive, last: Lsn, end: u32) -> Result<Archive, AllocError>
+    requires { All (λ (other : BlockEnd). other.last < last) archive.blocks }
+    ensures { IfOk result (λ more. (n : ℕ) → last < n → All (λ (other : BlockEnd). other.last < n) more.blocks) }
+{
+    archive.reserve(1)?;
+    archive.push(BlockEnd { last, end });
+    Ok(archive)
+}
+
+// Two blocks in container 1, one in each of 2 and 3.
+fn four_blocks(alloc: Global) -> Result<Archive, AllocError> {
+    let archive = Archive::new(alloc, Some(Lsn::from_parts(1, 0, 1)));
+    let archive = with_block(archive, Lsn::from_parts(1, 0, 1), 512)?;
+    let archive = with_block(archive, Lsn::from_parts(1, 512, 0), 1536)?;
+    let archive = with_block(archive, Lsn::from_parts(2, 0, 3), 512)?;
+    with_block(archive, Lsn::from_parts(3, 0, 0), 512)
+}
+
+// The extents are these.
+fn has(extents: &[Extent], wanted: &[(u32, u32, u32)]) -> bool {
+    extents.len() == wanted.len()
+        && extents.iter().zip(wanted).all(|(extent, want)| (
+            extent.container,
+            extent.low,
+            extent.high,
+        ) == *want)
+}
+
+#[test]
+fn extents_from_the_tail_on(rt: HostRuntime) -> Result<(), Fail> {
+    let mut archive = four_blocks(rt.alloc())?;
+    let cases: [(Lsn, Lsn, &[(u32, u32, u32)]); 6] = [
+        (at(1, 0, 1), at(3, 0, 0), &[(1, 0, 1536), (2, 0, 512)]),
+        (at(1, 0, 2), at(3, 0, 0), &[(1, 512, 1536), (2, 0, 512)]),
+        (at(1, 0, 0), at(1, 512, 0), &[(1, 0, 512)]),
+        (at(2, 0, 2), at(3, 512, 0), &[(2, 0, 512), (3, 0, 512)]),
+        (at(2, 512, 0), at(3, 0, 0), &[]),
+        (at(3, 512, 0), at(3, 512, 0), &[]),
+    ];
+    for (tail, stable, wanted) in cases {
+        archive.set_archive_tail(tail);
+        let extents = archive.extents(rt.alloc(), stable, 3)?;
+        assert!(rt; has(extents.as_slice(), wanted));
+    }
+    archive.forget_below(at(2, 0, 3));
+    archive.set_archive_tail(at(2, 0, 3));
+    let extents = archive.extents(rt.alloc(), at(3, 512, 0), 3)?;
+    assert!(rt; has(extents.as_slice(), &[(2, 0, 512), (3, 0, 512)]));
+    Ok(())
+}
+
+#[test]
+fn archiving_is_set(rt: HostRuntime) -> Result<(), Fail> {
+    let mut archive = Archive::new(rt.alloc(), None);
+    let (low, high) = (at(1, 0, 0), at(2, 0, 0));
+    assert_eq!(rt; archive.tail_refusal(low, high), Some(Refusal::Ephemeral));
+    archive.set_archive(true, low);
+    archive.set_archive(true, high);
+    assert_eq!(rt; archive.tail(), Some(low));
+    assert!(rt; archive.tail_refusal(high, high).is_none());
+    assert!(rt; archive.tail_refusal(at(2, 0, 1), high).is_some());
+    archive.set_archive_tail(high);
+    assert!(rt; archive.tail_refusal(low, high).is_some());
+    archive.set_archive(false, low);
+    assert!(rt; archive.tail().is_none());
+    Ok(())
+}
+
+// The head of a record of stream 1 with 100 bytes.
+fn head(lsn: Lsn) -> Head
+    ensures lsn { result.lsn ≡ lsn }
+    ensures len { result.len ≡ 100 }
+{
+    Head {
+        lsn,
+        stream: 1,
+        kind: Kind::Plain,
+        previous: Lsn::null(),
+        undo_next: Lsn::null(),
+        new_base: Lsn::null(),
+        len: 100,
+    }
+}
+
+#[test]
+fn blocks_of_an_opened_log(rt: HostRuntime) -> Result<(), Fail> {
+    let tail = at(1, 0, 1);
+    let none = open_archive(rt.alloc(), Some(tail), &[], at(1, 0, 0))?;
+    assert!(rt;
+        none.extents(rt.alloc(), at(1, 0, 0), 1)?
+            .as_slice()
+            .is_empty()
+    );
+    let heads = [
+        head(at(1, 0, 0)),
+        head(at(1, 0, 1)),
+        head(at(1, 0, 2)),
+        head(at(1, 0, 3)),
+        head(at(1, 1024, 0)),
+        head(at(3, 0, 0)),
+    ];
+    let archive = open_archive(rt.alloc(), Some(tail), &heads, at(3, 512, 0))?;
+    let extents = archive.extents(rt.alloc(), at(3, 512, 0), 3)?;
+    assert!(rt; has(extents.as_slice(), &[(1, 0, 1536), (3, 0, 512)]));
+    let extents = archive.extents(rt.alloc(), at(1, 1024, 0), 3)?;
+    assert!(rt; has(extents.as_slice(), &[(1, 0, 1024)]));
+    Ok(())
+}

@@ -1,0 +1,35 @@
+ghost use Rattle.std.specs.Prelude.{◌≡◌};
+
+use clfs_lsn::{Head, Kind, Lsn};
+use clfs_sorted::{forget_below, place_of};
+use std::test::Fail;
+
+// A head with an LSN of this number.
+fn head(number: u64) -> Head
+    ensures { result.lsn ≡ number }
+{
+    Head {
+        lsn: Lsn::of_number(number),
+        stream: 1,
+        kind: Kind::Plain,
+        previous: Lsn::null(),
+        undo_next: Lsn::null(),
+        new_base: Lsn::null(),
+        len: 8,
+    }
+}
+
+#[test]
+fn the_front_goes_in_whole_pieces(rt: HostRuntime) -> Result<(), Fail> {
+    let mut heads = Vec::new(rt.alloc());
+    heads.push(head(3))?;
+    heads.push(head(5))?;
+    heads.push(head(7))?;
+    assert_eq!(rt; place_of(heads.as_slice(), Lsn::of_number(5)), 1);
+    assert_eq!(rt; place_of(heads.as_slice(), Lsn::of_number(6)), 2);
+    forget_below(&mut heads, Lsn::of_number(5));
+    assert_eq!(rt; heads.len(), 3);
+    forget_below(&mut heads, Lsn::of_number(6));
+    assert_eq!(rt; heads.as_slice(), [head(7)].as_slice());
+    Ok(())
+}
