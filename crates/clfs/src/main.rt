@@ -13,6 +13,8 @@ use clfs_files::{Folder, ReaderSource, WriterSink};
 use std::alloc::{AllocError, Global};
 use std::process::ExitCode;
 use std::rt::Env;
+use std::sync::Wait;
+use std::thread::Threads;
 use std::{env, io};
 
 /// What `--version` prints.
@@ -59,8 +61,8 @@ fn cause(status: u8) -> Option<&'static str> {
     }
 }
 
-// The status of a run of the command over standard input and output and the folder.
-fn run_command(rt: &HostRuntime, words: &[String]) -> u8 {
+// The status of a run of the command over standard input and output and the folder. The threads of a race are started by `threads`.
+fn run_command(rt: &HostRuntime, threads: &(impl Threads + Wait + Sync), words: &[String]) -> u8 {
     let Ok(path) = folder_path(rt.alloc(), words) else {
         return NO_MEMORY;
     };
@@ -68,16 +70,16 @@ fn run_command(rt: &HostRuntime, words: &[String]) -> u8 {
     let mut sink = WriterSink::new(io::writer(rt));
     let folder = Folder::new(*rt, path);
     let command = command_words(words);
-    run(rt.alloc(), command, &mut source, &mut sink, folder).status
+    run(threads, rt.alloc(), command, &mut source, &mut sink, folder).status
 }
 
 // The status of what the words ask for: one of the program's own texts, or a command.
-fn run_words(rt: &HostRuntime) -> u8 {
+fn run_words(rt: &HostRuntime, threads: &(impl Threads + Wait + Sync)) -> u8 {
     let Ok(words) = all_words(rt) else {
         return NO_MEMORY;
     };
     match own_text(rt.alloc(), &words) {
-        Ok(None) => run_command(rt, &words),
+        Ok(None) => run_command(rt, threads, &words),
         Ok(Some(text)) => match rt.print(text.as_str()) {
             Ok(()) => DONE,
             Err(_) => SINK_FAULT,
@@ -87,7 +89,7 @@ fn run_words(rt: &HostRuntime) -> u8 {
 }
 
 fn main(rt: HostRuntime) -> ExitCode {
-    let status = run_words(&rt);
+    let status = run_words(&rt, &rt);
     if let Some(line) = cause(status) {
         // If this can't be said either, the status still tells it.
         let _said = rt.eprintln(line);

@@ -44,6 +44,10 @@ fn serve(write_buffers: u32) -> Option<Command> {
     Some(Command::Serve { write_buffers })
 }
 
+fn race(write_buffers: u32) -> Option<Command> {
+    Some(Command::Race { write_buffers })
+}
+
 // Words beside the command that they name, or none. Two spaces in a row stand for an empty word between them.
 #[test]
 fn words_and_their_commands(rt: HostRuntime) -> Result<(), Fail> {
@@ -172,7 +176,12 @@ fn words_and_their_commands(rt: HostRuntime) -> Result<(), Fail> {
         ("--write-buffers 4 serve", None),
         ("Serve", None),
         ("serv", None),
-        ("race", None),
+        ("race", race(4)),
+        ("race --write-buffers 1", race(1)),
+        ("race --write-buffers=64", race(64)),
+        ("race --write-buffers 65", None),
+        ("race serve", None),
+        ("races", None),
         ("trial 1 5", trial(1, 5)),
         ("trial 0 1", trial(0, 1)),
         ("trial 4294967295 100000", trial(4294967295, 100000)),
@@ -192,6 +201,12 @@ fn words_and_their_commands(rt: HostRuntime) -> Result<(), Fail> {
         ("trial 1 5 5", None),
         ("trial 1 5 --dedicated", None),
         ("crew 2 5", None),
+        ("check", Some(Command::Check)),
+        ("check --", Some(Command::Check)),
+        ("check x", None),
+        ("check --dedicated", None),
+        ("check check", None),
+        ("Check", None),
         ("help", None),
         ("--help", None),
         ("-h", None),
@@ -219,7 +234,9 @@ Usage: clfs FOLDER <COMMAND>
 Commands:
   format  Makes a log in FOLDER
   serve   Answers the lines of a script on standard input, one reply a line
+  race    Answers the lines of a script, those of each client in a thread of its own
   trial   Answers lines that are made of a number, over a log in memory, and prints their sums
+  check   Judges the log in FOLDER and tells what is in it, or where it is broken
 
 Makes a log in FOLDER
 
@@ -238,6 +255,13 @@ Usage: clfs FOLDER serve [OPTIONS]
 Options:
       --write-buffers <W>  Full blocks that may wait before all are written, 1 to 64 [default: 4]
 
+Answers the lines of a script, those of each client in a thread of its own
+
+Usage: clfs FOLDER race [OPTIONS]
+
+Options:
+      --write-buffers <W>  Full blocks that may wait before all are written, 1 to 64 [default: 4]
+
 Answers lines that are made of a number, over a log in memory, and prints their sums
 
 Usage: clfs FOLDER trial <NUMBER> <COUNT>
@@ -245,6 +269,10 @@ Usage: clfs FOLDER trial <NUMBER> <COUNT>
 Arguments:
   <NUMBER>  The number, 0 to 4294967295
   <COUNT>   How many lines are made, 1 to 100000
+
+Judges the log in FOLDER and tells what is in it, or where it is broken
+
+Usage: clfs FOLDER check
 ";
     assert_eq!(rt; text.as_str(), want);
     Ok(())

@@ -10,7 +10,7 @@ use Rattle.clfs_lsn.specs.Size.{IsShape}
 use Rattle.clfs_lsn.specs.Words.{decimal_number}
 use Rattle.clfs_command.specs.Line.{command_line}
 use Rattle.clfs_command.specs.declared.words.Command.{Command}
-use Rattle.clfs_command.specs.declared.words.Command.TheVariants.{Format, Serve, Trial}
+use Rattle.clfs_command.specs.declared.words.Command.TheVariants.{Format, Serve, Race, Trial, Check}
 
 -- the decimal number of 32 bits that an option has, without a sign or a leading zero
 abbrev pub number_of : Text → List Row → Option ℕ
@@ -42,6 +42,11 @@ abbrev pub serve_of : Option ℕ → Option Command
 serve_of (Some buffers) = if nat_le 1 buffers && nat_le buffers most_write_buffers then Some (Serve buffers) else None
 serve_of None = None
 
+-- a race with so many write buffers, if a log can have them
+abbrev pub race_of : Option ℕ → Option Command
+race_of (Some buffers) = if nat_le 1 buffers && nat_le buffers most_write_buffers then Some (Race buffers) else None
+race_of None = None
+
 -- a trial of this number with so many lines, if it can have them
 abbrev pub trial_of : Option ℕ → Option ℕ → Option Command
 trial_of (Some number) (Some count) = if nat_le 1 count && nat_le count most_trial_lines then Some (Trial number count) else None
@@ -54,7 +59,9 @@ with_options (name, options) =
     then format_of (number_of (codes "block-sectors") options) (number_of (codes "container-sectors") options) (number_of (codes "containers") options)
     (is_set (codes "dedicated") options)
     else if bytes_eq name (codes "serve") then serve_of (number_of (codes "write-buffers") options)
-    else if bytes_eq name (codes "trial") then trial_of (number_of (codes "NUMBER") options) (number_of (codes "COUNT") options) else None
+    else if bytes_eq name (codes "race") then race_of (number_of (codes "write-buffers") options)
+    else if bytes_eq name (codes "trial") then trial_of (number_of (codes "NUMBER") options) (number_of (codes "COUNT") options)
+    else if bytes_eq name (codes "check") then Some Check else None
 
 -- The command that words name. They name none where clap finds a fault in them, or a number isn't one that a log can have.
 abbrev pub command_of : List Text → Option Command
@@ -64,4 +71,6 @@ command_of words = if is_empty (fault_of command_line words) then option_and_the
 abbrev pub HasItsRanges : Command → Type 0
 HasItsRanges (Format shape containers dedicated) = IsShape shape × (1 ≤ containers) × (containers ≤ most_containers)
 HasItsRanges (Serve buffers) = (1 ≤ buffers) × (buffers ≤ most_write_buffers)
+HasItsRanges (Race buffers) = (1 ≤ buffers) × (buffers ≤ most_write_buffers)
 HasItsRanges (Trial number count) = (1 ≤ count) × (count ≤ most_trial_lines)
+HasItsRanges Check = Unit {0}

@@ -38,12 +38,20 @@ format_line = with_rule (with_rule (with_rule (with_rule (command_named (codes "
 abbrev pub serve_line : App
 serve_line = with_rule (command_named (codes "serve")) (with_default (codes "write-buffers") (codes "4"))
 
+-- `race [--write-buffers W]`
+abbrev pub race_line : App
+race_line = with_rule (command_named (codes "race")) (with_default (codes "write-buffers") (codes "4"))
+
 -- `trial NUMBER COUNT`
 abbrev pub trial_line : App
 trial_line = with_rule (with_rule (command_named (codes "trial")) (word (codes "NUMBER"))) (word (codes "COUNT"))
 
+-- `check`
+abbrev pub check_line : App
+check_line = command_named (codes "check")
+
 -- the words behind FOLDER, of which the first names the subcommand
 abbrev pub command_line : App
-command_line = with_subcommand (with_subcommand (with_subcommand (on_top
+command_line = with_subcommand (with_subcommand (with_subcommand (with_subcommand (with_subcommand (on_top
     (λ s. record s { no_binary_name = true; disable_help_subcommand = true; subcommand_required = true }) (command_named (codes "clfs")))
-    format_line.top) serve_line.top) trial_line.top
+    format_line.top) serve_line.top) race_line.top) trial_line.top) check_line.top

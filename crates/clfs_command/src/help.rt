@@ -1,5 +1,5 @@
 // What `clfs --help` prints: the commands, and the options of each.
-use crate::line::{command_line, format_line, serve_line, trial_line};
+use crate::line::{check_line, command_line, format_line, race_line, serve_line, trial_line};
 use std::alloc::{AllocError, Global};
 
 // How the program is called.
@@ -18,10 +18,16 @@ pub fn help_text(alloc: Global) -> Result<String, AllocError> {
     let serve = serve_line(alloc)?
         .bin_name("clfs FOLDER serve")?
         .render_help()?;
+    let race = race_line(alloc)?
+        .bin_name("clfs FOLDER race")?
+        .render_help()?;
     let trial = trial_line(alloc)?
         .bin_name("clfs FOLDER trial")?
         .render_help()?;
-    for part in [&format, &serve, &trial] {
+    let check = check_line(alloc)
+        .bin_name("clfs FOLDER check")?
+        .render_help()?;
+    for part in [&format, &serve, &race, &trial, &check] {
         text.push('\n')?;
         text.push_str(part.as_str())?;
     }

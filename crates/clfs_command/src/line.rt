@@ -1,7 +1,7 @@
 // The command line behind FOLDER, as clap takes it.
-ghost use Rattle.std.specs.Prelude.{◌≡◌, IfOk, false};
+ghost use Rattle.std.specs.Prelude.{◌≡◌, IfOk, codes, false};
 ghost use Rattle.clap.specs.Words.{app_of, rule_of};
-ghost use Rattle.clfs_command.specs.Line.{option, needed, with_default, flag, word, command_named, format_line, serve_line, trial_line, command_line};
+ghost use Rattle.clfs_command.specs.Line.{option, needed, with_default, flag, word, command_named, format_line, serve_line, race_line, trial_line, check_line, command_line};
 
 use clap::{Arg, ArgAction, Command};
 use std::alloc::{AllocError, Global};
@@ -68,14 +68,29 @@ pub fn format_line<'a>(alloc: Global) -> Result<Command<'a>, AllocError>
         .arg(flag(alloc, "dedicated", dedicated))
 }
 
+// The option `--write-buffers`, which is 4 if it isn't there.
+fn write_buffers<'a>(alloc: Global) -> Arg<'a>
+    ensures rule { rule_of result ≡ with_default (codes "write-buffers") (codes "4") }
+    ensures local { result.global ≡ false }
+{
+    let help = "Full blocks that may wait before all are written, 1 to 64";
+    option(alloc, "write-buffers", "W", help).default_value("4")
+}
+
 /// The line of `serve`.
 pub fn serve_line<'a>(alloc: Global) -> Result<Command<'a>, AllocError>
     ensures { IfOk result (λ r. app_of r ≡ serve_line) }
 {
     let about = "Answers the lines of a script on standard input, one reply a line";
-    let help = "Full blocks that may wait before all are written, 1 to 64";
-    let buffers = option(alloc, "write-buffers", "W", help).default_value("4");
-    command_named(alloc, "serve", about).arg(buffers)
+    command_named(alloc, "serve", about).arg(write_buffers(alloc))
+}
+
+/// The line of `race`.
+pub fn race_line<'a>(alloc: Global) -> Result<Command<'a>, AllocError>
+    ensures { IfOk result (λ r. app_of r ≡ race_line) }
+{
+    let about = "Answers the lines of a script, those of each client in a thread of its own";
+    command_named(alloc, "race", about).arg(write_buffers(alloc))
 }
 
 /// The line of `trial`.
@@ -91,6 +106,14 @@ pub fn trial_line<'a>(alloc: Global) -> Result<Command<'a>, AllocError>
         .arg(word(alloc, "COUNT", count))
 }
 
+/// The line of `check`.
+pub fn check_line<'a>(alloc: Global) -> Command<'a>
+    ensures { app_of result ≡ check_line }
+{
+    let about = "Judges the log in FOLDER and tells what is in it, or where it is broken";
+    command_named(alloc, "check", about)
+}
+
 /// All of the line, of which the first word names the subcommand.
 pub fn command_line<'a>(alloc: Global) -> Result<Command<'a>, AllocError>
     ensures { IfOk result (λ r. app_of r ≡ command_line) }
@@ -103,5 +126,7 @@ pub fn command_line<'a>(alloc: Global) -> Result<Command<'a>, AllocError>
         .subcommand_required(true)
         .subcommand(format_line(alloc)?)?
         .subcommand(serve_line(alloc)?)?
-        .subcommand(trial_line(alloc)?)
+        .subcommand(race_line(alloc)?)?
+        .subcommand(trial_line(alloc)?)?
+        .subcommand(check_line(alloc))
 }

@@ -4,7 +4,7 @@ ghost use Rattle.std.specs.Option.{option_and_then};
 ghost use Rattle.std.specs.String.{string_bytes};
 ghost use Rattle.clap.specs.Words.{rows_of, found_of, subcommand_rows_of};
 ghost use Rattle.clfs_lsn.specs.Limits.{most_containers, most_write_buffers};
-ghost use Rattle.clfs_command.specs.Command.{number_of, is_set, is_size, format_of, serve_of, trial_of, with_options, command_of, HasItsRanges};
+ghost use Rattle.clfs_command.specs.Command.{number_of, is_set, is_size, format_of, serve_of, race_of, trial_of, with_options, command_of, HasItsRanges};
 
 use crate::line::command_line;
 use clap::ArgMatches;
@@ -31,6 +31,11 @@ pub enum Command {
         /// The write buffers of the log, 1 to 64.
         write_buffers: u32,
     },
+    /// To answer a script, each client's lines in a thread of its own.
+    Race {
+        /// The write buffers of the log, 1 to 64.
+        write_buffers: u32,
+    },
     /// To answer generated lines over a log in memory.
     Trial {
         /// The number that the lines are made of.
@@ -38,6 +43,8 @@ pub enum Command {
         /// How many lines come after those that open the streams, 1 to 100,000.
         count: u32,
     },
+    /// To judge a log.
+    Check,
 }
 
 /// Why no command was read.
@@ -135,6 +142,17 @@ fn serve_of(write_buffers: Option<u32>) -> Option<Command>
     Some(Command::Serve { write_buffers })
 }
 
+fn race_of(write_buffers: Option<u32>) -> Option<Command>
+    ensures command { result ≡ race_of write_buffers }
+    ensures ranges { IfSome result HasItsRanges }
+{
+    let write_buffers = write_buffers?;
+    if !(1..=MOST_WRITE_BUFFERS).contains(&write_buffers) {
+        return None;
+    }
+    Some(Command::Race { write_buffers })
+}
+
 fn trial_of(number: Option<u32>, count: Option<u32>) -> Option<Command>
     ensures command { result ≡ trial_of number count }
     ensures ranges { IfSome result HasItsRanges }
@@ -160,7 +178,9 @@ fn with_options(name: &str, options: &ArgMatches) -> Option<Command>
             is_set("dedicated", options),
         ),
         "serve" => serve_of(number_of("write-buffers", options)),
+        "race" => race_of(number_of("write-buffers", options)),
         "trial" => trial_of(number_of("NUMBER", options), number_of("COUNT", options)),
+        "check" => Some(Command::Check),
         _ => None,
     }
 }

@@ -3,6 +3,7 @@ use Rattle.std.proofs.Common.{◌≡◌, ℕ, ◌≤◌, ◌⊎◌, Bool, true, 
 use Rattle.std.specs.Prelude.{Option}
 use Rattle.std.specs.Io.KnownBytes.{Appends}
 use Rattle.clfs_ports.specs.Cause.{Rises}
+use Rattle.clfs_model.specs.Accepted.{serve_limits}
 use Rattle.clfs_engine.specs.Ends.{AppendsFront}
 use Rattle.clfs_engine.specs.Serve.{Answers, EndsAnswering, IsWholeAnswer, IsAnswerUpToFault, StopsShort, Writes, IsAnswerStatus, too_long_text}
 use Rattle.clfs_engine.specs.Stopped.{IsAnswerBeforeLimit}
@@ -10,7 +11,7 @@ use Rattle.clfs_engine.proofs.Written.{appends_more}
 
 module _ (Is : Answers) (InPart : Bool → Answers) (left left' written written' : Option (List ℕ)) (source source' sink sink' : ℕ) (later : source ≤ source') (sink_later : sink ≤ sink') where
   -- all lines are answered
-  pub ends_done : Writes (IsWholeAnswer Is left left') written written' → EndsAnswering Is InPart 0 left left' written written' source source' sink sink'
+  pub ends_done : Writes (IsWholeAnswer serve_limits Is left left') written written' → EndsAnswering Is InPart 0 left left' written written' source source' sink sink'
   ends_done done = record {
     statuses = inl refl;
     done = λ e. done;
@@ -25,7 +26,7 @@ module _ (Is : Answers) (InPart : Bool → Answers) (left left' written written'
   }
 
   -- the source failed
-  pub ends_at_source : Rises source source' → Writes (IsAnswerUpToFault Is left left') written written'
+  pub ends_at_source : Rises source source' → Writes (IsAnswerUpToFault serve_limits Is left left') written written'
       → EndsAnswering Is InPart 2 left left' written written' source source' sink sink'
   ends_at_source cause answered = record {
     statuses = inr (inl refl);

@@ -9,6 +9,7 @@ use Rattle.clfs_model.specs.declared.state.State.{State}
 use Rattle.clfs_model.specs.Lines.{lines_of, without_return}
 use Rattle.clfs_model.specs.Script.{line_request}
 use Rattle.clfs_model.specs.Text.{reply_line, client_of}
+use Rattle.clfs_model.specs.Accepted.{serve_limits}
 use Rattle.clfs_engine.specs.Answered.{AnswersLine, AnswersLines, AnswersUnwritten, AnswersInPart}
 use Rattle.clfs_engine.specs.Ends.{AppendsFront}
 use Rattle.clfs_engine.specs.Feeds.{with_feeds}
@@ -39,7 +40,7 @@ module _ (s : State) (old : DiskState) (left left_after written : Option (List �
   all_lines line t new w ended some = script_cut ended.script ended.so_far.lines line ended.so_far.whole ended.so_far.split ended.one some
 
   is_whole : (line : List ℕ) (t : State) (new : DiskState) (w : Option (List ℕ)) (ended : HasAnsweredEnded s old left left_after written line t new w)
-      → 0 < length line → IsWholeScript left left_after ended.script
+      → 0 < length line → IsWholeScript serve_limits left left_after ended.script
   is_whole line t new w ended some = record {
     given = ended.given;
     end = ended.end;
@@ -49,7 +50,7 @@ module _ (s : State) (old : DiskState) (left left_after written : Option (List �
 
   -- the script ends with a line feed
   pub none_left : (line : List ℕ) (t : State) (new : DiskState) (w : Option (List ℕ)) → HasAnsweredEnded s old left left_after written line t new w → line ≡ []
-      → Writes (IsWholeAnswer (AnswersLines s old t new) left left_after) written w
+      → Writes (IsWholeAnswer serve_limits (AnswersLines s old t new) left left_after) written w
   none_left line t new w ended none =
       let so_far = ended.so_far in
       let all : lines_of ended.script ≡ so_far.lines =
@@ -66,7 +67,7 @@ module _ (s : State) (old : DiskState) (left left_after written : Option (List �
   -- the last line was answered
   pub last_answered : AreOwn → (line : List ℕ) (mid : State) (between : DiskState) (before text : List ℕ) (t : State) (new : DiskState) (w1 w2 : Option (List ℕ))
       → HasAnsweredEnded s old left left_after written line mid between w1 → 0 < length line → AnswersLine mid between line before text t new → before ≡ []
-      → Appends w1 w2 text → Writes (IsWholeAnswer (AnswersLines s old t new) left left_after) written w2
+      → Appends w1 w2 text → Writes (IsWholeAnswer serve_limits (AnswersLines s old t new) left left_after) written w2
   last_answered own line mid between before text t new w1 w2 ended some step none wrote =
       let so_far = ended.so_far in
       let reply : List ℕ = reply_line (client_of (line_request (without_return line))) step.reply in

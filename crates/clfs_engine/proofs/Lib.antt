@@ -1,5 +1,3 @@
-pub mod DataLengths
-pub mod LineConditions
 pub mod FirstFeed
 pub mod ScriptLines
 pub mod WholeSteps
@@ -16,3 +14,9 @@ pub mod ServingEnds
 pub mod Refusals
 pub mod Crashing
 pub mod Trials
+pub mod Fronts
+pub mod Through
+pub mod CheckEnds
+pub mod Clients
+pub mod TakenCalls
+pub mod RaceEnds

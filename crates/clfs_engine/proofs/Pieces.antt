@@ -174,7 +174,7 @@ module _ (s : State) (old : DiskState) (left written : Option (List ℕ)) where
 
   -- the source failed
   pub source_stops : (left_now : Option (List ℕ)) (rest : List ℕ) (given : ℕ) (t : State) (new : DiskState) (w : Option (List ℕ))
-      → IsReading s old left left_now written rest given t new w → HasNoFeed rest → Writes (IsAnswerUpToFault (AnswersLines s old t new) left left_now) written w
+      → IsReading s old left left_now written rest given t new w → HasNoFeed rest → Writes (IsAnswerUpToFault serve_limits (AnswersLines s old t new) left left_now) written w
   source_stops left_now rest given t new w reading one =
       let so_far = reading.so_far in (
         so_far.text,

@@ -4,6 +4,7 @@ use Rattle.std.specs.Prelude.{Option}
 use Rattle.clfs_disk.specs.State.{DiskState}
 use Rattle.clfs_recover.specs.declared.refusal.LoadRefusal.{LoadRefusal}
 use Rattle.clfs_recover.specs.declared.refusal.LoadRefusal.TheVariants.{NoBase, Damaged, DiskFault, NoMemory}
+use Rattle.clfs_model.specs.Accepted.{serve_limits}
 use Rattle.clfs_engine.specs.Answered.{IsAnswered, IsAnsweredInPart}
 use Rattle.clfs_engine.specs.Opened.{IsNoLog, no_log_text, RefusesLog, IsRefusalText, TellsRefusal, refusal_line, refusal_status}
 use Rattle.clfs_engine.specs.Serve.{Answers, EndsAnswering, EndsServing, IsAnswerStatus, IsServeStatus, IsWholeAnswer, IsAnswerUpToFault, IsAnswerUpToLimit, IsFrontUpToLimit, StopsShort, StopsAtFault}
@@ -11,13 +12,13 @@ use Rattle.clfs_engine.specs.Serve.{Answers, EndsAnswering, EndsServing, IsAnswe
 -- ---- other words for the same answers
 
 module _ (Is Other : Answers) (also : (lines : List (List ℕ)) (text : List ℕ) → Is lines text → Other lines text) where
-  whole_as : (left left' : Option (List ℕ)) (text : List ℕ) → IsWholeAnswer Is left left' text → IsWholeAnswer Other left left' text
+  whole_as : (left left' : Option (List ℕ)) (text : List ℕ) → IsWholeAnswer serve_limits Is left left' text → IsWholeAnswer serve_limits Other left left' text
   whole_as left left' text is = record { script = is.script; read = is.read; answered = also _ text is.answered }
 
-  fault_as : (left left' : Option (List ℕ)) (text : List ℕ) → IsAnswerUpToFault Is left left' text → IsAnswerUpToFault Other left left' text
+  fault_as : (left left' : Option (List ℕ)) (text : List ℕ) → IsAnswerUpToFault serve_limits Is left left' text → IsAnswerUpToFault serve_limits Other left left' text
   fault_as left left' text is = record { bytes = is.bytes; given = is.given; answered = also _ text is.answered }
 
-  limit_as : (left left' : Option (List ℕ)) (text : List ℕ) → IsAnswerUpToLimit Is left left' text → IsAnswerUpToLimit Other left left' text
+  limit_as : (left left' : Option (List ℕ)) (text : List ℕ) → IsAnswerUpToLimit serve_limits Is left left' text → IsAnswerUpToLimit serve_limits Other left left' text
   limit_as left left' text is = record {
     bytes = is.bytes;
     given = is.given;
@@ -81,7 +82,7 @@ answering_serves Is InPart status buffers old new left left' written written' so
 -- ---- a log that wasn't opened
 
 -- the statuses then
-refused_statuses : (status : ℕ) (refusal : LoadRefusal) → (status ≡ refusal_status refusal) ⊎ ((status ≡ 3) ⊎ (status ≡ 5))
+pub refused_statuses : (status : ℕ) (refusal : LoadRefusal) → (status ≡ refusal_status refusal) ⊎ ((status ≡ 3) ⊎ (status ≡ 5))
     → (status ≡ 4) ⊎ ((status ≡ 6) ⊎ ((status ≡ 3) ⊎ (status ≡ 5)))
 refused_statuses status refusal (inr others) = inr (inr others)
 refused_statuses status DiskFault (inl e) = inl e
@@ -89,14 +90,14 @@ refused_statuses status NoMemory (inl e) = inr (inr (inr e))
 refused_statuses status NoBase (inl e) = inr (inl e)
 refused_statuses status (Damaged container offset at) (inl e) = inr (inl e)
 
-serve_status : (status : ℕ) → (status ≡ 4) ⊎ ((status ≡ 6) ⊎ ((status ≡ 3) ⊎ (status ≡ 5))) → IsServeStatus status
+pub serve_status : (status : ℕ) → (status ≡ 4) ⊎ ((status ≡ 6) ⊎ ((status ≡ 3) ⊎ (status ≡ 5))) → IsServeStatus status
 serve_status status (inl e) = inr (inl e)
 serve_status status (inr (inl e)) = inr (inr e)
 serve_status status (inr (inr (inl e))) = inl (inr (inr (inl e)))
 serve_status status (inr (inr (inr e))) = inl (inr (inr (inr (inl e))))
 
 -- no status of answering but for a sink fault and want of memory
-not_answered : (status k : ℕ) → (status ≡ 4) ⊎ ((status ≡ 6) ⊎ ((status ≡ 3) ⊎ (status ≡ 5))) → status ≡ k → (k ≡ 0) ⊎ ((k ≡ 2) ⊎ (k ≡ 7)) → ⊥
+pub not_answered : (status k : ℕ) → (status ≡ 4) ⊎ ((status ≡ 6) ⊎ ((status ≡ 3) ⊎ (status ≡ 5))) → status ≡ k → (k ≡ 0) ⊎ ((k ≡ 2) ⊎ (k ≡ 7)) → ⊥
 not_answered status k statuses is others = by_status statuses
   where
     never : (n : ℕ) → status ≡ n → ((n ≡ 4) ⊎ ((n ≡ 6) ⊎ ((n ≡ 3) ⊎ (n ≡ 5)))) → (k ≡ 0) ⊎ ((k ≡ 2) ⊎ (k ≡ 7)) → ⊥
@@ -126,7 +127,7 @@ not_answered status k statuses is others = by_status statuses
     by_status found = never status refl found others
 
 -- the cause by the status
-fault_by : (status : ℕ) (refusal : LoadRefusal) → (status ≡ refusal_status refusal) ⊎ ((status ≡ 3) ⊎ (status ≡ 5)) → status ≡ 4 → refusal ≡ DiskFault
+pub fault_by : (status : ℕ) (refusal : LoadRefusal) → (status ≡ refusal_status refusal) ⊎ ((status ≡ 3) ⊎ (status ≡ 5)) → status ≡ 4 → refusal ≡ DiskFault
 fault_by status refusal (inr (inl e)) f = absurd (omega (arith, e, f))
 fault_by status refusal (inr (inr e)) f = absurd (omega (arith, e, f))
 fault_by status DiskFault (inl e) f = refl
@@ -134,7 +135,7 @@ fault_by status NoMemory (inl e) f = absurd (omega (arith, e, f))
 fault_by status NoBase (inl e) f = absurd (omega (arith, e, f))
 fault_by status (Damaged container offset at) (inl e) f = absurd (omega (arith, e, f))
 
-no_log_by : (status : ℕ) (refusal : LoadRefusal) → (status ≡ refusal_status refusal) ⊎ ((status ≡ 3) ⊎ (status ≡ 5)) → status ≡ 6 → IsNoLog refusal
+pub no_log_by : (status : ℕ) (refusal : LoadRefusal) → (status ≡ refusal_status refusal) ⊎ ((status ≡ 3) ⊎ (status ≡ 5)) → status ≡ 6 → IsNoLog refusal
 no_log_by status refusal (inr (inl e)) f = absurd (omega (arith, e, f))
 no_log_by status refusal (inr (inr e)) f = absurd (omega (arith, e, f))
 no_log_by status DiskFault (inl e) f = absurd (omega (arith, e, f))
@@ -142,14 +143,14 @@ no_log_by status NoMemory (inl e) f = absurd (omega (arith, e, f))
 no_log_by status NoBase (inl e) f = tt
 no_log_by status (Damaged container offset at) (inl e) f = tt
 
-no_log_line : (refusal : LoadRefusal) → IsNoLog refusal → refusal_line refusal ≡ no_log_text refusal
+pub no_log_line : (refusal : LoadRefusal) → IsNoLog refusal → refusal_line refusal ≡ no_log_text refusal
 no_log_line NoBase is = refl
 no_log_line (Damaged container offset at) is = refl
 no_log_line DiskFault is = absurd is
 no_log_line NoMemory is = absurd is
 
 -- the line for a refusal is one of those that say why
-refusal_text : (refusal : LoadRefusal) (old new : DiskState) → RefusesLog refusal old new → refusal ≢ NoMemory → IsRefusalText old new (refusal_line refusal)
+pub refusal_text : (refusal : LoadRefusal) (old new : DiskState) → RefusesLog refusal old new → refusal ≢ NoMemory → IsRefusalText old new (refusal_line refusal)
 refusal_text NoBase old new refuses other = inl (record { refusal = NoBase; no_log = tt; refuses = refuses; line = refl })
 refusal_text (Damaged container offset at) old new refuses other = inl (record { refusal = Damaged container offset at; no_log = tt; refuses = refuses; line = refl })
 refusal_text DiskFault old new refuses other = inr (refuses, refl)

@@ -1,6 +1,5 @@
 -- What a line that was read stands for.
 use Rattle.clfs_model.specs.Run.{Request, asks, reopens, bad_line}
-use Rattle.clfs_model.specs.Conditions.{MeetsCondition}
 use Rattle.clfs_engine.specs.declared.asking.Asked.{Asked}
 use Rattle.clfs_engine.specs.declared.asking.Asked.TheVariants.{Step, Reopen, Nothing}
 
@@ -9,8 +8,3 @@ abbrev pub request : Asked → Request
 request (Step client call) = asks client call
 request (Reopen client) = reopens client
 request (Nothing at) = bad_line at
-
--- A call that is asked for meets its condition.
-abbrev pub Meets : Request → Type 0
-Meets (asks client call) = MeetsCondition client call
-Meets _ = Unit {0}

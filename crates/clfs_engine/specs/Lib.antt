@@ -7,8 +7,14 @@ pub mod Reached
 pub mod Ends
 pub mod Opened
 pub mod Serve
+pub mod Made
+pub mod Raced
+pub mod Race
+pub mod Ran
 pub mod Stopped
 pub mod Format
 pub mod Worked
 pub mod Crashed
 pub mod Trial
+pub mod Check
+pub mod Complete

@@ -5,7 +5,7 @@ use Rattle.clfs_ports.specs.Cause.{Rises}
 use Rattle.clfs_disk.specs.Files.{Unchanged}
 use Rattle.clfs_disk.specs.State.{DiskState, Passes}
 use Rattle.clfs_model.specs.Lines.{lines_of}
-use Rattle.clfs_model.specs.Accepted.{serve_limits, accepted}
+use Rattle.clfs_model.specs.Accepted.{Limits, serve_limits, accepted}
 use Rattle.clfs_recover.specs.declared.refusal.LoadRefusal.TheVariants.{DiskFault}
 use Rattle.clfs_engine.specs.Answered.{IsAnswered, IsAnsweredInPart}
 use Rattle.clfs_engine.specs.Ends.{AppendsFront, disk_fault_text}
@@ -22,36 +22,36 @@ too_long_text = codes "input too long\n"
 
 -- the line for words that are no command
 abbrev pub usage_text : List ℕ
-usage_text = codes "usage: clfs FOLDER format, serve, race, trial or crew\n"
+usage_text = codes "usage: clfs FOLDER format, serve, race, trial, crew or check\n"
 
 -- the replies to the lines that came whole and before a limit, and then the line for an input that is too long
-pub record IsAnsweredUpToLimit (Is : Answers) (bytes text : List ℕ) : Type 0 where
+pub record IsAnsweredUpToLimit (limits : Limits) (Is : Answers) (bytes text : List ℕ) : Type 0 where
   pub output : List ℕ
-  pub answered : Is (accepted serve_limits bytes) output
+  pub answered : Is (accepted limits bytes) output
   pub line : text ≡ output ++ too_long_text
 
 -- The script was read to its end within its limits, and this text is the replies to all its lines.
-pub record IsWholeAnswer (Is : Answers) (left left_after : Option (List ℕ)) (text : List ℕ) : Type 0 where
+pub record IsWholeAnswer (limits : Limits) (Is : Answers) (left left_after : Option (List ℕ)) (text : List ℕ) : Type 0 where
   pub script : List ℕ
-  pub read : IsWholeScript left left_after script
+  pub read : IsWholeScript limits left left_after script
   pub answered : Is (lines_of script) text
 
 -- The source failed, and this text is the replies to the lines that came whole before, up to the first that is too long.
-pub record IsAnswerUpToFault (Is : Answers) (left left_after : Option (List ℕ)) (text : List ℕ) : Type 0 where
+pub record IsAnswerUpToFault (limits : Limits) (Is : Answers) (left left_after : Option (List ℕ)) (text : List ℕ) : Type 0 where
   pub bytes : List ℕ
   pub given : Consumes left left_after bytes
-  pub answered : Is (accepted serve_limits bytes) text
+  pub answered : Is (accepted limits bytes) text
 
 -- What the source gave passes a limit, and this text is the replies to the lines that came whole before it, and the line that says so.
-pub record IsAnswerUpToLimit (Is : Answers) (left left_after : Option (List ℕ)) (text : List ℕ) : Type 0 where
+pub record IsAnswerUpToLimit (limits : Limits) (Is : Answers) (left left_after : Option (List ℕ)) (text : List ℕ) : Type 0 where
   pub bytes : List ℕ
-  pub given : IsPastLimit left left_after bytes
-  pub answered : IsAnsweredUpToLimit Is bytes text
+  pub given : IsPastLimit limits left left_after bytes
+  pub answered : IsAnsweredUpToLimit limits Is bytes text
 
 -- What the source gave passes a limit, and this text is the replies to the lines that came whole before it, and a front of the line that says so.
 pub record IsFrontUpToLimit (Is : Answers) (left left_after : Option (List ℕ)) (text : List ℕ) : Type 0 where
   pub bytes : List ℕ
-  pub given : IsPastLimit left left_after bytes
+  pub given : IsPastLimit serve_limits left left_after bytes
   pub output : List ℕ
   pub answered : Is (accepted serve_limits bytes) output
   pub count : ℕ
@@ -86,17 +86,17 @@ pub record EndsAnswering (Is : Answers) (InPart : Bool → Answers) (status : �
   -- there is no other status
   pub statuses : IsAnswerStatus status
   -- the source was read to its end, and the sink's new bytes are the replies to all its lines
-  pub done : status ≡ 0 → Writes (IsWholeAnswer Is left left_after) written written_after
+  pub done : status ≡ 0 → Writes (IsWholeAnswer serve_limits Is left left_after) written written_after
   -- the source failed in this call, and the lines that came whole before are answered
   pub source_fault : status ≡ 2 → Rises source source_after
-  pub source_fault_answers : status ≡ 2 → Writes (IsAnswerUpToFault Is left left_after) written written_after
+  pub source_fault_answers : status ≡ 2 → Writes (IsAnswerUpToFault serve_limits Is left left_after) written written_after
   -- the sink failed in this call: of the last line that was answered a front of the reply was written, and all replies before it
   pub sink_fault : status ≡ 3 → Rises sink sink_after
   pub sink_fault_front : status ≡ 3 → StopsAtFault Is InPart left left_after written written_after
   -- memory ran out: lines up to some were answered, and all their replies were written whole, or all but the last and nothing of that one
   pub no_memory : status ≡ 5 → StopsShort (InPart false) left left_after written written_after
   -- what the source gave passes a limit; the lines that came whole before it are answered, and then the line that says so
-  pub too_long : status ≡ 7 → Writes (IsAnswerUpToLimit Is left left_after) written written_after
+  pub too_long : status ≡ 7 → Writes (IsAnswerUpToLimit serve_limits Is left left_after) written written_after
   -- the counts of faults never fall
   pub source_count : source ≤ source_after
   pub sink_count : sink ≤ sink_after
@@ -119,10 +119,10 @@ pub record EndsServing (status buffers : ℕ) (old new : DiskState) (left left_a
   -- there is no other status
   pub statuses : IsServeStatus status
   -- the source was read to its end, and the sink's new bytes are the replies to all its lines
-  pub done : status ≡ 0 → Writes (IsWholeAnswer (IsAnswered buffers old new) left left_after) written written_after
+  pub done : status ≡ 0 → Writes (IsWholeAnswer serve_limits (IsAnswered buffers old new) left left_after) written written_after
   -- the source failed in this call, and the lines that came whole before are answered
   pub source_fault : status ≡ 2 → Rises source source_after
-  pub source_fault_answers : status ≡ 2 → Writes (IsAnswerUpToFault (IsAnswered buffers old new) left left_after) written written_after
+  pub source_fault_answers : status ≡ 2 → Writes (IsAnswerUpToFault serve_limits (IsAnswered buffers old new) left left_after) written written_after
   -- the sink failed in this call: of the last line that was answered a front of the reply was written, and all replies before it, or a front of
   -- the line that says why the log wasn't opened
   pub sink_fault : status ≡ 3 → Rises sink sink_after
@@ -139,7 +139,7 @@ pub record EndsServing (status buffers : ℕ) (old new : DiskState) (left left_a
   -- the files aren't a log's, and the line that says so was written
   pub no_log : status ≡ 6 → Writes (IsNoLogText old new) written written_after
   -- what the source gave passes a limit; the lines that came whole before it are answered, and then the line that says so
-  pub too_long : status ≡ 7 → Writes (IsAnswerUpToLimit (IsAnswered buffers old new) left left_after) written written_after
+  pub too_long : status ≡ 7 → Writes (IsAnswerUpToLimit serve_limits (IsAnswered buffers old new) left left_after) written written_after
   -- the source isn't read before the log is opened
   pub unread : (status ≡ 4) ⊎ (status ≡ 6) → (left_after ≡ left) × (source_after ≡ source)
   -- the counts of faults never fall

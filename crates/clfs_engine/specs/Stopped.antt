@@ -10,13 +10,13 @@ use Rattle.clfs_engine.specs.declared.status.Stop.TheVariants.{SourceFault, Sink
 -- What the source gave passes a limit, and this text is the replies to the lines that came whole before it.
 pub record IsAnswerBeforeLimit (Is : Answers) (left left_after : Option (List ℕ)) (text : List ℕ) : Type 0 where
   pub bytes : List ℕ
-  pub given : IsPastLimit left left_after bytes
+  pub given : IsPastLimit serve_limits left left_after bytes
   pub answered : Is (accepted serve_limits bytes) text
 
 -- what was answered and written, by the cause
 abbrev pub HasStopped : Answers → (Bool → Answers) → Stop → Option (List ℕ) → Option (List ℕ) → Option (List ℕ) → Option (List ℕ) → ℕ → ℕ → ℕ → ℕ → Type 0
 HasStopped Is InPart SourceFault left left_after written written_after source source_after sink sink_after =
-    Rises source source_after × Writes (IsAnswerUpToFault Is left left_after) written written_after
+    Rises source source_after × Writes (IsAnswerUpToFault serve_limits Is left left_after) written written_after
 HasStopped Is InPart SinkFault left left_after written written_after source source_after sink sink_after =
     Rises sink sink_after × StopsShort (InPart true) left left_after written written_after
 HasStopped Is InPart NoMemory left left_after written written_after source source_after sink sink_after =

@@ -2,7 +2,7 @@
 use Rattle.std.specs.Prelude.{◌≡◌, ◌⊎◌, ℕ, Bool, nat_le, true, false, List, ◌++◌, length, Option}
 use Rattle.std.specs.Io.KnownBytes.{Consumes, IsAtEnd}
 use Rattle.clfs_model.specs.Lines.{lines_of}
-use Rattle.clfs_model.specs.Accepted.{serve_limits, is_within, accepted}
+use Rattle.clfs_model.specs.Accepted.{Limits, serve_limits, is_within, accepted}
 
 -- the most bytes of a script
 abbrev pub longest_script : ℕ
@@ -13,15 +13,15 @@ abbrev pub is_short : List ℕ → Bool
 is_short line = nat_le (length line) serve_limits.line
 
 -- A script that was read to its end: the source had it, nothing is left, and it is within its limits.
-pub record IsWholeScript (left left_after : Option (List ℕ)) (script : List ℕ) : Type 0 where
+pub record IsWholeScript (limits : Limits) (left left_after : Option (List ℕ)) (script : List ℕ) : Type 0 where
   pub given : Consumes left left_after script
   pub end : IsAtEnd left_after
-  pub within : is_within serve_limits script ≡ true
+  pub within : is_within limits script ≡ true
 
 -- What the source gave passes a limit.
-pub record IsPastLimit (left left_after : Option (List ℕ)) (bytes : List ℕ) : Type 0 where
+pub record IsPastLimit (limits : Limits) (left left_after : Option (List ℕ)) (bytes : List ℕ) : Type 0 where
   pub given : Consumes left left_after bytes
-  pub past : is_within serve_limits bytes ≡ false
+  pub past : is_within limits bytes ≡ false
 
 -- lines that stand at the front of others
 pub record IsFrontOf (all lines : List (List ℕ)) : Type 0 where
@@ -37,7 +37,7 @@ pub record AreFrontLines (left left_after : Option (List ℕ)) (lines : List (Li
 -- All lines of a script that was read to its end.
 pub record AreAllLines (left left_after : Option (List ℕ)) (lines : List (List ℕ)) : Type 0 where
   pub script : List ℕ
-  pub read : IsWholeScript left left_after script
+  pub read : IsWholeScript serve_limits left left_after script
   pub all : lines_of script ≡ lines
 
 -- lines up to which it was come

@@ -7,7 +7,8 @@ ghost use Rattle.clfs_model.specs.declared.reply.Reply.TheVariants as replies;
 ghost use Rattle.clfs_manager.specs.Calls.{replied};
 ghost use Rattle.clfs_model.specs.Accepted.{serve_limits};
 ghost use Rattle.clfs_engine.specs.Answered.{AnswersOne, AnswersLine, AnswersUnwritten};
-ghost use Rattle.clfs_engine.specs.Asked.{request, Meets};
+ghost use Rattle.clfs_engine.specs.Asked.{request};
+ghost use Rattle.clfs_race.specs.Meets.{Meets};
 ghost use Rattle.clfs_engine.specs.Stopped.{StopsLine};
 
 use crate::asking::{Asked, read_line};

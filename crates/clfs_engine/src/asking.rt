@@ -2,10 +2,12 @@
 ghost use Rattle.std.specs.Prelude.{◌≡◌, ◌≤◌, IfOk, length};
 ghost use Rattle.clfs_model.specs.Script.{line_request};
 ghost use Rattle.clfs_model.specs.Text.{client_of};
-ghost use Rattle.clfs_engine.specs.Asked.{request, Meets};
+ghost use Rattle.clfs_engine.specs.Asked.{request};
 ghost use Rattle.clfs_script.specs.Asked as script;
+ghost use Rattle.clfs_race.specs.Meets.{Meets};
 
 use clfs_model::Call;
+use clfs_race::lines_meet_their_conditions;
 use clfs_script::{Language, LineRefusal, Request, ScriptLine, parse_line};
 use std::alloc::{AllocError, Global};
 
@@ -60,6 +62,7 @@ pub fn read_line(alloc: Global, line: &[u8]) -> Result<Asked, AllocError>
     ensures request { IfOk result (λ asked. request asked ≡ line_request line.now) }
     ensures meets { IfOk result (λ asked. Meets (request asked)) }
 {
+    lines_meet_their_conditions();
     match parse_line(alloc, Language::CallsAndReopening, line) {
         Ok(found) => Ok(line_asked(found)),
         Err(LineRefusal::BadLine { at }) => Ok(Asked::Nothing { at }),

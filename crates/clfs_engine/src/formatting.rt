@@ -2,6 +2,7 @@
 ghost use Rattle.std.specs.Prelude.{◌≡◌, ◌≤◌};
 ghost use Rattle.clfs_lsn.specs.Limits.{most_containers};
 ghost use Rattle.clfs_lsn.specs.Size.{IsShape};
+ghost use Rattle.clfs_engine.specs.Complete.{IsDone, NothingFailsMaking};
 ghost use Rattle.clfs_engine.specs.Format.{EndsFormat};
 
 use crate::output::printed;
@@ -24,8 +25,9 @@ pub fn format<K: Sink, D: Disk + Drop>(
     requires shape { IsShape shape }
     requires some { 1 ≤ containers }
     requires few { containers ≤ most_containers }
-    ensures { EndsFormat result.status shape containers dedicated (D.state disk) (D.state result.disk)
+    ensures ends { EndsFormat result.status shape containers dedicated (D.state disk) (D.state result.disk)
         (K.written sink.old) (K.written sink.new) (K.faults sink.old) (K.faults sink.new) }
+    ensures complete { NothingFailsMaking (D.state disk) (D.state result.disk) (K.faults sink.old) (K.faults sink.new) → IsDone result.status }
 {
     match Manager::format(alloc, disk, shape, containers, dedicated) {
         Ok(disk) => Outcome {

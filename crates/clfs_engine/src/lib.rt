@@ -6,16 +6,25 @@
 //! no line is answered a fault, such files stand behind it for the flushed part of the state that the run leaves, up to records that no reply can
 //! show.
 //!
-//! `trial` answers lines that `clfs_trial` makes, by a log in memory, and prints their sums.
+//! `race` reads the whole script, opens the log, and lets each client make its calls in a thread of its own over a log that all share
+//! (`clfs_shared`). It writes the replies when all calls are made: those of one journal that is legal for the log machine, and in which each client's
+//! calls are its lines in order.
+//!
+//! `trial` answers lines that `clfs_trial` makes, by a log in memory, and prints their sums. `check` judges a log by `clfs_check`, and prints what
+//! is in it.
+//!
+//! If nothing outside fails, a command is done, unless memory runs out; each says so in a clause of its own, `complete` (specs/Complete.antt).
 #![tactic(auto)]
 
 mod answering;
 mod asking;
+mod checking;
 mod formatting;
 mod input;
 mod lines;
 mod output;
 mod program;
+mod racing;
 mod refusing;
 mod rows;
 mod serving;
@@ -23,9 +32,13 @@ mod status;
 mod streaming;
 mod tally;
 mod trying;
+mod workers;
 
+pub use checking::check;
+pub use clfs_race::{Gate, Pass};
 pub use formatting::format;
 pub use program::run;
+pub use racing::race;
 pub use rows::{appends_and_reads, areas, ends_of_lines, lengths_of_records, words_of_lines};
 pub use serving::serve;
 pub use status::{

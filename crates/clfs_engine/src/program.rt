@@ -3,24 +3,34 @@ ghost use Rattle.std.specs.Prelude.{◌≡◌, ◌≢◌, ℕ, Bool, map, Some, 
 ghost use Rattle.std.specs.String.{string_bytes};
 ghost use Rattle.clfs_lsn.specs.declared.shape.Shape.{Shape};
 ghost use Rattle.clfs_command.specs.Command.{command_of};
-ghost use Rattle.clfs_command.specs.declared.words.Command.TheVariants.{Format, Serve, Trial};
+ghost use Rattle.clfs_command.specs.declared.words.Command.TheVariants.{Format, Serve, Race, Trial, Check};
+ghost use Rattle.clfs_ports.specs.Cause.{Rises};
+ghost use Rattle.clfs_engine.specs.Check.{EndsCheck};
+ghost use Rattle.clfs_engine.specs.Complete.{IsDone, NothingFailsServing, NothingFailsMaking, NothingFailsChecking, ComesThrough};
 ghost use Rattle.clfs_engine.specs.Format.{EndsFormat};
+ghost use Rattle.clfs_engine.specs.Race.{EndsRacing};
 ghost use Rattle.clfs_engine.specs.Serve.{EndsServing, EndsByUsage};
 ghost use Rattle.clfs_engine.specs.Trial.{EndsTrial};
 
+use crate::checking::check;
 use crate::formatting::format;
 use crate::output::printed;
+use crate::racing::race;
 use crate::serving::serve;
 use crate::status::{NO_MEMORY, Outcome, USAGE};
 use crate::trying::trial;
 use clfs_command::{Command, WordsRefusal, read_command};
 use clfs_disk::Disk;
 use clfs_ports::{Sink, Source};
+use clfs_race::Pass;
 use std::alloc::Global;
+use std::sync::Wait;
+use std::thread::Threads;
 
-/// Runs the command that the words name: `serve` with its write buffers, `format` with the sizes of the log and whether it is dedicated, or
-/// `trial` with its number and its count. The words are those after the folder.
-pub fn run<S: Source, K: Sink, D: Disk + Drop>(
+/// Runs the command that the words name: `serve` or `race` with its write buffers, `format` with the sizes of the log and whether it is dedicated,
+/// `trial` with its number and its count, or `check`. The words are those after the folder. Only a race starts threads, and waits for them.
+pub fn run<R: Threads + Wait + Sync, S: Source, K: Sink, D: Disk + Send + Drop>(
+    rt: &R,
     alloc: Global,
     words: &[String],
     source: &mut S,
@@ -30,21 +40,41 @@ pub fn run<S: Source, K: Sink, D: Disk + Drop>(
     ensures serves { (buffers : ℕ) → command_of (map string_bytes words.now) ≡ Some (Serve buffers)
         → EndsServing result.status buffers (D.state disk) (D.state result.disk) (S.left source.old) (S.left source.new)
         (K.written sink.old) (K.written sink.new) (S.faults source.old) (S.faults source.new) (K.faults sink.old) (K.faults sink.new) }
+    ensures races { (buffers : ℕ) → command_of (map string_bytes words.now) ≡ Some (Race buffers)
+        → EndsRacing result.status buffers (D.state disk) (D.state result.disk) (S.left source.old) (S.left source.new)
+        (K.written sink.old) (K.written sink.new) (S.faults source.old) (S.faults source.new) (K.faults sink.old) (K.faults sink.new) }
     ensures formats { (shape : Shape) (containers : ℕ) (dedicated : Bool) → command_of (map string_bytes words.now) ≡ Some (Format shape containers dedicated)
         → EndsFormat result.status shape containers dedicated (D.state disk) (D.state result.disk)
         (K.written sink.old) (K.written sink.new) (K.faults sink.old) (K.faults sink.new) }
     ensures tries { (number count : ℕ) → command_of (map string_bytes words.now) ≡ Some (Trial number count)
         → EndsTrial result.status number count (K.written sink.old) (K.written sink.new) (K.faults sink.old) (K.faults sink.new) }
+    ensures checks { command_of (map string_bytes words.now) ≡ Some Check
+        → EndsCheck result.status (D.state disk) (D.state result.disk) (K.written sink.old) (K.written sink.new) (K.faults sink.old) (K.faults sink.new) }
+    // If nothing outside fails, a command is done, unless memory runs out.
+    ensures serving_comes_through { (buffers : ℕ) → command_of (map string_bytes words.now) ≡ Some (Serve buffers)
+        → NothingFailsServing (D.state disk) (D.state result.disk) (S.left source.old) (S.faults source.old) (S.faults source.new) (K.faults sink.old) (K.faults sink.new)
+        → ComesThrough result.status buffers (D.state disk) (D.state result.disk) (S.left source.old) (S.left source.new) (K.written sink.old) (K.written sink.new) }
+    ensures making_is_done { (shape : Shape) (containers : ℕ) (dedicated : Bool) → command_of (map string_bytes words.now) ≡ Some (Format shape containers dedicated)
+        → NothingFailsMaking (D.state disk) (D.state result.disk) (K.faults sink.old) (K.faults sink.new) → IsDone result.status }
+    ensures trying_is_done { (number count : ℕ) → command_of (map string_bytes words.now) ≡ Some (Trial number count)
+        → (Rises (K.faults sink.old) (K.faults sink.new) → ⊥) → IsDone result.status }
+    ensures checking_is_done { command_of (map string_bytes words.now) ≡ Some Check
+        → NothingFailsChecking (D.state disk) (D.state result.disk) (K.faults sink.old) (K.faults sink.new) → IsDone result.status }
     ensures usage { command_of (map string_bytes words.now) ≡ None → EndsByUsage result.status (K.written sink.old) (K.written sink.new)
         (K.faults sink.old) (K.faults sink.new) }
-    // Only a script is read from the source, and only serving and making a log call the disk.
-    ensures unread { ((buffers : ℕ) → command_of (map string_bytes words.now) ≢ Some (Serve buffers)) → source.new ≡ source.old }
+    // Only a script is read from the source, and only serving, racing, making and judging a log call the disk.
+    ensures unread { ((buffers : ℕ) → command_of (map string_bytes words.now) ≢ Some (Serve buffers))
+        → ((buffers : ℕ) → command_of (map string_bytes words.now) ≢ Some (Race buffers)) → source.new ≡ source.old }
     ensures untouched { ((buffers : ℕ) → command_of (map string_bytes words.now) ≢ Some (Serve buffers))
+        → ((buffers : ℕ) → command_of (map string_bytes words.now) ≢ Some (Race buffers))
         → ((shape : Shape) (containers : ℕ) (dedicated : Bool) → command_of (map string_bytes words.now) ≢ Some (Format shape containers dedicated))
-        → result.disk ≡ disk }
+        → command_of (map string_bytes words.now) ≢ Some Check → result.disk ≡ disk }
 {
     match read_command(alloc, words) {
         Ok(Command::Serve { write_buffers }) => serve(alloc, write_buffers, source, sink, disk),
+        Ok(Command::Race { write_buffers }) => {
+            race(rt, alloc, write_buffers, &Pass, source, sink, disk)
+        }
         Ok(
             Command::Format {
                 shape,
@@ -56,8 +86,9 @@ pub fn run<S: Source, K: Sink, D: Disk + Drop>(
             status: trial(alloc, number, count, sink),
             disk,
         },
+        Ok(Command::Check) => check(alloc, sink, disk),
         Err(WordsRefusal::Usage) => {
-            let line = b"usage: clfs FOLDER format, serve, race, trial or crew\n";
+            let line = b"usage: clfs FOLDER format, serve, race, trial, crew or check\n";
             Outcome {
                 status: printed(sink, line, USAGE),
                 disk,

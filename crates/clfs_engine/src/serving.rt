@@ -2,6 +2,7 @@
 ghost use Rattle.std.specs.Prelude.{◌≤◌};
 ghost use Rattle.clfs_lsn.specs.Limits.{most_write_buffers};
 ghost use Rattle.clfs_engine.specs.Answered.{AnswersLines, AnswersInPart};
+ghost use Rattle.clfs_engine.specs.Complete.{NothingFailsServing, ComesThrough};
 ghost use Rattle.clfs_engine.specs.Serve.{EndsAnswering, EndsServing};
 
 use crate::output::printed;
@@ -11,6 +12,7 @@ use crate::streaming::answer_script;
 use clfs_disk::Disk;
 use clfs_manager::{LoadRefused, Manager};
 use clfs_ports::{Sink, Source};
+use clfs_recover::files_have_one_meaning;
 use std::alloc::Global;
 
 // Answers the script by a log that was opened, and gives the status.
@@ -46,9 +48,13 @@ pub fn serve<S: Source, K: Sink, D: Disk + Drop>(
 ) -> Outcome<D>
     requires some { 1 ≤ write_buffers }
     requires at_most { write_buffers ≤ most_write_buffers }
-    ensures { EndsServing result.status write_buffers (D.state disk) (D.state result.disk) (S.left source.old) (S.left source.new)
+    ensures ends { EndsServing result.status write_buffers (D.state disk) (D.state result.disk) (S.left source.old) (S.left source.new)
         (K.written sink.old) (K.written sink.new) (S.faults source.old) (S.faults source.new) (K.faults sink.old) (K.faults sink.new) }
+    ensures complete { NothingFailsServing (D.state disk) (D.state result.disk) (S.left source.old) (S.faults source.old) (S.faults source.new)
+        (K.faults sink.old) (K.faults sink.new) → ComesThrough result.status write_buffers (D.state disk) (D.state result.disk)
+        (S.left source.old) (S.left source.new) (K.written sink.old) (K.written sink.new) }
 {
+    files_have_one_meaning();
     match Manager::load(alloc, disk, write_buffers) {
         Ok(manager) => {
             let mut manager = manager;

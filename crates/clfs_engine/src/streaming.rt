@@ -1,6 +1,7 @@
 // The answers to a script as its bytes come: each line is answered when its line feed is there, and its reply is written before the next one
 // is looked at. Each turn of the loop answers a line, takes at least one byte, ends the script or ends with a fault; so it ends over every source.
 ghost use Rattle.std.specs.Prelude.{◌≡◌, ◌≤◌, [], OnOk, IfErr};
+ghost use Rattle.clfs_model.specs.Accepted.{serve_limits};
 ghost use Rattle.clfs_engine.specs.Answered.{AnswersLines, AnswersInPart};
 ghost use Rattle.clfs_engine.specs.Reached.{HasAnsweredEnded};
 ghost use Rattle.clfs_engine.specs.Serve.{IsWholeAnswer, Writes};
@@ -84,7 +85,7 @@ pub fn answer_script<S: Source, K: Sink, D: Disk>(
     source: &mut S,
     sink: &mut K,
 ) -> Result<(), Stop>
-    ensures done { OnOk result (Writes (IsWholeAnswer (AnswersLines manager.old.0 (D.state manager.old.1) manager.new.0 (D.state manager.new.1))
+    ensures done { OnOk result (Writes (IsWholeAnswer serve_limits (AnswersLines manager.old.0 (D.state manager.old.1) manager.new.0 (D.state manager.new.1))
         (S.left source.old) (S.left source.new)) (K.written sink.old) (K.written sink.new)) }
     ensures stopped { IfErr result (λ stop. HasStopped (AnswersLines manager.old.0 (D.state manager.old.1) manager.new.0 (D.state manager.new.1))
         (AnswersInPart manager.old.0 (D.state manager.old.1) manager.new.0 (D.state manager.new.1)) stop

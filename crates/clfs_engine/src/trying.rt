@@ -2,11 +2,13 @@
 // memory of one serves all.
 ghost use Rattle.std.specs.Prelude.{◌≡◌, ◌+◌, ◌≤◌, ◌++◌, IfOk, OnOk, decimal};
 ghost use Rattle.clfs_lsn.specs.Words.{lsn_text};
+ghost use Rattle.clfs_ports.specs.Cause.{Rises};
 ghost use Rattle.clfs_disk.specs.State.{TellsContents, IsSteady};
 ghost use Rattle.clfs_model.specs.Flush.{flushed};
 ghost use Rattle.clfs_recover.specs.Files.{AreWholeFiles};
 ghost use Rattle.clfs_command.specs.Command.{most_trial_lines};
 ghost use Rattle.clfs_trial.specs.Generated.{opening_lines};
+ghost use Rattle.clfs_engine.specs.Complete.{IsDone};
 ghost use Rattle.clfs_engine.specs.Trial.{HasTried, trial_log, trial_text, IsTrialText, EndsTrial};
 
 use crate::answering::reply_to_line;
@@ -159,7 +161,8 @@ fn tried(alloc: Global, number: u32, count: u32) -> Result<Bytes, AllocError>
 /// refused, how many were answered otherwise, and up to which LSN the log is flushed then.
 pub fn trial<K: Sink>(alloc: Global, number: u32, count: u32, sink: &mut K) -> u8
     requires { count ≤ most_trial_lines }
-    ensures { EndsTrial result number count (K.written sink.old) (K.written sink.new) (K.faults sink.old) (K.faults sink.new) }
+    ensures ends { EndsTrial result number count (K.written sink.old) (K.written sink.new) (K.faults sink.old) (K.faults sink.new) }
+    ensures complete { (Rises (K.faults sink.old) (K.faults sink.new) → ⊥) → IsDone result }
 {
     match tried(alloc, number, count) {
         Ok(text) => printed(sink, text.as_slice(), DONE),

@@ -7,7 +7,9 @@ use clfs_disk::{Disk, Fuse, Memory};
 use clfs_engine::DONE;
 use std::alloc::{AllocError, Global};
 use std::process::Abort;
+use std::sync::Wait;
 use std::test::Fail;
+use std::thread::Threads;
 
 // Two clients fill a log of two containers, and move their bases, so that its first container is free again. The record behind begins container 3 in
 // the file of container 1.
@@ -30,20 +32,20 @@ fn with_line(alloc: Global, script: &str, line: &str) -> Result<Vec<u8>, AllocEr
 }
 
 // The disk that is left of a script.
-fn left_by<D: Disk + Drop>(
-    rt: &impl Abort,
+fn left_by<D: Disk + Send + Drop>(
+    rt: &(impl Abort + Threads + Wait + Sync),
     alloc: Global,
     disk: D,
     script: &[u8],
 ) -> Result<D, AllocError> {
-    let Ran { status, disk, .. } = served(alloc, disk, script)?;
+    let Ran { status, disk, .. } = served(rt, alloc, disk, script)?;
     assert_eq!(rt; status, DONE);
     Ok(disk)
 }
 
 // What is read of a log that is opened behind a crash.
 fn answers_behind(
-    rt: &impl Abort,
+    rt: &(impl Abort + Threads + Wait + Sync),
     alloc: Global,
     script: &[u8],
     passes: u64,
@@ -58,7 +60,7 @@ fn answers_behind(
         status,
         written,
         ..
-    } = served(alloc, crashed, probe)?;
+    } = served(rt, alloc, crashed, probe)?;
     assert_eq!(rt; status, DONE);
     Ok(written)
 }
@@ -87,7 +89,11 @@ fn base_in(alloc: Global, text: &[u8], line: usize) -> Result<Option<Vec<u8>>, A
 }
 
 // The log goes on in container 2 or 3, has the base of client 1, and shows no record of container 1.
-fn check_reused(rt: &impl Abort, alloc: Global, written: &[u8]) -> Result<(), AllocError> {
+fn check_reused(
+    rt: &(impl Abort + Threads + Wait + Sync),
+    alloc: Global,
+    written: &[u8],
+) -> Result<(), AllocError> {
     assert_eq!(rt;
         base_in(alloc, written, 2)?,
         Some(b"2:800:0".to_vec(alloc)?)

@@ -6,9 +6,11 @@ use clfs_ports::{Failed, MemorySink, MemorySource, Sink, Source};
 use std::alloc::{AllocError, Global};
 use std::cell::Cell;
 use std::process::Abort;
+use std::sync::Wait;
 use std::test::Fail;
+use std::thread::Threads;
 
-const USAGE_LINE: &[u8] = b"usage: clfs FOLDER format, serve, race, trial or crew\n";
+const USAGE_LINE: &[u8] = b"usage: clfs FOLDER format, serve, race, trial, crew or check\n";
 
 pub fn words(alloc: Global, texts: &[&str]) -> Result<Vec<String>, AllocError> {
     let mut words = Vec::new(alloc);
@@ -33,19 +35,23 @@ pub fn format_words<'a>(sizes: [&'a str; 3]) -> [&'a str; 7] {
 }
 
 // A disk in memory with a log that has just been made.
-pub fn formatted(rt: &impl Abort, alloc: Global, sizes: [&str; 3]) -> Result<Memory, AllocError> {
+pub fn formatted(
+    rt: &(impl Abort + Threads + Wait + Sync),
+    alloc: Global,
+    sizes: [&str; 3],
+) -> Result<Memory, AllocError> {
     let mut source = MemorySource::new(Vec::new(alloc), 1, Vec::new(alloc));
     let mut sink = MemorySink::new(Vec::new(alloc), 10, Vec::new(alloc));
     let disk = Memory::new(alloc, 2048, 8388608, &[])?;
     let command = words(alloc, format_words(sizes).as_slice())?;
-    let outcome = run(alloc, &command, &mut source, &mut sink, disk);
+    let outcome = run(rt, alloc, &command, &mut source, &mut sink, disk);
     assert_eq!(rt; outcome.status, DONE);
     Ok(outcome.disk)
 }
 
 // Runs `serve` over a script that comes and goes in small pieces.
-pub fn check_script<D: Disk + Drop>(
-    rt: &impl Abort,
+pub fn check_script<D: Disk + Send + Drop>(
+    rt: &(impl Abort + Threads + Wait + Sync),
     alloc: Global,
     disk: D,
     script: &[u8],
@@ -54,7 +60,7 @@ pub fn check_script<D: Disk + Drop>(
     let mut source = MemorySource::new(script.to_vec(alloc)?, 7, Vec::new(alloc));
     let mut sink = MemorySink::new(Vec::new(alloc), 5, Vec::new(alloc));
     let command = words(alloc, &["serve"])?;
-    let outcome = run(alloc, &command, &mut source, &mut sink, disk);
+    let outcome = run(rt, alloc, &command, &mut source, &mut sink, disk);
     assert_eq!(rt; sink.bytes(), want);
     assert_eq!(rt; outcome.status, DONE);
     Ok(outcome.disk)
@@ -232,7 +238,7 @@ fn small_logs_and_none(rt: HostRuntime) -> Result<(), Fail> {
     let mut sink = MemorySink::new(Vec::new(alloc), 5, Vec::new(alloc));
     let command = words(alloc, &["serve"])?;
     let disk = Memory::new(alloc, 64, 65536, &[])?;
-    let outcome = run(alloc, &command, &mut source, &mut sink, disk);
+    let outcome = run(&rt, alloc, &command, &mut source, &mut sink, disk);
     assert_eq!(rt; outcome.status, NOT_A_LOG);
     assert_eq!(rt; sink.bytes(), b"not a log: no open slot\n".as_slice());
     Ok(())
@@ -275,7 +281,14 @@ fn statuses_and_their_causes(rt: HostRuntime) -> Result<(), Fail> {
         );
         let mut sink = MemorySink::new(Vec::new(alloc), 10, vec![in alloc; sink_fails]?);
         let disk = formatted(&rt, alloc, ["2", "8", "2"])?;
-        let outcome = run(alloc, &words(alloc, texts)?, &mut source, &mut sink, disk);
+        let outcome = run(
+            &rt,
+            alloc,
+            &words(alloc, texts)?,
+            &mut source,
+            &mut sink,
+            disk,
+        );
         assert_eq!(rt; outcome.status, want);
         assert_eq!(rt; sink.bytes(), written);
     }
@@ -301,7 +314,7 @@ fn logs_are_made(rt: HostRuntime) -> Result<(), Fail> {
         let mut source = MemorySource::new(Vec::new(alloc), 1, Vec::new(alloc));
         let mut sink = MemorySink::new(Vec::new(alloc), 10, Vec::new(alloc));
         let command = words(alloc, format_words(numbers).as_slice())?;
-        let outcome = run(alloc, &command, &mut source, &mut sink, disk);
+        let outcome = run(&rt, alloc, &command, &mut source, &mut sink, disk);
         assert_eq!(rt; outcome.status, want);
         assert_eq!(rt; sink.bytes(), written);
         disk = outcome.disk;

@@ -1,16 +1,21 @@
-//! Tests of the whole log: the manager's calls, and scripts through the program's commands.
+//! Tests of the whole log by scripts through the program's commands.
 //!
-//! The crate has no function of its own. Its tests make public calls alone, so neither the manager nor the commands are proved a
-//! second time for them. Scripts and their replies are in `engine`, those at the limits of a log and over disks that fail in
-//! `worked`, generated lines in `trial`, and what is left behind a crash in `crashes`.
+//! The crate has no function of its own. Its tests make public calls alone, so the commands aren't proved a second time for
+//! them. Scripts and their replies are in `engine`, those at the limits of a log and over disks that fail in
+//! `worked`, clients at the same time in `race`, generated lines in `trial`, and what is left behind a crash in `crashes`. `damage` judges logs
+//! whose files were changed, and `faults` lets each call of the disk, the source and the sink fail in turn.
 #![tactic(auto)]
 
 #[cfg(test)]
 mod crashes;
 #[cfg(test)]
+mod damage;
+#[cfg(test)]
 mod engine;
 #[cfg(test)]
-mod manager;
+mod faults;
+#[cfg(test)]
+mod race;
 #[cfg(test)]
 mod trial;
 #[cfg(test)]

@@ -4,10 +4,14 @@ use clfs_disk::Steady;
 use clfs_engine::{DONE, SINK_FAULT, USAGE, run};
 use clfs_ports::{MemorySink, MemorySource};
 use std::alloc::{AllocError, Global};
+use std::process::Abort;
+use std::sync::Wait;
 use std::test::Fail;
+use std::thread::Threads;
 
 // The status of `trial` with these words, and what it writes to a sink that fails in a call.
 fn tried(
+    rt: &(impl Abort + Threads + Wait + Sync),
     alloc: Global,
     number: &str,
     count: &str,
@@ -17,7 +21,7 @@ fn tried(
     let mut sink = MemorySink::new(Vec::new(alloc), 20, vec![in alloc; fails]?);
     let command = words(alloc, &["trial", number, count])?;
     let disk = Steady::new(alloc)?;
-    let outcome = run(alloc, &command, &mut source, &mut sink, disk);
+    let outcome = run(rt, alloc, &command, &mut source, &mut sink, disk);
     Ok((outcome.status, sink.bytes().to_vec(alloc)?))
 }
 
@@ -49,7 +53,7 @@ fn sums_of_trials(rt: HostRuntime) -> Result<(), Fail> {
         ),
     ];
     for (number, count, want) in cases {
-        let (status, written) = tried(alloc, number, count, 99)?;
+        let (status, written) = tried(&rt, alloc, number, count, 99)?;
         assert_eq!(rt; written.as_slice(), want.as_bytes());
         assert_eq!(rt; status, DONE);
     }
@@ -59,8 +63,8 @@ fn sums_of_trials(rt: HostRuntime) -> Result<(), Fail> {
 #[test]
 fn the_most_lines_twice(rt: HostRuntime) -> Result<(), Fail> {
     let alloc = rt.alloc();
-    let (status, written) = tried(alloc, "7", "100000", 99)?;
-    let (again, other) = tried(alloc, "7", "100000", 99)?;
+    let (status, written) = tried(&rt, alloc, "7", "100000", 99)?;
+    let (again, other) = tried(&rt, alloc, "7", "100000", 99)?;
     assert_eq!(rt; status, DONE);
     assert_eq!(rt; again, DONE);
     assert_eq!(rt; written, other);
@@ -82,11 +86,11 @@ fn words_that_are_no_trial(rt: HostRuntime) -> Result<(), Fail> {
         ("", "1"),
     ];
     for (number, count) in cases {
-        let (status, written) = tried(alloc, number, count, 99)?;
+        let (status, written) = tried(&rt, alloc, number, count, 99)?;
         assert_eq!(rt; status, USAGE);
         assert_eq!(rt;
             written.as_slice(),
-            b"usage: clfs FOLDER format, serve, race, trial or crew\n".as_slice()
+            b"usage: clfs FOLDER format, serve, race, trial, crew or check\n".as_slice()
         );
     }
     Ok(())
@@ -95,7 +99,7 @@ fn words_that_are_no_trial(rt: HostRuntime) -> Result<(), Fail> {
 #[test]
 fn a_sink_that_fails(rt: HostRuntime) -> Result<(), Fail> {
     let alloc = rt.alloc();
-    let (status, written) = tried(alloc, "1", "1", 2)?;
+    let (status, written) = tried(&rt, alloc, "1", "1", 2)?;
     assert_eq!(rt; written.as_slice(), b"trial 1 1 ok 9 refus".as_slice());
     assert_eq!(rt; status, SINK_FAULT);
     Ok(())

@@ -8,7 +8,9 @@ use clfs_engine::{DISK_FAULT, DONE, EXISTS, NOT_A_LOG, Outcome, run};
 use clfs_ports::{MemorySink, MemorySource};
 use std::alloc::{AllocError, Global};
 use std::process::Abort;
+use std::sync::Wait;
 use std::test::Fail;
+use std::thread::Threads;
 
 pub const SMALL: [&str; 3] = ["2", "8", "2"];
 
@@ -125,11 +127,16 @@ pub struct Ran<D: Disk> {
     pub disk: D,
 }
 
-pub fn served<D: Disk + Drop>(alloc: Global, disk: D, script: &[u8]) -> Result<Ran<D>, AllocError> {
+pub fn served<D: Disk + Send + Drop>(
+    rt: &(impl Abort + Threads + Wait + Sync),
+    alloc: Global,
+    disk: D,
+    script: &[u8],
+) -> Result<Ran<D>, AllocError> {
     let mut source = MemorySource::new(script.to_vec(alloc)?, 4096, Vec::new(alloc));
     let mut sink = MemorySink::new(Vec::new(alloc), 4096, Vec::new(alloc));
     let command = words(alloc, &["serve"])?;
-    let Outcome { status, disk } = run(alloc, &command, &mut source, &mut sink, disk);
+    let Outcome { status, disk } = run(rt, alloc, &command, &mut source, &mut sink, disk);
     Ok(Ran {
         status,
         written: sink.bytes().to_vec(alloc)?,
@@ -148,7 +155,7 @@ pub fn lines_of(alloc: Global, text: &[u8]) -> Result<Vec<&[u8]>, AllocError> {
 
 // The first line that isn't the wanted one, and which it is. Each line behind it has to say that the log is broken.
 fn first_other<'a>(
-    rt: &impl Abort,
+    rt: &(impl Abort + Threads + Wait + Sync),
     alloc: Global,
     written: &'a [u8],
     want: &[u8],
@@ -291,9 +298,13 @@ fn a_days_use(rt: HostRuntime) -> Result<(), Fail> {
 }
 
 // So many calls of the disk a script takes on a log that has just been made, from opening the log on.
-pub fn calls_of(rt: &impl Abort, alloc: Global, script: &[u8]) -> Result<u64, AllocError> {
+pub fn calls_of(
+    rt: &(impl Abort + Threads + Wait + Sync),
+    alloc: Global,
+    script: &[u8],
+) -> Result<u64, AllocError> {
     let disk = Watched::new(formatted(rt, alloc, SMALL)?, u64::MAX, Late::Nothing);
-    let ran = served(alloc, disk, script)?;
+    let ran = served(rt, alloc, disk, script)?;
     assert_eq!(rt; ran.status, DONE);
     Ok(ran.disk.calls)
 }
@@ -344,10 +355,14 @@ fn first_records(alloc: Global, count: usize) -> Result<Vec<u8>, AllocError> {
 }
 
 // The log on a disk has the first one to five records and no other, and goes on in one of its two containers.
-fn check_prefix(rt: &impl Abort, alloc: Global, disk: Memory) -> Result<(), AllocError> {
+fn check_prefix(
+    rt: &(impl Abort + Threads + Wait + Sync),
+    alloc: Global,
+    disk: Memory,
+) -> Result<(), AllocError> {
     let probe =
         "1 area 1 960 8\n1 read 1 1:0:0 forward\n1 read 1 1:200:0 forward\n1 read 1 1:600:0 forward\n1 read 1 1:a00:0 forward\n1 read 1 2:0:0 forward\n1 append 1 bb _\n";
-    let ran = served(alloc, disk, &written_out(alloc, probe)?)?;
+    let ran = served(rt, alloc, disk, &written_out(alloc, probe)?)?;
     assert_eq!(rt; ran.status, DONE);
     let mut found = 0;
     for count in 1..6 {
@@ -361,9 +376,13 @@ fn check_prefix(rt: &impl Abort, alloc: Global, disk: Memory) -> Result<(), Allo
 }
 
 // Serves the script of five records on a disk that stops after so many calls.
-fn stopped(rt: &impl Abort, alloc: Global, passes: u64) -> Result<Ran<Fuse<Memory>>, AllocError> {
+fn stopped(
+    rt: &(impl Abort + Threads + Wait + Sync),
+    alloc: Global,
+    passes: u64,
+) -> Result<Ran<Fuse<Memory>>, AllocError> {
     let disk = Fuse::new(formatted(rt, alloc, SMALL)?, passes);
-    served(alloc, disk, &written_out(alloc, FIVE)?)
+    served(rt, alloc, disk, &written_out(alloc, FIVE)?)
 }
 
 // The disk stops at each call in turn. What is answered then, and what a log that is opened behind the last line's stop has.
@@ -417,7 +436,10 @@ fn a_first_sync_that_fails(rt: HostRuntime) -> Result<(), Fail> {
 }
 
 // A log of 40 blocks of two sectors in its first container, each of one record of zeros.
-fn forty_blocks(rt: &impl Abort, alloc: Global) -> Result<Memory, AllocError> {
+fn forty_blocks(
+    rt: &(impl Abort + Threads + Wait + Sync),
+    alloc: Global,
+) -> Result<Memory, AllocError> {
     let mut script = b"1 open a\n1 area 1 960 4\n".to_vec(alloc)?;
     let mut want = b"1 stream 1\n1 area 1\n".to_vec(alloc)?;
     for block in 0..40u64 {
@@ -456,21 +478,26 @@ fn forty_replies(alloc: Global, first: &str) -> Result<Vec<u8>, AllocError> {
 }
 
 // Serves the 40 reads over a disk whose reads come late as soon as the log is opened.
-fn read_late(rt: &impl Abort, alloc: Global, late: Late) -> Result<Vec<u8>, AllocError> {
+fn read_late(
+    rt: &(impl Abort + Threads + Wait + Sync),
+    alloc: Global,
+    late: Late,
+) -> Result<Vec<u8>, AllocError> {
     let opened = served(
+        rt,
         alloc,
         Watched::new(forty_blocks(rt, alloc)?, u64::MAX, Late::Nothing),
         b"",
     )?;
     let disk = Watched::new(forty_blocks(rt, alloc)?, opened.disk.reads, late);
-    let ran = served(alloc, disk, &forty_reads(alloc)?)?;
+    let ran = served(rt, alloc, disk, &forty_reads(alloc)?)?;
     assert_eq!(rt; ran.status, DONE);
     Ok(ran.written)
 }
 
 // How many lines of a text are another one's and not the first one's. Each other line is the first one's.
 fn changed_lines(
-    rt: &impl Abort,
+    rt: &(impl Abort + Threads + Wait + Sync),
     alloc: Global,
     written: &[u8],
     before: &[u8],
@@ -531,12 +558,12 @@ fn byte_of(disk: &mut Memory, file: u16, at: u64) -> Result<u8, Failed>
 
 // No log is found on a disk, for this cause.
 fn check_no_log(
-    rt: &impl Abort,
+    rt: &(impl Abort + Threads + Wait + Sync),
     alloc: Global,
     disk: Memory,
     cause: &[u8],
 ) -> Result<(), AllocError> {
-    let ran = served(alloc, disk, b"1 open a\n")?;
+    let ran = served(rt, alloc, disk, b"1 open a\n")?;
     assert_eq!(rt; ran.status, NOT_A_LOG);
     assert_eq!(rt; ran.written.as_slice(), cause);
     Ok(())
@@ -618,7 +645,7 @@ fn a_log_is_made_once(rt: HostRuntime) -> Result<(), Fail> {
     let mut source = MemorySource::new(Vec::new(alloc), 1, Vec::new(alloc));
     let mut sink = MemorySink::new(Vec::new(alloc), 10, Vec::new(alloc));
     let command = words(alloc, format_words(SMALL).as_slice())?;
-    let outcome = run(alloc, &command, &mut source, &mut sink, disk);
+    let outcome = run(&rt, alloc, &command, &mut source, &mut sink, disk);
     assert_eq!(rt; outcome.status, EXISTS);
     assert_eq!(rt; sink.bytes(), b"a log is there\n".as_slice());
     let mut disk = outcome.disk;

@@ -9,76 +9,133 @@ use Rattle.clfs_model.specs.declared.state.State.{State}
 use Rattle.clfs_model.specs.Run.{asks}
 use Rattle.clfs_model.specs.Step.{Step}
 use Rattle.clfs_recover.specs.Files.{AreWholeFiles}
-use Rattle.clfs_manager.specs.Crashes.{CrashSurvives}
-use Rattle.clfs_shared.specs.Crashes.{Images, WorksFrom, IsLeftByEntries}
+use Rattle.clfs_manager.specs.Crashes.{CrashSurvives, HoldSurvivor}
+use Rattle.clfs_shared.specs.Crashes.{Images, HoldsAfterCall, HoldsMeanwhile, RunsOutOfMemory, MakesCall, IsLeftByEntries}
 
--- from a moment to the same one nothing happens
-works_none : (whole : Bool) (images : Images) (at : ℕ) (s : State) → WorksFrom whole images at at s
-works_none whole images at s = record {
-  later = omega arith;
-  still = λ _. refl;
-  leaves = λ intact moment image after before left. absurd (omega (arith, after, before));
-}
+-- ---- from one moment to another
 
--- from one moment to another, and then to a third
-works_longer : (whole : Bool) (images : Images) (from to end : ℕ) (s : State) → WorksFrom whole images from to s → WorksFrom whole images to end s
-    → WorksFrom whole images from end s
-works_longer whole images from to end s first second = record {
-  later = let a = first.later in let b = second.later in omega (arith, a, b);
-  still = λ broken. second.still broken ∙ first.still broken;
-  leaves = λ intact moment image after before left. elim (cases_lt to moment) [
-    | inl above ↦ second.leaves intact moment image above before left
-    | inr not ↦ first.leaves intact moment image after (omega (arith, not)) left
-  ];
-}
+module _ (holds : Files → Type 0) (images : Images) where
+  -- from a moment to the same one nothing happens
+  pub holds_none : (at : ℕ) (s : State) → HoldsMeanwhile holds images at at s
+  holds_none at s = record {
+    later = omega arith;
+    still = λ _. refl;
+    leaves = λ intact moment image after before left. absurd (omega (arith, after, before));
+  }
 
--- what a crash left at a past moment is what it left then
-works_past : (whole : Bool) (images others : Images) (from to end : ℕ) (s : State) → to ≤ end
-    → ((moment : ℕ) (image : Files) → moment ≤ end → others moment image → images moment image) → WorksFrom whole images from to s → WorksFrom whole others from to s
-works_past whole images others from to end s up past works = record {
-  later = works.later;
-  still = works.still;
-  leaves = λ intact moment image after before left. works.leaves intact moment image after before (past moment image (omega (arith, before, up)) left);
-}
+  -- from one moment to another, and then to a third
+  holds_longer : (from to end : ℕ) (s : State) → HoldsMeanwhile holds images from to s → HoldsMeanwhile holds images to end s
+      → HoldsMeanwhile holds images from end s
+  holds_longer from to end s first second = record {
+    later = let a = first.later in let b = second.later in omega (arith, a, b);
+    still = λ broken. second.still broken ∙ first.still broken;
+    leaves = λ intact moment image after before left. elim (cases_lt to moment) [
+      | inl above ↦ second.leaves intact moment image above before left
+      | inr not ↦ first.leaves intact moment image after (omega (arith, not)) left
+    ];
+  }
+
+  -- what a crash left at a past moment is what it left then
+  holds_past : (others : Images) (from to end : ℕ) (s : State) → to ≤ end
+      → ((moment : ℕ) (image : Files) → moment ≤ end → others moment image → images moment image)
+      → HoldsMeanwhile holds images from to s → HoldsMeanwhile holds others from to s
+  holds_past others from to end s up past is = record {
+    later = is.later;
+    still = is.still;
+    leaves = λ intact moment image after before left. is.leaves intact moment image after before (past moment image (omega (arith, before, up)) left);
+  }
+
+-- ---- while the calls of entries were made
 
 -- moments rise
 rises : (told whole : Bool) (images : Images) (from to : ℕ) (s t : State) (entries : List Entry) → IsLeftByEntries told whole images from to s entries t → from ≤ to
 rises told whole images from to s t [] is = is.1.later
 rises told whole images from to s t (entry ∷ entries) is =
-    let first = is.1.0.later in
-    let rest = rises told whole images is.0 to is.1.1.0 t entries is.1.1.1.1 in
-    omega (arith, first, rest)
+    let done = is.1.1 in
+    let waits = is.1.0.later in
+    let makes = done.1.0.later in
+    let rest = rises told whole images done.0 to done.1.1.0 t entries done.1.1.1.1 in
+    omega (arith, waits, makes, rest)
 
 left_past : (told whole : Bool) (images others : Images) (from to end : ℕ) (s t : State) (entries : List Entry) → to ≤ end
     → ((moment : ℕ) (image : Files) → moment ≤ end → others moment image → images moment image)
     → IsLeftByEntries told whole images from to s entries t → IsLeftByEntries told whole others from to s entries t
-left_past told whole images others from to end s t [] up past is = (is.0, works_past whole images others from to end s up past is.1)
+left_past told whole images others from to end s t [] up past is =
+    (is.0, holds_past (HoldsAfterCall whole s) images others from to end s up past is.1)
 left_past told whole images others from to end s t (entry ∷ entries) up past is =
-    let up_first = rises told whole images is.0 to is.1.1.0 t entries is.1.1.1.1 in (
+    let done = is.1.1 in
+    let rest = done.1.1.1.1 in
+    let up_rest = rises told whole images done.0 to done.1.1.0 t entries rest in
+    let makes = done.1.0.later in (
       is.0,
       (
-        works_past whole images others from is.0 end s (omega (arith, up, up_first)) past is.1.0,
-        (is.1.1.0, (is.1.1.1.0, left_past told whole images others is.0 to end is.1.1.0 t entries up past is.1.1.1.1)),
+        holds_past (HoldsAfterCall whole s) images others from is.0 end s (omega (arith, up, up_rest, makes)) past is.1.0,
+        (
+          done.0,
+          (
+            holds_past (HoldSurvivor whole (asks entry.client entry.call) s) images others is.0 done.0 end s (omega (arith, up, up_rest)) past done.1.0,
+            (done.1.1.0, (done.1.1.1.0, left_past told whole images others done.0 to end done.1.1.0 t entries up past rest)),
+          ),
+        ),
       ),
     )
 
-left_longer : (told whole : Bool) (images : Images) (from to end : ℕ) (s t : State) (entries : List Entry) → IsLeftByEntries told whole images from to s entries t
-    → WorksFrom whole images to end t → IsLeftByEntries told whole images from end s entries t
+pub left_longer : (told whole : Bool) (images : Images) (from to end : ℕ) (s t : State) (entries : List Entry)
+    → IsLeftByEntries told whole images from to s entries t → RunsOutOfMemory whole images to end t → IsLeftByEntries told whole images from end s entries t
 left_longer told whole images from to end s t [] is more =
-    let F : State → Type 0 = λ x. WorksFrom whole images to end x in
-    (is.0, works_longer whole images from to end s is.1 (subst F is.0 more))
+    let F : State → Type 0 = λ x. RunsOutOfMemory whole images to end x in
+    (is.0, holds_longer (HoldsAfterCall whole s) images from to end s is.1 (subst F is.0 more))
 left_longer told whole images from to end s t (entry ∷ entries) is more =
-    (is.0, (is.1.0, (is.1.1.0, (is.1.1.1.0, left_longer told whole images is.0 to end is.1.1.0 t entries is.1.1.1.1 more))))
+    let done = is.1.1 in (
+      is.0,
+      (
+        is.1.0,
+        (
+          done.0,
+          (
+            done.1.0,
+            (
+              done.1.1.0,
+              (
+                done.1.1.1.0,
+                left_longer told whole images done.0 to end done.1.1.0 t entries done.1.1.1.1 more,
+              ),
+            ),
+          ),
+        ),
+      ),
+    )
 
--- an entry stands behind the others
-pub left_more : (told whole : Bool) (images : Images) (from to : ℕ) (s t u : State) (entries : List Entry) (entry : Entry)
-    → IsLeftByEntries told whole images from to s entries t → Step told t entry.client entry.call entry.happened entry.reply u
-    → IsLeftByEntries told whole images from to s (entries ++ entry ∷ []) u
-left_more told whole images from to s t u [] entry is step =
+-- an entry stands behind the others, while whose call a crash left what survives it
+pub left_more : (told whole : Bool) (images : Images) (from to end : ℕ) (s t u : State) (entries : List Entry) (entry : Entry)
+    → IsLeftByEntries told whole images from to s entries t → MakesCall whole images to end t entry.client entry.call
+    → Step told t entry.client entry.call entry.happened entry.reply u → IsLeftByEntries told whole images from end s (entries ++ entry ∷ []) u
+left_more told whole images from to end s t u [] entry is makes step =
     let F : State → Type 0 = λ x. Step told x entry.client entry.call entry.happened entry.reply u in
-    (to, (is.1, (u, (subst F is.0 step, (refl, works_none whole images to u)))))
-left_more told whole images from to s t u (first ∷ entries) entry is step =
-    (is.0, (is.1.0, (is.1.1.0, (is.1.1.1.0, left_more told whole images is.0 to is.1.1.0 t u entries entry is.1.1.1.1 step))))
+    let G : State → Type 0 = λ x. MakesCall whole images to end x entry.client entry.call in
+    (to, (is.1, (end, (subst G is.0 makes, (u, (subst F is.0 step, (refl, holds_none (HoldsAfterCall whole u) images end u)))))))
+left_more told whole images from to end s t u (first ∷ entries) entry is makes step =
+    let done = is.1.1 in (
+      is.0,
+      (
+        is.1.0,
+        (
+          done.0,
+          (
+            done.1.0,
+            (
+              done.1.1.0,
+              (
+                done.1.1.1.0,
+                left_more told whole images done.0 to end done.1.1.0 t u entries entry done.1.1.1.1 makes step,
+              ),
+            ),
+          ),
+        ),
+      ),
+    )
+
+-- ---- a call
 
 -- what a call does to a disk, as far as crashes see it
 pub record Spends (s : State) (client : ℕ) (call : Call) (old new : DiskState) : Type 0 where
@@ -87,20 +144,27 @@ pub record Spends (s : State) (client : ℕ) (call : Call) (old new : DiskState)
   pub stopped : s.broken ≡ true → new.clock ≡ old.clock
   pub survives : CrashSurvives (asks client call) s old new
 
--- a call is under way behind these entries
-pub left_by_call : (told whole : Bool) (from : ℕ) (first s : State) (client : ℕ) (call : Call) (old new : DiskState) (entries : List Entry) → Spends s client call old new
-    → IsHonest old → (s.broken ≡ false → whole ≡ true → AreWholeFiles old.files) → IsLeftByEntries told whole old.image_at from old.clock first entries s
-    → IsLeftByEntries told whole new.image_at from new.clock first entries s
-left_by_call told whole from first s client call old new entries spends honest full is =
-    let low : old.clock ≤ old.clock = omega arith in
-    left_longer told whole new.image_at from old.clock new.clock first s entries
-    (left_past told whole old.image_at new.image_at from old.clock old.clock first s entries low spends.past is)
-    (record {
-      later = spends.later;
-      still = spends.stopped;
-      leaves = λ intact moment image after before left. record {
-        client = client;
-        call = call;
-        holds = (spends.survives intact honest whole (full intact)).each moment image (omega (arith, after)) before left;
-      };
-    })
+-- what a crash left before the call is what it left then
+pub left_before : (told whole : Bool) (from : ℕ) (first s : State) (client : ℕ) (call : Call) (old new : DiskState) (entries : List Entry)
+    → Spends s client call old new → IsLeftByEntries told whole old.image_at from old.clock first entries s
+    → IsLeftByEntries told whole new.image_at from old.clock first entries s
+left_before told whole from first s client call old new entries spends is =
+    left_past told whole old.image_at new.image_at from old.clock old.clock first s entries (omega arith) spends.past is
+
+-- while the call was made a crash left what survives it
+pub made_call : (whole : Bool) (s : State) (client : ℕ) (call : Call) (old new : DiskState) → Spends s client call old new → IsHonest old
+    → (s.broken ≡ false → whole ≡ true → AreWholeFiles old.files) → MakesCall whole new.image_at old.clock new.clock s client call
+made_call whole s client call old new spends honest full = record {
+  later = spends.later;
+  still = spends.stopped;
+  leaves = λ intact moment image after before left. (spends.survives intact honest whole (full intact)).each moment image (omega (arith, after)) before left;
+}
+
+-- so it left what survives some call
+pub some_call : (whole : Bool) (images : Images) (from to : ℕ) (s : State) (client : ℕ) (call : Call) → MakesCall whole images from to s client call
+    → RunsOutOfMemory whole images from to s
+some_call whole images from to s client call makes = record {
+  later = makes.later;
+  still = makes.still;
+  leaves = λ intact moment image after before left. record { client = client; call = call; holds = makes.leaves intact moment image after before left };
+}

@@ -6,7 +6,9 @@ use Rattle.std.proofs.lemmas.Bool.{cases_Bool}
 use Rattle.std.proofs.lemmas.List.Folds.{list_any-append}
 use Rattle.clfs_disk.specs.Files.{Files}
 use Rattle.clfs_disk.specs.State.{DiskState, Nature, TellsContents, Rises}
+use Rattle.clfs_lsn.specs.Limits.{most_containers}
 use Rattle.clfs_model.specs.declared.call.Call.{Call}
+use Rattle.clfs_model.specs.declared.info.Extent.{Extent}
 use Rattle.clfs_model.specs.declared.journal.Entry.{Entry}
 use Rattle.clfs_model.specs.declared.refusal.Refusal.{Refusal}
 use Rattle.clfs_model.specs.declared.refusal.Refusal.TheVariants as refusals
@@ -19,15 +21,19 @@ use Rattle.clfs_model.specs.Happened.{happened_of, happened_of_refusal}
 use Rattle.clfs_model.specs.Journals.{GoesOn, IsNext, IsLegal, mine}
 use Rattle.clfs_model.specs.Run.{asks}
 use Rattle.clfs_model.specs.Step.{Step, IsBroken, IsDamaged}
+use Rattle.clfs_model.specs.Valid.{IsValid}
 use Rattle.clfs_recover.specs.Files.{AreWholeFiles}
 use Rattle.clfs_recover.specs.Whole.{are_whole}
 use Rattle.clfs_manager.specs.Crashes.{CrashSurvives}
 use Rattle.clfs_manager.specs.Written.{WritesDisk}
+use Rattle.clfs_manager.specs.Calls.{IsSmall}
 use Rattle.clfs_shared.specs.declared.opening.Opening.{Opening}
-use Rattle.clfs_shared.specs.Crashes.{IsLeftByEntries}
+use Rattle.clfs_shared.specs.Crashes.{IsLeftByEntries, MakesCall}
 use Rattle.clfs_shared.specs.Journal.{entry_of, is_fault, is_damage, has_fault, has_damage, is_out_of_memory}
 use Rattle.clfs_shared.specs.Reached.{IsReached, is_calm}
-use Rattle.clfs_shared.proofs.Crashing.{Spends, left_by_call, left_more}
+use Rattle.clfs_shared.specs.Rooms.{FitsSpare}
+use Rattle.clfs_shared.specs.Sessions.{HasRun}
+use Rattle.clfs_shared.proofs.Crashing.{Spends, left_before, left_longer, left_more, made_call, some_call}
 
 -- ---- what replies tell
 
@@ -106,17 +112,42 @@ calls_by old new s t client call reply step writes damage survives stopped = rec
 pub same_clock : {X : Type 0} (disk : X → DiskState) (a b : X) → a ≡ b → (disk a).clock ≡ (disk b).clock
 same_clock {X} disk a b same = ap (λ (x : X). (disk x).clock) same
 
+-- a reply to a call from a valid state fits the memory that serves any
+pub fits_spare : ((told : Bool) (s : State) (client : ℕ) (call : Call) (happened : Happened) (found : List Extent) (t : State)
+    → IsValid s → Step told s client call happened (replies.Extents found) t → length found ≤ most_containers)
+    → (told : Bool) (s : State) (client : ℕ) (call : Call) (happened : Happened) (reply : Reply) (t : State)
+    → IsValid s → IsSmall reply → Step told s client call happened reply t → FitsSpare reply
+fits_spare few told s client call happened (replies.Extents found) t valid small step = few told s client call happened found t valid step
+fits_spare few told s client call happened (replies.Found cursor entry) t valid small step = small
+fits_spare few told s client call happened (replies.Next entry) t valid small step = small
+fits_spare few told s client call happened _ t valid small step = tt
+
+-- a call that ran out of memory did nothing
+pub ran_out : (told : Bool) (s t : State) (before now : List Entry) (client : ℕ) (call : Call) (reply : Reply) → is_out_of_memory reply ≡ true → now ≡ before → t ≡ s
+    → HasRun told s before client call reply t now
+ran_out told s t before now client call reply wanting same state = record {
+  none = λ _. (same, state);
+  step = λ answered. absurd (cc (wanting, answered));
+  entry = λ answered. absurd (cc (wanting, answered));
+}
+
 -- the entry of the copies is that of the call
-pub named : (client number : ℕ) (kept call : Call) (happened : Happened) (copy reply : Reply) (before now after : List Entry)
-    → after ≡ now ++ record { client = client; number = number; call = kept; happened = happened; reply = copy } ∷ [] → now ≡ before
-    → number ≡ length (mine now client) + 1 → kept ≡ call → happened ≡ happened_of reply → copy ≡ reply
+pub copied : (client number : ℕ) (kept call : Call) (happened : Happened) (copy reply : Reply) (before after : List Entry)
+    → after ≡ before ++ record { client = client; number = number; call = kept; happened = happened; reply = copy } ∷ []
+    → number ≡ length (mine before client) + 1 → kept ≡ call → happened ≡ happened_of reply → copy ≡ reply
     → after ≡ before ++ entry_of client (length (mine before client) + 1) call reply ∷ []
-named client number kept call happened copy reply before now after is same counted of_call of_reply of_copy =
-    let F : List Entry → Type 0 = λ es. after ≡ es ++ entry_of client (length (mine es client) + 1) call reply ∷ [] in
+copied client number kept call happened copy reply before after is counted of_call of_reply of_copy =
     let with_copies : Entry = record { client = client; number = number; call = kept; happened = happened; reply = copy } in
-    let of_call_itself : with_copies ≡ entry_of client (length (mine now client) + 1) call reply =
+    let of_call_itself : with_copies ≡ entry_of client (length (mine before client) + 1) call reply =
     first_of (cc, simp (counted, of_call, of_reply, of_copy)) in
-    subst F same (is ∙ ap (λ (e : Entry). now ++ e ∷ []) of_call_itself)
+    is ∙ ap (λ (e : Entry). before ++ e ∷ []) of_call_itself
+
+-- and it stands behind the entries of before
+pub behind : (client : ℕ) (call : Call) (reply : Reply) (before now after : List Entry)
+    → after ≡ now ++ entry_of client (length (mine now client) + 1) call reply ∷ [] → now ≡ before
+    → after ≡ before ++ entry_of client (length (mine before client) + 1) call reply ∷ []
+behind client call reply before now after is same =
+    subst (λ (es : List Entry). after ≡ es ++ entry_of client (length (mine es client) + 1) call reply ∷ []) same is
 
 -- a log that isn't broken after a call wasn't before it, and the call met no fault
 record IsIntact (s : State) (reply : Reply) : Type 0 where
@@ -152,12 +183,18 @@ module _ (laws : Laws) (o : Opening) (old new : DiskState) (s t : State) (before
       let is = intact laws old.nature.tells_contents s t client call reply calls.step whole_log in
       laws.passes new.files (calls.writes.whole is.no_fault (r.contents ∙ tells) (laws.tells old.files (r.whole tells whole is.before)))
 
-  -- a call behind the entries, of which a crash leaves what survives it
-  behind : o.tells_contents ≡ true → o.tells_images ≡ true → (whole : Bool) → (whole ≡ true → o.is_whole ≡ true)
-      → IsLeftByEntries o.tells_contents whole new.image_at o.moment new.clock o.state before s
-  behind tells images whole has =
-      left_by_call o.tells_contents whole o.moment o.state s client call old new before calls.spends (r.contents ∙ tells, r.images ∙ images)
-      (λ intact_log is. laws.tells old.files (r.whole tells (has is) intact_log)) (r.crash tells images whole has)
+  -- what a crash left up to the call
+  before_call : o.tells_contents ≡ true → o.tells_images ≡ true → (whole : Bool) → (whole ≡ true → o.is_whole ≡ true)
+      → IsLeftByEntries o.tells_contents whole new.image_at o.moment old.clock o.state before s
+  before_call tells images whole has =
+      left_before o.tells_contents whole o.moment o.state s client call old new before calls.spends (r.crash tells images whole has)
+
+  -- what it left during the call
+  in_call : o.tells_contents ≡ true → o.tells_images ≡ true → (whole : Bool) → (whole ≡ true → o.is_whole ≡ true)
+      → MakesCall whole new.image_at old.clock new.clock s client call
+  in_call tells images whole has =
+      made_call whole s client call old new calls.spends (r.contents ∙ tells, r.images ∙ images)
+      (λ intact_log is. laws.tells old.files (r.whole tells (has is) intact_log))
 
   -- a call that ran out of memory added no entry and left the state as it was
   pub reached_still : t ≡ s → IsReached o new t before
@@ -171,7 +208,9 @@ module _ (laws : Laws) (o : Opening) (old new : DiskState) (s t : State) (before
     damage = r.damage;
     calm = r.calm;
     whole = λ tells whole whole_log. full tells whole (ap (λ (x : State). x.broken) same ∙ whole_log);
-    crash = behind;
+    crash = λ tells images whole has.
+        left_longer o.tells_contents whole new.image_at o.moment old.clock new.clock o.state s before (before_call tells images whole has)
+        (some_call whole new.image_at old.clock new.clock s client call (in_call tells images whole has));
   })
 
   -- the entry of the call
@@ -208,7 +247,8 @@ module _ (laws : Laws) (o : Opening) (old new : DiskState) (s t : State) (before
     calm = λ calm. none_more (λ (e : Entry). is_fault e.happened) before entry (r.calm calm) (calm_reply calm);
     whole = full;
     crash = λ tells images whole has.
-        left_more o.tells_contents whole new.image_at o.moment new.clock o.state s t before entry (behind tells images whole has) step_told;
+        left_more o.tells_contents whole new.image_at o.moment old.clock new.clock o.state s t before entry
+        (before_call tells images whole has) (in_call tells images whole has) step_told;
   })
 
 -- the same where the list has another name

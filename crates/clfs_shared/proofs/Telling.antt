@@ -1,7 +1,8 @@
 -- What a call of the lock tells a session of its place in the journal.
-use Rattle.std.proofs.Common.{◌≡◌, ℕ, ◌+◌, Bool, true, false, refl, sym, ap, subst, ◌∙◌, List, [], ◌∷◌, ◌++◌, length}
-use Rattle.std.specs.Prelude.{◌≤◌, ◌≢◌, ◌||◌, ◌&&◌, All, Option, Some, None, IsSome}
+use Rattle.std.proofs.Common.{◌≡◌, ℕ, zero, suc, ◌+◌, Bool, true, false, refl, sym, ap, subst, ◌∙◌, List, [], ◌∷◌, ◌++◌, length, map, slice_index_or, arith}
+use Rattle.std.specs.Prelude.{◌≤◌, ◌<◌, ◌==◌, ◌≢◌, ◌||◌, ◌&&◌, All, Option, Some, None, IsSome}
 use Rattle.std.specs.List.{AllByRecursion, list_any}
+use Rattle.std.proofs.lemmas.Bool.Decides.{nat_tests}
 use Rattle.std.proofs.lemmas.List.Elements.{All-from_recursion}
 use Rattle.std.proofs.lemmas.List.Folds.{list_any-append}
 use Rattle.clfs_disk.specs.State.{DiskState}
@@ -26,11 +27,12 @@ use Rattle.clfs_model.specs.Happened.{happened_of}
 use Rattle.clfs_model.specs.Journals.{GoesOn, IsLegal, mine, held_in, held_by}
 use Rattle.clfs_model.specs.Step.{Step, IsDamaged}
 use Rattle.clfs_turn.specs.Calls.{Called, IsAdded}
-use Rattle.clfs_turn.specs.Seats.{IsSameSeat}
+use Rattle.clfs_turn.specs.Lists.{is_in}
+use Rattle.clfs_turn.specs.Seats.{IsNewSeat, IsSameSeat}
 use Rattle.clfs_shared.specs.declared.opening.Opening.{Opening}
 use Rattle.clfs_shared.specs.Journal.{client_of, entry_of, is_fault, is_damage, has_fault, has_damage, is_out_of_memory}
 use Rattle.clfs_shared.specs.Reached.{IsReached, is_calm}
-use Rattle.clfs_shared.specs.Sessions.{SessionState, HasAreas, HasRun, IsCalmReply, IsStepped, own_entries}
+use Rattle.clfs_shared.specs.Sessions.{SessionState, SharedState, HasAreas, HasRun, IsCalmReply, IsOf, IsStepped, own_entries}
 
 module _ {V : Type 0} (entries : V → List Entry) (state : V → State) (disk : V → DiskState) where
   -- a log that was lawfully reached
@@ -76,6 +78,33 @@ module _ {V : Type 0} (entries : V → List Entry) (state : V → State) (disk :
   pub stepped_by : (n : ℕ) (s t : SessionState) (call : Call) (reply : Reply) → n ≡ s.client → Called entries client_of Reached (Ran n call reply) s t → IsSameSeat s t
       → is_out_of_memory reply ≡ false → IsStepped s t call reply
   stepped_by n s t call reply is called = stepped s t call reply (subst (λ (k : ℕ). Called entries client_of Reached (Ran k call reply) s t) is called)
+
+or_right : (a b : Bool) → b ≡ true → (a || b) ≡ true
+or_right true b e = refl
+or_right false b e = e
+
+-- ---- sessions of a log
+
+own_number : (n : ℕ) → (n == n) ≡ true
+own_number n = grind (arith, nat_tests)
+
+-- each of a list is in it
+in_list : (sessions : List SessionState) (k : ℕ) (d : SessionState) → k < length sessions
+    → is_in (slice_index_or sessions k d).client (map (λ (s : SessionState). s.client) sessions) ≡ true
+in_list [] k d below = absurd (omega (arith, below))
+in_list (s ∷ sessions) zero d below = ap (λ (b : Bool). b || is_in s.client (map (λ (z : SessionState). z.client) sessions)) (own_number s.client)
+in_list (s ∷ sessions) (suc k) d below =
+    or_right (s.client == (slice_index_or sessions k d).client) (is_in (slice_index_or sessions k d).client (map (λ (z : SessionState). z.client) sessions))
+    (in_list sessions k d (omega (arith, below)))
+
+-- the new sessions of a log's clients are the log's
+pub belong_by : (log : SharedState) (sessions : List SessionState) → All (λ (s : SessionState). IsNewSeat log s) sessions
+    → map (λ (s : SessionState). s.client) sessions ≡ log.clients → All (λ (s : SessionState). IsOf log s) sessions
+belong_by log sessions seats clients = λ k d below. let seat = seats k d below in record {
+  lock = seat.lock;
+  opening = seat.opening;
+  client = subst (λ (all : List ℕ). is_in (slice_index_or sessions k d).client all ≡ true) clients (in_list sessions k d below);
+}
 
 by_memory : (b : Bool) (P : Type 0) → (b ≡ true → P) → (b ≡ false → P) → P
 by_memory true P on off = on refl

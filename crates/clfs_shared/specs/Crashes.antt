@@ -12,24 +12,33 @@ use Rattle.clfs_manager.specs.Crashes.{HoldSurvivor}
 abbrev pub Images : Type 1
 Images = ℕ → Files → Type 0
 
--- Files hold what survives a call that was under way from a state. With `whole` they are at full length.
+-- Files hold what survives some call that was under way from a state. With `whole` they are at full length.
 pub record HoldsAfterCall (whole : Bool) (s : State) (files : Files) : Type 0 where
   pub client : ℕ
   pub call : Call
   pub holds : HoldSurvivor whole (asks client call) s files
 
--- From one moment to another calls were under way from a state: the next one of the journal, and before it such as ran out of memory, which
--- changed nothing. A crash at a later moment up to the other one leaves files that hold what survives such a call. A broken log makes no call on
--- the disk, so that no time passes.
-pub record WorksFrom (whole : Bool) (images : Images) (from to : ℕ) (s : State) : Type 0 where
+-- A crash at a moment after the first, up to the second, leaves files of which this holds. A broken log makes no call on the disk, so that no time
+-- passes.
+pub record HoldsMeanwhile (holds : Files → Type 0) (images : Images) (from to : ℕ) (s : State) : Type 0 where
   pub later : from ≤ to
   pub still : s.broken ≡ true → to ≡ from
-  pub leaves : s.broken ≡ false → (moment : ℕ) (image : Files) → from < moment → moment ≤ to → images moment image → HoldsAfterCall whole s image
+  pub leaves : s.broken ≡ false → (moment : ℕ) (image : Files) → from < moment → moment ≤ to → images moment image → holds image
 
--- The calls of these entries were made one after the other by steps of the log machine, with a moment behind each; and after the last, up to the
--- other moment, at most such as ran out of memory.
+-- from one moment to another at most such calls were made from this state as ran out of memory, which changed nothing
+abbrev pub RunsOutOfMemory : Bool → Images → ℕ → ℕ → State → Type 0
+RunsOutOfMemory whole images from to s = HoldsMeanwhile (HoldsAfterCall whole s) images from to s
+
+-- from one moment to another this call was made from this state
+abbrev pub MakesCall : Bool → Images → ℕ → ℕ → State → ℕ → Call → Type 0
+MakesCall whole images from to s client call = HoldsMeanwhile (HoldSurvivor whole (asks client call) s) images from to s
+
+-- The calls of these entries were made one after the other, each a step of the log machine. Before each of them, and after the last, at most such
+-- calls were made as ran out of memory.
 abbrev pub IsLeftByEntries : Bool → Bool → Images → ℕ → ℕ → State → List Entry → State → Type 0
-IsLeftByEntries told whole images from to s [] t = (t ≡ s) × WorksFrom whole images from to s
+IsLeftByEntries told whole images from to s [] t = (t ≡ s) × RunsOutOfMemory whole images from to s
 IsLeftByEntries told whole images from to s (entry ∷ entries) t =
-    (behind : ℕ) × (WorksFrom whole images from behind s × ((mid : State) × (Step told s entry.client entry.call entry.happened entry.reply mid
-    × IsLeftByEntries told whole images behind to mid entries t)))
+    (begun : ℕ) × (RunsOutOfMemory whole images from begun s
+    × ((done : ℕ) × (MakesCall whole images begun done s entry.client entry.call
+    × ((mid : State) × (Step told s entry.client entry.call entry.happened entry.reply mid
+    × IsLeftByEntries told whole images done to mid entries t)))))

@@ -2,9 +2,8 @@
 ghost use Rattle.std.specs.Prelude.{◌≡◌};
 ghost use Rattle.clfs_shared.specs.Journal.{is_out_of_memory};
 
-use crate::copies::{Spare, copied_call};
-use crate::entries::Entries;
 use crate::opening::Opening;
+use crate::recorder::Recorder;
 use clfs_disk::Disk;
 use clfs_laws::{
     broken_stays, extents_are_few, faults_break, journals_join, refusals_change_nothing,
@@ -14,31 +13,30 @@ use clfs_model::{Call, Entry, Refusal, Reply};
 use clfs_recover::whole_files_pass_the_test;
 use clfs_turn::{Job, Logged};
 
-/// A log and its journal, with memory for the next entry.
+/// A log and its journal.
 #[derive(Drop)]
-pub(crate) struct LockedLog<D: Disk> {
+pub(crate) struct LockedLog<D: Disk, J: Recorder> {
     pub manager: Manager<D>,
-    pub entries: Entries,
-    pub spare: Spare,
+    pub journal: J,
 }
 
-impl<D: Disk> Logged<Entry, Opening> for LockedLog<D> {
+impl<D: Disk, J: Recorder> Logged<Entry, Opening> for LockedLog<D, J> {
     ghost use Rattle.clfs_shared.specs.Journal.{client_of};
     ghost use Rattle.clfs_shared.specs.Reached.{opening_of, IsReached, reached_at_once};
 
-    ghost entries = { λ v. v.entries.0 };
+    ghost entries = { λ v. J.entries v.journal };
 
     ghost client_of = { client_of };
 
     ghost opening = { λ v. opening_of v.manager.0 (D.state v.manager.1) };
 
-    ghost reached = { λ o v. IsReached o (D.state v.manager.1) v.manager.0 v.entries.0 };
+    ghost reached = { λ o v. IsReached o (D.state v.manager.1) v.manager.0 (J.entries v.journal) };
 
     fn count(&self) -> u64 {
-        self.entries.count()
+        self.journal.count()
     }
 
-    ghost at_opening = { λ v none. reached_at_once v.manager.0 (D.state v.manager.1) v.entries.0 none };
+    ghost at_opening = { λ v none. reached_at_once v.manager.0 (D.state v.manager.1) (J.entries v.journal) none };
 }
 
 // Whether memory ran out.
@@ -54,7 +52,7 @@ pub(crate) struct ClientCall<'a> {
     pub call: &'a Call,
 }
 
-impl<'a, D: Disk> Job<LockedLog<D>, Entry, Opening> for ClientCall<'a> {
+impl<'a, D: Disk, J: Recorder> Job<LockedLog<D, J>, Entry, Opening> for ClientCall<'a> {
     type Answer = Reply;
 
     ghost use Rattle.clfs_model.specs.Conditions.{MeetsCondition};
@@ -64,9 +62,10 @@ impl<'a, D: Disk> Job<LockedLog<D>, Entry, Opening> for ClientCall<'a> {
 
     ghost is_ready = { λ job. MeetsCondition job.client job.call.now };
 
-    ghost ran = { λ job x y reply. HasRun (D.state x.manager.1).nature.tells_contents x.manager.0 x.entries.0 job.client job.call.now reply y.manager.0 y.entries.0 };
+    ghost ran = { λ job x y reply. HasRun (D.state x.manager.1).nature.tells_contents x.manager.0 (J.entries x.journal) job.client job.call.now reply
+        y.manager.0 (J.entries y.journal) };
 
-    fn run(self, value: &mut LockedLog<D>) -> Reply {
+    fn run(self, value: &mut LockedLog<D, J>) -> Reply {
         broken_stays();
         extents_are_few();
         faults_break();
@@ -74,13 +73,7 @@ impl<'a, D: Disk> Job<LockedLog<D>, Entry, Opening> for ClientCall<'a> {
         refusals_change_nothing();
         whole_files_pass_the_test();
         let ClientCall { client, call } = self;
-        let Ok(()) = value.entries.make_room() else {
-            return Reply::Refused(Refusal::NoMemory);
-        };
-        let Ok(()) = value.spare.fill() else {
-            return Reply::Refused(Refusal::NoMemory);
-        };
-        let Ok(kept) = copied_call(call) else {
+        let Ok(prepared) = value.journal.prepare(call) else {
             return Reply::Refused(Refusal::NoMemory);
         };
         value.manager.stored();
@@ -88,14 +81,7 @@ impl<'a, D: Disk> Job<LockedLog<D>, Entry, Opening> for ClientCall<'a> {
         if is_out_of_memory(&reply) {
             return reply;
         }
-        let entry = Entry {
-            client,
-            number: value.entries.next_number(client),
-            call: kept,
-            happened: reply.happened(),
-            reply: value.spare.reply_of(&reply),
-        };
-        value.entries.push(entry);
+        value.journal.record(prepared, client, call, &reply);
         reply
     }
 }

@@ -19,18 +19,19 @@ ghost use Rattle.clfs_shared.specs.Journal.{client_of, is_out_of_memory};
 ghost use Rattle.clfs_shared.specs.Reached.{opening_of, is_calm, IsReached};
 ghost use Rattle.clfs_shared.specs.Sessions.{own_entries, HasAreas, IsCalmReply, IsOf, IsStepped, IsLegalFrom};
 
-use crate::copies::Spare;
-use crate::entries::Entries;
+use crate::kept::KeptJournal;
 use crate::locked::{ClientCall, LockedLog};
 use crate::opening::Opening;
 use crate::order::{Order, kind_of};
+use crate::recorder::Recorder;
+use crate::told::ToldJournal;
 use clfs_disk::Disk;
 use clfs_laws::{
     fronts_are_legal, held_is_by_own_entries, own_entries_cover_an_append,
     replies_are_of_their_calls, rows_are_by_own_entries, unbroken_stays,
 };
 use clfs_manager::Manager;
-use clfs_model::{Call, Entry, Journal, Reply};
+use clfs_model::{Call, Entry, Reply};
 use clfs_turn::{Turn, TurnRefused, TurnSeat};
 use std::alloc::{AllocError, Global};
 use std::marker::Model;
@@ -40,14 +41,15 @@ use std::sync::Wait;
 /// of, its client, and the beginning of the journal that it has seen.
 pub type Session = TurnSeat<Entry, Opening>;
 
-/// A log that several sessions share. Contracts see which one it is, its opening and its clients.
+/// A log that several sessions share. Contracts see which one it is, its opening and its clients. Its journal is kept in memory, or, as
+/// `SharedLog<D, ToldJournal>`, told to contracts alone.
 #[derive(Drop)]
-pub struct SharedLog<D: Disk> {
-    turn: Turn<LockedLog<D>, Entry, Opening>,
+pub struct SharedLog<D: Disk, J: Recorder = KeptJournal> {
+    turn: Turn<LockedLog<D, J>, Entry, Opening>,
     order: Order,
 }
 
-impl<D: Disk> Model for SharedLog<D> {
+impl<D: Disk, J: Recorder> Model for SharedLog<D, J> {
     ghost use Rattle.clfs_shared.specs.Sessions.{SharedState, IsShared};
 
     ghost Value = { SharedState };
@@ -66,15 +68,15 @@ pub struct StartRefused<D: Disk> {
 
 /// A shared log that was closed.
 #[derive(Drop)]
-pub struct Closed<D: Disk> {
+pub struct Closed<D: Disk, J: Recorder = KeptJournal> {
     /// The log.
     pub manager: Manager<D>,
     /// The calls since it was shared, in the order in which the log took them.
-    pub journal: Journal,
+    pub journal: J::Journal,
 }
 
 impl<D: Disk> SharedLog<D> {
-    /// Shares a log among clients: one session for each, in that order. An error is want of memory.
+    /// Shares a log among clients: one session for each, in that order. The journal is kept in memory. An error means that there was no memory.
     pub fn start(
         alloc: Global,
         manager: Manager<D>,
@@ -88,13 +90,54 @@ impl<D: Disk> SharedLog<D> {
         ensures log { IfOk result (λ t. (t.0.opening ≡ opening_of manager.0 (D.state manager.1)) × (t.0.clients ≡ clients.now)) }
         ensures clients { IfOk result (λ t. map (λ s. s.client) t.1.items ≡ clients.now) }
         ensures sessions { IfOk result (λ t. All (λ s. IsNewSeat t.0 s) t.1.items) }
+        ensures belong { IfOk result (λ t. All (λ s. IsOf t.0 s) t.1.items) }
+        ensures refused { IfErr result (λ r. r.manager ≡ manager) }
+    {
+        SharedLog::share(alloc, manager, clients)
+    }
+}
+
+impl<D: Disk> SharedLog<D, ToldJournal> {
+    /// Shares a log as `start` does. The journal is told to contracts alone, so memory doesn't grow with it; the call after as many as a `u64` counts is
+    /// answered as if there were no memory.
+    pub fn start_told(
+        alloc: Global,
+        manager: Manager<D>,
+        clients: &[u16],
+    ) -> Result<(SharedLog<D, ToldJournal>, Vec<Session>), StartRefused<D>>
+        requires some { 0 < length clients.now }
+        requires apart { are_distinct clients.now ≡ true }
+        requires ranges { (c : ℕ) → is_in c clients.now ≡ true → IsClient c }
+        ensures log { IfOk result (λ t. (t.0.opening ≡ opening_of manager.0 (D.state manager.1)) × (t.0.clients ≡ clients.now)) }
+        ensures clients { IfOk result (λ t. map (λ s. s.client) t.1.items ≡ clients.now) }
+        ensures sessions { IfOk result (λ t. All (λ s. IsNewSeat t.0 s) t.1.items) }
+        ensures belong { IfOk result (λ t. All (λ s. IsOf t.0 s) t.1.items) }
+        ensures refused { IfErr result (λ r. r.manager ≡ manager) }
+    {
+        SharedLog::share(alloc, manager, clients)
+    }
+}
+
+impl<D: Disk, J: Recorder> SharedLog<D, J> {
+    // Shares a log, with a journal of either kind.
+    fn share(
+        alloc: Global,
+        manager: Manager<D>,
+        clients: &[u16],
+    ) -> Result<(SharedLog<D, J>, Vec<Session>), StartRefused<D>>
+        requires some { 0 < length clients.now }
+        requires apart { are_distinct clients.now ≡ true }
+        requires ranges { (c : ℕ) → is_in c clients.now ≡ true → IsClient c }
+        ensures log { IfOk result (λ t. (t.0.opening ≡ opening_of manager.0 (D.state manager.1)) × (t.0.clients ≡ clients.now)) }
+        ensures clients { IfOk result (λ t. map (λ s. s.client) t.1.items ≡ clients.now) }
+        ensures sessions { IfOk result (λ t. All (λ s. IsNewSeat t.0 s) t.1.items) }
+        ensures belong { IfOk result (λ t. All (λ s. IsOf t.0 s) t.1.items) }
         ensures refused { IfErr result (λ r. r.manager ≡ manager) }
     {
         manager.stored();
         let locked = LockedLog {
             manager,
-            entries: Entries::new(alloc),
-            spare: Spare::new(alloc),
+            journal: J::new(alloc),
         };
         match Turn::new(alloc, locked, clients) {
             Ok((turn, sessions)) => {
@@ -105,8 +148,7 @@ impl<D: Disk> SharedLog<D> {
                 let TurnRefused { value } = refused;
                 let LockedLog {
                     manager,
-                    entries: _,
-                    spare: _,
+                    journal: _,
                 } = value;
                 Err(StartRefused { manager })
             }
@@ -179,26 +221,22 @@ impl<D: Disk> SharedLog<D> {
     }
 
     /// Takes all sessions of the log, and gives the log back with the journal.
-    pub fn close(self, sessions: Vec<Session>) -> Closed<D>
+    pub fn close(self, sessions: Vec<Session>) -> Closed<D, J>
         requires log { All (λ s. IsOf self s) sessions.items }
         requires all { (c : ℕ) → is_in c self.clients ≡ true → is_in c (map (λ s. s.client) sessions.items) ≡ true }
 
         // The journal begins with what each session has seen, and has of each client just the calls of its session.
-        ensures sessions { All (λ s. HasSeen client_of result.journal s) sessions.items }
-        ensures others { (c : ℕ) → is_in c self.clients ≡ false → mine result.journal c ≡ [] }
+        ensures sessions { All (λ s. HasSeen client_of (J.entries_of result.journal) s) sessions.items }
+        ensures others { (c : ℕ) → is_in c self.clients ≡ false → mine (J.entries_of result.journal) c ≡ [] }
 
         // It leads from the opening to the manager's state. Its fields say what it tells of the disk, and what a crash left at each moment.
-        ensures reached { IsReached self.opening (D.state result.manager.1) result.manager.0 result.journal }
+        ensures reached { IsReached self.opening (D.state result.manager.1) result.manager.0 (J.entries_of result.journal) }
     {
         let SharedLog { turn, order: _ } = self;
-        let LockedLog {
-            manager,
-            entries,
-            spare: _,
-        } = turn.close(sessions);
+        let LockedLog { manager, journal } = turn.close(sessions);
         Closed {
             manager,
-            journal: entries.into_journal(),
+            journal: journal.into_journal(),
         }
     }
 }

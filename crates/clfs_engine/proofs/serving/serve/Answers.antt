@@ -1,10 +1,11 @@
 use Rattle.clfs_engine.specs.Answered.{AnswersLines, AnswersInPart}
 use Rattle.clfs_engine.proofs.Loaded.{IsLoaded, IsKeptOn, is_answered, is_answered_in_part}
 use Rattle.clfs_engine.proofs.ServingEnds.{answering_serves, refusal_serves}
+use Rattle.clfs_engine.proofs.Through.{AreOne, comes_through}
 use Rattle.clfs_engine.proofs.serving.serve.Goals as goal
 
-pub returns-in-Ok : goal.returns-in-Ok
-returns-in-Ok g c =
+pub returns-in-Ok-clause-ends : goal.returns-in-Ok-clause-ends
+returns-in-Ok-clause-ends g c =
     let old = g.D.Disk.state c.args.disk in
     let mid = g.D.Disk.state c.in-Ok.manager.1 in
     let new = g.D.Disk.state c.served-status.new.manager.1 in
@@ -26,8 +27,8 @@ returns-in-Ok g c =
     (is_answered c.args.write_buffers old mid new s t loaded kept) (is_answered_in_part c.args.write_buffers old mid new s t loaded kept)
     c.served-status.ensures)
 
-pub returns-in-Err : goal.returns-in-Err
-returns-in-Err g c =
+pub returns-in-Err-clause-ends : goal.returns-in-Err-clause-ends
+returns-in-Err-clause-ends g c =
     let load = c.in-Err.ensures in
     refusal_serves c.refused.result c.args.write_buffers c.in-Err.field-0.cause (g.D.Disk.state c.args.disk) (g.D.Disk.state c.in-Err.field-0.disk) _ _ _ _ _ _
     (record {
@@ -38,3 +39,13 @@ returns-in-Err g c =
       time = load.same_refused.1;
     })
     c.refused.ensures
+
+pub returns-in-Ok-clause-complete : goal.returns-in-Ok-clause-complete
+returns-in-Ok-clause-complete g c =
+    let one : AreOne = record { no_damage = c.files_have_one_meaning.ensures.no_damage; no_base = c.files_have_one_meaning.ensures.no_base } in
+    comes_through one _ _ _ _ _ _ _ _ _ _ _ _ (returns-in-Ok-clause-ends g c)
+
+pub returns-in-Err-clause-complete : goal.returns-in-Err-clause-complete
+returns-in-Err-clause-complete g c =
+    let one : AreOne = record { no_damage = c.files_have_one_meaning.ensures.no_damage; no_base = c.files_have_one_meaning.ensures.no_base } in
+    comes_through one _ _ _ _ _ _ _ _ _ _ _ _ (returns-in-Err-clause-ends g c)

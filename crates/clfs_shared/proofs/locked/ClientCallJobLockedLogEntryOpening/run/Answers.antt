@@ -1,10 +1,12 @@
 use Rattle.std.proofs.Common.{sym, ◌∙◌}
-use Rattle.clfs_shared.proofs.Reaching.{calls_by, named, reached_more, same_clock, still_at}
+use Rattle.clfs_model.specs.Happened.{happened_of}
+use Rattle.clfs_shared.proofs.Reaching.{behind, calls_by, fits_spare, memory_leaves, ran_out, reached_more, same_clock, still_at}
 use Rattle.clfs_shared.proofs.locked.ClientCallJobLockedLogEntryOpening.run.Goals as goal
 
 pub returns-clause-lawful : goal.returns-clause-lawful
 returns-clause-lawful g c = λ o reached.
     let disk = g.D.Disk.state in
+    let entries = g.J.Recorder.entries in
     let x = c.args.value.now in
     let next = c.step-reply.new.self in
     let reply = c.step-reply.result in
@@ -15,16 +17,16 @@ returns-clause-lawful g c = λ o reached.
       breaks = c.faults_break.ensures.fault;
       stays = c.broken_stays.ensures.calls;
       keeps = c.refusals_change_nothing.ensures.calls;
-    }) o (disk x.manager.1) (disk next.1) x.manager.0 next.0 x.entries.0 c.args.self.client c.args.self.call.now reply
+    }) o (disk x.manager.1) (disk next.1) x.manager.0 next.0 (entries x.journal) c.args.self.client c.args.self.call.now reply
     (calls_by (disk x.manager.1) (disk next.1) x.manager.0 next.0 c.args.self.client c.args.self.call.now reply c.step-reply.ensures.step c.step-reply.ensures.writes
     c.step-reply.ensures.damage c.step-reply.ensures.moments (λ broken. same_clock disk next.1 x.manager.1 (c.step-reply.ensures.stopped broken)))
-    reached c.push.new.self.0 (sym c.is_out_of_memory.ensures ∙ c.if-is_out_of_memory.false)
-    (named c.args.self.client c.next_number.result c.in-Ok-copied_call.kept c.args.self.call.now c.happened.result c.reply_of.result reply x.entries.0 c.make_room.new.self.0
-    c.push.new.self.0 c.push.ensures c.make_room.ensures.same c.next_number.ensures c.in-Ok-copied_call.ensures c.happened.ensures c.reply_of.ensures)
+    reached (entries c.record.new.self) (sym c.is_out_of_memory.ensures ∙ c.if-is_out_of_memory.false)
+    (behind c.args.self.client c.args.self.call.now reply (entries x.journal) (entries c.prepare.new.self) (entries c.record.new.self) c.record.ensures c.prepare.ensures.same)
 
 pub returns-then-is_out_of_memory-clause-lawful : goal.returns-then-is_out_of_memory-clause-lawful
 returns-then-is_out_of_memory-clause-lawful g c = λ o reached.
     let disk = g.D.Disk.state in
+    let entries = g.J.Recorder.entries in
     let x = c.args.value.now in
     let next = c.step-reply.new.self in
     let reply = c.step-reply.result in
@@ -35,7 +37,32 @@ returns-then-is_out_of_memory-clause-lawful g c = λ o reached.
       breaks = c.faults_break.ensures.fault;
       stays = c.broken_stays.ensures.calls;
       keeps = c.refusals_change_nothing.ensures.calls;
-    }) o (disk x.manager.1) (disk next.1) x.manager.0 next.0 x.entries.0 c.make_room.new.self.0 c.args.self.client c.args.self.call.now reply
+    }) o (disk x.manager.1) (disk next.1) x.manager.0 next.0 (entries x.journal) (entries c.prepare.new.self) c.args.self.client c.args.self.call.now reply
     (calls_by (disk x.manager.1) (disk next.1) x.manager.0 next.0 c.args.self.client c.args.self.call.now reply c.step-reply.ensures.step c.step-reply.ensures.writes
     c.step-reply.ensures.damage c.step-reply.ensures.moments (λ broken. same_clock disk next.1 x.manager.1 (c.step-reply.ensures.stopped broken)))
-    reached (sym c.is_out_of_memory.ensures ∙ c.if-is_out_of_memory.true) c.make_room.ensures.same
+    reached (sym c.is_out_of_memory.ensures ∙ c.if-is_out_of_memory.true) c.prepare.ensures.same
+
+pub returns-then-is_out_of_memory-clause-ran : goal.returns-then-is_out_of_memory-clause-ran
+returns-then-is_out_of_memory-clause-ran g c =
+    let told = (g.D.Disk.state c.args.value.now.manager.1).nature.tells_contents in
+    let entries = g.J.Recorder.entries in
+    let x = c.args.value.now in
+    let next = c.step-reply.new.self in
+    let reply = c.step-reply.result in
+    let wanting = sym c.is_out_of_memory.ensures ∙ c.if-is_out_of_memory.true in
+    ran_out told x.manager.0 next.0 (entries x.journal) (entries c.prepare.new.self) c.args.self.client c.args.self.call.now reply wanting c.prepare.ensures.same
+    (memory_leaves (record {
+      joins = c.journals_join.ensures.legal;
+      passes = c.whole_files_pass_the_test.ensures.passes;
+      tells = c.whole_files_pass_the_test.ensures.tells;
+      breaks = c.faults_break.ensures.fault;
+      stays = c.broken_stays.ensures.calls;
+      keeps = c.refusals_change_nothing.ensures.calls;
+    }) told x.manager.0 next.0 c.args.self.client c.args.self.call.now reply c.step-reply.ensures.step wanting)
+
+pub record-requires-clause-small : goal.record-requires-clause-small
+record-requires-clause-small g c =
+    let x = c.args.value.now in
+    let reply = c.step-reply.result in
+    fits_spare c.extents_are_few.ensures.step (g.D.Disk.state x.manager.1).nature.tells_contents x.manager.0 c.args.self.client c.args.self.call.now (happened_of reply) reply
+    c.step-reply.new.self.0 c.stored.ensures.valid c.step-reply.ensures.small c.step-reply.ensures.step

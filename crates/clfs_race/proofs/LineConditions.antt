@@ -8,7 +8,7 @@ use Rattle.std.specs.Str.{bytes_eq}
 use Rattle.std.proofs.lemmas.Bool.{cases_Bool}
 use Rattle.std.proofs.lemmas.Bool.Decides.{nat_tests}
 use Rattle.hex.specs.Hex.{decode_of}
-use Rattle.clfs_engine.proofs.DataLengths.{decode_short}
+use Rattle.clfs_race.proofs.DataLengths.{decode_short}
 use Rattle.hex.specs.declared.error.FromHexError.{FromHexError}
 use Rattle.clfs_lsn.specs.Words.{decimal_number, data_of_word, is_number_word, is_decimal_digit}
 use Rattle.std.specs.Str.Parse.{digits_value}
@@ -20,7 +20,7 @@ use Rattle.clfs_model.specs.Conditions.{IsClient, HasArguments}
 use Rattle.clfs_model.specs.Lines.{words_of}
 use Rattle.clfs_model.specs.Run.{Request, reopens}
 use Rattle.clfs_model.specs.Script.{Word, Rest, Read, ◌>>=◌, value_or, word_at, word, last_of, ends, number, name_word, cursor_word, client_word, words_from, option_at, one_word_line, two_word_line, sizes_line, area_line, append_line, restart_line, read_line, policy_line, policy_of, options_of, sizes, Verb, open_verb, area_verb, drop_verb, reserve_verb, release_verb, align_verb, append_verb, flush_verb, flush_to_verb, read_verb, next_verb, end_verb, restart_verb, read_restart_verb, previous_restart_verb, advance_verb, archive_verb, tail_verb, extents_verb, policy_verb, unpolicy_verb, size_verb, info_verb, call_line, Language, allowed_verb, request_behind, client_line, request_or_bad, request_in}
-use Rattle.clfs_engine.specs.Asked.{Meets}
+use Rattle.clfs_race.specs.Meets.{Meets}
 
 -- ---- readings that may go wrong
 

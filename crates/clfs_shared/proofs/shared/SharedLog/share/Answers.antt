@@ -1,9 +1,10 @@
-use Rattle.std.proofs.Common.{◌≡◌, true, sym, subst}
+use Rattle.std.proofs.Common.{◌≡◌, true, sym, subst, ◌∙◌, slice_index_or}
 use Rattle.clfs_model.specs.Valid.{IsValid}
 use Rattle.clfs_model.specs.Storable.{IsStorable}
 use Rattle.clfs_turn.specs.Lists.{is_in}
 use Rattle.clfs_shared.specs.declared.opening.Opening.{Opening}
-use Rattle.clfs_shared.proofs.shared.SharedLog.start.Goals as goal
+use Rattle.clfs_shared.proofs.Telling.{belong_by}
+use Rattle.clfs_shared.proofs.shared.SharedLog.share.Goals as goal
 
 pub invariant_of-result : goal.invariant_of-result
 invariant_of-result g c = record {
@@ -11,3 +12,6 @@ invariant_of-result g c = record {
   storable = subst (λ (o : Opening). IsStorable o.state) (sym c.in-Ok.ensures.lock.0) c.stored.ensures.storable;
   clients = λ client inside. c.requires.ranges client (subst (λ clients. is_in client clients ≡ true) c.in-Ok.ensures.lock.1 inside);
 }
+
+pub returns-in-Ok-clause-belong : goal.returns-in-Ok-clause-belong
+returns-in-Ok-clause-belong g c = belong_by c.in-Ok.turn c.in-Ok.sessions.items c.in-Ok.ensures.seats (c.in-Ok.ensures.clients ∙ sym c.in-Ok.ensures.lock.1)

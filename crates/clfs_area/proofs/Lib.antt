@@ -1,0 +1,5 @@
+mod Books
+mod Asked
+mod Found
+mod Replies
+mod Told

@@ -1,0 +1,4 @@
+pub mod Areas
+pub mod Calls
+pub mod Causes
+pub mod Names

@@ -1,0 +1,52 @@
+// How a shared log keeps its journal: as entries in memory, or told to contracts alone.
+ghost use Rattle.std.specs.Prelude.{◌≡◌, ℕ, ◌+◌, ◌<◌, List, [], ◌∷◌, ◌++◌, length, IfOk};
+ghost use Rattle.clfs_model.specs.declared.call.Call.{Call};
+ghost use Rattle.clfs_model.specs.declared.journal.Entry.{Entry};
+ghost use Rattle.clfs_model.specs.Journals.{mine};
+ghost use Rattle.clfs_shared.specs.Journal.{entry_of};
+ghost use Rattle.clfs_shared.specs.Rooms.{FitsSpare};
+
+use clfs_model::{Call, Reply};
+use std::alloc::{AllocError, Global};
+
+/// A journal that grows by an entry for each call. What an entry takes is there before its call is made, so that recording can't fail.
+pub trait Recorder: Drop {
+    /// What is taken for an entry before its call is made.
+    type Prepared: Drop;
+
+    /// What closing a log hands out.
+    type Journal: Drop;
+
+    // The entries so far.
+    ghost entries: { Self → List Entry };
+
+    // What was prepared suffices for the entry of this call.
+    ghost is_prepared: { Self → Self.Prepared → Call → Type 0 };
+
+    // The entries of a journal that was handed out.
+    ghost entries_of: { Self.Journal → List Entry };
+
+    /// No entries. It takes the memory that it needs of `alloc`.
+    fn new(alloc: Global) -> Self
+        ensures { entries result ≡ [] };
+
+    /// How many entries there are.
+    fn count(&self) -> u64
+        ensures { result ≡ length (entries self.now) };
+
+    /// Takes what the entry of a call needs, whatever the reply.
+    fn prepare(&mut self, call: &Call) -> Result<Self::Prepared, AllocError>
+        ensures same { entries self.new ≡ entries self.old }
+        ensures ready { IfOk result (λ prepared. is_prepared self.new prepared call.now) };
+
+    /// Adds the entry of a call that was made.
+    fn record(&mut self, prepared: Self::Prepared, client: u16, call: &Call, reply: &Reply)
+        requires client { client < 65 }
+        requires small { FitsSpare reply.now }
+        requires ready { is_prepared self.old prepared call.now }
+        ensures { entries self.new ≡ entries self.old ++ entry_of client (length (mine (entries self.old) client) + 1) call.now reply.now ∷ [] };
+
+    /// The journal.
+    fn into_journal(self) -> Self::Journal
+        ensures { entries_of result ≡ entries self };
+}
