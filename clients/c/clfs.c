@@ -21,8 +21,8 @@
 
 extern char **environ;
 
-/* Words for `serve` that each start passes: the place for "--endless", once the program has it. */
-#define SERVE_OPTIONS
+/* Words for `serve` that each start passes: a run may take any number of bytes. */
+#define SERVE_OPTIONS "--endless"
 
 #define LONGEST_LINE 131072
 /* Each room is larger than a longest line, and than a longest reply, which has 128,928 digits of data and some 130 bytes beside them. */

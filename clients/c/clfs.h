@@ -123,7 +123,7 @@ enum clfs_status {
     CLFS_STATUS_DISK_FAILED = 4,     /* before the log was open; the program's standard error says in which call */
     CLFS_STATUS_NO_MEMORY = 5,
     CLFS_STATUS_NOT_A_LOG = 6,
-    CLFS_STATUS_INPUT_TOO_LONG = 7,  /* this run has taken as many bytes as it may: start it again */
+    CLFS_STATUS_INPUT_TOO_LONG = 7,  /* this run has taken a line that is too long, or as many bytes as it may: start it again */
     CLFS_STATUS_LOG_EXISTS = 8,
     CLFS_STATUS_LAUNCHER = 70        /* ./clfs couldn't bring the program up to date */
 };

@@ -43,8 +43,8 @@ Path = Union[str, "os.PathLike[str]"]
 # The longest line that the program takes, without its line feed.
 LONGEST_LINE = 131_072
 
-# Words for `serve` that each start of this client passes: the place for `--endless`, once the program has it.
-SERVE_OPTIONS: Tuple[str, ...] = ()
+# Words for `serve` that each start of this client passes: a run may take any number of bytes.
+SERVE_OPTIONS: Tuple[str, ...] = ("--endless",)
 
 
 class Pending(Generic[T]):

@@ -177,7 +177,7 @@ class DiskFailed(Ended):
 
 
 class InputTooLong(Ended):
-    """This run of the program has taken as many bytes as it may. Start it again: what was flushed is there."""
+    """This run of the program has taken a line that is too long, or as many bytes as it may. Start it again: what was flushed is there."""
 
 
 class LogExists(Ended):

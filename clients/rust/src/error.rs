@@ -112,7 +112,7 @@ pub enum End {
     NoMemory,
     /// The folder has no log: no base copy counts, or bytes at a place aren't a log's (6).
     NotALog(Option<Place>),
-    /// It has taken as many bytes of input as it may: start it again (7).
+    /// It has taken a line that is too long, or as many bytes of input as it may: start it again (7).
     InputTooLong,
     /// A log is there already (8).
     LogExists,

@@ -44,8 +44,8 @@ use std::sync::Arc;
 /// The longest line that the program takes, without its line feed.
 const LONGEST_LINE: usize = 131_072;
 
-/// Words for `serve` that each start passes: the place for `--endless`, once the program has it.
-const SERVE_OPTIONS: &[&str] = &[];
+/// Words for `serve` that each start passes: a run may take any number of bytes.
+const SERVE_OPTIONS: &[&str] = &["--endless"];
 
 /// How a log is served.
 pub struct Options {

@@ -3,19 +3,20 @@
 //! Everything that matters is `clfs_engine::run`, which is proved over any source, sink and disk. Here the two standard streams
 //! become a source and a sink, the folder a disk, and the words after it the command. A word that isn't text, or no folder, is
 //! no command. `--help` and `--version` are words in the folder's place; they are answered here, the help by a text that clap makes of
-//! the command line. Why a run ended without its work done is said on standard error if standard output doesn't say it: here, or by
-//! the folder if one of its calls failed.
+//! the command line. Standard error has what standard output doesn't say: which words are allowed in the place of those that are no
+//! command, and why a run ended without its work done, told here, or by the folder if one of its calls failed. If it is a terminal, how
+//! far a large log was read stands there while it is opened or checked.
 #![tactic(auto)]
 
-use clfs_command::help_text;
-use clfs_engine::{DONE, NO_MEMORY, SINK_FAULT, SOURCE_FAULT, run};
-use clfs_files::{Folder, ReaderSource, WriterSink};
+use clfs_command::{form_of, help_text};
+use clfs_engine::{DONE, NO_MEMORY, SINK_FAULT, SOURCE_FAULT, USAGE, run};
+use clfs_files::{EndsProgress, Folder, Progress, ReaderSource, Watched, WriterSink};
 use std::alloc::{AllocError, Global};
 use std::process::ExitCode;
 use std::rt::Env;
 use std::sync::Wait;
 use std::thread::Threads;
-use std::{env, io};
+use std::env;
 
 /// What `--version` prints.
 const VERSION: &str = "clfs 0.1\n";
@@ -66,11 +67,24 @@ fn run_command(rt: &HostRuntime, threads: &(impl Threads + Wait + Sync), words: 
     let Ok(path) = folder_path(rt.alloc(), words) else {
         return NO_MEMORY;
     };
-    let mut source = ReaderSource::new(rt.reader());
-    let mut sink = WriterSink::new(io::writer(rt));
-    let folder = Folder::new(*rt, path);
+    let progress = Progress::new(*rt, &rt.stderr());
+    let mut source = EndsProgress::new(ReaderSource::new(rt.stdin()), &progress);
+    let mut sink = EndsProgress::new(WriterSink::new(rt.stdout()), &progress);
+    let folder = Watched::new(Folder::new(*rt, path), &progress);
     let command = command_words(words);
-    run(threads, rt.alloc(), command, &mut source, &mut sink, folder).status
+    let status = run(threads, rt.alloc(), command, &mut source, &mut sink, folder).status;
+    progress.end();
+    if status == USAGE {
+        tell_form(rt, command);
+    }
+    status
+}
+
+// Says on standard error which words are allowed in the place of these.
+fn tell_form(rt: &HostRuntime, command: &[String]) {
+    if let Ok(line) = form_of(rt.alloc(), command) {
+        let _said = rt.eprintln(line.as_str());
+    }
 }
 
 // The status of what the words ask for: one of the program's own texts, or a command.

@@ -1,4 +1,4 @@
-use clfs_command::{Command, WordsRefusal, help_text, read_command};
+use clfs_command::{Command, ScriptLength, WordsRefusal, form_of, help_text, read_command};
 use clfs_lsn::Shape;
 use std::alloc::{AllocError, Global};
 use std::test::Fail;
@@ -40,8 +40,11 @@ fn trial(number: u32, count: u32) -> Option<Command> {
     Some(Command::Trial { number, count })
 }
 
-fn serve(write_buffers: u32) -> Option<Command> {
-    Some(Command::Serve { write_buffers })
+fn serve(write_buffers: u32, length: ScriptLength) -> Option<Command> {
+    Some(Command::Serve {
+        write_buffers,
+        length,
+    })
 }
 
 fn race(write_buffers: u32) -> Option<Command> {
@@ -158,10 +161,18 @@ fn words_and_their_commands(rt: HostRuntime) -> Result<(), Fail> {
             None,
         ),
         ("format --dedicated", None),
-        ("serve", serve(4)),
-        ("serve --", serve(4)),
-        ("serve --write-buffers 1", serve(1)),
-        ("serve --write-buffers=64", serve(64)),
+        ("serve", serve(4, ScriptLength::Limited)),
+        ("serve --", serve(4, ScriptLength::Limited)),
+        ("serve --write-buffers 1", serve(1, ScriptLength::Limited)),
+        ("serve --write-buffers=64", serve(64, ScriptLength::Limited)),
+        ("serve --endless", serve(4, ScriptLength::Endless)),
+        (
+            "serve --endless --write-buffers 8",
+            serve(8, ScriptLength::Endless),
+        ),
+        ("serve --endless --endless", None),
+        ("serve --endless=true", None),
+        ("serve --endless 1", None),
         ("serve --write-buffers 0", None),
         ("serve --write-buffers 65", None),
         ("serve --write-buffers 4 --write-buffers 4", None),
@@ -180,6 +191,7 @@ fn words_and_their_commands(rt: HostRuntime) -> Result<(), Fail> {
         ("race --write-buffers 1", race(1)),
         ("race --write-buffers=64", race(64)),
         ("race --write-buffers 65", None),
+        ("race --endless", None),
         ("race serve", None),
         ("races", None),
         ("trial 1 5", trial(1, 5)),
@@ -238,6 +250,9 @@ Commands:
   trial   Answers lines that are made of a number, over a log in memory, and prints their sums
   check   Judges the log in FOLDER and tells what is in it, or where it is broken
 
+Options may stand in any order, as --containers 4 or --containers=4; numbers are decimal, without a sign or a zero in front.
+Status 1: the words are no command, and standard error says which are.
+
 Makes a log in FOLDER
 
 Usage: clfs FOLDER format [OPTIONS] --block-sectors <B> --container-sectors <S> --containers <N>
@@ -248,12 +263,20 @@ Options:
       --containers <N>         Containers of the log, 1 to 256
       --dedicated              Makes a log that has one stream
 
+Makes a log where none is: it never writes over one. All of its files are made at full length, base and c1 to cN.
+Status 0: formatted. 3: standard output can't be written. 4: disk fault. 5: out of memory. 8: a log is there.
+
 Answers the lines of a script on standard input, one reply a line
 
 Usage: clfs FOLDER serve [OPTIONS]
 
 Options:
       --write-buffers <W>  Full blocks that may wait before all are written, 1 to 64 [default: 4]
+      --endless            Takes a script of any length in place of 64 MiB
+
+Opens the log, and answers each line as soon as it is whole. A script has at most 67108864 bytes, with --endless any number; a line has at most 131072.
+Status 0: all lines are answered. 2: standard input can't be read. 3: standard output can't be written. 4: disk fault. 5: out of memory.
+6: not a log. 7: input too long.
 
 Answers the lines of a script, those of each client in a thread of its own
 
@@ -261,6 +284,9 @@ Usage: clfs FOLDER race [OPTIONS]
 
 Options:
       --write-buffers <W>  Full blocks that may wait before all are written, 1 to 64 [default: 4]
+
+Reads the script, which has at most 1048576 bytes and 10000 lines, opens the log, and prints the replies in the order in which the log took the lines.
+Status 0 to 7: as of serve.
 
 Answers lines that are made of a number, over a log in memory, and prints their sums
 
@@ -270,10 +296,41 @@ Arguments:
   <NUMBER>  The number, 0 to 4294967295
   <COUNT>   How many lines are made, 1 to 100000
 
+Looks at no folder, and reads nothing. The same number and count give the same line.
+Status 0: the line is printed. 3: standard output can't be written. 5: out of memory.
+
 Judges the log in FOLDER and tells what is in it, or where it is broken
 
 Usage: clfs FOLDER check
+
+Writes nothing, and takes no more memory for a larger log. A log is told of only if serve would open it.
+Status 0: a log is there. 3: standard output can't be written. 4: disk fault. 5: out of memory. 6: not a log.
 ";
     assert_eq!(rt; text.as_str(), want);
+    Ok(())
+}
+
+// What is said of words that are no command.
+#[test]
+fn which_words_are_allowed(rt: HostRuntime) -> Result<(), Fail> {
+    let alloc = rt.alloc();
+    let cases = [
+        (
+            "",
+            "clfs: FOLDER and a command are needed; clfs --help has them",
+        ),
+        (
+            "forma",
+            "clfs: forma is no command: behind FOLDER stands format, serve, race, trial, crew or check",
+        ),
+        (
+            "trial 1 0",
+            "clfs: trial takes NUMBER, 0 to 4294967295, and COUNT, 1 to 100000; each is given once, and numbers are decimal, without a sign or a zero in front",
+        ),
+    ];
+    for (line, want) in cases {
+        let form = form_of(alloc, &owned(alloc, line)?)?;
+        assert_eq!(rt; form.as_str(), want);
+    }
     Ok(())
 }

@@ -9,6 +9,8 @@ use Rattle.clfs_lsn.specs.Limits.{most_block_sectors, most_container_sectors, mo
 use Rattle.clfs_lsn.specs.Size.{IsShape}
 use Rattle.clfs_lsn.specs.Words.{decimal_number}
 use Rattle.clfs_command.specs.Line.{command_line}
+use Rattle.clfs_command.specs.declared.words.ScriptLength.{ScriptLength}
+use Rattle.clfs_command.specs.declared.words.ScriptLength.TheVariants.{Limited, Endless}
 use Rattle.clfs_command.specs.declared.words.Command.{Command}
 use Rattle.clfs_command.specs.declared.words.Command.TheVariants.{Format, Serve, Race, Trial, Check}
 
@@ -37,10 +39,14 @@ format_of (Some block) (Some container) (Some containers) dedicated =
     then Some (Format (record { block_sectors = block; container_sectors = container }) containers dedicated) else None
 format_of _ _ _ dedicated = None
 
--- serving with so many write buffers, where a log can have them
-abbrev pub serve_of : Option ℕ → Option Command
-serve_of (Some buffers) = if nat_le 1 buffers && nat_le buffers most_write_buffers then Some (Serve buffers) else None
-serve_of None = None
+-- how long a script may get
+abbrev pub length_of : Bool → ScriptLength
+length_of endless = if endless then Endless else Limited
+
+-- serving a script of at most such a length with so many write buffers, where a log can have them
+abbrev pub serve_of : Option ℕ → ScriptLength → Option Command
+serve_of (Some buffers) length = if nat_le 1 buffers && nat_le buffers most_write_buffers then Some (Serve buffers length) else None
+serve_of None length = None
 
 -- a race with so many write buffers, if a log can have them
 abbrev pub race_of : Option ℕ → Option Command
@@ -58,7 +64,7 @@ with_options (name, options) =
     if bytes_eq name (codes "format")
     then format_of (number_of (codes "block-sectors") options) (number_of (codes "container-sectors") options) (number_of (codes "containers") options)
     (is_set (codes "dedicated") options)
-    else if bytes_eq name (codes "serve") then serve_of (number_of (codes "write-buffers") options)
+    else if bytes_eq name (codes "serve") then serve_of (number_of (codes "write-buffers") options) (length_of (is_set (codes "endless") options))
     else if bytes_eq name (codes "race") then race_of (number_of (codes "write-buffers") options)
     else if bytes_eq name (codes "trial") then trial_of (number_of (codes "NUMBER") options) (number_of (codes "COUNT") options)
     else if bytes_eq name (codes "check") then Some Check else None
@@ -70,7 +76,7 @@ command_of words = if is_empty (fault_of command_line words) then option_and_the
 -- the numbers of a command are such
 abbrev pub HasItsRanges : Command → Type 0
 HasItsRanges (Format shape containers dedicated) = IsShape shape × (1 ≤ containers) × (containers ≤ most_containers)
-HasItsRanges (Serve buffers) = (1 ≤ buffers) × (buffers ≤ most_write_buffers)
+HasItsRanges (Serve buffers length) = (1 ≤ buffers) × (buffers ≤ most_write_buffers)
 HasItsRanges (Race buffers) = (1 ≤ buffers) × (buffers ≤ most_write_buffers)
 HasItsRanges (Trial number count) = (1 ≤ count) × (count ≤ most_trial_lines)
 HasItsRanges Check = Unit {0}

@@ -5,9 +5,11 @@
 //! is said here (`specs/Command.antt`). The texts of the help stand beside the options that they explain.
 #![tactic(auto)]
 
+mod forms;
 mod help;
 mod line;
 mod words;
 
+pub use forms::form_of;
 pub use help::help_text;
-pub use words::{Command, WordsRefusal, read_command};
+pub use words::{Command, ScriptLength, WordsRefusal, read_command};

@@ -82,7 +82,10 @@ pub fn serve_line<'a>(alloc: Global) -> Result<Command<'a>, AllocError>
     ensures { IfOk result (λ r. app_of r ≡ serve_line) }
 {
     let about = "Answers the lines of a script on standard input, one reply a line";
-    command_named(alloc, "serve", about).arg(write_buffers(alloc))
+    let endless = "Takes a script of any length in place of 64 MiB";
+    command_named(alloc, "serve", about)
+        .arg(write_buffers(alloc))?
+        .arg(flag(alloc, "endless", endless))
 }
 
 /// The line of `race`.

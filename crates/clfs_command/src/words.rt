@@ -4,7 +4,7 @@ ghost use Rattle.std.specs.Option.{option_and_then};
 ghost use Rattle.std.specs.String.{string_bytes};
 ghost use Rattle.clap.specs.Words.{rows_of, found_of, subcommand_rows_of};
 ghost use Rattle.clfs_lsn.specs.Limits.{most_containers, most_write_buffers};
-ghost use Rattle.clfs_command.specs.Command.{number_of, is_set, is_size, format_of, serve_of, race_of, trial_of, with_options, command_of, HasItsRanges};
+ghost use Rattle.clfs_command.specs.Command.{number_of, is_set, is_size, format_of, length_of, serve_of, race_of, trial_of, with_options, command_of, HasItsRanges};
 
 use crate::line::command_line;
 use clap::ArgMatches;
@@ -13,6 +13,15 @@ use clfs_lsn::{MOST_CONTAINERS, Shape};
 use clfs_text::decimal_number;
 use std::alloc::{AllocError, Global};
 use thiserror::Error;
+
+/// How long a script may get.
+#[derive(Clone, Copy, Debug, PartialEq, Eq)]
+pub enum ScriptLength {
+    /// 67,108,864 bytes.
+    Limited,
+    /// 18,446,744,073,709,551,615 bytes, which no script reaches.
+    Endless,
+}
 
 /// What a user can ask the program for.
 #[derive(Clone, Copy, Debug, PartialEq, Eq)]
@@ -30,6 +39,8 @@ pub enum Command {
     Serve {
         /// The write buffers of the log, 1 to 64.
         write_buffers: u32,
+        /// How long the script may get.
+        length: ScriptLength,
     },
     /// To answer a script, each client's lines in a thread of its own.
     Race {
@@ -131,15 +142,28 @@ fn format_of(
     })
 }
 
-fn serve_of(write_buffers: Option<u32>) -> Option<Command>
-    ensures command { result ≡ serve_of write_buffers }
+fn length_of(endless: bool) -> ScriptLength
+    ensures { result ≡ length_of endless }
+{
+    if endless {
+        ScriptLength::Endless
+    } else {
+        ScriptLength::Limited
+    }
+}
+
+fn serve_of(write_buffers: Option<u32>, length: ScriptLength) -> Option<Command>
+    ensures command { result ≡ serve_of write_buffers length }
     ensures ranges { IfSome result HasItsRanges }
 {
     let write_buffers = write_buffers?;
     if !(1..=MOST_WRITE_BUFFERS).contains(&write_buffers) {
         return None;
     }
-    Some(Command::Serve { write_buffers })
+    Some(Command::Serve {
+        write_buffers,
+        length,
+    })
 }
 
 fn race_of(write_buffers: Option<u32>) -> Option<Command>
@@ -177,7 +201,10 @@ fn with_options(name: &str, options: &ArgMatches) -> Option<Command>
             number_of("containers", options),
             is_set("dedicated", options),
         ),
-        "serve" => serve_of(number_of("write-buffers", options)),
+        "serve" => serve_of(
+            number_of("write-buffers", options),
+            length_of(is_set("endless", options)),
+        ),
         "race" => race_of(number_of("write-buffers", options)),
         "trial" => trial_of(number_of("NUMBER", options), number_of("COUNT", options)),
         "check" => Some(Command::Check),

@@ -20,3 +20,5 @@ mod physical;
 mod ports;
 #[cfg(test)]
 mod recover;
+#[cfg(test)]
+mod watched;

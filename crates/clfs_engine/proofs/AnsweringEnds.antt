@@ -3,15 +3,15 @@ use Rattle.std.proofs.Common.{◌≡◌, ℕ, ◌≤◌, ◌⊎◌, Bool, true, 
 use Rattle.std.specs.Prelude.{Option}
 use Rattle.std.specs.Io.KnownBytes.{Appends}
 use Rattle.clfs_ports.specs.Cause.{Rises}
-use Rattle.clfs_model.specs.Accepted.{serve_limits}
+use Rattle.clfs_model.specs.Accepted.{Limits}
 use Rattle.clfs_engine.specs.Ends.{AppendsFront}
 use Rattle.clfs_engine.specs.Serve.{Answers, EndsAnswering, IsWholeAnswer, IsAnswerUpToFault, StopsShort, Writes, IsAnswerStatus, too_long_text}
 use Rattle.clfs_engine.specs.Stopped.{IsAnswerBeforeLimit}
 use Rattle.clfs_engine.proofs.Written.{appends_more}
 
-module _ (Is : Answers) (InPart : Bool → Answers) (left left' written written' : Option (List ℕ)) (source source' sink sink' : ℕ) (later : source ≤ source') (sink_later : sink ≤ sink') where
+module _ (limits : Limits) (Is : Answers) (InPart : Bool → Answers) (left left' written written' : Option (List ℕ)) (source source' sink sink' : ℕ) (later : source ≤ source') (sink_later : sink ≤ sink') where
   -- all lines are answered
-  pub ends_done : Writes (IsWholeAnswer serve_limits Is left left') written written' → EndsAnswering Is InPart 0 left left' written written' source source' sink sink'
+  pub ends_done : Writes (IsWholeAnswer limits Is left left') written written' → EndsAnswering limits Is InPart 0 left left' written written' source source' sink sink'
   ends_done done = record {
     statuses = inl refl;
     done = λ e. done;
@@ -26,8 +26,8 @@ module _ (Is : Answers) (InPart : Bool → Answers) (left left' written written'
   }
 
   -- the source failed
-  pub ends_at_source : Rises source source' → Writes (IsAnswerUpToFault serve_limits Is left left') written written'
-      → EndsAnswering Is InPart 2 left left' written written' source source' sink sink'
+  pub ends_at_source : Rises source source' → Writes (IsAnswerUpToFault limits Is left left') written written'
+      → EndsAnswering limits Is InPart 2 left left' written written' source source' sink sink'
   ends_at_source cause answered = record {
     statuses = inr (inl refl);
     done = λ e. absurd (omega (arith, e));
@@ -42,7 +42,7 @@ module _ (Is : Answers) (InPart : Bool → Answers) (left left' written written'
   }
 
   -- the sink failed in the reply to a line
-  pub ends_at_sink : Rises sink sink' → StopsShort (InPart true) left left' written written' → EndsAnswering Is InPart 3 left left' written written' source source' sink sink'
+  pub ends_at_sink : Rises sink sink' → StopsShort limits (InPart true) left left' written written' → EndsAnswering limits Is InPart 3 left left' written written' source source' sink sink'
   ends_at_sink cause stops = record {
     statuses = inr (inr (inl refl));
     done = λ e. absurd (omega (arith, e));
@@ -57,7 +57,7 @@ module _ (Is : Answers) (InPart : Bool → Answers) (left left' written written'
   }
 
   -- memory ran out
-  pub ends_without_memory : StopsShort (InPart false) left left' written written' → EndsAnswering Is InPart 5 left left' written written' source source' sink sink'
+  pub ends_without_memory : StopsShort limits (InPart false) left left' written written' → EndsAnswering limits Is InPart 5 left left' written written' source source' sink sink'
   ends_without_memory stops = record {
     statuses = inr (inr (inr (inl refl)));
     done = λ e. absurd (omega (arith, e));
@@ -72,10 +72,10 @@ module _ (Is : Answers) (InPart : Bool → Answers) (left left' written written'
   }
 
 -- a limit is passed, and the line that says so was written, or the sink failed in it
-module _ (Is : Answers) (InPart : Bool → Answers) (left left' written between written' : Option (List ℕ)) (source source' sink mid sink' : ℕ) (later : source ≤ source') (sink_later : sink ≤ mid) where
-  pub ends_at_limit : (result : ℕ) → Writes (IsAnswerBeforeLimit Is left left') written between → (result ≡ 7) ⊎ (result ≡ 3)
+module _ (limits : Limits) (Is : Answers) (InPart : Bool → Answers) (left left' written between written' : Option (List ℕ)) (source source' sink mid sink' : ℕ) (later : source ≤ source') (sink_later : sink ≤ mid) where
+  pub ends_at_limit : (result : ℕ) → Writes (IsAnswerBeforeLimit limits Is left left') written between → (result ≡ 7) ⊎ (result ≡ 3)
       → (result ≡ 7 → Appends between written' too_long_text) → (result ≡ 3 → AppendsFront between written' too_long_text) → (result ≡ 3 → Rises mid sink') → mid ≤ sink'
-      → EndsAnswering Is InPart result left left' written written' source source' sink sink'
+      → EndsAnswering limits Is InPart result left left' written written' source source' sink sink'
   ends_at_limit result before ends whole front cause rest_later = record {
     statuses = statuses ends;
     done = λ e. absurd (other ends 0 e (λ f. omega (arith, f)) (λ f. omega (arith, f)));

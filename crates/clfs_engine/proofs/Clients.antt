@@ -1,7 +1,7 @@
 -- What the clients of a race have made, as the journal that it leaves.
 use Rattle.std.proofs.Common.{◌≡◌, ℕ, zero, suc, ◌≤◌, ◌<◌, ◌-◌, Bool, true, false, refl, sym, ap, subst, ◌∙◌, List, [], ◌∷◌, ◌++◌, length, map, take, drop, inl, inr, arith}
-use Rattle.std.specs.Prelude.{◌==◌, ◌||◌, ◌&&◌, All, Contains, slice_index_or, if◌then◌else◌}
-use Rattle.std.specs.List.{list_all, range_with_len}
+use Rattle.std.specs.Prelude.{◌==◌, ◌&&◌, All, Contains, slice_index_or}
+use Rattle.std.specs.List.{range_with_len}
 use Rattle.std.proofs.lemmas.Bool.{cases_Bool, eqb-true, eq-eqb}
 use Rattle.std.proofs.lemmas.List.{take_all, length-take, length-map, append-nil, take-append-drop}
 use Rattle.std.proofs.lemmas.List.Elements.{All-nil, All-head, All-tail, All-cons, All-map, All-from_get_or, Contains-get_or}
@@ -21,7 +21,7 @@ use Rattle.clfs_race.specs.Scripts.{calls_asked, scripts_of}
 use Rattle.clfs_shared.specs.Journal.{client_of}
 use Rattle.clfs_shared.specs.Reached.{opening_of, reached_at_once}
 use Rattle.clfs_shared.specs.Sessions.{SessionState, SharedState, IsOf, own_entries}
-use Rattle.clfs_engine.specs.Made.{calls_of, HasMade, HasMadeSome}
+use Rattle.clfs_engine.specs.Made.{calls_of, HasMadeSome}
 use Rattle.clfs_engine.specs.Raced.{IsShuffleOfFronts}
 use Rattle.clfs_engine.specs.Ran.{has_all, HasRun}
 

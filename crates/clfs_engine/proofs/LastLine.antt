@@ -9,13 +9,12 @@ use Rattle.clfs_model.specs.declared.state.State.{State}
 use Rattle.clfs_model.specs.Lines.{lines_of, without_return}
 use Rattle.clfs_model.specs.Script.{line_request}
 use Rattle.clfs_model.specs.Text.{reply_line, client_of}
-use Rattle.clfs_model.specs.Accepted.{serve_limits}
 use Rattle.clfs_engine.specs.Answered.{AnswersLine, AnswersLines, AnswersUnwritten, AnswersInPart}
 use Rattle.clfs_engine.specs.Ends.{AppendsFront}
 use Rattle.clfs_engine.specs.Feeds.{with_feeds}
 use Rattle.clfs_engine.specs.Reached.{HasAnsweredEnded}
 use Rattle.clfs_engine.specs.Serve.{StopsShort, IsWholeAnswer, Writes}
-use Rattle.clfs_engine.specs.Taken.{longest_script, IsWholeScript}
+use Rattle.clfs_engine.specs.Taken.{script_limits, IsWholeScript}
 use Rattle.clfs_engine.proofs.InPart.{all_written, front_written}
 use Rattle.clfs_engine.proofs.ScriptLines.{known_are_front, script_ended, script_cut, short_is_within, all_short_more}
 use Rattle.clfs_engine.proofs.UnderWay.{line_more}
@@ -33,24 +32,24 @@ some_bytes [] count test many is fails =
     absurd (let never : true ≡ false = sym tested ∙ sym is ∙ fails in cc never)
 some_bytes (b ∷ bytes) count test many is fails = omega arith
 
-module _ (s : State) (old : DiskState) (left left_after written : Option (List ℕ)) where
+module _ (most : ℕ) (s : State) (old : DiskState) (left left_after written : Option (List ℕ)) where
   -- all lines of a script, the last one too
-  all_lines : (line : List ℕ) (t : State) (new : DiskState) (w : Option (List ℕ)) (ended : HasAnsweredEnded s old left left_after written line t new w)
+  all_lines : (line : List ℕ) (t : State) (new : DiskState) (w : Option (List ℕ)) (ended : HasAnsweredEnded most s old left left_after written line t new w)
       → 0 < length line → lines_of ended.script ≡ ended.so_far.lines ++ line ∷ []
   all_lines line t new w ended some = script_cut ended.script ended.so_far.lines line ended.so_far.whole ended.so_far.split ended.one some
 
-  is_whole : (line : List ℕ) (t : State) (new : DiskState) (w : Option (List ℕ)) (ended : HasAnsweredEnded s old left left_after written line t new w)
-      → 0 < length line → IsWholeScript serve_limits left left_after ended.script
+  is_whole : (line : List ℕ) (t : State) (new : DiskState) (w : Option (List ℕ)) (ended : HasAnsweredEnded most s old left left_after written line t new w)
+      → 0 < length line → IsWholeScript (script_limits most) left left_after ended.script
   is_whole line t new w ended some = record {
     given = ended.given;
     end = ended.end;
-    within = short_is_within ended.script (ended.so_far.lines ++ line ∷ []) ended.few (all_lines line t new w ended some)
+    within = short_is_within most ended.script (ended.so_far.lines ++ line ∷ []) ended.few (all_lines line t new w ended some)
         (all_short_more ended.so_far.lines line ended.so_far.short ended.short);
   }
 
   -- the script ends with a line feed
-  pub none_left : (line : List ℕ) (t : State) (new : DiskState) (w : Option (List ℕ)) → HasAnsweredEnded s old left left_after written line t new w → line ≡ []
-      → Writes (IsWholeAnswer serve_limits (AnswersLines s old t new) left left_after) written w
+  pub none_left : (line : List ℕ) (t : State) (new : DiskState) (w : Option (List ℕ)) → HasAnsweredEnded most s old left left_after written line t new w → line ≡ []
+      → Writes (IsWholeAnswer (script_limits most) (AnswersLines s old t new) left left_after) written w
   none_left line t new w ended none =
       let so_far = ended.so_far in
       let all : lines_of ended.script ≡ so_far.lines =
@@ -58,7 +57,7 @@ module _ (s : State) (old : DiskState) (left left_after written : Option (List �
         so_far.text,
         record {
           script = ended.script;
-          read = record { given = ended.given; end = ended.end; within = short_is_within ended.script so_far.lines ended.few all so_far.short };
+          read = record { given = ended.given; end = ended.end; within = short_is_within most ended.script so_far.lines ended.few all so_far.short };
           answered = subst (λ (lines : List (List ℕ)). AnswersLines s old t new lines so_far.text) (sym all) so_far.answered;
         },
         so_far.replies,
@@ -66,8 +65,8 @@ module _ (s : State) (old : DiskState) (left left_after written : Option (List �
 
   -- the last line was answered
   pub last_answered : AreOwn → (line : List ℕ) (mid : State) (between : DiskState) (before text : List ℕ) (t : State) (new : DiskState) (w1 w2 : Option (List ℕ))
-      → HasAnsweredEnded s old left left_after written line mid between w1 → 0 < length line → AnswersLine mid between line before text t new → before ≡ []
-      → Appends w1 w2 text → Writes (IsWholeAnswer serve_limits (AnswersLines s old t new) left left_after) written w2
+      → HasAnsweredEnded most s old left left_after written line mid between w1 → 0 < length line → AnswersLine mid between line before text t new → before ≡ []
+      → Appends w1 w2 text → Writes (IsWholeAnswer (script_limits most) (AnswersLines s old t new) left left_after) written w2
   last_answered own line mid between before text t new w1 w2 ended some step none wrote =
       let so_far = ended.so_far in
       let reply : List ℕ = reply_line (client_of (line_request (without_return line))) step.reply in
@@ -83,8 +82,8 @@ module _ (s : State) (old : DiskState) (left left_after written : Option (List �
       )
 
   -- memory ran out before it
-  pub last_unanswered : (line : List ℕ) (t : State) (new : DiskState) (w : Option (List ℕ)) → HasAnsweredEnded s old left left_after written line t new w
-      → StopsShort (AnswersInPart s old t new false) left left_after written w
+  pub last_unanswered : (line : List ℕ) (t : State) (new : DiskState) (w : Option (List ℕ)) → HasAnsweredEnded most s old left left_after written line t new w
+      → StopsShort (script_limits most) (AnswersInPart s old t new false) left left_after written w
   last_unanswered line t new w ended =
       let so_far = ended.so_far in (
         so_far.lines,
@@ -92,7 +91,7 @@ module _ (s : State) (old : DiskState) (left left_after written : Option (List �
           inl (record {
             bytes = ended.script;
             given = ended.given;
-            front = known_are_front ended.script so_far.lines line so_far.whole so_far.short (so_far.split ∙ sym (take_all longest_script ended.script ended.few));
+            front = known_are_front most ended.script so_far.lines line so_far.whole so_far.short (so_far.split ∙ sym (take_all most ended.script ended.few));
           }),
           (so_far.text, all_written s old t new false so_far.lines so_far.text so_far.answered, so_far.replies),
         ),
@@ -100,8 +99,8 @@ module _ (s : State) (old : DiskState) (left left_after written : Option (List �
 
   -- memory ran out behind the answer to it
   pub last_unwritten : AreOwn → (line : List ℕ) (mid : State) (between : DiskState) (t : State) (new : DiskState) (w : Option (List ℕ))
-      → HasAnsweredEnded s old left left_after written line mid between w → 0 < length line → AnswersUnwritten mid between line t new
-      → StopsShort (AnswersInPart s old t new false) left left_after written w
+      → HasAnsweredEnded most s old left left_after written line mid between w → 0 < length line → AnswersUnwritten mid between line t new
+      → StopsShort (script_limits most) (AnswersInPart s old t new false) left left_after written w
   last_unwritten own line mid between t new w ended some step =
       let so_far = ended.so_far in (
         so_far.lines ++ line ∷ [],
@@ -122,8 +121,8 @@ module _ (s : State) (old : DiskState) (left left_after written : Option (List �
 
   -- the sink failed in the reply to it
   pub last_cut : AreOwn → (line : List ℕ) (mid : State) (between : DiskState) (before text : List ℕ) (t : State) (new : DiskState) (w1 w2 : Option (List ℕ))
-      → HasAnsweredEnded s old left left_after written line mid between w1 → 0 < length line → AnswersLine mid between line before text t new → before ≡ []
-      → AppendsFront w1 w2 text → StopsShort (AnswersInPart s old t new true) left left_after written w2
+      → HasAnsweredEnded most s old left left_after written line mid between w1 → 0 < length line → AnswersLine mid between line before text t new → before ≡ []
+      → AppendsFront w1 w2 text → StopsShort (script_limits most) (AnswersInPart s old t new true) left left_after written w2
   last_cut own line mid between before text t new w1 w2 ended some step none wrote =
       let so_far = ended.so_far in
       let reply : List ℕ = reply_line (client_of (line_request (without_return line))) step.reply in

@@ -1,4 +1,4 @@
-pub mod FirstFeed
+pub mod NoFeeds
 pub mod ScriptLines
 pub mod WholeSteps
 pub mod SoFar
@@ -20,3 +20,4 @@ pub mod CheckEnds
 pub mod Clients
 pub mod TakenCalls
 pub mod RaceEnds
+pub mod RaceThrough

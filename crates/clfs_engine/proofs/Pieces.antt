@@ -15,11 +15,12 @@ use Rattle.clfs_model.specs.Script.{line_request}
 use Rattle.clfs_model.specs.Text.{reply_line, client_of}
 use Rattle.clfs_engine.specs.Answered.{AnswersLine, AnswersLines, AnswersUnwritten, AnswersInPart}
 use Rattle.clfs_engine.specs.Ends.{AppendsFront}
-use Rattle.clfs_engine.specs.Feeds.{HasNoFeed, with_feeds}
+use Rattle.clfs_race.specs.Feeds.{HasNoFeed}
+use Rattle.clfs_engine.specs.Feeds.{with_feeds}
 use Rattle.clfs_engine.specs.Reached.{HasAnswered, HasAnsweredEnded}
 use Rattle.clfs_engine.specs.Serve.{StopsShort, IsAnswerUpToFault, Writes}
 use Rattle.clfs_engine.specs.Stopped.{IsAnswerBeforeLimit, StopsLine}
-use Rattle.clfs_engine.specs.Taken.{longest_script, IsFrontOf}
+use Rattle.clfs_engine.specs.Taken.{script_limits, IsFrontOf}
 use Rattle.clfs_engine.specs.declared.status.Stop.{Stop}
 use Rattle.clfs_engine.specs.declared.status.Stop.TheVariants.{SourceFault, SinkFault, NoMemory, TooLong}
 use Rattle.clfs_engine.proofs.InPart.{all_written, front_written}
@@ -28,12 +29,12 @@ use Rattle.clfs_engine.proofs.UnderWay.{none_lines, line_more}
 use Rattle.clfs_engine.proofs.WholeSteps.{AreOwn}
 use Rattle.clfs_engine.proofs.Written.{appends_none, appends_more}
 
--- these bytes were taken, and of those that count the lines before the rest are answered
-pub record IsReading (s : State) (old : DiskState) (left left_now written : Option (List ℕ)) (rest : List ℕ) (given : ℕ) (t : State) (new : DiskState) (written_now : Option (List ℕ)) : Type 0 where
+-- these bytes were taken, and of those that count, the first so many, the lines before the rest are answered
+pub record IsReading (most : ℕ) (s : State) (old : DiskState) (left left_now written : Option (List ℕ)) (rest : List ℕ) (given : ℕ) (t : State) (new : DiskState) (written_now : Option (List ℕ)) : Type 0 where
   pub bytes : List ℕ
   pub taken : Consumes left left_now bytes
   pub count : length bytes ≡ given
-  pub so_far : HasAnswered s old written (take longest_script bytes) rest t new written_now
+  pub so_far : HasAnswered s old written (take most bytes) rest t new written_now
 
 -- a line that begins with what was carried on
 pub line_in : (carried window line after : List ℕ) → window ≡ line ++ 10 ∷ after → carried ++ window ≡ (carried ++ line) ++ 10 ∷ after
@@ -63,18 +64,18 @@ line_stopped_by P NoMemory line Same Unwritten stops long short unwritten = elim
 line_stopped_by P SourceFault line Same Unwritten stops long short unwritten = absurd stops
 line_stopped_by P SinkFault line Same Unwritten stops long short unwritten = absurd stops
 
-module _ (s : State) (old : DiskState) (left written : Option (List ℕ)) where
+module _ (most : ℕ) (s : State) (old : DiskState) (left written : Option (List ℕ)) where
   -- ---- the loop
 
   -- nothing was taken yet
-  pub reading_begins : (rest : List ℕ) → rest ≡ [] → IsReading s old left left written rest 0 s old written
+  pub reading_begins : (rest : List ℕ) → rest ≡ [] → IsReading most s old left left written rest 0 s old written
   reading_begins rest none = record {
     bytes = [];
     taken = Consumes-nil left;
     count = refl;
     so_far = record {
       lines = [];
-      split = none ∙ sym (take_all longest_script [] (omega arith));
+      split = none ∙ sym (take_all most [] (omega arith));
       whole = All-nil HasNoFeed;
       short = refl;
       text = [];
@@ -101,29 +102,29 @@ module _ (s : State) (old : DiskState) (left written : Option (List ℕ)) where
 
   pub reading_line : AreOwn → (left_now : Option (List ℕ)) (carried window line carried_after window_after : List ℕ) (given : ℕ) (mid : State) (between : DiskState)
       (before text : List ℕ) (t : State) (new : DiskState) (w1 w2 : Option (List ℕ))
-      → IsReading s old left left_now written (carried ++ window) given mid between w1 → HasNoFeed (carried ++ line) → length (carried ++ line) ≤ serve_limits.line
+      → IsReading most s old left left_now written (carried ++ window) given mid between w1 → HasNoFeed (carried ++ line) → length (carried ++ line) ≤ serve_limits.line
       → window ≡ line ++ 10 ∷ window_after → AnswersLine mid between (carried ++ line) before text t new → before ≡ [] → Appends w1 w2 text → carried_after ≡ []
-      → IsReading s old left left_now written (carried_after ++ window_after) given t new w2
+      → IsReading most s old left left_now written (carried_after ++ window_after) given t new w2
   reading_line own left_now carried window line carried_after window_after given mid between before text t new w1 w2 reading one few split step none wrote empty = record {
     bytes = reading.bytes;
     taken = reading.taken;
     count = reading.count;
-    so_far = subst (λ (rest : List ℕ). HasAnswered s old written (take longest_script reading.bytes) rest t new w2) (ap (λ (c : List ℕ). c ++ window_after) (sym empty))
-        (line_read own (take longest_script reading.bytes) (carried ++ line) window_after mid between before text t new w1 w2
-        (subst (λ (rest : List ℕ). HasAnswered s old written (take longest_script reading.bytes) rest mid between w1) (line_in carried window line window_after split) reading.so_far)
+    so_far = subst (λ (rest : List ℕ). HasAnswered s old written (take most reading.bytes) rest t new w2) (ap (λ (c : List ℕ). c ++ window_after) (sym empty))
+        (line_read own (take most reading.bytes) (carried ++ line) window_after mid between before text t new w1 w2
+        (subst (λ (rest : List ℕ). HasAnswered s old written (take most reading.bytes) rest mid between w1) (line_in carried window line window_after split) reading.so_far)
         one few step none wrote);
   }
 
   -- more bytes were taken
   pub reading_piece : (left_now left_next : Option (List ℕ)) (rest carried window piece : List ℕ) (given count : ℕ) (t : State) (new : DiskState) (w : Option (List ℕ))
-      → IsReading s old left left_now written rest given t new w → given ≤ longest_script → carried ≡ rest → Consumes left_now left_next piece → length piece ≡ count
-      → window ≡ take (longest_script - given) piece → IsReading s old left left_next written (carried ++ window) (given + count) t new w
+      → IsReading most s old left left_now written rest given t new w → given ≤ most → carried ≡ rest → Consumes left_now left_next piece → length piece ≡ count
+      → window ≡ take (most - given) piece → IsReading most s old left left_next written (carried ++ window) (given + count) t new w
   reading_piece left_now left_next rest carried window piece given count t new w reading few same consumed many front =
       let so_far = reading.so_far in
-      let small : length reading.bytes ≤ longest_script = omega (arith, reading.count, few) in
-      let all : take longest_script reading.bytes ≡ reading.bytes = take_all longest_script reading.bytes small in
-      let cut : take longest_script (reading.bytes ++ piece) ≡ reading.bytes ++ window =
-      taken_front longest_script reading.bytes piece small ∙ ap (λ (n : ℕ). reading.bytes ++ take (longest_script - n) piece) reading.count
+      let small : length reading.bytes ≤ most = omega (arith, reading.count, few) in
+      let all : take most reading.bytes ≡ reading.bytes = take_all most reading.bytes small in
+      let cut : take most (reading.bytes ++ piece) ≡ reading.bytes ++ window =
+      taken_front most reading.bytes piece small ∙ ap (λ (n : ℕ). reading.bytes ++ take (most - n) piece) reading.count
       ∙ ap (λ (f : List ℕ). reading.bytes ++ f) (sym front) in record {
         bytes = reading.bytes ++ piece;
         taken = Consumes-trans left left_now left_next reading.bytes piece reading.taken consumed;
@@ -142,12 +143,12 @@ module _ (s : State) (old : DiskState) (left written : Option (List ℕ)) where
 
   -- the rest in other words
   pub reading_at : (left_now : Option (List ℕ)) (rest rest' : List ℕ) (given : ℕ) (t : State) (new : DiskState) (w : Option (List ℕ))
-      → IsReading s old left left_now written rest given t new w → rest ≡ rest' → IsReading s old left left_now written rest' given t new w
-  reading_at left_now rest rest' given t new w reading same = subst (λ (r : List ℕ). IsReading s old left left_now written r given t new w) same reading
+      → IsReading most s old left left_now written rest given t new w → rest ≡ rest' → IsReading most s old left left_now written rest' given t new w
+  reading_at left_now rest rest' given t new w reading same = subst (λ (r : List ℕ). IsReading most s old left left_now written r given t new w) same reading
 
   -- nothing was taken
   pub reading_kept : (left_now left_next : Option (List ℕ)) (rest : List ℕ) (given : ℕ) (t : State) (new : DiskState) (w : Option (List ℕ))
-      → IsReading s old left left_now written rest given t new w → Keeps left_now left_next → IsReading s old left left_next written rest given t new w
+      → IsReading most s old left left_now written rest given t new w → Keeps left_now left_next → IsReading most s old left left_next written rest given t new w
   reading_kept left_now left_next rest given t new w reading kept =
       record { bytes = reading.bytes; taken = Consumes-kept left left_now left_next reading.bytes reading.taken kept; count = reading.count; so_far = reading.so_far }
 
@@ -155,26 +156,26 @@ module _ (s : State) (old : DiskState) (left written : Option (List ℕ)) where
 
   -- the source is at its end
   pub reading_ends : (left_now left_end : Option (List ℕ)) (rest carried piece : List ℕ) (given : ℕ) (t : State) (new : DiskState) (w : Option (List ℕ))
-      → IsReading s old left left_now written rest given t new w → given ≤ longest_script → carried ≡ rest → Consumes left_now left_end piece → length piece ≡ 0
+      → IsReading most s old left left_now written rest given t new w → given ≤ most → carried ≡ rest → Consumes left_now left_end piece → length piece ≡ 0
       → IsAtEnd left_end → HasNoFeed carried → length carried ≤ serve_limits.line
-      → HasAnsweredEnded s old left left_end written carried t new w
+      → HasAnsweredEnded most s old left left_end written carried t new w
   reading_ends left_now left_end rest carried piece given t new w reading few same consumed none end one short =
       let empty : piece ≡ [] = nothing piece none in
-      let small : length reading.bytes ≤ longest_script = omega (arith, reading.count, few) in record {
+      let small : length reading.bytes ≤ most = omega (arith, reading.count, few) in record {
         script = reading.bytes;
         given = subst (λ (b : List ℕ). Consumes left left_end b) (ap (λ (p : List ℕ). reading.bytes ++ p) empty ∙ append-nil reading.bytes)
             (Consumes-trans left left_now left_end reading.bytes piece reading.taken consumed);
         end = end;
         few = small;
-        so_far = subst (λ (b : List ℕ). HasAnswered s old written b carried t new w) (take_all longest_script reading.bytes small)
-            (subst (λ (r : List ℕ). HasAnswered s old written (take longest_script reading.bytes) r t new w) (sym same) reading.so_far);
+        so_far = subst (λ (b : List ℕ). HasAnswered s old written b carried t new w) (take_all most reading.bytes small)
+            (subst (λ (r : List ℕ). HasAnswered s old written (take most reading.bytes) r t new w) (sym same) reading.so_far);
         one = one;
         short = short;
       }
 
   -- the source failed
   pub source_stops : (left_now : Option (List ℕ)) (rest : List ℕ) (given : ℕ) (t : State) (new : DiskState) (w : Option (List ℕ))
-      → IsReading s old left left_now written rest given t new w → HasNoFeed rest → Writes (IsAnswerUpToFault serve_limits (AnswersLines s old t new) left left_now) written w
+      → IsReading most s old left left_now written rest given t new w → HasNoFeed rest → Writes (IsAnswerUpToFault (script_limits most) (AnswersLines s old t new) left left_now) written w
   source_stops left_now rest given t new w reading one =
       let so_far = reading.so_far in (
         so_far.text,
@@ -182,51 +183,51 @@ module _ (s : State) (old : DiskState) (left written : Option (List ℕ)) where
           bytes = reading.bytes;
           given = reading.taken;
           answered = subst (λ (lines : List (List ℕ)). AnswersLines s old t new lines so_far.text)
-              (sym (known_are_all reading.bytes so_far.lines rest so_far.whole so_far.short so_far.split one)) so_far.answered;
+              (sym (known_are_all most reading.bytes so_far.lines rest so_far.whole so_far.short so_far.split one)) so_far.answered;
         },
         so_far.replies,
       )
 
   -- the bytes are too many
   pub limit_stops : (left_now : Option (List ℕ)) (rest : List ℕ) (given : ℕ) (t : State) (new : DiskState) (w : Option (List ℕ))
-      → IsReading s old left left_now written rest given t new w → HasNoFeed rest → longest_script < given
-      → Writes (IsAnswerBeforeLimit (AnswersLines s old t new) left left_now) written w
+      → IsReading most s old left left_now written rest given t new w → HasNoFeed rest → most < given
+      → Writes (IsAnswerBeforeLimit (script_limits most) (AnswersLines s old t new) left left_now) written w
   limit_stops left_now rest given t new w reading one many =
       let so_far = reading.so_far in (
         so_far.text,
         record {
           bytes = reading.bytes;
-          given = record { given = reading.taken; past = past_is reading.bytes (omega (arith, many, reading.count)) };
+          given = record { given = reading.taken; past = past_is most reading.bytes (omega (arith, many, reading.count)) };
           answered = subst (λ (lines : List (List ℕ)). AnswersLines s old t new lines so_far.text)
-              (sym (known_are_all reading.bytes so_far.lines rest so_far.whole so_far.short so_far.split one)) so_far.answered;
+              (sym (known_are_all most reading.bytes so_far.lines rest so_far.whole so_far.short so_far.split one)) so_far.answered;
         },
         so_far.replies,
       )
 
   -- the next line is too long
   pub line_stops : (left_now : Option (List ℕ)) (line more : List ℕ) (given : ℕ) (t : State) (new : DiskState) (w : Option (List ℕ))
-      → IsReading s old left left_now written (line ++ more) given t new w → HasNoFeed line → serve_limits.line < length line
-      → Writes (IsAnswerBeforeLimit (AnswersLines s old t new) left left_now) written w
+      → IsReading most s old left left_now written (line ++ more) given t new w → HasNoFeed line → serve_limits.line < length line
+      → Writes (IsAnswerBeforeLimit (script_limits most) (AnswersLines s old t new) left left_now) written w
   line_stops left_now line more given t new w reading one long =
       let so_far = reading.so_far in (
         so_far.text,
         record {
           bytes = reading.bytes;
-          given = record { given = reading.taken; past = past so_far (cases_lt longest_script (length reading.bytes)) };
+          given = record { given = reading.taken; past = past so_far (cases_lt most (length reading.bytes)) };
           answered = subst (λ (lines : List (List ℕ)). AnswersLines s old t new lines so_far.text)
-              (sym (known_are_before_long reading.bytes so_far.lines line more so_far.whole so_far.short so_far.split one long)) so_far.answered;
+              (sym (known_are_before_long most reading.bytes so_far.lines line more so_far.whole so_far.short so_far.split one long)) so_far.answered;
         },
         so_far.replies,
       )
     where
-      past : HasAnswered s old written (take longest_script reading.bytes) (line ++ more) t new w
-          → (longest_script < length reading.bytes) ⊎ (length reading.bytes ≤ longest_script) → is_within serve_limits reading.bytes ≡ false
-      past so_far (inl many) = past_is reading.bytes many
-      past so_far (inr few) = long_is_past reading.bytes so_far.lines line more so_far.whole so_far.short (so_far.split ∙ take_all longest_script reading.bytes few) few one long
+      past : HasAnswered s old written (take most reading.bytes) (line ++ more) t new w
+          → (most < length reading.bytes) ⊎ (length reading.bytes ≤ most) → is_within (script_limits most) reading.bytes ≡ false
+      past so_far (inl many) = past_is most reading.bytes many
+      past so_far (inr few) = long_is_past most reading.bytes so_far.lines line more so_far.whole so_far.short (so_far.split ∙ take_all most reading.bytes few) few one long
 
   -- memory ran out before the next line
   pub memory_stops : (left_now : Option (List ℕ)) (rest : List ℕ) (given : ℕ) (t : State) (new : DiskState) (w : Option (List ℕ))
-      → IsReading s old left left_now written rest given t new w → StopsShort (AnswersInPart s old t new false) left left_now written w
+      → IsReading most s old left left_now written rest given t new w → StopsShort (script_limits most) (AnswersInPart s old t new false) left left_now written w
   memory_stops left_now rest given t new w reading =
       let so_far = reading.so_far in (
         so_far.lines,
@@ -234,7 +235,7 @@ module _ (s : State) (old : DiskState) (left written : Option (List ℕ)) where
           inl (record {
             bytes = reading.bytes;
             given = reading.taken;
-            front = known_are_front reading.bytes so_far.lines rest so_far.whole so_far.short so_far.split;
+            front = known_are_front most reading.bytes so_far.lines rest so_far.whole so_far.short so_far.split;
           }),
           (so_far.text, all_written s old t new false so_far.lines so_far.text so_far.answered, so_far.replies),
         ),
@@ -242,16 +243,16 @@ module _ (s : State) (old : DiskState) (left written : Option (List ℕ)) where
 
   -- the next line comes behind those that were answered
   next_is_front : (bytes line after : List ℕ) (t : State) (new : DiskState) (w : Option (List ℕ))
-      → (so_far : HasAnswered s old written (take longest_script bytes) (line ++ 10 ∷ after) t new w) → HasNoFeed line → length line ≤ serve_limits.line
-      → IsFrontOf (accepted serve_limits bytes) (so_far.lines ++ line ∷ [])
+      → (so_far : HasAnswered s old written (take most bytes) (line ++ 10 ∷ after) t new w) → HasNoFeed line → length line ≤ serve_limits.line
+      → IsFrontOf (accepted (script_limits most) bytes) (so_far.lines ++ line ∷ [])
   next_is_front bytes line after t new w so_far one few =
-      known_are_front bytes (so_far.lines ++ line ∷ []) after (All-push HasNoFeed so_far.lines line so_far.whole one) (all_short_more so_far.lines line so_far.short few)
+      known_are_front most bytes (so_far.lines ++ line ∷ []) after (All-push HasNoFeed so_far.lines line so_far.whole one) (all_short_more so_far.lines line so_far.short few)
       (with_feeds_more so_far.lines line after ∙ so_far.split)
 
   -- memory ran out behind the answer to it
   pub unwritten_stops : AreOwn → (left_now : Option (List ℕ)) (line after : List ℕ) (given : ℕ) (mid : State) (between : DiskState) (t : State) (new : DiskState) (w : Option (List ℕ))
-      → IsReading s old left left_now written (line ++ 10 ∷ after) given mid between w → HasNoFeed line → length line ≤ serve_limits.line
-      → AnswersUnwritten mid between line t new → StopsShort (AnswersInPart s old t new false) left left_now written w
+      → IsReading most s old left left_now written (line ++ 10 ∷ after) given mid between w → HasNoFeed line → length line ≤ serve_limits.line
+      → AnswersUnwritten mid between line t new → StopsShort (script_limits most) (AnswersInPart s old t new false) left left_now written w
   unwritten_stops own left_now line after given mid between t new w reading one few step =
       let so_far = reading.so_far in (
         so_far.lines ++ line ∷ [],
@@ -272,8 +273,8 @@ module _ (s : State) (old : DiskState) (left written : Option (List ℕ)) where
 
   -- the sink failed in the reply to it
   pub sink_stops : AreOwn → (left_now : Option (List ℕ)) (line after : List ℕ) (given : ℕ) (mid : State) (between : DiskState) (before text : List ℕ) (t : State) (new : DiskState)
-      (w1 w2 : Option (List ℕ)) → IsReading s old left left_now written (line ++ 10 ∷ after) given mid between w1 → HasNoFeed line → length line ≤ serve_limits.line
-      → AnswersLine mid between line before text t new → before ≡ [] → AppendsFront w1 w2 text → StopsShort (AnswersInPart s old t new true) left left_now written w2
+      (w1 w2 : Option (List ℕ)) → IsReading most s old left left_now written (line ++ 10 ∷ after) given mid between w1 → HasNoFeed line → length line ≤ serve_limits.line
+      → AnswersLine mid between line before text t new → before ≡ [] → AppendsFront w1 w2 text → StopsShort (script_limits most) (AnswersInPart s old t new true) left left_now written w2
   sink_stops own left_now line after given mid between before text t new w1 w2 reading one few step none wrote =
       let so_far = reading.so_far in
       let reply : List ℕ = reply_line (client_of (line_request (without_return line))) step.reply in

@@ -1,11 +1,10 @@
 -- How a race ends: with what its clients made of a log that was opened, or with why it wasn't.
-use Rattle.std.proofs.Common.{◌≡◌, ◌≢◌, ℕ, ◌≤◌, ◌⊎◌, Bool, true, false, List, [], ◌++◌, refl, sym, ap, subst, ◌∙◌, inl, inr, arith}
+use Rattle.std.proofs.Common.{◌≡◌, ℕ, ◌≤◌, ◌⊎◌, Bool, true, List, [], ◌++◌, refl, sym, ap, subst, ◌∙◌, inl, inr, arith}
 use Rattle.std.specs.Prelude.{Option}
 use Rattle.std.specs.List.{flat_map}
-use Rattle.std.specs.Io.KnownBytes.{Consumes, Appends}
+use Rattle.std.specs.Io.KnownBytes.{Consumes}
 use Rattle.std.proofs.lemmas.List.{append-nil}
-use Rattle.clfs_disk.specs.Files.{Unchanged}
-use Rattle.clfs_disk.specs.State.{DiskState, Passes}
+use Rattle.clfs_disk.specs.State.{DiskState}
 use Rattle.clfs_model.specs.declared.journal.Entry.{Entry}
 use Rattle.clfs_model.specs.declared.state.State.{State}
 use Rattle.clfs_recover.specs.declared.refusal.LoadRefusal.{LoadRefusal}
@@ -16,9 +15,8 @@ use Rattle.clfs_race.specs.declared.dividing.Division.{Division}
 use Rattle.clfs_race.specs.declared.input.ScriptEnd.{ScriptEnd}
 use Rattle.clfs_race.specs.declared.input.ScriptEnd.TheVariants.{Whole, Fault, TooLong}
 use Rattle.clfs_shared.specs.declared.opening.Opening.{Opening}
-use Rattle.clfs_engine.specs.Ends.{AppendsFront}
 use Rattle.clfs_engine.specs.Opened.{RefusesLog, TellsRefusal, refusal_line}
-use Rattle.clfs_engine.specs.Race.{EndsRacing, FailsWithin, IsRaceOutput, AreRaceLines, LeavesFiles}
+use Rattle.clfs_engine.specs.Race.{EndsRacing, FailsWithin, LeavesFiles}
 use Rattle.clfs_engine.specs.Raced.{HasTaken, IsRaced, IsRacedInPart}
 use Rattle.clfs_engine.specs.Ran.{HasRun, TellsRace, end_text, end_status}
 use Rattle.clfs_engine.specs.Serve.{IsServeStatus}
@@ -188,7 +186,7 @@ module _ (buffers : ℕ) (old new : DiskState) (left left' written written' : Op
 -- ---- a log that wasn't opened
 
 -- a disk that wasn't called
-left_alone : (disk : DiskState) → LeavesFiles disk disk
+pub left_alone : (disk : DiskState) → LeavesFiles disk disk
 left_alone disk = record {
   same = λ file. refl;
   time = record {

@@ -10,8 +10,9 @@ use Rattle.std.proofs.lemmas.List.Sums.{count_by-le-length, take_while-cons}
 use Rattle.std.proofs.lemmas.List.Splits.{length-slice_split, slice_split_none, slice_split_at, slice_split-cons_no}
 use Rattle.clfs_model.specs.Lines.{lines_of, whole_lines}
 use Rattle.clfs_model.specs.Accepted.{serve_limits, is_within, accepted, ended_lines, without_last}
-use Rattle.clfs_engine.specs.Feeds.{is_feed, HasNoFeed, with_feeds}
-use Rattle.clfs_engine.specs.Taken.{longest_script, is_short, IsFrontOf}
+use Rattle.clfs_race.specs.Feeds.{is_feed, HasNoFeed}
+use Rattle.clfs_engine.specs.Feeds.{with_feeds}
+use Rattle.clfs_engine.specs.Taken.{script_limits, is_short, IsFrontOf}
 
 -- ---- parts
 
@@ -123,32 +124,32 @@ short_behind (line ∷ lines) more all = elim (cases_Bool (is_short line)) [
 -- ---- the lines that are answered
 
 -- the ended lines up to the first that is too long are the accepted ones
-accepted_are : (bytes : List ℕ) → take_while is_short (ended_lines (take longest_script bytes)) ≡ accepted serve_limits bytes
-accepted_are bytes =
-    let front = take longest_script bytes in
-    let small : length front ≤ longest_script = omega (arith, length-take longest_script bytes) in
-    sym (take_all longest_script (take_while is_short (ended_lines front)) (omega (arith, few_short (ended_lines front), few_ended front, small)))
+accepted_are : (most : ℕ) (bytes : List ℕ) → take_while is_short (ended_lines (take most bytes)) ≡ accepted (script_limits most) bytes
+accepted_are most bytes =
+    let front = take most bytes in
+    let small : length front ≤ most = omega (arith, length-take most bytes) in
+    sym (take_all most (take_while is_short (ended_lines front)) (omega (arith, few_short (ended_lines front), few_ended front, small)))
 
 -- those that are known come first
-accepted_behind : (bytes : List ℕ) (lines : List (List ℕ)) (rest : List ℕ) → All HasNoFeed lines → list_all is_short lines ≡ true
-    → with_feeds lines ++ rest ≡ take longest_script bytes → accepted serve_limits bytes ≡ lines ++ take_while is_short (without_last (slice_split is_feed rest))
-accepted_behind bytes lines rest none short split =
-    sym (accepted_are bytes) ∙ ap (λ (b : List ℕ). take_while is_short (ended_lines b)) (sym split)
+accepted_behind : (most : ℕ) (bytes : List ℕ) (lines : List (List ℕ)) (rest : List ℕ) → All HasNoFeed lines → list_all is_short lines ≡ true
+    → with_feeds lines ++ rest ≡ take most bytes → accepted (script_limits most) bytes ≡ lines ++ take_while is_short (without_last (slice_split is_feed rest))
+accepted_behind most bytes lines rest none short split =
+    sym (accepted_are most bytes) ∙ ap (λ (b : List ℕ). take_while is_short (ended_lines b)) (sym split)
     ∙ ap (λ (parts : List (List ℕ)). take_while is_short (without_last parts)) (parts_behind lines rest none)
     ∙ ap (λ (ls : List (List ℕ)). take_while is_short ls) (ended_behind lines (slice_split is_feed rest) (some_part rest))
     ∙ short_behind lines (without_last (slice_split is_feed rest)) short
 
 -- so they are a front of them
-pub known_are_front : (bytes : List ℕ) (lines : List (List ℕ)) (rest : List ℕ) → All HasNoFeed lines → list_all is_short lines ≡ true
-    → with_feeds lines ++ rest ≡ take longest_script bytes → IsFrontOf (accepted serve_limits bytes) lines
-known_are_front bytes lines rest none short split =
-    record { rest = take_while is_short (without_last (slice_split is_feed rest)); front = sym (accepted_behind bytes lines rest none short split) }
+pub known_are_front : (most : ℕ) (bytes : List ℕ) (lines : List (List ℕ)) (rest : List ℕ) → All HasNoFeed lines → list_all is_short lines ≡ true
+    → with_feeds lines ++ rest ≡ take most bytes → IsFrontOf (accepted (script_limits most) bytes) lines
+known_are_front most bytes lines rest none short split =
+    record { rest = take_while is_short (without_last (slice_split is_feed rest)); front = sym (accepted_behind most bytes lines rest none short split) }
 
 -- where no line ends behind them they are all
-pub known_are_all : (bytes : List ℕ) (lines : List (List ℕ)) (rest : List ℕ) → All HasNoFeed lines → list_all is_short lines ≡ true
-    → with_feeds lines ++ rest ≡ take longest_script bytes → HasNoFeed rest → accepted serve_limits bytes ≡ lines
-known_are_all bytes lines rest none short split one =
-    accepted_behind bytes lines rest none short split
+pub known_are_all : (most : ℕ) (bytes : List ℕ) (lines : List (List ℕ)) (rest : List ℕ) → All HasNoFeed lines → list_all is_short lines ≡ true
+    → with_feeds lines ++ rest ≡ take most bytes → HasNoFeed rest → accepted (script_limits most) bytes ≡ lines
+known_are_all most bytes lines rest none short split one =
+    accepted_behind most bytes lines rest none short split
     ∙ ap (λ (parts : List (List ℕ)). lines ++ take_while is_short (without_last parts)) (slice_split_none is_feed rest one) ∙ append-nil lines
 
 -- the first part is too long
@@ -167,27 +168,27 @@ longer : (line rest part : List ℕ) → serve_limits.line < length line → ser
 longer line rest part long = omega (arith, long, length-append line part)
 
 -- so do they where a line behind them is too long
-pub known_are_before_long : (bytes : List ℕ) (lines : List (List ℕ)) (line rest : List ℕ) → All HasNoFeed lines → list_all is_short lines ≡ true
-    → with_feeds lines ++ (line ++ rest) ≡ take longest_script bytes → HasNoFeed line → serve_limits.line < length line → accepted serve_limits bytes ≡ lines
-known_are_before_long bytes lines line rest none short split one long =
+pub known_are_before_long : (most : ℕ) (bytes : List ℕ) (lines : List (List ℕ)) (line rest : List ℕ) → All HasNoFeed lines → list_all is_short lines ≡ true
+    → with_feeds lines ++ (line ++ rest) ≡ take most bytes → HasNoFeed line → serve_limits.line < length line → accepted (script_limits most) bytes ≡ lines
+known_are_before_long most bytes lines line rest none short split one long =
     let part = some_part rest in
     let t : is_short (line ++ part.0) ≡ false = lt-leb (length (line ++ part.0)) serve_limits.line (longer line rest part.0 long) in
-    accepted_behind bytes lines (line ++ rest) none short split
+    accepted_behind most bytes lines (line ++ rest) none short split
     ∙ ap (λ (parts : List (List ℕ)). lines ++ take_while is_short (without_last parts)) (long_part line rest part.0 part.1 one part.2)
     ∙ ap (λ (ls : List (List ℕ)). lines ++ ls) (long_ends (line ++ part.0) part.1 t) ∙ append-nil lines
 
 -- ---- the limits
 
 -- a script of few bytes is within its limits where none of its lines is too long
-within_is : (bytes : List ℕ) (all : Bool) → length bytes ≤ longest_script → list_all is_short (lines_of bytes) ≡ all → is_within serve_limits bytes ≡ all
-within_is bytes all small e =
-    let few : nat_le (length bytes) longest_script ≡ true = le-leb (length bytes) longest_script small in
-    let lines : nat_le (length (lines_of bytes)) longest_script ≡ true = le-leb (length (lines_of bytes)) longest_script (omega (arith, few_lines bytes, small)) in
+within_is : (most : ℕ) (bytes : List ℕ) (all : Bool) → length bytes ≤ most → list_all is_short (lines_of bytes) ≡ all → is_within (script_limits most) bytes ≡ all
+within_is most bytes all small e =
+    let few : nat_le (length bytes) most ≡ true = le-leb (length bytes) most small in
+    let lines : nat_le (length (lines_of bytes)) most ≡ true = le-leb (length (lines_of bytes)) most (omega (arith, few_lines bytes, small)) in
     rw (few, lines, e) refl
 
 -- more bytes than a script may have are past its limits
-pub past_is : (bytes : List ℕ) → longest_script < length bytes → is_within serve_limits bytes ≡ false
-past_is bytes many = let t : nat_le (length bytes) longest_script ≡ false = lt-leb (length bytes) longest_script many in rw t refl
+pub past_is : (most : ℕ) (bytes : List ℕ) → most < length bytes → is_within (script_limits most) bytes ≡ false
+past_is most bytes many = let t : nat_le (length bytes) most ≡ false = lt-leb (length bytes) most many in rw t refl
 
 lines_behind : (bytes : List ℕ) (lines : List (List ℕ)) (rest : List ℕ) → All HasNoFeed lines → with_feeds lines ++ rest ≡ bytes
     → lines_of bytes ≡ lines ++ whole_lines (slice_split is_feed rest)
@@ -199,11 +200,11 @@ all_behind : (lines more : List (List ℕ)) → list_all is_short lines ≡ true
 all_behind lines more short = list_all-append is_short lines more ∙ rw short refl
 
 -- so are bytes with a line that is too long
-pub long_is_past : (bytes : List ℕ) (lines : List (List ℕ)) (line rest : List ℕ) → All HasNoFeed lines → list_all is_short lines ≡ true
-    → with_feeds lines ++ (line ++ rest) ≡ bytes → length bytes ≤ longest_script → HasNoFeed line → serve_limits.line < length line → is_within serve_limits bytes ≡ false
-long_is_past bytes lines line rest none short split small one long =
+pub long_is_past : (most : ℕ) (bytes : List ℕ) (lines : List (List ℕ)) (line rest : List ℕ) → All HasNoFeed lines → list_all is_short lines ≡ true
+    → with_feeds lines ++ (line ++ rest) ≡ bytes → length bytes ≤ most → HasNoFeed line → serve_limits.line < length line → is_within (script_limits most) bytes ≡ false
+long_is_past most bytes lines line rest none short split small one long =
     let part = some_part rest in
-    within_is bytes false small
+    within_is most bytes false small
     (ap (λ (ls : List (List ℕ)). list_all is_short ls) (lines_behind bytes lines (line ++ rest) none split)
     ∙ all_behind lines (whole_lines (slice_split is_feed (line ++ rest))) short
     ∙ ap (λ (parts : List (List ℕ)). list_all is_short (whole_lines parts)) (long_part line rest part.0 part.1 one part.2)
@@ -224,9 +225,9 @@ script_cut bytes lines line none split one some =
     ∙ ap (λ (parts : List (List ℕ)). lines ++ whole_lines parts) (slice_split_none is_feed line one) ∙ rw not_empty refl
 
 -- a script is within its limits whose lines are all short
-pub short_is_within : (bytes : List ℕ) (lines : List (List ℕ)) → length bytes ≤ longest_script → lines_of bytes ≡ lines → list_all is_short lines ≡ true
-    → is_within serve_limits bytes ≡ true
-short_is_within bytes lines small all short = within_is bytes true small (ap (λ (ls : List (List ℕ)). list_all is_short ls) all ∙ short)
+pub short_is_within : (most : ℕ) (bytes : List ℕ) (lines : List (List ℕ)) → length bytes ≤ most → lines_of bytes ≡ lines → list_all is_short lines ≡ true
+    → is_within (script_limits most) bytes ≡ true
+short_is_within most bytes lines small all short = within_is most bytes true small (ap (λ (ls : List (List ℕ)). list_all is_short ls) all ∙ short)
 
 -- one more that is none too long
 pub all_short_more : (lines : List (List ℕ)) (line : List ℕ) → list_all is_short lines ≡ true → length line ≤ serve_limits.line → list_all is_short (lines ++ line ∷ []) ≡ true

@@ -4,34 +4,34 @@ use Rattle.std.specs.Prelude.{Option}
 use Rattle.clfs_disk.specs.State.{DiskState}
 use Rattle.clfs_recover.specs.declared.refusal.LoadRefusal.{LoadRefusal}
 use Rattle.clfs_recover.specs.declared.refusal.LoadRefusal.TheVariants.{NoBase, Damaged, DiskFault, NoMemory}
-use Rattle.clfs_model.specs.Accepted.{serve_limits}
+use Rattle.clfs_model.specs.Accepted.{Limits}
 use Rattle.clfs_engine.specs.Answered.{IsAnswered, IsAnsweredInPart}
 use Rattle.clfs_engine.specs.Opened.{IsNoLog, no_log_text, RefusesLog, IsRefusalText, TellsRefusal, refusal_line, refusal_status}
 use Rattle.clfs_engine.specs.Serve.{Answers, EndsAnswering, EndsServing, IsAnswerStatus, IsServeStatus, IsWholeAnswer, IsAnswerUpToFault, IsAnswerUpToLimit, IsFrontUpToLimit, StopsShort, StopsAtFault}
 
 -- ---- other words for the same answers
 
-module _ (Is Other : Answers) (also : (lines : List (List ℕ)) (text : List ℕ) → Is lines text → Other lines text) where
-  whole_as : (left left' : Option (List ℕ)) (text : List ℕ) → IsWholeAnswer serve_limits Is left left' text → IsWholeAnswer serve_limits Other left left' text
+module _ (limits : Limits) (Is Other : Answers) (also : (lines : List (List ℕ)) (text : List ℕ) → Is lines text → Other lines text) where
+  whole_as : (left left' : Option (List ℕ)) (text : List ℕ) → IsWholeAnswer limits Is left left' text → IsWholeAnswer limits Other left left' text
   whole_as left left' text is = record { script = is.script; read = is.read; answered = also _ text is.answered }
 
-  fault_as : (left left' : Option (List ℕ)) (text : List ℕ) → IsAnswerUpToFault serve_limits Is left left' text → IsAnswerUpToFault serve_limits Other left left' text
+  fault_as : (left left' : Option (List ℕ)) (text : List ℕ) → IsAnswerUpToFault limits Is left left' text → IsAnswerUpToFault limits Other left left' text
   fault_as left left' text is = record { bytes = is.bytes; given = is.given; answered = also _ text is.answered }
 
-  limit_as : (left left' : Option (List ℕ)) (text : List ℕ) → IsAnswerUpToLimit serve_limits Is left left' text → IsAnswerUpToLimit serve_limits Other left left' text
+  limit_as : (left left' : Option (List ℕ)) (text : List ℕ) → IsAnswerUpToLimit limits Is left left' text → IsAnswerUpToLimit limits Other left left' text
   limit_as left left' text is = record {
     bytes = is.bytes;
     given = is.given;
     answered = record { output = is.answered.output; answered = also _ is.answered.output is.answered.answered; line = is.answered.line };
   }
 
-  at_limit_as : (left left' : Option (List ℕ)) (text : List ℕ) → IsFrontUpToLimit Is left left' text → IsFrontUpToLimit Other left left' text
+  at_limit_as : (left left' : Option (List ℕ)) (text : List ℕ) → IsFrontUpToLimit limits Is left left' text → IsFrontUpToLimit limits Other left left' text
   at_limit_as left left' text is =
       record { bytes = is.bytes; given = is.given; output = is.output; answered = also _ is.output is.answered; count = is.count; front = is.front }
 
-stops_as : (InPart Other : Answers) → ((lines : List (List ℕ)) (text : List ℕ) → InPart lines text → Other lines text) → (left left' written written' : Option (List ℕ))
-    → StopsShort InPart left left' written written' → StopsShort Other left left' written written'
-stops_as InPart Other also left left' written written' is = (is.0, (is.1.0, (is.1.1.0, also is.0 is.1.1.0 is.1.1.1, is.1.1.2)))
+stops_as : (limits : Limits) (InPart Other : Answers) → ((lines : List (List ℕ)) (text : List ℕ) → InPart lines text → Other lines text) → (left left' written written' : Option (List ℕ))
+    → StopsShort limits InPart left left' written written' → StopsShort limits Other left left' written written'
+stops_as limits InPart Other also left left' written written' is = (is.0, (is.1.0, (is.1.1.0, also is.0 is.1.1.0 is.1.1.1, is.1.1.2)))
 
 -- the statuses of answering are not those of a log that wasn't opened
 not_refused : (status : ℕ) → IsAnswerStatus status → (status ≡ 4) ⊎ (status ≡ 6) → ⊥
@@ -47,23 +47,23 @@ not_refused status (inr (inr (inr (inr e)))) (inl f) = omega (arith, e, f)
 not_refused status (inr (inr (inr (inr e)))) (inr f) = omega (arith, e, f)
 
 -- the lines of a log that was opened are answered
-pub answering_serves : (Is : Answers) (InPart : Bool → Answers) (status buffers : ℕ) (old new : DiskState) (left left' written written' : Option (List ℕ)) (source source' sink sink' : ℕ)
+pub answering_serves : (limits : Limits) (Is : Answers) (InPart : Bool → Answers) (status buffers : ℕ) (old new : DiskState) (left left' written written' : Option (List ℕ)) (source source' sink sink' : ℕ)
     → ((lines : List (List ℕ)) (text : List ℕ) → Is lines text → IsAnswered buffers old new lines text)
     → ((torn : Bool) (lines : List (List ℕ)) (text : List ℕ) → InPart torn lines text → IsAnsweredInPart buffers old new torn lines text)
-    → EndsAnswering Is InPart status left left' written written' source source' sink sink'
-    → EndsServing status buffers old new left left' written written' source source' sink sink'
-answering_serves Is InPart status buffers old new left left' written written' source source' sink sink' also also_part ends = record {
+    → EndsAnswering limits Is InPart status left left' written written' source source' sink sink'
+    → EndsServing limits status buffers old new left left' written written' source source' sink sink'
+answering_serves limits Is InPart status buffers old new left left' written written' source source' sink sink' also also_part ends = record {
   statuses = inl ends.statuses;
-  done = λ e. let found = ends.done e in (found.0, whole_as Is Other also left left' found.0 found.1, found.2);
+  done = λ e. let found = ends.done e in (found.0, whole_as limits Is Other also left left' found.0 found.1, found.2);
   source_fault = ends.source_fault;
-  source_fault_answers = λ e. let found = ends.source_fault_answers e in (found.0, fault_as Is Other also left left' found.0 found.1, found.2);
+  source_fault_answers = λ e. let found = ends.source_fault_answers e in (found.0, fault_as limits Is Other also left left' found.0 found.1, found.2);
   sink_fault = ends.sink_fault;
   sink_fault_front = λ e. inl (at_fault (ends.sink_fault_front e));
   disk_fault = λ e. absurd (not_refused status ends.statuses (inl e));
   disk_fault_line = λ e. absurd (not_refused status ends.statuses (inl e));
-  no_memory = λ e. inr (stops_as (InPart false) (OtherPart false) (also_part false) left left' written written' (ends.no_memory e));
+  no_memory = λ e. inr (stops_as limits (InPart false) (OtherPart false) (also_part false) left left' written written' (ends.no_memory e));
   no_log = λ e. absurd (not_refused status ends.statuses (inr e));
-  too_long = λ e. let found = ends.too_long e in (found.0, limit_as Is Other also left left' found.0 found.1, found.2);
+  too_long = λ e. let found = ends.too_long e in (found.0, limit_as limits Is Other also left left' found.0 found.1, found.2);
   unread = λ e. absurd (not_refused status ends.statuses e);
   source_count = ends.source_count;
   sink_count = ends.sink_count;
@@ -75,9 +75,9 @@ answering_serves Is InPart status buffers old new left left' written written' so
     OtherPart : Bool → Answers
     OtherPart = IsAnsweredInPart buffers old new
 
-    at_fault : StopsAtFault Is InPart left left' written written' → StopsAtFault Other OtherPart left left' written written'
-    at_fault (inl stops) = inl (stops_as (InPart true) (OtherPart true) (also_part true) left left' written written' stops)
-    at_fault (inr cut) = inr (cut.0, at_limit_as Is Other also left left' cut.0 cut.1, cut.2)
+    at_fault : StopsAtFault limits Is InPart left left' written written' → StopsAtFault limits Other OtherPart left left' written written'
+    at_fault (inl stops) = inl (stops_as limits (InPart true) (OtherPart true) (also_part true) left left' written written' stops)
+    at_fault (inr cut) = inr (cut.0, at_limit_as limits Is Other also left left' cut.0 cut.1, cut.2)
 
 -- ---- a log that wasn't opened
 
@@ -156,10 +156,10 @@ refusal_text (Damaged container offset at) old new refuses other = inl (record {
 refusal_text DiskFault old new refuses other = inr (refuses, refl)
 refusal_text NoMemory old new refuses other = absurd (other refl)
 
-pub refusal_serves : (status buffers : ℕ) (refusal : LoadRefusal) (old new : DiskState) (left written written' : Option (List ℕ)) (source sink sink' : ℕ)
+pub refusal_serves : (limits : Limits) (status buffers : ℕ) (refusal : LoadRefusal) (old new : DiskState) (left written written' : Option (List ℕ)) (source sink sink' : ℕ)
     → RefusesLog refusal old new → TellsRefusal status refusal written written' sink sink'
-    → EndsServing status buffers old new left left written written' source source sink sink'
-refusal_serves status buffers refusal old new left written written' source sink sink' refuses tells =
+    → EndsServing limits status buffers old new left left written written' source source sink sink'
+refusal_serves limits status buffers refusal old new left written written' source sink sink' refuses tells =
     let statuses = refused_statuses status refusal tells.statuses in record {
       statuses = serve_status status statuses;
       done = λ e. absurd (not_answered status 0 statuses e (inl refl));

@@ -1,10 +1,10 @@
 -- The calls that a log took which was loaded from a disk, as what a race says of that disk.
-use Rattle.std.proofs.Common.{◌≡◌, ℕ, ◌≤◌, Bool, true, false, refl, sym, ap, subst, ◌∙◌, List, [], ◌∷◌, arith}
+use Rattle.std.proofs.Common.{◌≡◌, ℕ, Bool, true, false, refl, sym, ap, subst, ◌∙◌, List, [], ◌∷◌, arith}
 use Rattle.std.specs.Prelude.{◌≢◌, ◌||◌, ◌&&◌, IsTrue, All}
-use Rattle.std.specs.List.{AllByRecursion, list_any}
+use Rattle.std.specs.List.{AllByRecursion}
 use Rattle.std.proofs.lemmas.List.Elements.{All-head, All-tail, All-from_recursion}
 use Rattle.clfs_disk.specs.Files.{Files}
-use Rattle.clfs_disk.specs.State.{DiskState, Nature, TellsContents, IsHonest, IsSteady}
+use Rattle.clfs_disk.specs.State.{DiskState, Nature, TellsContents, IsHonest}
 use Rattle.clfs_model.specs.declared.journal.Entry.{Entry}
 use Rattle.clfs_model.specs.declared.refusal.Refusal.TheVariants as refusals
 use Rattle.clfs_model.specs.declared.reply.Happened.{Happened}
@@ -31,14 +31,14 @@ pub record JournalLaws : Type 0 where
   pub passes : (files : Files) → AreWholeFiles files → are_whole files ≡ true
   pub tells : (files : Files) → are_whole files ≡ true → AreWholeFiles files
 
-or_parts : (a b : Bool) → (a || b) ≡ false → (a ≡ false) × (b ≡ false)
+pub or_parts : (a b : Bool) → (a || b) ≡ false → (a ≡ false) × (b ≡ false)
 or_parts true b e = absurd (cc e)
 or_parts false b e = (refl, e)
 
 all_three : (a b c : Bool) → a ≡ true → b ≡ true → c ≡ true → (a && b && c) ≡ true
 all_three a b c p q r = rw (p, q, r) refl
 
-fine_by : (happened : Happened) → is_fault happened ≡ false → is_damage happened ≡ false → happened ≡ Fine
+pub fine_by : (happened : Happened) → is_fault happened ≡ false → is_damage happened ≡ false → happened ≡ Fine
 fine_by Fine no_fault no_damage = refl
 fine_by Fault no_fault no_damage = absurd (cc no_fault)
 fine_by Damage no_fault no_damage = absurd (cc no_damage)

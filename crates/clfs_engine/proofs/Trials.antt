@@ -1,12 +1,10 @@
 -- The lines of a trial, answered one after the other.
 use Rattle.std.proofs.Common.{◌≡◌, ℕ, zero, suc, ◌+◌, ◌≤◌, List, [], ◌∷◌, ◌++◌, length, take, Bool, true, false, Option, Some, None, refl, sym, ap, subst, ◌∙◌, arith, inl, inr, add-one, length-append}
 use Rattle.std.specs.Prelude.{◌⊎◌, not, ◌||◌, map, count_by, if◌then◌else◌, MatchBool, MatchOption, IsTrue}
-use Rattle.std.proofs.lemmas.Bool.{cases_Bool}
 use Rattle.std.proofs.lemmas.List.{take-append-le, map-append, length-map}
 use Rattle.std.proofs.lemmas.List.Sums.{sum_by-append}
 use Rattle.std.proofs.Math.Seq.{take-append_seam}
 use Rattle.clfs_disk.specs.State.{DiskState, IsSteady}
-use Rattle.clfs_lsn.specs.declared.shape.Shape.{Shape}
 use Rattle.clfs_model.specs.declared.call.Call.TheVariants as calls
 use Rattle.clfs_model.specs.declared.info.LogInfo.{LogInfo}
 use Rattle.clfs_model.specs.declared.refusal.Refusal.{Refusal}
@@ -16,7 +14,7 @@ use Rattle.clfs_model.specs.declared.reply.Happened.TheVariants.{Fine}
 use Rattle.clfs_model.specs.declared.reply.Reply.{Reply}
 use Rattle.clfs_model.specs.declared.reply.Reply.TheVariants as replies
 use Rattle.clfs_model.specs.declared.state.State.{State}
-use Rattle.clfs_model.specs.Answers.{Outcome, answer, info_of}
+use Rattle.clfs_model.specs.Answers.{answer, info_of}
 use Rattle.clfs_model.specs.Flush.{flushed}
 use Rattle.clfs_model.specs.Happened.{happened_of}
 use Rattle.clfs_model.specs.Lines.{without_return}
@@ -24,11 +22,11 @@ use Rattle.clfs_model.specs.Refusals.{refusal}
 use Rattle.clfs_model.specs.Run.{Request, RequestStep, Run, all_fine}
 use Rattle.clfs_model.specs.Script.{line_request}
 use Rattle.clfs_model.specs.Step.{Step, IsBroken, IsOutOfMemory, Goes, Comes, takes_memory}
-use Rattle.clfs_recover.specs.Files.{StandsFor, AreWholeFiles}
+use Rattle.clfs_recover.specs.Files.{AreWholeFiles}
 use Rattle.clfs_trial.specs.Generated.{generated, line_at, opening_lines}
 use Rattle.clfs_trial.specs.Stage.{Stage, stage_after}
 use Rattle.clfs_engine.specs.Answered.{requests_of, AnswersOne, AnswersAll}
-use Rattle.clfs_engine.specs.Told.{tells_fault, tells_damage, has_fault, has_damage, has_broken}
+use Rattle.clfs_engine.specs.Told.{tells_fault, tells_damage, has_fault, has_damage}
 use Rattle.clfs_engine.specs.Trial.{told_lsn, is_refusal, tally_of, counted, lines_of_trial, HasTried, trial_log, trial_text, IsTrialText}
 use Rattle.clfs_engine.specs.declared.tally.Tally.{Tally}
 use Rattle.clfs_engine.proofs.SoFar.{none_answered, one_answered}

@@ -6,8 +6,9 @@ use Rattle.clfs_disk.specs.State.{DiskState}
 use Rattle.clfs_model.specs.declared.state.State.{State}
 use Rattle.clfs_model.specs.Accepted.{serve_limits}
 use Rattle.clfs_engine.specs.Answered.{AnswersLines}
-use Rattle.clfs_engine.specs.Feeds.{HasNoFeed, with_feeds}
-use Rattle.clfs_engine.specs.Taken.{longest_script, is_short}
+use Rattle.clfs_race.specs.Feeds.{HasNoFeed}
+use Rattle.clfs_engine.specs.Feeds.{with_feeds}
+use Rattle.clfs_engine.specs.Taken.{is_short}
 
 -- Of these bytes some lines come first, each with its line feed, and then the rest. The lines were answered, none of them was too long, and all
 -- their replies were written.
@@ -20,12 +21,12 @@ pub record HasAnswered (s : State) (old : DiskState) (written : Option (List ℕ
   pub answered : AnswersLines s old t new lines text
   pub replies : Appends written written_after text
 
--- A script was read to its end. All of its lines were answered but for the rest, which has no line feed and isn't too long.
-pub record HasAnsweredEnded (s : State) (old : DiskState) (left left_after written : Option (List ℕ)) (rest : List ℕ) (t : State) (new : DiskState) (written_after : Option (List ℕ)) : Type 0 where
+-- A script with at most so many bytes was read to its end. All of its lines were answered but for the rest, which has no line feed and isn't too long.
+pub record HasAnsweredEnded (most : ℕ) (s : State) (old : DiskState) (left left_after written : Option (List ℕ)) (rest : List ℕ) (t : State) (new : DiskState) (written_after : Option (List ℕ)) : Type 0 where
   pub script : List ℕ
   pub given : Consumes left left_after script
   pub end : IsAtEnd left_after
-  pub few : length script ≤ longest_script
+  pub few : length script ≤ most
   pub so_far : HasAnswered s old written script rest t new written_after
   pub one : HasNoFeed rest
   pub short : length rest ≤ serve_limits.line

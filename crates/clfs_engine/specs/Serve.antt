@@ -5,7 +5,7 @@ use Rattle.clfs_ports.specs.Cause.{Rises}
 use Rattle.clfs_disk.specs.Files.{Unchanged}
 use Rattle.clfs_disk.specs.State.{DiskState, Passes}
 use Rattle.clfs_model.specs.Lines.{lines_of}
-use Rattle.clfs_model.specs.Accepted.{Limits, serve_limits, accepted}
+use Rattle.clfs_model.specs.Accepted.{Limits, accepted}
 use Rattle.clfs_recover.specs.declared.refusal.LoadRefusal.TheVariants.{DiskFault}
 use Rattle.clfs_engine.specs.Answered.{IsAnswered, IsAnsweredInPart}
 use Rattle.clfs_engine.specs.Ends.{AppendsFront, disk_fault_text}
@@ -49,11 +49,11 @@ pub record IsAnswerUpToLimit (limits : Limits) (Is : Answers) (left left_after :
   pub answered : IsAnsweredUpToLimit limits Is bytes text
 
 -- What the source gave passes a limit, and this text is the replies to the lines that came whole before it, and a front of the line that says so.
-pub record IsFrontUpToLimit (Is : Answers) (left left_after : Option (List ℕ)) (text : List ℕ) : Type 0 where
+pub record IsFrontUpToLimit (limits : Limits) (Is : Answers) (left left_after : Option (List ℕ)) (text : List ℕ) : Type 0 where
   pub bytes : List ℕ
-  pub given : IsPastLimit serve_limits left left_after bytes
+  pub given : IsPastLimit limits left left_after bytes
   pub output : List ℕ
-  pub answered : Is (accepted serve_limits bytes) output
+  pub answered : Is (accepted limits bytes) output
   pub count : ℕ
   pub front : text ≡ output ++ take count too_long_text
 
@@ -66,37 +66,37 @@ abbrev pub WritesFront : (List ℕ → Type 0) → Option (List ℕ) → Option 
 WritesFront IsText written written_after = (text : List ℕ) × IsText text × AppendsFront written written_after text
 
 -- Lines up to some were answered, and the sink's new bytes are a text of them of this kind.
-abbrev pub StopsShort : Answers → Option (List ℕ) → Option (List ℕ) → Option (List ℕ) → Option (List ℕ) → Type 0
-StopsShort InPart left left_after written written_after =
-    (lines : List (List ℕ)) × (AreReached left left_after lines × Writes (InPart lines) written written_after)
+abbrev pub StopsShort : Limits → Answers → Option (List ℕ) → Option (List ℕ) → Option (List ℕ) → Option (List ℕ) → Type 0
+StopsShort limits InPart left left_after written written_after =
+    (lines : List (List ℕ)) × (AreReached limits left left_after lines × Writes (InPart lines) written written_after)
 
 -- The sink failed in the reply to a line, and no line after that one was answered, or in the line that says that a limit is passed.
-abbrev pub StopsAtFault : Answers → (Bool → Answers) → Option (List ℕ) → Option (List ℕ) → Option (List ℕ) → Option (List ℕ) → Type 0
-StopsAtFault Is InPart left left_after written written_after =
-    StopsShort (InPart true) left left_after written written_after ⊎ Writes (IsFrontUpToLimit Is left left_after) written written_after
+abbrev pub StopsAtFault : Limits → Answers → (Bool → Answers) → Option (List ℕ) → Option (List ℕ) → Option (List ℕ) → Option (List ℕ) → Type 0
+StopsAtFault limits Is InPart left left_after written written_after =
+    StopsShort limits (InPart true) left left_after written written_after ⊎ Writes (IsFrontUpToLimit limits Is left left_after) written written_after
 
 -- the statuses of answering: done, a source fault, a sink fault, no memory, too long an input
 abbrev pub IsAnswerStatus : ℕ → Type 0
 IsAnswerStatus status = (status ≡ 0) ⊎ ((status ≡ 2) ⊎ ((status ≡ 3) ⊎ ((status ≡ 5) ⊎ (status ≡ 7))))
 
--- How answering ends: what each status says of the bytes that the source has left, before and after, of those that the sink has taken, and of
+-- How answering a script within limits ends: what each status says of the bytes that the source has left, before and after, of those that the sink has taken, and of
 -- the two counts of faults. `Is` says that a text is the replies to lines, `InPart` that it is that or lacks the last reply, of which it has a front
 -- where it is torn.
-pub record EndsAnswering (Is : Answers) (InPart : Bool → Answers) (status : ℕ) (left left_after written written_after : Option (List ℕ)) (source source_after sink sink_after : ℕ) : Type 0 where
+pub record EndsAnswering (limits : Limits) (Is : Answers) (InPart : Bool → Answers) (status : ℕ) (left left_after written written_after : Option (List ℕ)) (source source_after sink sink_after : ℕ) : Type 0 where
   -- there is no other status
   pub statuses : IsAnswerStatus status
   -- the source was read to its end, and the sink's new bytes are the replies to all its lines
-  pub done : status ≡ 0 → Writes (IsWholeAnswer serve_limits Is left left_after) written written_after
+  pub done : status ≡ 0 → Writes (IsWholeAnswer limits Is left left_after) written written_after
   -- the source failed in this call, and the lines that came whole before are answered
   pub source_fault : status ≡ 2 → Rises source source_after
-  pub source_fault_answers : status ≡ 2 → Writes (IsAnswerUpToFault serve_limits Is left left_after) written written_after
+  pub source_fault_answers : status ≡ 2 → Writes (IsAnswerUpToFault limits Is left left_after) written written_after
   -- the sink failed in this call: of the last line that was answered a front of the reply was written, and all replies before it
   pub sink_fault : status ≡ 3 → Rises sink sink_after
-  pub sink_fault_front : status ≡ 3 → StopsAtFault Is InPart left left_after written written_after
+  pub sink_fault_front : status ≡ 3 → StopsAtFault limits Is InPart left left_after written written_after
   -- memory ran out: lines up to some were answered, and all their replies were written whole, or all but the last and nothing of that one
-  pub no_memory : status ≡ 5 → StopsShort (InPart false) left left_after written written_after
+  pub no_memory : status ≡ 5 → StopsShort limits (InPart false) left left_after written written_after
   -- what the source gave passes a limit; the lines that came whole before it are answered, and then the line that says so
-  pub too_long : status ≡ 7 → Writes (IsAnswerUpToLimit serve_limits Is left left_after) written written_after
+  pub too_long : status ≡ 7 → Writes (IsAnswerUpToLimit limits Is left left_after) written written_after
   -- the counts of faults never fall
   pub source_count : source ≤ source_after
   pub sink_count : sink ≤ sink_after
@@ -112,22 +112,22 @@ pub record StaysUnopened (old new : DiskState) (left left_after written written_
 abbrev pub IsServeStatus : ℕ → Type 0
 IsServeStatus status = IsAnswerStatus status ⊎ ((status ≡ 4) ⊎ (status ≡ 6))
 
--- How serving ends: what each status says of the log on the disk, before and after, of the bytes that the source has left, of those that the sink
--- has taken, and of the two counts of faults. Where lines are answered it is by the log machine, from the state for which the files stood, and the
+-- How serving a script within limits ends: what each status says of the log on the disk, before and after, of the bytes that the source has left, of
+-- those that the sink has taken, and of the two counts of faults. Where lines are answered it is by the log machine, from the state for which the files stood, and the
 -- files stand for its flushed part then.
-pub record EndsServing (status buffers : ℕ) (old new : DiskState) (left left_after written written_after : Option (List ℕ)) (source source_after sink sink_after : ℕ) : Type 0 where
+pub record EndsServing (limits : Limits) (status buffers : ℕ) (old new : DiskState) (left left_after written written_after : Option (List ℕ)) (source source_after sink sink_after : ℕ) : Type 0 where
   -- there is no other status
   pub statuses : IsServeStatus status
   -- the source was read to its end, and the sink's new bytes are the replies to all its lines
-  pub done : status ≡ 0 → Writes (IsWholeAnswer serve_limits (IsAnswered buffers old new) left left_after) written written_after
+  pub done : status ≡ 0 → Writes (IsWholeAnswer limits (IsAnswered buffers old new) left left_after) written written_after
   -- the source failed in this call, and the lines that came whole before are answered
   pub source_fault : status ≡ 2 → Rises source source_after
-  pub source_fault_answers : status ≡ 2 → Writes (IsAnswerUpToFault serve_limits (IsAnswered buffers old new) left left_after) written written_after
+  pub source_fault_answers : status ≡ 2 → Writes (IsAnswerUpToFault limits (IsAnswered buffers old new) left left_after) written written_after
   -- the sink failed in this call: of the last line that was answered a front of the reply was written, and all replies before it, or a front of
   -- the line that says why the log wasn't opened
   pub sink_fault : status ≡ 3 → Rises sink sink_after
   pub sink_fault_front : status ≡ 3
-      → StopsAtFault (IsAnswered buffers old new) (IsAnsweredInPart buffers old new) left left_after written written_after
+      → StopsAtFault limits (IsAnswered buffers old new) (IsAnsweredInPart buffers old new) left left_after written written_after
       ⊎ WritesFront (IsRefusalText old new) written written_after
   -- the disk failed in this call, before the log was opened, and the line that says so was written
   pub disk_fault : status ≡ 4 → RefusesLog DiskFault old new
@@ -135,11 +135,11 @@ pub record EndsServing (status buffers : ℕ) (old new : DiskState) (left left_a
   -- memory ran out: the log wasn't opened, no file has changed, and nothing was written, or lines up to some were answered, and all their
   -- replies were written whole, or all but the last and nothing of that one
   pub no_memory : status ≡ 5 → StaysUnopened old new left left_after written written_after
-      ⊎ StopsShort (IsAnsweredInPart buffers old new false) left left_after written written_after
+      ⊎ StopsShort limits (IsAnsweredInPart buffers old new false) left left_after written written_after
   -- the files aren't a log's, and the line that says so was written
   pub no_log : status ≡ 6 → Writes (IsNoLogText old new) written written_after
   -- what the source gave passes a limit; the lines that came whole before it are answered, and then the line that says so
-  pub too_long : status ≡ 7 → Writes (IsAnswerUpToLimit serve_limits (IsAnswered buffers old new) left left_after) written written_after
+  pub too_long : status ≡ 7 → Writes (IsAnswerUpToLimit limits (IsAnswered buffers old new) left left_after) written written_after
   -- the source isn't read before the log is opened
   pub unread : (status ≡ 4) ⊎ (status ≡ 6) → (left_after ≡ left) × (source_after ≡ source)
   -- the counts of faults never fall

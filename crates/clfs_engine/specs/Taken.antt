@@ -3,10 +3,21 @@ use Rattle.std.specs.Prelude.{◌≡◌, ◌⊎◌, ℕ, Bool, nat_le, true, fal
 use Rattle.std.specs.Io.KnownBytes.{Consumes, IsAtEnd}
 use Rattle.clfs_model.specs.Lines.{lines_of}
 use Rattle.clfs_model.specs.Accepted.{Limits, serve_limits, is_within, accepted}
+use Rattle.clfs_command.specs.declared.words.ScriptLength.{ScriptLength}
+use Rattle.clfs_command.specs.declared.words.ScriptLength.TheVariants.{Limited, Endless}
+
+-- the limits of a script with at most so many bytes, whose lines are answered one after the other
+abbrev pub script_limits : ℕ → Limits
+script_limits most = record { bytes = most; line = serve_limits.line; lines = most }
 
 -- the most bytes of a script
-abbrev pub longest_script : ℕ
-longest_script = serve_limits.bytes
+abbrev pub longest_script : ScriptLength → ℕ
+longest_script Limited = serve_limits.bytes
+longest_script Endless = 18446744073709551615
+
+-- the limits of a script by how long it may get
+abbrev pub limits_of : ScriptLength → Limits
+limits_of length = script_limits (longest_script length)
 
 -- whether a line is none too long
 abbrev pub is_short : List ℕ → Bool
@@ -29,17 +40,17 @@ pub record IsFrontOf (all lines : List (List ℕ)) : Type 0 where
   pub front : lines ++ rest ≡ all
 
 -- Lines at the front of those that are answered of the bytes that a source gave.
-pub record AreFrontLines (left left_after : Option (List ℕ)) (lines : List (List ℕ)) : Type 0 where
+pub record AreFrontLines (limits : Limits) (left left_after : Option (List ℕ)) (lines : List (List ℕ)) : Type 0 where
   pub bytes : List ℕ
   pub given : Consumes left left_after bytes
-  pub front : IsFrontOf (accepted serve_limits bytes) lines
+  pub front : IsFrontOf (accepted limits bytes) lines
 
 -- All lines of a script that was read to its end.
-pub record AreAllLines (left left_after : Option (List ℕ)) (lines : List (List ℕ)) : Type 0 where
+pub record AreAllLines (limits : Limits) (left left_after : Option (List ℕ)) (lines : List (List ℕ)) : Type 0 where
   pub script : List ℕ
-  pub read : IsWholeScript serve_limits left left_after script
+  pub read : IsWholeScript limits left left_after script
   pub all : lines_of script ≡ lines
 
 -- lines up to which it was come
-abbrev pub AreReached : Option (List ℕ) → Option (List ℕ) → List (List ℕ) → Type 0
-AreReached left left_after lines = AreFrontLines left left_after lines ⊎ AreAllLines left left_after lines
+abbrev pub AreReached : Limits → Option (List ℕ) → Option (List ℕ) → List (List ℕ) → Type 0
+AreReached limits left left_after lines = AreFrontLines limits left left_after lines ⊎ AreAllLines limits left left_after lines

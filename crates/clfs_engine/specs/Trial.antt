@@ -5,7 +5,6 @@ use Rattle.std.specs.Fmt.{decimal}
 use Rattle.clfs_lsn.specs.Words.{lsn_text}
 use Rattle.clfs_ports.specs.Cause.{Rises}
 use Rattle.clfs_disk.specs.State.{DiskState}
-use Rattle.clfs_model.specs.declared.refusal.Refusal.TheVariants as refusals
 use Rattle.clfs_model.specs.declared.reply.Reply.{Reply}
 use Rattle.clfs_model.specs.declared.reply.Reply.TheVariants as replies
 use Rattle.clfs_model.specs.declared.state.State.{State}

@@ -12,13 +12,13 @@ ghost use Rattle.clfs_race.specs.Meets.{Meets};
 ghost use Rattle.clfs_engine.specs.Stopped.{StopsLine};
 
 use crate::asking::{Asked, read_line};
-use crate::lines::without_return;
 use crate::status::Stop;
 use clfs_disk::Disk;
 use clfs_laws::{broken_stays, faults_break};
 use clfs_lsn::{Bytes, Lsn};
 use clfs_manager::Manager;
 use clfs_model::{Refusal, Reply};
+use clfs_race::without_return;
 use clfs_script::write_reply;
 use std::alloc::{AllocError, Global};
 

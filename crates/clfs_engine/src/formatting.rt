@@ -1,5 +1,5 @@
 // Making a log: the manager does it, and its outcome is told in a line.
-ghost use Rattle.std.specs.Prelude.{◌≡◌, ◌≤◌};
+ghost use Rattle.std.specs.Prelude.{◌≤◌};
 ghost use Rattle.clfs_lsn.specs.Limits.{most_containers};
 ghost use Rattle.clfs_lsn.specs.Size.{IsShape};
 ghost use Rattle.clfs_engine.specs.Complete.{IsDone, NothingFailsMaking};

@@ -7,8 +7,8 @@ use clfs_ports::{Failed, Source};
 use std::alloc::{AllocError, Global};
 use std::marker::Model;
 
-/// The most bytes of a script.
-pub const LONGEST_SCRIPT: usize = 67108864;
+/// The most bytes of a script, unless it is endless.
+pub const LONGEST_SCRIPT: u64 = 67108864;
 
 /// The bytes that are asked for at a time.
 const PIECE: usize = 65536;

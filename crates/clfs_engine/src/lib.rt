@@ -4,7 +4,7 @@
 //! reply before it looks at the next. What it promises is a clause of its contract: the bytes that it wrote are the replies of a run of the log
 //! machine over the lines of the bytes that it took, over a disk that tells what its files hold from the state for which they stood; and where
 //! no line is answered a fault, such files stand behind it for the flushed part of the state that the run leaves, up to records that no reply can
-//! show.
+//! show. `serve_within` is the same for a script of another length, also one that is endless for whoever sends it.
 //!
 //! `race` reads the whole script, opens the log, and lets each client make its calls in a thread of its own over a log that all share
 //! (`clfs_shared`). It writes the replies when all calls are made: those of one journal that is legal for the log machine, and in which each client's
@@ -21,7 +21,6 @@ mod asking;
 mod checking;
 mod formatting;
 mod input;
-mod lines;
 mod output;
 mod program;
 mod racing;
@@ -40,7 +39,7 @@ pub use formatting::format;
 pub use program::run;
 pub use racing::race;
 pub use rows::{appends_and_reads, areas, ends_of_lines, lengths_of_records, words_of_lines};
-pub use serving::serve;
+pub use serving::{serve, serve_within};
 pub use status::{
     DISK_FAULT, DONE, EXISTS, INPUT_TOO_LONG, NO_MEMORY, NOT_A_LOG, Outcome, SINK_FAULT,
     SOURCE_FAULT, USAGE,

@@ -4,22 +4,24 @@ ghost use Rattle.std.specs.String.{string_bytes};
 ghost use Rattle.clfs_lsn.specs.declared.shape.Shape.{Shape};
 ghost use Rattle.clfs_command.specs.Command.{command_of};
 ghost use Rattle.clfs_command.specs.declared.words.Command.TheVariants.{Format, Serve, Race, Trial, Check};
+ghost use Rattle.clfs_command.specs.declared.words.ScriptLength.{ScriptLength};
 ghost use Rattle.clfs_ports.specs.Cause.{Rises};
 ghost use Rattle.clfs_engine.specs.Check.{EndsCheck};
-ghost use Rattle.clfs_engine.specs.Complete.{IsDone, NothingFailsServing, NothingFailsMaking, NothingFailsChecking, ComesThrough};
+ghost use Rattle.clfs_engine.specs.Complete.{IsDone, NothingFailsAnswering, NothingFailsRacing, NothingFailsMaking, NothingFailsChecking, ComesThrough, RaceComesThrough};
 ghost use Rattle.clfs_engine.specs.Format.{EndsFormat};
 ghost use Rattle.clfs_engine.specs.Race.{EndsRacing};
 ghost use Rattle.clfs_engine.specs.Serve.{EndsServing, EndsByUsage};
+ghost use Rattle.clfs_engine.specs.Taken.{limits_of};
 ghost use Rattle.clfs_engine.specs.Trial.{EndsTrial};
 
 use crate::checking::check;
 use crate::formatting::format;
 use crate::output::printed;
 use crate::racing::race;
-use crate::serving::serve;
+use crate::serving::{serve, serve_within};
 use crate::status::{NO_MEMORY, Outcome, USAGE};
 use crate::trying::trial;
-use clfs_command::{Command, WordsRefusal, read_command};
+use clfs_command::{Command, ScriptLength, WordsRefusal, read_command};
 use clfs_disk::Disk;
 use clfs_ports::{Sink, Source};
 use clfs_race::Pass;
@@ -27,8 +29,9 @@ use std::alloc::Global;
 use std::sync::Wait;
 use std::thread::Threads;
 
-/// Runs the command that the words name: `serve` or `race` with its write buffers, `format` with the sizes of the log and whether it is dedicated,
-/// `trial` with its number and its count, or `check`. The words are those after the folder. Only a race starts threads, and waits for them.
+/// Runs the command that the words name: `serve` with its write buffers and the length that the script may have, `race` with its write buffers,
+/// `format` with the sizes of the log and whether it is dedicated, `trial` with its number and its count, or `check`. The words are those after the
+/// folder. Only a race starts threads, and waits for them.
 pub fn run<R: Threads + Wait + Sync, S: Source, K: Sink, D: Disk + Send + Drop>(
     rt: &R,
     alloc: Global,
@@ -37,8 +40,8 @@ pub fn run<R: Threads + Wait + Sync, S: Source, K: Sink, D: Disk + Send + Drop>(
     sink: &mut K,
     disk: D,
 ) -> Outcome<D>
-    ensures serves { (buffers : ℕ) → command_of (map string_bytes words.now) ≡ Some (Serve buffers)
-        → EndsServing result.status buffers (D.state disk) (D.state result.disk) (S.left source.old) (S.left source.new)
+    ensures serves { (buffers : ℕ) (length : ScriptLength) → command_of (map string_bytes words.now) ≡ Some (Serve buffers length)
+        → EndsServing (limits_of length) result.status buffers (D.state disk) (D.state result.disk) (S.left source.old) (S.left source.new)
         (K.written sink.old) (K.written sink.new) (S.faults source.old) (S.faults source.new) (K.faults sink.old) (K.faults sink.new) }
     ensures races { (buffers : ℕ) → command_of (map string_bytes words.now) ≡ Some (Race buffers)
         → EndsRacing result.status buffers (D.state disk) (D.state result.disk) (S.left source.old) (S.left source.new)
@@ -51,9 +54,12 @@ pub fn run<R: Threads + Wait + Sync, S: Source, K: Sink, D: Disk + Send + Drop>(
     ensures checks { command_of (map string_bytes words.now) ≡ Some Check
         → EndsCheck result.status (D.state disk) (D.state result.disk) (K.written sink.old) (K.written sink.new) (K.faults sink.old) (K.faults sink.new) }
     // If nothing outside fails, a command is done, unless memory runs out.
-    ensures serving_comes_through { (buffers : ℕ) → command_of (map string_bytes words.now) ≡ Some (Serve buffers)
-        → NothingFailsServing (D.state disk) (D.state result.disk) (S.left source.old) (S.faults source.old) (S.faults source.new) (K.faults sink.old) (K.faults sink.new)
-        → ComesThrough result.status buffers (D.state disk) (D.state result.disk) (S.left source.old) (S.left source.new) (K.written sink.old) (K.written sink.new) }
+    ensures serving_comes_through { (buffers : ℕ) (length : ScriptLength) → command_of (map string_bytes words.now) ≡ Some (Serve buffers length)
+        → NothingFailsAnswering (limits_of length) (D.state disk) (D.state result.disk) (S.left source.old) (S.faults source.old) (S.faults source.new) (K.faults sink.old) (K.faults sink.new)
+        → ComesThrough (limits_of length) result.status buffers (D.state disk) (D.state result.disk) (S.left source.old) (S.left source.new) (K.written sink.old) (K.written sink.new) }
+    ensures racing_comes_through { (buffers : ℕ) → command_of (map string_bytes words.now) ≡ Some (Race buffers)
+        → NothingFailsRacing (D.state disk) (D.state result.disk) (S.left source.old) (S.faults source.old) (S.faults source.new) (K.faults sink.old) (K.faults sink.new)
+        → RaceComesThrough result.status buffers (D.state disk) (D.state result.disk) (S.left source.old) (S.left source.new) (K.written sink.old) (K.written sink.new) }
     ensures making_is_done { (shape : Shape) (containers : ℕ) (dedicated : Bool) → command_of (map string_bytes words.now) ≡ Some (Format shape containers dedicated)
         → NothingFailsMaking (D.state disk) (D.state result.disk) (K.faults sink.old) (K.faults sink.new) → IsDone result.status }
     ensures trying_is_done { (number count : ℕ) → command_of (map string_bytes words.now) ≡ Some (Trial number count)
@@ -63,15 +69,26 @@ pub fn run<R: Threads + Wait + Sync, S: Source, K: Sink, D: Disk + Send + Drop>(
     ensures usage { command_of (map string_bytes words.now) ≡ None → EndsByUsage result.status (K.written sink.old) (K.written sink.new)
         (K.faults sink.old) (K.faults sink.new) }
     // Only a script is read from the source, and only serving, racing, making and judging a log call the disk.
-    ensures unread { ((buffers : ℕ) → command_of (map string_bytes words.now) ≢ Some (Serve buffers))
+    ensures unread { ((buffers : ℕ) (length : ScriptLength) → command_of (map string_bytes words.now) ≢ Some (Serve buffers length))
         → ((buffers : ℕ) → command_of (map string_bytes words.now) ≢ Some (Race buffers)) → source.new ≡ source.old }
-    ensures untouched { ((buffers : ℕ) → command_of (map string_bytes words.now) ≢ Some (Serve buffers))
+    ensures untouched { ((buffers : ℕ) (length : ScriptLength) → command_of (map string_bytes words.now) ≢ Some (Serve buffers length))
         → ((buffers : ℕ) → command_of (map string_bytes words.now) ≢ Some (Race buffers))
         → ((shape : Shape) (containers : ℕ) (dedicated : Bool) → command_of (map string_bytes words.now) ≢ Some (Format shape containers dedicated))
         → command_of (map string_bytes words.now) ≢ Some Check → result.disk ≡ disk }
 {
     match read_command(alloc, words) {
-        Ok(Command::Serve { write_buffers }) => serve(alloc, write_buffers, source, sink, disk),
+        Ok(
+            Command::Serve {
+                write_buffers,
+                length: ScriptLength::Limited,
+            },
+        ) => serve(alloc, write_buffers, source, sink, disk),
+        Ok(
+            Command::Serve {
+                write_buffers,
+                length: ScriptLength::Endless,
+            },
+        ) => serve_within(alloc, write_buffers, u64::MAX, source, sink, disk),
         Ok(Command::Race { write_buffers }) => {
             race(rt, alloc, write_buffers, &Pass, source, sink, disk)
         }

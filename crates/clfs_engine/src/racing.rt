@@ -11,6 +11,7 @@ ghost use Rattle.clfs_model.specs.Journals.{mine};
 ghost use Rattle.clfs_race.specs.Divided.{HasAllArguments, clients_of};
 ghost use Rattle.clfs_race.specs.Scripts.{bad_line_text, journal_text};
 ghost use Rattle.clfs_shared.specs.Reached.{opening_of};
+ghost use Rattle.clfs_engine.specs.Complete.{NothingFailsRacing, RaceComesThrough};
 ghost use Rattle.clfs_engine.specs.Race.{EndsRacing};
 ghost use Rattle.clfs_engine.specs.Ran.{HasRun, has_all, end_text, end_status, TellsRace};
 
@@ -25,10 +26,9 @@ use clfs_manager::{LoadRefused, Manager};
 use clfs_model::{Entry, Journal};
 use clfs_ports::{Sink, Source};
 use clfs_race::{
-    ClientCalls, Division, Gate, Script, ScriptEnd, divide, read_script, write_bad_lines,
-    write_journal,
+    ClientCalls, Gate, ScriptEnd, divide, read_script, write_bad_lines, write_journal,
 };
-use clfs_recover::whole_files_pass_the_test;
+use clfs_recover::{files_have_one_meaning, whole_files_pass_the_test};
 use clfs_shared::{Closed, SharedLog, StartRefused};
 use std::alloc::{AllocError, Global};
 use std::sync::Wait;
@@ -67,6 +67,14 @@ fn clients_of(alloc: Global, scripts: &[ClientCalls]) -> Result<Vec<u16>, AllocE
     scripts.iter().map(|script| script.client()).collect(alloc)
 }
 
+// How many calls scripts have.
+fn count_calls(scripts: &[ClientCalls]) -> usize {
+    scripts.iter().fold(
+        0,
+        |sum: usize, script| sum.saturating_add(script.calls().len()),
+    )
+}
+
 // A log that took no call.
 fn untouched<D: Disk>(alloc: Global, manager: Manager<D>, whole: bool) -> Raced<D>
     ensures manager { result.manager ≡ manager }
@@ -100,7 +108,7 @@ fn race_over<R: Threads + Wait + Sync, D: Disk + Send + Drop, G: Gate + Sync>(
     let Ok(clients) = clients_of(alloc, scripts) else {
         return untouched(alloc, manager, false);
     };
-    match SharedLog::start(alloc, manager, &clients) {
+    match SharedLog::start_for(alloc, manager, &clients, count_calls(scripts)) {
         Ok((log, sessions)) => {
             let mut sessions = sessions;
             run_clients(rt, &log, gate, &mut sessions, scripts);
@@ -180,9 +188,13 @@ pub fn race<R: Threads + Wait + Sync, S: Source, K: Sink, D: Disk + Send + Drop,
 ) -> Outcome<D>
     requires some { 1 ≤ write_buffers }
     requires at_most { write_buffers ≤ most_write_buffers }
-    ensures { EndsRacing result.status write_buffers (D.state disk) (D.state result.disk) (S.left source.old) (S.left source.new)
+    ensures ends { EndsRacing result.status write_buffers (D.state disk) (D.state result.disk) (S.left source.old) (S.left source.new)
         (K.written sink.old) (K.written sink.new) (S.faults source.old) (S.faults source.new) (K.faults sink.old) (K.faults sink.new) }
+    ensures complete { NothingFailsRacing (D.state disk) (D.state result.disk) (S.left source.old) (S.faults source.old) (S.faults source.new)
+        (K.faults sink.old) (K.faults sink.new) → RaceComesThrough result.status write_buffers (D.state disk) (D.state result.disk)
+        (S.left source.old) (S.left source.new) (K.written sink.old) (K.written sink.new) }
 {
+    files_have_one_meaning();
     unbroken_stays();
     whole_files_pass_the_test();
     let Ok(script) = read_script(alloc, source) else {

@@ -1,9 +1,6 @@
 // A log that wasn't opened: why is told in a line.
-ghost use Rattle.std.specs.Prelude.{◌≡◌, ◌≢◌, ◌≤◌, ◌++◌, [], OnOk, IfOk};
-ghost use Rattle.std.specs.Io.KnownBytes.{Appends};
-ghost use Rattle.clfs_ports.specs.Cause.{Rises};
-ghost use Rattle.clfs_engine.specs.Ends.{AppendsFront, disk_fault_text};
-ghost use Rattle.clfs_engine.specs.Opened.{IsNoLog, no_log_text, TellsRefusal};
+ghost use Rattle.std.specs.Prelude.{◌≡◌, ◌++◌, OnOk, IfOk};
+ghost use Rattle.clfs_engine.specs.Opened.{no_log_text, TellsRefusal};
 ghost use Rattle.std.specs.Fmt.{decimal};
 
 use crate::output::printed;

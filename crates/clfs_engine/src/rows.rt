@@ -1,6 +1,6 @@
 // Worked scripts, from the text of their lines to the text of their replies. The checker computes them from the definitions
 // alone; the functions do nothing.
-ghost use Rattle.std.specs.Prelude.{◌≡◌, [], ◌++◌, codes};
+ghost use Rattle.std.specs.Prelude.{◌≡◌, [], codes};
 ghost use Rattle.clfs_engine.specs.Worked.{replies_to, zeros_line};
 
 /// Two appends, reads of a record and of none, and another stream; then cursors up to one too many.

@@ -2,9 +2,12 @@
 ghost use Rattle.std.specs.Prelude.{◌≤◌};
 ghost use Rattle.clfs_lsn.specs.Limits.{most_write_buffers};
 ghost use Rattle.clfs_engine.specs.Answered.{AnswersLines, AnswersInPart};
-ghost use Rattle.clfs_engine.specs.Complete.{NothingFailsServing, ComesThrough};
+ghost use Rattle.clfs_model.specs.Accepted.{serve_limits};
+ghost use Rattle.clfs_engine.specs.Complete.{NothingFailsAnswering, NothingFailsServing, ComesThrough};
 ghost use Rattle.clfs_engine.specs.Serve.{EndsAnswering, EndsServing};
+ghost use Rattle.clfs_engine.specs.Taken.{script_limits};
 
+use crate::input::LONGEST_SCRIPT;
 use crate::output::printed;
 use crate::refusing::refused;
 use crate::status::{DONE, INPUT_TOO_LONG, NO_MEMORY, Outcome, SINK_FAULT, SOURCE_FAULT, Stop};
@@ -19,15 +22,16 @@ use std::alloc::Global;
 fn served<S: Source, K: Sink, D: Disk>(
     alloc: Global,
     manager: &mut Manager<D>,
+    most: u64,
     source: &mut S,
     sink: &mut K,
 ) -> u8
-    ensures { EndsAnswering (AnswersLines manager.old.0 (D.state manager.old.1) manager.new.0 (D.state manager.new.1))
+    ensures { EndsAnswering (script_limits most) (AnswersLines manager.old.0 (D.state manager.old.1) manager.new.0 (D.state manager.new.1))
         (AnswersInPart manager.old.0 (D.state manager.old.1) manager.new.0 (D.state manager.new.1)) result
         (S.left source.old) (S.left source.new) (K.written sink.old) (K.written sink.new)
         (S.faults source.old) (S.faults source.new) (K.faults sink.old) (K.faults sink.new) }
 {
-    match answer_script(alloc, manager, source, sink) {
+    match answer_script(alloc, manager, most, source, sink) {
         Ok(()) => DONE,
         Err(Stop::SourceFault) => SOURCE_FAULT,
         Err(Stop::SinkFault) => SINK_FAULT,
@@ -37,29 +41,30 @@ fn served<S: Source, K: Sink, D: Disk>(
 }
 
 /// Opens the log on a disk, answers the script that the source gives, one reply for each line, and says how it ended. A script has at most
-/// 67,108,864 bytes, and a line at most 131,072 without its line feed. Each line is answered when its line feed is there, and its reply is written
+/// so many bytes, and a line at most 131,072 without its line feed. Each line is answered when its line feed is there, and its reply is written
 /// before the next one is looked at.
-pub fn serve<S: Source, K: Sink, D: Disk + Drop>(
+pub fn serve_within<S: Source, K: Sink, D: Disk + Drop>(
     alloc: Global,
     write_buffers: u32,
+    most: u64,
     source: &mut S,
     sink: &mut K,
     disk: D,
 ) -> Outcome<D>
     requires some { 1 ≤ write_buffers }
     requires at_most { write_buffers ≤ most_write_buffers }
-    ensures ends { EndsServing result.status write_buffers (D.state disk) (D.state result.disk) (S.left source.old) (S.left source.new)
+    ensures ends { EndsServing (script_limits most) result.status write_buffers (D.state disk) (D.state result.disk) (S.left source.old) (S.left source.new)
         (K.written sink.old) (K.written sink.new) (S.faults source.old) (S.faults source.new) (K.faults sink.old) (K.faults sink.new) }
-    ensures complete { NothingFailsServing (D.state disk) (D.state result.disk) (S.left source.old) (S.faults source.old) (S.faults source.new)
-        (K.faults sink.old) (K.faults sink.new) → ComesThrough result.status write_buffers (D.state disk) (D.state result.disk)
-        (S.left source.old) (S.left source.new) (K.written sink.old) (K.written sink.new) }
+    ensures complete { NothingFailsAnswering (script_limits most) (D.state disk) (D.state result.disk) (S.left source.old) (S.faults source.old)
+        (S.faults source.new) (K.faults sink.old) (K.faults sink.new) → ComesThrough (script_limits most) result.status write_buffers
+        (D.state disk) (D.state result.disk) (S.left source.old) (S.left source.new) (K.written sink.old) (K.written sink.new) }
 {
     files_have_one_meaning();
     match Manager::load(alloc, disk, write_buffers) {
         Ok(manager) => {
             let mut manager = manager;
             manager.stored();
-            let status = served(alloc, &mut manager, source, sink);
+            let status = served(alloc, &mut manager, most, source, sink);
             manager.stored();
             Outcome {
                 status,
@@ -71,4 +76,23 @@ pub fn serve<S: Source, K: Sink, D: Disk + Drop>(
             disk,
         },
     }
+}
+
+/// Serves a script of at most 67,108,864 bytes.
+pub fn serve<S: Source, K: Sink, D: Disk + Drop>(
+    alloc: Global,
+    write_buffers: u32,
+    source: &mut S,
+    sink: &mut K,
+    disk: D,
+) -> Outcome<D>
+    requires some { 1 ≤ write_buffers }
+    requires at_most { write_buffers ≤ most_write_buffers }
+    ensures ends { EndsServing serve_limits result.status write_buffers (D.state disk) (D.state result.disk) (S.left source.old) (S.left source.new)
+        (K.written sink.old) (K.written sink.new) (S.faults source.old) (S.faults source.new) (K.faults sink.old) (K.faults sink.new) }
+    ensures complete { NothingFailsServing (D.state disk) (D.state result.disk) (S.left source.old) (S.faults source.old) (S.faults source.new)
+        (K.faults sink.old) (K.faults sink.new) → ComesThrough serve_limits result.status write_buffers (D.state disk) (D.state result.disk)
+        (S.left source.old) (S.left source.new) (K.written sink.old) (K.written sink.new) }
+{
+    serve_within(alloc, write_buffers, LONGEST_SCRIPT, source, sink, disk)
 }

@@ -1,13 +1,13 @@
 // The clients of a race, each in a thread of its own: every one makes its calls in order, and stops at the first that memory was lacking for.
-ghost use Rattle.std.specs.Prelude.{◌≡◌, ◌<◌, ◌≤◌, ℕ, [], ◌∷◌, ◌++◌, true, false, length, map, All, slice_index_or};
+ghost use Rattle.std.specs.Prelude.{◌≡◌, ◌<◌, ℕ, [], ◌∷◌, ◌++◌, true, false, length, All, slice_index_or};
 ghost use Rattle.clfs_model.specs.Conditions.{HasArguments};
 ghost use Rattle.clfs_model.specs.declared.call.Call.{Call};
 ghost use Rattle.clfs_model.specs.Journals.{ClientScript};
-ghost use Rattle.clfs_race.specs.Divided.{HasAllArguments, clients_of};
+ghost use Rattle.clfs_race.specs.Divided.{HasAllArguments};
 ghost use Rattle.clfs_shared.specs.Journal.{is_out_of_memory};
 ghost use Rattle.clfs_shared.specs.Sessions.{SessionState, own_entries, IsOf};
 ghost use Rattle.clfs_turn.specs.Seats.{IsSameSeat};
-ghost use Rattle.clfs_engine.specs.Made.{calls_of, HasMade, HasMadeSome};
+ghost use Rattle.clfs_engine.specs.Made.{calls_of, HasMadeSome};
 
 use clfs_disk::Disk;
 use clfs_model::{Call, Refusal, Reply};

@@ -60,6 +60,14 @@ impl Access {
         matches!(self.state, State::Taken)
     }
 
+    /// The bytes of all files of a folder that is open, and else none.
+    pub fn byte_count(&self) -> u64 {
+        match &self.state {
+            State::Open(directory) => directory.byte_count(),
+            _ => 0,
+        }
+    }
+
     // Says why a call failed, if it is the first one.
     fn tell(&mut self, fault: Fault) -> Failed {
         if !self.has_told {

@@ -132,6 +132,17 @@ impl Directory {
         }))
     }
 
+    /// The bytes of all files that are there, as they were made.
+    pub fn byte_count(&self) -> u64 {
+        let mut count = 0u64;
+        for slot in &self.files {
+            if let Some(file) = slot {
+                count = count.saturating_add(file.len());
+            }
+        }
+        count
+    }
+
     /// What a file has from `at` on. A file that isn't there is empty.
     pub fn read(&self, file: u16, at: u64, out: &mut [u8]) -> Result<usize, Fault>
         requires { file ≤ 256 }

@@ -33,6 +33,11 @@ impl Folder {
     pub fn is_taken(&self) -> bool {
         self.access.is_taken()
     }
+
+    /// How many bytes its files have together, once a call has opened it.
+    pub fn byte_count(&self) -> u64 {
+        self.access.byte_count()
+    }
 }
 
 impl Disk for Folder {

@@ -5,6 +5,9 @@
 //! of the disk counts as one, and a call fails only if the count of faults rose. So what is done for the safety of the files has to be
 //! read: `access.rt` says when a folder is opened, locked and given up, `location.rt` what is taken for a file of a log, `directory.rt` how
 //! files are made and synced, `file.rt` what is done with one of them, `unsynced.rt` what follows a sync that failed.
+//!
+//! Who waits for a large log sees on a terminal how far it was read: `Watched` passes each call of a folder on as it is and counts what is read,
+//! and `Progress` is the line that tells it.
 #![tactic(auto)]
 
 mod access;
@@ -13,8 +16,12 @@ mod fault;
 mod file;
 mod folder;
 mod location;
+mod progress;
 mod standard;
 mod unsynced;
+mod watched;
 
 pub use folder::Folder;
+pub use progress::{EndsProgress, Progress};
 pub use standard::{ReaderSource, WriterSink};
+pub use watched::Watched;

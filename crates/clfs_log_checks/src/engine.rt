@@ -1,6 +1,7 @@
 use clfs_disk::{Disk, Memory, Steady};
 use clfs_engine::{
     DONE, EXISTS, INPUT_TOO_LONG, NOT_A_LOG, SINK_FAULT, SOURCE_FAULT, USAGE, run, serve,
+    serve_within,
 };
 use clfs_ports::{Failed, MemorySink, MemorySource, Sink, Source};
 use std::alloc::{AllocError, Global};
@@ -358,11 +359,22 @@ fn a_line_at_its_limit_and_above(rt: HostRuntime) -> Result<(), Fail> {
     Ok(())
 }
 
-// A script of 512 lines of 131,072 bytes each is at its limit.
+// A script of 512 lines of 131,072 bytes each is at its limit, unless it is endless.
 #[test]
 fn a_script_at_its_limit_and_above(rt: HostRuntime) -> Result<(), Fail> {
     let alloc = rt.alloc();
-    for (more, want) in [(0, DONE), (1, INPUT_TOO_LONG)] {
+    let reply = b"0 refused 28 BadLine 0\n".len();
+    let cases: [(&[&str], usize, u8, usize); 3] = [
+        (&["serve"], 0, DONE, 512 * reply),
+        (
+            &["serve"],
+            1,
+            INPUT_TOO_LONG,
+            512 * reply + b"input too long\n".len(),
+        ),
+        (&["serve", "--endless"], 1, DONE, 513 * reply),
+    ];
+    for (command, more, want, written) in cases {
         let mut script = Vec::with_capacity(alloc, 67108865)?;
         for _ in 0..512 {
             push_run(&mut script, 131071)?;
@@ -372,13 +384,34 @@ fn a_script_at_its_limit_and_above(rt: HostRuntime) -> Result<(), Fail> {
         let mut source = MemorySource::new(script, 65536, Vec::new(alloc));
         let mut sink = MemorySink::new(Vec::new(alloc), 4096, Vec::new(alloc));
         let disk = formatted(&rt, alloc, ["2", "8", "2"])?;
-        let outcome = serve(alloc, 4, &mut source, &mut sink, disk);
+        let command = words(alloc, command)?;
+        let outcome = run(&rt, alloc, &command, &mut source, &mut sink, disk);
         assert_eq!(rt; outcome.status, want);
-        let answered = 512 * b"0 refused 28 BadLine 0\n".len();
-        assert_eq!(rt;
-            sink.bytes().len(),
-            answered + more * b"input too long\n".len()
-        );
+        assert_eq!(rt; sink.bytes().len(), written);
+    }
+    Ok(())
+}
+
+// Two lines of nine bytes each, with limits on their bytes.
+#[test]
+fn a_script_within_other_limits(rt: HostRuntime) -> Result<(), Fail> {
+    let alloc = rt.alloc();
+    let cases: [(u64, u8, &[u8]); 6] = [
+        (18, DONE, b"1 stream 1\n1 stream 2\n"),
+        (u64::MAX, DONE, b"1 stream 1\n1 stream 2\n"),
+        (17, INPUT_TOO_LONG, b"1 stream 1\ninput too long\n"),
+        (9, INPUT_TOO_LONG, b"1 stream 1\ninput too long\n"),
+        (8, INPUT_TOO_LONG, b"input too long\n"),
+        (0, INPUT_TOO_LONG, b"input too long\n"),
+    ];
+    for (most, want, written) in cases {
+        let script = b"1 open a\n1 open b\n".to_vec(alloc)?;
+        let mut source = MemorySource::new(script, 5, Vec::new(alloc));
+        let mut sink = MemorySink::new(Vec::new(alloc), 99, Vec::new(alloc));
+        let disk = formatted(&rt, alloc, ["2", "8", "2"])?;
+        let outcome = serve_within(alloc, 4, most, &mut source, &mut sink, disk);
+        assert_eq!(rt; outcome.status, want);
+        assert_eq!(rt; sink.bytes(), written);
     }
     Ok(())
 }

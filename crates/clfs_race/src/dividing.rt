@@ -7,6 +7,7 @@ ghost use Rattle.clfs_race.specs.Divided.{is_of, with_call, IsDivided, IsDivided
 ghost use Rattle.clfs_race.specs.Scripts.{race_requests};
 ghost use Rattle.clfs_race.specs.Taken.{answered_lines, IsReadScript};
 
+use crate::counts::LineCounts;
 use crate::input::{MOST_BYTES, Script, ScriptEnd};
 use crate::laws::lines_meet_their_conditions;
 use crate::lines::{LONGEST_LINE, MOST_LINES, ended_line, without_return};
@@ -31,11 +32,11 @@ impl Model for ClientCalls {
 }
 
 impl ClientCalls {
-    // A first call.
-    fn new(alloc: Global, client: u16, call: Call) -> Result<ClientCalls, AllocError>
+    // A first call, in a list that is made for so many.
+    fn new(alloc: Global, client: u16, call: Call, room: usize) -> Result<ClientCalls, AllocError>
         ensures { IfOk result (λ script. script ≡ record { client = client; calls = call ∷ [] }) }
     {
-        let mut calls = Vec::new(alloc);
+        let mut calls = Vec::with_capacity(alloc, room)?;
         calls.push(call)?;
         Ok(ClientCalls { client, calls })
     }
@@ -83,6 +84,7 @@ fn place_of(scripts: &[ClientCalls], client: u16) -> Option<usize>
 fn add_call(
     alloc: Global,
     scripts: &mut Vec<ClientCalls>,
+    counts: &LineCounts,
     client: u16,
     call: Call,
 ) -> Result<(), AllocError>
@@ -91,7 +93,7 @@ fn add_call(
     match place_of(scripts, client) {
         Some(place) => scripts[place].push(call),
         None => {
-            scripts.push(ClientCalls::new(alloc, client, call)?)?;
+            scripts.push(ClientCalls::new(alloc, client, call, counts.of(client))?)?;
             Ok(())
         }
     }
@@ -109,14 +111,19 @@ impl Division {
     }
 
     // What one line more asks for.
-    fn add_line(&mut self, alloc: Global, line: &[u8]) -> Result<(), AllocError>
+    fn add_line(
+        &mut self,
+        alloc: Global,
+        counts: &LineCounts,
+        line: &[u8],
+    ) -> Result<(), AllocError>
         requires { length line.now ≤ 131072 }
         ensures { OnOk result (IsDividedFurther self.old (request_in calls_alone (without_return line.now)) self.new) }
     {
         lines_meet_their_conditions();
         match parse_line(alloc, Language::CallsAlone, without_return(line)) {
             Ok(ScriptLine { client, request }) => match request {
-                Request::Step(call) => add_call(alloc, &mut self.scripts, client, call),
+                Request::Step(call) => add_call(alloc, &mut self.scripts, counts, client, call),
                 // No line of this language asks for it.
                 Request::Reopen => Ok(()),
             },
@@ -130,24 +137,24 @@ impl Division {
 }
 
 // Divides the lines of a script that is within its limits, the last one too if it has no line feed.
-fn divide_whole(alloc: Global, bytes: &[u8]) -> Result<Division, AllocError>
+fn divide_whole(alloc: Global, bytes: &[u8], counts: &LineCounts) -> Result<Division, AllocError>
     requires { is_within race_limits bytes.now ≡ true }
     ensures { IfOk result (λ division. IsDivided (race_requests (lines_of bytes.now)) division) }
 {
     let mut division = Division::new(alloc);
     let mut rest = bytes;
     while let Some(line) = ended_line(rest) {
-        division.add_line(alloc, line)?;
+        division.add_line(alloc, counts, line)?;
         rest = rest.split_at(line.len() + 1).1;
     }
     if !rest.is_empty() {
-        division.add_line(alloc, rest)?;
+        division.add_line(alloc, counts, rest)?;
     }
     Ok(division)
 }
 
 // Divides the lines that came whole before a limit was passed or the source failed.
-fn divide_accepted(alloc: Global, bytes: &[u8]) -> Result<Division, AllocError>
+fn divide_accepted(alloc: Global, bytes: &[u8], counts: &LineCounts) -> Result<Division, AllocError>
     ensures { IfOk result (λ division. IsDivided (race_requests (accepted race_limits bytes.now)) division) }
 {
     let mut division = Division::new(alloc);
@@ -160,7 +167,7 @@ fn divide_accepted(alloc: Global, bytes: &[u8]) -> Result<Division, AllocError>
         if line.len() > LONGEST_LINE {
             return Ok(division);
         }
-        division.add_line(alloc, line)?;
+        division.add_line(alloc, counts, line)?;
         rest = rest.split_at(line.len() + 1).1;
         left -= 1;
     }
@@ -173,7 +180,11 @@ pub fn divide(alloc: Global, script: &Script) -> Result<Division, AllocError>
     ensures { IfOk result (λ division. IsDivided (race_requests (answered_lines script.now.end script.now.bytes.items)) division) }
 {
     match script.end {
-        ScriptEnd::Whole => divide_whole(alloc, &script.bytes),
-        ScriptEnd::Fault | ScriptEnd::TooLong => divide_accepted(alloc, &script.bytes),
+        ScriptEnd::Whole => divide_whole(alloc, &script.bytes, &script.counts),
+        ScriptEnd::Fault | ScriptEnd::TooLong => divide_accepted(
+            alloc,
+            &script.bytes,
+            &script.counts,
+        ),
     }
 }

@@ -4,6 +4,7 @@ ghost use Rattle.std.specs.Io.KnownBytes.{Consumes};
 ghost use Rattle.clfs_race.specs.Taken.{HasEnded, TakesBytes};
 ghost use Rattle.clfs_race.specs.Stopped.{HasStopped, end_of};
 
+use crate::counts::LineCounts;
 use crate::lines::is_within_limits;
 use clfs_ports::Source;
 use std::alloc::{AllocError, Global};
@@ -32,6 +33,8 @@ pub struct Script {
     pub bytes: Vec<u8>,
     /// How the reading ended.
     pub end: ScriptEnd,
+    // How many lines each client seems to have.
+    pub(crate) counts: LineCounts,
 }
 
 /// How the taking of bytes ended.
@@ -100,6 +103,7 @@ pub fn read_script<S: Source>(alloc: Global, source: &mut S) -> Result<Script, A
 {
     let mut bytes = Vec::new(alloc);
     let stop = take_bytes(alloc, source, &mut bytes)?;
-    let end = end_of(stop, is_within_limits(&bytes));
-    Ok(Script { bytes, end })
+    let mut counts = LineCounts::new();
+    let end = end_of(stop, is_within_limits(&bytes, &mut counts));
+    Ok(Script { bytes, end, counts })
 }

@@ -5,6 +5,7 @@
 //! and `write_journal` put the replies together. A [`Gate`] is what each call passes: a test holds a call there until another one is answered.
 #![tactic(auto)]
 
+mod counts;
 mod dividing;
 mod gate;
 mod input;
@@ -16,4 +17,5 @@ pub use dividing::{ClientCalls, Division, divide};
 pub use gate::{Gate, Pass};
 pub use input::{Script, ScriptEnd, read_script};
 pub use laws::lines_meet_their_conditions;
+pub use lines::{ended_line, without_return};
 pub use writing::{write_bad_lines, write_journal};

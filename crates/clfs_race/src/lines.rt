@@ -4,6 +4,7 @@ ghost use Rattle.clfs_model.specs.Accepted.{race_limits, is_within};
 ghost use Rattle.clfs_model.specs.Lines.{without_return};
 ghost use Rattle.clfs_race.specs.Feeds.{HasNoFeed};
 
+use crate::counts::LineCounts;
 use crate::input::MOST_BYTES;
 use memchr::memchr;
 
@@ -14,7 +15,7 @@ pub(crate) const MOST_LINES: usize = 10000;
 pub(crate) const LONGEST_LINE: usize = 131072;
 
 /// The first line, if its line feed is there, and without it.
-pub(crate) fn ended_line(bytes: &[u8]) -> Option<&[u8]>
+pub fn ended_line(bytes: &[u8]) -> Option<&[u8]>
     ensures { MatchOption result (HasNoFeed bytes.now)
         (λ line. HasNoFeed line.now × (bytes.now ≡ line.now ++ 10 ∷ drop (length line.now + 1) bytes.now)) }
 {
@@ -25,7 +26,7 @@ pub(crate) fn ended_line(bytes: &[u8]) -> Option<&[u8]>
 }
 
 /// The line without a carriage return at its end.
-pub(crate) fn without_return(line: &[u8]) -> &[u8]
+pub fn without_return(line: &[u8]) -> &[u8]
     ensures value { result.now ≡ without_return line.now }
     ensures within { length result.now ≤ length line.now }
 {
@@ -35,8 +36,8 @@ pub(crate) fn without_return(line: &[u8]) -> &[u8]
     }
 }
 
-/// Whether a script is within its limits, with a last line that has no line feed.
-pub(crate) fn is_within_limits(bytes: &[u8]) -> bool
+/// Whether a script is within its limits, with a last line that has no line feed. Its lines are counted by the way.
+pub(crate) fn is_within_limits(bytes: &[u8], counts: &mut LineCounts) -> bool
     ensures { result ≡ is_within race_limits bytes.now }
 {
     if bytes.len() > MOST_BYTES {
@@ -48,11 +49,13 @@ pub(crate) fn is_within_limits(bytes: &[u8]) -> bool
         if line.len() > LONGEST_LINE {
             return false;
         }
+        counts.add(line);
         rest = rest.split_at(line.len() + 1).1;
         count += 1;
     }
     if rest.is_empty() {
         return count <= MOST_LINES;
     }
+    counts.add(rest);
     count < MOST_LINES && rest.len() <= LONGEST_LINE
 }

@@ -1,6 +1,6 @@
 -- One call more of a journal that leads from the opening to a log.
-use Rattle.std.proofs.Common.{◌≡◌, ℕ, ◌+◌, ◌≤◌, ◌^◌, Bool, true, false, refl, sym, ap, subst, ◌∙◌, inl, inr, List, [], ◌∷◌, ◌++◌, length, arith}
-use Rattle.std.specs.Prelude.{◌⊎◌, ◌≢◌, ◌||◌, ◌&&◌, min}
+use Rattle.std.proofs.Common.{◌≡◌, ℕ, ◌+◌, ◌≤◌, Bool, true, false, refl, sym, ap, subst, ◌∙◌, inl, inr, List, [], ◌∷◌, ◌++◌, length, arith}
+use Rattle.std.specs.Prelude.{◌⊎◌, ◌≢◌, ◌||◌, ◌&&◌}
 use Rattle.std.specs.List.{list_any}
 use Rattle.std.proofs.lemmas.Bool.{cases_Bool}
 use Rattle.std.proofs.lemmas.List.Folds.{list_any-append}
@@ -13,12 +13,12 @@ use Rattle.clfs_model.specs.declared.journal.Entry.{Entry}
 use Rattle.clfs_model.specs.declared.refusal.Refusal.{Refusal}
 use Rattle.clfs_model.specs.declared.refusal.Refusal.TheVariants as refusals
 use Rattle.clfs_model.specs.declared.reply.Happened.{Happened}
-use Rattle.clfs_model.specs.declared.reply.Happened.TheVariants.{Fine, Fault, Damage}
+use Rattle.clfs_model.specs.declared.reply.Happened.TheVariants.{Fine, Fault}
 use Rattle.clfs_model.specs.declared.reply.Reply.{Reply}
 use Rattle.clfs_model.specs.declared.reply.Reply.TheVariants as replies
 use Rattle.clfs_model.specs.declared.state.State.{State}
 use Rattle.clfs_model.specs.Happened.{happened_of, happened_of_refusal}
-use Rattle.clfs_model.specs.Journals.{GoesOn, IsNext, IsLegal, mine}
+use Rattle.clfs_model.specs.Journals.{GoesOn, IsLegal, mine}
 use Rattle.clfs_model.specs.Run.{asks}
 use Rattle.clfs_model.specs.Step.{Step, IsBroken, IsDamaged}
 use Rattle.clfs_model.specs.Valid.{IsValid}
@@ -29,7 +29,7 @@ use Rattle.clfs_manager.specs.Written.{WritesDisk}
 use Rattle.clfs_manager.specs.Calls.{IsSmall}
 use Rattle.clfs_shared.specs.declared.opening.Opening.{Opening}
 use Rattle.clfs_shared.specs.Crashes.{IsLeftByEntries, MakesCall}
-use Rattle.clfs_shared.specs.Journal.{entry_of, is_fault, is_damage, has_fault, has_damage, is_out_of_memory}
+use Rattle.clfs_shared.specs.Journal.{entry_of, is_fault, is_damage, has_fault, is_out_of_memory}
 use Rattle.clfs_shared.specs.Reached.{IsReached, is_calm}
 use Rattle.clfs_shared.specs.Rooms.{FitsSpare}
 use Rattle.clfs_shared.specs.Sessions.{HasRun}

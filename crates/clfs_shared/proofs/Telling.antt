@@ -8,7 +8,7 @@ use Rattle.std.proofs.lemmas.List.Folds.{list_any-append}
 use Rattle.clfs_disk.specs.State.{DiskState}
 use Rattle.clfs_lsn.specs.Size.{own as size}
 use Rattle.clfs_laws.specs.Needs.{area_number, is_for_room}
-use Rattle.clfs_laws.specs.Rows.{AreaRow, row_in, row_through, NoneMakesOrEnds}
+use Rattle.clfs_laws.specs.Rows.{row_in, row_through, NoneMakesOrEnds}
 use Rattle.clfs_model.specs.Valid.{IsValid}
 use Rattle.clfs_model.specs.declared.call.Call.{Call}
 use Rattle.clfs_model.specs.declared.call.Call.TheVariants as calls
@@ -26,7 +26,7 @@ use Rattle.clfs_model.specs.State.{area_of}
 use Rattle.clfs_model.specs.Happened.{happened_of}
 use Rattle.clfs_model.specs.Journals.{GoesOn, IsLegal, mine, held_in, held_by}
 use Rattle.clfs_model.specs.Step.{Step, IsDamaged}
-use Rattle.clfs_turn.specs.Calls.{Called, IsAdded}
+use Rattle.clfs_turn.specs.Calls.{Called}
 use Rattle.clfs_turn.specs.Lists.{is_in}
 use Rattle.clfs_turn.specs.Seats.{IsNewSeat, IsSameSeat}
 use Rattle.clfs_shared.specs.declared.opening.Opening.{Opening}

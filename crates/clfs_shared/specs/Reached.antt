@@ -1,5 +1,5 @@
 -- What is true of a log behind the lock: how its journal leads from the opening to it.
-use Rattle.std.specs.Prelude.{◌≡◌, ℕ, ◌≤◌, Bool, true, false, ◌&&◌, List, [], refl}
+use Rattle.std.specs.Prelude.{◌≡◌, ◌≤◌, Bool, true, false, ◌&&◌, List, [], refl}
 use Rattle.std.proofs.Common.{sym, subst, le_refl}
 use Rattle.std.proofs.Math.Nat.{lt_irrefl, lt_of_lt_of_le}
 use Rattle.std.proofs.lemmas.Bool.{true≢false}

@@ -1,5 +1,5 @@
 -- How large a reply is at most, of which a copy is kept.
-use Rattle.std.specs.Prelude.{ℕ, ◌≤◌, length}
+use Rattle.std.specs.Prelude.{◌≤◌, length}
 use Rattle.clfs_lsn.specs.Limits.{most_containers}
 use Rattle.clfs_lsn.specs.Size.{most_data}
 use Rattle.clfs_model.specs.declared.reply.Reply.{Reply}

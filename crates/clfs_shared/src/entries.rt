@@ -1,5 +1,5 @@
 // The entries of a journal that grows, with each client's count, so that the number of the next one costs no search.
-ghost use Rattle.std.specs.Prelude.{◌≡◌, ◌+◌, ◌<◌, ◌≤◌, ◌∷◌, ◌++◌, [], length, replicate, OnOk};
+ghost use Rattle.std.specs.Prelude.{◌≡◌, ◌+◌, ◌<◌, ◌∷◌, ◌++◌, [], length, replicate, IfOk, OnOk};
 ghost use Rattle.clfs_model.specs.Journals.{mine};
 
 use clfs_model::{Entry, Journal};
@@ -37,14 +37,15 @@ fn no_counts() -> [u64; CLIENTS]
 }
 
 impl Entries {
-    /// No entries.
-    pub fn new(alloc: Global) -> Entries
-        ensures { result.0 ≡ [] }
+    /// No entries, and room for so many.
+    pub fn new(alloc: Global, room: usize) -> Result<Entries, AllocError>
+        ensures { IfOk result (λ entries. entries.0 ≡ []) }
     {
-        Entries {
-            entries: Vec::new(alloc),
+        let entries = Vec::with_capacity(alloc, room)?;
+        Ok(Entries {
+            entries,
             counts: no_counts(),
-        }
+        })
     }
 
     /// How many entries there are.

@@ -28,11 +28,11 @@ impl Recorder for KeptJournal {
 
     ghost entries_of = { λ journal. journal };
 
-    fn new(alloc: Global) -> KeptJournal {
-        KeptJournal {
-            entries: Entries::new(alloc),
+    fn new(alloc: Global, calls: usize) -> Result<KeptJournal, AllocError> {
+        Ok(KeptJournal {
+            entries: Entries::new(alloc, calls)?,
             spare: Spare::new(alloc),
-        }
+        })
     }
 
     fn count(&self) -> u64 {

@@ -2,8 +2,11 @@
 // one behind the other, so that the first of them writes what all the others wait for. A kind is served for as many calls as waited when its turn
 // began, so that neither waits for ever while the other comes again and again. No clause rests on any of this.
 //
-// A thread that comes sleeps where its kind waits for as long as it must. Who leaves wakes one thread of the kind that comes next. Nobody's wake is
-// lost: a thread counts itself among those that wait, and looks whether it must, under the same lock under which the one that leaves counts them.
+// A thread that comes sleeps where its kind waits for as long as it must. Who leaves wakes one thread of the kind that comes next, if one of it waits.
+// Nobody's wake is lost. A thread counts itself among those that wait, and looks whether it must, under the same lock under which the one that leaves
+// counts them, and it stays counted while it sleeps. So who leaves and wakes nobody has seen none of the kind that comes next; then there is none of
+// the other kind either, since that one would come next, and nobody sleeps. Who comes after that finds no call being made, and needn't wait. If a
+// thread comes and is let in before the one that was woken looks, it is the next that leaves, and wakes again.
 use clfs_model::Call;
 use std::sync::{Condvar, Mutex, Wait};
 
@@ -141,11 +144,13 @@ impl Order {
         waiting.go_in(kind);
     }
 
-    /// The call is made. One that waits is woken.
+    /// The call is made. One that waits is woken, if there is one.
     pub fn leave<R: Wait>(&self, rt: &R) {
         let mut waiting = self.waiting.lock(rt);
         waiting.busy = false;
         let next = waiting.next();
-        self.place(next).notify_one();
+        if waiting.count(next) > 0 {
+            self.place(next).notify_one();
+        }
     }
 }

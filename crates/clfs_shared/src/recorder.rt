@@ -1,5 +1,5 @@
 // How a shared log keeps its journal: as entries in memory, or told to contracts alone.
-ghost use Rattle.std.specs.Prelude.{◌≡◌, ℕ, ◌+◌, ◌<◌, List, [], ◌∷◌, ◌++◌, length, IfOk};
+ghost use Rattle.std.specs.Prelude.{◌≡◌, ◌+◌, ◌<◌, List, [], ◌∷◌, ◌++◌, length, IfOk};
 ghost use Rattle.clfs_model.specs.declared.call.Call.{Call};
 ghost use Rattle.clfs_model.specs.declared.journal.Entry.{Entry};
 ghost use Rattle.clfs_model.specs.Journals.{mine};
@@ -26,9 +26,9 @@ pub trait Recorder: Drop {
     // The entries of a journal that was handed out.
     ghost entries_of: { Self.Journal → List Entry };
 
-    /// No entries. It takes the memory that it needs of `alloc`.
-    fn new(alloc: Global) -> Self
-        ensures { entries result ≡ [] };
+    /// No entries, and if they are kept, room for those of so many calls. It takes the memory that it needs of `alloc`.
+    fn new(alloc: Global, calls: usize) -> Result<Self, AllocError>
+        ensures { IfOk result (λ journal. entries journal ≡ []) };
 
     /// How many entries there are.
     fn count(&self) -> u64

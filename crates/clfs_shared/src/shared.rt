@@ -20,7 +20,7 @@ ghost use Rattle.clfs_shared.specs.Reached.{opening_of, is_calm, IsReached};
 ghost use Rattle.clfs_shared.specs.Sessions.{own_entries, HasAreas, IsCalmReply, IsOf, IsStepped, IsLegalFrom};
 
 use crate::kept::KeptJournal;
-use crate::locked::{ClientCall, LockedLog};
+use crate::locked::{ClientCall, LockedLog, LogWithJournal};
 use crate::opening::Opening;
 use crate::order::{Order, kind_of};
 use crate::recorder::Recorder;
@@ -93,7 +93,26 @@ impl<D: Disk> SharedLog<D> {
         ensures belong { IfOk result (λ t. All (λ s. IsOf t.0 s) t.1.items) }
         ensures refused { IfErr result (λ r. r.manager ≡ manager) }
     {
-        SharedLog::share(alloc, manager, clients)
+        SharedLog::share(alloc, manager, clients, 0)
+    }
+
+    /// Shares a log as `start` does, with room for the entries of so many calls, which is taken at once. More calls can be made, and fewer.
+    pub fn start_for(
+        alloc: Global,
+        manager: Manager<D>,
+        clients: &[u16],
+        calls: usize,
+    ) -> Result<(SharedLog<D>, Vec<Session>), StartRefused<D>>
+        requires some { 0 < length clients.now }
+        requires apart { are_distinct clients.now ≡ true }
+        requires ranges { (c : ℕ) → is_in c clients.now ≡ true → IsClient c }
+        ensures log { IfOk result (λ t. (t.0.opening ≡ opening_of manager.0 (D.state manager.1)) × (t.0.clients ≡ clients.now)) }
+        ensures clients { IfOk result (λ t. map (λ s. s.client) t.1.items ≡ clients.now) }
+        ensures sessions { IfOk result (λ t. All (λ s. IsNewSeat t.0 s) t.1.items) }
+        ensures belong { IfOk result (λ t. All (λ s. IsOf t.0 s) t.1.items) }
+        ensures refused { IfErr result (λ r. r.manager ≡ manager) }
+    {
+        SharedLog::share(alloc, manager, clients, calls)
     }
 }
 
@@ -114,7 +133,7 @@ impl<D: Disk> SharedLog<D, ToldJournal> {
         ensures belong { IfOk result (λ t. All (λ s. IsOf t.0 s) t.1.items) }
         ensures refused { IfErr result (λ r. r.manager ≡ manager) }
     {
-        SharedLog::share(alloc, manager, clients)
+        SharedLog::share(alloc, manager, clients, 0)
     }
 }
 
@@ -124,6 +143,7 @@ impl<D: Disk, J: Recorder> SharedLog<D, J> {
         alloc: Global,
         manager: Manager<D>,
         clients: &[u16],
+        calls: usize,
     ) -> Result<(SharedLog<D, J>, Vec<Session>), StartRefused<D>>
         requires some { 0 < length clients.now }
         requires apart { are_distinct clients.now ≡ true }
@@ -135,21 +155,20 @@ impl<D: Disk, J: Recorder> SharedLog<D, J> {
         ensures refused { IfErr result (λ r. r.manager ≡ manager) }
     {
         manager.stored();
-        let locked = LockedLog {
-            manager,
-            journal: J::new(alloc),
+        let locked = match LockedLog::new(alloc, manager, calls) {
+            Ok(locked) => locked,
+            Err(manager) => return Err(StartRefused { manager }),
         };
         match Turn::new(alloc, locked, clients) {
             Ok((turn, sessions)) => {
                 let order = Order::new();
                 Ok((SharedLog { turn, order }, sessions))
             }
-            Err(refused) => {
-                let TurnRefused { value } = refused;
-                let LockedLog {
+            Err(TurnRefused { value }) => {
+                let LogWithJournal {
                     manager,
                     journal: _,
-                } = value;
+                } = value.into_parts();
                 Err(StartRefused { manager })
             }
         }
@@ -233,7 +252,7 @@ impl<D: Disk, J: Recorder> SharedLog<D, J> {
         ensures reached { IsReached self.opening (D.state result.manager.1) result.manager.0 (J.entries_of result.journal) }
     {
         let SharedLog { turn, order: _ } = self;
-        let LockedLog { manager, journal } = turn.close(sessions);
+        let LogWithJournal { manager, journal } = turn.close(sessions).into_parts();
         Closed {
             manager,
             journal: journal.into_journal(),

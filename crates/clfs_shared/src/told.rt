@@ -52,11 +52,11 @@ impl Recorder for ToldJournal {
 
     ghost entries_of = { λ j. j };
 
-    fn new(_alloc: Global) -> ToldJournal {
-        ToldJournal {
+    fn new(_alloc: Global, _calls: usize) -> Result<ToldJournal, AllocError> {
+        Ok(ToldJournal {
             count: 0,
             entries: none(),
-        }
+        })
     }
 
     fn count(&self) -> u64 {

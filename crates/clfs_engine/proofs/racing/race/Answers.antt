@@ -6,11 +6,13 @@ use Rattle.clfs_shared.specs.Reached.{opening_of}
 use Rattle.clfs_engine.specs.Ran.{HasRun, TellsRace}
 use Rattle.clfs_engine.proofs.Loaded.{IsLoaded, IsKeptOn}
 use Rattle.clfs_engine.proofs.RaceEnds.{race_ends, race_refused}
+use Rattle.clfs_engine.proofs.RaceThrough.{race_comes_through}
 use Rattle.clfs_engine.proofs.TakenCalls.{JournalLaws, has_taken}
+use Rattle.clfs_engine.proofs.Through.{AreOne}
 use Rattle.clfs_engine.proofs.racing.race.Goals as goal
 
-pub returns-in-Ok-load : goal.returns-in-Ok-load
-returns-in-Ok-load g c =
+pub returns-in-Ok-load-clause-ends : goal.returns-in-Ok-load-clause-ends
+returns-in-Ok-load-clause-ends g c =
     let old = g.D.Disk.state c.args.disk in
     let mid = g.D.Disk.state c.in-Ok-load.manager.1 in
     let raced = c.race_over-raced.result in
@@ -49,8 +51,8 @@ returns-in-Ok-load g c =
     (has_taken c.args.write_buffers old mid new s t loaded kept laws division.scripts.items raced.journal raced.whole run) run c.in-Ok.script.end c.told-status.result
     c.in-Ok.ensures.ended c.in-Ok-divide.ensures tells c.in-Ok.ensures.count)
 
-pub returns : goal.returns
-returns g c =
+pub returns-clause-ends : goal.returns-clause-ends
+returns-clause-ends g c =
     let load = c.in-Err.ensures in
     race_refused c.refused.result c.args.write_buffers c.in-Err.field-0.cause (g.D.Disk.state c.args.disk) (g.D.Disk.state c.in-Err.field-0.disk) _ _ _ _ _ _ _ _
     (record {
@@ -61,3 +63,13 @@ returns g c =
       time = load.same_refused.1;
     })
     c.refused.ensures (c.in-Ok.script.bytes.items, c.in-Ok.ensures.taken) c.in-Ok.ensures.count
+
+pub returns-in-Ok-load-clause-complete : goal.returns-in-Ok-load-clause-complete
+returns-in-Ok-load-clause-complete g c =
+    let one : AreOne = record { no_damage = c.files_have_one_meaning.ensures.no_damage; no_base = c.files_have_one_meaning.ensures.no_base } in
+    race_comes_through one (record { fine = c.unbroken_stays.ensures.fine }) _ _ _ _ _ _ _ _ _ _ _ _ (returns-in-Ok-load-clause-ends g c)
+
+pub returns-clause-complete : goal.returns-clause-complete
+returns-clause-complete g c =
+    let one : AreOne = record { no_damage = c.files_have_one_meaning.ensures.no_damage; no_base = c.files_have_one_meaning.ensures.no_base } in
+    race_comes_through one (record { fine = c.unbroken_stays.ensures.fine }) _ _ _ _ _ _ _ _ _ _ _ _ (returns-clause-ends g c)

@@ -1,11 +1,10 @@
-use Rattle.std.proofs.Common.{◌≡◌, ◌∙◌, ℕ, List, [], true, false, map, length, refl, sym, ap, subst, arith}
-use Rattle.std.specs.Prelude.{All, ◌==◌}
+use Rattle.std.proofs.Common.{◌≡◌, ◌∙◌, ℕ, List, [], true, false, map, length, sym, ap, subst}
 use Rattle.std.proofs.lemmas.Bool.{eqb-true}
 use Rattle.clfs_turn.specs.Lists.{is_in}
 use Rattle.clfs_model.specs.Journals.{ClientScript, mine}
 use Rattle.clfs_race.specs.Divided.{clients_of}
-use Rattle.clfs_shared.specs.Reached.{opening_of, IsReached}
-use Rattle.clfs_shared.specs.Sessions.{SessionState, IsOf}
+use Rattle.clfs_shared.specs.Reached.{IsReached}
+use Rattle.clfs_shared.specs.Sessions.{SessionState}
 use Rattle.clfs_shared.specs.declared.opening.Opening.{Opening}
 use Rattle.clfs_engine.proofs.Clients.{AllMade, all_made, as_many, same_clients, new_are_of, still_of, fronts_in, all_in, clients_in_range, none_ran}
 use Rattle.clfs_engine.proofs.racing.race_over.Goals as goal
@@ -21,47 +20,47 @@ returns-in_default g c =
     rw (c.untouched-in_default.ensures.manager, c.untouched-in_default.ensures.journal, c.untouched-in_default.ensures.whole)
     (none_ran c.args.manager.0 (g.D.Disk.state c.args.manager.1) c.args.scripts.now false (λ e. absurd (cc e)))
 
-pub start-requires-clause-ranges : goal.start-requires-clause-ranges
-start-requires-clause-ranges g c = λ k is.
+pub start_for-requires-clause-ranges : goal.start_for-requires-clause-ranges
+start_for-requires-clause-ranges g c = λ k is.
     let named : c.deref.result.now ≡ clients_of c.args.scripts.now = c.deref.ensures.value ∙ c.in-Ok.ensures in
     c.requires.clients k (ap (λ (cs : List ℕ). is_in k cs) (sym named) ∙ is)
 
 pub run_clients-requires-clause-log : goal.run_clients-requires-clause-log
 run_clients-requires-clause-log g c κs within =
-    let started = c.in-Ok-start.ensures in
-    new_are_of c.in-Ok-start.log c.in-Ok-start.sessions.items started.sessions
+    let started = c.in-Ok-start_for.ensures in
+    new_are_of c.in-Ok-start_for.log c.in-Ok-start_for.sessions.items started.sessions
     (λ k is. ap (λ (cs : List ℕ). is_in k cs) (started.log.1 ∙ sym started.clients) ∙ is)
 
 pub close-manager-requires-clause-log : goal.close-manager-requires-clause-log
 close-manager-requires-clause-log g c =
-    let started = c.in-Ok-start.ensures in
-    let ss : List SessionState = c.in-Ok-start.sessions.items in
+    let started = c.in-Ok-start_for.ensures in
+    let ss : List SessionState = c.in-Ok-start_for.sessions.items in
     let ts : List SessionState = c.run_clients.new.sessions.items in
     let scripts : List ClientScript = c.args.scripts.now in
     let named : map (λ (s : SessionState). s.client) ss ≡ clients_of scripts = started.clients ∙ c.deref.ensures.value ∙ c.in-Ok.ensures in
     let made : AllMade ss ts scripts = all_made ss ts scripts (as_many ss scripts named) c.run_clients.ensures.many c.run_clients.ensures.made in
-    still_of c.in-Ok-start.log ss ts scripts made
-    (new_are_of c.in-Ok-start.log ss started.sessions (λ k is. ap (λ (cs : List ℕ). is_in k cs) (started.log.1 ∙ sym started.clients) ∙ is))
+    still_of c.in-Ok-start_for.log ss ts scripts made
+    (new_are_of c.in-Ok-start_for.log ss started.sessions (λ k is. ap (λ (cs : List ℕ). is_in k cs) (started.log.1 ∙ sym started.clients) ∙ is))
 
 pub close-manager-requires-clause-all : goal.close-manager-requires-clause-all
 close-manager-requires-clause-all g c = λ k is.
-    let started = c.in-Ok-start.ensures in
-    let ss : List SessionState = c.in-Ok-start.sessions.items in
+    let started = c.in-Ok-start_for.ensures in
+    let ss : List SessionState = c.in-Ok-start_for.sessions.items in
     let ts : List SessionState = c.run_clients.new.sessions.items in
     let scripts : List ClientScript = c.args.scripts.now in
     let named : map (λ (s : SessionState). s.client) ss ≡ clients_of scripts = started.clients ∙ c.deref.ensures.value ∙ c.in-Ok.ensures in
     let made : AllMade ss ts scripts = all_made ss ts scripts (as_many ss scripts named) c.run_clients.ensures.many c.run_clients.ensures.made in
     ap (λ (cs : List ℕ). is_in k cs) (same_clients ss ts scripts made ∙ started.clients ∙ sym started.log.1) ∙ is
 
-pub returns-in-Ok-start : goal.returns-in-Ok-start
-returns-in-Ok-start g c =
-    let started = c.in-Ok-start.ensures in
-    let ss : List SessionState = c.in-Ok-start.sessions.items in
+pub returns-in-Ok-start_for : goal.returns-in-Ok-start_for
+returns-in-Ok-start_for g c =
+    let started = c.in-Ok-start_for.ensures in
+    let ss : List SessionState = c.in-Ok-start_for.sessions.items in
     let ts : List SessionState = c.run_clients.new.sessions.items in
     let scripts : List ClientScript = c.args.scripts.now in
     let closed = c.close-manager.result in
     let others = c.close-manager.ensures.others in
-    let log = c.in-Ok-start.log in
+    let log = c.in-Ok-start_for.log in
     let clients : log.clients ≡ clients_of scripts = started.log.1 ∙ c.deref.ensures.value ∙ c.in-Ok.ensures in
     let named : map (λ (s : SessionState). s.client) ss ≡ clients_of scripts = started.clients ∙ c.deref.ensures.value ∙ c.in-Ok.ensures in
     let made : AllMade ss ts scripts = all_made ss ts scripts (as_many ss scripts named) c.run_clients.ensures.many c.run_clients.ensures.made in

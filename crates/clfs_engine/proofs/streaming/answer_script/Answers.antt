@@ -7,7 +7,7 @@ use Rattle.clfs_engine.proofs.streaming.answer_script.Goals as goal
 
 pub returns-then-is_empty-clause-done : goal.returns-then-is_empty-clause-done
 returns-then-is_empty-clause-done g c =
-    none_left c.args.manager.now.0 (g.D.Disk.state c.args.manager.now.1) (g.S.Source.left c.args.source.now) (g.S.Source.left c.answer_ended_lines.new.source)
+    none_left c.args.most c.args.manager.now.0 (g.D.Disk.state c.args.manager.now.1) (g.S.Source.left c.args.source.now) (g.S.Source.left c.answer_ended_lines.new.source)
     (g.K.Sink.written c.args.sink.now) c.answer_ended_lines.new.carried.items c.answer_ended_lines.new.manager.0 (g.D.Disk.state c.answer_ended_lines.new.manager.1)
     (g.K.Sink.written c.answer_ended_lines.new.sink) c.in_ok-answer_ended_lines.ensures.ended
     (no_bytes c.answer_ended_lines.new.carried.items (vec_len c.answer_ended_lines.new.carried) c.is_empty.result (omega arith) c.is_empty.ensures c.if-is_empty.true)
@@ -27,8 +27,8 @@ returns-in_default-clause-stopped g c =
     let new = g.D.Disk.state c.answer_line.new.manager.1 in
     let ended = c.in_ok-answer_ended_lines.ensures.ended in
     elim c.in_default.ensures.err [
-      | inl same ↦ rw same (last_unanswered s old left left_after written line mid between w ended)
-      | inr behind ↦ last_unwritten s old left left_after written c.refusals_are_the_calls_own.ensures.own line mid between t new w ended
+      | inl same ↦ rw same (last_unanswered c.args.most s old left left_after written line mid between w ended)
+      | inr behind ↦ last_unwritten c.args.most s old left left_after written c.refusals_are_the_calls_own.ensures.own line mid between t new w ended
           (some_bytes line (vec_len c.answer_ended_lines.new.carried) c.is_empty.result (omega arith) c.is_empty.ensures c.if-is_empty.false) (subst (λ (l : List ℕ). AnswersUnwritten mid between l t new) c.deref.ensures.value behind)
     ]
 
@@ -44,7 +44,7 @@ returns-in-Ok-write_all-clause-done g c =
     let step : AnswersLine mid between line c.new-reply.result c.answer_line.new.out t new =
     subst (λ (l : List ℕ). AnswersLine mid between l c.new-reply.result c.answer_line.new.out t new) c.deref.ensures.value c.in-Ok.ensures.ok in
     let wrote : Appends w1 w2 c.answer_line.new.out = subst (λ (text : List ℕ). Appends w1 w2 text) c.as_slice.ensures c.in-Ok-write_all.ensures.ok in
-    last_answered c.args.manager.now.0 (g.D.Disk.state c.args.manager.now.1) (g.S.Source.left c.args.source.now) (g.S.Source.left c.answer_ended_lines.new.source)
+    last_answered c.args.most c.args.manager.now.0 (g.D.Disk.state c.args.manager.now.1) (g.S.Source.left c.args.source.now) (g.S.Source.left c.answer_ended_lines.new.source)
     (g.K.Sink.written c.args.sink.now) c.refusals_are_the_calls_own.ensures.own line mid between c.new-reply.result c.answer_line.new.out t new w1 w2
     c.in_ok-answer_ended_lines.ensures.ended (some_bytes line (vec_len c.answer_ended_lines.new.carried) c.is_empty.result (omega arith) c.is_empty.ensures c.if-is_empty.false) step c.new-reply.ensures wrote
 
@@ -62,7 +62,7 @@ returns-clause-stopped g c =
     let front : AppendsFront w1 w2 c.answer_line.new.out = subst (λ (text : List ℕ). AppendsFront w1 w2 text) c.as_slice.ensures c.in-Err.ensures.err in
     let rose = c.in-Err.ensures.cause.failed in (
       omega (arith, rose, c.in_ok-answer_ended_lines.ensures.sink_count),
-      last_cut c.args.manager.now.0 (g.D.Disk.state c.args.manager.now.1) (g.S.Source.left c.args.source.now) (g.S.Source.left c.answer_ended_lines.new.source)
+      last_cut c.args.most c.args.manager.now.0 (g.D.Disk.state c.args.manager.now.1) (g.S.Source.left c.args.source.now) (g.S.Source.left c.answer_ended_lines.new.source)
           (g.K.Sink.written c.args.sink.now) c.refusals_are_the_calls_own.ensures.own line mid between c.new-reply.result c.answer_line.new.out t new w1 w2
           c.in_ok-answer_ended_lines.ensures.ended (some_bytes line (vec_len c.answer_ended_lines.new.carried) c.is_empty.result (omega arith) c.is_empty.ensures c.if-is_empty.false) step c.new-reply.ensures front,
     )

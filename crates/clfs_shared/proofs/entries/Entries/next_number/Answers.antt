@@ -1,4 +1,4 @@
-use Rattle.std.proofs.Common.{◌<◌, ◌-◌, ap, ℕ, List, length, arith, ◌≡◌}
+use Rattle.std.proofs.Common.{◌-◌, ap, ℕ, List, arith, ◌≡◌}
 use Rattle.std.specs.Prelude.{vec_len, vec_capacity}
 use Rattle.clfs_model.specs.declared.journal.Entry.{Entry}
 use Rattle.clfs_shared.proofs.Counting.{count_fits}

@@ -9,7 +9,7 @@ pub returns-clause-step : goal.returns-clause-step
 returns-clause-step g c = λ answered.
     let disk = g.D.Disk.state in
     let entries = g.J.Recorder.entries in
-    stepped_by (λ v. entries v.journal) (λ v. v.manager.0) (λ v. disk v.manager.1) c.client-client.result c.args.session.now c.call-reply.new.seat c.args.call.now c.call-reply.result
+    stepped_by (λ v. entries v.log.value.journal) (λ v. v.log.value.manager.0) (λ v. disk v.log.value.manager.1) c.client-client.result c.args.session.now c.call-reply.new.seat c.args.call.now c.call-reply.result
     c.client-client.ensures c.call-reply.ensures.called c.call-reply.ensures.same answered
 
 pub returns-clause-areas : goal.returns-clause-areas

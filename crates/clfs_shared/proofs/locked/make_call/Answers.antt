@@ -1,7 +1,7 @@
 use Rattle.std.proofs.Common.{sym, ◌∙◌}
 use Rattle.clfs_model.specs.Happened.{happened_of}
 use Rattle.clfs_shared.proofs.Reaching.{behind, calls_by, fits_spare, memory_leaves, ran_out, reached_more, same_clock, still_at}
-use Rattle.clfs_shared.proofs.locked.ClientCallJobLockedLogEntryOpening.run.Goals as goal
+use Rattle.clfs_shared.proofs.locked.make_call.Goals as goal
 
 pub returns-clause-lawful : goal.returns-clause-lawful
 returns-clause-lawful g c = λ o reached.
@@ -17,11 +17,11 @@ returns-clause-lawful g c = λ o reached.
       breaks = c.faults_break.ensures.fault;
       stays = c.broken_stays.ensures.calls;
       keeps = c.refusals_change_nothing.ensures.calls;
-    }) o (disk x.manager.1) (disk next.1) x.manager.0 next.0 (entries x.journal) c.args.self.client c.args.self.call.now reply
-    (calls_by (disk x.manager.1) (disk next.1) x.manager.0 next.0 c.args.self.client c.args.self.call.now reply c.step-reply.ensures.step c.step-reply.ensures.writes
+    }) o (disk x.manager.1) (disk next.1) x.manager.0 next.0 (entries x.journal) c.args.client c.args.call.now reply
+    (calls_by (disk x.manager.1) (disk next.1) x.manager.0 next.0 c.args.client c.args.call.now reply c.step-reply.ensures.step c.step-reply.ensures.writes
     c.step-reply.ensures.damage c.step-reply.ensures.moments (λ broken. same_clock disk next.1 x.manager.1 (c.step-reply.ensures.stopped broken)))
     reached (entries c.record.new.self) (sym c.is_out_of_memory.ensures ∙ c.if-is_out_of_memory.false)
-    (behind c.args.self.client c.args.self.call.now reply (entries x.journal) (entries c.prepare.new.self) (entries c.record.new.self) c.record.ensures c.prepare.ensures.same)
+    (behind c.args.client c.args.call.now reply (entries x.journal) (entries c.prepare.new.self) (entries c.record.new.self) c.record.ensures c.prepare.ensures.same)
 
 pub returns-then-is_out_of_memory-clause-lawful : goal.returns-then-is_out_of_memory-clause-lawful
 returns-then-is_out_of_memory-clause-lawful g c = λ o reached.
@@ -37,8 +37,8 @@ returns-then-is_out_of_memory-clause-lawful g c = λ o reached.
       breaks = c.faults_break.ensures.fault;
       stays = c.broken_stays.ensures.calls;
       keeps = c.refusals_change_nothing.ensures.calls;
-    }) o (disk x.manager.1) (disk next.1) x.manager.0 next.0 (entries x.journal) (entries c.prepare.new.self) c.args.self.client c.args.self.call.now reply
-    (calls_by (disk x.manager.1) (disk next.1) x.manager.0 next.0 c.args.self.client c.args.self.call.now reply c.step-reply.ensures.step c.step-reply.ensures.writes
+    }) o (disk x.manager.1) (disk next.1) x.manager.0 next.0 (entries x.journal) (entries c.prepare.new.self) c.args.client c.args.call.now reply
+    (calls_by (disk x.manager.1) (disk next.1) x.manager.0 next.0 c.args.client c.args.call.now reply c.step-reply.ensures.step c.step-reply.ensures.writes
     c.step-reply.ensures.damage c.step-reply.ensures.moments (λ broken. same_clock disk next.1 x.manager.1 (c.step-reply.ensures.stopped broken)))
     reached (sym c.is_out_of_memory.ensures ∙ c.if-is_out_of_memory.true) c.prepare.ensures.same
 
@@ -50,7 +50,7 @@ returns-then-is_out_of_memory-clause-ran g c =
     let next = c.step-reply.new.self in
     let reply = c.step-reply.result in
     let wanting = sym c.is_out_of_memory.ensures ∙ c.if-is_out_of_memory.true in
-    ran_out told x.manager.0 next.0 (entries x.journal) (entries c.prepare.new.self) c.args.self.client c.args.self.call.now reply wanting c.prepare.ensures.same
+    ran_out told x.manager.0 next.0 (entries x.journal) (entries c.prepare.new.self) c.args.client c.args.call.now reply wanting c.prepare.ensures.same
     (memory_leaves (record {
       joins = c.journals_join.ensures.legal;
       passes = c.whole_files_pass_the_test.ensures.passes;
@@ -58,11 +58,11 @@ returns-then-is_out_of_memory-clause-ran g c =
       breaks = c.faults_break.ensures.fault;
       stays = c.broken_stays.ensures.calls;
       keeps = c.refusals_change_nothing.ensures.calls;
-    }) told x.manager.0 next.0 c.args.self.client c.args.self.call.now reply c.step-reply.ensures.step wanting)
+    }) told x.manager.0 next.0 c.args.client c.args.call.now reply c.step-reply.ensures.step wanting)
 
 pub record-requires-clause-small : goal.record-requires-clause-small
 record-requires-clause-small g c =
     let x = c.args.value.now in
     let reply = c.step-reply.result in
-    fits_spare c.extents_are_few.ensures.step (g.D.Disk.state x.manager.1).nature.tells_contents x.manager.0 c.args.self.client c.args.self.call.now (happened_of reply) reply
+    fits_spare c.extents_are_few.ensures.step (g.D.Disk.state x.manager.1).nature.tells_contents x.manager.0 c.args.client c.args.call.now (happened_of reply) reply
     c.step-reply.new.self.0 c.stored.ensures.valid c.step-reply.ensures.small c.step-reply.ensures.step

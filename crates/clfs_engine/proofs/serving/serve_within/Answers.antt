@@ -1,8 +1,9 @@
 use Rattle.clfs_engine.specs.Answered.{AnswersLines, AnswersInPart}
+use Rattle.clfs_engine.specs.Taken.{script_limits}
 use Rattle.clfs_engine.proofs.Loaded.{IsLoaded, IsKeptOn, is_answered, is_answered_in_part}
 use Rattle.clfs_engine.proofs.ServingEnds.{answering_serves, refusal_serves}
 use Rattle.clfs_engine.proofs.Through.{AreOne, comes_through}
-use Rattle.clfs_engine.proofs.serving.serve.Goals as goal
+use Rattle.clfs_engine.proofs.serving.serve_within.Goals as goal
 
 pub returns-in-Ok-clause-ends : goal.returns-in-Ok-clause-ends
 returns-in-Ok-clause-ends g c =
@@ -23,14 +24,14 @@ returns-in-Ok-clause-ends g c =
       left = c.stored.ensures.survives_nothing 0;
     } in
     let kept : IsKeptOn t new = record { files = c.stored-in-Ok.ensures.files; settled = c.stored-in-Ok.ensures.settled } in
-    rw c.close.ensures (answering_serves (AnswersLines s mid t new) (AnswersInPart s mid t new) c.served-status.result c.args.write_buffers old new _ _ _ _ _ _ _ _
+    rw c.close.ensures (answering_serves (script_limits c.args.most) (AnswersLines s mid t new) (AnswersInPart s mid t new) c.served-status.result c.args.write_buffers old new _ _ _ _ _ _ _ _
     (is_answered c.args.write_buffers old mid new s t loaded kept) (is_answered_in_part c.args.write_buffers old mid new s t loaded kept)
     c.served-status.ensures)
 
 pub returns-in-Err-clause-ends : goal.returns-in-Err-clause-ends
 returns-in-Err-clause-ends g c =
     let load = c.in-Err.ensures in
-    refusal_serves c.refused.result c.args.write_buffers c.in-Err.field-0.cause (g.D.Disk.state c.args.disk) (g.D.Disk.state c.in-Err.field-0.disk) _ _ _ _ _ _
+    refusal_serves (script_limits c.args.most) c.refused.result c.args.write_buffers c.in-Err.field-0.cause (g.D.Disk.state c.args.disk) (g.D.Disk.state c.in-Err.field-0.disk) _ _ _ _ _ _
     (record {
       is = load.refused;
       cause = load.cause;
@@ -43,9 +44,9 @@ returns-in-Err-clause-ends g c =
 pub returns-in-Ok-clause-complete : goal.returns-in-Ok-clause-complete
 returns-in-Ok-clause-complete g c =
     let one : AreOne = record { no_damage = c.files_have_one_meaning.ensures.no_damage; no_base = c.files_have_one_meaning.ensures.no_base } in
-    comes_through one _ _ _ _ _ _ _ _ _ _ _ _ (returns-in-Ok-clause-ends g c)
+    comes_through (script_limits c.args.most) one _ _ _ _ _ _ _ _ _ _ _ _ (returns-in-Ok-clause-ends g c)
 
 pub returns-in-Err-clause-complete : goal.returns-in-Err-clause-complete
 returns-in-Err-clause-complete g c =
     let one : AreOne = record { no_damage = c.files_have_one_meaning.ensures.no_damage; no_base = c.files_have_one_meaning.ensures.no_base } in
-    comes_through one _ _ _ _ _ _ _ _ _ _ _ _ (returns-in-Err-clause-ends g c)
+    comes_through (script_limits c.args.most) one _ _ _ _ _ _ _ _ _ _ _ _ (returns-in-Err-clause-ends g c)

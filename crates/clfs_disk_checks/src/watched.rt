@@ -1,0 +1,191 @@
+// When something is written of a folder's reading, on a terminal that counts it, by a clock of its own.
+use clfs_disk::Disk;
+use clfs_files::{EndsProgress, Folder, Progress, Watched};
+use clfs_ports::{Sink, SteadySink};
+use std::fmt::Display;
+use std::io::{self, Eprint, IsTerminal};
+use std::process::{self, Abort};
+use std::sync::atomic::{AtomicU64, Ordering};
+use std::test::Fail;
+use std::time::{Clock, Duration};
+use std::{env, fs};
+
+// What standard error is, and how many milliseconds go by whenever the clock is read.
+#[derive(Clone, Copy)]
+struct Screen<'a> {
+    is_terminal: bool,
+    pace: u64,
+    time: &'a AtomicU64,
+    written: &'a AtomicU64,
+}
+
+impl IsTerminal for Screen<'_> {
+    fn is_terminal(&self) -> bool {
+        self.is_terminal
+    }
+}
+
+impl Clock for Screen<'_> {
+    fn monotonic(&self) -> io::Result<Duration> {
+        Ok(Duration::from_millis(self.time.fetch_add(self.pace, Ordering::SeqCst)))
+    }
+
+    fn since_1970(&self) -> io::Result<Duration> {
+        Ok(Duration::ZERO)
+    }
+}
+
+impl Eprint for Screen<'_> {
+    fn eprint<D: Display + Drop>(&self, _value: D) -> io::Result<()> {
+        self.written.fetch_add(1, Ordering::SeqCst);
+        Ok(())
+    }
+
+    fn eprintln<D: Display + Drop>(&self, value: D) -> io::Result<()> {
+        self.eprint(value)
+    }
+}
+
+// What is done with the folder, and how often something was written on the terminal by then.
+#[derive(Clone, Copy)]
+enum Step {
+    Sync(u64),
+    // A mebibyte at most of a file from a place on.
+    Read(u16, u64, u64),
+    Write(u64),
+    // A piece of a report.
+    Print(u64),
+}
+
+fn does<D: Disk, K: Sink>(disk: &mut D, sink: &mut K, piece: &mut [u8], step: Step) -> (bool, u64) {
+    match step {
+        Step::Sync(written) => (disk.sync().is_ok(), written),
+        Step::Read(file, at, written) if file <= 256 => (
+            disk.read(file, at, piece).is_ok(),
+            written,
+        ),
+        Step::Read(_, _, written) => (false, written),
+        Step::Write(written) => (disk.write(1, 0, b"a").is_ok(), written),
+        Step::Print(written) => (sink.write(b"a").is_ok(), written),
+    }
+}
+
+// Over a clock that goes on by 600 milliseconds.
+const OPENED: &[Step] = &[
+    Step::Sync(0),
+    Step::Read(0, 0, 0),
+    Step::Read(1, 0, 1),
+    Step::Read(1, 1_000_000, 2),
+    Step::Read(2, 0, 3),
+    Step::Write(4),
+    Step::Read(1, 0, 4),
+    Step::Sync(4),
+];
+
+// What comes next ends it: a second sync, a read that goes back or begins elsewhere, or a report.
+const ENDED: &[&[Step]] = &[
+    &[
+        Step::Sync(0),
+        Step::Read(0, 0, 0),
+        Step::Read(1, 0, 1),
+        Step::Sync(2),
+        Step::Read(2, 0, 2),
+    ],
+    &[
+        Step::Sync(0),
+        Step::Read(0, 0, 0),
+        Step::Read(1, 0, 1),
+        Step::Read(1, 0, 2),
+        Step::Read(2, 0, 2),
+    ],
+    &[
+        Step::Sync(0),
+        Step::Read(0, 0, 0),
+        Step::Read(1, 0, 1),
+        Step::Read(2, 7, 2),
+        Step::Read(2, 0, 2),
+    ],
+    &[
+        Step::Sync(0),
+        Step::Read(0, 0, 0),
+        Step::Read(1, 0, 1),
+        Step::Print(2),
+        Step::Read(2, 0, 2),
+    ],
+];
+
+// Before the first second nothing is written, and on what is no terminal never.
+const QUIET: &[Step] = &[
+    Step::Print(0),
+    Step::Sync(0),
+    Step::Read(0, 0, 0),
+    Step::Read(1, 0, 0),
+    Step::Read(1, 1_000_000, 0),
+    Step::Read(2, 0, 0),
+    Step::Write(0),
+    Step::Print(0),
+];
+
+fn own_path(rt: &HostRuntime) -> io::Result<String> {
+    let folder = env::temp_dir(rt)?;
+    let process = process::id(rt.process());
+    let path = format!(in rt.alloc(); "{}/clfs_watched_{process}", folder.as_path().as_str())?;
+    let _none = fs::remove_dir_all(rt, &path);
+    Ok(path)
+}
+
+fn folder_at(rt: &HostRuntime, path: &str) -> io::Result<Folder> {
+    Ok(Folder::new(*rt, String::from_str(rt.alloc(), path)?))
+}
+
+// A disk can be handed to another thread.
+fn is_send<D: Disk + Send>(_disk: &D) {}
+
+// Whether all is done, and written as often as is wanted.
+fn all_go(
+    rt: &HostRuntime,
+    path: &str,
+    is_terminal: bool,
+    pace: u64,
+    steps: &[Step],
+) -> Result<bool, Fail> {
+    let time = AtomicU64::new(0);
+    let written = AtomicU64::new(0);
+    let screen = Screen {
+        is_terminal,
+        pace,
+        time: &time,
+        written: &written,
+    };
+    let progress = Progress::new(screen, &screen);
+    let mut disk = Watched::new(folder_at(rt, path)?, &progress);
+    let mut sink = EndsProgress::new(SteadySink::new(Vec::new(rt.alloc())), &progress);
+    let mut piece = Vec::new(rt.alloc());
+    piece.resize(1 << 20, 0u8)?;
+    is_send(&disk);
+    for step in steps {
+        let (done, want) = does(&mut disk, &mut sink, &mut piece, *step);
+        if !done || written.load(Ordering::SeqCst) != want {
+            return Ok(false);
+        }
+    }
+    Ok(true)
+}
+
+#[test]
+fn a_reading_is_told(rt: HostRuntime) -> Result<(), Fail> {
+    let path = own_path(&rt)?;
+    let mut made = folder_at(&rt, &path)?;
+    for file in 0..3 {
+        assert!(rt; made.grow(file, 3 << 20).is_ok());
+    }
+    drop(made);
+    assert!(rt; all_go(&rt, &path, true, 600, OPENED)?);
+    for steps in ENDED {
+        assert!(rt; all_go(&rt, &path, true, 600, steps)?);
+    }
+    assert!(rt; all_go(&rt, &path, true, 100, QUIET)?);
+    assert!(rt; all_go(&rt, &path, false, 600, QUIET)?);
+    fs::remove_dir_all(&rt, &path)?;
+    Ok(())
+}
