@@ -12,11 +12,11 @@ use clfs_command::{form_of, help_text};
 use clfs_engine::{DONE, NO_MEMORY, SINK_FAULT, SOURCE_FAULT, USAGE, run};
 use clfs_files::{EndsProgress, Folder, Progress, ReaderSource, Watched, WriterSink};
 use std::alloc::{AllocError, Global};
+use std::env;
 use std::process::ExitCode;
 use std::rt::Env;
 use std::sync::Wait;
 use std::thread::Threads;
-use std::env;
 
 /// What `--version` prints.
 const VERSION: &str = "clfs 0.1\n";
