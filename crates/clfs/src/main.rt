@@ -13,6 +13,7 @@ use clfs_engine::{DONE, NO_MEMORY, SINK_FAULT, SOURCE_FAULT, USAGE, run};
 use clfs_files::{EndsProgress, Folder, Progress, ReaderSource, Watched, WriterSink};
 use std::alloc::{AllocError, Global};
 use std::env;
+use std::io::ErrorKind;
 use std::process::ExitCode;
 use std::rt::Env;
 use std::sync::Wait;
@@ -23,10 +24,11 @@ const VERSION: &str = "clfs 0.1\n";
 
 // All words of the command line; none if one of them isn't text.
 fn all_words<R: Env + AllocGlobal>(rt: &R) -> Result<Vec<String>, AllocError> {
-    let Ok(words) = env::args(rt) else {
-        return Ok(Vec::new(rt.alloc()));
-    };
-    words.collect(rt.alloc())
+    match env::args(rt) {
+        Ok(words) => words.collect(rt.alloc()),
+        Err(error) if error.kind() == ErrorKind::OutOfMemory => Err(AllocError),
+        Err(_) => Ok(Vec::new(rt.alloc())),
+    }
 }
 
 // The words after the program's name and the folder.

@@ -13,7 +13,7 @@ use Rattle.clfs_model.specs.Archive.{is_in_block}
 use Rattle.clfs_model.specs.Heads.{archived_heads, container_extent}
 use Rattle.clfs_model.specs.declared.info.Extent.{Extent}
 use Rattle.clfs_archive.specs.declared.block.BlockEnd.{BlockEnd}
-use Rattle.clfs_sorted.specs.Rising.{AreRising, IsPlaceOf}
+use Rattle.clfs_lsn.specs.Rising.{AreRising, IsPlaceOf}
 use Rattle.clfs_archive.specs.Blocks.{lsn_of_block, IsBlock, AreBlocks}
 use Rattle.clfs_archive.proofs.Among.{Passing, first_of, none_passes, last_of}
 

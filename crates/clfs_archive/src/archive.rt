@@ -13,9 +13,8 @@ ghost use Rattle.clfs_archive.specs.declared.block.BlockEnd.{BlockEnd};
 ghost use Rattle.clfs_archive.specs.Blocks.{IsBlock, AreBlocks, AreSealed, blocks_from};
 
 use crate::block::{BlockEnd, extents_from};
-use clfs_lsn::Lsn;
+use clfs_lsn::{Lsn, forget_below};
 use clfs_model::{Extents, Refusal};
-use clfs_sorted::forget_below;
 use std::alloc::{AllocError, Global};
 use std::marker::Model;
 
@@ -33,7 +32,7 @@ impl Model for Archive {
     ghost Value = { Row };
 
     ghost use Rattle.std.specs.Prelude.{◌-◌, vec_len, vec_capacity};
-    ghost use Rattle.clfs_sorted.specs.Rising.{AreRising};
+    ghost use Rattle.clfs_lsn.specs.Rising.{AreRising};
     ghost use Rattle.clfs_archive.specs.Blocks.{lsn_of_block};
 
     ghost view = { λ s. record { tail = s.tail; blocks = s.blocks.items; room = vec_capacity s.blocks - vec_len s.blocks } };

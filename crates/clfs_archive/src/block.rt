@@ -3,12 +3,11 @@ ghost use Rattle.std.specs.Prelude.{◌≡◌, ℕ, ◌+◌, ◌<◌, ◌≤◌,
 ghost use Rattle.clfs_lsn.specs.Lsn.{container_of};
 ghost use Rattle.clfs_lsn.specs.declared.entry.Head.{Head};
 ghost use Rattle.clfs_model.specs.Heads.{container_extent, extents_of};
-ghost use Rattle.clfs_sorted.specs.Rising.{AreRising};
+ghost use Rattle.clfs_lsn.specs.Rising.{AreRising};
 ghost use Rattle.clfs_archive.specs.Blocks.{AreBlocks, lsn_of_block};
 
-use clfs_lsn::Lsn;
+use clfs_lsn::{HasLsn, Lsn, place_of};
 use clfs_model::Extent;
-use clfs_sorted::{HasLsn, place_of};
 use std::alloc::{AllocError, Global};
 
 /// Where a sealed block ends.

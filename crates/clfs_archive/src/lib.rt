@@ -9,7 +9,7 @@
 //!
 //! Blocks that are sealed wait until they are written, and are told here before that: the caller says up to where the log is on the
 //! disk when it asks for extents. What lies below the hold is never asked for again, whatever archiving is set to, so block ends go
-//! when the caller says so, in whole pieces, as `clfs_sorted` says.
+//! when the caller says so, in whole pieces, as `forget_below` of `clfs_lsn` says.
 //!
 //! No call but `reserve` and `extents` takes memory, and `open_archive`, which finds the ends of the blocks of a log that was
 //! opened. So an append can take all of its memory before it changes anything, and neither setting the tail nor a flush fails

@@ -3,7 +3,7 @@ use Rattle.std.proofs.Common.{◌≡◌, ℕ, ◌<◌, refl, sym, ap, ◌∙◌,
 use Rattle.std.specs.Prelude.{slice_set}
 use Rattle.std.proofs.lemmas.List.{map-set, get_or-map}
 use Rattle.clfs_model.specs.declared.state.Area.{Area}
-use Rattle.clfs_model.specs.declared.state.Cursor.{Cursor}
+use Rattle.clfs_lsn.specs.declared.cursor.Cursor.{Cursor}
 use Rattle.clfs_cursor.specs.Rows as seen
 use Rattle.clfs_cursor.specs.Rows.{AreaCursors, no_cursors, with_cursors}
 use Rattle.clfs_areas.specs.Table.{AreaTable, no_area, area_at}

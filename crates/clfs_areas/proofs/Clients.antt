@@ -5,7 +5,7 @@ use Rattle.std.specs.List.{list_any, range_with_len}
 use Rattle.std.proofs.lemmas.List.Sums.{sum_by-cons, length-filter}
 use Rattle.clfs_model.specs.declared.state.Area.{Area}
 use Rattle.clfs_model.specs.declared.state.State.{State}
-use Rattle.clfs_model.specs.State.{least_unused}
+use Rattle.clfs_lsn.specs.Numbers.{least_unused}
 use Rattle.clfs_model.specs.Answers.{unused_area}
 use Rattle.clfs_ledger.specs.Rows.{has_row}
 use Rattle.clfs_areas.specs.Table.{client_areas}

@@ -3,7 +3,7 @@ use Rattle.std.proofs.Common.{◌≡◌, ◌≢◌, ℕ, ◌+◌, ◌<◌, ◌�
 use Rattle.std.specs.Prelude.{◌==◌, AllPairs, count_by}
 use Rattle.std.proofs.lemmas.Bool.Decides.{nat_tests}
 use Rattle.std.proofs.lemmas.List.Sums.{sum_by-cons}
-use Rattle.clfs_model.specs.declared.state.Cursor.{Cursor}
+use Rattle.clfs_lsn.specs.declared.cursor.Cursor.{Cursor}
 use Rattle.clfs_cursor.specs.Rows.{HaveDifferentNumbers}
 
 -- one that passes is counted

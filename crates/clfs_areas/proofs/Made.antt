@@ -7,7 +7,7 @@ use Rattle.std.proofs.lemmas.Bool.Decides.{nat_tests}
 use Rattle.std.proofs.lemmas.List.{map-append}
 use Rattle.std.proofs.lemmas.List.Quantifiers.{all_pairs_push}
 use Rattle.clfs_model.specs.declared.state.Area.{Area}
-use Rattle.clfs_model.specs.State.{least_unused}
+use Rattle.clfs_lsn.specs.Numbers.{least_unused}
 use Rattle.clfs_cursor.specs.Rows.{AreaCursors}
 use Rattle.clfs_ledger.specs.declared.row.Reservation.{Reservation}
 use Rattle.clfs_ledger.specs.Rows.{has_row, is_of, without}

@@ -4,7 +4,7 @@ use Rattle.std.specs.Prelude.{count_by, find, unwrap_or}
 use Rattle.std.specs.List.{list_any, range_with_len}
 use Rattle.std.proofs.lemmas.Bool.Decides.{nat_tests}
 use Rattle.std.proofs.lemmas.List.Sums.{sum_by-cons}
-use Rattle.clfs_model.specs.State.{least_unused}
+use Rattle.clfs_lsn.specs.Numbers.{least_unused}
 use Rattle.clfs_areas.specs.Rows.{is_client_row, is_row, is_used}
 use Rattle.clfs_areas.specs.declared.row.AreaRow.{AreaRow}
 

@@ -1,7 +1,7 @@
 // The row of an area, and how a row is found.
 ghost use Rattle.std.specs.Prelude.{◌≡◌, ◌+◌, ◌<◌, ◌-◌, ◌^◌, count_by, find, not, position};
 ghost use Rattle.std.specs.List.{range_with_len};
-ghost use Rattle.clfs_model.specs.State.{least_unused};
+ghost use Rattle.clfs_lsn.specs.Numbers.{least_unused};
 ghost use Rattle.clfs_areas.specs.Rows.{is_client_row, is_row, is_used};
 
 /// An area without its cursors.

@@ -1,16 +1,13 @@
 -- The first wrong byte of a slot, part by part.
-use Rattle.std.proofs.Common.{◌≡◌, ℕ, List, Option, Some, sym, ap}
+use Rattle.std.proofs.Common.{◌≡◌, ℕ, List, Option, sym, ap}
 use Rattle.std.specs.List.{zip}
 use Rattle.std.specs.Option.{option_or}
 use Rattle.clfs_base.specs.declared.layout.Layout.{Layout}
 use Rattle.clfs_base.specs.declared.layout.Numbers.{Numbers}
-use Rattle.clfs_base.specs.declared.refusal.BaseRefusal.{BaseRefusal}
-use Rattle.clfs_base.specs.declared.refusal.BaseRefusal.TheVariants as refusals
 use Rattle.clfs_base.specs.Layout.{slot_bytes, fields_end, files_at, rows_at, file_place, row_place, numbers_of, fields}
 use Rattle.clfs_base.specs.Checks.{other_byte, wrong_field, wrong_file, wrong_row, behind_fields, slot_fault}
 use Rattle.clfs_base.specs.Demands.{asked, wrong_within, fault_within}
 use Rattle.clfs_base.specs.declared.demands.Demands.{Demands}
-use Rattle.clfs_base.specs.Decoding.{RefusesAt}
 
 -- the same with the numbers that were read
 abbrev pub chain : Layout → List ℕ → Numbers → Option ℕ
@@ -32,8 +29,3 @@ pub chained_within : (demands : Demands) (layout : Layout) (bytes : List ℕ) (n
 unfolding fault_within
 chained_within demands layout bytes n is =
     ap (λ (k : Numbers). option_or (wrong_within bytes (zip (fields layout k) (asked demands))) (behind_fields layout bytes k)) (sym is)
-
--- a refusal of one part is one of the whole
-pub refused : (refusal : BaseRefusal) (part whole : Option ℕ) → RefusesAt refusal part → ((at : ℕ) → part ≡ Some at → whole ≡ Some at) → RefusesAt refusal whole
-refused refusals.NoMemory part whole at first = tt
-refused (refusals.BadByte at) part whole is first = first at is

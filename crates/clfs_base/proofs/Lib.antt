@@ -9,3 +9,5 @@ pub mod Taken
 pub mod Copies
 pub mod Images
 pub mod AskedFields
+pub mod Earlier
+pub mod Telling

@@ -1,8 +1,10 @@
 pub mod Layout
 pub mod Spelling
+pub mod Streams
 pub mod Checks
 pub mod Demands
 pub mod Slots
 pub mod Vector
 pub mod Decoding
 pub mod Writing
+pub mod Told

@@ -40,6 +40,10 @@ fn trial(number: u32, count: u32) -> Option<Command> {
     Some(Command::Trial { number, count })
 }
 
+fn crew(threads: u32, count: u32) -> Option<Command> {
+    Some(Command::Crew { threads, count })
+}
+
 fn serve(write_buffers: u32, length: ScriptLength) -> Option<Command> {
     Some(Command::Serve {
         write_buffers,
@@ -212,7 +216,27 @@ fn words_and_their_commands(rt: HostRuntime) -> Result<(), Fail> {
         ("trial 1", None),
         ("trial 1 5 5", None),
         ("trial 1 5 --dedicated", None),
-        ("crew 2 5", None),
+        ("crew 1 1", crew(1, 1)),
+        ("crew 8 1000", crew(8, 1000)),
+        ("crew -- 2 5", crew(2, 5)),
+        ("crew 2 -- 5", crew(2, 5)),
+        ("crew 0 5", None),
+        ("crew 9 5", None),
+        ("crew 2 0", None),
+        ("crew 2 1001", None),
+        ("crew 02 5", None),
+        ("crew 2 05", None),
+        ("crew +2 5", None),
+        ("crew -2 5", None),
+        ("crew 2 +5", None),
+        ("crew 2 -5", None),
+        ("crew 2  5", None),
+        ("crew", None),
+        ("crew 2", None),
+        ("crew 2 5 5", None),
+        ("crew 2 5 --", crew(2, 5)),
+        ("crew 2 5 --dedicated", None),
+        ("crews 2 5", None),
         ("check", Some(Command::Check)),
         ("check --", Some(Command::Check)),
         ("check x", None),
@@ -248,6 +272,7 @@ Commands:
   serve   Answers the lines of a script on standard input, one reply a line
   race    Answers the lines of a script, those of each client in a thread of its own
   trial   Answers lines that are made of a number, over a log in memory, and prints their sums
+  crew    Appends in threads by permits of one shared area, over a log in memory
   check   Judges the log in FOLDER and tells what is in it, or where it is broken
 
 Options may stand in any order, as --containers 4 or --containers=4; numbers are decimal, without a sign or a zero in front.
@@ -263,7 +288,7 @@ Options:
       --containers <N>         Containers of the log, 1 to 256
       --dedicated              Makes a log that has one stream
 
-Makes a log where none is: it never writes over one. All of its files are made at full length, base and c1 to cN.
+Makes a log if none is there. All of its files are made at full length, base and c1 to cN.
 Status 0: formatted. 3: standard output can't be written. 4: disk fault. 5: out of memory. 8: a log is there.
 
 Answers the lines of a script on standard input, one reply a line
@@ -297,6 +322,17 @@ Arguments:
   <COUNT>   How many lines are made, 1 to 100000
 
 Looks at no folder, and reads nothing. The same number and count give the same line.
+Status 0: the line is printed. 3: standard output can't be written. 5: out of memory.
+
+Appends in threads by permits of one shared area, over a log in memory
+
+Usage: clfs FOLDER crew <THREADS> <COUNT>
+
+Arguments:
+  <THREADS>  How many threads there are, 1 to 8
+  <COUNT>    How many records each of them appends, 1 to 1000
+
+Looks at no folder, and reads nothing. What isn't counted lacked memory.
 Status 0: the line is printed. 3: standard output can't be written. 5: out of memory.
 
 Judges the log in FOLDER and tells what is in it, or where it is broken

@@ -46,12 +46,16 @@ race_line = with_rule (command_named (codes "race")) (with_default (codes "write
 abbrev pub trial_line : App
 trial_line = with_rule (with_rule (command_named (codes "trial")) (word (codes "NUMBER"))) (word (codes "COUNT"))
 
+-- `crew THREADS COUNT`
+abbrev pub crew_line : App
+crew_line = with_rule (with_rule (command_named (codes "crew")) (word (codes "THREADS"))) (word (codes "COUNT"))
+
 -- `check`
 abbrev pub check_line : App
 check_line = command_named (codes "check")
 
 -- the words behind FOLDER, of which the first names the subcommand
 abbrev pub command_line : App
-command_line = with_subcommand (with_subcommand (with_subcommand (with_subcommand (with_subcommand (on_top
+command_line = with_subcommand (with_subcommand (with_subcommand (with_subcommand (with_subcommand (with_subcommand (on_top
     (λ s. record s { no_binary_name = true; disable_help_subcommand = true; subcommand_required = true }) (command_named (codes "clfs")))
-    format_line.top) serve_line.top) race_line.top) trial_line.top) check_line.top
+    format_line.top) serve_line.top) race_line.top) trial_line.top) crew_line.top) check_line.top

@@ -1,5 +1,7 @@
 // What `clfs --help` prints: the commands, and the options of each.
-use crate::line::{check_line, command_line, format_line, race_line, serve_line, trial_line};
+use crate::line::{
+    check_line, command_line, crew_line, format_line, race_line, serve_line, trial_line,
+};
 use std::alloc::{AllocError, Global};
 
 // How the program is called.
@@ -10,7 +12,7 @@ clfs FOLDER <COMMAND>
 
 // What `format` does, and how it ends.
 const FORMAT_NOTES: &str = "\
-Makes a log where none is: it never writes over one. All of its files are made at full length, base and c1 to cN.
+Makes a log if none is there. All of its files are made at full length, base and c1 to cN.
 Status 0: formatted. 3: standard output can't be written. 4: disk fault. 5: out of memory. 8: a log is there.";
 
 // What `serve` does, and how it ends.
@@ -27,6 +29,11 @@ Status 0 to 7: as of serve.";
 // What `trial` does, and how it ends.
 const TRIAL_NOTES: &str = "\
 Looks at no folder, and reads nothing. The same number and count give the same line.
+Status 0: the line is printed. 3: standard output can't be written. 5: out of memory.";
+
+// What `crew` does, and how it ends.
+const CREW_NOTES: &str = "\
+Looks at no folder, and reads nothing. What isn't counted lacked memory.
 Status 0: the line is printed. 3: standard output can't be written. 5: out of memory.";
 
 // What `check` does, and how it ends.
@@ -67,6 +74,9 @@ pub fn help_text(alloc: Global) -> Result<String, AllocError> {
     let trial = trial_line(alloc)?
         .bin_name("clfs FOLDER trial")?
         .render_help()?;
+    let crew = crew_line(alloc)?
+        .bin_name("clfs FOLDER crew")?
+        .render_help()?;
     let check = check_line(alloc)
         .bin_name("clfs FOLDER check")?
         .render_help()?;
@@ -76,6 +86,7 @@ pub fn help_text(alloc: Global) -> Result<String, AllocError> {
         (&serve, SERVE_NOTES),
         (&race, RACE_NOTES),
         (&trial, TRIAL_NOTES),
+        (&crew, CREW_NOTES),
         (&check, CHECK_NOTES),
     ];
     for (part, notes) in parts {

@@ -1,7 +1,7 @@
 // The command line behind FOLDER, as clap takes it.
 ghost use Rattle.std.specs.Prelude.{◌≡◌, IfOk, codes, false};
 ghost use Rattle.clap.specs.Words.{app_of, rule_of};
-ghost use Rattle.clfs_command.specs.Line.{option, needed, with_default, flag, word, command_named, format_line, serve_line, race_line, trial_line, check_line, command_line};
+ghost use Rattle.clfs_command.specs.Line.{option, needed, with_default, flag, word, command_named, format_line, serve_line, race_line, trial_line, crew_line, check_line, command_line};
 
 use clap::{Arg, ArgAction, Command};
 use std::alloc::{AllocError, Global};
@@ -109,6 +109,18 @@ pub fn trial_line<'a>(alloc: Global) -> Result<Command<'a>, AllocError>
         .arg(word(alloc, "COUNT", count))
 }
 
+/// The line of `crew`.
+pub fn crew_line<'a>(alloc: Global) -> Result<Command<'a>, AllocError>
+    ensures { IfOk result (λ r. app_of r ≡ crew_line) }
+{
+    let about = "Appends in threads by permits of one shared area, over a log in memory";
+    let threads = "How many threads there are, 1 to 8";
+    let count = "How many records each of them appends, 1 to 1000";
+    command_named(alloc, "crew", about)
+        .arg(word(alloc, "THREADS", threads))?
+        .arg(word(alloc, "COUNT", count))
+}
+
 /// The line of `check`.
 pub fn check_line<'a>(alloc: Global) -> Command<'a>
     ensures { app_of result ≡ check_line }
@@ -131,5 +143,6 @@ pub fn command_line<'a>(alloc: Global) -> Result<Command<'a>, AllocError>
         .subcommand(serve_line(alloc)?)?
         .subcommand(race_line(alloc)?)?
         .subcommand(trial_line(alloc)?)?
+        .subcommand(crew_line(alloc)?)?
         .subcommand(check_line(alloc))
 }

@@ -1,10 +1,9 @@
 // Which command the words behind FOLDER name.
-ghost use Rattle.std.specs.Prelude.{◌≡◌, ◌≢◌, map, Some, None, IfSome, IfOk, IfErr};
+ghost use Rattle.std.specs.Prelude.{◌≡◌, map, Some, None, IfSome, IfOk, IfErr};
 ghost use Rattle.std.specs.Option.{option_and_then};
 ghost use Rattle.std.specs.String.{string_bytes};
 ghost use Rattle.clap.specs.Words.{rows_of, found_of, subcommand_rows_of};
-ghost use Rattle.clfs_lsn.specs.Limits.{most_containers, most_write_buffers};
-ghost use Rattle.clfs_command.specs.Command.{number_of, is_set, is_size, format_of, length_of, serve_of, race_of, trial_of, with_options, command_of, HasItsRanges};
+ghost use Rattle.clfs_command.specs.Command.{number_of, is_set, is_size, format_of, length_of, serve_of, race_of, trial_of, crew_of, with_options, command_of, HasItsRanges};
 
 use crate::line::command_line;
 use clap::ArgMatches;
@@ -54,6 +53,13 @@ pub enum Command {
         /// How many lines come after those that open the streams, 1 to 100,000.
         count: u32,
     },
+    /// To append in threads by permits of one shared area, over a log in memory.
+    Crew {
+        /// How many threads there are, 1 to 8.
+        threads: u32,
+        /// How many records each of them appends, 1 to 1,000.
+        count: u32,
+    },
     /// To judge a log.
     Check,
 }
@@ -90,6 +96,12 @@ const MOST_WRITE_BUFFERS: u32 = 64;
 
 // The most lines of a trial.
 const MOST_TRIAL_LINES: u32 = 100000;
+
+// The most threads of a crew.
+const MOST_CREW_THREADS: u32 = 8;
+
+// The most records that a thread of a crew appends.
+const MOST_CREW_RECORDS: u32 = 1000;
 
 fn is_size(block: u32, container: u32, containers: u32) -> bool
     ensures { result ≡ is_size block container containers }
@@ -189,6 +201,18 @@ fn trial_of(number: Option<u32>, count: Option<u32>) -> Option<Command>
     Some(Command::Trial { number, count })
 }
 
+fn crew_of(threads: Option<u32>, count: Option<u32>) -> Option<Command>
+    ensures command { result ≡ crew_of threads count }
+    ensures ranges { IfSome result HasItsRanges }
+{
+    let threads = threads?;
+    let count = count?;
+    if !(1..=MOST_CREW_THREADS).contains(&threads) || !(1..=MOST_CREW_RECORDS).contains(&count) {
+        return None;
+    }
+    Some(Command::Crew { threads, count })
+}
+
 // The command that a subcommand and its options stand for.
 fn with_options(name: &str, options: &ArgMatches) -> Option<Command>
     ensures command { result ≡ with_options (name.now, rows_of (found_of options.now)) }
@@ -207,6 +231,7 @@ fn with_options(name: &str, options: &ArgMatches) -> Option<Command>
         ),
         "race" => race_of(number_of("write-buffers", options)),
         "trial" => trial_of(number_of("NUMBER", options), number_of("COUNT", options)),
+        "crew" => crew_of(number_of("THREADS", options), number_of("COUNT", options)),
         "check" => Some(Command::Check),
         _ => None,
     }

@@ -4,7 +4,7 @@ use Rattle.std.specs.Prelude.{◌==◌, find, filter, sum_by, slice_set}
 use Rattle.std.proofs.lemmas.Bool.Decides.{nat_tests}
 use Rattle.std.proofs.lemmas.List.Sums.{sum_by-cons, sum_by-set}
 use Rattle.slab.specs.Slab.{Slab, get, slab_len, Updates}
-use Rattle.clfs_model.specs.declared.state.Cursor.{Cursor}
+use Rattle.clfs_lsn.specs.declared.cursor.Cursor.{Cursor}
 use Rattle.clfs_cursor.specs.Rows.{AreaCursors, area_at, with_cursors}
 use Rattle.clfs_cursor.specs.Keys.{Keys, AreDifferent, has_number}
 use Rattle.clfs_cursor.specs.Kept.{area_by, has_key, uses_in, uses, AreOwned}

@@ -4,7 +4,7 @@ use Rattle.std.specs.Prelude.{count_by, slice_set}
 use Rattle.std.proofs.lemmas.Bool.Decides.{nat_tests}
 use Rattle.std.proofs.lemmas.List.Sums.{sum_by-cons, get_or-le-sum_by}
 use Rattle.slab.specs.Slab.{Slab, get}
-use Rattle.clfs_model.specs.declared.state.Cursor.{Cursor}
+use Rattle.clfs_lsn.specs.declared.cursor.Cursor.{Cursor}
 use Rattle.clfs_cursor.specs.Rows.{AreaCursors}
 use Rattle.clfs_cursor.specs.Keys.{Keys}
 use Rattle.clfs_cursor.specs.Kept.{cursor_by, area_by, has_key, uses_in, uses}

@@ -5,7 +5,7 @@ use Rattle.std.specs.Option.{option_map}
 use Rattle.std.proofs.lemmas.Bool.Decides.{nat_tests}
 use Rattle.std.proofs.lemmas.List.{set-get_or}
 use Rattle.slab.specs.Slab.{Slab, get, slab_len}
-use Rattle.clfs_model.specs.declared.state.Cursor.{Cursor}
+use Rattle.clfs_lsn.specs.declared.cursor.Cursor.{Cursor}
 use Rattle.clfs_cursor.specs.Rows.{AreaCursors, area_at, with_cursors}
 use Rattle.clfs_cursor.specs.Keys.{Keys, AreDifferent, has_number}
 use Rattle.clfs_cursor.specs.Kept.{cursor_by, area_by, has_key, uses_in, uses, kind_of, last_of, AreOwned}

@@ -4,9 +4,8 @@ use Rattle.std.specs.Prelude.{◌==◌, find}
 use Rattle.std.specs.Option.{option_map}
 use Rattle.std.proofs.lemmas.List.{length-map, set-get_or, get_or_default}
 use Rattle.slab.specs.Slab.{get}
-use Rattle.clfs_model.specs.declared.state.Area.{Area}
-use Rattle.clfs_model.specs.declared.state.Cursor.{Cursor}
-use Rattle.clfs_model.specs.Reading.{cursor_of, without_cursor, with_cursor_at}
+use Rattle.clfs_lsn.specs.declared.cursor.Cursor.{Cursor}
+use Rattle.clfs_lsn.specs.Cursors.{cursor_in, cursors_without, cursors_moved}
 use Rattle.clfs_cursor.specs.Rows.{AreaCursors, Table, HaveDifferentNumbers, no_cursors, area_at, with_cursors}
 use Rattle.clfs_cursor.specs.Keys.{Keys, AreDifferent, has_number}
 use Rattle.clfs_cursor.specs.Kept.{area_by, cursor_by, AreOwned}
@@ -32,10 +31,8 @@ module _ (inside : Inside) (table : Table) (view_is : table_of inside ≡ table)
   -- a change of an area's cursors, as contracts see it
   pub change_seen : (areas : List AreaCursors) (change : List Cursor → List Cursor)
       → areas ≡ with_cursors place (change (area_at place (map (area_by inside.slots) inside.rows.items)).cursors) (map (area_by inside.slots) inside.rows.items)
-      → (cursors : List Cursor) → cursors ≡ (area_at place table.areas).cursors → areas ≡ with_cursors place (change cursors) table.areas
-  change_seen areas change is cursors same =
-      is ∙ ap (λ (t : Table). with_cursors place (change (area_at place t.areas).cursors) t.areas) view_is
-      ∙ ap (λ (cs : List Cursor). with_cursors place (change cs) table.areas) (sym same)
+      → areas ≡ with_cursors place (change (area_at place table.areas).cursors) table.areas
+  change_seen areas change is = is ∙ ap (λ (t : Table). with_cursors place (change (area_at place t.areas).cursors) t.areas) view_is
 
   module _ (row : Keys) (is : row ≡ get_or inside.rows.items place row) where
     -- and is what the slab has at the row's keys
@@ -43,11 +40,8 @@ module _ (inside : Inside) (table : Table) (view_is : table_of inside ≡ table)
     area_seen = ap (λ (t : Table). area_at place t.areas) (sym view_is) ∙ area_there inside.slots inside.rows.items place row row_there is
 
     -- the cursor of a number is the one at the number's key
-    pub cursor_seen : (number : ℕ) (area : Area) → area.cursors ≡ (area_at place table.areas).cursors
-        → cursor_of area number ≡ option_map (cursor_by inside.slots) (find (has_number number) row.numbered)
-    cursor_seen number area same =
-        ap (λ (cursors : List Cursor). find (λ (cursor : Cursor). cursor.number == number) cursors) (same ∙ ap (λ (a : AreaCursors). a.cursors) area_seen)
-        ∙ found_seen inside.slots row.numbered number
+    pub cursor_seen : (number : ℕ) → cursor_in (area_at place table.areas).cursors number ≡ option_map (cursor_by inside.slots) (find (has_number number) row.numbered)
+    cursor_seen number = ap (λ (a : AreaCursors). cursor_in a.cursors number) area_seen ∙ found_seen inside.slots row.numbered number
 
     -- its cursors have different numbers
     pub numbers_differ : AreDifferent row.numbered → HaveDifferentNumbers (area_at place table.areas).cursors
@@ -65,17 +59,17 @@ module _ (inside : Inside) (table : Table) (view_is : table_of inside ≡ table)
     unchanged cursors same =
         sym (ap (λ (cs : List Cursor). with_cursors place cs table.areas) same ∙ set-get_or table.areas place no_cursors)
 
-    absent : (number : ℕ) → find (has_number number) row.numbered ≡ None → (area : Area) → area.cursors ≡ (area_at place table.areas).cursors
-        → cursor_of area number ≡ None
-    absent number none area same = cursor_seen number area same ∙ ap (λ (o : Option Numbered). option_map (cursor_by inside.slots) o) none
+    absent : (number : ℕ) → find (has_number number) row.numbered ≡ None → cursor_in (area_at place table.areas).cursors number ≡ None
+    absent number none = cursor_seen number ∙ ap (λ (o : Option Numbered). option_map (cursor_by inside.slots) o) none
 
-    pub none_ends : (number : ℕ) → find (has_number number) row.numbered ≡ None → (area : Area) → area.cursors ≡ (area_at place table.areas).cursors
-        → table.areas ≡ with_cursors place (without_cursor number area).cursors table.areas
-    none_ends number none area same =
-        unchanged (without_cursor number area).cursors
-        (none_goes (λ (cursor : Cursor). cursor.number == number) area.cursors (absent number none area same) ∙ same)
+    pub none_ends : (number : ℕ) → find (has_number number) row.numbered ≡ None
+        → table.areas ≡ with_cursors place (cursors_without number (area_at place table.areas).cursors) table.areas
+    none_ends number none =
+        unchanged (cursors_without number (area_at place table.areas).cursors)
+        (none_goes (λ (cursor : Cursor). cursor.number == number) (area_at place table.areas).cursors (absent number none))
 
-    pub no_move : (number lsn : ℕ) → find (has_number number) row.numbered ≡ None → (area : Area) → area.cursors ≡ (area_at place table.areas).cursors
-        → table.areas ≡ with_cursors place (with_cursor_at number lsn area).cursors table.areas
-    no_move number lsn none area same =
-        unchanged (with_cursor_at number lsn area).cursors (none_moves number lsn area.cursors (absent number none area same) ∙ same)
+    pub no_move : (number lsn : ℕ) → find (has_number number) row.numbered ≡ None
+        → table.areas ≡ with_cursors place (cursors_moved number lsn (area_at place table.areas).cursors) table.areas
+    no_move number lsn none =
+        unchanged (cursors_moved number lsn (area_at place table.areas).cursors)
+        (none_moves number lsn (area_at place table.areas).cursors (absent number none))

@@ -5,9 +5,9 @@ use Rattle.std.specs.List.{range_with_len}
 use Rattle.std.specs.Option.{option_map}
 use Rattle.std.proofs.lemmas.List.{length-map}
 use Rattle.slab.specs.Slab.{Slab}
-use Rattle.clfs_model.specs.State.{least_unused}
-use Rattle.clfs_model.specs.declared.state.Cursor.{Cursor}
-use Rattle.clfs_model.specs.Reading.{is_cursor_number, unused_cursor}
+use Rattle.clfs_lsn.specs.Numbers.{least_unused}
+use Rattle.clfs_lsn.specs.declared.cursor.Cursor.{Cursor}
+use Rattle.clfs_lsn.specs.Cursors.{is_cursor_number, unused_cursor}
 use Rattle.clfs_cursor.specs.Keys.{has_number, is_numbered}
 use Rattle.clfs_cursor.specs.Kept.{cursor_by}
 use Rattle.clfs_cursor.specs.declared.keys.Numbered.{Numbered}

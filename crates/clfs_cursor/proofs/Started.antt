@@ -5,7 +5,7 @@ use Rattle.std.proofs.lemmas.Bool.Decides.{nat_tests}
 use Rattle.std.proofs.lemmas.List.{map-append, get_or-map}
 use Rattle.std.proofs.lemmas.List.Sums.{sum_by_push, sum_by-set, get_or-le-sum_by}
 use Rattle.slab.specs.Slab.{Slab, get, slab_len, Updates}
-use Rattle.clfs_model.specs.declared.state.Cursor.{Cursor}
+use Rattle.clfs_lsn.specs.declared.cursor.Cursor.{Cursor}
 use Rattle.clfs_cursor.specs.Rows.{AreaCursors, no_cursors, area_at, with_cursors}
 use Rattle.clfs_cursor.specs.Keys.{Keys}
 use Rattle.clfs_cursor.specs.Kept.{cursor_by, area_by, has_key, uses_in, uses, AreOwned}

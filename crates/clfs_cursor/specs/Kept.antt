@@ -1,9 +1,9 @@
 -- What the parts of the table of cursors stand for, and what is true of them.
 use Rattle.std.specs.Prelude.{◌≡◌, ℕ, ◌≤◌, Bool, ◌==◌, if◌then◌else◌, List, map, length, sum_by, count_by, Option, Some, None, is_some, vec_capacity}
 use Rattle.slab.specs.Slab.{Slab, get, slab_len}
-use Rattle.clfs_model.specs.declared.state.Cursor.{Cursor}
-use Rattle.clfs_model.specs.declared.state.CursorKind.{CursorKind}
-use Rattle.clfs_model.specs.declared.state.CursorKind.TheVariants.{RestartAreas}
+use Rattle.clfs_lsn.specs.declared.cursor.Cursor.{Cursor}
+use Rattle.clfs_lsn.specs.declared.cursor.CursorKind.{CursorKind}
+use Rattle.clfs_lsn.specs.declared.cursor.CursorKind.TheVariants.{RestartAreas}
 use Rattle.clfs_cursor.specs.Rows.{AreaCursors}
 use Rattle.clfs_cursor.specs.Keys.{Keys, AreDifferent}
 use Rattle.clfs_cursor.specs.declared.keys.Numbered.{Numbered}

@@ -1,6 +1,6 @@
 -- What a contract sees of the cursors of all areas.
 use Rattle.std.specs.Prelude.{ℕ, ◌<◌, ◌≤◌, ◌==◌, List, [], length, slice_index_or, slice_set, sum_by, count_by}
-use Rattle.clfs_model.specs.declared.state.Cursor.{Cursor}
+use Rattle.clfs_lsn.specs.declared.cursor.Cursor.{Cursor}
 
 -- the cursors of an area in the order in which they were started, and how many it may have
 pub record AreaCursors : Type 0 where

@@ -1,7 +1,7 @@
 -- What a search finds.
 use Rattle.std.specs.Prelude.{List, Option}
 use Rattle.clfs_lsn.specs.declared.entry.Head.{Head}
-use Rattle.clfs_model.specs.Heads.{head_at, head_above}
+use Rattle.clfs_lsn.specs.Heads.{head_at, head_above}
 use Rattle.clfs_cursor.specs.declared.search.Search.{Search}
 use Rattle.clfs_cursor.specs.declared.search.Search.TheVariants.{At, Above}
 

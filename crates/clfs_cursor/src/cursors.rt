@@ -1,14 +1,12 @@
 // The cursors of all areas.
 ghost use Rattle.std.specs.Prelude.{◌≡◌, ◌<◌, ◌≤◌, ◌∷◌, ◌++◌, [], length, nat_le, OnOk, OnErr};
 ghost use Rattle.std.specs.List.{remove};
-ghost use Rattle.clfs_model.specs.declared.state.Area.{Area};
-ghost use Rattle.clfs_model.specs.Reading.{is_over_restarts, cursor_of, record_cursor, restart_cursor, unused_cursor, with_cursor_at, without_cursor};
+ghost use Rattle.clfs_lsn.specs.Cursors.{is_over_restarts, cursor_in, record_cursor_in, restart_cursor_in, unused_cursor, cursors_moved, cursors_without};
 ghost use Rattle.clfs_cursor.specs.Rows.{area_at, with_cursors, HasRoom, HaveDifferentNumbers};
 
 use crate::keys::AreaKeys;
 use crate::standing::{Standing, free, move_standing};
-use clfs_lsn::Lsn;
-use clfs_model::{Cursor, CursorKind};
+use clfs_lsn::{Cursor, CursorKind, Lsn};
 use slab::Slab;
 use std::alloc::{AllocError, Global};
 use std::marker::Model;
@@ -108,7 +106,7 @@ impl Cursors {
     /// The cursor of a number of an area, whatever it goes over.
     pub fn cursor(&self, place: usize, number: u16) -> Option<Cursor>
         requires { place < length self.now.areas }
-        ensures cursor { (area : Area) → area.cursors ≡ (area_at place self.now.areas).cursors → result ≡ cursor_of area number }
+        ensures cursor { result ≡ cursor_in (area_at place self.now.areas).cursors number }
         ensures different { HaveDifferentNumbers (area_at place self.now.areas).cursors }
     {
         let key = self.rows[place].key(number)?;
@@ -123,7 +121,7 @@ impl Cursors {
     /// The cursor of a number that goes over records.
     pub fn over_records(&self, place: usize, number: u16) -> Option<Cursor>
         requires { place < length self.now.areas }
-        ensures { (area : Area) → area.cursors ≡ (area_at place self.now.areas).cursors → result ≡ record_cursor area number }
+        ensures { result ≡ record_cursor_in (area_at place self.now.areas).cursors number }
     {
         let cursor = self.cursor(place, number)?;
         if is_over_restarts(cursor.kind) {
@@ -135,7 +133,7 @@ impl Cursors {
     /// The cursor of a number that goes over restart areas.
     pub fn over_restarts(&self, place: usize, number: u16) -> Option<Cursor>
         requires { place < length self.now.areas }
-        ensures { (area : Area) → area.cursors ≡ (area_at place self.now.areas).cursors → result ≡ restart_cursor area number }
+        ensures { result ≡ restart_cursor_in (area_at place self.now.areas).cursors number }
     {
         let cursor = self.cursor(place, number)?;
         if is_over_restarts(cursor.kind) {
@@ -147,8 +145,7 @@ impl Cursors {
     /// The cursor of a number is at another record from now on.
     pub fn move_to(&mut self, place: usize, number: u16, lsn: Lsn)
         requires { place < length self.old.areas }
-        ensures areas { (area : Area) → area.cursors ≡ (area_at place self.old.areas).cursors
-            → self.new.areas ≡ with_cursors place (with_cursor_at number lsn area).cursors self.old.areas }
+        ensures areas { self.new.areas ≡ with_cursors place (cursors_moved number lsn (area_at place self.old.areas).cursors) self.old.areas }
         ensures places { length self.new.areas ≡ length self.old.areas }
         ensures capacity { self.new.capacity ≡ self.old.capacity }
     {
@@ -161,8 +158,7 @@ impl Cursors {
     /// The cursor of a number ends. It takes no memory.
     pub fn end(&mut self, place: usize, number: u16)
         requires { place < length self.old.areas }
-        ensures areas { (area : Area) → area.cursors ≡ (area_at place self.old.areas).cursors
-            → self.new.areas ≡ with_cursors place (without_cursor number area).cursors self.old.areas }
+        ensures areas { self.new.areas ≡ with_cursors place (cursors_without number (area_at place self.old.areas).cursors) self.old.areas }
         ensures places { length self.new.areas ≡ length self.old.areas }
         ensures capacity { self.new.capacity ≡ self.old.capacity }
     {

@@ -1,6 +1,6 @@
 // The numbers of one area's cursors, each with the key that the slab has for it.
 ghost use Rattle.std.specs.Prelude.{◌≡◌, ◌+◌, ◌<◌, ◌==◌, ◌^◌, ◌∷◌, ◌++◌, [], false, filter, find, length, nat_le, not, IfOk, Some, None, MatchOption};
-ghost use Rattle.clfs_model.specs.State.{least_unused};
+ghost use Rattle.clfs_lsn.specs.Numbers.{least_unused};
 ghost use Rattle.clfs_cursor.specs.Keys.{AreDifferent, has_number, is_numbered};
 ghost use Rattle.clfs_cursor.specs.declared.keys.Numbered.{Numbered};
 

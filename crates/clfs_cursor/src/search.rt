@@ -1,11 +1,10 @@
 // What a cursor searches for next.
 ghost use Rattle.std.specs.Prelude.{◌≡◌, ℕ, List, Some};
 ghost use Rattle.clfs_lsn.specs.declared.entry.Head.{Head};
-ghost use Rattle.clfs_model.specs.Heads.{live_heads, head_at, next_head};
+ghost use Rattle.clfs_lsn.specs.Heads.{live_heads, head_at, next_head};
 ghost use Rattle.clfs_cursor.specs.Searching.{found_by};
 
-use clfs_lsn::{Head, Lsn};
-use clfs_model::Mode;
+use clfs_lsn::{Head, Lsn, Mode};
 
 /// A search among the live records of a stream.
 #[derive(Clone, Copy, Debug, PartialEq, Eq)]

@@ -5,8 +5,7 @@ ghost use Rattle.clfs_cursor.specs.Kept.{has_key};
 ghost use Rattle.clfs_cursor.specs.declared.standing.Standing.{Standing};
 
 use crate::keys::Numbered;
-use clfs_lsn::Lsn;
-use clfs_model::CursorKind;
+use clfs_lsn::{CursorKind, Lsn};
 use slab::Slab;
 
 // A cursor without its number: what it goes over, and the record that it gave last.

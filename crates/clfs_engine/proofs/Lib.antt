@@ -21,3 +21,4 @@ pub mod Clients
 pub mod TakenCalls
 pub mod RaceEnds
 pub mod RaceThrough
+pub mod Crews

@@ -5,6 +5,7 @@ use Rattle.std.specs.List.{flat_map}
 use Rattle.std.specs.Io.KnownBytes.{Consumes}
 use Rattle.std.proofs.lemmas.List.{append-nil}
 use Rattle.clfs_disk.specs.State.{DiskState}
+use Rattle.clfs_model.specs.Accepted.{race_limits, accepted}
 use Rattle.clfs_model.specs.declared.journal.Entry.{Entry}
 use Rattle.clfs_model.specs.declared.state.State.{State}
 use Rattle.clfs_recover.specs.declared.refusal.LoadRefusal.{LoadRefusal}
@@ -20,6 +21,7 @@ use Rattle.clfs_engine.specs.Race.{EndsRacing, FailsWithin, LeavesFiles}
 use Rattle.clfs_engine.specs.Raced.{HasTaken, IsRaced, IsRacedInPart}
 use Rattle.clfs_engine.specs.Ran.{HasRun, TellsRace, end_text, end_status}
 use Rattle.clfs_engine.specs.Serve.{IsServeStatus}
+use Rattle.clfs_engine.specs.Taken.{AreFrontLines}
 use Rattle.clfs_engine.proofs.Written.{appends_none}
 use Rattle.clfs_engine.proofs.Clients.{is_shuffle, is_shuffle_of_fronts}
 use Rattle.clfs_engine.proofs.ServingEnds.{refused_statuses, serve_status, not_answered, fault_by, no_log_by, no_log_line, refusal_text}
@@ -54,6 +56,10 @@ module _ (buffers : ℕ) (old new : DiskState) (left left' written written' : Op
   -- the replies
   text : List ℕ
   text = flat_map bad_line_text division.bad.items ++ journal_text journal
+
+  -- the lines that came whole
+  came : AreFrontLines race_limits left left' (accepted race_limits bytes)
+  came = record { bytes = bytes; given = given; front = record { rest = []; front = append-nil (accepted race_limits bytes) } }
 
   raced : (lines : List (List ℕ)) → IsDivided (race_requests lines) division → whole ≡ true
       → IsRaced buffers old new lines (flat_map bad_line_text division.bad.items ++ journal_text journal)
@@ -104,7 +110,13 @@ module _ (buffers : ℕ) (old new : DiskState) (left left' written written' : Op
         disk_fault = λ e. absurd (never status 0 4 whole tells.statuses e (λ f. omega (arith, f)) (λ f. omega (arith, f)) (λ f. omega (arith, f)));
         disk_fault_line = λ e. absurd (never status 0 4 whole tells.statuses e (λ f. omega (arith, f)) (λ f. omega (arith, f)) (λ f. omega (arith, f)));
         no_memory_silence = tells.silence;
-        no_memory = λ e. inr (answered_lines Whole bytes, ((bytes, (given, inl refl)), raced_in_part (answered_lines Whole bytes) divided));
+        no_memory = λ e. inr (
+          answered_lines Whole bytes,
+          (
+            inr (record { script = bytes; read = record { given = given; end = ended.0; within = ended.1 }; all = refl }),
+            raced_in_part (answered_lines Whole bytes) divided,
+          ),
+        );
         no_log = λ e. absurd (never status 0 6 whole tells.statuses e (λ f. omega (arith, f)) (λ f. omega (arith, f)) (λ f. omega (arith, f)));
         too_long = λ e. absurd (never status 0 7 whole tells.statuses e (λ f. omega (arith, f)) (λ f. omega (arith, f)) (λ f. omega (arith, f)));
         read = (bytes, given);
@@ -134,7 +146,7 @@ module _ (buffers : ℕ) (old new : DiskState) (left left' written written' : Op
         disk_fault = λ e. absurd (never status 2 4 whole tells.statuses e (λ f. omega (arith, f)) (λ f. omega (arith, f)) (λ f. omega (arith, f)));
         disk_fault_line = λ e. absurd (never status 2 4 whole tells.statuses e (λ f. omega (arith, f)) (λ f. omega (arith, f)) (λ f. omega (arith, f)));
         no_memory_silence = tells.silence;
-        no_memory = λ e. inr (answered_lines Fault bytes, ((bytes, (given, inr refl)), raced_in_part (answered_lines Fault bytes) divided));
+        no_memory = λ e. inr (answered_lines Fault bytes, (inl came, raced_in_part (answered_lines Fault bytes) divided));
         no_log = λ e. absurd (never status 2 6 whole tells.statuses e (λ f. omega (arith, f)) (λ f. omega (arith, f)) (λ f. omega (arith, f)));
         too_long = λ e. absurd (never status 2 7 whole tells.statuses e (λ f. omega (arith, f)) (λ f. omega (arith, f)) (λ f. omega (arith, f)));
         read = (bytes, given);
@@ -163,7 +175,7 @@ module _ (buffers : ℕ) (old new : DiskState) (left left' written written' : Op
     disk_fault = λ e. absurd (never status 7 4 whole tells.statuses e (λ f. omega (arith, f)) (λ f. omega (arith, f)) (λ f. omega (arith, f)));
     disk_fault_line = λ e. absurd (never status 7 4 whole tells.statuses e (λ f. omega (arith, f)) (λ f. omega (arith, f)) (λ f. omega (arith, f)));
     no_memory_silence = tells.silence;
-    no_memory = λ e. inr (answered_lines TooLong bytes, ((bytes, (given, inr refl)), raced_in_part (answered_lines TooLong bytes) divided));
+    no_memory = λ e. inr (answered_lines TooLong bytes, (inl came, raced_in_part (answered_lines TooLong bytes) divided));
     no_log = λ e. absurd (never status 7 6 whole tells.statuses e (λ f. omega (arith, f)) (λ f. omega (arith, f)) (λ f. omega (arith, f)));
     too_long = λ e. (
       (flat_map bad_line_text division.bad.items ++ journal_text journal) ++ end_text TooLong,

@@ -18,9 +18,10 @@ use Rattle.clfs_model.specs.Step.{Step}
 use Rattle.clfs_shared.specs.Journal as journals
 use Rattle.clfs_shared.specs.Journal.{is_fault, is_damage}
 use Rattle.clfs_engine.specs.Complete.{DidNotFail, IsDone, NothingFailsRacing, AreCalm, replies_of, IsRacedCalmly, IsRacedCalmlyInPart, RaceComesThrough}
-use Rattle.clfs_engine.specs.Race.{EndsRacing, AreRaceLines}
+use Rattle.clfs_engine.specs.Race.{EndsRacing}
 use Rattle.clfs_engine.specs.Raced.{HasTaken, IsRaced, IsRacedInPart, is_any_broken}
 use Rattle.clfs_engine.specs.Serve.{IsServeStatus, IsWholeAnswer}
+use Rattle.clfs_engine.specs.Taken.{AreReached}
 use Rattle.clfs_engine.specs.Told.{tells_fault, tells_damage, tells_broken, has_fault, has_damage, has_broken}
 use Rattle.clfs_engine.proofs.RaceEnds.{left_alone}
 use Rattle.clfs_engine.proofs.TakenCalls.{or_parts, fine_by}
@@ -93,8 +94,8 @@ module _ (one : AreOne) (law : AreFine) (status buffers : ℕ) (old new : DiskSt
     answered = record { raced = is.answered; calm = journal_is_calm is.answered.journal is.answered.taken };
   }
 
-  in_part_calmly : ((lines : List (List ℕ)) × (AreRaceLines left left' lines × IsRacedInPart buffers old new lines))
-      → (lines : List (List ℕ)) × (AreRaceLines left left' lines × IsRacedCalmlyInPart buffers old new lines)
+  in_part_calmly : ((lines : List (List ℕ)) × (AreReached race_limits left left' lines × IsRacedInPart buffers old new lines))
+      → (lines : List (List ℕ)) × (AreReached race_limits left left' lines × IsRacedCalmlyInPart buffers old new lines)
   in_part_calmly is = (is.0, (is.1.0, record { raced = is.1.1; calm = journal_is_calm is.1.1.journal is.1.1.taken }))
 
   by_status : IsServeStatus status → IsDone status

@@ -19,7 +19,7 @@ use Rattle.clfs_model.specs.declared.reply.Reply.{Reply}
 use Rattle.clfs_model.specs.declared.reply.Reply.TheVariants as replies
 use Rattle.clfs_model.specs.declared.state.State.{State}
 use Rattle.clfs_model.specs.declared.state.Area.{Area}
-use Rattle.clfs_model.specs.declared.state.CursorKind.{CursorKind}
+use Rattle.clfs_lsn.specs.declared.cursor.CursorKind.{CursorKind}
 use Rattle.clfs_model.specs.State.{area_of}
 use Rattle.clfs_model.specs.Flush.{seal, flush, flushed}
 use Rattle.clfs_model.specs.Live.{live_at}

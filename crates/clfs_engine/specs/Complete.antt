@@ -11,9 +11,10 @@ use Rattle.clfs_model.specs.Accepted.{Limits, serve_limits, race_limits, is_with
 use Rattle.clfs_recover.specs.Files.{StandsFor, AreWholeFiles}
 use Rattle.clfs_manager.specs.Formatting.{open_slot_of}
 use Rattle.clfs_engine.specs.Answered.{IsAnswered, IsAnsweredInPart}
-use Rattle.clfs_engine.specs.Race.{AreRaceLines, LeavesFiles}
+use Rattle.clfs_engine.specs.Race.{LeavesFiles}
 use Rattle.clfs_engine.specs.Raced.{IsRaced, IsRacedInPart}
 use Rattle.clfs_engine.specs.Serve.{IsWholeAnswer, StopsShort, StaysUnopened, Writes}
+use Rattle.clfs_engine.specs.Taken.{AreReached}
 use Rattle.clfs_engine.specs.Told.{has_fault, has_damage, has_broken}
 
 -- The command was done, or memory ran out.
@@ -48,6 +49,7 @@ pub record AreCalm (answers : List Reply) : Type 0 where
 
 -- ---- serving
 
+-- Nothing outside fails, and the script is within the limits of serving: at most 67,108,864 bytes, and no line above 131,072.
 abbrev pub NothingFailsServing : DiskState → DiskState → Option (List ℕ) → ℕ → ℕ → ℕ → ℕ → Type 0
 NothingFailsServing = NothingFailsAnswering serve_limits
 
@@ -70,6 +72,7 @@ pub record ComesThrough (limits : Limits) (status buffers : ℕ) (old new : Disk
 
 -- ---- racing
 
+-- Nothing outside fails, and the script is within the limits of a race: at most 1,048,576 bytes and 10,000 lines, none above 131,072 bytes.
 abbrev pub NothingFailsRacing : DiskState → DiskState → Option (List ℕ) → ℕ → ℕ → ℕ → ℕ → Type 0
 NothingFailsRacing = NothingFailsAnswering race_limits
 
@@ -93,7 +96,7 @@ pub record RaceComesThrough (status buffers : ℕ) (old new : DiskState) (left l
   pub statuses : IsDone status
   pub done : status ≡ 0 → Writes (IsWholeAnswer race_limits (IsRacedCalmly buffers old new) left left_after) written written_after
   pub no_memory : status ≡ 5 → LeavesFiles old new
-      ⊎ ((lines : List (List ℕ)) × (AreRaceLines left left_after lines × IsRacedCalmlyInPart buffers old new lines))
+      ⊎ ((lines : List (List ℕ)) × (AreReached race_limits left left_after lines × IsRacedCalmlyInPart buffers old new lines))
 
 -- ---- making and judging a log
 

@@ -22,8 +22,8 @@ exists_text = codes "a log is there\n"
 abbrev pub IsFormatText : List ℕ → Type 0
 IsFormatText text = (text ≡ formatted_text) ⊎ ((text ≡ exists_text) ⊎ (text ≡ disk_fault_text))
 
--- A log was made, dedicated or not: the files stand for a fresh one, are at full length, and nothing is pending. No slot was open before, and the log came to
--- be there at once.
+-- A log was made, dedicated or not: the files stand for a fresh one, are at full length, and nothing is pending. No slot was open before, and the log
+-- came to be there at once.
 pub record MakesLog (shape : Shape) (containers : ℕ) (dedicated : Bool) (old new : DiskState) : Type 0 where
   pub formatted : TellsContents old → (buffers : ℕ) → StandsFor new.files (fresh shape dedicated containers buffers)
   pub whole : TellsContents old → AreWholeFiles new.files

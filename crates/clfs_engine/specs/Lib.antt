@@ -18,3 +18,5 @@ pub mod Crashed
 pub mod Trial
 pub mod Check
 pub mod Complete
+pub mod Crew
+pub mod Work

@@ -4,14 +4,14 @@ use Rattle.std.specs.Io.KnownBytes.{Consumes, Appends}
 use Rattle.clfs_ports.specs.Cause.{Rises}
 use Rattle.clfs_disk.specs.Files.{Unchanged}
 use Rattle.clfs_disk.specs.State.{DiskState, Passes}
-use Rattle.clfs_model.specs.Accepted.{race_limits, is_within, accepted}
-use Rattle.clfs_model.specs.Lines.{lines_of}
+use Rattle.clfs_model.specs.Accepted.{race_limits, is_within}
 use Rattle.clfs_recover.specs.declared.refusal.LoadRefusal.TheVariants.{DiskFault}
 use Rattle.clfs_race.specs.Taken.{TakesBytes}
 use Rattle.clfs_engine.specs.Ends.{disk_fault_text}
 use Rattle.clfs_engine.specs.Opened.{RefusesLog, IsNoLogText, IsRefusalText}
 use Rattle.clfs_engine.specs.Raced.{IsRaced, IsRacedInPart}
 use Rattle.clfs_engine.specs.Serve.{Answers, IsServeStatus, IsWholeAnswer, IsAnswerUpToFault, IsAnswerUpToLimit, Writes, WritesFront}
+use Rattle.clfs_engine.specs.Taken.{AreReached}
 
 -- The source failed before it passed a limit.
 pub record FailsWithin (left left_after : Option (List ℕ)) (source source_after : ℕ) : Type 0 where
@@ -27,11 +27,6 @@ IsRaceOutput Is left left_after source source_after text =
     IsWholeAnswer race_limits Is left left_after text
     ⊎ ((FailsWithin left left_after source source_after × IsAnswerUpToFault race_limits Is left left_after text)
     ⊎ IsAnswerUpToLimit race_limits Is left left_after text)
-
--- The lines that would have been answered: all of a script that was read to its end, or those that came whole.
-abbrev pub AreRaceLines : Option (List ℕ) → Option (List ℕ) → List (List ℕ) → Type 0
-AreRaceLines left left_after lines =
-    (bytes : List ℕ) × (Consumes left left_after bytes × ((lines ≡ lines_of bytes) ⊎ (lines ≡ accepted race_limits bytes)))
 
 -- The log wasn't opened, or it was and no call of it was made, and no file has changed.
 pub record LeavesFiles (old new : DiskState) : Type 0 where
@@ -58,7 +53,8 @@ pub record EndsRacing (status buffers : ℕ) (old new : DiskState) (left left_af
   pub disk_fault_line : status ≡ 4 → Appends written written_after disk_fault_text
   -- memory ran out, and nothing was written: no file has changed, or of each client the first lines were done
   pub no_memory_silence : status ≡ 5 → Appends written written_after []
-  pub no_memory : status ≡ 5 → LeavesFiles old new ⊎ ((lines : List (List ℕ)) × (AreRaceLines left left_after lines × IsRacedInPart buffers old new lines))
+  pub no_memory : status ≡ 5 → LeavesFiles old new
+      ⊎ ((lines : List (List ℕ)) × (AreReached race_limits left left_after lines × IsRacedInPart buffers old new lines))
   -- the files aren't a log's, and the line that says so was written
   pub no_log : status ≡ 6 → Writes (IsNoLogText old new) written written_after
   -- what the source gave passes a limit; the lines that came whole before it are answered, and then the line that says so

@@ -79,9 +79,9 @@ StopsAtFault limits Is InPart left left_after written written_after =
 abbrev pub IsAnswerStatus : ℕ → Type 0
 IsAnswerStatus status = (status ≡ 0) ⊎ ((status ≡ 2) ⊎ ((status ≡ 3) ⊎ ((status ≡ 5) ⊎ (status ≡ 7))))
 
--- How answering a script within limits ends: what each status says of the bytes that the source has left, before and after, of those that the sink has taken, and of
--- the two counts of faults. `Is` says that a text is the replies to lines, `InPart` that it is that or lacks the last reply, of which it has a front
--- where it is torn.
+-- How answering a script within limits ends: what each status says of the bytes that the source has left, before and after, of those that the sink has
+-- taken, and of the two counts of faults. `Is` says that a text is the replies to lines, `InPart` that it is that or lacks the last reply, of which it
+-- has a front where it is torn.
 pub record EndsAnswering (limits : Limits) (Is : Answers) (InPart : Bool → Answers) (status : ℕ) (left left_after written written_after : Option (List ℕ)) (source source_after sink sink_after : ℕ) : Type 0 where
   -- there is no other status
   pub statuses : IsAnswerStatus status
@@ -113,8 +113,8 @@ abbrev pub IsServeStatus : ℕ → Type 0
 IsServeStatus status = IsAnswerStatus status ⊎ ((status ≡ 4) ⊎ (status ≡ 6))
 
 -- How serving a script within limits ends: what each status says of the log on the disk, before and after, of the bytes that the source has left, of
--- those that the sink has taken, and of the two counts of faults. Where lines are answered it is by the log machine, from the state for which the files stood, and the
--- files stand for its flushed part then.
+-- those that the sink has taken, and of the two counts of faults. Where lines are answered it is by the log machine, from the state for which the files
+-- stood, and the files stand for its flushed part then.
 pub record EndsServing (limits : Limits) (status buffers : ℕ) (old new : DiskState) (left left_after written written_after : Option (List ℕ)) (source source_after sink sink_after : ℕ) : Type 0 where
   -- there is no other status
   pub statuses : IsServeStatus status

@@ -11,7 +11,8 @@
 //! calls are its lines in order.
 //!
 //! `trial` answers lines that `clfs_trial` makes, by a log in memory, and prints their sums. `check` judges a log by `clfs_check`, and prints what
-//! is in it.
+//! is in it. `crew` lets threads append by permits of one shared area (`clfs_area`), over a log in memory, and prints how many
+//! records there are and how many sectors are still held.
 //!
 //! If nothing outside fails, a command is done, unless memory runs out; each says so in a clause of its own, `complete` (specs/Complete.antt).
 #![tactic(auto)]
@@ -19,8 +20,11 @@
 mod answering;
 mod asking;
 mod checking;
+mod crewing;
+mod desk;
 mod formatting;
 mod input;
+mod making;
 mod output;
 mod program;
 mod racing;
@@ -32,9 +36,11 @@ mod streaming;
 mod tally;
 mod trying;
 mod workers;
+mod working;
 
 pub use checking::check;
 pub use clfs_race::{Gate, Pass};
+pub use crewing::crew;
 pub use formatting::format;
 pub use program::run;
 pub use racing::race;

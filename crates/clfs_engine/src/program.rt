@@ -3,11 +3,12 @@ ghost use Rattle.std.specs.Prelude.{◌≡◌, ◌≢◌, ℕ, Bool, map, Some, 
 ghost use Rattle.std.specs.String.{string_bytes};
 ghost use Rattle.clfs_lsn.specs.declared.shape.Shape.{Shape};
 ghost use Rattle.clfs_command.specs.Command.{command_of};
-ghost use Rattle.clfs_command.specs.declared.words.Command.TheVariants.{Format, Serve, Race, Trial, Check};
+ghost use Rattle.clfs_command.specs.declared.words.Command.TheVariants.{Format, Serve, Race, Trial, Crew, Check};
 ghost use Rattle.clfs_command.specs.declared.words.ScriptLength.{ScriptLength};
 ghost use Rattle.clfs_ports.specs.Cause.{Rises};
 ghost use Rattle.clfs_engine.specs.Check.{EndsCheck};
 ghost use Rattle.clfs_engine.specs.Complete.{IsDone, NothingFailsAnswering, NothingFailsRacing, NothingFailsMaking, NothingFailsChecking, ComesThrough, RaceComesThrough};
+ghost use Rattle.clfs_engine.specs.Crew.{EndsCrew};
 ghost use Rattle.clfs_engine.specs.Format.{EndsFormat};
 ghost use Rattle.clfs_engine.specs.Race.{EndsRacing};
 ghost use Rattle.clfs_engine.specs.Serve.{EndsServing, EndsByUsage};
@@ -15,6 +16,7 @@ ghost use Rattle.clfs_engine.specs.Taken.{limits_of};
 ghost use Rattle.clfs_engine.specs.Trial.{EndsTrial};
 
 use crate::checking::check;
+use crate::crewing::crew;
 use crate::formatting::format;
 use crate::output::printed;
 use crate::racing::race;
@@ -30,8 +32,8 @@ use std::sync::Wait;
 use std::thread::Threads;
 
 /// Runs the command that the words name: `serve` with its write buffers and the length that the script may have, `race` with its write buffers,
-/// `format` with the sizes of the log and whether it is dedicated, `trial` with its number and its count, or `check`. The words are those after the
-/// folder. Only a race starts threads, and waits for them.
+/// `format` with the sizes of the log and whether it is dedicated, `trial` with its number and its count, `crew` with its threads and its count, or
+/// `check`. The words are those after the folder. Only a race and a crew start threads, and wait for them.
 pub fn run<R: Threads + Wait + Sync, S: Source, K: Sink, D: Disk + Send + Drop>(
     rt: &R,
     alloc: Global,
@@ -51,6 +53,8 @@ pub fn run<R: Threads + Wait + Sync, S: Source, K: Sink, D: Disk + Send + Drop>(
         (K.written sink.old) (K.written sink.new) (K.faults sink.old) (K.faults sink.new) }
     ensures tries { (number count : ℕ) → command_of (map string_bytes words.now) ≡ Some (Trial number count)
         → EndsTrial result.status number count (K.written sink.old) (K.written sink.new) (K.faults sink.old) (K.faults sink.new) }
+    ensures crews { (threads count : ℕ) → command_of (map string_bytes words.now) ≡ Some (Crew threads count)
+        → EndsCrew result.status threads count (K.written sink.old) (K.written sink.new) (K.faults sink.old) (K.faults sink.new) }
     ensures checks { command_of (map string_bytes words.now) ≡ Some Check
         → EndsCheck result.status (D.state disk) (D.state result.disk) (K.written sink.old) (K.written sink.new) (K.faults sink.old) (K.faults sink.new) }
     // If nothing outside fails, a command is done, unless memory runs out.
@@ -63,6 +67,8 @@ pub fn run<R: Threads + Wait + Sync, S: Source, K: Sink, D: Disk + Send + Drop>(
     ensures making_is_done { (shape : Shape) (containers : ℕ) (dedicated : Bool) → command_of (map string_bytes words.now) ≡ Some (Format shape containers dedicated)
         → NothingFailsMaking (D.state disk) (D.state result.disk) (K.faults sink.old) (K.faults sink.new) → IsDone result.status }
     ensures trying_is_done { (number count : ℕ) → command_of (map string_bytes words.now) ≡ Some (Trial number count)
+        → (Rises (K.faults sink.old) (K.faults sink.new) → ⊥) → IsDone result.status }
+    ensures crewing_is_done { (threads count : ℕ) → command_of (map string_bytes words.now) ≡ Some (Crew threads count)
         → (Rises (K.faults sink.old) (K.faults sink.new) → ⊥) → IsDone result.status }
     ensures checking_is_done { command_of (map string_bytes words.now) ≡ Some Check
         → NothingFailsChecking (D.state disk) (D.state result.disk) (K.faults sink.old) (K.faults sink.new) → IsDone result.status }
@@ -101,6 +107,10 @@ pub fn run<R: Threads + Wait + Sync, S: Source, K: Sink, D: Disk + Send + Drop>(
         ) => format(alloc, shape, containers, dedicated, sink, disk),
         Ok(Command::Trial { number, count }) => Outcome {
             status: trial(alloc, number, count, sink),
+            disk,
+        },
+        Ok(Command::Crew { threads, count }) => Outcome {
+            status: crew(rt, alloc, threads, count, sink),
             disk,
         },
         Ok(Command::Check) => check(alloc, sink, disk),

@@ -1,7 +1,6 @@
 // A trial: the lines that are made of a number are answered by a log in memory, and their sums are printed. One line is there at a time, and the
 // memory of one serves all.
-ghost use Rattle.std.specs.Prelude.{◌≡◌, ◌+◌, ◌≤◌, ◌++◌, IfOk, OnOk, decimal};
-ghost use Rattle.clfs_lsn.specs.Words.{lsn_text};
+ghost use Rattle.std.specs.Prelude.{◌≡◌, ◌+◌, ◌≤◌, IfOk};
 ghost use Rattle.clfs_ports.specs.Cause.{Rises};
 ghost use Rattle.clfs_disk.specs.State.{TellsContents, IsSteady};
 ghost use Rattle.clfs_model.specs.Flush.{flushed};
@@ -12,6 +11,7 @@ ghost use Rattle.clfs_engine.specs.Complete.{IsDone};
 ghost use Rattle.clfs_engine.specs.Trial.{HasTried, trial_log, trial_text, IsTrialText, EndsTrial};
 
 use crate::answering::reply_to_line;
+use crate::making::made_log;
 use crate::output::printed;
 use crate::refusing::push_number;
 use crate::status::{DONE, NO_MEMORY};
@@ -22,7 +22,6 @@ use clfs_laws::refusals_are_the_calls_own;
 use clfs_lsn::{Bytes, Lsn, Shape};
 use clfs_manager::Manager;
 use clfs_ports::Sink;
-use clfs_recover::files_have_one_meaning;
 use clfs_text::push_lsn;
 use clfs_trial::{Generator, OPENING_LINES};
 use std::alloc::{AllocError, Global};
@@ -31,29 +30,6 @@ const SHAPE: Shape = Shape {
     block_sectors: 8,
     container_sectors: 1024,
 };
-
-const CONTAINERS: u32 = 8;
-
-const WRITE_BUFFERS: u32 = 4;
-
-// A log that is made on a disk without one, and opened. Over a steady disk memory alone can lack.
-fn made_log<D: Disk + Drop>(alloc: Global, disk: D) -> Result<Manager<D>, AllocError>
-    requires told { TellsContents (D.state disk) }
-    requires steady { IsSteady (D.state disk) }
-    ensures state { IfOk result (λ manager. manager.0 ≡ trial_log) }
-    ensures told { IfOk result (λ manager. TellsContents (D.state manager.1)) }
-    ensures steady { IfOk result (λ manager. IsSteady (D.state manager.1)) }
-    ensures whole { IfOk result (λ manager. AreWholeFiles (D.state manager.1).files) }
-{
-    files_have_one_meaning();
-    let Ok(disk) = Manager::format(alloc, disk, SHAPE, CONTAINERS, false) else {
-        return Err(AllocError);
-    };
-    match Manager::load(alloc, disk, WRITE_BUFFERS) {
-        Ok(manager) => Ok(manager),
-        Err(_) => Err(AllocError),
-    }
-}
 
 // Answers the lines of the trial of a number, with so many behind those that open the streams.
 fn answer_lines<D: Disk>(
@@ -142,7 +118,7 @@ fn tried_on<D: Disk + Drop>(
     requires few { count ≤ most_trial_lines }
     ensures { IfOk result (λ text. IsTrialText number count text) }
 {
-    let mut manager = made_log(alloc, disk)?;
+    let mut manager = made_log(alloc, disk, SHAPE)?;
     let text = sums(alloc, &mut manager, number, count);
     let _disk = manager.close();
     text

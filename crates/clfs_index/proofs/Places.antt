@@ -7,9 +7,8 @@ use Rattle.std.proofs.lemmas.Bool.{cases_Bool, cases_lt, eqb-false, ne_eqb, le-l
 use Rattle.std.proofs.lemmas.List.{drop_all}
 use Rattle.std.proofs.lemmas.Option.{get_or_from_slice_get}
 use Rattle.clfs_lsn.specs.declared.entry.Head.{Head}
-use Rattle.clfs_model.specs.Heads.{heads_from, head_at, head_above}
-use Rattle.clfs_sorted.specs.Heads.{lsn_of_head}
-use Rattle.clfs_sorted.specs.Rising.{AreRising, IsPlaceOf}
+use Rattle.clfs_lsn.specs.Heads.{heads_from, head_at, head_above, lsn_of_head}
+use Rattle.clfs_lsn.specs.Rising.{AreRising, IsPlaceOf}
 
 rising_tail : (head : Head) (heads : List Head) → AreRising lsn_of_head (head ∷ heads) → AreRising lsn_of_head heads
 rising_tail head heads rising = λ i j d before inside. rising (suc i) (suc j) d (omega arith) (omega arith)

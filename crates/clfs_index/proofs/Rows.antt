@@ -4,10 +4,9 @@ use Rattle.std.specs.List.{last_or}
 use Rattle.std.specs.Ordering.{is_lt, nat_cmp}
 use Rattle.std.proofs.lemmas.Bool.{cases_Bool, ltb-true, ltb-false}
 use Rattle.clfs_lsn.specs.declared.entry.Head.{Head}
-use Rattle.clfs_model.specs.Heads.{heads_from, head_at, head_above}
+use Rattle.clfs_lsn.specs.Heads.{heads_from, head_at, head_above, lsn_of_head}
 use Rattle.clfs_index.specs.Row.{Row}
-use Rattle.clfs_sorted.specs.Heads.{lsn_of_head}
-use Rattle.clfs_sorted.specs.Rising.{AreRising, IsPlaceOf}
+use Rattle.clfs_lsn.specs.Rising.{AreRising, IsPlaceOf}
 use Rattle.clfs_index.proofs.Places.{from_place, first_from, if_at, at_place, at_from_base, above_base, above_lsn, last_live, none_live_at_end}
 
 -- what a comparison of two LSNs answers

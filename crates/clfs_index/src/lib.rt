@@ -6,7 +6,7 @@
 //!
 //! A base that moves changes a number alone. What it leaves behind may still be needed: the record that a cursor stands at has the
 //! links that reading goes on with, though it is dead. So dead heads go only when the caller says below which LSN nothing is read
-//! any more, and then in whole pieces, as `clfs_sorted` says. Neither call takes memory.
+//! any more, and then in whole pieces, as `forget_below` of `clfs_lsn` says. Neither call takes memory.
 #![tactic(auto)]
 
 mod place;

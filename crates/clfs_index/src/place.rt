@@ -1,8 +1,8 @@
 // The place above an LSN in a sorted row.
 ghost use Rattle.std.specs.Prelude.{◌≡◌, ◌+◌, ◌<◌, ◌≤◌, true, length, slice_index_or};
 ghost use Rattle.clfs_lsn.specs.declared.entry.Head.{Head};
-ghost use Rattle.clfs_sorted.specs.Heads.{lsn_of_head};
-ghost use Rattle.clfs_sorted.specs.Rising.{AreRising, IsPlaceOf};
+ghost use Rattle.clfs_lsn.specs.Heads.{lsn_of_head};
+ghost use Rattle.clfs_lsn.specs.Rising.{AreRising, IsPlaceOf};
 
 use clfs_lsn::{Head, Lsn};
 

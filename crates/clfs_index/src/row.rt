@@ -3,12 +3,11 @@ ghost use Rattle.std.specs.Prelude.{◌≡◌, ℕ, ◌+◌, ◌*◌, ◌<◌, �
 ghost use Rattle.std.specs.List.{last_or};
 ghost use Rattle.std.specs.Option.{option_map};
 ghost use Rattle.clfs_lsn.specs.declared.entry.Head.{Head};
-ghost use Rattle.clfs_model.specs.Heads.{heads_from, head_at, head_above};
+ghost use Rattle.clfs_lsn.specs.Heads.{heads_from, head_at, head_above};
 ghost use Rattle.clfs_index.specs.declared.row.Found.{Found};
 
 use crate::place::place_above;
-use clfs_lsn::{Head, Lsn};
-use clfs_sorted::{forget_below, place_of};
+use clfs_lsn::{Head, Lsn, forget_below, place_of};
 use std::alloc::{AllocError, Global};
 use std::marker::Model;
 
@@ -35,8 +34,8 @@ impl Model for StreamIndex {
     ghost Value = { Row };
 
     ghost use Rattle.std.specs.Prelude.{◌-◌, vec_len, vec_capacity};
-    ghost use Rattle.clfs_sorted.specs.Heads.{lsn_of_head};
-    ghost use Rattle.clfs_sorted.specs.Rising.{AreRising};
+    ghost use Rattle.clfs_lsn.specs.Heads.{lsn_of_head};
+    ghost use Rattle.clfs_lsn.specs.Rising.{AreRising};
 
     ghost view = { λ s. record { base = s.base; heads = s.heads.items; room = vec_capacity s.heads - vec_len s.heads } };
 

@@ -20,10 +20,11 @@ use Rattle.clfs_model.specs.declared.refusal.Refusal.TheVariants as refusals
 use Rattle.clfs_model.specs.declared.reply.Reply.TheVariants as replies
 use Rattle.clfs_model.specs.declared.state.State.{State}
 use Rattle.clfs_model.specs.declared.state.Area.{Area}
-use Rattle.clfs_model.specs.declared.state.Cursor.{Cursor}
-use Rattle.clfs_model.specs.declared.state.CursorKind.{CursorKind}
-use Rattle.clfs_model.specs.declared.state.CursorKind.TheVariants.{Records, RestartAreas}
-use Rattle.clfs_model.specs.State.{base_of, area_of, set_base, change_area}
+use Rattle.clfs_lsn.specs.declared.cursor.Cursor.{Cursor}
+use Rattle.clfs_lsn.specs.declared.cursor.CursorKind.{CursorKind}
+use Rattle.clfs_lsn.specs.declared.cursor.CursorKind.TheVariants.{Records, RestartAreas}
+use Rattle.clfs_model.specs.State.{base_of, area_of, change_area}
+use Rattle.clfs_lsn.specs.Streams.{set_base}
 use Rattle.clfs_model.specs.Live.{active, live_at, last_live, lsn_or_null}
 use Rattle.clfs_model.specs.Space.{free, reserved, own_sum, grown}
 use Rattle.clfs_model.specs.Flush.{flushed, flush}

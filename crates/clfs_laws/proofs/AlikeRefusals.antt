@@ -15,20 +15,21 @@ use Rattle.clfs_lsn.specs.declared.policy.PolicyKind.TheVariants as kinds
 use Rattle.clfs_model.specs.declared.call.Call.{Call}
 use Rattle.clfs_model.specs.declared.call.Call.TheVariants as calls
 use Rattle.clfs_model.specs.declared.call.Draft.{Draft}
-use Rattle.clfs_model.specs.declared.call.Mode.{Mode}
+use Rattle.clfs_lsn.specs.declared.cursor.Mode.{Mode}
 use Rattle.clfs_model.specs.declared.refusal.Refusal.{Refusal}
 use Rattle.clfs_model.specs.declared.refusal.Refusal.TheVariants as refusals
 use Rattle.clfs_model.specs.declared.state.State.{State}
 use Rattle.clfs_model.specs.declared.state.Area.{Area}
-use Rattle.clfs_model.specs.declared.state.Cursor.{Cursor}
-use Rattle.clfs_model.specs.declared.state.CursorKind.{CursorKind}
-use Rattle.clfs_model.specs.declared.state.CursorKind.TheVariants.{Records, RestartAreas}
+use Rattle.clfs_lsn.specs.declared.cursor.Cursor.{Cursor}
+use Rattle.clfs_lsn.specs.declared.cursor.CursorKind.{CursorKind}
+use Rattle.clfs_lsn.specs.declared.cursor.CursorKind.TheVariants.{Records, RestartAreas}
 use Rattle.clfs_model.specs.State.{base_of, area_of}
 use Rattle.clfs_model.specs.Live.{hold, active, live, live_at, last_live, lsn_or_null}
 use Rattle.clfs_model.specs.Space.{free, reserved, own_sum, with_containers, growth_rate, size_limit, grown_if, grown, has_room}
 use Rattle.clfs_model.specs.Flush.{seal, flush}
 use Rattle.clfs_model.specs.Put.{made_ready, need_of, spent_of}
-use Rattle.clfs_model.specs.Reading.{next, is_restart, restart_areas, newest_restart, record_cursor, restart_cursor, next_of_cursor}
+use Rattle.clfs_model.specs.Reading.{next, restart_areas, newest_restart, record_cursor, restart_cursor, next_of_cursor}
+use Rattle.clfs_lsn.specs.Heads.{is_restart}
 use Rattle.clfs_model.specs.Archive.{extents}
 use Rattle.clfs_model.specs.Policies.{policy_refusal, is_installed, needed_containers}
 use Rattle.clfs_model.specs.Refusals.{refusal, refused_if, in_area, unless_two_containers, too_long, is_link, short, full, append_refusal, too_many_cursors, read_refusal, end_of_kind, next_refusal, is_base, invalid_base, restart_refusal, size_refusal}

@@ -11,14 +11,14 @@ use Rattle.clfs_lsn.specs.declared.policy.Policy.TheVariants as policies
 use Rattle.clfs_model.specs.declared.call.Call.{Call}
 use Rattle.clfs_model.specs.declared.call.Call.TheVariants as calls
 use Rattle.clfs_model.specs.declared.call.Draft.{Draft}
-use Rattle.clfs_model.specs.declared.call.Mode.TheVariants.{Previous, UndoNext, Forward}
+use Rattle.clfs_lsn.specs.declared.cursor.Mode.TheVariants.{Previous, UndoNext, Forward}
 use Rattle.clfs_model.specs.declared.refusal.Refusal.{Refusal}
 use Rattle.clfs_model.specs.declared.refusal.Refusal.TheVariants as refusals
 use Rattle.clfs_model.specs.declared.state.State.{State}
 use Rattle.clfs_model.specs.declared.state.Area.{Area}
-use Rattle.clfs_model.specs.declared.state.Cursor.{Cursor}
-use Rattle.clfs_model.specs.declared.state.CursorKind.{CursorKind}
-use Rattle.clfs_model.specs.declared.state.CursorKind.TheVariants.{Records, RestartAreas}
+use Rattle.clfs_lsn.specs.declared.cursor.Cursor.{Cursor}
+use Rattle.clfs_lsn.specs.declared.cursor.CursorKind.{CursorKind}
+use Rattle.clfs_lsn.specs.declared.cursor.CursorKind.TheVariants.{Records, RestartAreas}
 use Rattle.clfs_model.specs.State.{area_of, areas_of, base_of, stream_at}
 use Rattle.clfs_model.specs.Live.{live_at, last_live, active}
 use Rattle.clfs_model.specs.Space.{own_sum, free, reserved, grown, has_room, size_limit}

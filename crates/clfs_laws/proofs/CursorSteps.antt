@@ -7,11 +7,12 @@ use Rattle.std.proofs.lemmas.Bool.{cases_Bool, eqb-true, eq-eqb, ne_eqb, and_par
 use Rattle.std.proofs.lemmas.List.Folds.{find-append}
 use Rattle.clfs_model.specs.declared.state.State.{State}
 use Rattle.clfs_model.specs.declared.state.Area.{Area}
-use Rattle.clfs_model.specs.declared.state.Cursor.{Cursor}
-use Rattle.clfs_model.specs.declared.state.CursorKind.{CursorKind}
-use Rattle.clfs_model.specs.declared.state.CursorKind.TheVariants.{Records, RestartAreas}
+use Rattle.clfs_lsn.specs.declared.cursor.Cursor.{Cursor}
+use Rattle.clfs_lsn.specs.declared.cursor.CursorKind.{CursorKind}
+use Rattle.clfs_lsn.specs.declared.cursor.CursorKind.TheVariants.{Records, RestartAreas}
 use Rattle.clfs_model.specs.State.{area_of, change_area, is_area}
-use Rattle.clfs_model.specs.Reading.{is_over_restarts, unused_cursor, with_cursor, with_cursor_at}
+use Rattle.clfs_model.specs.Reading.{with_cursor, with_cursor_at}
+use Rattle.clfs_lsn.specs.Cursors.{is_over_restarts, unused_cursor}
 use Rattle.clfs_laws.specs.Cursors.{cursor_of_kind}
 use Rattle.clfs_laws.proofs.Finding.{KeepsName, find_changed}
 use Rattle.clfs_laws.proofs.RowSteps.{named_change}

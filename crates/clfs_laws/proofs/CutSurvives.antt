@@ -15,7 +15,8 @@ use Rattle.clfs_model.specs.declared.reply.Reply.{Reply}
 use Rattle.clfs_model.specs.declared.reply.Reply.TheVariants as replies
 use Rattle.clfs_model.specs.declared.state.State.{State}
 use Rattle.clfs_model.specs.declared.state.Area.{Area}
-use Rattle.clfs_model.specs.State.{area_of, set_base}
+use Rattle.clfs_model.specs.State.{area_of}
+use Rattle.clfs_lsn.specs.Streams.{set_base}
 use Rattle.clfs_model.specs.Space.{grown}
 use Rattle.clfs_model.specs.Flush.{block_start, first_or, flushed, flush, cut}
 use Rattle.clfs_model.specs.Put.{next_lsn, put, need_of, spend_if}

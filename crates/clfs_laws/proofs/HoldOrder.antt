@@ -11,7 +11,8 @@ use Rattle.clfs_lsn.specs.declared.place.Place.{Place}
 use Rattle.clfs_lsn.specs.declared.shape.Shape.{Shape}
 use Rattle.clfs_lsn.specs.declared.entry.LogEntry.{LogEntry}
 use Rattle.clfs_model.specs.declared.state.State.{State}
-use Rattle.clfs_model.specs.Live.{hold, least_or, live_lsns, is_live}
+use Rattle.clfs_model.specs.Live.{hold, live_lsns, is_live}
+use Rattle.clfs_lsn.specs.Heads.{least_or}
 use Rattle.clfs_model.specs.Valid.{IsRecord}
 use Rattle.clfs_laws.proofs.ValidPlaces.{IsSound, flushed_below}
 

@@ -22,9 +22,10 @@ use Rattle.clfs_model.specs.declared.reply.Reply.{Reply}
 use Rattle.clfs_model.specs.declared.reply.Reply.TheVariants as replies
 use Rattle.clfs_model.specs.declared.state.State.{State}
 use Rattle.clfs_model.specs.declared.state.Area.{Area}
-use Rattle.clfs_model.specs.declared.state.Stream.{Stream}
-use Rattle.clfs_model.specs.declared.state.Cursor.{Cursor}
-use Rattle.clfs_model.specs.State.{stream_at, base_of, set_base, area_of}
+use Rattle.clfs_lsn.specs.declared.stream.Stream.{Stream}
+use Rattle.clfs_lsn.specs.declared.cursor.Cursor.{Cursor}
+use Rattle.clfs_model.specs.State.{stream_at, base_of, area_of}
+use Rattle.clfs_lsn.specs.Streams.{set_base}
 use Rattle.clfs_model.specs.Live.{is_live, hold, last_live, live_at}
 use Rattle.clfs_model.specs.Space.{grown}
 use Rattle.clfs_model.specs.Flush.{seal, flush, flushed, cut}

@@ -7,8 +7,8 @@ use Rattle.clfs_lsn.specs.Place.{joins, begins_here}
 use Rattle.clfs_lsn.specs.declared.entry.LogEntry.{LogEntry}
 use Rattle.clfs_model.specs.declared.state.State.{State}
 use Rattle.clfs_model.specs.declared.state.Area.{Area}
-use Rattle.clfs_model.specs.declared.state.Stream.{Stream}
-use Rattle.clfs_model.specs.State.{set_base}
+use Rattle.clfs_lsn.specs.declared.stream.Stream.{Stream}
+use Rattle.clfs_lsn.specs.Streams.{set_base}
 use Rattle.clfs_model.specs.Answers.{rebased}
 use Rattle.clfs_model.specs.Flush.{seal, flush, cut}
 use Rattle.clfs_model.specs.Put.{put, hold_sizes, seal_if, flush_if}

@@ -6,7 +6,7 @@ use Rattle.clfs_model.specs.declared.refusal.Refusal.TheVariants as refusals
 use Rattle.clfs_model.specs.declared.reply.Reply.TheVariants as replies
 use Rattle.clfs_model.specs.declared.state.State.{State}
 use Rattle.clfs_model.specs.declared.state.Area.{Area}
-use Rattle.clfs_model.specs.declared.state.Cursor.{Cursor}
+use Rattle.clfs_lsn.specs.declared.cursor.Cursor.{Cursor}
 use Rattle.clfs_model.specs.State.{area_of, change_area}
 use Rattle.clfs_model.specs.Reading.{next_of_cursor, with_cursor_at}
 use Rattle.clfs_model.specs.Answers.{Outcome, outcome, over_area, moved_on}

@@ -16,7 +16,7 @@ use Rattle.clfs_model.specs.declared.reply.Happened.{Happened}
 use Rattle.clfs_model.specs.declared.reply.Reply.{Reply}
 use Rattle.clfs_model.specs.declared.state.State.{State}
 use Rattle.clfs_model.specs.declared.state.Area.{Area}
-use Rattle.clfs_model.specs.declared.state.Cursor.{Cursor}
+use Rattle.clfs_lsn.specs.declared.cursor.Cursor.{Cursor}
 use Rattle.clfs_model.specs.Live.{live_at}
 use Rattle.clfs_model.specs.Space.{grown}
 use Rattle.clfs_model.specs.Flush.{seal, flush, flushed}

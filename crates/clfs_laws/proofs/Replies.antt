@@ -13,9 +13,9 @@ use Rattle.clfs_model.specs.declared.reply.Reply.{Reply}
 use Rattle.clfs_model.specs.declared.reply.Reply.TheVariants as replies
 use Rattle.clfs_model.specs.declared.state.State.{State}
 use Rattle.clfs_model.specs.declared.state.Area.{Area}
-use Rattle.clfs_model.specs.declared.state.Cursor.{Cursor}
-use Rattle.clfs_model.specs.declared.state.CursorKind.{CursorKind}
-use Rattle.clfs_model.specs.declared.state.CursorKind.TheVariants.{Records, RestartAreas}
+use Rattle.clfs_lsn.specs.declared.cursor.Cursor.{Cursor}
+use Rattle.clfs_lsn.specs.declared.cursor.CursorKind.{CursorKind}
+use Rattle.clfs_lsn.specs.declared.cursor.CursorKind.TheVariants.{Records, RestartAreas}
 use Rattle.clfs_model.specs.State.{area_of, change_area}
 use Rattle.clfs_model.specs.Live.{live_at}
 use Rattle.clfs_model.specs.Space.{own_sum}

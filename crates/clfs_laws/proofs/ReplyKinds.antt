@@ -11,8 +11,8 @@ use Rattle.clfs_lsn.specs.declared.policy.Policy.TheVariants as policies
 use Rattle.clfs_model.specs.declared.call.Call.{Call}
 use Rattle.clfs_model.specs.declared.call.Call.TheVariants as calls
 use Rattle.clfs_model.specs.declared.call.Draft.{Draft}
-use Rattle.clfs_model.specs.declared.call.Mode.{Mode}
-use Rattle.clfs_model.specs.declared.call.Mode.TheVariants.{Previous, UndoNext, Forward}
+use Rattle.clfs_lsn.specs.declared.cursor.Mode.{Mode}
+use Rattle.clfs_lsn.specs.declared.cursor.Mode.TheVariants.{Previous, UndoNext, Forward}
 use Rattle.clfs_model.specs.declared.refusal.Refusal.{Refusal}
 use Rattle.clfs_model.specs.declared.refusal.Refusal.TheVariants as refusals
 use Rattle.clfs_model.specs.declared.reply.Happened.{Happened}
@@ -21,15 +21,16 @@ use Rattle.clfs_model.specs.declared.reply.Reply.{Reply}
 use Rattle.clfs_model.specs.declared.reply.Reply.TheVariants as replies
 use Rattle.clfs_model.specs.declared.state.State.{State}
 use Rattle.clfs_model.specs.declared.state.Area.{Area}
-use Rattle.clfs_model.specs.declared.state.Cursor.{Cursor}
-use Rattle.clfs_model.specs.declared.state.CursorKind.{CursorKind}
-use Rattle.clfs_model.specs.declared.state.CursorKind.TheVariants.{Records, RestartAreas}
+use Rattle.clfs_lsn.specs.declared.cursor.Cursor.{Cursor}
+use Rattle.clfs_lsn.specs.declared.cursor.CursorKind.{CursorKind}
+use Rattle.clfs_lsn.specs.declared.cursor.CursorKind.TheVariants.{Records, RestartAreas}
 use Rattle.clfs_model.specs.State.{area_of, base_of, stream_at}
 use Rattle.clfs_model.specs.Live.{live_at, last_live, active}
 use Rattle.clfs_model.specs.Space.{own_sum, free, reserved, grown, has_room, size_limit}
 use Rattle.clfs_model.specs.Flush.{flushed}
 use Rattle.clfs_model.specs.Put.{need_of, spent_of}
-use Rattle.clfs_model.specs.Reading.{newest_restart, next_of_cursor, record_cursor, restart_cursor, is_over_restarts}
+use Rattle.clfs_model.specs.Reading.{newest_restart, next_of_cursor, record_cursor, restart_cursor}
+use Rattle.clfs_lsn.specs.Cursors.{is_over_restarts}
 use Rattle.clfs_model.specs.Policies.{policy_refusal, needed_containers}
 use Rattle.clfs_model.specs.Refusals.{refused_if, too_long, short, full, name_fault, stream_number, append_refusal, restart_refusal, invalid_base, invalid_link, too_many_cursors, next_refusal, end_of_kind, is_link, is_base, refusal}
 use Rattle.clfs_model.specs.Answers.{Outcome, answer}

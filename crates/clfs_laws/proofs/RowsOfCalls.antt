@@ -16,15 +16,16 @@ use Rattle.clfs_model.specs.declared.refusal.Refusal.TheVariants as refusals
 use Rattle.clfs_model.specs.declared.reply.Reply.TheVariants as replies
 use Rattle.clfs_model.specs.declared.state.State.{State}
 use Rattle.clfs_model.specs.declared.state.Area.{Area}
-use Rattle.clfs_model.specs.declared.state.Cursor.{Cursor}
-use Rattle.clfs_model.specs.declared.state.CursorKind.{CursorKind}
-use Rattle.clfs_model.specs.declared.state.CursorKind.TheVariants.{Records, RestartAreas}
+use Rattle.clfs_lsn.specs.declared.cursor.Cursor.{Cursor}
+use Rattle.clfs_lsn.specs.declared.cursor.CursorKind.{CursorKind}
+use Rattle.clfs_lsn.specs.declared.cursor.CursorKind.TheVariants.{Records, RestartAreas}
 use Rattle.clfs_model.specs.State.{area_of, areas_of, is_area, change_area, change_first}
 use Rattle.clfs_model.specs.Live.{live_at}
 use Rattle.clfs_model.specs.Space.{own_sum, grown}
 use Rattle.clfs_model.specs.Flush.{flush, flushed}
 use Rattle.clfs_model.specs.Put.{put, spent_of, with_less_held, plain_record, need_of, seal_if, hold_sizes, spend_if, appended}
-use Rattle.clfs_model.specs.Reading.{next_of_cursor, record_cursor, restart_cursor, newest_restart, with_cursor, with_cursor_at, without_cursor, unused_cursor}
+use Rattle.clfs_model.specs.Reading.{next_of_cursor, record_cursor, restart_cursor, newest_restart, with_cursor, with_cursor_at, without_cursor}
+use Rattle.clfs_lsn.specs.Cursors.{unused_cursor}
 use Rattle.clfs_model.specs.Policies.{with_policy, without_policy}
 use Rattle.clfs_model.specs.Refusals.{stream_number, refusal}
 use Rattle.clfs_model.specs.Answers.{Outcome, outcome, answer, found_with_cursor, restarted, restart_record, rebased, archiving, flushed_to, new_area}

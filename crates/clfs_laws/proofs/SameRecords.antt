@@ -8,7 +8,8 @@ use Rattle.clfs_lsn.specs.Lsn.{container_of}
 use Rattle.clfs_lsn.specs.Place.{frontier}
 use Rattle.clfs_lsn.specs.declared.entry.LogEntry.{LogEntry}
 use Rattle.clfs_model.specs.declared.state.State.{State}
-use Rattle.clfs_model.specs.Live.{hold, is_live, live, live_lsns, least_or}
+use Rattle.clfs_model.specs.Live.{hold, is_live, live, live_lsns}
+use Rattle.clfs_lsn.specs.Heads.{least_or}
 use Rattle.clfs_model.specs.Flush.{IsSame}
 use Rattle.clfs_laws.proofs.HoldOrder.{hold_below_live}
 use Rattle.clfs_laws.proofs.LsnOrder.{both_true}

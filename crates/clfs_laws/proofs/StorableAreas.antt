@@ -14,12 +14,14 @@ use Rattle.clfs_model.specs.declared.refusal.Refusal.TheVariants as refusals
 use Rattle.clfs_model.specs.declared.reply.Reply.TheVariants as replies
 use Rattle.clfs_model.specs.declared.state.State.{State}
 use Rattle.clfs_model.specs.declared.state.Area.{Area}
-use Rattle.clfs_model.specs.declared.state.Cursor.{Cursor}
-use Rattle.clfs_model.specs.declared.state.CursorKind.{CursorKind}
-use Rattle.clfs_model.specs.declared.state.Stream.{Stream}
+use Rattle.clfs_lsn.specs.declared.cursor.Cursor.{Cursor}
+use Rattle.clfs_lsn.specs.declared.cursor.CursorKind.{CursorKind}
+use Rattle.clfs_lsn.specs.declared.stream.Stream.{Stream}
 use Rattle.clfs_model.specs.Conditions.{IsClient}
-use Rattle.clfs_model.specs.State.{stream_at, is_area, area_of, areas_of, change_area, least_unused}
-use Rattle.clfs_model.specs.Reading.{next_of_cursor, unused_cursor, is_over_restarts, record_cursor, restart_cursor, with_cursor, with_cursor_at, without_cursor, is_cursor_number}
+use Rattle.clfs_model.specs.State.{stream_at, is_area, area_of, areas_of, change_area}
+use Rattle.clfs_lsn.specs.Numbers.{least_unused}
+use Rattle.clfs_model.specs.Reading.{next_of_cursor, record_cursor, restart_cursor, with_cursor, with_cursor_at, without_cursor}
+use Rattle.clfs_lsn.specs.Cursors.{unused_cursor, is_over_restarts, is_cursor_number}
 use Rattle.clfs_model.specs.Refusals.{name_fault, stream_number, open_refusal, create_refusal, refused_if, too_long, too_many_cursors}
 use Rattle.clfs_model.specs.Answers.{outcome, opened, new_area, found_with_cursor, moved_on}
 use Rattle.clfs_model.specs.Storable.{IsCursor, IsAreaWithinLimits, IsWithinLimits}

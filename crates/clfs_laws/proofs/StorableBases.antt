@@ -10,8 +10,9 @@ use Rattle.clfs_model.specs.declared.call.Draft.{Draft}
 use Rattle.clfs_model.specs.declared.refusal.Refusal.TheVariants as refusals
 use Rattle.clfs_model.specs.declared.state.State.{State}
 use Rattle.clfs_model.specs.declared.state.Area.{Area}
-use Rattle.clfs_model.specs.declared.state.Stream.{Stream}
-use Rattle.clfs_model.specs.State.{stream_at, base_of, area_of, set_base}
+use Rattle.clfs_lsn.specs.declared.stream.Stream.{Stream}
+use Rattle.clfs_model.specs.State.{stream_at, base_of, area_of}
+use Rattle.clfs_lsn.specs.Streams.{set_base}
 use Rattle.clfs_model.specs.Live.{last_live}
 use Rattle.clfs_model.specs.Space.{grown}
 use Rattle.clfs_model.specs.Flush.{flush}

@@ -9,15 +9,16 @@ use Rattle.std.proofs.lemmas.List.Folds.{find-append}
 use Rattle.clfs_lsn.specs.declared.entry.LogEntry.{LogEntry}
 use Rattle.clfs_lsn.specs.declared.entry.Kind.{Kind}
 use Rattle.clfs_lsn.specs.declared.entry.Kind.TheVariants.{Plain, Restart}
-use Rattle.clfs_model.specs.declared.call.Mode.{Mode}
-use Rattle.clfs_model.specs.declared.call.Mode.TheVariants.{Previous, UndoNext, Forward}
+use Rattle.clfs_lsn.specs.declared.cursor.Mode.{Mode}
+use Rattle.clfs_lsn.specs.declared.cursor.Mode.TheVariants.{Previous, UndoNext, Forward}
 use Rattle.clfs_model.specs.declared.state.State.{State}
 use Rattle.clfs_model.specs.declared.state.Area.{Area}
-use Rattle.clfs_model.specs.declared.state.Cursor.{Cursor}
-use Rattle.clfs_model.specs.declared.state.CursorKind.{CursorKind}
-use Rattle.clfs_model.specs.declared.state.CursorKind.TheVariants.{Records, RestartAreas}
+use Rattle.clfs_lsn.specs.declared.cursor.Cursor.{Cursor}
+use Rattle.clfs_lsn.specs.declared.cursor.CursorKind.{CursorKind}
+use Rattle.clfs_lsn.specs.declared.cursor.CursorKind.TheVariants.{Records, RestartAreas}
 use Rattle.clfs_model.specs.Live.{is_live, live, live_at}
-use Rattle.clfs_model.specs.Reading.{entry_at, next, is_restart, restart_areas, newest_restart, next_of_cursor}
+use Rattle.clfs_model.specs.Reading.{entry_at, next, restart_areas, newest_restart, next_of_cursor}
+use Rattle.clfs_lsn.specs.Heads.{is_restart}
 use Rattle.clfs_model.specs.Storable.{IsOfCursor, IsCursor}
 use Rattle.clfs_model.specs.Valid.{IsValid}
 use Rattle.clfs_laws.proofs.Among.{IsAmong, found, each_among, among_recursion}

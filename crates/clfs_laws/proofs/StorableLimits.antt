@@ -10,10 +10,11 @@ use Rattle.clfs_lsn.specs.declared.entry.LogEntry.{LogEntry}
 use Rattle.clfs_model.specs.declared.call.Draft.{Draft}
 use Rattle.clfs_model.specs.declared.state.State.{State}
 use Rattle.clfs_model.specs.declared.state.Area.{Area}
-use Rattle.clfs_model.specs.declared.state.Cursor.{Cursor}
-use Rattle.clfs_model.specs.declared.state.Stream.{Stream}
+use Rattle.clfs_lsn.specs.declared.cursor.Cursor.{Cursor}
+use Rattle.clfs_lsn.specs.declared.stream.Stream.{Stream}
 use Rattle.clfs_model.specs.Conditions.{IsClient}
-use Rattle.clfs_model.specs.State.{is_area, areas_of, change_first, change_area, set_base}
+use Rattle.clfs_model.specs.State.{is_area, areas_of, change_first, change_area}
+use Rattle.clfs_lsn.specs.Streams.{set_base}
 use Rattle.clfs_model.specs.Space.{own_sum, with_containers, grown}
 use Rattle.clfs_model.specs.Flush.{flushed, seal, flush}
 use Rattle.clfs_model.specs.Put.{put, need_of, with_less_held, with_more_held, spend_if, hold_sizes, seal_if, flush_if, plain_record, appended}

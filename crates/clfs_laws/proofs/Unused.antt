@@ -4,7 +4,8 @@ use Rattle.std.specs.Prelude.{Option, Some, None, find, filter, not, ◌==◌, u
 use Rattle.std.specs.List.{list_any, range_with_len, AllByRecursion}
 use Rattle.std.proofs.lemmas.Bool.{cases_Bool, eqb-true, eqb-false, ne_eqb, ltb-true, ltb-false}
 use Rattle.clfs_model.specs.declared.state.Area.{Area}
-use Rattle.clfs_model.specs.State.{least_unused, is_area}
+use Rattle.clfs_model.specs.State.{is_area}
+use Rattle.clfs_lsn.specs.Numbers.{least_unused}
 
 -- whether one of some things has this number
 abbrev pub has_number : {X : Type 0} → (X → ℕ) → List X → ℕ → Bool

@@ -15,12 +15,13 @@ use Rattle.clfs_model.specs.declared.refusal.Refusal.{Refusal}
 use Rattle.clfs_model.specs.declared.refusal.Refusal.TheVariants as refusals
 use Rattle.clfs_model.specs.declared.state.State.{State}
 use Rattle.clfs_model.specs.declared.state.Area.{Area}
-use Rattle.clfs_model.specs.declared.state.Cursor.{Cursor}
-use Rattle.clfs_model.specs.declared.state.CursorKind.{CursorKind}
+use Rattle.clfs_lsn.specs.declared.cursor.Cursor.{Cursor}
+use Rattle.clfs_lsn.specs.declared.cursor.CursorKind.{CursorKind}
 use Rattle.clfs_model.specs.State.{stream_at, is_area, area_of, areas_of, change_first, change_area}
 use Rattle.clfs_model.specs.Space.{free, reserved, own_sum, grown, has_room}
 use Rattle.clfs_model.specs.Put.{with_less_held, with_more_held, hold_sizes}
-use Rattle.clfs_model.specs.Reading.{with_cursor, with_cursor_at, without_cursor, unused_cursor}
+use Rattle.clfs_model.specs.Reading.{with_cursor, with_cursor_at, without_cursor}
+use Rattle.clfs_lsn.specs.Cursors.{unused_cursor}
 use Rattle.clfs_model.specs.Refusals.{refused_if, too_long, refusal}
 use Rattle.clfs_model.specs.Answers.{new_area}
 use Rattle.clfs_model.specs.Valid.{IsValid, AreDifferentAreas, IsArea}

@@ -9,8 +9,9 @@ use Rattle.clfs_lsn.specs.Lsn.{null_lsn}
 use Rattle.clfs_lsn.specs.Place.{frontier}
 use Rattle.clfs_lsn.specs.declared.entry.LogEntry.{LogEntry}
 use Rattle.clfs_model.specs.declared.state.State.{State}
-use Rattle.clfs_model.specs.declared.state.Stream.{Stream}
-use Rattle.clfs_model.specs.State.{stream_at, base_of, set_base}
+use Rattle.clfs_lsn.specs.declared.stream.Stream.{Stream}
+use Rattle.clfs_model.specs.State.{stream_at, base_of}
+use Rattle.clfs_lsn.specs.Streams.{set_base}
 use Rattle.clfs_model.specs.Live.{is_live, live, live_at, hold, last_live, lsn_or_null}
 use Rattle.clfs_model.specs.Flush.{flushed, flush}
 use Rattle.clfs_model.specs.Refusals.{is_base}

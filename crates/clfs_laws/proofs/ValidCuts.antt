@@ -12,7 +12,7 @@ use Rattle.clfs_lsn.specs.declared.shape.Shape.{Shape}
 use Rattle.clfs_lsn.specs.declared.entry.LogEntry.{LogEntry}
 use Rattle.clfs_lsn.specs.declared.entry.Kind.TheVariants.{Restart}
 use Rattle.clfs_model.specs.declared.state.State.{State}
-use Rattle.clfs_model.specs.declared.state.Stream.{Stream}
+use Rattle.clfs_lsn.specs.declared.stream.Stream.{Stream}
 use Rattle.clfs_model.specs.State.{fresh}
 use Rattle.clfs_model.specs.Live.{hold, is_live}
 use Rattle.clfs_model.specs.Flush.{block_start, first_or, flushed, cut}

@@ -14,8 +14,9 @@ use Rattle.clfs_lsn.specs.declared.shape.Shape.{Shape}
 use Rattle.clfs_lsn.specs.declared.entry.LogEntry.{LogEntry}
 use Rattle.clfs_lsn.specs.declared.entry.Kind.TheVariants.{Restart}
 use Rattle.clfs_model.specs.declared.state.State.{State}
-use Rattle.clfs_model.specs.declared.state.Stream.{Stream}
-use Rattle.clfs_model.specs.Live.{hold, active, least_or, live_lsns}
+use Rattle.clfs_lsn.specs.declared.stream.Stream.{Stream}
+use Rattle.clfs_model.specs.Live.{hold, active, live_lsns}
+use Rattle.clfs_lsn.specs.Heads.{least_or}
 use Rattle.clfs_model.specs.Space.{free, reserved}
 use Rattle.clfs_model.specs.Flush.{block_start, first_or, flushed, seal, flush}
 use Rattle.clfs_model.specs.Reading.{entry_at}

@@ -14,12 +14,14 @@ use Rattle.clfs_model.specs.declared.refusal.Refusal.{Refusal}
 use Rattle.clfs_model.specs.declared.refusal.Refusal.TheVariants as refusals
 use Rattle.clfs_model.specs.declared.state.State.{State}
 use Rattle.clfs_model.specs.declared.state.Area.{Area}
-use Rattle.clfs_model.specs.State.{stream_at, base_of, area_of, set_base}
+use Rattle.clfs_model.specs.State.{stream_at, base_of, area_of}
+use Rattle.clfs_lsn.specs.Streams.{set_base}
 use Rattle.clfs_model.specs.Live.{is_live, live, last_live, lsn_or_null}
 use Rattle.clfs_model.specs.Space.{free, reserved, own_sum, with_containers, grown, has_room}
 use Rattle.clfs_model.specs.Flush.{flushed, flush}
 use Rattle.clfs_model.specs.Put.{next_lsn, put, need_of, spent_of, spend_if}
-use Rattle.clfs_model.specs.Reading.{is_restart, restart_areas, newest_restart}
+use Rattle.clfs_model.specs.Reading.{restart_areas, newest_restart}
+use Rattle.clfs_lsn.specs.Heads.{is_restart}
 use Rattle.clfs_model.specs.Refusals.{is_base, invalid_base, short, full, restart_refusal}
 use Rattle.clfs_model.specs.Answers.{restart_record, restarted}
 use Rattle.clfs_model.specs.Valid.{IsValid}

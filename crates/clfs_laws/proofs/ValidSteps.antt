@@ -13,14 +13,15 @@ use Rattle.clfs_model.specs.declared.reply.Reply.{Reply}
 use Rattle.clfs_model.specs.declared.reply.Reply.TheVariants as replies
 use Rattle.clfs_model.specs.declared.state.State.{State}
 use Rattle.clfs_model.specs.declared.state.Area.{Area}
-use Rattle.clfs_model.specs.declared.state.CursorKind.{CursorKind}
-use Rattle.clfs_model.specs.declared.state.CursorKind.TheVariants.{Records, RestartAreas}
+use Rattle.clfs_lsn.specs.declared.cursor.CursorKind.{CursorKind}
+use Rattle.clfs_lsn.specs.declared.cursor.CursorKind.TheVariants.{Records, RestartAreas}
 use Rattle.clfs_model.specs.State.{area_of, is_area, change_area}
 use Rattle.clfs_model.specs.Live.{live_at}
 use Rattle.clfs_model.specs.Space.{own_sum, free, reserved, grown, has_room}
 use Rattle.clfs_model.specs.Flush.{flushed}
 use Rattle.clfs_model.specs.Put.{next_lsn, appended}
-use Rattle.clfs_model.specs.Reading.{newest_restart, record_cursor, restart_cursor, next_of_cursor, unused_cursor, with_cursor, with_cursor_at, without_cursor, cursor_of}
+use Rattle.clfs_model.specs.Reading.{newest_restart, record_cursor, restart_cursor, next_of_cursor, with_cursor, with_cursor_at, without_cursor, cursor_of}
+use Rattle.clfs_lsn.specs.Cursors.{unused_cursor}
 use Rattle.clfs_model.specs.Refusals.{refusal, in_area, unless_two_containers, too_long, full, short, append_refusal, restart_refusal, invalid_base, read_refusal, next_refusal, too_many_cursors, refused_if}
 use Rattle.clfs_model.specs.Answers.{Outcome, outcome, answer, found_with_cursor, read_at, read_newest_restart, moved_on, reserved_for, released, advanced, restarted, flushed_to}
 use Rattle.clfs_model.specs.Step.{Step}

@@ -14,11 +14,12 @@ use Rattle.clfs_lsn.specs.Place.{frontier}
 use Rattle.clfs_lsn.specs.declared.entry.LogEntry.{LogEntry}
 use Rattle.clfs_model.specs.declared.refusal.Refusal.TheVariants as refusals
 use Rattle.clfs_model.specs.declared.state.State.{State}
-use Rattle.clfs_model.specs.declared.state.Stream.{Stream}
-use Rattle.clfs_model.specs.State.{stream_at, base_of, set_base}
+use Rattle.clfs_lsn.specs.declared.stream.Stream.{Stream}
+use Rattle.clfs_model.specs.State.{stream_at, base_of}
+use Rattle.clfs_lsn.specs.Streams.{set_base, stream_number_from}
 use Rattle.clfs_model.specs.Live.{is_live, hold, last_live}
 use Rattle.clfs_model.specs.Flush.{block_start, first_or, flushed, flush}
-use Rattle.clfs_model.specs.Refusals.{refused_if, name_fault, stream_number, stream_number_from, open_refusal, is_base, invalid_base, tail_refusal}
+use Rattle.clfs_model.specs.Refusals.{refused_if, name_fault, stream_number, open_refusal, is_base, invalid_base, tail_refusal}
 use Rattle.clfs_model.specs.declared.reply.Reply.TheVariants as replies
 use Rattle.clfs_model.specs.Answers.{outcome, opened, archiving, advanced}
 use Rattle.clfs_model.specs.Valid.{IsValid, IsWaiting}

@@ -4,7 +4,7 @@ ghost use Rattle.clfs_lsn.specs.Place.{frontier};
 ghost use Rattle.clfs_lsn.specs.declared.entry.LogEntry.{LogEntry};
 ghost use Rattle.clfs_model.specs.declared.call.Call.{Call};
 ghost use Rattle.clfs_model.specs.declared.call.Call.TheVariants as calls;
-ghost use Rattle.clfs_model.specs.declared.call.Mode.{Mode};
+ghost use Rattle.clfs_lsn.specs.declared.cursor.Mode.{Mode};
 ghost use Rattle.clfs_model.specs.declared.refusal.Refusal.{Refusal};
 ghost use Rattle.clfs_model.specs.declared.refusal.Refusal.TheVariants as refusals;
 ghost use Rattle.clfs_model.specs.declared.reply.Happened.{Happened};

@@ -9,3 +9,8 @@ pub mod Names
 pub mod Checks
 pub mod Spelling
 pub mod Head
+pub mod Numbers
+pub mod Streams
+pub mod Cursors
+pub mod Rising
+pub mod Heads

@@ -27,12 +27,13 @@ use Rattle.clfs_archive.specs.Blocks.{AreSealed}
 use Rattle.clfs_tables.specs.Tables.{HasSame, Tabled}
 use Rattle.clfs_manager.specs.Memory.{Holds}
 use Rattle.clfs_model.specs.Live.{hold}
-use Rattle.clfs_model.specs.Refusals.{name_fault, open_refusal, refusal, refused_if, stream_number, stream_number_from}
+use Rattle.clfs_model.specs.Refusals.{name_fault, open_refusal, refusal, refused_if, stream_number}
+use Rattle.clfs_lsn.specs.Streams.{stream_number_from}
 use Rattle.clfs_model.specs.Step.{Step}
 use Rattle.clfs_model.specs.Ways.{GoesTheseWays}
 use Rattle.clfs_buffers.specs.Buffered.{Buffered}
 use Rattle.clfs_physical.specs.Stored.{Blocks}
-use Rattle.clfs_recover.specs.Files.{streams_with}
+use Rattle.clfs_base.specs.Streams.{streams_with}
 use Rattle.clfs_recover.specs.Logs.{IsLogWith, stored_state}
 use Rattle.clfs_manager.specs.Calls.{Steps}
 use Rattle.clfs_manager.specs.OnDisk.{IsManaged, IsStored, AreKept}

@@ -12,7 +12,8 @@ use Rattle.clfs_base.specs.declared.image.BaseImage.{BaseImage}
 use Rattle.clfs_laws.specs.Between.{IsLaid}
 use Rattle.clfs_model.specs.declared.state.State.{State}
 use Rattle.clfs_model.specs.Flush.{cut, flushed, IsSame}
-use Rattle.clfs_model.specs.Live.{hold, is_live, least_or, live_lsns}
+use Rattle.clfs_model.specs.Live.{hold, is_live, live_lsns}
+use Rattle.clfs_lsn.specs.Heads.{least_or}
 use Rattle.clfs_model.specs.Valid.{IsValid}
 use Rattle.clfs_physical.specs.Stored.{Blocks}
 use Rattle.clfs_policy.specs.Ranges.{AreAllowed}

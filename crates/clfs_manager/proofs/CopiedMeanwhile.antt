@@ -16,7 +16,8 @@ use Rattle.clfs_model.specs.Flush.{IsSame, cut, flushed}
 use Rattle.clfs_model.specs.Live.{hold}
 use Rattle.clfs_model.specs.Run.{Request}
 use Rattle.clfs_model.specs.Space.{with_containers}
-use Rattle.clfs_model.specs.State.{base_of, set_base, stream_at}
+use Rattle.clfs_model.specs.State.{base_of, stream_at}
+use Rattle.clfs_lsn.specs.Streams.{set_base}
 use Rattle.clfs_model.specs.Survivors.{Survives}
 use Rattle.clfs_model.specs.Valid.{IsValid}
 use Rattle.clfs_physical.specs.Changes.{next_copy, with_stream as with_row, with_containers as counting}

@@ -17,10 +17,11 @@ use Rattle.clfs_laws.specs.Between.{IsLaid}
 use Rattle.clfs_disk.specs.State.{DiskState}
 use Rattle.clfs_disk.specs.declared.disk.Failed.{Failed}
 use Rattle.clfs_model.specs.declared.state.State.{State}
-use Rattle.clfs_model.specs.declared.state.Stream.{Stream}
+use Rattle.clfs_lsn.specs.declared.stream.Stream.{Stream}
 use Rattle.clfs_model.specs.State.{stream_at}
 use Rattle.clfs_model.specs.Flush.{block_start, cut, flush, flushed}
-use Rattle.clfs_model.specs.Live.{hold, least_or, live_lsns}
+use Rattle.clfs_model.specs.Live.{hold, live_lsns}
+use Rattle.clfs_lsn.specs.Heads.{least_or}
 use Rattle.clfs_model.specs.Storable.{IsStorable, HasMovedBase}
 use Rattle.clfs_model.specs.Valid.{IsValid, IsRecord, HasRanges}
 use Rattle.clfs_physical.specs.Stored.{Newest, Blocks}

@@ -6,7 +6,8 @@ use Rattle.std.proofs.lemmas.List.Elements.{All-nil, All-cons, All-head, All-tai
 use Rattle.clfs_lsn.specs.Place.{frontier}
 use Rattle.clfs_lsn.specs.declared.entry.LogEntry.{LogEntry}
 use Rattle.clfs_model.specs.declared.state.State.{State}
-use Rattle.clfs_model.specs.Live.{least_or, live_lsns, hold, is_live}
+use Rattle.clfs_model.specs.Live.{live_lsns, hold, is_live}
+use Rattle.clfs_lsn.specs.Heads.{least_or}
 
 min_from : (low a b : ℕ) → low ≤ a → low ≤ b → low ≤ min a b
 min_from low a b of_a of_b = omega (arith, of_a, of_b)

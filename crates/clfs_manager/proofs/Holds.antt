@@ -5,8 +5,9 @@ use Rattle.clfs_lsn.specs.Place.{frontier}
 use Rattle.clfs_lsn.specs.declared.entry.Head.{Head}
 use Rattle.clfs_lsn.specs.declared.place.Place.{Place}
 use Rattle.clfs_model.specs.declared.state.State.{State}
-use Rattle.clfs_model.specs.declared.state.Stream.{Stream}
-use Rattle.clfs_model.specs.Heads.{heads_of, hold_of}
+use Rattle.clfs_lsn.specs.declared.stream.Stream.{Stream}
+use Rattle.clfs_model.specs.Heads.{heads_of}
+use Rattle.clfs_lsn.specs.Heads.{hold_of}
 use Rattle.clfs_model.specs.Live.{hold}
 use Rattle.clfs_model.specs.State.{base_of}
 use Rattle.clfs_tables.specs.Tables.{base_in}

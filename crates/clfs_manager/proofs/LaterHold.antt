@@ -10,10 +10,11 @@ use Rattle.clfs_lsn.specs.Lsn.{null_lsn}
 use Rattle.clfs_lsn.specs.Place.{frontier}
 use Rattle.clfs_lsn.specs.declared.entry.LogEntry.{LogEntry}
 use Rattle.clfs_model.specs.declared.state.State.{State}
-use Rattle.clfs_model.specs.declared.state.Stream.{Stream}
+use Rattle.clfs_lsn.specs.declared.stream.Stream.{Stream}
 use Rattle.clfs_model.specs.Flush.{flushed}
-use Rattle.clfs_model.specs.Live.{hold, is_live, least_or, live_lsns}
-use Rattle.clfs_model.specs.State.{set_base}
+use Rattle.clfs_model.specs.Live.{hold, is_live, live_lsns}
+use Rattle.clfs_lsn.specs.Heads.{least_or}
+use Rattle.clfs_lsn.specs.Streams.{set_base}
 use Rattle.clfs_model.specs.Valid.{IsRecord}
 use Rattle.clfs_tables.specs.Tables.{base_in}
 use Rattle.clfs_manager.specs.Restarts.{rebased_streams}

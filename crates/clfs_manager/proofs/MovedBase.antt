@@ -15,11 +15,12 @@ use Rattle.clfs_base.specs.Spelling.{IsImage, IsName, AreRows, current, flag, ro
 use Rattle.clfs_base.specs.declared.image.BaseImage.{BaseImage}
 use Rattle.clfs_base.specs.declared.image.Row.{Row}
 use Rattle.clfs_model.specs.declared.state.State.{State}
-use Rattle.clfs_model.specs.declared.state.Stream.{Stream}
+use Rattle.clfs_lsn.specs.declared.stream.Stream.{Stream}
 use Rattle.clfs_model.specs.Heads.{heads_of}
 use Rattle.clfs_model.specs.Live.{hold, is_live, last_live, live, live_at, lsn_or_null}
 use Rattle.clfs_model.specs.Refusals.{is_base}
-use Rattle.clfs_model.specs.State.{base_of, set_base}
+use Rattle.clfs_model.specs.State.{base_of}
+use Rattle.clfs_lsn.specs.Streams.{set_base}
 use Rattle.clfs_buffers.specs.Buffered.{Buffered}
 use Rattle.clfs_physical.specs.Changes.{with_base as row_bases}
 use Rattle.clfs_physical.specs.Stored.{Blocks}

@@ -15,10 +15,11 @@ use Rattle.clfs_lsn.specs.declared.place.Place.{Place}
 use Rattle.clfs_lsn.specs.declared.shape.Shape.{Shape}
 use Rattle.clfs_lsn.specs.declared.entry.LogEntry.{LogEntry}
 use Rattle.clfs_model.specs.declared.state.State.{State}
-use Rattle.clfs_model.specs.declared.state.Stream.{Stream}
+use Rattle.clfs_lsn.specs.declared.stream.Stream.{Stream}
 use Rattle.clfs_model.specs.State.{stream_at}
 use Rattle.clfs_model.specs.Flush.{block_start, flushed, first_or}
-use Rattle.clfs_model.specs.Live.{least_or, live_lsns, hold, is_live}
+use Rattle.clfs_model.specs.Live.{live_lsns, hold, is_live}
+use Rattle.clfs_lsn.specs.Heads.{least_or}
 use Rattle.clfs_model.specs.Valid.{IsValid, IsRecord, IsWaiting, HasRanges, HasRecords, HasWaiting}
 use Rattle.clfs_tables.specs.Tables.{IsNumber}
 

@@ -22,7 +22,7 @@ use Rattle.clfs_disk.specs.State.{DiskState}
 use Rattle.clfs_disk.specs.declared.disk.Failed.{Failed}
 use Rattle.clfs_laws.specs.Between.{IsReadyFor, IsWhole, KeepsTables}
 use Rattle.clfs_model.specs.declared.state.State.{State}
-use Rattle.clfs_model.specs.declared.state.Stream.{Stream}
+use Rattle.clfs_lsn.specs.declared.stream.Stream.{Stream}
 use Rattle.clfs_model.specs.Flush.{block_start, first_or, seal, flushed, cut}
 use Rattle.clfs_model.specs.Heads.{heads_of}
 use Rattle.clfs_model.specs.Live.{hold}

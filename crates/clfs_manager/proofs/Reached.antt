@@ -10,17 +10,18 @@ use Rattle.clfs_lsn.specs.Head.{head_of}
 use Rattle.clfs_lsn.specs.Place.{frontier}
 use Rattle.clfs_lsn.specs.declared.entry.Head.{Head}
 use Rattle.clfs_lsn.specs.declared.entry.LogEntry.{LogEntry}
-use Rattle.clfs_model.specs.declared.call.Mode.{Mode}
-use Rattle.clfs_model.specs.declared.call.Mode.TheVariants.{Previous, UndoNext, Forward}
+use Rattle.clfs_lsn.specs.declared.cursor.Mode.{Mode}
+use Rattle.clfs_lsn.specs.declared.cursor.Mode.TheVariants.{Previous, UndoNext, Forward}
 use Rattle.clfs_model.specs.declared.state.State.{State}
 use Rattle.clfs_model.specs.declared.state.Area.{Area}
-use Rattle.clfs_model.specs.declared.state.Cursor.{Cursor}
-use Rattle.clfs_model.specs.declared.state.Stream.{Stream}
-use Rattle.clfs_model.specs.declared.state.CursorKind.{CursorKind}
-use Rattle.clfs_model.specs.declared.state.CursorKind.TheVariants.{Records, RestartAreas}
-use Rattle.clfs_model.specs.Heads.{heads_of, head_at}
-use Rattle.clfs_model.specs.Live.{live, live_at, live_lsns, hold, is_live, least_or}
-use Rattle.clfs_model.specs.Reading.{entry_at, is_restart, next, newest_restart, restart_areas, next_of_cursor}
+use Rattle.clfs_lsn.specs.declared.cursor.Cursor.{Cursor}
+use Rattle.clfs_lsn.specs.declared.stream.Stream.{Stream}
+use Rattle.clfs_lsn.specs.declared.cursor.CursorKind.{CursorKind}
+use Rattle.clfs_lsn.specs.declared.cursor.CursorKind.TheVariants.{Records, RestartAreas}
+use Rattle.clfs_model.specs.Heads.{heads_of}
+use Rattle.clfs_lsn.specs.Heads.{head_at, least_or, is_restart}
+use Rattle.clfs_model.specs.Live.{live, live_at, live_lsns, hold, is_live}
+use Rattle.clfs_model.specs.Reading.{entry_at, next, newest_restart, restart_areas, next_of_cursor}
 use Rattle.clfs_model.specs.State.{area_of}
 use Rattle.clfs_model.specs.Storable.{IsAreaWithinLimits, IsCursor}
 use Rattle.clfs_model.specs.Valid.{IsArea}

@@ -10,7 +10,7 @@ use Rattle.clfs_lsn.specs.declared.entry.LogEntry.{LogEntry}
 use Rattle.clfs_laws.specs.Between.{IsLaid, IsReadiedFor, IsWhole, KeepsTables, MayMove, MayPut}
 use Rattle.clfs_model.specs.declared.refusal.Refusal.{Refusal}
 use Rattle.clfs_model.specs.declared.state.State.{State}
-use Rattle.clfs_model.specs.declared.state.Stream.{Stream}
+use Rattle.clfs_lsn.specs.declared.stream.Stream.{Stream}
 use Rattle.clfs_model.specs.Answers.{rebased}
 use Rattle.clfs_model.specs.State.{base_of}
 use Rattle.clfs_tables.specs.Tables.{IsNumber, base_in}

@@ -12,11 +12,12 @@ use Rattle.clfs_lsn.specs.Lsn.{null_lsn, lsn_number, container_of}
 use Rattle.clfs_lsn.specs.declared.entry.LogEntry.{LogEntry}
 use Rattle.clfs_lsn.specs.declared.place.Place.{Place}
 use Rattle.clfs_model.specs.declared.state.State.{State}
-use Rattle.clfs_model.specs.declared.state.Stream.{Stream}
+use Rattle.clfs_lsn.specs.declared.stream.Stream.{Stream}
 use Rattle.clfs_model.specs.Answers.{rebased}
 use Rattle.clfs_model.specs.Flush.{block_start, flush, flushed}
 use Rattle.clfs_model.specs.Live.{hold}
-use Rattle.clfs_model.specs.State.{base_of, set_base}
+use Rattle.clfs_model.specs.State.{base_of}
+use Rattle.clfs_lsn.specs.Streams.{set_base}
 use Rattle.clfs_model.specs.Storable.{IsStorable}
 use Rattle.clfs_model.specs.Valid.{IsValid}
 use Rattle.clfs_physical.specs.Stored.{Newest, Blocks}

@@ -8,7 +8,8 @@ use Rattle.clfs_lsn.specs.Place.{frontier}
 use Rattle.clfs_lsn.specs.declared.entry.LogEntry.{LogEntry}
 use Rattle.clfs_model.specs.declared.state.State.{State}
 use Rattle.clfs_model.specs.Flush.{IsSame, needed_records}
-use Rattle.clfs_model.specs.Live.{hold, is_live, least_or}
+use Rattle.clfs_model.specs.Live.{hold, is_live}
+use Rattle.clfs_lsn.specs.Heads.{least_or}
 use Rattle.clfs_recover.specs.Logs.{records_from_container}
 use Rattle.clfs_manager.proofs.Among.{here, there}
 

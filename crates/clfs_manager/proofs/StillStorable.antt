@@ -5,7 +5,7 @@ use Rattle.std.proofs.lemmas.Bool.{cases_Bool}
 use Rattle.std.proofs.lemmas.List.Elements.{All-nil, All-cons, All-head, All-tail, All-weaker}
 use Rattle.clfs_model.specs.declared.state.State.{State}
 use Rattle.clfs_model.specs.declared.state.Area.{Area}
-use Rattle.clfs_model.specs.declared.state.Cursor.{Cursor}
+use Rattle.clfs_lsn.specs.declared.cursor.Cursor.{Cursor}
 use Rattle.clfs_model.specs.Put.{hold_sizes, with_more_held}
 use Rattle.clfs_model.specs.Space.{own_sum, with_containers}
 use Rattle.clfs_model.specs.State.{areas_of, change_area, change_first, is_area}

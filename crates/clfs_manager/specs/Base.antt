@@ -1,7 +1,7 @@
 -- Moving the base of a stream, and forgetting what lies below the hold.
 use Rattle.std.specs.Prelude.{◌≡◌, ℕ}
 use Rattle.clfs_model.specs.declared.state.State.{State}
-use Rattle.clfs_model.specs.State.{set_base}
+use Rattle.clfs_lsn.specs.Streams.{set_base}
 use Rattle.clfs_manager.specs.declared.log.Log.{Log}
 
 -- the state with the base of a stream moved

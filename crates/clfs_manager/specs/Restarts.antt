@@ -3,8 +3,8 @@ use Rattle.std.specs.Prelude.{◌≡◌, ℕ, ◌==◌, ◌++◌, if◌then◌el
 use Rattle.clfs_lsn.specs.Lsn.{null_lsn}
 use Rattle.clfs_lsn.specs.declared.entry.LogEntry.{LogEntry}
 use Rattle.clfs_model.specs.declared.state.State.{State}
-use Rattle.clfs_model.specs.declared.state.Stream.{Stream}
-use Rattle.clfs_model.specs.State.{set_base}
+use Rattle.clfs_lsn.specs.declared.stream.Stream.{Stream}
+use Rattle.clfs_lsn.specs.Streams.{set_base}
 use Rattle.clfs_manager.specs.Memory.{unflushed}
 
 -- Of the records that wait the last one is of this stream, with this new base, which is null where it moves none. The others move no base.

@@ -13,7 +13,8 @@
 //!
 //! Records are read by `read` and `read_next`, restart areas by `read_restart` and `previous_restart`, each at a cursor of an area. A record
 //! that isn't on the disk yet is given from memory, each other one from its block, which is read as a whole and kept for those beside it.
-//! `info` and `extents` tell what the log is like and what is to be archived, from memory alone.
+//! `info` and `extents` tell what the log is like and what is to be archived, from memory alone. `read_raw` gives the bytes of the log's files as they
+//! are on the disk, for who copies them.
 //!
 //! `set_size` gives the log more containers or fewer, and `reserve` sectors to an area, for which the log may grow. A change of the size is on
 //! the disk when it is answered; what areas hold never is.
@@ -38,6 +39,7 @@ mod measures;
 mod opening;
 mod preparing;
 mod putting;
+mod raw;
 mod reaching;
 mod reading;
 mod refusal;

@@ -6,7 +6,7 @@ ghost use Rattle.clfs_lsn.specs.Limits.{most_containers};
 ghost use Rattle.clfs_lsn.specs.Lsn.{container_of};
 ghost use Rattle.clfs_lsn.specs.Place.{IsSmall};
 ghost use Rattle.clfs_lsn.specs.Size.{IsShape};
-ghost use Rattle.clfs_model.specs.declared.state.Stream.{Stream};
+ghost use Rattle.clfs_lsn.specs.declared.stream.Stream.{Stream};
 ghost use Rattle.clfs_model.specs.State.{stream_at, base_of};
 ghost use Rattle.clfs_model.specs.Flush.{flushed};
 ghost use Rattle.clfs_model.specs.Live.{hold, active, live_at, last_live, lsn_or_null};

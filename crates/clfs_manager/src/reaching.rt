@@ -4,7 +4,7 @@ ghost use Rattle.std.specs.Prelude.{◌≡◌, ◌<◌, length, Some, None, Cont
 ghost use Rattle.std.specs.Option.{option_map, option_and_then};
 ghost use Rattle.clfs_lsn.specs.Head.{head_of};
 ghost use Rattle.clfs_model.specs.declared.call.Call.TheVariants as calls;
-ghost use Rattle.clfs_model.specs.declared.call.Mode.{Mode};
+ghost use Rattle.clfs_lsn.specs.declared.cursor.Mode.{Mode};
 ghost use Rattle.clfs_model.specs.Live.{live_at};
 ghost use Rattle.clfs_model.specs.Reading.{newest_restart, record_cursor, restart_cursor, next_of_cursor};
 ghost use Rattle.clfs_model.specs.Refusals.{refusal, next_refusal, too_many_cursors, end_of_kind};

@@ -15,32 +15,17 @@ use Rattle.clfs_lsn.specs.Place.{frontier}
 use Rattle.clfs_lsn.specs.Size.{size, sectors}
 use Rattle.clfs_lsn.specs.declared.entry.Head.{Head}
 use Rattle.clfs_lsn.specs.declared.entry.LogEntry.{LogEntry}
-use Rattle.clfs_model.specs.declared.call.Mode.{Mode}
-use Rattle.clfs_model.specs.declared.call.Mode.TheVariants.{Previous, UndoNext, Forward}
+use Rattle.clfs_lsn.specs.declared.cursor.Mode.{Mode}
+use Rattle.clfs_lsn.specs.declared.cursor.Mode.TheVariants.{Previous, UndoNext, Forward}
 use Rattle.clfs_model.specs.declared.info.Extent.{Extent}
 use Rattle.clfs_model.specs.declared.state.State.{State}
 use Rattle.clfs_model.specs.State.{base_of}
-use Rattle.clfs_model.specs.Live.{is_live, live, live_at, lsn_or_null, last_live, least_or, hold}
+use Rattle.clfs_model.specs.Live.{is_live, live, live_at, lsn_or_null, last_live, hold}
+use Rattle.clfs_lsn.specs.Heads.{live_heads, head_at, head_above, head_or_null, live_head_at, last_live_head, next_head, head_below, restart_heads, hold_of, least_or, is_restart}
 use Rattle.clfs_model.specs.Flush.{flushed}
-use Rattle.clfs_model.specs.Reading.{entry_at, next, is_restart, restart_areas, newest_restart, restart_below}
+use Rattle.clfs_model.specs.Reading.{entry_at, next, restart_areas, newest_restart, restart_below}
 use Rattle.clfs_model.specs.Archive.{is_in_block, end_of_block, archived_in, extent_between, extent_in, extents_from, extents}
-use Rattle.clfs_model.specs.Heads.{
-  heads_of,
-  live_heads,
-  head_at,
-  head_above,
-  head_or_null,
-  live_head_at,
-  last_live_head,
-  next_head,
-  head_below,
-  restart_heads,
-  hold_of,
-  block_end,
-  extent_of_heads,
-  container_extent,
-  extents_of,
-}
+use Rattle.clfs_model.specs.Heads.{heads_of, block_end, extent_of_heads, container_extent, extents_of}
 
 -- a test of records that sees their heads alone
 pub record SeesHeads (q : LogEntry → Bool) (p : Head → Bool) : Type 0 where

@@ -7,22 +7,25 @@ use Rattle.clfs_lsn.specs.declared.entry.LogEntry.{LogEntry}
 use Rattle.clfs_lsn.specs.declared.entry.Kind.TheVariants.{Restart}
 use Rattle.clfs_model.specs.declared.call.Call.{Call}
 use Rattle.clfs_model.specs.declared.call.Call.TheVariants as calls
-use Rattle.clfs_model.specs.declared.call.Mode.{Mode}
+use Rattle.clfs_lsn.specs.declared.cursor.Mode.{Mode}
 use Rattle.clfs_model.specs.declared.info.LogInfo.{LogInfo}
 use Rattle.clfs_model.specs.declared.refusal.Refusal.TheVariants as refusals
 use Rattle.clfs_model.specs.declared.reply.Reply.{Reply}
 use Rattle.clfs_model.specs.declared.reply.Reply.TheVariants as replies
 use Rattle.clfs_model.specs.declared.state.State.{State}
 use Rattle.clfs_model.specs.declared.state.Area.{Area}
-use Rattle.clfs_model.specs.declared.state.Cursor.{Cursor}
-use Rattle.clfs_model.specs.declared.state.CursorKind.{CursorKind}
-use Rattle.clfs_model.specs.declared.state.CursorKind.TheVariants.{Records, RestartAreas}
-use Rattle.clfs_model.specs.State.{area_of, areas_of, base_of, is_area, change_area, set_base, least_unused}
+use Rattle.clfs_lsn.specs.declared.cursor.Cursor.{Cursor}
+use Rattle.clfs_lsn.specs.declared.cursor.CursorKind.{CursorKind}
+use Rattle.clfs_lsn.specs.declared.cursor.CursorKind.TheVariants.{Records, RestartAreas}
+use Rattle.clfs_model.specs.State.{area_of, areas_of, base_of, is_area, change_area}
+use Rattle.clfs_lsn.specs.Streams.{set_base}
+use Rattle.clfs_lsn.specs.Numbers.{least_unused}
 use Rattle.clfs_model.specs.Live.{hold, active, live_at, last_live, lsn_or_null}
 use Rattle.clfs_model.specs.Space.{free, reserved, own_sum, with_containers, grown}
 use Rattle.clfs_model.specs.Flush.{flush, flushed}
 use Rattle.clfs_model.specs.Put.{next_lsn, need_of, put, appended, spend_if, hold_sizes, with_less_held}
-use Rattle.clfs_model.specs.Reading.{newest_restart, record_cursor, restart_cursor, next_of_cursor, unused_cursor, with_cursor, with_cursor_at, without_cursor}
+use Rattle.clfs_model.specs.Reading.{newest_restart, record_cursor, restart_cursor, next_of_cursor, with_cursor, with_cursor_at, without_cursor}
+use Rattle.clfs_lsn.specs.Cursors.{unused_cursor}
 use Rattle.clfs_model.specs.Archive.{extents}
 use Rattle.clfs_model.specs.Policies.{with_policy, without_policy}
 use Rattle.clfs_model.specs.Refusals.{stream_number}

@@ -1,7 +1,8 @@
 -- Which records are live, and what the log still needs.
-use Rattle.std.specs.Prelude.{ℕ, min, Bool, ◌&&◌, ◌==◌, nat_le, List, [], ◌∷◌, ◌++◌, map, filter, find, fold, Option, None}
+use Rattle.std.specs.Prelude.{ℕ, Bool, ◌&&◌, ◌==◌, nat_le, List, ◌++◌, map, filter, find, Option, None}
 use Rattle.std.specs.List.{last_or}
 use Rattle.std.specs.Option.{option_map_or, option_to_list}
+use Rattle.clfs_lsn.specs.Heads.{least_or}
 use Rattle.clfs_lsn.specs.Lsn.{null_lsn}
 use Rattle.clfs_lsn.specs.Place.{frontier}
 use Rattle.clfs_lsn.specs.Space.{active_containers}
@@ -28,11 +29,6 @@ lsn_or_null found = option_map_or (λ (entry : LogEntry). entry.lsn) found null_
 -- the last live LSN of a stream, or null
 abbrev pub last_live : State → ℕ → ℕ
 last_live s stream = lsn_or_null (last_or None (live s stream))
-
--- the least of some numbers, or the other one where there are none
-abbrev pub least_or : ℕ → List ℕ → ℕ
-least_or other [] = other
-least_or other (n ∷ ns) = fold min n ns
 
 -- the LSNs of the live records of all streams
 abbrev pub live_lsns : State → List ℕ

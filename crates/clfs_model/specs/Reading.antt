@@ -1,18 +1,16 @@
 -- How cursors go over records and restart areas.
-use Rattle.std.specs.Prelude.{ℕ, zero, suc, Bool, true, false, not, ◌&&◌, ◌==◌, nat_lt, if◌then◌else◌, List, [], ◌∷◌, ◌++◌, length, map, filter, find, reverse, Option, Some, None, slice_get}
-use Rattle.std.specs.List.{list_any}
+use Rattle.std.specs.Prelude.{ℕ, zero, suc, ◌==◌, nat_lt, List, [], ◌∷◌, ◌++◌, length, filter, find, reverse, Option, Some, None, slice_get}
 use Rattle.std.specs.Option.{option_and_then}
+use Rattle.clfs_lsn.specs.Heads.{is_restart}
+use Rattle.clfs_lsn.specs.Cursors.{cursor_in, record_cursor_in, restart_cursor_in, cursors_moved, cursors_without}
 use Rattle.clfs_lsn.specs.declared.entry.LogEntry.{LogEntry}
-use Rattle.clfs_lsn.specs.declared.entry.Kind.{Kind}
-use Rattle.clfs_lsn.specs.declared.entry.Kind.TheVariants.{Plain, Restart}
-use Rattle.clfs_model.specs.declared.call.Mode.{Mode}
-use Rattle.clfs_model.specs.declared.call.Mode.TheVariants.{Previous, UndoNext, Forward}
+use Rattle.clfs_lsn.specs.declared.cursor.Mode.{Mode}
+use Rattle.clfs_lsn.specs.declared.cursor.Mode.TheVariants.{Previous, UndoNext, Forward}
+use Rattle.clfs_lsn.specs.declared.cursor.Cursor.{Cursor}
+use Rattle.clfs_lsn.specs.declared.cursor.CursorKind.{CursorKind}
+use Rattle.clfs_lsn.specs.declared.cursor.CursorKind.TheVariants.{Records, RestartAreas}
 use Rattle.clfs_model.specs.declared.state.State.{State}
 use Rattle.clfs_model.specs.declared.state.Area.{Area}
-use Rattle.clfs_model.specs.declared.state.Cursor.{Cursor}
-use Rattle.clfs_model.specs.declared.state.CursorKind.{CursorKind}
-use Rattle.clfs_model.specs.declared.state.CursorKind.TheVariants.{Records, RestartAreas}
-use Rattle.clfs_model.specs.State.{least_unused}
 use Rattle.clfs_model.specs.Live.{live, live_at}
 
 -- the record at an LSN, live or not
@@ -36,11 +34,6 @@ chain_from s stream mode (suc more) (Some entry) = entry ∷ chain_from s stream
 abbrev pub chain : State → ℕ → ℕ → Mode → List LogEntry
 chain s stream lsn mode = chain_from s stream mode (length s.records) (live_at s stream lsn)
 
--- whether a record is a restart area
-abbrev pub is_restart : Kind → Bool
-is_restart Plain = false
-is_restart Restart = true
-
 -- the live restart areas of a stream, the newest first
 abbrev pub restart_areas : State → ℕ → List LogEntry
 restart_areas s stream = reverse (filter (λ (entry : LogEntry). is_restart entry.kind) (live s stream))
@@ -53,22 +46,17 @@ newest_restart s stream = slice_get (restart_areas s stream) 0
 abbrev pub restart_below : State → ℕ → ℕ → Option LogEntry
 restart_below s stream lsn = find (λ (entry : LogEntry). nat_lt entry.lsn lsn) (restart_areas s stream)
 
--- whether a cursor goes over restart areas
-abbrev pub is_over_restarts : CursorKind → Bool
-is_over_restarts (Records mode) = false
-is_over_restarts RestartAreas = true
-
 -- an area's cursor of this number
 abbrev pub cursor_of : Area → ℕ → Option Cursor
-cursor_of area number = find (λ (cursor : Cursor). cursor.number == number) area.cursors
+cursor_of area number = cursor_in area.cursors number
 
 -- an area's cursor of this number that goes over records
 abbrev pub record_cursor : Area → ℕ → Option Cursor
-record_cursor area number = find (λ (cursor : Cursor). (cursor.number == number) && not (is_over_restarts cursor.kind)) area.cursors
+record_cursor area number = record_cursor_in area.cursors number
 
 -- an area's cursor of this number that goes over restart areas
 abbrev pub restart_cursor : Area → ℕ → Option Cursor
-restart_cursor area number = find (λ (cursor : Cursor). (cursor.number == number) && is_over_restarts cursor.kind) area.cursors
+restart_cursor area number = restart_cursor_in area.cursors number
 
 -- where a cursor of an area comes to next
 abbrev pub next_of_cursor : State → Area → Cursor → Option LogEntry
@@ -78,24 +66,14 @@ next_of_cursor s area cursor = next_of_kind cursor.kind
     next_of_kind (Records mode) = next s area.stream mode cursor.last
     next_of_kind RestartAreas = restart_below s area.stream cursor.last
 
--- whether a cursor has this number
-abbrev pub is_cursor_number : List Cursor → ℕ → Bool
-is_cursor_number cursors number = list_any (λ (cursor : Cursor). cursor.number == number) cursors
-
--- the number of a new cursor
-abbrev pub unused_cursor : List Cursor → ℕ
-unused_cursor cursors = least_unused (length cursors) (is_cursor_number cursors)
-
 -- an area with one cursor more
 abbrev pub with_cursor : Cursor → Area → Area
 with_cursor cursor area = record area { cursors = area.cursors ++ cursor ∷ [] }
 
 -- an area whose cursor of this number has moved to a record
 abbrev pub with_cursor_at : ℕ → ℕ → Area → Area
-with_cursor_at number lsn area = record area {
-  cursors = map (λ (cursor : Cursor). if cursor.number == number then record cursor { last = lsn } else cursor) area.cursors;
-}
+with_cursor_at number lsn area = record area { cursors = cursors_moved number lsn area.cursors }
 
 -- an area without its cursor of this number
 abbrev pub without_cursor : ℕ → Area → Area
-without_cursor number area = record area { cursors = filter (λ (cursor : Cursor). not (cursor.number == number)) area.cursors }
+without_cursor number area = record area { cursors = cursors_without number area.cursors }

@@ -2,25 +2,24 @@
 use Rattle.std.specs.Prelude.{ℕ, ◌+◌, Bool, not, ◌&&◌, ◌||◌, ◌==◌, nat_lt, nat_le, if◌then◌else◌, List, [], ◌∷◌, length, find, Option, Some, None, is_some, is_none}
 use Rattle.std.specs.List.{position_or_len}
 use Rattle.std.specs.Option.{option_map_or}
-use Rattle.std.specs.Str.{bytes_eq}
 use Rattle.clfs_lsn.specs.Limits.{most_streams, longest_name, most_areas}
 use Rattle.clfs_lsn.specs.Names.{is_name_byte}
 use Rattle.clfs_lsn.specs.Lsn.{null_lsn}
 use Rattle.clfs_lsn.specs.Size.{longest}
+use Rattle.clfs_lsn.specs.Streams.{stream_number_from}
 use Rattle.clfs_lsn.specs.Place.{frontier}
 use Rattle.clfs_model.specs.declared.call.Call.{Call}
 use Rattle.clfs_model.specs.declared.call.Call.TheVariants as calls
 use Rattle.clfs_model.specs.declared.call.Draft.{Draft}
-use Rattle.clfs_model.specs.declared.call.Mode.{Mode}
-use Rattle.clfs_model.specs.declared.call.Mode.TheVariants.{Previous, UndoNext, Forward}
+use Rattle.clfs_lsn.specs.declared.cursor.Mode.{Mode}
+use Rattle.clfs_lsn.specs.declared.cursor.Mode.TheVariants.{Previous, UndoNext, Forward}
 use Rattle.clfs_model.specs.declared.refusal.Refusal.{Refusal}
 use Rattle.clfs_model.specs.declared.refusal.Refusal.TheVariants as refusals
 use Rattle.clfs_model.specs.declared.state.State.{State}
 use Rattle.clfs_model.specs.declared.state.Area.{Area}
-use Rattle.clfs_model.specs.declared.state.Stream.{Stream}
-use Rattle.clfs_model.specs.declared.state.Cursor.{Cursor}
-use Rattle.clfs_model.specs.declared.state.CursorKind.{CursorKind}
-use Rattle.clfs_model.specs.declared.state.CursorKind.TheVariants.{Records, RestartAreas}
+use Rattle.clfs_lsn.specs.declared.cursor.Cursor.{Cursor}
+use Rattle.clfs_lsn.specs.declared.cursor.CursorKind.{CursorKind}
+use Rattle.clfs_lsn.specs.declared.cursor.CursorKind.TheVariants.{Records, RestartAreas}
 use Rattle.clfs_model.specs.State.{stream_at, base_of, area_of, areas_of}
 use Rattle.clfs_model.specs.Live.{live_at, last_live, active}
 use Rattle.clfs_model.specs.Space.{free, reserved, own_sum, size_limit, grown, has_room}
@@ -71,12 +70,6 @@ name_fault name =
     else if nat_lt bad (length name) && nat_lt bad longest_name then Some bad
     else if nat_lt longest_name (length name) then Some longest_name
     else None
-
--- the number of the first stream of this name, counted on from a number
-abbrev pub stream_number_from : ℕ → List ℕ → List Stream → Option ℕ
-stream_number_from number name [] = None
-stream_number_from number name (stream ∷ streams) =
-    if bytes_eq stream.name name then Some number else stream_number_from (number + 1) name streams
 
 -- the number of the stream of this name
 abbrev pub stream_number : State → List ℕ → Option ℕ

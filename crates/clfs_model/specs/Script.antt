@@ -12,8 +12,8 @@ use Rattle.clfs_lsn.specs.declared.policy.PolicyKind.{PolicyKind}
 use Rattle.clfs_lsn.specs.declared.policy.PolicyKind.TheVariants as kinds
 use Rattle.clfs_model.specs.declared.call.Call.{Call}
 use Rattle.clfs_model.specs.declared.call.Call.TheVariants as calls
-use Rattle.clfs_model.specs.declared.call.Mode.{Mode}
-use Rattle.clfs_model.specs.declared.call.Mode.TheVariants.{Previous, UndoNext, Forward}
+use Rattle.clfs_lsn.specs.declared.cursor.Mode.{Mode}
+use Rattle.clfs_lsn.specs.declared.cursor.Mode.TheVariants.{Previous, UndoNext, Forward}
 use Rattle.clfs_model.specs.Run.{Request, asks, reopens, bad_line}
 use Rattle.clfs_model.specs.Lines.{lines_of, without_return, words_of}
 

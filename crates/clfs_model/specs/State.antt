@@ -1,13 +1,13 @@
 -- The state of a log, and how its streams and areas are found and changed. The state itself is the type `State` of `src/`,
 -- whose lists contracts see as lists. It has one list of all records of all streams.
-use Rattle.std.specs.Prelude.{ℕ, ◌+◌, ◌-◌, Bool, false, not, ◌&&◌, ◌==◌, if◌then◌else◌, List, [], ◌∷◌, find, filter, Option, None, unwrap_or, slice_get, codes}
-use Rattle.std.specs.List.{range_with_len}
+use Rattle.std.specs.Prelude.{ℕ, Bool, false, ◌&&◌, ◌==◌, if◌then◌else◌, List, [], ◌∷◌, find, filter, Option, None, codes}
 use Rattle.std.specs.Option.{option_map_or}
 use Rattle.clfs_lsn.specs.Limits.{most_container_sectors, most_containers}
 use Rattle.clfs_lsn.specs.Lsn.{null_lsn}
+use Rattle.clfs_lsn.specs.Streams.{stream_in}
 use Rattle.clfs_lsn.specs.declared.shape.Shape.{Shape}
 use Rattle.clfs_model.specs.declared.state.State.{State}
-use Rattle.clfs_model.specs.declared.state.Stream.{Stream}
+use Rattle.clfs_lsn.specs.declared.stream.Stream.{Stream}
 use Rattle.clfs_model.specs.declared.state.Area.{Area}
 
 -- A log that has just been made: its place is the first byte of the container with the id 1, and of its other containers none is in use
@@ -45,9 +45,9 @@ first = record (log_of 2 most_container_sectors most_containers 4) {
   areas = record { client = 1; number = 1; stream = 1; largest = 960; reads = 4; held = 0; cursors = [] } ∷ [];
 }
 
--- Streams are numbered from 1, in the order of their first opening.
+-- the stream of this number
 abbrev pub stream_at : State → ℕ → Option Stream
-stream_at s number = if number == 0 then None else slice_get s.streams (number - 1)
+stream_at s number = stream_in s.streams number
 
 -- the base of a stream; a new stream's is null
 abbrev pub base_of : State → ℕ → ℕ
@@ -57,12 +57,6 @@ base_of s number = option_map_or (λ (stream : Stream). stream.base) (stream_at 
 abbrev pub change_first : {A : Type 0} → (A → Bool) → (A → A) → List A → List A
 change_first p change [] = []
 change_first p change (x ∷ xs) = if p x then change x ∷ xs else x ∷ change_first p change xs
-
--- the streams with this one's base moved
-abbrev pub set_base : ℕ → ℕ → List Stream → List Stream
-set_base number lsn [] = []
-set_base number lsn (stream ∷ streams) =
-    if number == 1 then record stream { base = lsn } ∷ streams else stream ∷ set_base (number - 1) lsn streams
 
 -- An area is named by its client and its number among the client's.
 abbrev pub is_area : ℕ → ℕ → Area → Bool
@@ -79,8 +73,3 @@ areas_of s client = filter (λ (area : Area). area.client == client) s.areas
 -- the state with one area changed
 abbrev pub change_area : (Area → Area) → ℕ → ℕ → State → State
 change_area change client number s = record s { areas = change_first (is_area client number) change s.areas }
-
--- A new number is the least from 1 on that isn't used. Where so many have numbers, it is one of the first so many, or the one
--- behind them.
-abbrev pub least_unused : ℕ → (ℕ → Bool) → ℕ
-least_unused count is_used = unwrap_or (find (λ number. not (is_used number)) (range_with_len 1 count)) (count + 1)

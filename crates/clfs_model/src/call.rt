@@ -1,17 +1,6 @@
 // What a client can ask of the log.
 
-use clfs_lsn::{Bytes, Lsn, Name, Policy, PolicyKind, Sizes};
-
-/// Where a read context goes from a record.
-#[derive(Clone, Copy, Debug, PartialEq, Eq)]
-pub enum Mode {
-    /// To the record that its previous link names.
-    Previous,
-    /// To the record that its undo-next link names.
-    UndoNext,
-    /// To the next record of the stream.
-    Forward,
-}
+use clfs_lsn::{Bytes, Lsn, Mode, Name, Policy, PolicyKind, Sizes};
 
 /// A record that a client appends.
 #[derive(Clone, Drop)]

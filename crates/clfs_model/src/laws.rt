@@ -4,14 +4,15 @@ ghost use Rattle.std.specs.List.{list_all};
 ghost use Rattle.std.specs.Option.{option_map};
 ghost use Rattle.clfs_lsn.specs.Head.{head_of};
 ghost use Rattle.clfs_lsn.specs.Place.{frontier};
-ghost use Rattle.clfs_model.specs.declared.call.Mode.{Mode};
+ghost use Rattle.clfs_lsn.specs.declared.cursor.Mode.{Mode};
 ghost use Rattle.clfs_model.specs.declared.state.State.{State};
 ghost use Rattle.clfs_model.specs.State.{base_of};
 ghost use Rattle.clfs_model.specs.Live.{live, live_at, last_live, hold};
 ghost use Rattle.clfs_model.specs.Flush.{flushed};
 ghost use Rattle.clfs_model.specs.Reading.{entry_at, next, restart_areas, newest_restart, restart_below};
 ghost use Rattle.clfs_model.specs.Archive.{extents};
-ghost use Rattle.clfs_model.specs.Heads.{heads_of, live_heads, head_at, head_or_null, live_head_at, last_live_head, next_head, head_below, restart_heads, hold_of, extents_of};
+ghost use Rattle.clfs_model.specs.Heads.{heads_of, extents_of};
+ghost use Rattle.clfs_lsn.specs.Heads.{live_heads, head_at, head_or_null, live_head_at, last_live_head, next_head, head_below, restart_heads, hold_of};
 ghost use Rattle.clfs_model.specs.Ways.{GoesTheseWays};
 ghost use Rattle.clfs_model.specs.Run.{Request, Run, all_fine, replies_of, state_after, is_no_reopening};
 

@@ -14,10 +14,11 @@ mod refusal;
 mod reply;
 mod state;
 
-pub use call::{Call, Draft, Mode};
+pub use call::{Call, Draft};
+pub use clfs_lsn::{Cursor, CursorKind, Mode, Stream};
 pub use info::{Extent, Extents, LogInfo};
 pub use journal::{Entry, Journal};
 pub use laws::{calm_replies_are_a_run, records_are_as_their_heads, ways_of_a_step};
 pub use refusal::Refusal;
 pub use reply::{Happened, Reply};
-pub use state::{Area, Cursor, CursorKind, State, Stream};
+pub use state::{Area, State};

@@ -1,38 +1,8 @@
 // The state of the log machine, as contracts see it. A program that keeps a log needn't make a value of it: it may keep indexes and
 // totals, and say which state they stand for.
 
-use crate::call::Mode;
-use clfs_lsn::{LogEntry, Lsn, Name, Place, Shape};
+use clfs_lsn::{Cursor, LogEntry, Lsn, Place, Shape, Stream};
 use std::collections::LinkedList;
-
-/// A stream. Its number is its place in the list of streams, from 1.
-#[derive(Drop)]
-pub struct Stream {
-    /// Its name, which no other stream has.
-    pub name: Name,
-    /// Its records from here on are live.
-    pub base: Lsn,
-}
-
-/// What a cursor goes over.
-#[derive(Clone, Copy, Debug, PartialEq, Eq)]
-pub enum CursorKind {
-    /// Records, in this mode.
-    Records(Mode),
-    /// Restart areas, from the newest to older ones.
-    RestartAreas,
-}
-
-/// Where a read context stands.
-#[derive(Clone, Copy, Debug)]
-pub struct Cursor {
-    /// Its number in its area, from 1 to 16.
-    pub number: u16,
-    /// What it goes over.
-    pub kind: CursorKind,
-    /// The record that it gave last.
-    pub last: Lsn,
-}
 
 /// A client's area on a stream.
 #[derive(Drop)]

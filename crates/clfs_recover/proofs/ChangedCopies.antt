@@ -17,9 +17,10 @@ use Rattle.clfs_base.specs.declared.image.BaseImage.{BaseImage}
 use Rattle.clfs_base.specs.declared.image.Row.{Row}
 use Rattle.clfs_base.specs.Spelling.{IsImage, row_in}
 use Rattle.clfs_model.specs.declared.state.State.{State}
-use Rattle.clfs_model.specs.State.{base_of, set_base}
+use Rattle.clfs_model.specs.State.{base_of}
+use Rattle.clfs_lsn.specs.Streams.{set_base}
 use Rattle.clfs_recover.specs.Bases.{raised}
-use Rattle.clfs_recover.specs.Files.{streams_with}
+use Rattle.clfs_base.specs.Streams.{streams_with}
 use Rattle.clfs_recover.specs.Logs.{IsLogWith, HaveMore, HaveEmpty, file_at_end, stored_state, with_row_base}
 use Rattle.clfs_recover.specs.Stored.{stored_place}
 use Rattle.clfs_recover.specs.Walk.{shape_of, bases_with}

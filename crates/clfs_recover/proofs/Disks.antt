@@ -1,6 +1,6 @@
 -- What stays over calls of a disk that change no file.
 use Rattle.std.proofs.Common.{IsTrue, Result, Ok, Err, refl, sym, ◌∙◌, subst, arith}
-use Rattle.std.specs.Prelude.{OnOk}
+use Rattle.std.specs.Prelude.{OnOk, IfErr}
 use Rattle.clfs_disk.specs.Joining.{CallsJoin}
 use Rattle.clfs_disk.specs.Files.{Files, Unchanged}
 use Rattle.clfs_disk.specs.State.{DiskState, Nature, TellsContents, IsSteady, IsSettled, Passes}
@@ -36,3 +36,8 @@ settled_still state join a b settled time same = record {
 pub always : {T E P : Type 0} (r : Result T E) → P → OnOk r P
 always (Ok value) p = p
 always (Err e) p = tt
+
+-- what holds whatever the answer, said of the refusals of a kind
+pub of_refusals : {T E P : Type 0} (Q : E → Type 0) (r : Result T E) → P → IfErr r (λ e. Q e → P)
+of_refusals Q (Ok value) p = tt
+of_refusals Q (Err e) p = λ q. p

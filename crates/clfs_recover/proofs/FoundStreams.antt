@@ -12,10 +12,10 @@ use Rattle.clfs_lsn.specs.Names.{is_name_byte}
 use Rattle.clfs_base.specs.declared.image.Row.{Row}
 use Rattle.clfs_base.specs.Spelling.{IsName, row_in, AreRows}
 use Rattle.clfs_model.specs.declared.state.State.{State}
-use Rattle.clfs_model.specs.declared.state.Stream.{Stream}
+use Rattle.clfs_lsn.specs.declared.stream.Stream.{Stream}
 use Rattle.clfs_model.specs.State.{stream_at, base_of}
 use Rattle.clfs_model.specs.Refusals.{name_fault}
-use Rattle.clfs_recover.specs.Files.{streams_with}
+use Rattle.clfs_base.specs.Streams.{streams_with}
 
 -- the stream of a row with a base
 abbrev pub stream_of : List Row → List ℕ → ℕ → Stream

@@ -5,7 +5,8 @@ use Rattle.std.specs.Option.{option_to_list}
 use Rattle.clfs_lsn.specs.Place.{frontier}
 use Rattle.clfs_lsn.specs.declared.entry.LogEntry.{LogEntry}
 use Rattle.clfs_model.specs.declared.state.State.{State}
-use Rattle.clfs_model.specs.Live.{is_live, least_or, live_lsns, hold}
+use Rattle.clfs_model.specs.Live.{is_live, live_lsns, hold}
+use Rattle.clfs_lsn.specs.Heads.{least_or}
 use Rattle.clfs_recover.proofs.KeptRecords.{weaker, numbers_of_kept, of_numbers}
 
 least_first : (n : ℕ) (ns : List ℕ) → fold min n ns ≤ n

@@ -16,11 +16,12 @@ use Rattle.clfs_block.specs.Judging.{AreReadAsWritten}
 use Rattle.clfs_base.specs.declared.image.BaseImage.{BaseImage}
 use Rattle.clfs_base.specs.Spelling.{IsImage, row_in}
 use Rattle.clfs_model.specs.declared.state.State.{State}
-use Rattle.clfs_model.specs.declared.state.Stream.{Stream}
+use Rattle.clfs_lsn.specs.declared.stream.Stream.{Stream}
 use Rattle.clfs_model.specs.State.{base_of}
-use Rattle.clfs_model.specs.Live.{is_live, least_or, live_lsns, hold}
+use Rattle.clfs_model.specs.Live.{is_live, live_lsns, hold}
+use Rattle.clfs_lsn.specs.Heads.{least_or}
 use Rattle.clfs_model.specs.Flush.{IsSame}
-use Rattle.clfs_recover.specs.Files.{streams_with}
+use Rattle.clfs_base.specs.Streams.{streams_with}
 use Rattle.clfs_recover.specs.Logs.{IsLogWith, stored_state, file_at_end, from_container, records_from_container}
 use Rattle.clfs_recover.specs.Stored.{stored_records, stored_end, stored_place}
 use Rattle.clfs_recover.specs.Walk.{shape_of, base_with, bases_with}

@@ -11,9 +11,9 @@ use Rattle.std.proofs.lemmas.List.Sums.{fold-append}
 use Rattle.clfs_lsn.specs.declared.entry.LogEntry.{LogEntry}
 use Rattle.clfs_base.specs.declared.image.Row.{Row}
 use Rattle.clfs_base.specs.Spelling.{row_in}
-use Rattle.clfs_model.specs.declared.state.Stream.{Stream}
-use Rattle.clfs_model.specs.State.{set_base}
-use Rattle.clfs_recover.specs.Files.{streams_with}
+use Rattle.clfs_lsn.specs.declared.stream.Stream.{Stream}
+use Rattle.clfs_lsn.specs.Streams.{set_base}
+use Rattle.clfs_base.specs.Streams.{streams_with}
 use Rattle.clfs_recover.specs.Walk.{base_with, bases_with}
 use Rattle.clfs_recover.proofs.FoundBases.{new_bases, greatest_first, greatest_above, greatest_below}
 use Rattle.clfs_recover.proofs.FoundStreams.{length-streams_with, stream_in}

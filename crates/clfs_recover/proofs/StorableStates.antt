@@ -10,7 +10,7 @@ use Rattle.clfs_disk.specs.Files.{Files}
 use Rattle.clfs_block.specs.Judging.{AreReadAsWritten}
 use Rattle.clfs_base.specs.declared.image.BaseImage.{BaseImage}
 use Rattle.clfs_model.specs.declared.state.State.{State}
-use Rattle.clfs_model.specs.declared.state.Stream.{Stream}
+use Rattle.clfs_lsn.specs.declared.stream.Stream.{Stream}
 use Rattle.clfs_model.specs.Flush.{flushed, cut}
 use Rattle.clfs_model.specs.Refusals.{name_fault}
 use Rattle.clfs_model.specs.Storable.{before_all, behind_all, GoesOnAt, HasMovedBase, IsAreaWithinLimits, IsStorable}

@@ -17,7 +17,7 @@ use Rattle.clfs_base.specs.declared.image.BaseImage.{BaseImage}
 use Rattle.clfs_base.specs.Layout.{version_two, most_minimum, most_dedicated}
 use Rattle.clfs_base.specs.Spelling.{IsImage, IsPolicy, flag}
 use Rattle.clfs_model.specs.declared.state.State.{State}
-use Rattle.clfs_model.specs.declared.state.Stream.{Stream}
+use Rattle.clfs_lsn.specs.declared.stream.Stream.{Stream}
 use Rattle.clfs_model.specs.Valid.{IsValid, HasRanges, HasPolicies, IsArea, IsRecord, IsWaiting}
 use Rattle.clfs_recover.specs.Walk.{shape_of, base_with}
 use Rattle.clfs_recover.specs.Files.{policy_of, state_of}

@@ -5,13 +5,12 @@ use Rattle.clfs_lsn.specs.Format.{sector_bytes}
 use Rattle.clfs_disk.specs.Files.{Files}
 use Rattle.clfs_container.specs.OpenBlocks.{AreOpen}
 use Rattle.clfs_base.specs.declared.image.BaseImage.{BaseImage}
-use Rattle.clfs_base.specs.declared.image.Row.{Row}
 use Rattle.clfs_base.specs.declared.refusal.NewestRefusal.{NewestRefusal}
 use Rattle.clfs_base.specs.declared.refusal.NewestRefusal.TheVariants as newest
 use Rattle.clfs_base.specs.Layout.{slot_bytes}
 use Rattle.clfs_base.specs.Slots.{newest_of}
+use Rattle.clfs_base.specs.Streams.{streams_with}
 use Rattle.clfs_model.specs.declared.state.State.{State}
-use Rattle.clfs_model.specs.declared.state.Stream.{Stream}
 use Rattle.clfs_recover.specs.Walk.{Container, shape_of, slot_offset, walked}
 use Rattle.clfs_recover.specs.declared.parts.Parts.{Parts}
 use Rattle.clfs_recover.specs.declared.refusal.LoadRefusal.{LoadRefusal}
@@ -46,12 +45,6 @@ Finds files found = FindsBehind files found (newest_of (files 0))
 -- a policy that is installed, or 0
 abbrev pub policy_of : ℕ → Option ℕ
 policy_of value = if value == 0 then None else Some value
-
--- the streams of rows, with these bases
-abbrev pub streams_with : List Row → List ℕ → List Stream
-streams_with [] bases = []
-streams_with (row ∷ rows) [] = []
-streams_with (row ∷ rows) (base ∷ bases) = record { name = row.name; base = base } ∷ streams_with rows bases
 
 -- The state of a log that was opened with so many write buffers: no areas, nothing waits, and it isn't broken.
 abbrev pub state_of : Parts → ℕ → State

@@ -1,4 +1,4 @@
-// Counting what the walk finds, for whoever judges a log and keeps nothing of it. No command of the program counts yet.
+// Counting what the walk finds, for whoever judges a log and keeps nothing of it, as the check of a folder does.
 ghost use Rattle.std.specs.Prelude.{◌≡◌};
 
 use crate::gatherer::Gatherer;

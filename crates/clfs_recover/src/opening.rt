@@ -1,5 +1,5 @@
 // Opening: a sync, the newest base copy, the walk, and what hangs on the records in the base copy.
-ghost use Rattle.std.specs.Prelude.{◌≡◌, ◌+◌, ◌-◌, ◌*◌, ◌^◌, ◌<◌, ◌≤◌, nat_lt, ℕ, List, [], length, map, position, OnOk, IfOk, IfErr, IsErrOf, Ok};
+ghost use Rattle.std.specs.Prelude.{◌≡◌, ◌≢◌, ◌+◌, ◌-◌, ◌*◌, ◌^◌, ◌<◌, ◌≤◌, nat_lt, ℕ, List, [], length, map, position, OnOk, IfOk, IfErr, IsErrOf, Ok};
 ghost use Rattle.clfs_lsn.specs.Head.{head_of};
 ghost use Rattle.clfs_lsn.specs.Format.{sector_bytes};
 ghost use Rattle.clfs_lsn.specs.Place.{IsSmall, frontier};
@@ -163,6 +163,7 @@ pub fn walk<D: Disk, G: Gatherer>(
     ensures log { G.has gatherer.old [] → IfOk result (λ walked. (entries : List LogEntry) × G.has gatherer.new entries
         × IsOpenedFrom (D.state disk.old) (parts_of walked entries)) }
     ensures settled { OnOk result (IsHonest (D.state disk.old) → IsSettled (D.state disk.new)) }
+    ensures settled_refused { IfErr result (λ refusal. refusal ≢ LoadRefusal.DiskFault → IsHonest (D.state disk.old) → IsSettled (D.state disk.new)) }
     ensures same { Unchanged (D.state disk.old).files (D.state disk.new).files }
     ensures time { Passes Unchanged (D.state disk.old) (D.state disk.new) }
     ensures cause { IsErrOf result LoadRefusal.DiskFault → Rises (D.state disk.old).faults (D.state disk.new).faults }
@@ -181,6 +182,7 @@ pub fn load<D: Disk>(alloc: Global, disk: &mut D) -> Result<Parts, LoadRefusal>
     ensures exact { TellsContents (D.state disk.old) → IsLoaded (D.state disk.old).files result }
     ensures log { IfOk result (λ parts. IsOpenedFrom (D.state disk.old) parts) }
     ensures settled { OnOk result (IsHonest (D.state disk.old) → IsSettled (D.state disk.new)) }
+    ensures settled_refused { IfErr result (λ refusal. refusal ≢ LoadRefusal.DiskFault → IsHonest (D.state disk.old) → IsSettled (D.state disk.new)) }
     ensures same { Unchanged (D.state disk.old).files (D.state disk.new).files }
     ensures time { Passes Unchanged (D.state disk.old) (D.state disk.new) }
     ensures cause { IsErrOf result LoadRefusal.DiskFault → Rises (D.state disk.old).faults (D.state disk.new).faults }
@@ -203,6 +205,7 @@ pub fn load_heads<D: Disk>(alloc: Global, disk: &mut D) -> Result<HeadParts, Loa
     ensures exact { TellsContents (D.state disk.old) → AreHeadsLoaded (D.state disk.old).files result }
     ensures log { IfOk result (λ opened. (opened.heads ≡ map head_of opened.entries.value) × IsOpenedFrom (D.state disk.old) (told_parts opened)) }
     ensures settled { OnOk result (IsHonest (D.state disk.old) → IsSettled (D.state disk.new)) }
+    ensures settled_refused { IfErr result (λ refusal. refusal ≢ LoadRefusal.DiskFault → IsHonest (D.state disk.old) → IsSettled (D.state disk.new)) }
     ensures same { Unchanged (D.state disk.old).files (D.state disk.new).files }
     ensures time { Passes Unchanged (D.state disk.old) (D.state disk.new) }
     ensures cause { IsErrOf result LoadRefusal.DiskFault → Rises (D.state disk.old).faults (D.state disk.new).faults }

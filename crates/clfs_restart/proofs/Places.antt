@@ -7,11 +7,9 @@ use Rattle.std.proofs.lemmas.Option.{slice_get-get_or}
 use Rattle.std.proofs.lemmas.List.{reverse-append}
 use Rattle.clfs_lsn.specs.declared.entry.Head.{Head}
 use Rattle.clfs_lsn.specs.declared.entry.Kind.TheVariants.{Restart}
-use Rattle.clfs_model.specs.Reading.{is_restart}
-use Rattle.clfs_model.specs.Heads.{heads_from, head_below, restarts_among}
+use Rattle.clfs_lsn.specs.Heads.{is_restart, heads_from, head_below, restarts_among, lsn_of_head}
 use Rattle.clfs_restart.specs.Row.{Row}
-use Rattle.clfs_sorted.specs.Heads.{lsn_of_head}
-use Rattle.clfs_sorted.specs.Rising.{AreRising, IsPlaceOf}
+use Rattle.clfs_lsn.specs.Rising.{AreRising, IsPlaceOf}
 use Rattle.clfs_restart.specs.Restarts.{HasRestarts, head_before, live_or_none}
 
 rising_tail : (head : Head) (heads : List Head) → AreRising lsn_of_head (head ∷ heads) → AreRising lsn_of_head heads

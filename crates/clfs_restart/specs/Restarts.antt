@@ -2,8 +2,8 @@
 use Rattle.std.specs.Prelude.{◌≡◌, ℕ, zero, suc, List, All, slice_get, Option, Some, None, nat_lt, if◌then◌else◌}
 use Rattle.clfs_lsn.specs.declared.entry.Head.{Head}
 use Rattle.clfs_lsn.specs.declared.entry.Kind.TheVariants.{Restart}
-use Rattle.clfs_sorted.specs.Heads.{lsn_of_head}
-use Rattle.clfs_sorted.specs.Rising.{AreRising}
+use Rattle.clfs_lsn.specs.Heads.{lsn_of_head}
+use Rattle.clfs_lsn.specs.Rising.{AreRising}
 
 -- Nothing but restart areas is in the row, sorted: each of them is one that a client can ask for.
 pub record HasRestarts (heads : List Head) : Type 0 where

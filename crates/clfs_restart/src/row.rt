@@ -2,11 +2,10 @@
 ghost use Rattle.std.specs.Prelude.{◌≡◌, ℕ, ◌+◌, ◌*◌, ◌<◌, ◌≤◌, All, [], ◌∷◌, ◌++◌, None, Some, length, drop, slice_get, OnOk};
 ghost use Rattle.clfs_lsn.specs.declared.entry.Head.{Head};
 ghost use Rattle.clfs_lsn.specs.declared.entry.Kind.TheVariants.{Restart};
-ghost use Rattle.clfs_model.specs.Heads.{heads_from, head_below, restarts_among};
+ghost use Rattle.clfs_lsn.specs.Heads.{heads_from, head_below, restarts_among};
 ghost use Rattle.clfs_restart.specs.Restarts.{live_or_none, head_before};
 
-use clfs_lsn::{Head, Lsn};
-use clfs_sorted::{forget_below, place_of};
+use clfs_lsn::{Head, Lsn, forget_below, place_of};
 use std::alloc::{AllocError, Global};
 use std::marker::Model;
 

@@ -7,8 +7,8 @@ use Rattle.clfs_lsn.specs.declared.entry.Kind.TheVariants.{Restart}
 use Rattle.clfs_lsn.specs.declared.place.Place.{Place}
 use Rattle.clfs_model.specs.declared.state.State.{State}
 use Rattle.clfs_model.specs.declared.state.Area.{Area}
-use Rattle.clfs_model.specs.declared.state.Cursor.{Cursor}
-use Rattle.clfs_model.specs.declared.state.CursorKind.{CursorKind}
+use Rattle.clfs_lsn.specs.declared.cursor.Cursor.{Cursor}
+use Rattle.clfs_lsn.specs.declared.cursor.CursorKind.{CursorKind}
 use Rattle.clfs_model.specs.Run.{state_after}
 use Rattle.clfs_model.specs.Script.{script_requests}
 use Rattle.clfs_rows.specs.Worked.{worked, opened_log}

@@ -2,8 +2,9 @@
 // of stream 1 in the second one.
 ghost use Rattle.std.specs.Prelude.{◌≡◌, [], ◌∷◌, Some, None};
 ghost use Rattle.clfs_lsn.specs.Lsn.{null_lsn, lsn_number};
-ghost use Rattle.clfs_model.specs.declared.call.Mode.TheVariants.{Previous, UndoNext, Forward};
-ghost use Rattle.clfs_model.specs.Heads.{live_heads, live_head_at, last_live_head, next_head, restart_heads, head_below, hold_of, extents_of};
+ghost use Rattle.clfs_lsn.specs.declared.cursor.Mode.TheVariants.{Previous, UndoNext, Forward};
+ghost use Rattle.clfs_model.specs.Heads.{extents_of};
+ghost use Rattle.clfs_lsn.specs.Heads.{live_heads, live_head_at, last_live_head, next_head, restart_heads, head_below, hold_of};
 ghost use Rattle.clfs_rows.specs.Headed.{first_head, second_head, third_head, three_heads, bases_of};
 
 /// The heads from a stream's base on are live, and are found by their LSNs.

@@ -1,8 +1,8 @@
 // The states whose flushed part the files of a log can hold, and the limits of what is held in memory.
 ghost use Rattle.std.specs.Prelude.{[], ◌∷◌, codes, replicate};
 ghost use Rattle.clfs_lsn.specs.Lsn.{lsn_number};
-ghost use Rattle.clfs_model.specs.declared.call.Mode.TheVariants.{Forward};
-ghost use Rattle.clfs_model.specs.declared.state.CursorKind.TheVariants.{Records, RestartAreas};
+ghost use Rattle.clfs_lsn.specs.declared.cursor.Mode.TheVariants.{Forward};
+ghost use Rattle.clfs_lsn.specs.declared.cursor.CursorKind.TheVariants.{Records, RestartAreas};
 ghost use Rattle.clfs_lsn.specs.Place.{sealed};
 ghost use Rattle.clfs_model.specs.Storable.{IsStorable};
 ghost use Rattle.clfs_rows.specs.Worked.{worked, opened_log};

@@ -2,7 +2,7 @@
 ghost use Rattle.std.specs.Prelude.{◌≡◌, [], ◌∷◌, ◌++◌, codes, map};
 ghost use Rattle.clfs_lsn.specs.Lsn.{lsn_number};
 ghost use Rattle.clfs_model.specs.Reading.{chain};
-ghost use Rattle.clfs_model.specs.declared.call.Mode.TheVariants.{Previous, UndoNext, Forward};
+ghost use Rattle.clfs_lsn.specs.declared.cursor.Mode.TheVariants.{Previous, UndoNext, Forward};
 ghost use Rattle.clfs_rows.specs.Filled.{linked_records, number_of};
 ghost use Rattle.clfs_rows.specs.Worked.{worked, ◌⟹◌, IsDialogue, opening};
 

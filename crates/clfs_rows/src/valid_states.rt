@@ -1,8 +1,8 @@
 // The states that a log can be in.
 ghost use Rattle.std.specs.Prelude.{[], ◌∷◌, Some, codes, take, true};
 ghost use Rattle.clfs_lsn.specs.Lsn.{null_lsn, lsn_number};
-ghost use Rattle.clfs_model.specs.declared.call.Mode.TheVariants.{Forward};
-ghost use Rattle.clfs_model.specs.declared.state.CursorKind.TheVariants.{Records};
+ghost use Rattle.clfs_lsn.specs.declared.cursor.Mode.TheVariants.{Forward};
+ghost use Rattle.clfs_lsn.specs.declared.cursor.CursorKind.TheVariants.{Records};
 ghost use Rattle.clfs_model.specs.State.{log_of};
 ghost use Rattle.clfs_model.specs.Valid.{IsValid};
 ghost use Rattle.clfs_rows.specs.Worked.{worked, opened_log};

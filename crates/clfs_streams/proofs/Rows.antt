@@ -10,10 +10,8 @@ use Rattle.std.proofs.lemmas.Bool.{cases_Bool}
 use Rattle.std.proofs.lemmas.Bool.Decides.{nat_tests}
 use Rattle.std.specs.Map.{keys_of}
 use Rattle.indexmap.specs.IndexMap.{set_value_at, insert_entry}
-use Rattle.clfs_model.specs.declared.state.State.{State}
-use Rattle.clfs_model.specs.declared.state.Stream.{Stream}
-use Rattle.clfs_model.specs.State.{set_base}
-use Rattle.clfs_model.specs.Refusals.{stream_number, stream_number_from}
+use Rattle.clfs_lsn.specs.declared.stream.Stream.{Stream}
+use Rattle.clfs_lsn.specs.Streams.{set_base, stream_number_from}
 use Rattle.clfs_streams.specs.Table.{Table}
 use Rattle.clfs_streams.specs.Rows.{streams_of}
 
@@ -78,11 +76,11 @@ moved_at rows number lsn some =
     moved rows (number - 1) lsn ∙ ap (λ n. set_base n lsn (streams_of rows)) back
 
 -- the same of the streams that a table stands for
-pub number_found : (s : State) (table : Table) (name : List ℕ) (rows : List (Vec ℕ × ℕ)) (room : ℕ) (placed : Option ℕ)
-    → s.streams ≡ table.streams → record { streams = streams_of rows; room = room } ≡ table → placed ≡ position (has_name name) (keys_of rows)
-    → option_map (λ place. place + 1) placed ≡ stream_number s name
-number_found s table name rows room placed same view is =
-    let streams = same ∙ ap (λ (t : Table). t.streams) (sym view) in
+pub number_found : (table : Table) (name : List ℕ) (rows : List (Vec ℕ × ℕ)) (room : ℕ) (placed : Option ℕ)
+    → record { streams = streams_of rows; room = room } ≡ table → placed ≡ position (has_name name) (keys_of rows)
+    → option_map (λ place. place + 1) placed ≡ stream_number_from 1 name table.streams
+number_found table name rows room placed view is =
+    let streams : table.streams ≡ streams_of rows = ap (λ (t : Table). t.streams) (sym view) in
     rw (streams, is) (sym (numbered name 1 rows))
 
 pub added_behind : (table : Table) (key : Vec ℕ) (name : List ℕ) (base end room : ℕ) (rows new : List (Vec ℕ × ℕ))

@@ -1,7 +1,7 @@
 -- Which streams the rows of a map stand for.
 use Rattle.std.specs.Prelude.{ℕ, List, map}
 use Rattle.std.specs.Global.{Vec}
-use Rattle.clfs_model.specs.declared.state.Stream.{Stream}
+use Rattle.clfs_lsn.specs.declared.stream.Stream.{Stream}
 
 -- a row by name is a stream
 abbrev pub streams_of : List (Vec ℕ × ℕ) → List Stream

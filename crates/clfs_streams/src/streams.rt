@@ -2,10 +2,8 @@
 ghost use Rattle.std.specs.Prelude.{◌≡◌, ◌≢◌, ◌+◌, ◌^◌, ◌<◌, ◌≤◌, [], ◌∷◌, ◌++◌, None, length, AllPairs, option_copied, OnOk};
 ghost use Rattle.std.specs.Option.{option_map};
 ghost use Rattle.clfs_lsn.specs.Lsn.{null_lsn};
-ghost use Rattle.clfs_model.specs.declared.state.State.{State};
-ghost use Rattle.clfs_model.specs.declared.state.Stream.{Stream};
-ghost use Rattle.clfs_model.specs.State.{stream_at, set_base};
-ghost use Rattle.clfs_model.specs.Refusals.{stream_number, stream_number_from};
+ghost use Rattle.clfs_lsn.specs.declared.stream.Stream.{Stream};
+ghost use Rattle.clfs_lsn.specs.Streams.{stream_in, set_base, stream_number_from};
 
 use clfs_lsn::{Lsn, Name};
 use indexmap::IndexMap;
@@ -50,7 +48,7 @@ impl Streams {
     /// The number of the stream of a name.
     pub fn number(&self, name: &[u8]) -> Option<u16>
         requires few { length self.now.streams < 2 ^ 16 }
-        ensures { (s : State) → s.streams ≡ self.now.streams → result ≡ stream_number s name.now }
+        ensures { result ≡ stream_number_from 1 name.now self.now.streams }
     {
         let place = self.rows.get_index_of(name)?;
         Some(place as u16 + 1)
@@ -58,7 +56,7 @@ impl Streams {
 
     /// The name of the stream of a number. The log finds streams by their names and asks for none; tests do.
     pub fn name(&self, number: u16) -> Option<&[u8]>
-        ensures { (s : State) → s.streams ≡ self.now.streams → option_copied result ≡ option_map (λ (stream : Stream). stream.name) (stream_at s number) }
+        ensures { option_copied result ≡ option_map (λ (stream : Stream). stream.name) (stream_in self.now.streams number) }
     {
         let (name, _base) = self.rows.get_index((number as usize).checked_sub(1)?)?;
         Some(name.as_slice())
@@ -66,7 +64,7 @@ impl Streams {
 
     /// The base of the stream of a number.
     pub fn base(&self, number: u16) -> Option<Lsn>
-        ensures { (s : State) → s.streams ≡ self.now.streams → result ≡ option_map (λ (stream : Stream). stream.base) (stream_at s number) }
+        ensures { result ≡ option_map (λ (stream : Stream). stream.base) (stream_in self.now.streams number) }
     {
         let (_name, base) = self.rows.get_index((number as usize).checked_sub(1)?)?;
         Some(*base)

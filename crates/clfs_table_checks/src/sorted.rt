@@ -1,7 +1,6 @@
 ghost use Rattle.std.specs.Prelude.{◌≡◌};
 
-use clfs_lsn::{Head, Kind, Lsn};
-use clfs_sorted::{forget_below, place_of};
+use clfs_lsn::{Head, Kind, Lsn, forget_below, place_of};
 use std::test::Fail;
 
 // A head with an LSN of this number.

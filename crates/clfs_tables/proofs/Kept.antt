@@ -5,9 +5,8 @@ use Rattle.std.proofs.lemmas.Bool.{cases_Bool, cases_lt, eq-eqb, eqb-true, ne_eq
 use Rattle.std.proofs.lemmas.List.{append_cancel_right, take-append-drop, drop-drop, drop-append-le, take-append-le, length-drop, length-append, drop_all}
 use Rattle.std.proofs.lemmas.List.Elements.{All-append, All-tail, All-take, All-weaker, filter-append}
 use Rattle.clfs_lsn.specs.declared.entry.Head.{Head}
-use Rattle.clfs_model.specs.declared.call.Mode.TheVariants.{Previous, UndoNext}
-use Rattle.clfs_model.specs.Heads.{head_at, heads_from, next_head, stream_heads, live_heads, restarts_among}
-use Rattle.clfs_model.specs.Reading.{is_restart}
+use Rattle.clfs_lsn.specs.declared.cursor.Mode.TheVariants.{Previous, UndoNext}
+use Rattle.clfs_lsn.specs.Heads.{head_at, heads_from, next_head, stream_heads, live_heads, restarts_among, is_restart}
 use Rattle.clfs_tables.specs.Tables.{IsDeadBelow, IsKept, restarts_of}
 
 le_false : (a b : ℕ) → b < a → nat_le a b ≡ false

@@ -4,9 +4,8 @@ use Rattle.std.specs.Prelude.{◌==◌, All}
 use Rattle.std.proofs.lemmas.Bool.{cases_Bool, eqb-true}
 use Rattle.std.proofs.lemmas.List.Elements.{All-tail, All-cons, All-filter}
 use Rattle.clfs_lsn.specs.declared.entry.Head.{Head}
-use Rattle.clfs_model.specs.declared.state.Stream.{Stream}
-use Rattle.clfs_model.specs.Heads.{heads_from, live_heads, restarts_among, restart_heads, stream_heads}
-use Rattle.clfs_model.specs.Reading.{is_restart}
+use Rattle.clfs_lsn.specs.declared.stream.Stream.{Stream}
+use Rattle.clfs_lsn.specs.Heads.{heads_from, live_heads, restarts_among, restart_heads, stream_heads, is_restart}
 use Rattle.clfs_tables.specs.declared.tables.StreamRow.{StreamRow}
 use Rattle.clfs_tables.specs.Tables.{IsDeadBelow, IsHead, IsRow, base_in, restarts_of}
 use Rattle.clfs_tables.proofs.Kept.{live_kept, live_restarts}

@@ -8,10 +8,9 @@ use Rattle.std.proofs.lemmas.List.Elements.{All-tail, All-drop, All-filter, All-
 use Rattle.std.proofs.lemmas.Option.{slice_get_past}
 use Rattle.clfs_lsn.specs.Lsn.{null_lsn}
 use Rattle.clfs_lsn.specs.declared.entry.Head.{Head}
-use Rattle.clfs_model.specs.declared.state.Stream.{Stream}
-use Rattle.clfs_model.specs.State.{set_base}
-use Rattle.clfs_model.specs.Heads.{heads_from, live_heads, stream_heads}
-use Rattle.clfs_model.specs.Reading.{is_restart}
+use Rattle.clfs_lsn.specs.declared.stream.Stream.{Stream}
+use Rattle.clfs_lsn.specs.Streams.{set_base}
+use Rattle.clfs_lsn.specs.Heads.{heads_from, live_heads, stream_heads, is_restart}
 use Rattle.clfs_tail.specs.Firsts.{first_live, AreFirsts}
 use Rattle.clfs_tables.specs.declared.tables.StreamRow.{StreamRow}
 use Rattle.clfs_tables.specs.Tables.{IsDeadBelow, IsHead, IsKept, IsNumber, IsRow, base_in, restarts_of, room_in}

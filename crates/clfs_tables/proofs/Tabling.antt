@@ -9,10 +9,9 @@ use Rattle.std.proofs.lemmas.List.Elements.{All-tail}
 use Rattle.clfs_lsn.specs.Lsn.{null_lsn}
 use Rattle.clfs_lsn.specs.declared.entry.Head.{Head}
 use Rattle.clfs_base.specs.declared.image.Row.{Row}
-use Rattle.clfs_model.specs.declared.state.Stream.{Stream}
-use Rattle.clfs_model.specs.State.{set_base}
-use Rattle.clfs_model.specs.Refusals.{stream_number_from}
-use Rattle.clfs_recover.specs.Files.{streams_with}
+use Rattle.clfs_lsn.specs.declared.stream.Stream.{Stream}
+use Rattle.clfs_lsn.specs.Streams.{set_base, stream_number_from}
+use Rattle.clfs_base.specs.Streams.{streams_with}
 use Rattle.clfs_tables.specs.Opening.{streams_of}
 use Rattle.clfs_tables.specs.Tables.{base_in}
 use Rattle.clfs_tables.proofs.TableSteps.{base_or_null}

@@ -5,7 +5,7 @@ use Rattle.clfs_lsn.specs.Lsn.{null_lsn}
 use Rattle.clfs_lsn.specs.declared.entry.Head.{Head}
 use Rattle.clfs_base.specs.declared.image.Row.{Row}
 use Rattle.clfs_base.specs.Spelling.{row_in}
-use Rattle.clfs_model.specs.declared.state.Stream.{Stream}
+use Rattle.clfs_lsn.specs.declared.stream.Stream.{Stream}
 
 -- Rows of streams with different names, a base for each, and heads of these streams' records, whose LSNs rise and whose links lie below them.
 pub record AreRowsAndHeads (rows : List Row) (bases : List ℕ) (heads : List Head) : Type 0 where

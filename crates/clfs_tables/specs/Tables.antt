@@ -1,11 +1,11 @@
 -- The tables of the records: what contracts see of them, and what they keep.
-use Rattle.std.specs.Prelude.{◌≡◌, ℕ, ◌-◌, ◌<◌, ◌≤◌, ◌==◌, ◌^◌, min, map, if◌then◌else◌, List, length, take, drop, filter, All, None, slice_get, slice_index_or}
+use Rattle.std.specs.Prelude.{◌≡◌, ℕ, ◌-◌, ◌<◌, ◌≤◌, ◌^◌, min, map, List, length, take, drop, filter, All, slice_index_or}
 use Rattle.std.specs.Option.{option_map_or}
 use Rattle.clfs_lsn.specs.Lsn.{null_lsn}
+use Rattle.clfs_lsn.specs.Streams.{stream_in}
 use Rattle.clfs_lsn.specs.declared.entry.Head.{Head}
-use Rattle.clfs_model.specs.declared.state.Stream.{Stream}
-use Rattle.clfs_model.specs.Heads.{stream_heads}
-use Rattle.clfs_model.specs.Reading.{is_restart}
+use Rattle.clfs_lsn.specs.declared.stream.Stream.{Stream}
+use Rattle.clfs_lsn.specs.Heads.{stream_heads, is_restart}
 use Rattle.clfs_tail.specs.Firsts.{AreFirsts}
 use Rattle.clfs_tables.specs.declared.tables.StreamRow.{StreamRow}
 use Rattle.clfs_tables.specs.declared.tables.Tables.TheInside.{Inside}
@@ -21,8 +21,7 @@ pub record Tabled : Type 0 where
 
 -- the base of the stream of a number, null where there is none
 abbrev pub base_in : List Stream → ℕ → ℕ
-base_in streams number =
-    option_map_or (λ (stream : Stream). stream.base) (if number == 0 then None else slice_get streams (number - 1)) null_lsn
+base_in streams number = option_map_or (λ (stream : Stream). stream.base) (stream_in streams number) null_lsn
 
 -- the number of a stream that is there
 abbrev pub IsNumber : List Stream → ℕ → Type 0

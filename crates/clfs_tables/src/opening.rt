@@ -4,7 +4,7 @@ ghost use Rattle.std.specs.Prelude.{◌≡◌, ◌<◌, ◌^◌, ℕ, List, [], 
 ghost use Rattle.clfs_lsn.specs.declared.entry.Head.{Head};
 ghost use Rattle.clfs_lsn.specs.Lsn.{null_lsn};
 ghost use Rattle.clfs_base.specs.declared.image.Row.{Row};
-ghost use Rattle.clfs_recover.specs.Files.{streams_with};
+ghost use Rattle.clfs_base.specs.Streams.{streams_with};
 ghost use Rattle.clfs_tables.specs.Opening.{AreRowsAndHeads, streams_of};
 
 use crate::tables::Tables;

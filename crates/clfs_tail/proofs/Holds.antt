@@ -4,7 +4,7 @@ use Rattle.std.specs.Prelude.{filter, nat_le, ◌==◌, AllPairs}
 use Rattle.std.specs.Option.{unwrap_or}
 use Rattle.std.proofs.lemmas.Bool.{cases_Bool, eq-eqb, eqb-true}
 use Rattle.clfs_lsn.specs.declared.entry.Head.{Head}
-use Rattle.clfs_model.specs.Heads.{hold_of}
+use Rattle.clfs_lsn.specs.Heads.{hold_of}
 use Rattle.clfs_tail.specs.Firsts.{first_live, AreFirsts, hold_among}
 use Rattle.clfs_tail.specs.Tree.{lesser}
 use Rattle.clfs_tail.proofs.Leasts.{UpTo, IsAmong, IsLeastOf, IsLeastIn, least_is, with_tail, least_of_firsts}

@@ -6,7 +6,7 @@ use Rattle.std.proofs.lemmas.Bool.{cases_Bool, cases_eq, cases_lt, eq-eqb, ne_eq
 use Rattle.std.proofs.lemmas.List.{append-nil, get_or_append_left, get_or_push, get_or-set_same, get_or-set_other, length_push, length-set}
 use Rattle.std.proofs.lemmas.List.Elements.{All-tail, All-weaker, All-push, filter-append}
 use Rattle.clfs_lsn.specs.declared.entry.Head.{Head}
-use Rattle.clfs_model.specs.Heads.{stream_heads, heads_from, live_heads}
+use Rattle.clfs_lsn.specs.Heads.{stream_heads, heads_from, live_heads}
 use Rattle.clfs_tail.specs.Firsts.{first_live, AreFirsts}
 
 -- a head of one of so many streams

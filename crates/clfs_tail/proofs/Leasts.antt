@@ -5,7 +5,7 @@ use Rattle.std.specs.List.{filter_map}
 use Rattle.std.specs.Option.{option_to_list, unwrap_or}
 use Rattle.std.proofs.lemmas.Bool.{cases_lt}
 use Rattle.std.proofs.lemmas.Option.{slice_get_past}
-use Rattle.clfs_model.specs.Live.{least_or}
+use Rattle.clfs_lsn.specs.Heads.{least_or}
 use Rattle.clfs_tail.specs.declared.tree.Node.{Node}
 use Rattle.clfs_tail.specs.Tree.{lesser, first_at, firsts_of, least_at, IsTree}
 

@@ -3,8 +3,7 @@ use Rattle.std.specs.Prelude.{◌≡◌, ℕ, ◌-◌, ◌<◌, ◌≤◌, List,
 use Rattle.std.specs.List.{filter_map}
 use Rattle.std.specs.Option.{option_map, option_to_list}
 use Rattle.clfs_lsn.specs.declared.entry.Head.{Head}
-use Rattle.clfs_model.specs.Heads.{live_heads}
-use Rattle.clfs_model.specs.Live.{least_or}
+use Rattle.clfs_lsn.specs.Heads.{live_heads, least_or}
 
 -- the LSN of a stream's first live record
 abbrev pub first_live : (ℕ → ℕ) → List Head → ℕ → Option ℕ

@@ -1,7 +1,7 @@
 // A law over the definitions, for callers to cite. Its function does nothing.
 ghost use Rattle.std.specs.Prelude.{◌≡◌, ℕ, List, Option};
 ghost use Rattle.clfs_lsn.specs.declared.entry.Head.{Head};
-ghost use Rattle.clfs_model.specs.Heads.{hold_of};
+ghost use Rattle.clfs_lsn.specs.Heads.{hold_of};
 ghost use Rattle.clfs_tail.specs.Firsts.{AreFirsts, hold_among};
 
 /// The hold by the streams' first live LSNs is that by the heads of all records.

@@ -2,7 +2,7 @@
 ghost use Rattle.std.specs.Prelude.{◌≡◌, ◌≢◌, All, ℕ, ◌+◌, ◌-◌, ◌<◌, ◌≤◌, List, [], ◌∷◌, ◌++◌, Option, None, Some, is_some, if◌then◌else◌, length, slice_set, slice_index_or, OnOk};
 ghost use Rattle.clfs_lsn.specs.Place.{IsSmall, frontier};
 ghost use Rattle.clfs_lsn.specs.declared.entry.Head.{Head};
-ghost use Rattle.clfs_model.specs.Heads.{hold_of};
+ghost use Rattle.clfs_lsn.specs.Heads.{hold_of};
 ghost use Rattle.clfs_tail.specs.Firsts.{first_live, AreFirsts, hold_among};
 
 use crate::tree::{Node, least_at, lesser, settle};

@@ -1,11 +1,7 @@
-use Rattle.std.proofs.Common.{◌≡◌, ◌-◌}
-use Rattle.clfs_base.specs.Layout.{file_place}
-use Rattle.clfs_base.specs.Checks.{first_some, told, is_wrong_file, wrong_file, files_in}
+use Rattle.std.proofs.Common.{◌≡◌}
+use Rattle.clfs_base.specs.Checks.{files_in}
 use Rattle.clfs_base.proofs.decoder.read_files.Given as goal
 
--- the numbers so far are read, and the first wrong one from here on is the first of all
+-- the numbers so far are read
 abbrev pub invariant-loop-i : goal.invariant-loop-i
-invariant-loop-i l = record {
-  so_far : l.numbers.items ≡ files_in l.bytes l.i;
-  rest : first_some (λ i. told (is_wrong_file l.bytes l.made i) (file_place i)) l.i (l.listed - l.i) ≡ wrong_file l.bytes l.made l.listed;
-}
+invariant-loop-i l = l.numbers.items ≡ files_in l.bytes l.i

@@ -1,12 +1,7 @@
-use Rattle.std.proofs.Common.{◌≡◌, ◌-◌}
-use Rattle.clfs_base.specs.Layout.{row_place}
-use Rattle.clfs_base.specs.Checks.{first_some, row_fault, wrong_row, rows_of}
+use Rattle.std.proofs.Common.{◌≡◌}
+use Rattle.clfs_base.specs.Checks.{rows_of}
 use Rattle.clfs_base.proofs.decoder.read_rows.Given as goal
 
--- the rows so far are read, and the first wrong byte from here on is the first of all
+-- the rows so far are read
 abbrev pub invariant-loop-i : goal.invariant-loop-i
-invariant-loop-i l = record {
-  so_far : l.rows.items ≡ rows_of l.layout l.bytes l.i;
-  rest : first_some (λ i. row_fault l.layout l.bytes (row_place l.layout i) (rows_of l.layout l.bytes i)) l.i (l.count - l.i)
-      ≡ wrong_row l.layout l.bytes l.count;
-}
+invariant-loop-i l = l.rows.items ≡ rows_of l.layout l.bytes l.i

@@ -4,7 +4,7 @@ use Rattle.clap.specs.Words.{App, app_of, shape_of, with_subcommand}
 use Rattle.clap.specs.Simple.{app_of_fields, on_top}
 use Rattle.clap.specs.declared.builder.command.Command.{Command}
 use Rattle.clap.specs.declared.builder.command.Command.TheViews.{out-Command}
-use Rattle.clfs_command.specs.Line.{format_line, serve_line, race_line, trial_line, check_line}
+use Rattle.clfs_command.specs.Line.{format_line, serve_line, race_line, trial_line, crew_line, check_line}
 use Rattle.clfs_command.proofs.line.command_line.Goals as goal
 
 -- a command that uses none of the settings that change how words are read has no option for all levels
@@ -25,10 +25,12 @@ returns c =
     let serve : app_of c.in_ok-serve_line.field-0 ≡ serve_line = c.in_ok-serve_line.ensures in
     let race : app_of c.in_ok-race_line.field-0 ≡ race_line = c.in_ok-race_line.ensures in
     let trial : app_of c.in_ok-trial_line.field-0 ≡ trial_line = c.in_ok-trial_line.ensures in
+    let crew : app_of c.in_ok-crew_line.field-0 ≡ crew_line = c.in_ok-crew_line.ensures in
     let first = c.in_ok-subcommand.ensures.shape (joined _ _ format refl) ∙ ap₂ with_subcommand base (ap (λ (x : App). x.top) format) in
     let second = c.in_ok-subcommand-2.ensures.shape (joined _ _ serve refl) ∙ ap₂ with_subcommand first (ap (λ (x : App). x.top) serve) in
     let check : app_of c.check_line.result ≡ check_line = c.check_line.ensures in
     let third = c.in_ok-subcommand-3.ensures.shape (joined _ _ race refl) ∙ ap₂ with_subcommand second (ap (λ (x : App). x.top) race) in
     let fourth = c.in_ok-subcommand-4.ensures.shape (joined _ _ trial refl) ∙ ap₂ with_subcommand third (ap (λ (x : App). x.top) trial) in
-    IfOk-weaker c.subcommand-5.result _ _
-    (λ r added. added.shape (joined _ _ check refl) ∙ ap₂ with_subcommand fourth (ap (λ (x : App). x.top) check)) c.subcommand-5.ensures
+    let fifth = c.in_ok-subcommand-5.ensures.shape (joined _ _ crew refl) ∙ ap₂ with_subcommand fourth (ap (λ (x : App). x.top) crew) in
+    IfOk-weaker c.subcommand-6.result _ _
+    (λ r added. added.shape (joined _ _ check refl) ∙ ap₂ with_subcommand fifth (ap (λ (x : App). x.top) check)) c.subcommand-6.ensures

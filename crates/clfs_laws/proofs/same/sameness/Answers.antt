@@ -2,7 +2,7 @@ use Rattle.std.proofs.Common.{sym, ap, List}
 use Rattle.std.specs.Prelude.{filter, reverse}
 use Rattle.clfs_lsn.specs.declared.entry.LogEntry.{LogEntry}
 use Rattle.clfs_model.specs.declared.state.State.{State}
-use Rattle.clfs_model.specs.Reading.{is_restart}
+use Rattle.clfs_lsn.specs.Heads.{is_restart}
 use Rattle.clfs_model.specs.State.{base_of}
 use Rattle.clfs_laws.proofs.Equivalence.{same_itself, same_turned, same_through, same_cut}
 use Rattle.clfs_laws.proofs.SameRecords.{live_of_same}

@@ -2,7 +2,7 @@ use Rattle.std.proofs.Common.{sym, ◌∙◌, ap}
 use Rattle.clfs_disk.specs.Files.{Unchanged}
 use Rattle.clfs_disk.specs.State.{TellsContents}
 use Rattle.clfs_base.specs.Slots.{newest_of}
-use Rattle.clfs_recover.proofs.Disks.{tells_still, settled_still, always}
+use Rattle.clfs_recover.proofs.Disks.{tells_still, settled_still, always, of_refusals}
 use Rattle.clfs_recover.proofs.Finding.{by_copy, listed_same}
 use Rattle.clfs_recover.proofs.OpenedLogs.{walked_is_opened, opened_is_found}
 use Rattle.clfs_recover.proofs.opening.walk.Goals as goal
@@ -38,3 +38,14 @@ returns-clause-settled g c = always c.walk_image.result (λ honest.
     settled_still g.D.Disk.state c.calls_join.ensures c.sync.new.self c.walk_image.new.disk (c.in_ok-sync.ensures.settled honest)
     (c.calls_join.ensures.reads c.sync.new.self c.read_newest.new.disk c.walk_image.new.disk c.in_ok-slot.ensures.time c.walk_image.ensures.time)
     (λ file. c.walk_image.ensures.same file ∙ c.in_ok-slot.ensures.same file))
+
+pub returns-clause-settled_refused : goal.returns-clause-settled_refused
+returns-clause-settled_refused g c = of_refusals _ c.walk_image.result (λ honest.
+    settled_still g.D.Disk.state c.calls_join.ensures c.sync.new.self c.walk_image.new.disk (c.in_ok-sync.ensures.settled honest)
+    (c.calls_join.ensures.reads c.sync.new.self c.read_newest.new.disk c.walk_image.new.disk c.in_ok-slot.ensures.time c.walk_image.ensures.time)
+    (λ file. c.walk_image.ensures.same file ∙ c.in_ok-slot.ensures.same file))
+
+pub returns-in_err-slot-clause-settled_refused : goal.returns-in_err-slot-clause-settled_refused
+returns-in_err-slot-clause-settled_refused g c = of_refusals _ c.from_residual-in_err-slot.result (λ honest.
+    settled_still g.D.Disk.state c.calls_join.ensures c.sync.new.self c.read_newest.new.disk (c.in_ok-sync.ensures.settled honest)
+    c.in_err-slot.ensures.time c.in_err-slot.ensures.same)

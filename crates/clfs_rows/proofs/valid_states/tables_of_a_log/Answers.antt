@@ -5,8 +5,8 @@ use Rattle.clfs_model.specs.Space.{grown, has_room}
 use Rattle.clfs_lsn.specs.Lsn.{lsn_number, null_lsn}
 use Rattle.clfs_model.specs.Run.{fine_outcome}
 use Rattle.clfs_model.specs.Script.{request_in}
-use Rattle.clfs_model.specs.declared.call.Mode.TheVariants.{Forward}
-use Rattle.clfs_model.specs.declared.state.CursorKind.TheVariants.{Records}
+use Rattle.clfs_lsn.specs.declared.cursor.Mode.TheVariants.{Forward}
+use Rattle.clfs_lsn.specs.declared.cursor.CursorKind.TheVariants.{Records}
 use Rattle.clfs_rows.specs.Arranged.{an_area, arranged_log, cursor_at, with_areas, with_cursors}
 use Rattle.clfs_rows.specs.Filled.{streams_of}
 use Rattle.clfs_rows.specs.Worked.{opened_log, worked}

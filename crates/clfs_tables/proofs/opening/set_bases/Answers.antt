@@ -1,5 +1,5 @@
 use Rattle.std.proofs.Common.{◌+◌, ◌∙◌, ap, arith, refl}
-use Rattle.clfs_model.specs.State.{set_base}
+use Rattle.clfs_lsn.specs.Streams.{set_base}
 use Rattle.clfs_tables.proofs.Tabling.{bases_all, bases_more, next_has_none, so_far_long}
 use Rattle.clfs_tables.proofs.opening.set_bases.Goals as goal
 

@@ -1,6 +1,6 @@
 use Rattle.std.proofs.Common.{◌≡◌, ℕ, [], ◌∷◌, ◌++◌, ◌∙◌, ap, arith, List}
 use Rattle.std.specs.Prelude.{count_by}
-use Rattle.clfs_model.specs.State.{least_unused}
+use Rattle.clfs_lsn.specs.Numbers.{least_unused}
 use Rattle.clfs_ledger.specs.declared.row.Reservation.{Reservation}
 use Rattle.clfs_ledger.specs.Rows.{without}
 use Rattle.clfs_areas.specs.Rows.{is_client_row, is_used}

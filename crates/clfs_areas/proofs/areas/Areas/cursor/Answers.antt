@@ -1,9 +1,14 @@
-use Rattle.std.proofs.Common.{subst}
+use Rattle.std.proofs.Common.{subst, ap, ◌∙◌}
+use Rattle.clfs_lsn.specs.Cursors.{cursor_in}
 use Rattle.clfs_cursor.specs.Rows.{AreaCursors, HaveDifferentNumbers}
 use Rattle.clfs_areas.specs.Table.{area_at}
 use Rattle.clfs_areas.proofs.ChangedCursors.{cursors_there}
 use Rattle.clfs_areas.proofs.Cursors.{numbers_differ}
 use Rattle.clfs_areas.proofs.areas.Areas.cursor.Goals as goal
+
+pub returns-clause-cursor : goal.returns-clause-cursor
+returns-clause-cursor c = c.cursor.ensures.cursor
+    ∙ ap (λ (area : AreaCursors). cursor_in area.cursors c.args.number) (cursors_there c.self.inside c.args.self.now c.self.view_is c.self.invariant c.args.place c.requires)
 
 pub returns-clause-different : goal.returns-clause-different
 returns-clause-different c =

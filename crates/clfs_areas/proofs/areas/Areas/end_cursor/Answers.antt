@@ -1,18 +1,12 @@
-use Rattle.std.proofs.Common.{refl, List}
+use Rattle.std.proofs.Common.{refl}
 use Rattle.clfs_model.specs.declared.state.Area.{Area}
-use Rattle.clfs_model.specs.declared.state.Cursor.{Cursor}
+use Rattle.clfs_lsn.specs.Cursors.{cursors_without}
 use Rattle.clfs_model.specs.Reading.{without_cursor}
-use Rattle.clfs_cursor.specs.Rows as seen
-use Rattle.clfs_areas.specs.Table.{no_area}
 use Rattle.clfs_areas.specs.Kept.{AreParts}
 use Rattle.clfs_areas.specs.declared.areas.Areas.TheInside.{Inside}
 use Rattle.clfs_areas.proofs.Changed.{after, told_after, area_after, as_many_after, joined_after}
 use Rattle.clfs_areas.proofs.ChangedCursors.{cursors_changed}
 use Rattle.clfs_areas.proofs.areas.Areas.end_cursor.Goals as goal
-
--- an area that has these cursors
-abbrev having : List Cursor → Area
-having cursors = record no_area { cursors = cursors }
 
 -- the area without the cursor
 abbrev change : goal.After-end → Area → Area
@@ -25,8 +19,7 @@ now c = record { rows = c.self.inside.rows; cursors = c.end.new.self; reservatio
 parts : (c : goal.After-end) → AreParts (after c.self.inside c.args.self.now c.self.view_is c.self.invariant c.args.place c.requires (change c))
     c.self.inside.rows.items c.end.new.self.areas c.self.inside.reservations
 parts c = cursors_changed c.self.inside c.args.self.now c.self.view_is c.self.invariant c.args.place c.requires
-    (λ (cursors : List Cursor). (without_cursor c.args.number (having cursors)).cursors) c.end.new.self.areas
-    (c.end.ensures.areas (having (seen.area_at c.args.place c.self.inside.cursors.areas).cursors) refl)
+    (cursors_without c.args.number) c.end.new.self.areas c.end.ensures.areas
 
 pub invariant_of-self : goal.invariant_of-self
 invariant_of-self c = joined_after c.self.inside c.args.self.now c.self.view_is c.self.invariant c.args.place c.requires (change c) (now c) (parts c) refl

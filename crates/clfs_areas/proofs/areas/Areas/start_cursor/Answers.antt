@@ -1,6 +1,6 @@
 use Rattle.std.proofs.Common.{◌++◌, [], ◌∷◌, refl, List}
 use Rattle.clfs_model.specs.declared.state.Area.{Area}
-use Rattle.clfs_model.specs.declared.state.Cursor.{Cursor}
+use Rattle.clfs_lsn.specs.declared.cursor.Cursor.{Cursor}
 use Rattle.clfs_model.specs.Reading.{with_cursor}
 use Rattle.clfs_areas.specs.Kept.{AreParts}
 use Rattle.clfs_areas.specs.declared.areas.Areas.TheInside.{Inside}

@@ -1,6 +1,6 @@
-use Rattle.std.proofs.Common.{◌≡◌, ◌∙◌, ap, sym, subst, List}
+use Rattle.std.proofs.Common.{◌≡◌, ◌∙◌, ap, sym, subst}
 use Rattle.std.specs.Prelude.{map, not, ◌==◌, filter, slice_set}
-use Rattle.clfs_model.specs.declared.state.Cursor.{Cursor}
+use Rattle.clfs_lsn.specs.Cursors.{cursors_without}
 use Rattle.clfs_cursor.specs.Keys.{Keys}
 use Rattle.clfs_cursor.specs.Kept.{area_by, AreOwned}
 use Rattle.clfs_cursor.specs.declared.keys.Numbered.{Numbered}
@@ -27,14 +27,14 @@ remove-ended-requires c =
     c.args.number c.in-Some.key c.in-Some.ensures.key
 
 pub returns-clause-areas : goal.returns-clause-areas
-returns-clause-areas c = λ area same.
+returns-clause-areas c =
     let there = row_there c.self.inside c.args.self.now c.self.view_is c.args.place c.requires in
     let ended = ended_areas c.self.inside.slots c.remove-ended.new.self c.self.inside.rows.items c.args.place c.args.number c.in-Some.key c.index.result.now
     there c.index.ensures c.self.invariant c.in-Some.ensures.different c.in-Some.ensures.key c.remove-ended.ensures.updates in
     change_seen c.self.inside c.args.self.now c.self.view_is c.args.place c.requires
     (map (area_by c.remove-ended.new.self) (slice_set c.self.inside.rows.items c.args.place c.remove.new.self))
-    (λ (cursors : List Cursor). filter (λ (cursor : Cursor). not (cursor.number == c.args.number)) cursors)
-    (ap (λ (row : Keys). map (area_by c.remove-ended.new.self) (slice_set c.self.inside.rows.items c.args.place row)) (left c) ∙ ended) area.cursors same
+    (cursors_without c.args.number)
+    (ap (λ (row : Keys). map (area_by c.remove-ended.new.self) (slice_set c.self.inside.rows.items c.args.place row)) (left c) ∙ ended)
 
 pub invariant_of-self : goal.invariant_of-self
 invariant_of-self c =

@@ -1,21 +1,18 @@
-use Rattle.std.proofs.Common.{◌∙◌, true, false, sym, subst, List}
-use Rattle.clfs_model.specs.declared.state.Cursor.{Cursor}
-use Rattle.clfs_cursor.specs.Rows.{HaveDifferentNumbers}
+use Rattle.std.proofs.Common.{◌∙◌, true, false, sym}
+use Rattle.clfs_cursor.specs.Rows.{area_at}
 use Rattle.clfs_cursor.proofs.OneKind.{no_record_cursor, record_cursor_is}
 use Rattle.clfs_cursor.proofs.cursors.Cursors.over_records.Goals as goal
 
 pub returns-in_err-cursor : goal.returns-in_err-cursor
-returns-in_err-cursor c = λ area same.
-    c.from_residual.ensures ∙ sym (no_record_cursor area c.args.number (sym (c.in_err-cursor.ensures.cursor area same)))
+returns-in_err-cursor c =
+    c.from_residual.ensures ∙ sym (no_record_cursor (area_at c.args.place c.args.self.now.areas).cursors c.args.number (sym c.in_err-cursor.ensures.cursor))
 
 pub returns-then-is_over_restarts : goal.returns-then-is_over_restarts
-returns-then-is_over_restarts c = λ area same.
-    let different = subst (λ (cursors : List Cursor). HaveDifferentNumbers cursors) (sym same) c.in_ok-cursor.ensures.different in
-    sym (record_cursor_is area c.args.number c.in_ok-cursor.cursor true different (sym (c.in_ok-cursor.ensures.cursor area same))
-    (sym c.is_over_restarts.ensures ∙ c.if-is_over_restarts.true))
+returns-then-is_over_restarts c =
+    sym (record_cursor_is (area_at c.args.place c.args.self.now.areas).cursors c.args.number c.in_ok-cursor.cursor true c.in_ok-cursor.ensures.different
+    (sym c.in_ok-cursor.ensures.cursor) (sym c.is_over_restarts.ensures ∙ c.if-is_over_restarts.true))
 
 pub returns : goal.returns
-returns c = λ area same.
-    let different = subst (λ (cursors : List Cursor). HaveDifferentNumbers cursors) (sym same) c.in_ok-cursor.ensures.different in
-    sym (record_cursor_is area c.args.number c.in_ok-cursor.cursor false different (sym (c.in_ok-cursor.ensures.cursor area same))
-    (sym c.is_over_restarts.ensures ∙ c.if-is_over_restarts.false))
+returns c =
+    sym (record_cursor_is (area_at c.args.place c.args.self.now.areas).cursors c.args.number c.in_ok-cursor.cursor false c.in_ok-cursor.ensures.different
+    (sym c.in_ok-cursor.ensures.cursor) (sym c.is_over_restarts.ensures ∙ c.if-is_over_restarts.false))

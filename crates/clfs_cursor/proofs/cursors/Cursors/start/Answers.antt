@@ -1,6 +1,6 @@
 use Rattle.std.proofs.Common.{◌≡◌, ◌<◌, ◌++◌, [], ◌∷◌, ◌∙◌, sym, ap, subst, length}
 use Rattle.std.specs.Prelude.{map, slice_set}
-use Rattle.clfs_model.specs.Reading.{unused_cursor}
+use Rattle.clfs_lsn.specs.Cursors.{unused_cursor}
 use Rattle.clfs_cursor.specs.Rows.{AreaCursors, Table, area_at, with_cursors}
 use Rattle.clfs_cursor.specs.Keys.{Keys}
 use Rattle.clfs_cursor.specs.Kept.{area_by, AreOwned}

@@ -6,17 +6,17 @@ use Rattle.clfs_base.specs.Writing.{older_of}
 use Rattle.clfs_base.specs.declared.image.BaseImage.{BaseImage}
 use Rattle.clfs_base.specs.declared.image.Row.{Row}
 use Rattle.clfs_model.specs.declared.state.State.{State}
-use Rattle.clfs_model.specs.declared.state.Stream.{Stream}
+use Rattle.clfs_lsn.specs.declared.stream.Stream.{Stream}
 use Rattle.clfs_archive.specs.Blocks.{AreSealed}
 use Rattle.clfs_model.specs.Flush.{block_start}
 use Rattle.clfs_model.specs.Heads.{heads_of}
 use Rattle.clfs_model.specs.Live.{hold}
-use Rattle.clfs_model.specs.Refusals.{stream_number_from}
+use Rattle.clfs_lsn.specs.Streams.{stream_number_from}
 use Rattle.clfs_physical.specs.Changes.{IsNewRow, next_copy, with_stream as with_row}
 use Rattle.clfs_physical.specs.Stored.{Newest}
 use Rattle.clfs_physical.specs.declared.change.Change.TheVariants as changes
 use Rattle.clfs_physical.specs.declared.refusal.PhysicalRefusal.{PhysicalRefusal}
-use Rattle.clfs_recover.specs.Files.{streams_with}
+use Rattle.clfs_base.specs.Streams.{streams_with}
 use Rattle.clfs_recover.specs.Walk.{bases_with, shape_of}
 use Rattle.clfs_manager.specs.Flushing.{StoredAfter}
 use Rattle.clfs_manager.specs.Memory.{Holds}

@@ -1,7 +1,7 @@
 use Rattle.std.proofs.Common.{◌≡◌, ℕ, sym, subst}
 use Rattle.std.specs.Prelude.{Some}
 use Rattle.clfs_lsn.specs.declared.entry.Head.{Head}
-use Rattle.clfs_model.specs.Heads.{head_at}
+use Rattle.clfs_lsn.specs.Heads.{head_at}
 use Rattle.clfs_tables.specs.Tables.{IsNumber}
 use Rattle.clfs_manager.proofs.Reached.{stream_there, last_known}
 use Rattle.clfs_manager.proofs.log.Log.next_of_cursor.Goals as goal

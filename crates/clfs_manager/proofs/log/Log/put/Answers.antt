@@ -3,7 +3,7 @@ use Rattle.std.specs.Prelude.{All}
 use Rattle.clfs_lsn.specs.Head.{head_of}
 use Rattle.clfs_lsn.specs.declared.entry.Head.{Head}
 use Rattle.clfs_model.specs.declared.state.State.{State}
-use Rattle.clfs_model.specs.declared.state.Stream.{Stream}
+use Rattle.clfs_lsn.specs.declared.stream.Stream.{Stream}
 use Rattle.clfs_model.specs.Put.{next_lsn}
 use Rattle.clfs_record.specs.declared.fields.Fields.{Fields}
 use Rattle.clfs_tables.specs.Tables.{base_in}

@@ -1,6 +1,6 @@
 use Rattle.std.proofs.Common.{refl}
 use Rattle.clfs_model.specs.declared.call.Call.TheVariants as calls
-use Rattle.clfs_model.specs.declared.state.CursorKind.TheVariants.{RestartAreas}
+use Rattle.clfs_lsn.specs.declared.cursor.CursorKind.TheVariants.{RestartAreas}
 use Rattle.clfs_model.specs.Reading.{newest_restart}
 use Rattle.clfs_model.specs.declared.state.Area.{Area}
 use Rattle.clfs_areas.specs.Table.{area_at}

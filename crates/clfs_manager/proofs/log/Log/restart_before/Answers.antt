@@ -3,8 +3,9 @@ use Rattle.std.specs.Prelude.{◌&&◌, Option}
 use Rattle.std.specs.Option.{option_map, option_and_then}
 use Rattle.clfs_lsn.specs.Head.{head_of}
 use Rattle.clfs_model.specs.declared.state.Area.{Area}
-use Rattle.clfs_model.specs.declared.state.Cursor.{Cursor}
-use Rattle.clfs_model.specs.Reading.{restart_cursor, next_of_cursor, is_over_restarts}
+use Rattle.clfs_lsn.specs.declared.cursor.Cursor.{Cursor}
+use Rattle.clfs_model.specs.Reading.{restart_cursor, next_of_cursor}
+use Rattle.clfs_lsn.specs.Cursors.{is_over_restarts}
 use Rattle.clfs_areas.specs.Table.{area_at}
 use Rattle.clfs_manager.proofs.Reached.{reaches, after_is_live, found_among}
 use Rattle.clfs_manager.proofs.log.Log.restart_before.Goals as goal

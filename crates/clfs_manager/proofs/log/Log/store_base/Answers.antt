@@ -10,7 +10,7 @@ use Rattle.clfs_model.specs.declared.state.State.{State}
 use Rattle.clfs_model.specs.Flush.{block_start, flushed}
 use Rattle.clfs_model.specs.Heads.{heads_of}
 use Rattle.clfs_model.specs.Live.{hold}
-use Rattle.clfs_model.specs.State.{set_base}
+use Rattle.clfs_lsn.specs.Streams.{set_base}
 use Rattle.clfs_physical.specs.Changes.{next_copy}
 use Rattle.clfs_physical.specs.Stored.{Newest, Blocks}
 use Rattle.clfs_physical.specs.declared.change.Change.TheVariants as changes

@@ -1,5 +1,5 @@
 use Rattle.std.proofs.Common.{◌∙◌, ap}
-use Rattle.clfs_model.specs.Heads.{next_head}
+use Rattle.clfs_lsn.specs.Heads.{next_head}
 use Rattle.clfs_tables.specs.Tables.{base_in}
 use Rattle.clfs_tables.proofs.Kept.{found_in_stream, known_head}
 use Rattle.clfs_tables.proofs.tables.Tables.next.Goals as goal

@@ -1,6 +1,6 @@
 use Rattle.std.proofs.Common.{◌∙◌, ◌-◌}
 use Rattle.std.proofs.lemmas.List.{length-set}
-use Rattle.clfs_model.specs.State.{set_base}
+use Rattle.clfs_lsn.specs.Streams.{set_base}
 use Rattle.clfs_tables.specs.Tables.{IsRow, base_in}
 use Rattle.clfs_tables.proofs.TableSteps.{as_many, bases_rise, first_by_kept, heads_by, moved_base, other_base, room_same, row_moved, rows_moved}
 use Rattle.clfs_tables.proofs.tables.Tables.set_base.Goals as goal

@@ -1,0 +1,9 @@
+use Rattle.std.proofs.Common.{ap, ◌∙◌}
+use Rattle.clfs_lsn.specs.Cursors.{restart_cursor_in}
+use Rattle.clfs_cursor.specs.Rows.{AreaCursors}
+use Rattle.clfs_areas.proofs.ChangedCursors.{cursors_there}
+use Rattle.clfs_areas.proofs.areas.Areas.over_restarts.Goals as goal
+
+pub returns : goal.returns
+returns c = c.over_restarts.ensures
+    ∙ ap (λ (area : AreaCursors). restart_cursor_in area.cursors c.args.number) (cursors_there c.self.inside c.args.self.now c.self.view_is c.self.invariant c.args.place c.requires)

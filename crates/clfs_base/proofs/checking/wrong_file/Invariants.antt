@@ -1,0 +1,9 @@
+use Rattle.std.proofs.Common.{◌≡◌, ◌-◌}
+use Rattle.clfs_base.specs.Layout.{file_place}
+use Rattle.clfs_base.specs.Checks.{first_some, told, is_wrong_file, wrong_file}
+use Rattle.clfs_base.proofs.checking.wrong_file.Given as goal
+
+-- the first wrong number from here on is the first of all
+abbrev pub invariant-loop-i : goal.invariant-loop-i
+invariant-loop-i l =
+    first_some (λ i. told (is_wrong_file l.bytes l.made i) (file_place i)) l.i (l.listed - l.i) ≡ wrong_file l.bytes l.made l.listed
