@@ -57,7 +57,7 @@ fn race(write_buffers: u32) -> Option<Command> {
 
 // Words beside the command that they name, or none. Two spaces in a row stand for an empty word between them.
 #[test]
-fn words_and_their_commands(rt: HostRuntime) -> Result<(), Fail> {
+fn words_that_make_a_log(rt: HostRuntime) -> Result<(), Fail> {
     let alloc = rt.alloc();
     let cases = [
         (
@@ -165,6 +165,18 @@ fn words_and_their_commands(rt: HostRuntime) -> Result<(), Fail> {
             None,
         ),
         ("format --dedicated", None),
+    ];
+    for (line, want) in cases {
+        let command = read_command(alloc, &owned(alloc, line)?);
+        assert_eq!(rt; command, want.ok_or(WordsRefusal::Usage));
+    }
+    Ok(())
+}
+
+#[test]
+fn words_of_serving_and_racing(rt: HostRuntime) -> Result<(), Fail> {
+    let alloc = rt.alloc();
+    let cases = [
         ("serve", serve(4, ScriptLength::Limited)),
         ("serve --", serve(4, ScriptLength::Limited)),
         ("serve --write-buffers 1", serve(1, ScriptLength::Limited)),
@@ -198,6 +210,18 @@ fn words_and_their_commands(rt: HostRuntime) -> Result<(), Fail> {
         ("race --endless", None),
         ("race serve", None),
         ("races", None),
+    ];
+    for (line, want) in cases {
+        let command = read_command(alloc, &owned(alloc, line)?);
+        assert_eq!(rt; command, want.ok_or(WordsRefusal::Usage));
+    }
+    Ok(())
+}
+
+#[test]
+fn words_of_trials_and_crews(rt: HostRuntime) -> Result<(), Fail> {
+    let alloc = rt.alloc();
+    let cases = [
         ("trial 1 5", trial(1, 5)),
         ("trial 0 1", trial(0, 1)),
         ("trial 4294967295 100000", trial(4294967295, 100000)),
@@ -237,6 +261,18 @@ fn words_and_their_commands(rt: HostRuntime) -> Result<(), Fail> {
         ("crew 2 5 --", crew(2, 5)),
         ("crew 2 5 --dedicated", None),
         ("crews 2 5", None),
+    ];
+    for (line, want) in cases {
+        let command = read_command(alloc, &owned(alloc, line)?);
+        assert_eq!(rt; command, want.ok_or(WordsRefusal::Usage));
+    }
+    Ok(())
+}
+
+#[test]
+fn words_of_checks_and_of_no_command(rt: HostRuntime) -> Result<(), Fail> {
+    let alloc = rt.alloc();
+    let cases = [
         ("check", Some(Command::Check)),
         ("check --", Some(Command::Check)),
         ("check x", None),
