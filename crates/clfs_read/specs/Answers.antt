@@ -1,11 +1,10 @@
 -- What the exports answer, by what the layers below say of the same bytes. An answer is a code and what stands in the caller's struct.
 use Rattle.std.specs.Prelude.{ℕ, ◌+◌, ◌*◌, ◌^◌, Bool, true, false, ◌&&◌, ◌==◌, nat_le, nat_lt, if◌then◌else◌, List, length, drop, Option, Some, None, Result, Ok, Err}
 use Rattle.clfs_lsn.specs.Format.{sector_bytes, record_header}
+use Rattle.clfs_lsn.specs.Heads.{is_restart}
 use Rattle.clfs_lsn.specs.Size.{sectors}
 use Rattle.clfs_lsn.specs.Spelling.{record_at}
 use Rattle.clfs_lsn.specs.declared.entry.Head.{Head}
-use Rattle.clfs_lsn.specs.declared.entry.Kind.{Kind}
-use Rattle.clfs_lsn.specs.declared.entry.Kind.TheVariants.{Plain, Restart}
 use Rattle.clfs_lsn.specs.declared.shape.Shape.{Shape}
 use Rattle.clfs_record.specs.Decoding.{head_read}
 use Rattle.clfs_record.specs.declared.refusal.HeadRefusal.{HeadRefusal}
@@ -53,9 +52,11 @@ if_told false x = None
 
 -- ---- blocks
 
+-- the shape of a log with these measures
 abbrev pub shape_of : Measures → Shape
 shape_of measures = record { block_sectors = measures.block_sectors; container_sectors = measures.container_sectors }
 
+-- the head of a block that has these numbers
 abbrev pub head_from : Block → BlockHead
 head_from block = record { sectors = block.sectors; records = block.records; used = block.used }
 
@@ -84,11 +85,6 @@ rest_told (Err blocks.Closed) = (unfit, 0)
 rest_told (Err blocks.NoMemory) = (unfit, 0)
 
 -- ---- records
-
--- a record of this kind is a restart area
-abbrev pub restarts : Kind → Bool
-restarts Plain = false
-restarts Restart = true
 
 -- no record, by a wrong byte of its block if there is one
 abbrev pub no_record : ℕ → Record
@@ -119,7 +115,7 @@ record_told at (Ok (head, size)) = (
     next_at = at + size;
     bad_at = 0;
     stream = head.stream;
-    is_restart = restarts head.kind;
+    is_restart = is_restart head.kind;
   },
 )
 record_told at (Err (heads.BadByte place)) = (wrong, no_record (place_of (at + place)))

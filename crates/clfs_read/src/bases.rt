@@ -1,10 +1,11 @@
 // Judging a base file, and reading what its newest copy says.
-ghost use Rattle.std.specs.Prelude.{◌≡◌, false, slice_get, Ok};
+ghost use Rattle.std.specs.Prelude.{◌≡◌, false, nat_lt, if◌then◌else◌, slice_get, Some, None, Ok};
+ghost use Rattle.std.specs.Option.{option_map};
 ghost use Rattle.clfs_base.specs.declared.image.BaseImage.{BaseImage};
-ghost use Rattle.clfs_base.specs.Checks.{image_at};
+ghost use Rattle.clfs_base.specs.Checks.{file_in, row_of, image_at};
+ghost use Rattle.clfs_base.specs.Layout.{layout_in, numbers_of};
 ghost use Rattle.clfs_base.specs.Slots.{slot_of, newest_of};
 ghost use Rattle.clfs_base.specs.Told.{numbers_told, row_told};
-ghost use Rattle.std.specs.Option.{option_map};
 ghost use Rattle.clfs_read.specs.Answers.{if_told, no_base, base_told, place_in};
 
 use crate::answers::{RIGHT, SHUT, UNFIT, WRONG};
@@ -135,7 +136,11 @@ fn refuse(code: u32, slot: u32, at: u32, out: &mut Base) -> u32
 /// right. False, and nothing is written, where so many aren't listed.
 #[unsafe(no_mangle)]
 pub extern "C" fn clfs_base_file(file: &[u8], slot: u32, i: u16, out: &mut u16) -> bool
-    ensures exact { (image : BaseImage) → image_at (slot_of file.now slot) ≡ Ok image → if_told result out.new ≡ slice_get image.files i }
+    ensures exact { if_told result out.new ≡ (if nat_lt i (numbers_of (slot_of file.now slot)).listed
+        then Some (file_in (slot_of file.now slot) i) else None) }
+
+    // Of a copy that is right it is the number that its image has.
+    ensures found { (image : BaseImage) → image_at (slot_of file.now slot) ≡ Ok image → if_told result out.new ≡ slice_get image.files i }
     ensures kept { result ≡ false → out.new ≡ out.old }
 {
     match file_at(slot_of(file, slot), i) {
@@ -151,7 +156,12 @@ pub extern "C" fn clfs_base_file(file: &[u8], slot: u32, i: u16, out: &mut u16) 
 /// nothing is written, where there aren't so many.
 #[unsafe(no_mangle)]
 pub extern "C" fn clfs_base_stream(file: &[u8], slot: u32, i: u16, out: &mut Stream) -> bool
-    ensures exact { (image : BaseImage) → image_at (slot_of file.now slot) ≡ Ok image
+    ensures exact { option_map (row_told (slot_of file.now slot)) (if_told result (place_in out.new))
+        ≡ (if nat_lt i (numbers_of (slot_of file.now slot)).streams
+        then Some (row_of (layout_in (slot_of file.now slot)) (slot_of file.now slot) i) else None) }
+
+    // Of a copy that is right it is the row that its image has.
+    ensures found { (image : BaseImage) → image_at (slot_of file.now slot) ≡ Ok image
         → option_map (row_told (slot_of file.now slot)) (if_told result (place_in out.new)) ≡ slice_get image.streams i }
     ensures kept { result ≡ false → out.new ≡ out.old }
 {

@@ -1,10 +1,11 @@
 // Judging and taking a block's records, one by one.
 ghost use Rattle.std.specs.Prelude.{◌≡◌, ◌+◌, ◌^◌, ◌<◌, ◌&&◌, nat_lt, [], length, drop, Ok, Err};
+ghost use Rattle.clfs_lsn.specs.Heads.{is_restart};
 ghost use Rattle.clfs_lsn.specs.Spelling.{record_at};
 ghost use Rattle.clfs_lsn.specs.declared.entry.Head.{Head};
 ghost use Rattle.clfs_block.specs.Records.{records_from};
 ghost use Rattle.clfs_record.specs.Decoding.{head_read};
-ghost use Rattle.clfs_read.specs.Answers.{ended, wrong, restarts, no_record, record_told, next_told};
+ghost use Rattle.clfs_read.specs.Answers.{ended, wrong, no_record, record_told, next_told};
 
 use crate::answers::{ENDED, RIGHT, UNFIT, WRONG};
 use clfs_block::byte_of;
@@ -116,13 +117,13 @@ fn tell(head: &Head, at: u32, size: u32, out: &mut Record) -> u32
         next_at: at + size,
         bad_at: 0,
         stream: head.stream,
-        is_restart: restarts(head.kind),
+        is_restart: is_restart(head.kind),
     };
     RIGHT
 }
 
-fn restarts(kind: Kind) -> bool
-    ensures { result ≡ restarts kind }
+fn is_restart(kind: Kind) -> bool
+    ensures { result ≡ is_restart kind }
 {
     match kind {
         Kind::Plain => false,
