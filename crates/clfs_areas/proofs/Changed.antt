@@ -1,11 +1,11 @@
 -- One area that is changed.
-use Rattle.std.proofs.Common.{◌≡◌, ℕ, ◌<◌, ap, ◌∙◌, subst, List, length}
+use Rattle.std.proofs.Common.{◌≡◌, ℕ, ◌<◌, sym, ap, ◌∙◌, subst, List, length, map}
 use Rattle.std.specs.Prelude.{AllPairs, slice_set}
 use Rattle.std.proofs.lemmas.List.{get_or-set_same, length-set}
 use Rattle.clfs_model.specs.declared.state.Area.{Area}
 use Rattle.clfs_model.specs.State.{change_first, is_area}
 use Rattle.clfs_areas.specs.Table.{AreaTable, no_area, area_at}
-use Rattle.clfs_areas.specs.Rows.{AreDifferentRows}
+use Rattle.clfs_areas.specs.Rows.{name_in, AreDifferentRows}
 use Rattle.clfs_areas.specs.Kept.{inside_areas, table_of, AreParts, AreJoined}
 use Rattle.clfs_areas.specs.declared.row.AreaRow.{AreaRow}
 use Rattle.clfs_areas.specs.declared.areas.Areas.TheInside.{Inside}
@@ -45,8 +45,9 @@ module _ (inside : Inside) (table : AreaTable) (view_is : table_of inside ≡ ta
       as_many_after = ap (λ (all : List Area). length all) (told_after ∙ after_is) ∙ length-set table.areas place (change before)
 
       -- and the parts belong together
-      pub joined_after : inside.rows.items ≡ now.rows.items → AreJoined now
-      joined_after same = record {
+      pub joined_after : inside.rows.items ≡ now.rows.items → inside.names.keys ≡ now.names.keys → AreJoined now
+      joined_after same same_names = record {
         parts = parts_kept after now.rows.items now.cursors.areas now.reservations parts;
         different = subst (λ (rows : List AreaRow). AllPairs AreDifferentRows rows) same joined.different;
+        names_are = sym same_names ∙ joined.names_are ∙ ap (λ (rows : List AreaRow). map name_in rows) same;
       }

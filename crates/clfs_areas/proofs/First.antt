@@ -71,6 +71,15 @@ pub position_of_map : {X Y : Type 0} (f : X → Y) (p : Y → Bool) (xs : List X
 position_of_map f p xs =
     ap₂ (λ (place count : ℕ). cond (nat_lt place count) (Some place) None) (prefix_of_map f (λ y. not (p y)) xs) (length-map xs f)
 
+-- tests that answer alike find the same place
+prefix_alike : {X : Type 0} (p q : X → Bool) → ((x : X) → p x ≡ q x) → (xs : List X) → prefix_len p xs ≡ prefix_len q xs
+prefix_alike p q alike [] = refl
+prefix_alike p q alike (x ∷ xs) = ap₂ (λ (b : Bool) (n : ℕ). cond b (1 + n) 0) (alike x) (prefix_alike p q alike xs)
+
+pub position_alike : {X : Type 0} (p q : X → Bool) → ((x : X) → p x ≡ q x) → (xs : List X) → position p xs ≡ position q xs
+position_alike p q alike xs =
+    ap (λ (place : ℕ). cond (nat_lt place (length xs)) (Some place) None) (prefix_alike (λ x. not (p x)) (λ x. not (q x)) (λ x. ap not (alike x)) xs)
+
 -- without the first, where no other passes
 pub others_left : {X : Type 0} (p : X → Bool) (xs : List X) → find p xs ≡ None → filter (λ x. not (p x)) xs ≡ xs
 others_left p [] none = refl

@@ -12,12 +12,13 @@ use Rattle.clfs_cursor.specs.Rows.{AreaCursors}
 use Rattle.clfs_ledger.specs.declared.row.Reservation.{Reservation}
 use Rattle.clfs_ledger.specs.Rows.{without}
 use Rattle.clfs_areas.specs.Table.{AreaTable, no_area, area_at}
-use Rattle.clfs_areas.specs.Rows.{AreDifferentRows, is_row}
+use Rattle.clfs_areas.specs.Rows.{AreDifferentRows, is_name, name_in}
 use Rattle.clfs_areas.specs.Kept.{row_of, cursors_of, reservation_of, inside_areas, table_of, AreParts, AreJoined}
+use Rattle.clfs_areas.specs.declared.row.AreaName.{AreaName}
 use Rattle.clfs_areas.specs.declared.row.AreaRow.{AreaRow}
 use Rattle.clfs_areas.specs.declared.areas.Areas.TheInside.{Inside}
 use Rattle.clfs_areas.proofs.First.{IsFirst, found_first, first_rest, find_at_place, others_left, removed_left}
-use Rattle.clfs_areas.proofs.Named.{place_seen, different_areas, named_client, named_number, name_of_other}
+use Rattle.clfs_areas.proofs.Named.{place_named, different_areas, named_client, named_number, name_of_other}
 use Rattle.clfs_areas.proofs.Parts.{parts_tell, parts_kept, parts_seen}
 
 -- what f makes of a list without an element
@@ -40,7 +41,7 @@ ledger_without client number (area ∷ areas) (suc place) d first =
     (ledger_without client number areas place d (first_rest (is_area client number) area areas place d first)))
 
 module _ (inside : Inside) (table : AreaTable) (view_is : table_of inside ≡ table) (joined : AreJoined inside) (client number : ℕ)
-    (placed : Option ℕ) (rows : List AreaRow) (same_rows : rows ≡ inside.rows.items) (found : placed ≡ position (is_row client number) rows) where
+    (placed : Option ℕ) (found : placed ≡ position (is_name client number) inside.names.keys) where
   -- all areas without the client's one of this number
   abbrev pub left : List Area
   left = filter (λ (area : Area). not (is_area client number area)) table.areas
@@ -49,8 +50,7 @@ module _ (inside : Inside) (table : AreaTable) (view_is : table_of inside ≡ ta
   parts = parts_seen inside table view_is joined
 
   seen : placed ≡ position (is_area client number) table.areas
-  seen = found ∙ ap (λ (all : List AreaRow). position (is_row client number) all) same_rows
-      ∙ place_seen table.areas inside.rows.items client number parts.rows_are
+  seen = found ∙ place_named table.areas inside.rows.items inside.names.keys client number joined.names_are parts.rows_are
 
   -- where it isn't there, all are left
   pub none_goes : placed ≡ None → table.areas ≡ left
@@ -61,6 +61,13 @@ module _ (inside : Inside) (table : AreaTable) (view_is : table_of inside ≡ ta
   module _ (place : ℕ) (some : placed ≡ Some place) where
     first : IsFirst (is_area client number) table.areas place no_area
     first = found_first (is_area client number) table.areas place no_area (sym seen ∙ some)
+
+    -- a row and cursors stand there
+    pub row_there : place < length inside.rows.items
+    row_there = omega (arith, first.within, length-map table.areas row_of, ap length parts.rows_are)
+
+    pub cursors_there : place < length inside.cursors.areas
+    cursors_there = omega (arith, first.within, length-map table.areas cursors_of, ap length parts.cursors_are)
 
     -- no other area has the name
     behind : (k : ℕ) → place < k → k < length table.areas → is_area client number (area_at k table.areas) ≡ false
@@ -75,7 +82,7 @@ module _ (inside : Inside) (table : AreaTable) (view_is : table_of inside ≡ ta
     left_is : left ≡ remove table.areas place
     left_is = removed_left (is_area client number) table.areas place no_area first behind
 
-    module _ (now : Inside) (rows_are : now.rows.items ≡ remove inside.rows.items place) (cursors_are : now.cursors.areas ≡ remove inside.cursors.areas place)
+    module _ (now : Inside) (rows_are : now.rows.items ≡ remove inside.rows.items place) (names_are : now.names.keys ≡ remove inside.names.keys place) (cursors_are : now.cursors.areas ≡ remove inside.cursors.areas place)
         (reservations_are : now.reservations ≡ without inside.reservations client number) where
       parts_left : AreParts left now.rows.items now.cursors.areas now.reservations
       parts_left = subst (λ (areas : List Area). AreParts areas now.rows.items now.cursors.areas now.reservations) (sym left_is) record {
@@ -91,10 +98,10 @@ module _ (inside : Inside) (table : AreaTable) (view_is : table_of inside ≡ ta
 
       -- and belong together
       pub joined_left : AreJoined now
-      joined_left =
-          let within : place < length inside.rows.items = omega (arith, first.within, length-map table.areas row_of, ap length parts.rows_are) in
-          record {
-            parts = parts_kept left now.rows.items now.cursors.areas now.reservations parts_left;
-            different = subst (λ (all : List AreaRow). AllPairs AreDifferentRows all) (sym rows_are)
-                (all_pairs_remove AreDifferentRows inside.rows.items place within joined.different);
-          }
+      joined_left = record {
+        parts = parts_kept left now.rows.items now.cursors.areas now.reservations parts_left;
+        different = subst (λ (all : List AreaRow). AllPairs AreDifferentRows all) (sym rows_are)
+            (all_pairs_remove AreDifferentRows inside.rows.items place row_there joined.different);
+        names_are = names_are ∙ ap (λ (all : List AreaName). remove all place) joined.names_are ∙ sym (map_removed name_in inside.rows.items place)
+            ∙ ap (λ (all : List AreaRow). map name_in all) (sym rows_are);
+      }

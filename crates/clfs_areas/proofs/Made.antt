@@ -1,5 +1,5 @@
 -- An area that is made.
-use Rattle.std.proofs.Common.{◌≡◌, ◌≢◌, ℕ, ◌<◌, Bool, true, false, refl, sym, ap, ◌∙◌, subst, arith, zero, suc, List, [], ◌∷◌, ◌++◌, length, get_or, ◌⊎◌, inl, inr}
+use Rattle.std.proofs.Common.{◌≡◌, ◌≢◌, ℕ, ◌<◌, Bool, true, false, if◌then◌else◌, refl, sym, ap, ◌∙◌, subst, arith, zero, suc, List, [], ◌∷◌, ◌++◌, length, map, get_or, ◌⊎◌, inl, inr}
 use Rattle.std.specs.Prelude.{AllPairs, count_by}
 use Rattle.std.specs.List.{list_any}
 use Rattle.std.proofs.lemmas.Bool.{cases_eq}
@@ -11,12 +11,15 @@ use Rattle.clfs_lsn.specs.Numbers.{least_unused}
 use Rattle.clfs_cursor.specs.Rows.{AreaCursors}
 use Rattle.clfs_ledger.specs.declared.row.Reservation.{Reservation}
 use Rattle.clfs_ledger.specs.Rows.{has_row, is_of, without}
+use Rattle.indexmap.specs.IndexSet.{insert_key}
 use Rattle.clfs_areas.specs.Table.{AreaTable}
-use Rattle.clfs_areas.specs.Rows.{AreDifferentRows, is_client_row, is_row, is_used}
+use Rattle.clfs_areas.specs.Rows.{AreDifferentRows, is_client_row, is_name, is_row, is_used, name_in}
 use Rattle.clfs_areas.specs.Kept.{row_of, cursors_of, reservation_of, inside_areas, table_of, AreParts, AreJoined}
+use Rattle.clfs_areas.specs.declared.row.AreaName.{AreaName}
 use Rattle.clfs_areas.specs.declared.row.AreaRow.{AreaRow}
 use Rattle.clfs_areas.specs.declared.areas.Areas.TheInside.{Inside}
 use Rattle.clfs_areas.proofs.Clients.{held_row_seen}
+use Rattle.clfs_areas.proofs.Named.{used_named}
 use Rattle.clfs_areas.proofs.Numbers.{least_is_unused}
 use Rattle.clfs_areas.proofs.Parts.{parts_tell, parts_kept, parts_seen}
 
@@ -35,6 +38,19 @@ added_goes (row ∷ rows) client number new = go (is_of client number row) refl 
     go false is rest =
         let none : has_row rows client number ≡ false = rw is at new in
         rw is (ap (λ (others : List Reservation). row ∷ others) (rest none))
+
+-- the names after one is inserted
+abbrev pub with_name : List AreaName → AreaName → List AreaName
+with_name names name = insert_key (λ (a b : AreaName). is_name a.client a.number b) names name
+
+-- one that no row has goes last
+name_added : (rows : List AreaRow) (names now : List AreaName) (client number : ℕ) → names ≡ map name_in rows → is_used client rows number ≡ false
+    → now ≡ with_name names (record { client = client; number = number }) → now ≡ map name_in rows ++ record { client = client; number = number } ∷ []
+name_added rows names now client number named unused is =
+    let added : AreaName = record { client = client; number = number } in
+    let none : list_any (is_name client number) names ≡ false =
+    ap (λ (all : List AreaName). list_any (is_name client number) all) named ∙ used_named client rows number ∙ unused in
+    is ∙ ap (λ (b : Bool). if b then names else names ++ added ∷ []) none ∙ ap (λ (all : List AreaName). all ++ added ∷ []) named
 
 -- where none passes, that at a place doesn't
 none_passes : {X : Type 0} (p : X → Bool) (xs : List X) → list_any p xs ≡ false → (k : ℕ) (d : X) → k < length xs → p (get_or xs k d) ≡ false
@@ -60,8 +76,8 @@ module _ (inside : Inside) (table : AreaTable) (view_is : table_of inside ≡ ta
   parts = parts_seen inside table view_is joined
 
   -- parts that are again what they were
-  module _ (now : Inside) (rows_are : now.rows.items ≡ inside.rows.items) (cursors_are : now.cursors.areas ≡ inside.cursors.areas)
-      (reservations_are : now.reservations ≡ inside.reservations) where
+  module _ (now : Inside) (rows_are : now.rows.items ≡ inside.rows.items) (same_names : now.names.keys ≡ inside.names.keys)
+      (cursors_are : now.cursors.areas ≡ inside.cursors.areas) (reservations_are : now.reservations ≡ inside.reservations) where
     parts_again : AreParts table.areas now.rows.items now.cursors.areas now.reservations
     parts_again = record {
       rows_are = rows_are ∙ parts.rows_are;
@@ -76,6 +92,7 @@ module _ (inside : Inside) (table : AreaTable) (view_is : table_of inside ≡ ta
     joined_again = record {
       parts = parts_kept table.areas now.rows.items now.cursors.areas now.reservations parts_again;
       different = subst (λ (all : List AreaRow). AllPairs AreDifferentRows all) (sym rows_are) joined.different;
+      names_are = same_names ∙ joined.names_are ∙ ap (λ (all : List AreaRow). map name_in all) (sym rows_are);
     }
 
   -- a new number
@@ -101,6 +118,7 @@ module _ (inside : Inside) (table : AreaTable) (view_is : table_of inside ≡ ta
       made = record { client = client; number = number; stream = stream; largest = largest; reads = reads; held = 0; cursors = [] }
 
       module _ (now : Inside) (rows_are : now.rows.items ≡ inside.rows.items ++ row_of made ∷ [])
+          (more_names : now.names.keys ≡ with_name inside.names.keys (record { client = client; number = number }))
           (cursors_are : now.cursors.areas ≡ inside.cursors.areas ++ cursors_of made ∷ [])
           (reservations_are : now.reservations ≡ inside.reservations ++ reservation_of made ∷ []) where
         parts_now : AreParts (table.areas ++ made ∷ []) now.rows.items now.cursors.areas now.reservations
@@ -123,4 +141,6 @@ module _ (inside : Inside) (table : AreaTable) (view_is : table_of inside ≡ ta
           different = subst (λ (all : List AreaRow). AllPairs AreDifferentRows all) (sym rows_are)
               (all_pairs_push AreDifferentRows inside.rows.items (row_of made) joined.different
               (λ k d less. other_row (get_or inside.rows.items k d) (row_of made) (none_passes (is_row client number) inside.rows.items unused k d less)));
+          names_are = name_added inside.rows.items inside.names.keys now.names.keys client number joined.names_are unused more_names
+              ∙ sym (map-append name_in inside.rows.items (row_of made ∷ [])) ∙ ap (λ (all : List AreaRow). map name_in all) (sym rows_are);
         }

@@ -1,16 +1,18 @@
 -- An area is named by its client and its number.
-use Rattle.std.proofs.Common.{◌≡◌, ℕ, ◌<◌, true, false, ap, ◌∙◌, subst, arith, List, length, map, get_or, inl, inr}
+use Rattle.std.proofs.Common.{◌≡◌, ℕ, ◌<◌, Bool, true, false, ◌||◌, refl, ap, ap₂, ◌∙◌, subst, arith, List, [], ◌∷◌, length, map, get_or, inl, inr}
 use Rattle.std.specs.Prelude.{AllPairs, position}
+use Rattle.std.specs.List.{list_any}
 use Rattle.std.proofs.lemmas.Bool.Decides.{nat_tests}
 use Rattle.std.proofs.lemmas.List.{length-map, get_or-map}
 use Rattle.clfs_model.specs.declared.state.Area.{Area}
 use Rattle.clfs_model.specs.State.{is_area}
 use Rattle.clfs_model.specs.Valid.{AreDifferentAreas}
 use Rattle.clfs_areas.specs.Table.{no_area, area_at}
-use Rattle.clfs_areas.specs.Rows.{AreDifferentRows, is_row}
+use Rattle.clfs_areas.specs.Rows.{AreDifferentRows, is_name, is_row, is_used, name_in}
 use Rattle.clfs_areas.specs.Kept.{row_of}
+use Rattle.clfs_areas.specs.declared.row.AreaName.{AreaName}
 use Rattle.clfs_areas.specs.declared.row.AreaRow.{AreaRow}
-use Rattle.clfs_areas.proofs.First.{IsFirst, position_of_map}
+use Rattle.clfs_areas.proofs.First.{IsFirst, position_alike, position_of_map}
 
 -- rows stand where their areas stand
 pub place_seen : (areas : List Area) (rows : List AreaRow) (client number : ℕ) → rows ≡ map row_of areas
@@ -18,11 +20,23 @@ pub place_seen : (areas : List Area) (rows : List AreaRow) (client number : ℕ)
 place_seen areas rows client number are =
     ap (λ (all : List AreaRow). position (is_row client number) all) are ∙ position_of_map row_of (is_row client number) areas
 
--- the row at a place is that of the area there
-pub row_seen : (areas : List Area) (rows : List AreaRow) (place : ℕ) (row : AreaRow) → rows ≡ map row_of areas → place < length areas
-    → row ≡ get_or rows place row → row ≡ row_of (area_at place areas)
-row_seen areas rows place row are there is =
-    is ∙ ap (λ (all : List AreaRow). get_or all place row) are ∙ get_or-map row_of areas place no_area row there
+-- a row has the name that is in it
+same_name : (client number : ℕ) (row : AreaRow) → is_name client number (name_in row) ≡ is_row client number row
+same_name client number row = grind (arith, nat_tests)
+
+-- names stand where their areas stand
+pub place_named : (areas : List Area) (rows : List AreaRow) (names : List AreaName) (client number : ℕ) → names ≡ map name_in rows → rows ≡ map row_of areas
+    → position (is_name client number) names ≡ position (is_area client number) areas
+place_named areas rows names client number named are =
+    ap (λ (all : List AreaName). position (is_name client number) all) named
+    ∙ position_of_map name_in (is_name client number) rows
+    ∙ position_alike (λ row. is_name client number (name_in row)) (is_row client number) (same_name client number) rows
+    ∙ place_seen areas rows client number are
+
+-- a name is there where a row has it
+pub used_named : (client : ℕ) (rows : List AreaRow) (number : ℕ) → list_any (is_name client number) (map name_in rows) ≡ is_used client rows number
+used_named client [] number = refl
+used_named client (row ∷ rows) number = ap₂ (λ (a b : Bool). a || b) (same_name client number row) (used_named client rows number)
 
 -- areas are different where their rows are
 pub different_areas : (areas : List Area) (rows : List AreaRow) → rows ≡ map row_of areas → AllPairs AreDifferentRows rows → AllPairs AreDifferentAreas areas

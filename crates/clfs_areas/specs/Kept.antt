@@ -4,7 +4,7 @@ use Rattle.clfs_model.specs.declared.state.Area.{Area}
 use Rattle.clfs_cursor.specs.Rows.{AreaCursors}
 use Rattle.clfs_ledger.specs.declared.row.Reservation.{Reservation}
 use Rattle.clfs_areas.specs.Table.{AreaTable}
-use Rattle.clfs_areas.specs.Rows.{AreDifferentRows}
+use Rattle.clfs_areas.specs.Rows.{name_in, AreDifferentRows}
 use Rattle.clfs_areas.specs.declared.row.AreaRow.{AreaRow}
 use Rattle.clfs_areas.specs.declared.areas.Areas.TheInside.{Inside}
 
@@ -60,3 +60,5 @@ pub record AreJoined (inside : Inside) : Type 0 where
   pub parts : AreParts (inside_areas inside) inside.rows.items inside.cursors.areas inside.reservations
   -- no area has the client and the number of another, so that what is found by them is the one that is meant
   pub different : AllPairs AreDifferentRows inside.rows.items
+  -- each is found where its row stands
+  pub names_are : inside.names.keys ≡ map name_in inside.rows.items

@@ -15,11 +15,12 @@ ghost use Rattle.clfs_model.specs.Space.{reserved};
 ghost use Rattle.clfs_model.specs.Valid.{AreDifferentAreas};
 ghost use Rattle.clfs_areas.specs.Table.{all_held, area_at, client_areas, HasRoom};
 
-use crate::row::{AreaInfo, AreaRow, count_of, least_unused, place_of};
+use crate::row::{AreaInfo, AreaName, AreaRow, count_of, least_unused, place_of};
 use clfs_cursor::Cursors;
 use clfs_ledger::Reservations;
 use clfs_lsn::Lsn;
 use clfs_model::{Cursor, CursorKind};
+use indexmap::IndexSet;
 use std::alloc::{AllocError, Global};
 use std::marker::Model;
 
@@ -27,6 +28,7 @@ use std::marker::Model;
 #[derive(Drop)]
 pub struct Areas {
     rows: Vec<AreaRow>,
+    names: IndexSet<AreaName>,
     cursors: Cursors,
     reservations: Reservations,
 }
@@ -50,6 +52,7 @@ impl Areas {
     {
         Areas {
             rows: Vec::new(alloc),
+            names: IndexSet::new(alloc),
             cursors: Cursors::new(alloc),
             reservations: Reservations::new(alloc),
         }
@@ -64,7 +67,7 @@ impl Areas {
         ensures number { IfSome result (λ place. (area_at place self.now.areas).number ≡ number) }
         ensures different { AllPairs AreDifferentAreas self.now.areas }
     {
-        place_of(&self.rows, client, number)
+        place_of(&self.names, client, number)
     }
 
     /// The area at a place, without its cursors.
@@ -84,7 +87,7 @@ impl Areas {
             stream: row.stream,
             largest: row.largest,
             reads: row.reads,
-            held: self.reservations.held(row.client, row.number),
+            held: self.reservations.held_at(place),
         }
     }
 
@@ -120,11 +123,13 @@ impl Areas {
     {
         let number = least_unused(&self.rows, client);
         self.rows.reserve(1)?;
+        self.names.reserve(1)?;
         self.reservations.add(client, number)?;
         if let Err(error) = self.cursors.add_area(reads) {
             self.reservations.remove(client, number);
             return Err(error);
         }
+        let _added = self.names.insert(AreaName { client, number }).unwrap();
         self.rows.push_reserved(AreaRow {
             client,
             number,
@@ -141,10 +146,11 @@ impl Areas {
         ensures areas { self.new.areas ≡ filter (λ (area : Area). not (is_area client number area)) self.old.areas }
         ensures capacity { self.new.capacity ≡ self.old.capacity }
     {
-        let Some(place) = place_of(&self.rows, client, number) else {
+        let Some(place) = place_of(&self.names, client, number) else {
             return;
         };
         self.rows.remove(place);
+        let _name = self.names.shift_remove_index(place);
         self.cursors.remove_area(place);
         self.reservations.remove(client, number);
     }
@@ -159,8 +165,7 @@ impl Areas {
         ensures places { length self.new.areas ≡ length self.old.areas }
         ensures capacity { self.new.capacity ≡ self.old.capacity }
     {
-        let row = self.rows[place];
-        self.reservations.hold(row.client, row.number, sectors);
+        self.reservations.hold_at(place, sectors);
     }
 
     /// The area at a place holds so many sectors less. It takes no memory.
@@ -173,8 +178,7 @@ impl Areas {
         ensures places { length self.new.areas ≡ length self.old.areas }
         ensures capacity { self.new.capacity ≡ self.old.capacity }
     {
-        let row = self.rows[place];
-        let _spent = self.reservations.spend(row.client, row.number, sectors);
+        self.reservations.spend_at(place, sectors);
     }
 
     /// Whether the area at a place has as many cursors as it may.

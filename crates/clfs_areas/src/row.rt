@@ -1,8 +1,10 @@
-// The row of an area, and how a row is found.
+// The row of an area and its name, and how a row is found.
 ghost use Rattle.std.specs.Prelude.{◌≡◌, ◌+◌, ◌<◌, ◌-◌, ◌^◌, count_by, find, not, position};
 ghost use Rattle.std.specs.List.{range_with_len};
 ghost use Rattle.clfs_lsn.specs.Numbers.{least_unused};
-ghost use Rattle.clfs_areas.specs.Rows.{is_client_row, is_row, is_used};
+ghost use Rattle.clfs_areas.specs.Rows.{is_client_row, is_name, is_used};
+
+use indexmap::IndexSet;
 
 /// An area without its cursors.
 #[derive(Clone, Copy, Debug)]
@@ -31,12 +33,18 @@ pub(crate) struct AreaRow {
     pub(crate) reads: u16,
 }
 
-// Where the row of a client's area stands.
-pub(crate) fn place_of(rows: &[AreaRow], client: u16, number: u16) -> Option<usize>
-    ensures { result ≡ position (is_row client number) rows.now }
+// By what an area is found: no two have the same.
+#[derive(Clone, Copy, Debug, PartialEq, Eq, Hash)]
+pub(crate) struct AreaName {
+    pub(crate) client: u16,
+    pub(crate) number: u16,
+}
+
+// Where the name of a client's area stands. The other names aren't gone through.
+pub(crate) fn place_of(names: &IndexSet<AreaName>, client: u16, number: u16) -> Option<usize>
+    ensures { result ≡ position (is_name client number) names.now.keys }
 {
-    rows.iter()
-        .position(|row| row.client == client && row.number == number)
+    names.get_index_of(&AreaName { client, number })
 }
 
 // How many rows a client has.

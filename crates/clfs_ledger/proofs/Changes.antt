@@ -1,7 +1,7 @@
 -- All that follows from one change of the rows.
-use Rattle.std.proofs.Common.{◌≡◌, ℕ, ◌+◌, ◌-◌, ◌≤◌, true, false, List, slice_set, slice_index_or, remove, refl, arith}
+use Rattle.std.proofs.Common.{◌≡◌, ℕ, ◌+◌, ◌-◌, ◌<◌, ◌≤◌, true, false, List, length, slice_set, slice_index_or, remove, refl, ap, arith}
 use Rattle.clfs_ledger.specs.declared.row.Reservation.{Reservation}
-use Rattle.clfs_ledger.specs.Rows.{has_row, held_of, total_held, with_held, without, OtherRowsStay}
+use Rattle.clfs_ledger.specs.Rows.{has_row, held_of, row_at, total_held, with_held, with_held_at, without, OtherRowsStay}
 use Rattle.clfs_ledger.specs.Kept.{HaveTotal}
 use Rattle.clfs_ledger.proofs.HeldSectors.{
   held_of-with_held,
@@ -9,9 +9,10 @@ use Rattle.clfs_ledger.proofs.HeldSectors.{
   total_held-without,
   others_stay-with_held,
   others_stay-without,
+  held_of-le-total_held,
 }
 use Rattle.clfs_ledger.proofs.KeptRows.{different-with_held, gone-without, kept-without}
-use Rattle.clfs_ledger.proofs.Places.{StandsAt, held_of-stands_at, has_row-stands_at, with_held-stands_at, without-stands_at}
+use Rattle.clfs_ledger.proofs.Places.{StandsAt, held_of-stands_at, has_row-stands_at, with_held-stands_at, without-stands_at, stands_at-own, row_there}
 
 -- what follows where an area holds so many sectors more
 pub record Raised (old new : List Reservation) (c a sectors sum : ℕ) : Type 0 where
@@ -91,3 +92,34 @@ removal_removes rows new c a i total row at is items h =
       others = others_stay-without rows c a;
       kept = kept-without rows c a total h;
     }
+
+-- The row that was read at a place. The area whose it is stands there.
+module _ (rows : List Reservation) (place : ℕ) (row : Reservation) (there : place < length rows) (is : row ≡ slice_index_or rows place row) where
+  -- a write to it is a change of the row at the place
+  pub write_is : (change : ℕ → ℕ) → slice_set rows place (record row { held = change row.held }) ≡ with_held_at place (change (row_at place rows).held) rows
+  write_is change = ap (λ (r : Reservation). slice_set rows place (record r { held = change r.held })) (row_there rows place row there is)
+
+  pub held_is : row.held ≡ (row_at place rows).held
+  held_is = ap (λ (r : Reservation). r.held) (row_there rows place row there is)
+
+  -- what the row at the place holds serves for the row read
+  pub enough_there : (sectors : ℕ) → sectors ≤ (row_at place rows).held → sectors ≤ row.held
+  enough_there sectors enough = omega (arith, held_is, enough)
+
+  module _ (total : ℕ) (h : HaveTotal rows total) where
+    at : StandsAt rows row.client row.area place
+    at = stands_at-own rows place row h.different there is
+
+    -- it holds no more than all
+    pub held-le-total : row.held ≤ total_held rows
+    held-le-total =
+        omega (arith, held_of-stands_at rows row.client row.area place row at is, held_of-le-total_held rows row.client row.area)
+
+    pub write_raises_at : (sectors : ℕ)
+        → Raised rows (slice_set rows place (record row { held = row.held + sectors })) row.client row.area sectors total
+    write_raises_at sectors = write_raises rows row.client row.area place sectors total row at is h
+
+    pub write_lowers_at : (sectors : ℕ) → sectors ≤ row.held
+        → Lowered rows (slice_set rows place (record row { held = row.held - sectors })) row.client row.area sectors total
+    write_lowers_at sectors enough = write_lowers rows row.client row.area place sectors total row.held row at is
+        (held_of-stands_at rows row.client row.area place row at is) enough h

@@ -1,12 +1,13 @@
 -- The place of an area's row, and what a write to it or its removal makes of the rows.
 use Rattle.std.proofs.Common.{◌≡◌, ℕ, zero, suc, ◌<◌, true, false, List, [], ◌∷◌, length, Option, Some, None, IsSome, position}
-use Rattle.std.proofs.Common.{slice_set, slice_index_or, remove, refl, ap, sym, ◌∙◌, arith, rules}
+use Rattle.std.proofs.Common.{slice_set, slice_index_or, remove, refl, ap, sym, subst, ◌∙◌, arith, rules}
 use Rattle.std.specs.List.{position_or_len}
 use Rattle.std.proofs.lemmas.List.Quantifiers.{position-Some}
 use Rattle.std.proofs.lemmas.Bool.{lt-ltb}
 use Rattle.std.proofs.lemmas.Bool.Decides.{nat_tests}
 use Rattle.clfs_ledger.specs.declared.row.Reservation.{Reservation}
-use Rattle.clfs_ledger.specs.Rows.{is_of, has_row, held_of, with_held, without}
+use Rattle.clfs_ledger.specs.Rows.{is_of, has_row, held_of, row_at, with_held, without}
+use Rattle.clfs_ledger.specs.Kept.{AreDifferentRows}
 
 -- the row at this place is the first that is the area's
 pub record StandsAt (rows : List Reservation) (client area place : ℕ) : Type 0 where
@@ -89,3 +90,43 @@ row-found rows slice c a placed same is there =
       | None ↦ λ none. let absent = no_row-found rows slice c a placed same is none in absurd (cc (there, absent))
       | Some i ↦ λ _. search rules
     ] refl
+
+-- where the area has no row, none of them is its
+none_is : (rows : List Reservation) (c a i : ℕ) (d : Reservation) → has_row rows c a ≡ false → i < length rows → is_of c a (slice_index_or rows i d) ≡ false
+none_is [] c a i d none inside = absurd (omega (arith, inside))
+none_is (row ∷ rows) c a zero d none inside = grind (arith, nat_tests, none)
+none_is (row ∷ rows) c a (suc i) d none inside =
+    let others : has_row rows c a ≡ false = grind (arith, nat_tests, none) in
+    none_is rows c a i d others (omega (arith, inside))
+
+own_row : (row : Reservation) → is_of row.client row.area row ≡ true
+own_row row = grind (arith, nat_tests)
+
+other_way : (one other : Reservation) → is_of one.client one.area other ≡ false → is_of other.client other.area one ≡ false
+other_way one other differ = grind (arith, nat_tests, differ)
+
+-- the row at a place is the first of its area
+pub stands_at-own : (rows : List Reservation) (i : ℕ) (row : Reservation) → AreDifferentRows rows → i < length rows
+    → row ≡ slice_index_or rows i row → StandsAt rows row.client row.area i
+stands_at-own [] i row different inside is = absurd (omega (arith, inside))
+stands_at-own (first ∷ rows) zero row different inside is = record {
+  inside = inside;
+  there = λ d. subst (λ (r : Reservation). is_of row.client row.area r ≡ true) is (own_row row);
+  first = λ d k less. absurd (omega (arith, less));
+}
+stands_at-own (first ∷ rows) (suc i) row different inside is =
+    let rest : StandsAt rows row.client row.area i = stands_at-own rows i row different.1 (omega (arith, inside)) is in
+    let none : is_of first.client first.area row ≡ false =
+    subst (λ (r : Reservation). is_of first.client first.area r ≡ false) (sym is) (none_is rows first.client first.area i row different.0 (omega (arith, inside))) in
+    record { inside = inside; there = rest.there; first = before rest (other_way first row none) }
+  where
+    before : StandsAt rows row.client row.area i → is_of row.client row.area first ≡ false
+        → (d : Reservation) (k : ℕ) → k < suc i → is_of row.client row.area (slice_index_or (first ∷ rows) k d) ≡ false
+    before rest differs d zero less = differs
+    before rest differs d (suc k) less = rest.first d k (omega (arith, less))
+
+-- the row that was read at a place is the one there
+pub row_there : (rows : List Reservation) (i : ℕ) (row : Reservation) → i < length rows → row ≡ slice_index_or rows i row → row ≡ row_at i rows
+row_there [] i row inside is = absurd (omega (arith, inside))
+row_there (first ∷ rows) zero row inside is = is
+row_there (first ∷ rows) (suc i) row inside is = row_there rows i row (omega (arith, inside)) is

@@ -1,5 +1,5 @@
 -- The rows of the areas, and the sectors that they hold.
-use Rattle.std.specs.Prelude.{◌≡◌, ℕ, ◌+◌, Bool, false, ◌==◌, ◌&&◌, ◌||◌, if◌then◌else◌, List, [], ◌∷◌}
+use Rattle.std.specs.Prelude.{◌≡◌, ℕ, ◌+◌, Bool, false, ◌==◌, ◌&&◌, ◌||◌, if◌then◌else◌, List, [], ◌∷◌, slice_index_or, slice_set}
 use Rattle.clfs_ledger.specs.declared.row.Reservation.{Reservation}
 
 -- the row is that of the client's area
@@ -26,6 +26,18 @@ abbrev pub with_held : List Reservation → ℕ → ℕ → ℕ → List Reserva
 with_held [] client area held = []
 with_held (row ∷ rows) client area held =
     if is_of client area row then record row { held = held } ∷ rows else row ∷ with_held rows client area held
+
+-- a row of no area
+abbrev pub no_row : Reservation
+no_row = record { client = 0; area = 0; held = 0 }
+
+-- the row at a place, from 0 on
+abbrev pub row_at : ℕ → List Reservation → Reservation
+row_at place rows = slice_index_or rows place no_row
+
+-- the rows, with so many sectors in the one at a place
+abbrev pub with_held_at : ℕ → ℕ → List Reservation → List Reservation
+with_held_at place held rows = slice_set rows place (record (row_at place rows) { held = held })
 
 -- the rows but the area's
 abbrev pub without : List Reservation → ℕ → ℕ → List Reservation

@@ -1,8 +1,8 @@
-// The rows in the order in which the areas were made, and their sum beside them. A log has at most 1,024
-// areas, of 64 clients with 16 each, so a row is found by going through the rows.
-ghost use Rattle.std.specs.Prelude.{◌≡◌, ◌+◌, ◌-◌, ◌^◌, ◌<◌, ◌↔◌, [], ◌∷◌, ◌++◌, true, false};
-ghost use Rattle.std.specs.Prelude.{OnOk, OnErr, IsErr, IfErr, position};
-ghost use Rattle.clfs_ledger.specs.Rows.{is_of, has_row, held_of, total_held, with_held, without, OtherRowsStay};
+// The rows in the order in which the areas were made, and their sum beside them. A call by client and number
+// goes through the rows to find the area's; a call by place goes to it at once.
+ghost use Rattle.std.specs.Prelude.{◌≡◌, ◌+◌, ◌-◌, ◌^◌, ◌<◌, ◌≤◌, ◌↔◌, [], ◌∷◌, ◌++◌, true, false};
+ghost use Rattle.std.specs.Prelude.{OnOk, OnErr, IsErr, IfErr, length, position};
+ghost use Rattle.clfs_ledger.specs.Rows.{is_of, has_row, held_of, row_at, total_held, with_held, with_held_at, without, OtherRowsStay};
 
 use crate::row::Reservation;
 use std::alloc::{AllocError, Global};
@@ -127,6 +127,38 @@ impl Reservations {
             Some(place) => self.rows[place].held,
             None => 0,
         }
+    }
+
+    /// The sectors that the area holds whose row stands at a place, from 0 on in the order in which the rows were added.
+    pub fn held_at(&self, place: usize) -> u32
+        requires { place < length self.now }
+        ensures { result ≡ (row_at place self.now).held }
+    {
+        self.rows[place].held
+    }
+
+    /// The area whose row stands at a place holds so many sectors more.
+    pub fn hold_at(&mut self, place: usize, sectors: u32)
+        requires there { place < length self.old }
+        requires room { total_held self.old + sectors < 2 ^ 32 }
+        ensures rows { self.new ≡ with_held_at place ((row_at place self.old).held + sectors) self.old }
+        ensures total { total_held self.new ≡ total_held self.old + sectors }
+    {
+        let row = &mut self.rows[place];
+        row.held += sectors;
+        self.total += sectors;
+    }
+
+    /// The area whose row stands at a place holds so many sectors less.
+    pub fn spend_at(&mut self, place: usize, sectors: u32)
+        requires there { place < length self.old }
+        requires enough { sectors ≤ (row_at place self.old).held }
+        ensures rows { self.new ≡ with_held_at place ((row_at place self.old).held - sectors) self.old }
+        ensures total { total_held self.new + sectors ≡ total_held self.old }
+    {
+        let row = &mut self.rows[place];
+        row.held -= sectors;
+        self.total -= sectors;
     }
 
     /// The sectors that all areas hold.

@@ -14,7 +14,7 @@ change c = without_cursor c.args.number
 
 -- the parts that are left
 abbrev now : goal.After-end → Inside
-now c = record { rows = c.self.inside.rows; cursors = c.end.new.self; reservations = c.self.inside.reservations }
+now c = record { rows = c.self.inside.rows; names = c.self.inside.names; cursors = c.end.new.self; reservations = c.self.inside.reservations }
 
 parts : (c : goal.After-end) → AreParts (after c.self.inside c.args.self.now c.self.view_is c.self.invariant c.args.place c.requires (change c))
     c.self.inside.rows.items c.end.new.self.areas c.self.inside.reservations
@@ -22,7 +22,7 @@ parts c = cursors_changed c.self.inside c.args.self.now c.self.view_is c.self.in
     (cursors_without c.args.number) c.end.new.self.areas c.end.ensures.areas
 
 pub invariant_of-self : goal.invariant_of-self
-invariant_of-self c = joined_after c.self.inside c.args.self.now c.self.view_is c.self.invariant c.args.place c.requires (change c) (now c) (parts c) refl
+invariant_of-self c = joined_after c.self.inside c.args.self.now c.self.view_is c.self.invariant c.args.place c.requires (change c) (now c) (parts c) refl refl
 
 pub returns-clause-areas : goal.returns-clause-areas
 returns-clause-areas c = told_after c.self.inside c.args.self.now c.self.view_is c.self.invariant c.args.place c.requires (change c) (now c) (parts c)

@@ -14,7 +14,7 @@ change c = with_cursor_at c.args.number c.args.lsn
 
 -- the parts that are left
 abbrev now : goal.After-move_to → Inside
-now c = record { rows = c.self.inside.rows; cursors = c.move_to.new.self; reservations = c.self.inside.reservations }
+now c = record { rows = c.self.inside.rows; names = c.self.inside.names; cursors = c.move_to.new.self; reservations = c.self.inside.reservations }
 
 parts : (c : goal.After-move_to) → AreParts (after c.self.inside c.args.self.now c.self.view_is c.self.invariant c.args.place c.requires (change c))
     c.self.inside.rows.items c.move_to.new.self.areas c.self.inside.reservations
@@ -22,7 +22,7 @@ parts c = cursors_changed c.self.inside c.args.self.now c.self.view_is c.self.in
     (cursors_moved c.args.number c.args.lsn) c.move_to.new.self.areas c.move_to.ensures.areas
 
 pub invariant_of-self : goal.invariant_of-self
-invariant_of-self c = joined_after c.self.inside c.args.self.now c.self.view_is c.self.invariant c.args.place c.requires (change c) (now c) (parts c) refl
+invariant_of-self c = joined_after c.self.inside c.args.self.now c.self.view_is c.self.invariant c.args.place c.requires (change c) (now c) (parts c) refl refl
 
 pub returns-clause-areas : goal.returns-clause-areas
 returns-clause-areas c = told_after c.self.inside c.args.self.now c.self.view_is c.self.invariant c.args.place c.requires (change c) (now c) (parts c)

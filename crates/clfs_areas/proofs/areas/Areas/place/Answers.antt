@@ -1,25 +1,29 @@
-use Rattle.std.proofs.Common.{◌≡◌, ℕ, ◌∙◌, ap, sym, refl, List, Option, Some, None}
+use Rattle.std.proofs.Common.{◌≡◌, ℕ, ◌<◌, ◌∙◌, ap, sym, refl, List, length, Option, Some, None}
 use Rattle.std.specs.Prelude.{find, position, IfSome}
 use Rattle.std.specs.Option.{option_map}
 use Rattle.clfs_model.specs.declared.state.Area.{Area}
 use Rattle.clfs_model.specs.State.{is_area}
 use Rattle.clfs_areas.specs.Table.{no_area, area_at}
-use Rattle.clfs_areas.specs.Rows.{is_row}
-use Rattle.clfs_areas.specs.declared.row.AreaRow.{AreaRow}
 use Rattle.clfs_areas.proofs.First.{found_first, find_at_place}
-use Rattle.clfs_areas.proofs.Named.{place_seen, different_areas, named_client, named_number}
+use Rattle.clfs_areas.proofs.Named.{place_named, different_areas, named_client, named_number}
 use Rattle.clfs_areas.proofs.Parts.{parts_seen}
 use Rattle.clfs_areas.proofs.areas.Areas.place.Goals as goal
 
--- the row stands where the area stands
+-- the name stands where the area stands
 first : (c : goal.After-place_of) → c.place_of.result ≡ position (is_area c.args.client c.args.number) c.args.self.now.areas
 first c =
     let parts = parts_seen c.self.inside c.args.self.now c.self.view_is c.self.invariant in
-    c.place_of.ensures ∙ ap (λ (rows : List AreaRow). position (is_row c.args.client c.args.number) rows) c.deref.ensures.value
-    ∙ place_seen c.args.self.now.areas c.self.inside.rows.items c.args.client c.args.number parts.rows_are
+    c.place_of.ensures
+    ∙ place_named c.args.self.now.areas c.self.inside.rows.items c.self.inside.names.keys c.args.client c.args.number c.self.invariant.names_are parts.rows_are
 
 pub returns-clause-first : goal.returns-clause-first
 returns-clause-first c = first c
+
+pub returns-clause-within : goal.returns-clause-within
+returns-clause-within c = elim c.place_of.result as (λ place. c.place_of.result ≡ place → IfSome place (λ at. at < length c.args.self.now.areas)) [
+  | None ↦ λ _. tt
+  | Some place ↦ λ is. (found_first (is_area c.args.client c.args.number) c.args.self.now.areas place no_area (sym (first c) ∙ is)).within
+] refl
 
 pub returns-clause-area : goal.returns-clause-area
 returns-clause-area c = λ s same.

@@ -14,7 +14,7 @@ change c = with_cursor (record { number = c.start.result; kind = c.args.kind; la
 
 -- the parts that are left
 abbrev now : goal.After-start → Inside
-now c = record { rows = c.self.inside.rows; cursors = c.start.new.self; reservations = c.self.inside.reservations }
+now c = record { rows = c.self.inside.rows; names = c.self.inside.names; cursors = c.start.new.self; reservations = c.self.inside.reservations }
 
 parts : (c : goal.After-start) → AreParts (after c.self.inside c.args.self.now c.self.view_is c.self.invariant c.args.place c.requires.there (change c))
     c.self.inside.rows.items c.start.new.self.areas c.self.inside.reservations
@@ -23,7 +23,7 @@ parts c = cursors_changed c.self.inside c.args.self.now c.self.view_is c.self.in
     c.start.ensures.areas
 
 pub invariant_of-self : goal.invariant_of-self
-invariant_of-self c = joined_after c.self.inside c.args.self.now c.self.view_is c.self.invariant c.args.place c.requires.there (change c) (now c) (parts c) refl
+invariant_of-self c = joined_after c.self.inside c.args.self.now c.self.view_is c.self.invariant c.args.place c.requires.there (change c) (now c) (parts c) refl refl
 
 pub returns-clause-areas : goal.returns-clause-areas
 returns-clause-areas c = told_after c.self.inside c.args.self.now c.self.view_is c.self.invariant c.args.place c.requires.there (change c) (now c) (parts c)
