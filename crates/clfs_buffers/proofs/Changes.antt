@@ -11,7 +11,7 @@ use Rattle.clfs_lsn.specs.declared.entry.LogEntry.{LogEntry}
 use Rattle.clfs_buffers.specs.declared.place.BlockPlace.{BlockPlace}
 use Rattle.clfs_buffers.specs.Reading.{first_lsn}
 use Rattle.clfs_buffers.specs.Kept.{HaveLsns}
-use Rattle.clfs_buffers.specs.Buffered.{Buffered, most_blocks, is_same_place, kept_at, with_used, with_block, IsBuffered}
+use Rattle.clfs_buffers.specs.Buffered.{Blocks, Buffered, is_same_place, kept_at, with_used, with_block, of_table, IsBuffered}
 
 -- where nothing is found, no entry is there
 pub no_entry : {K V : Type 0} (test : K → Bool) (es : List (K × V)) → lookup test es ≡ None → lookup_entry test es ≡ None
@@ -38,9 +38,9 @@ one_place a b e =
     λ i. record { container = container i; offset = offset i }
 
 -- what is found in a table is what is kept at the place that is meant
-pub kept_is : (inside now : Buffered) (place meant : BlockPlace) (found : Option (List LogEntry)) → inside ≡ now → place ≡ meant
-    → found ≡ lookup (is_same_place place) inside → kept_at meant now ≡ found
-kept_is inside now place meant found same is at = (λ i. kept_at (sym is i) (sym same i)) ∙ sym at
+pub kept_is : (table : LruCache BlockPlace (List LogEntry)) (now : Buffered) (place meant : BlockPlace) (found : Option (List LogEntry)) → of_table table ≡ now
+    → place ≡ meant → found ≡ lookup (is_same_place place) table.entries → kept_at meant now ≡ found
+kept_is table now place meant found same is at = (λ i. kept_at (sym is i) (sym same i)) ∙ sym at
 
 -- a block is kept or not
 pub not_both : (blocks : Buffered) (place : BlockPlace) (records : List LogEntry) → kept_at place blocks ≡ Some records → kept_at place blocks ≡ None → ⊥
@@ -54,24 +54,24 @@ pub one_block : (blocks : Buffered) (place : BlockPlace) (a b : List LogEntry) �
 one_block blocks place a b p q = let same = sym p ∙ q in cc same
 
 -- the records of a block that is found have the LSNs of its place
-pub found_lsns : (table : LruCache BlockPlace (List LogEntry)) (place : BlockPlace) (records : List LogEntry) → IsBuffered table
+pub found_lsns : (most : ℕ) (table : LruCache BlockPlace (List LogEntry)) (place : BlockPlace) (records : List LogEntry) → IsBuffered most table
     → lookup (is_same_place place) table.entries ≡ Some records → HaveLsns (first_lsn place) records
-found_lsns table place records is found =
+found_lsns most table place records is found =
     let at = Contains-lookup (is_same_place place) table.entries records found in
     subst (λ (p : BlockPlace). HaveLsns (first_lsn p) records) (sym (one_place place at.0 at.2)) (is.lsns at.0 records at.1)
 
 -- a block that was used is kept as before
-pub used_stays : (table new : LruCache BlockPlace (List LogEntry)) (place : BlockPlace) → IsBuffered table
-    → new ≡ lru_cache (promoted (is_same_place place) table.entries) table.cap → IsBuffered new
-used_stays table new place is change = subst IsBuffered (sym change) (record {
+pub used_stays : (most : ℕ) (table new : LruCache BlockPlace (List LogEntry)) (place : BlockPlace) → IsBuffered most table
+    → new ≡ lru_cache (promoted (is_same_place place) table.entries) table.cap → IsBuffered most new
+used_stays most table new place is change = subst (IsBuffered most) (sym change) (record {
   room = is.room;
   lsns = λ p records has. is.lsns p records (Contains-promoted (is_same_place place) table.entries (p, records) has);
 })
 
 -- with another block the table is one still
-pub joined_stays : (table new : LruCache BlockPlace (List LogEntry)) (place : BlockPlace) (block : List LogEntry) → IsBuffered table → HaveLsns (first_lsn place) block
-    → new ≡ lru_cache ((place, block) ∷ take (table.cap - 1) table.entries) table.cap → IsBuffered new
-joined_stays table new place block is lsns change = subst IsBuffered (sym change) (record { room = is.room; lsns = among })
+pub joined_stays : (most : ℕ) (table new : LruCache BlockPlace (List LogEntry)) (place : BlockPlace) (block : List LogEntry) → IsBuffered most table
+    → HaveLsns (first_lsn place) block → new ≡ lru_cache ((place, block) ∷ take (table.cap - 1) table.entries) table.cap → IsBuffered most new
+joined_stays most table new place block is lsns change = subst (IsBuffered most) (sym change) (record { room = is.room; lsns = among })
   where
     among : (p : BlockPlace) (records : List LogEntry) → Contains ((place, block) ∷ take (table.cap - 1) table.entries) (p, records) → HaveLsns (first_lsn p) records
     among p records has = ⊎_elim
@@ -82,11 +82,10 @@ joined_stays table new place block is lsns change = subst IsBuffered (sym change
         (Contains-append_cases ((place, block) ∷ []) (take (table.cap - 1) table.entries) (p, records) has)
 
 -- it has that block first, and of the others as many as there is room for
-pub joined_is : (table new : LruCache BlockPlace (List LogEntry)) (now : Buffered) (place meant : BlockPlace) (block : List LogEntry) → table.cap ≡ most_blocks
-    → table.entries ≡ now → place ≡ meant → new ≡ lru_cache ((place, block) ∷ take (table.cap - 1) table.entries) table.cap
-    → new.entries ≡ with_block meant block now
-joined_is table new now place meant block room same is change =
-    ap (λ (t : LruCache BlockPlace (List LogEntry)). t.entries) change ∙ (λ i. (is i, block) ∷ take (room i - 1) (same i))
+pub joined_is : (table new : LruCache BlockPlace (List LogEntry)) (now : Buffered) (place meant : BlockPlace) (block : List LogEntry)
+    → of_table table ≡ now → place ≡ meant → new ≡ lru_cache ((place, block) ∷ take (table.cap - 1) table.entries) table.cap
+    → of_table new ≡ with_block meant block now
+joined_is table new now place meant block same is change = ap of_table change ∙ (λ i. with_block (is i) block (same i))
 
 -- ---- what is kept of a place after a change
 
@@ -107,45 +106,47 @@ module _ (other place : BlockPlace) where
         | false ↦ λ at_y. is
       ]) refl
 
-  -- so what is kept of a place is as it was
-  moved_first : (es : Buffered) (x : BlockPlace × List LogEntry) → lookup_entry (is_same_place place) es ≡ Some x
-      → kept_at other (x ∷ remove_entry (is_same_place place) es) ≡ kept_at other es
+  -- so what is found at a place is as it was
+  moved_first : (es : Blocks) (x : BlockPlace × List LogEntry) → lookup_entry (is_same_place place) es ≡ Some x
+      → lookup (is_same_place other) (x ∷ remove_entry (is_same_place place) es) ≡ lookup (is_same_place other) es
   moved_first [] x e = absurd (cc e)
   moved_first (y ∷ es) x e = (elim (is_same_place place y.0) as (λ b. is_same_place place y.0 ≡ b
       → cond b (Some y) (lookup_entry (is_same_place place) es) ≡ Some x
-      → kept_at other (x ∷ cond b es (y ∷ remove_entry (is_same_place place) es)) ≡ kept_at other (y ∷ es)) [
-        | true ↦ λ b h. let same : y ≡ x = cc h in ap (λ (z : BlockPlace × List LogEntry). kept_at other (z ∷ es)) (sym same)
-        | false ↦ λ b h. past_another x y (kept_at other (remove_entry (is_same_place place) es)) (kept_at other es)
+      → lookup (is_same_place other) (x ∷ cond b es (y ∷ remove_entry (is_same_place place) es)) ≡ lookup (is_same_place other) (y ∷ es)) [
+        | true ↦ λ b h. let same : y ≡ x = cc h in ap (λ (z : BlockPlace × List LogEntry). lookup (is_same_place other) (z ∷ es)) (sym same)
+        | false ↦ λ b h. past_another x y (lookup (is_same_place other) (remove_entry (is_same_place place) es)) (lookup (is_same_place other) es)
             (Contains-lookup_entry (is_same_place place) es x h).1 b (moved_first es x h)
       ]) refl e
 
-  pub used_same : (blocks : Buffered) → kept_at other (with_used place blocks) ≡ kept_at other blocks
-  used_same blocks = by_entry (lookup_entry (is_same_place place) blocks) refl
+  pub used_same : (kept : Buffered) → kept_at other (with_used place kept) ≡ kept_at other kept
+  used_same kept = by_entry (lookup_entry (is_same_place place) kept.blocks) refl
     where
-      by_entry : (o : Option (BlockPlace × List LogEntry)) → lookup_entry (is_same_place place) blocks ≡ o
-          → kept_at other (option_map_or (λ e. e ∷ remove_entry (is_same_place place) blocks) o blocks) ≡ kept_at other blocks
+      by_entry : (o : Option (BlockPlace × List LogEntry)) → lookup_entry (is_same_place place) kept.blocks ≡ o
+          → lookup (is_same_place other) (option_map_or (λ e. e ∷ remove_entry (is_same_place place) kept.blocks) o kept.blocks)
+          ≡ lookup (is_same_place other) kept.blocks
       by_entry None e = refl
-      by_entry (Some x) e = moved_first blocks x e
+      by_entry (Some x) e = moved_first kept.blocks x e
 
   -- what is found among the first blocks of a table is kept in it
-  among_first : (n : ℕ) (blocks : Buffered) (found : List LogEntry) → kept_at other (take n blocks) ≡ Some found → kept_at other blocks ≡ Some found
+  among_first : (n : ℕ) (blocks : Blocks) (found : List LogEntry) → lookup (is_same_place other) (take n blocks) ≡ Some found
+      → lookup (is_same_place other) blocks ≡ Some found
   among_first zero blocks found e = absurd (cc e)
   among_first (suc n) [] found e = absurd (cc e)
-  among_first (suc n) (x ∷ blocks) found e = (elim (is_same_place other x.0) as (λ b. cond b (Some x.1) (kept_at other (take n blocks)) ≡ Some found
-      → cond b (Some x.1) (kept_at other blocks) ≡ Some found) [
+  among_first (suc n) (x ∷ blocks) found e = (elim (is_same_place other x.0) as (λ b. cond b (Some x.1) (lookup (is_same_place other) (take n blocks)) ≡ Some found
+      → cond b (Some x.1) (lookup (is_same_place other) blocks) ≡ Some found) [
         | true ↦ λ h. h
         | false ↦ λ h. among_first n blocks found h
       ]) e
 
-  pub joined_or_before : (blocks : Buffered) (records found : List LogEntry) → kept_at other (with_block place records blocks) ≡ Some found
-      → ((other ≡ place) × (found ≡ records)) ⊎ (kept_at other blocks ≡ Some found)
-  joined_or_before blocks records found e = (elim (is_same_place other place) as (λ b. is_same_place other place ≡ b
-      → cond b (Some records) (kept_at other (take (most_blocks - 1) blocks)) ≡ Some found
-      → ((other ≡ place) × (found ≡ records)) ⊎ (kept_at other blocks ≡ Some found)) [
+  pub joined_or_before : (kept : Buffered) (records found : List LogEntry) → kept_at other (with_block place records kept) ≡ Some found
+      → ((other ≡ place) × (found ≡ records)) ⊎ (kept_at other kept ≡ Some found)
+  joined_or_before kept records found e = (elim (is_same_place other place) as (λ b. is_same_place other place ≡ b
+      → cond b (Some records) (lookup (is_same_place other) (take (kept.most - 1) kept.blocks)) ≡ Some found
+      → ((other ≡ place) × (found ≡ records)) ⊎ (lookup (is_same_place other) kept.blocks ≡ Some found)) [
         | true ↦ λ b h. inl (one_place other place b, cc h)
-        | false ↦ λ b h. inr (among_first (most_blocks - 1) blocks found h)
+        | false ↦ λ b h. inr (among_first (kept.most - 1) kept.blocks found h)
       ]) refl e
 
 -- a block that is added is kept
-pub added_is_kept : (blocks : Buffered) (place : BlockPlace) (records : List LogEntry) → kept_at place (with_block place records blocks) ≡ Some records
-added_is_kept blocks place records = rw (same_place place) refl
+pub added_is_kept : (kept : Buffered) (place : BlockPlace) (records : List LogEntry) → kept_at place (with_block place records kept) ≡ Some records
+added_is_kept kept place records = rw (same_place place) refl

@@ -1,4 +1,4 @@
--- The blocks that are kept: where each lies and the records that were read there, the one used last first.
+-- The blocks that are kept: where each lies and the records that were read there, the one used last first, and how many there are at most.
 use Rattle.std.specs.Prelude.{◌≡◌, ℕ, ◌-◌, ◌==◌, ◌&&◌, Bool, List, ◌∷◌, take, Contains, Option, Ok}
 use Rattle.std.specs.Map.{lookup}
 use Rattle.lru.specs.LruCache.{LruCache, promoted}
@@ -9,13 +9,14 @@ use Rattle.clfs_buffers.specs.declared.place.BlockPlace.{BlockPlace}
 use Rattle.clfs_buffers.specs.Reading.{block_place, first_lsn, record_in}
 use Rattle.clfs_buffers.specs.Kept.{HaveLsns}
 
--- the most blocks that are kept
-abbrev pub most_blocks : ℕ
-most_blocks = 32
+-- blocks with their places
+abbrev pub Blocks : Type 0
+Blocks = List (BlockPlace × List LogEntry)
 
--- what is kept
-abbrev pub Buffered : Type 0
-Buffered = List (BlockPlace × List LogEntry)
+-- what is kept: so many blocks at most, and these
+pub record Buffered : Type 0 where
+  pub most : ℕ
+  pub blocks : Blocks
 
 -- two places are the same one
 abbrev pub is_same_place : BlockPlace → BlockPlace → Bool
@@ -23,15 +24,15 @@ is_same_place a b = (a.container == b.container) && (a.offset == b.offset)
 
 -- the records of the block that is kept of a place
 abbrev pub kept_at : BlockPlace → Buffered → Option (List LogEntry)
-kept_at place blocks = lookup (is_same_place place) blocks
+kept_at place kept = lookup (is_same_place place) kept.blocks
 
 -- a block was used
 abbrev pub with_used : BlockPlace → Buffered → Buffered
-with_used place blocks = promoted (is_same_place place) blocks
+with_used place kept = record kept { blocks = promoted (is_same_place place) kept.blocks }
 
 -- another block is kept, and where there are too many, the one that wasn't used for longest goes
 abbrev pub with_block : BlockPlace → List LogEntry → Buffered → Buffered
-with_block place records blocks = (place, records) ∷ take (most_blocks - 1) blocks
+with_block place records kept = record kept { blocks = (place, records) ∷ take (kept.most - 1) kept.blocks }
 
 -- Bytes were read of a place, and these are the records of the block in them, in a log of this shape and of so many streams.
 pub record IsRead (shape : Shape) (streams : ℕ) (place : BlockPlace) (records : List LogEntry) : Type 0 where
@@ -47,7 +48,11 @@ pub record IsAdded (shape : Shape) (streams lsn : ℕ) (told : Type 0) (there : 
   pub read : IsRead shape streams (block_place lsn) records
   pub same : told → block_records shape streams (first_lsn (block_place lsn)) there ≡ Ok records
 
+-- what a table keeps
+abbrev pub of_table : LruCache BlockPlace (List LogEntry) → Buffered
+of_table table = record { most = table.cap; blocks = table.entries }
+
 -- What a table of blocks is: there is room for so many, and each block's records have the LSNs of its place.
-pub record IsBuffered (table : LruCache BlockPlace (List LogEntry)) : Type 0 where
-  pub room : table.cap ≡ most_blocks
+pub record IsBuffered (most : ℕ) (table : LruCache BlockPlace (List LogEntry)) : Type 0 where
+  pub room : table.cap ≡ most
   pub lsns : (place : BlockPlace) (records : List LogEntry) → Contains table.entries (place, records) → HaveLsns (first_lsn place) records

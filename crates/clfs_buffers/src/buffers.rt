@@ -9,6 +9,7 @@ ghost use Rattle.clfs_lsn.specs.declared.entry.LogEntry.{LogEntry};
 ghost use Rattle.clfs_disk.specs.Files.{Unchanged};
 ghost use Rattle.clfs_disk.specs.State.{TellsContents, IsSteady, Passes, Rises, raised};
 ghost use Rattle.clfs_buffers.specs.Reading.{block_place, record_in, record_by, Gives};
+ghost use Rattle.clfs_block.specs.Checks.{IsEnough};
 ghost use Rattle.clfs_buffers.specs.Buffered.{is_same_place, kept_at, with_used, IsAdded};
 
 use crate::kept::KeptBlock;
@@ -23,15 +24,13 @@ use std::marker::Model;
 use std::mem;
 use std::num::NonZeroUsize;
 
-// The most blocks that are kept.
-const MOST_BLOCKS: usize = 32;
-
-/// The blocks that were read and are kept. A contract sees where each lies and its records, the one used last first. Besides them it has the
-/// memory of one more block, and that of a largest block's bytes, which are taken when a block is first read and serve the
+/// The blocks that were read and are kept. A contract sees where each lies and its records, the one used last first, and how many are
+/// kept at most. Besides them it has the memory of one more block, and that of a largest block's bytes, which are taken when a block is first read and serve the
 /// reads after it; a read that is refused for want of memory leaves them to be taken anew.
 #[derive(Drop)]
 pub struct Buffers {
     alloc: Global,
+    most: u32,
     table: LruCache<BlockPlace, KeptBlock>,
     spare: KeptBlock,
     bytes: Vec<u8>,
@@ -42,28 +41,39 @@ impl Model for Buffers {
 
     ghost Value = { Buffered };
 
-    ghost use Rattle.clfs_buffers.specs.Buffered.{IsBuffered};
+    ghost use Rattle.clfs_buffers.specs.Buffered.{of_table, IsBuffered};
 
-    ghost view = { λ b. b.table.entries };
+    ghost view = { λ b. of_table b.table };
 
-    ghost invariant = { λ b. IsBuffered b.table };
+    ghost invariant = { λ b. IsBuffered b.most b.table };
 }
 
 impl Buffers {
-    /// No blocks. The memory of the table is taken here.
-    pub fn new(alloc: Global) -> Result<Buffers, AllocError>
-        ensures { IfOk result (λ buffers. buffers ≡ []) }
+    /// No blocks, of which so many are to be kept at most.
+    pub fn new(alloc: Global, most: u32) -> Result<Buffers, AllocError>
+        requires { 1 ≤ most }
+        ensures { IfOk result (λ buffers. buffers ≡ record { most = most; blocks = [] }) }
     {
-        let most = NonZeroUsize::new(MOST_BLOCKS).unwrap();
+        let count = NonZeroUsize::new(most as usize).unwrap();
         Ok(Buffers {
             alloc,
-            table: LruCache::new(alloc, most)?,
+            most,
+            table: LruCache::new(alloc, count)?,
             spare: KeptBlock::new(alloc),
             bytes: Vec::new(alloc),
         })
     }
 
+    /// How many blocks are kept at most.
+    pub fn most(&self) -> u32
+        ensures { result ≡ self.now.most }
+    {
+        self.most
+    }
+
     /// The record at an LSN of a log of this shape and of so many streams. `file` is the number of the file that the LSN's container lies in.
+    /// `expected` is how many bytes its block is thought to have: so many are asked for. If they aren't the block, as they aren't where it is
+    /// damaged or longer, the bytes of a largest block are asked for by a second call, so a wrong number changes no answer.
     pub fn read<D: Disk>(
         &mut self,
         disk: &mut D,
@@ -71,6 +81,7 @@ impl Buffers {
         streams: u16,
         file: u16,
         lsn: Lsn,
+        expected: u32,
     ) -> Result<LogEntry, ReadRefusal>
         requires shape { IsShape shape.now }
         requires file { file ≤ 256 }
@@ -92,8 +103,11 @@ impl Buffers {
         ensures small { IfOk result (λ entry. length entry.bytes ≤ most_data) }
         ensures same { Unchanged (D.state disk.old).files (D.state disk.new).files }
         ensures time { Passes Unchanged (D.state disk.old) (D.state disk.new) }
-        ensures calls { kept_at (block_place lsn) self.old ≡ None → OnOk result ((D.state disk.new).calls ≡ raised 1 (D.state disk.old).calls) }
-        ensures calls_at_most { raised 0 (D.state disk.new).calls ≤ raised 1 (D.state disk.old).calls }
+        // The disk is called twice at most, and once if the bytes that are asked for are enough to judge the block there.
+        ensures calls { kept_at (block_place lsn) self.old ≡ None → TellsContents (D.state disk.old)
+            → IsEnough shape.now (drop (offset_of lsn) ((D.state disk.old).files file)) expected
+            → OnOk result ((D.state disk.new).calls ≡ raised 1 (D.state disk.old).calls) }
+        ensures calls_at_most { raised 0 (D.state disk.new).calls ≤ raised 2 (D.state disk.old).calls }
         ensures cause { IsErrOf result ReadRefusal.DiskFault → Rises (D.state disk.old).faults (D.state disk.new).faults }
         ensures steady { IsSteady (D.state disk.old) → (IsErrOf result ReadRefusal.DiskFault → ⊥)
             × ((D.state disk.new).faults ≡ (D.state disk.old).faults) }
@@ -112,6 +126,7 @@ impl Buffers {
             streams,
             file,
             place,
+            expected,
             &mut self.bytes,
             spare,
         )?;
