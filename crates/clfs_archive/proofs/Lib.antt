@@ -1,5 +1,6 @@
 pub mod Among
 pub mod Extents
-pub mod Found
+pub mod Finding
+mod Found
 pub mod Places
 pub mod Sealing

@@ -1,5 +1,6 @@
 // What archiving is set to, and the ends of the blocks.
-ghost use Rattle.std.specs.Prelude.{◌≡◌, true, ℕ, ◌+◌, ◌*◌, ◌<◌, ◌≤◌, All, List, [], ◌∷◌, ◌++◌, Some, length, drop, OnOk, IfOk, IfSome};
+ghost use Rattle.std.specs.Prelude.{◌≡◌, true, ℕ, ◌+◌, ◌*◌, ◌<◌, ◌≤◌, All, List, [], ◌∷◌, ◌++◌, Some, length, drop, nat_le, find, OnOk, IfOk, IfSome};
+ghost use Rattle.std.specs.Option.{option_map};
 ghost use Rattle.clfs_lsn.specs.Lsn.{sequence_of};
 ghost use Rattle.clfs_lsn.specs.declared.entry.Head.{Head};
 ghost use Rattle.clfs_model.specs.Archive.{is_in_block};
@@ -13,7 +14,7 @@ ghost use Rattle.clfs_archive.specs.declared.block.BlockEnd.{BlockEnd};
 ghost use Rattle.clfs_archive.specs.Blocks.{IsBlock, AreBlocks, AreSealed, blocks_from};
 
 use crate::block::{BlockEnd, extents_from};
-use clfs_lsn::{Lsn, forget_below};
+use clfs_lsn::{Lsn, forget_below, place_of};
 use clfs_model::{Extents, Refusal};
 use std::alloc::{AllocError, Global};
 use std::marker::Model;
@@ -133,6 +134,18 @@ impl Archive {
             None => Vec::new(alloc),
         };
         Ok(Extents::from_vec(extents))
+    }
+
+    /// Where the block of a record ends, by the record's LSN: the offset behind the first block whose last record lies at or above the LSN. None
+    /// if there is no such block.
+    pub fn end_from(&self, lsn: Lsn) -> Option<u32>
+        ensures { result ≡ option_map (λ (block : BlockEnd). block.end) (find (λ (block : BlockEnd). nat_le lsn block.last) self.now.blocks) }
+    {
+        let place = place_of(&self.blocks, lsn);
+        if place == self.blocks.len() {
+            return None;
+        }
+        Some(self.blocks[place].end)
     }
 
     /// Nothing below an LSN is archived any more: the ends of blocks below it may go, and where they are half of the row they do. It
