@@ -65,13 +65,14 @@ pub used_stays : (most : ℕ) (table new : LruCache BlockPlace (List LogEntry)) 
     → new ≡ lru_cache (promoted (is_same_place place) table.entries) table.cap → IsBuffered most new
 used_stays most table new place is change = subst (IsBuffered most) (sym change) (record {
   room = is.room;
+  some = is.some;
   lsns = λ p records has. is.lsns p records (Contains-promoted (is_same_place place) table.entries (p, records) has);
 })
 
 -- with another block the table is one still
 pub joined_stays : (most : ℕ) (table new : LruCache BlockPlace (List LogEntry)) (place : BlockPlace) (block : List LogEntry) → IsBuffered most table
     → HaveLsns (first_lsn place) block → new ≡ lru_cache ((place, block) ∷ take (table.cap - 1) table.entries) table.cap → IsBuffered most new
-joined_stays most table new place block is lsns change = subst (IsBuffered most) (sym change) (record { room = is.room; lsns = among })
+joined_stays most table new place block is lsns change = subst (IsBuffered most) (sym change) (record { room = is.room; some = is.some; lsns = among })
   where
     among : (p : BlockPlace) (records : List LogEntry) → Contains ((place, block) ∷ take (table.cap - 1) table.entries) (p, records) → HaveLsns (first_lsn p) records
     among p records has = ⊎_elim

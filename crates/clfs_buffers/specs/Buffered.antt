@@ -1,5 +1,5 @@
 -- The blocks that are kept: where each lies and the records that were read there, the one used last first, and how many there are at most.
-use Rattle.std.specs.Prelude.{◌≡◌, ℕ, ◌-◌, ◌==◌, ◌&&◌, Bool, List, ◌∷◌, take, Contains, Option, Ok}
+use Rattle.std.specs.Prelude.{◌≡◌, ℕ, ◌-◌, ◌≤◌, ◌==◌, ◌&&◌, Bool, List, ◌∷◌, take, Contains, Option, Ok}
 use Rattle.std.specs.Map.{lookup}
 use Rattle.lru.specs.LruCache.{LruCache, promoted}
 use Rattle.clfs_lsn.specs.declared.entry.LogEntry.{LogEntry}
@@ -52,7 +52,8 @@ pub record IsAdded (shape : Shape) (streams lsn : ℕ) (told : Type 0) (there : 
 abbrev pub of_table : LruCache BlockPlace (List LogEntry) → Buffered
 of_table table = record { most = table.cap; blocks = table.entries }
 
--- What a table of blocks is: there is room for so many, and each block's records have the LSNs of its place.
+-- What a table of blocks is: there is room for so many, at least one, and each block's records have the LSNs of its place.
 pub record IsBuffered (most : ℕ) (table : LruCache BlockPlace (List LogEntry)) : Type 0 where
   pub room : table.cap ≡ most
+  pub some : 1 ≤ most
   pub lsns : (place : BlockPlace) (records : List LogEntry) → Contains table.entries (place, records) → HaveLsns (first_lsn place) records

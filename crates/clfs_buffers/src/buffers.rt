@@ -66,7 +66,8 @@ impl Buffers {
 
     /// How many blocks are kept at most.
     pub fn most(&self) -> u32
-        ensures { result ≡ self.now.most }
+        ensures most { result ≡ self.now.most }
+        ensures some { 1 ≤ result }
     {
         self.most
     }
