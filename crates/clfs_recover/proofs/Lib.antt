@@ -3,6 +3,7 @@ pub mod Steps
 pub mod Blocks
 pub mod Containers
 pub mod Pieces
+pub mod Slides
 pub mod Disks
 pub mod Finding
 pub mod Meanings

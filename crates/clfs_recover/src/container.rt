@@ -50,7 +50,7 @@ fn cover<D: Disk>(
     if piece.reaches(at, least) {
         return Ok(());
     }
-    piece.read(disk, file, at)
+    piece.slide(disk, file, at)
 }
 
 // Hands on the records of a container's open blocks, and answers the byte behind the last.

@@ -29,7 +29,7 @@ use clfs_lsn::{Lsn, Place, SECTOR, Shape, frontier};
 use std::alloc::{AllocError, Global};
 
 // The most bytes of a file that are read at a time.
-const PIECE: u32 = 1 << 20;
+const PIECE: u32 = 1 << 17;
 
 /// What a walk leaves beside the records, which its gatherer has.
 #[derive(Debug, Drop)]
