@@ -50,10 +50,18 @@ format_of _ _ _ dedicated = None
 abbrev pub length_of : Bool → ScriptLength
 length_of endless = if endless then Endless else Limited
 
--- serving a script of at most such a length with so many write buffers, where a log can have them
-abbrev pub serve_of : Option ℕ → ScriptLength → Option Command
-serve_of (Some buffers) length = if nat_le 1 buffers && nat_le buffers most_write_buffers then Some (Serve buffers length) else None
-serve_of None length = None
+-- the most blocks that were read that are kept
+abbrev pub most_read_buffers : ℕ
+most_read_buffers = 4096
+
+-- so many write buffers a log can have, and so many blocks that were read it can keep
+abbrev pub are_buffers : ℕ → ℕ → Bool
+are_buffers buffers reads = nat_le 1 buffers && nat_le buffers most_write_buffers && nat_le 1 reads && nat_le reads most_read_buffers
+
+-- serving a script of at most such a length with so many write buffers and read buffers, if a log can have them
+abbrev pub serve_of : Option ℕ → Option ℕ → ScriptLength → Option Command
+serve_of (Some buffers) (Some reads) length = if are_buffers buffers reads then Some (Serve buffers reads length) else None
+serve_of _ _ length = None
 
 -- a race with so many write buffers, if a log can have them
 abbrev pub race_of : Option ℕ → Option Command
@@ -77,7 +85,8 @@ with_options (name, options) =
     if bytes_eq name (codes "format")
     then format_of (number_of (codes "block-sectors") options) (number_of (codes "container-sectors") options) (number_of (codes "containers") options)
     (is_set (codes "dedicated") options)
-    else if bytes_eq name (codes "serve") then serve_of (number_of (codes "write-buffers") options) (length_of (is_set (codes "endless") options))
+    else if bytes_eq name (codes "serve") then serve_of (number_of (codes "write-buffers") options) (number_of (codes "read-buffers") options)
+    (length_of (is_set (codes "endless") options))
     else if bytes_eq name (codes "race") then race_of (number_of (codes "write-buffers") options)
     else if bytes_eq name (codes "trial") then trial_of (number_of (codes "NUMBER") options) (number_of (codes "COUNT") options)
     else if bytes_eq name (codes "crew") then crew_of (number_of (codes "THREADS") options) (number_of (codes "COUNT") options)
@@ -90,7 +99,7 @@ command_of words = if is_empty (fault_of command_line words) then option_and_the
 -- the numbers of a command are such
 abbrev pub HasItsRanges : Command → Type 0
 HasItsRanges (Format shape containers dedicated) = IsShape shape × (1 ≤ containers) × (containers ≤ most_containers)
-HasItsRanges (Serve buffers length) = (1 ≤ buffers) × (buffers ≤ most_write_buffers)
+HasItsRanges (Serve buffers reads length) = (1 ≤ buffers) × ((buffers ≤ most_write_buffers) × ((1 ≤ reads) × (reads ≤ most_read_buffers)))
 HasItsRanges (Race buffers) = (1 ≤ buffers) × (buffers ≤ most_write_buffers)
 HasItsRanges (Trial number count) = (1 ≤ count) × (count ≤ most_trial_lines)
 HasItsRanges (Crew threads count) = (1 ≤ threads) × ((threads ≤ most_crew_threads) × ((1 ≤ count) × (count ≤ most_crew_records)))

@@ -34,9 +34,10 @@ abbrev pub format_line : App
 format_line = with_rule (with_rule (with_rule (with_rule (command_named (codes "format")) (needed (codes "block-sectors")))
     (needed (codes "container-sectors"))) (needed (codes "containers"))) (flag (codes "dedicated"))
 
--- `serve [--write-buffers W] [--endless]`
+-- `serve [--write-buffers W] [--read-buffers N] [--endless]`
 abbrev pub serve_line : App
-serve_line = with_rule (with_rule (command_named (codes "serve")) (with_default (codes "write-buffers") (codes "4"))) (flag (codes "endless"))
+serve_line = with_rule (with_rule (with_rule (command_named (codes "serve")) (with_default (codes "write-buffers") (codes "4")))
+    (with_default (codes "read-buffers") (codes "32"))) (flag (codes "endless"))
 
 -- `race [--write-buffers W]`
 abbrev pub race_line : App

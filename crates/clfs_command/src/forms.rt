@@ -8,7 +8,9 @@ fn known_form(command: &str) -> Option<&'static str> {
         "format" => Some(
             "--block-sectors B, 1 to 128; --container-sectors S, twice B to 16384; --containers N, 1 to 256; and --dedicated or not",
         ),
-        "serve" => Some("--write-buffers W, 1 to 64, or not; and --endless or not"),
+        "serve" => Some(
+            "--write-buffers W, 1 to 64, or not; --read-buffers N, 1 to 4096, or not; and --endless or not",
+        ),
         "race" => Some("--write-buffers W, 1 to 64, or not"),
         "trial" => Some("NUMBER, 0 to 4294967295, and COUNT, 1 to 100000"),
         "crew" => Some("THREADS, 1 to 8, and COUNT, 1 to 1000"),

@@ -77,6 +77,15 @@ fn write_buffers<'a>(alloc: Global) -> Arg<'a>
     option(alloc, "write-buffers", "W", help).default_value("4")
 }
 
+// The option `--read-buffers`, which is 32 if it isn't there.
+fn read_buffers<'a>(alloc: Global) -> Arg<'a>
+    ensures rule { rule_of result ≡ with_default (codes "read-buffers") (codes "32") }
+    ensures local { result.global ≡ false }
+{
+    let help = "Blocks that were read that are kept, 1 to 4096";
+    option(alloc, "read-buffers", "N", help).default_value("32")
+}
+
 /// The line of `serve`.
 pub fn serve_line<'a>(alloc: Global) -> Result<Command<'a>, AllocError>
     ensures { IfOk result (λ r. app_of r ≡ serve_line) }
@@ -85,6 +94,7 @@ pub fn serve_line<'a>(alloc: Global) -> Result<Command<'a>, AllocError>
     let endless = "Takes a script of any length in place of 64 MiB";
     command_named(alloc, "serve", about)
         .arg(write_buffers(alloc))?
+        .arg(read_buffers(alloc))?
         .arg(flag(alloc, "endless", endless))
 }
 

@@ -3,7 +3,7 @@ ghost use Rattle.std.specs.Prelude.{◌≡◌, map, Some, None, IfSome, IfOk, If
 ghost use Rattle.std.specs.Option.{option_and_then};
 ghost use Rattle.std.specs.String.{string_bytes};
 ghost use Rattle.clap.specs.Words.{rows_of, found_of, subcommand_rows_of};
-ghost use Rattle.clfs_command.specs.Command.{number_of, is_set, is_size, format_of, length_of, serve_of, race_of, trial_of, crew_of, with_options, command_of, HasItsRanges};
+ghost use Rattle.clfs_command.specs.Command.{number_of, is_set, is_size, format_of, length_of, are_buffers, serve_of, race_of, trial_of, crew_of, with_options, command_of, HasItsRanges};
 
 use crate::line::command_line;
 use clap::ArgMatches;
@@ -38,6 +38,8 @@ pub enum Command {
     Serve {
         /// The write buffers of the log, 1 to 64.
         write_buffers: u32,
+        /// How many blocks that were read are kept, 1 to 4,096.
+        read_buffers: u32,
         /// How long the script may get.
         length: ScriptLength,
     },
@@ -93,6 +95,9 @@ const MOST_CONTAINER_SECTORS: u32 = 16384;
 
 // The most write buffers of a log.
 const MOST_WRITE_BUFFERS: u32 = 64;
+
+// The most blocks that were read that are kept.
+const MOST_READ_BUFFERS: u32 = 4096;
 
 // The most lines of a trial.
 const MOST_TRIAL_LINES: u32 = 100000;
@@ -164,16 +169,30 @@ fn length_of(endless: bool) -> ScriptLength
     }
 }
 
-fn serve_of(write_buffers: Option<u32>, length: ScriptLength) -> Option<Command>
-    ensures command { result ≡ serve_of write_buffers length }
+// Whether a log can have so many write buffers, and keep so many blocks that were read.
+fn are_buffers(write_buffers: u32, read_buffers: u32) -> bool
+    ensures { result ≡ are_buffers write_buffers read_buffers }
+{
+    (1..=MOST_WRITE_BUFFERS).contains(&write_buffers)
+        && (1..=MOST_READ_BUFFERS).contains(&read_buffers)
+}
+
+fn serve_of(
+    write_buffers: Option<u32>,
+    read_buffers: Option<u32>,
+    length: ScriptLength,
+) -> Option<Command>
+    ensures command { result ≡ serve_of write_buffers read_buffers length }
     ensures ranges { IfSome result HasItsRanges }
 {
     let write_buffers = write_buffers?;
-    if !(1..=MOST_WRITE_BUFFERS).contains(&write_buffers) {
+    let read_buffers = read_buffers?;
+    if !are_buffers(write_buffers, read_buffers) {
         return None;
     }
     Some(Command::Serve {
         write_buffers,
+        read_buffers,
         length,
     })
 }
@@ -227,6 +246,7 @@ fn with_options(name: &str, options: &ArgMatches) -> Option<Command>
         ),
         "serve" => serve_of(
             number_of("write-buffers", options),
+            number_of("read-buffers", options),
             length_of(is_set("endless", options)),
         ),
         "race" => race_of(number_of("write-buffers", options)),
