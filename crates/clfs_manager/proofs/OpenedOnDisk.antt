@@ -80,19 +80,19 @@ opened_files files known parts blocks stored same = record {
 }
 
 -- nothing is kept of blocks yet
-pub none_kept : (s : State) → AreKept s []
-none_kept s = record { stable = λ place records there. absurd (cc there); records = λ place records there. absurd (cc there) }
+pub none_kept : (s : State) (reads : ℕ) → AreKept s (record { most = reads; blocks = [] })
+none_kept s reads = record { stable = λ place records there. absurd (cc there); records = λ place records there. absurd (cc there) }
 
 -- So a log that was opened is open.
-pub opened_open : (disk : DiskState) (log : Log) (parts : Parts) (buffers : ℕ) → log.state.value ≡ state_of parts buffers → Holds log.state.value log
-    → log.physical ≡ newest_in parts → log.buffers ≡ [] → AreListed parts → cut (state_of parts buffers) ≡ state_of parts buffers
+pub opened_open : (disk : DiskState) (log : Log) (parts : Parts) (buffers reads : ℕ) → log.state.value ≡ state_of parts buffers → Holds log.state.value log
+    → log.physical ≡ newest_in parts → log.buffers ≡ record { most = reads; blocks = [] } → AreListed parts → cut (state_of parts buffers) ≡ state_of parts buffers
     → (files : Files) (blocks : Blocks) → IsStoredIn files parts blocks → (TellsContents disk → (file : ℕ) → disk.files file ≡ files file)
     → (IsHonest disk → IsSettled disk) → IsOpen disk log.state.value log
-opened_open disk log parts buffers state holds newest kept listed whole files blocks stored same settled = record {
+opened_open disk log parts buffers reads state holds newest kept listed whole files blocks stored same settled = record {
   memory = holds;
   blocks = blocks;
   stored = rw (state, newest) (opened_stored files parts blocks buffers stored listed whole);
   files = λ tells. rw newest (opened_files files disk.files parts blocks stored (same tells));
-  kept = λ tells. rw kept (none_kept log.state.value);
+  kept = λ tells. rw kept (none_kept log.state.value reads);
   settled = settled;
 }

@@ -21,6 +21,7 @@ ghost use Rattle.clfs_manager.specs.OnDisk.{IsOpen, AreKept};
 ghost use Rattle.clfs_manager.specs.Fetching.{IsNeeded, IsNeededHead, IsReadAs, LeavesState, IsLeft, OnlyReads, refused_as};
 
 use crate::log::{Log, shape_of};
+use clfs_archive::Archive;
 use clfs_base::BaseImage;
 use clfs_buffers::{ReadRefusal, changes_keep_blocks};
 use clfs_disk::Disk;
@@ -118,6 +119,14 @@ fn file_of(image: &BaseImage, lsn: Lsn) -> u16
     image.files.as_slice()[(lsn.container() - image.first) as usize]
 }
 
+// How many bytes the block of a record on the disk has, by where archiving has it end. Reading asks for so many; a wrong number changes no answer.
+fn block_bytes(archive: &Archive, lsn: Lsn) -> u32 {
+    match archive.end_from(lsn) {
+        Some(end) => end.saturating_sub(lsn.offset()),
+        None => u32::MAX,
+    }
+}
+
 // A record that is on the disk, by its LSN.
 fn stored_entry<D: Disk>(log: &mut Log, disk: &mut D, lsn: Lsn) -> Result<LogEntry, ReadRefusal>
     requires sound { IsSound log.old }
@@ -142,7 +151,8 @@ fn stored_entry<D: Disk>(log: &mut Log, disk: &mut D, lsn: Lsn) -> Result<LogEnt
     let file = file_of(image, lsn);
     let shape = shape_of(image);
     let streams = image.streams.as_slice().len() as u16;
-    log.buffers.read(disk, &shape, streams, file, lsn)
+    let expected = block_bytes(&log.archive, lsn);
+    log.buffers.read(disk, &shape, streams, file, lsn, expected)
 }
 
 // The record with a head.

@@ -99,20 +99,22 @@ fn start_of(place: &Place) -> Lsn
     Lsn::from_parts(place.container, place.offset, 0)
 }
 
-// A log that was opened, with so many write buffers. All memory that its blocks and base copies will ever need is taken here.
+// A log that was opened, with so many write buffers, which keeps so many blocks that are read. All memory that its blocks and base copies will ever need is taken here.
 pub(crate) fn open_log(
     alloc: Global,
     opened: HeadParts,
     write_buffers: u32,
+    read_buffers: u32,
 ) -> Result<Log, AllocError>
     requires log { IsLogOf (told_parts opened) }
     requires heads { opened.heads ≡ map head_of opened.entries.value }
     requires some { 1 ≤ write_buffers }
     requires few { write_buffers ≤ most_write_buffers }
+    requires reads { 1 ≤ read_buffers }
     ensures state { IfOk result (λ log. log.state.value ≡ state_of (told_parts opened) write_buffers) }
     ensures holds { IfOk result (λ log. Holds log.state.value log) }
     ensures newest { IfOk result (λ log. log.physical ≡ record { slot = opened.slot; image = opened.image }) }
-    ensures kept { IfOk result (λ log. log.buffers ≡ []) }
+    ensures kept { IfOk result (λ log. log.buffers ≡ record { most = read_buffers; blocks = [] }) }
     ensures whole { IfOk result (λ log. log.broken ≡ false) }
 {
     copies_are_read_as_written();
@@ -133,7 +135,7 @@ pub(crate) fn open_log(
     let shape = shape_of(&opened.image);
     let queue = Queue::new(alloc, &shape, write_buffers, &opened.place)?;
     let policies = policies_in(&opened.image);
-    let buffers = Buffers::new(alloc)?;
+    let buffers = Buffers::new(alloc, read_buffers)?;
     let HeadParts { slot, image, .. } = opened;
     let physical = Physical::new(alloc, slot, image)?;
     Ok(Log {

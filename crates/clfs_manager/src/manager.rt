@@ -26,6 +26,9 @@ use clfs_recover::{
 use std::alloc::{AllocError, Global};
 use std::marker::Model;
 
+// How many blocks that are read are kept, unless another number is asked for.
+const READ_BUFFERS: u32 = 32;
+
 /// A log over a disk. A contract sees the state of the log machine that it stands for, and the disk.
 #[derive(Drop)]
 pub struct Manager<D: Disk> {
@@ -138,6 +141,44 @@ impl<D: Disk> Manager<D> {
             → Rises (D.state disk).faults (D.state refused.disk).faults) }
         ensures steady { IsSteady (D.state disk) → IfErr result (λ refused. refused.cause ≢ LoadRefusal.DiskFault) }
     {
+        Manager::load_with(alloc, disk, write_buffers, READ_BUFFERS)
+    }
+
+    /// `load` of a log that keeps so many blocks that are read, in place of 32. How many it keeps changes no answer: only how often the disk is
+    /// read, and how much memory the blocks take.
+    pub fn load_with(
+        alloc: Global,
+        disk: D,
+        write_buffers: u32,
+        read_buffers: u32,
+    ) -> Result<Manager<D>, LoadRefused<D>>
+        requires some { 1 ≤ write_buffers }
+        requires few { write_buffers ≤ most_write_buffers }
+        requires reads { 1 ≤ read_buffers }
+
+        // The state is the one for which the files stand, with so many write buffers, and one that a log can be in; over a disk that doesn't
+        // tell what its files hold it is some such state.
+        ensures loaded { IfOk result (λ manager. TellsContents (D.state disk) → StandsFor (D.state disk).files manager.0) }
+        ensures buffers { IfOk result (λ manager. manager.0.buffers ≡ write_buffers) }
+        ensures valid { IfOk result (λ manager. IsValid manager.0) }
+        ensures storable { IfOk result (λ manager. IsStorable manager.0) }
+        ensures stable { IfOk result (λ manager. cut manager.0 ≡ manager.0) }
+        ensures settled { IfOk result (λ manager. IsHonest (D.state disk) → IsSettled (D.state manager.1)) }
+
+        // A refusal is what opening finds in the files: that no slot is open, or the first place of damage.
+        ensures refused { IfErr result (λ refused. TellsContents (D.state disk) → IsRefused (D.state disk).files refused.cause) }
+
+        // No file changes.
+        ensures same { IfOk result (λ manager. Unchanged (D.state disk).files (D.state manager.1).files
+            × Passes Unchanged (D.state disk) (D.state manager.1)) }
+        ensures same_refused { IfErr result (λ refused. Unchanged (D.state disk).files (D.state refused.disk).files
+            × Passes Unchanged (D.state disk) (D.state refused.disk)) }
+
+        // A fault is told only where the disk failed in the call, and never over a steady disk.
+        ensures cause { IfErr result (λ refused. refused.cause ≡ LoadRefusal.DiskFault
+            → Rises (D.state disk).faults (D.state refused.disk).faults) }
+        ensures steady { IsSteady (D.state disk) → IfErr result (λ refused. refused.cause ≢ LoadRefusal.DiskFault) }
+    {
         logs_are_found_in_files();
         logs_are_copies_and_blocks();
         copies_without_fault_fit();
@@ -150,7 +191,7 @@ impl<D: Disk> Manager<D> {
             Ok(opened) => opened,
             Err(cause) => return Err(LoadRefused { disk, cause }),
         };
-        match open_log(alloc, opened, write_buffers) {
+        match open_log(alloc, opened, write_buffers, read_buffers) {
             Ok(log) => Ok(Manager { disk, log }),
             Err(AllocError) => Err(LoadRefused {
                 disk,

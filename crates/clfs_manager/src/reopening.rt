@@ -34,14 +34,16 @@ use clfs_recover::{
 };
 use std::alloc::Global;
 
-// The log that the files of a disk are, in memory, with so many write buffers.
+// The log that the files of a disk are, in memory, with so many write buffers, which keeps so many blocks that are read.
 pub(crate) fn read_log<D: Disk>(
     alloc: Global,
     disk: &mut D,
     write_buffers: u32,
+    read_buffers: u32,
 ) -> Result<Log, LoadRefusal>
     requires some { 1 ≤ write_buffers }
     requires few { write_buffers ≤ most_write_buffers }
+    requires reads { 1 ≤ read_buffers }
     ensures managed { IfOk result (λ log. IsManaged (D.state disk.new) log) }
     ensures loaded { IfOk result (λ log. TellsContents (D.state disk.old) → StandsFor (D.state disk.old).files log.state.value) }
     ensures buffers { IfOk result (λ log. log.state.value.buffers ≡ write_buffers) }
@@ -62,7 +64,7 @@ pub(crate) fn read_log<D: Disk>(
     opened_copies_fit();
     opened_records_lie_in_order();
     let opened = load_heads(alloc, disk)?;
-    let log = open_log(alloc, opened, write_buffers)?;
+    let log = open_log(alloc, opened, write_buffers, read_buffers)?;
     Ok(log)
 }
 
@@ -131,7 +133,8 @@ impl<D: Disk> Manager<D> {
             return Err(Refusal::Broken);
         }
         let write_buffers = self.log.queue.buffers();
-        match read_log(self.log.alloc, &mut self.disk, write_buffers) {
+        let read_buffers = self.log.buffers.most();
+        match read_log(self.log.alloc, &mut self.disk, write_buffers, read_buffers) {
             Ok(log) => {
                 let stable = log.flushed();
                 self.log = log;

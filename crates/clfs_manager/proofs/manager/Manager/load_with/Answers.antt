@@ -3,7 +3,7 @@ use Rattle.clfs_recover.specs.Files.{state_of}
 use Rattle.clfs_recover.specs.Opening.{told_parts}
 use Rattle.clfs_manager.proofs.OpenedOnDisk.{AreListed, found_files, opened_open}
 use Rattle.clfs_manager.proofs.Settled.{honest_before}
-use Rattle.clfs_manager.proofs.manager.Manager.load.Goals as goal
+use Rattle.clfs_manager.proofs.manager.Manager.load_with.Goals as goal
 
 pub invariant_of-result : goal.invariant_of-result
 invariant_of-result g c =
@@ -25,7 +25,7 @@ invariant_of-result g c =
       valid = rw log.state (c.opened_states_are_valid.ensures.valid stands.0 s stands.1 c.requires.some c.requires.few);
       storable = rw log.state (c.opened_states_are_valid.ensures.storable stands.0 s stands.1);
       broken = rw log.state (sym log.whole);
-      whole = λ _. opened_open (g.D.Disk.state c.load_heads.new.disk) c.in-Ok-open_log.log parts c.args.write_buffers log.state log.holds log.newest log.kept listed
+      whole = λ _. opened_open (g.D.Disk.state c.load_heads.new.disk) c.in-Ok-open_log.log parts c.args.write_buffers c.args.read_buffers log.state log.holds log.newest log.kept listed
           (c.opened_states_are_cut.ensures.cut stands.0 s stands.1) found.0 stored.0 stored.1
           (λ tells file. c.load_heads.ensures.same file ∙ found.1.1 (rw c.load_heads.ensures.time.nature at tells) file)
           (λ honest. c.in-Ok.ensures.settled (honest_before old (g.D.Disk.state c.load_heads.new.disk) c.load_heads.ensures.time.nature honest));
