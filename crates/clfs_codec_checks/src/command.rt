@@ -45,8 +45,13 @@ fn crew(threads: u32, count: u32) -> Option<Command> {
 }
 
 fn serve(write_buffers: u32, length: ScriptLength) -> Option<Command> {
+    serve_keeping(write_buffers, 32, length)
+}
+
+fn serve_keeping(write_buffers: u32, read_buffers: u32, length: ScriptLength) -> Option<Command> {
     Some(Command::Serve {
         write_buffers,
+        read_buffers,
         length,
     })
 }
@@ -186,6 +191,18 @@ fn words_of_serving_and_racing(rt: HostRuntime) -> Result<(), Fail> {
             "serve --endless --write-buffers 8",
             serve(8, ScriptLength::Endless),
         ),
+        (
+            "serve --read-buffers 1",
+            serve_keeping(4, 1, ScriptLength::Limited),
+        ),
+        (
+            "serve --endless --read-buffers=4096 --write-buffers 8",
+            serve_keeping(8, 4096, ScriptLength::Endless),
+        ),
+        ("serve --read-buffers 0", None),
+        ("serve --read-buffers 4097", None),
+        ("serve --read-buffers 32 --read-buffers 32", None),
+        ("race --read-buffers 32", None),
         ("serve --endless --endless", None),
         ("serve --endless=true", None),
         ("serve --endless 1", None),
@@ -333,6 +350,7 @@ Usage: clfs FOLDER serve [OPTIONS]
 
 Options:
       --write-buffers <W>  Full blocks that may wait before all are written, 1 to 64 [default: 4]
+      --read-buffers <N>   Blocks that were read that are kept, 1 to 4096 [default: 32]
       --endless            Takes a script of any length in place of 64 MiB
 
 Opens the log, and answers each line as soon as it is whole. A script has at most 67108864 bytes, with --endless any number; a line has at most 131072.
