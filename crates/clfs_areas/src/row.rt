@@ -40,10 +40,18 @@ pub(crate) struct AreaName {
     pub(crate) number: u16,
 }
 
-// Where the name of a client's area stands. The other names aren't gone through.
+// Up to so many names are gone through, which takes less than the hash of the one that is looked for.
+const FEW_NAMES: usize = 8;
+
+// Where the name of a client's area stands. If there are many, the others aren't gone through.
 pub(crate) fn place_of(names: &IndexSet<AreaName>, client: u16, number: u16) -> Option<usize>
     ensures { result ≡ position (is_name client number) names.now.keys }
 {
+    if names.len() <= FEW_NAMES {
+        return names
+            .iter()
+            .position(|name| client == name.client && number == name.number);
+    }
     names.get_index_of(&AreaName { client, number })
 }
 

@@ -95,6 +95,7 @@ pub comes_at_once : (shape : Shape) (dedicated : Bool) (containers : ℕ) (old m
 comes_at_once shape dedicated containers old mid new past settled gates leaves = record {
   since = mid.clock;
   begun = past.later;
+  ended = leaves.later;
   none = λ image at slot few.
       ap (λ (l : List ℕ). is_open_slot l slot) (settled.only image (leaves.past mid.clock image (omega arith) at) 0) ∙ none_open mid.files gates slot few;
   later = λ moment image from until at. ⊎_elim

@@ -1,10 +1,10 @@
 -- What making a log leaves in its files.
-use Rattle.std.specs.Prelude.{◌≡◌, ◌≢◌, ◌⊎◌, ◌==◌, ℕ, ◌*◌, ◌<◌, ◌≤◌, Bool, false, if◌then◌else◌, List, [], ◌∷◌, length, slice_index, Option, Some, None, Result, Ok, Err}
+use Rattle.std.specs.Prelude.{◌≡◌, ◌≢◌, ◌⊎◌, ◌==◌, ℕ, ◌+◌, ◌*◌, ◌<◌, ◌≤◌, Bool, false, if◌then◌else◌, List, [], ◌∷◌, length, slice_index, Option, Some, None, Result, Ok, Err}
 use Rattle.clfs_lsn.specs.Format.{sector_bytes, open_gate}
 use Rattle.clfs_lsn.specs.Lsn.{null_lsn}
 use Rattle.clfs_lsn.specs.declared.shape.Shape.{Shape}
-use Rattle.clfs_disk.specs.Files.{Files}
-use Rattle.clfs_disk.specs.State.{DiskState, TellsContents, IsSteady}
+use Rattle.clfs_disk.specs.Files.{Files, Unchanged}
+use Rattle.clfs_disk.specs.State.{DiskState, TellsContents, IsSteady, Passes}
 use Rattle.clfs_disk.specs.declared.disk.GrowRefusal.{GrowRefusal}
 use Rattle.clfs_disk.specs.declared.disk.GrowRefusal.TheVariants as growths
 use Rattle.clfs_base.specs.declared.image.BaseImage.{BaseImage}
@@ -67,11 +67,12 @@ pub record IsMade (shape : Shape) (dedicated : Bool) (containers : ℕ) (files :
   pub there : 0 < length (files 1)
   pub closed : slice_index (files 1) 0 ≢ open_gate
 
--- There is a moment of a call at which no slot is open, and from which on a crash leaves no open slot, or files that stand for a fresh log: so it
--- comes to be there at once.
+-- There is a moment within a call at which no slot is open, and from which on a crash leaves no open slot, or files that stand for a fresh log: so
+-- it comes to be there at once.
 pub record ComesAtOnce (shape : Shape) (dedicated : Bool) (containers : ℕ) (old new : DiskState) : Type 0 where
   pub since : ℕ
   pub begun : old.clock ≤ since
+  pub ended : since ≤ new.clock
   pub none : (image : Files) → new.image_at since image → HasNoCopy image
   pub later : (moment : ℕ) (image : Files) → since ≤ moment → moment ≤ new.clock → new.image_at moment image
       → HasNoCopy image ⊎ ((buffers : ℕ) → StandsFor image (fresh shape dedicated containers buffers))
@@ -83,6 +84,15 @@ SameLengths old new = (file : ℕ) → length (new file) ≡ length (old file)
 -- A disk that tells what its files hold, or is steady: how long its files are after a growth is known.
 abbrev pub KnowsLengths : DiskState → Type 0
 KnowsLengths disk = TellsContents disk ⊎ IsSteady disk
+
+-- Where a slot of the base file was open no file changes, and a crash leaves what it would have left.
+abbrev pub KeepsLog : DiskState → DiskState → Type 0
+KeepsLog old new = TellsContents old → (slot : ℕ) → open_slot_of (old.files 0) ≡ Some slot → Unchanged old.files new.files × Passes Unchanged old new
+
+-- How many calls of the disk it takes to make a log: two reads of gates, a growth for each file and a sync, closed gates by three writes and a
+-- sync, and the copy and its gate by a write and a sync each.
+abbrev pub making_calls : ℕ → ℕ
+making_calls containers = containers + 12
 
 -- What is answered by whether a log is there: this slot is open, or none.
 abbrev pub IsFree : Result (Unit {0}) FormatRefusal → List ℕ → Type 0

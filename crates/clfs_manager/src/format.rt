@@ -5,14 +5,14 @@ ghost use Rattle.std.specs.Prelude.{◌≡◌, ◌==◌, ℕ, [], ◌∷◌, ◌
 ghost use Rattle.clfs_lsn.specs.Limits.{most_containers};
 ghost use Rattle.clfs_lsn.specs.Size.{IsShape};
 ghost use Rattle.clfs_disk.specs.Files.{Unchanged};
-ghost use Rattle.clfs_disk.specs.State.{TellsContents, IsSteady, IsHonest, IsSettled, Later, Leaves, Passes, Rises};
+ghost use Rattle.clfs_disk.specs.State.{TellsContents, IsSteady, IsHonest, IsSettled, Later, Leaves, Passes, Rises, raised};
 ghost use Rattle.clfs_disk.specs.Calls.{Writes};
 ghost use Rattle.clfs_base.specs.declared.image.BaseImage.{BaseImage};
 ghost use Rattle.clfs_base.specs.Layout.{slot_bytes};
 ghost use Rattle.clfs_base.specs.Spelling.{IsImage, spelled};
 ghost use Rattle.clfs_base.specs.Slots.{is_open_slot, slot_place};
 ghost use Rattle.clfs_base.specs.Writing.{HasNewest, NoneOrFirst};
-ghost use Rattle.clfs_manager.specs.Formatting.{full_length, AreLong, HasNoGates, SameLengths, KnowsLengths, IsFree, IsMade, ComesAtOnce, first_image};
+ghost use Rattle.clfs_manager.specs.Formatting.{full_length, AreLong, HasNoGates, SameLengths, KnowsLengths, IsFree, IsMade, KeepsLog, ComesAtOnce, first_image, making_calls};
 
 use crate::first_copy::first_copy;
 use crate::refusal::FormatRefusal;
@@ -47,6 +47,7 @@ pub(crate) fn make_files<D: Disk>(
     requires { containers ≤ most_containers }
     ensures long { OnOk result (KnowsLengths (D.state disk.old) → AreLong shape.now (containers + 1) (D.state disk.new).files) }
     ensures time { Later (D.state disk.old) (D.state disk.new) }
+    ensures calls { OnOk result (raised 0 (D.state disk.new).calls ≡ raised (containers + 1) (D.state disk.old).calls) }
     ensures cause { IsErrOf result GrowRefusal.Failed → Rises (D.state disk.old).faults (D.state disk.new).faults }
     ensures steady { IsSteady (D.state disk.old) → (IsErrOf result GrowRefusal.Failed → ⊥)
         × ((D.state disk.new).faults ≡ (D.state disk.old).faults) }
@@ -71,6 +72,7 @@ fn close_slots<D: Disk>(disk: &mut D) -> Result<(), Failed>
     ensures second { OnOk result (TellsContents (D.state disk.old) → is_open_slot ((D.state disk.new).files 0) 1 ≡ false) }
     ensures lengths { SameLengths (D.state disk.old).files (D.state disk.new).files }
     ensures time { Later (D.state disk.old) (D.state disk.new) }
+    ensures calls { OnOk result ((D.state disk.new).calls ≡ raised 2 (D.state disk.old).calls) }
     ensures cause { OnErr result (Rises (D.state disk.old).faults (D.state disk.new).faults) }
     ensures steady { IsSteady (D.state disk.old) → 2 * slot_bytes ≤ length ((D.state disk.old).files 0)
         → IsOk result × ((D.state disk.new).faults ≡ (D.state disk.old).faults) }
@@ -86,6 +88,7 @@ fn close_gates<D: Disk>(disk: &mut D) -> Result<(), Failed>
     ensures settled { OnOk result (IsHonest (D.state disk.old) → IsSettled (D.state disk.new)) }
     ensures lengths { SameLengths (D.state disk.old).files (D.state disk.new).files }
     ensures time { Later (D.state disk.old) (D.state disk.new) }
+    ensures calls { OnOk result ((D.state disk.new).calls ≡ raised 4 (D.state disk.old).calls) }
     ensures cause { OnErr result (Rises (D.state disk.old).faults (D.state disk.new).faults) }
     ensures steady { IsSteady (D.state disk.old) → 2 * slot_bytes ≤ length ((D.state disk.old).files 0)
         → 1 ≤ length ((D.state disk.old).files 1) → IsOk result × ((D.state disk.new).faults ≡ (D.state disk.old).faults) }
@@ -109,6 +112,7 @@ fn write_copy<D: Disk>(disk: &mut D, body: &[u8]) -> Result<(), Failed>
 
     ensures lengths { SameLengths (D.state disk.old).files (D.state disk.new).files }
     ensures time { Later (D.state disk.old) (D.state disk.new) }
+    ensures calls { OnOk result ((D.state disk.new).calls ≡ raised 4 (D.state disk.old).calls) }
     ensures cause { OnErr result (Rises (D.state disk.old).faults (D.state disk.new).faults) }
     ensures steady { IsSteady (D.state disk.old) → 2 * slot_bytes ≤ length ((D.state disk.old).files 0)
         → IsOk result × ((D.state disk.new).faults ≡ (D.state disk.old).faults) }
@@ -123,6 +127,7 @@ fn is_free<D: Disk>(disk: &mut D) -> Result<(), FormatRefusal>
     ensures free { TellsContents (D.state disk.old) → IsFree result ((D.state disk.old).files 0) }
     ensures same { Unchanged (D.state disk.old).files (D.state disk.new).files }
     ensures time { Passes Unchanged (D.state disk.old) (D.state disk.new) }
+    ensures calls { OnOk result ((D.state disk.new).calls ≡ raised 2 (D.state disk.old).calls) }
     ensures cause { IsErrOf result FormatRefusal.DiskFault → Rises (D.state disk.old).faults (D.state disk.new).faults }
     ensures steady { IsSteady (D.state disk.old) → (IsErrOf result FormatRefusal.DiskFault → ⊥)
         × ((D.state disk.new).faults ≡ (D.state disk.old).faults) }
@@ -144,6 +149,7 @@ fn prepare<D: Disk>(disk: &mut D, shape: &Shape, containers: u16) -> Result<(), 
     ensures long { OnOk result (KnowsLengths (D.state disk.old) → AreLong shape.now (containers + 1) (D.state disk.new).files) }
     ensures settled { OnOk result (IsHonest (D.state disk.old) → IsSettled (D.state disk.new)) }
     ensures time { Later (D.state disk.old) (D.state disk.new) }
+    ensures calls { OnOk result ((D.state disk.new).calls ≡ raised (containers + 6) (D.state disk.old).calls) }
     ensures cause { IsErrOf result FormatRefusal.DiskFault → Rises (D.state disk.old).faults (D.state disk.new).faults }
     ensures steady { IsSteady (D.state disk.old) → 1 ≤ containers → 1 ≤ shape.now.container_sectors
         → (IsErrOf result FormatRefusal.DiskFault → ⊥) × ((D.state disk.new).faults ≡ (D.state disk.old).faults) }
@@ -173,7 +179,9 @@ pub(crate) fn format_disk<D: Disk>(
     ensures free { TellsContents (D.state disk.old) → IsFree result ((D.state disk.old).files 0) }
     ensures same { (slot : ℕ) → IsErrOf result (FormatRefusal.Exists slot) → Unchanged (D.state disk.old).files (D.state disk.new).files
         × Passes Unchanged (D.state disk.old) (D.state disk.new) }
+    ensures kept { KeepsLog (D.state disk.old) (D.state disk.new) }
     ensures time { Later (D.state disk.old) (D.state disk.new) }
+    ensures calls { OnOk result ((D.state disk.new).calls ≡ raised (making_calls containers) (D.state disk.old).calls) }
     ensures cause { IsErrOf result FormatRefusal.DiskFault → Rises (D.state disk.old).faults (D.state disk.new).faults }
     ensures steady { IsSteady (D.state disk.old) → (IsErrOf result FormatRefusal.DiskFault → ⊥)
         × ((D.state disk.new).faults ≡ (D.state disk.old).faults) }
@@ -202,6 +210,7 @@ fn fill_disk<D: Disk>(
     ensures moments { OnOk result (IsHonest (D.state disk.old) → ComesAtOnce shape.now dedicated containers (D.state disk.old) (D.state disk.new)) }
     ensures other { (slot : ℕ) → IsErrOf result (FormatRefusal.Exists slot) → ⊥ }
     ensures time { Later (D.state disk.old) (D.state disk.new) }
+    ensures calls { OnOk result ((D.state disk.new).calls ≡ raised (containers + 10) (D.state disk.old).calls) }
     ensures cause { IsErrOf result FormatRefusal.DiskFault → Rises (D.state disk.old).faults (D.state disk.new).faults }
     ensures steady { IsSteady (D.state disk.old) → (IsErrOf result FormatRefusal.DiskFault → ⊥)
         × ((D.state disk.new).faults ≡ (D.state disk.old).faults) }

@@ -4,14 +4,14 @@ ghost use Rattle.std.specs.Prelude.{◌≡◌, ◌≢◌, ◌≤◌, ℕ, Some, 
 ghost use Rattle.clfs_lsn.specs.Limits.{most_containers, most_write_buffers};
 ghost use Rattle.clfs_lsn.specs.Size.{IsShape};
 ghost use Rattle.clfs_disk.specs.Files.{Unchanged};
-ghost use Rattle.clfs_disk.specs.State.{TellsContents, IsSteady, IsHonest, IsSettled, Passes, Later, Rises};
+ghost use Rattle.clfs_disk.specs.State.{TellsContents, IsSteady, IsHonest, IsSettled, Passes, Later, Rises, raised};
 ghost use Rattle.clfs_model.specs.State.{fresh};
 ghost use Rattle.clfs_model.specs.Flush.{cut};
 ghost use Rattle.clfs_model.specs.Storable.{IsStorable};
 ghost use Rattle.clfs_model.specs.Valid.{IsValid};
 ghost use Rattle.clfs_recover.specs.Files.{StandsFor, AreWholeFiles, state_of};
 ghost use Rattle.clfs_recover.specs.Opening.{IsRefused, told_parts};
-ghost use Rattle.clfs_manager.specs.Formatting.{open_slot_of, ComesAtOnce};
+ghost use Rattle.clfs_manager.specs.Formatting.{open_slot_of, ComesAtOnce, KeepsLog, making_calls};
 
 use crate::format::format_disk;
 use crate::log::{Log, open_log};
@@ -69,8 +69,8 @@ impl<D: Disk> Manager<D> {
     /// Makes a log on a disk, with containers of this shape, if none is there: a dedicated one, which has one stream, or one for several. The
     /// disk is given back with it.
     ///
-    /// After a fault, after want of memory and after a crash in the call nothing is promised of what is read of the files; they are to be
-    /// thrown away.
+    /// Where no log was, nothing is promised of what is read of the files after a fault, after want of memory and after a crash in the call; they
+    /// are to be thrown away then. Where one was, no file changes, whatever is answered.
     pub fn format(
         alloc: Global,
         disk: D,
@@ -97,6 +97,12 @@ impl<D: Disk> Manager<D> {
             → TellsContents (D.state disk) → open_slot_of ((D.state disk).files 0) ≡ Some slot) }
         ensures same { IfErr result (λ refused. (slot : ℕ) → refused.cause ≡ FormatRefusal.Exists slot
             → Unchanged (D.state disk).files (D.state refused.disk).files × Passes Unchanged (D.state disk) (D.state refused.disk)) }
+
+        // Where a slot was open nothing has changed, whatever is told.
+        ensures kept { IfErr result (λ refused. KeepsLog (D.state disk) (D.state refused.disk)) }
+
+        // Making a log takes just so many calls of the disk.
+        ensures calls { IfOk result (λ new. (D.state new).calls ≡ raised (making_calls containers) (D.state disk).calls) }
 
         ensures time { IfOk result (λ new. Later (D.state disk) (D.state new)) }
         ensures time_refused { IfErr result (λ refused. Later (D.state disk) (D.state refused.disk)) }

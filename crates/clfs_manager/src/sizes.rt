@@ -94,6 +94,9 @@ impl Log {
         steps_keep_a_state_valid();
         ways_of_a_step();
         logs_are_copies_and_blocks();
+        if !self.policies.automatic {
+            return Ok(());
+        }
         let room = self.room_for(need);
         if room.containers == self.containers() {
             return Ok(());

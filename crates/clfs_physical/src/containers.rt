@@ -1,6 +1,7 @@
 // How many containers a log has: files that aren't there are made and synced, and then a copy counts them.
-ghost use Rattle.std.specs.Prelude.{◌≡◌, ◌⊎◌, ◌+◌, ◌≤◌, Bool, length, OnOk, IsErrOf};
-ghost use Rattle.clfs_disk.specs.State.{TellsContents, IsSettled, IsSteady, Later, Leaves, Rises};
+ghost use Rattle.std.specs.Prelude.{◌≡◌, ◌⊎◌, ◌+◌, ◌-◌, ◌*◌, ◌<◌, ◌≤◌, ℕ, Bool, length, OnOk, IsErrOf};
+ghost use Rattle.clfs_lsn.specs.Format.{sector_bytes};
+ghost use Rattle.clfs_disk.specs.State.{TellsContents, IsSettled, IsSteady, Later, Leaves, Rises, raised};
 ghost use Rattle.clfs_base.specs.Writing.{older_of};
 ghost use Rattle.clfs_physical.specs.Changes.{with_containers, next_copy, CanHave};
 ghost use Rattle.clfs_physical.specs.Stored.{Blocks, AreMade, Stores};
@@ -38,6 +39,14 @@ impl Physical {
             → Leaves (λ image. Stores whole self.old blocks image
             ⊎ Stores whole (record { slot = older_of self.old.slot; image = with_containers containers (next_copy first Change.Listing self.old.image) }) blocks image)
             (D.state disk.old) (D.state disk.new) }
+
+        // The files that it makes are at full length, whatever the others are, and it makes no more calls than one for each of them, a sync, and
+        // those of a copy.
+        ensures made { OnOk result (TellsContents (D.state disk.old) ⊎ IsSteady (D.state disk.old) → (file : ℕ)
+            → self.old.image.files_made < file → file ≤ containers
+            → sector_bytes * self.old.image.container_sectors ≤ length ((D.state disk.new).files file)) }
+        ensures calls_at_most { OnOk result (raised 0 (D.state disk.new).calls
+            ≤ raised (containers - self.old.image.files_made + 8) (D.state disk.old).calls) }
 
         ensures time { Later (D.state disk.old) (D.state disk.new) }
         ensures cause { IsErrOf result PhysicalRefusal.DiskFault → Rises (D.state disk.old).faults (D.state disk.new).faults }

@@ -1,4 +1,4 @@
-use Rattle.clfs_disk.specs.State.{IsSteady, Later}
+use Rattle.clfs_disk.specs.State.{IsSteady, Later, raised}
 use Rattle.std.proofs.Common.{◌≡◌, ◌≤◌}
 use Rattle.clfs_lsn.specs.Limits.{most_containers}
 use Rattle.clfs_manager.specs.Formatting.{AreLong, KnowsLengths}
@@ -9,5 +9,6 @@ invariant-loop-file g l = record {
   few : l.containers ≤ most_containers;
   long : KnowsLengths (g.D.Disk.state l.initial.disk) → AreLong l.shape l.file (g.D.Disk.state l.disk).files;
   time : Later (g.D.Disk.state l.initial.disk) (g.D.Disk.state l.disk);
+  calls : raised 0 (g.D.Disk.state l.disk).calls ≡ raised l.file (g.D.Disk.state l.initial.disk).calls;
   steady : IsSteady (g.D.Disk.state l.initial.disk) → (g.D.Disk.state l.disk).faults ≡ (g.D.Disk.state l.initial.disk).faults;
 }

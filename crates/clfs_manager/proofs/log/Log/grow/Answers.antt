@@ -1,12 +1,24 @@
-use Rattle.std.proofs.Common.{◌≡◌, ℕ, ◌<◌, OnOk, refl, sym, ap, subst, ◌∙◌, arith, false}
+use Rattle.std.proofs.Common.{◌≡◌, ℕ, ◌<◌, OnOk, refl, sym, ap, subst, ◌∙◌, arith, false, inl}
 use Rattle.clfs_model.specs.declared.call.Call.TheVariants as calls
 use Rattle.clfs_model.specs.declared.reply.Happened.TheVariants.{Fine}
 use Rattle.clfs_model.specs.declared.reply.Reply.TheVariants as replies
 use Rattle.clfs_model.specs.declared.state.State.{State}
 use Rattle.clfs_model.specs.Space.{grown, with_containers}
+use Rattle.clfs_policy.specs.declared.policies.Policies.{Policies}
 use Rattle.clfs_manager.proofs.Crashes.{crash_still, survives_as}
+use Rattle.clfs_manager.proofs.Grown.{not_grown}
 use Rattle.clfs_manager.proofs.Reserved.{grown_is_sized, size_allowed}
 use Rattle.clfs_manager.proofs.log.Log.grow.Goals as goal
+
+pub returns-then-not-self-clause-state : goal.returns-then-not-self-clause-state
+returns-then-not-self-clause-state g c =
+    sym (not_grown c.args.self.now.state.value c.args.need
+    (inl (sym (ap (λ (p : Policies). p.automatic) c.requires.intact.sound.holds.policies) ∙ c.if-not-self.true)))
+
+pub returns-then-not-self-clause-moments : goal.returns-then-not-self-clause-moments
+returns-then-not-self-clause-moments g c = λ asked s before larger.
+    crash_still c.logs_are_copies_and_blocks.ensures.stands c.logs_are_copies_and_blocks.ensures.by_file (g.D.Disk.state c.args.disk.now) c.args.self.now
+    c.requires.intact asked s before
 
 pub returns-then-room-containers-clause-state : goal.returns-then-room-containers-clause-state
 returns-then-room-containers-clause-state g c =
