@@ -1,3 +1,4 @@
 mod Positions
 mod Fronts
 mod Changes
+mod Told

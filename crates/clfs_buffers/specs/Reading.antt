@@ -1,5 +1,5 @@
 -- What reading gives at an LSN: its record, or the byte of its block at which damage is told.
-use Rattle.std.specs.Prelude.{◌≡◌, ℕ, List, slice_get, Result, Ok, Err}
+use Rattle.std.specs.Prelude.{◌≡◌, ◌⊎◌, ℕ, List, slice_get, Result, Ok, Err}
 use Rattle.std.specs.Option.{ok_or}
 use Rattle.clfs_lsn.specs.Lsn.{lsn_number, container_of, offset_of, sequence_of}
 use Rattle.clfs_lsn.specs.declared.entry.LogEntry.{LogEntry}
@@ -47,3 +47,16 @@ Gives (Ok value) read = read ≡ Ok value
 Gives (Err (Damaged at)) read = read ≡ Err at
 Gives (Err DiskFault) read = Unit {0}
 Gives (Err NoMemory) read = Unit {0}
+
+-- Damage of a block is told of bytes that were read: by them reading gives just this byte.
+abbrev pub TellsBlock : Shape → ℕ → ℕ → ReadRefusal → Type 0
+TellsBlock shape streams lsn (Damaged at) = (bytes : List ℕ) × (told_as refused_at (block_records shape streams lsn bytes) ≡ Err at)
+TellsBlock shape streams lsn DiskFault = Unit {0}
+TellsBlock shape streams lsn NoMemory = Unit {0}
+
+-- Damage at a record is told of bytes that were read in this call, by which reading gives just this byte; or at the field of the number of
+-- records, where these are too few, be the block kept or read now.
+abbrev pub TellsByte : Shape → ℕ → ℕ → ReadRefusal → Type 0
+TellsByte shape streams lsn (Damaged at) = TellsBlock shape streams (first_lsn (block_place lsn)) (Damaged at) ⊎ (at ≡ 4)
+TellsByte shape streams lsn DiskFault = Unit {0}
+TellsByte shape streams lsn NoMemory = Unit {0}

@@ -1,6 +1,6 @@
 // The blocks that are kept, by their places. The memory of a block that goes serves the next one that is read, and that of the bytes as the
 // disk gives them serves all reads.
-ghost use Rattle.std.specs.Prelude.{◌≡◌, ◌-◌, ◌≤◌, ◌∷◌, List, [], length, drop, take, None, Some, Ok, IsSome, IfOk, OnOk, OnErr, IsErrOf};
+ghost use Rattle.std.specs.Prelude.{◌≡◌, ◌-◌, ◌≤◌, ◌∷◌, List, [], length, drop, take, None, Some, Ok, IsSome, IfErr, IfOk, OnOk, OnErr, IsErrOf};
 ghost use Rattle.std.specs.Map.{lookup};
 ghost use Rattle.lru.specs.LruCache.{lru_cache};
 ghost use Rattle.clfs_lsn.specs.Lsn.{offset_of};
@@ -8,7 +8,7 @@ ghost use Rattle.clfs_lsn.specs.Size.{IsShape, most_data};
 ghost use Rattle.clfs_lsn.specs.declared.entry.LogEntry.{LogEntry};
 ghost use Rattle.clfs_disk.specs.Files.{Unchanged};
 ghost use Rattle.clfs_disk.specs.State.{TellsContents, IsSteady, Passes, Rises, raised};
-ghost use Rattle.clfs_buffers.specs.Reading.{block_place, record_in, record_by, Gives};
+ghost use Rattle.clfs_buffers.specs.Reading.{block_place, record_in, record_by, Gives, TellsByte};
 ghost use Rattle.clfs_block.specs.Checks.{IsEnough};
 ghost use Rattle.clfs_buffers.specs.Buffered.{is_same_place, kept_at, with_used, IsAdded};
 
@@ -97,6 +97,9 @@ impl Buffers {
             → Gives result (record_by shape.now streams lsn (drop (offset_of lsn) ((D.state disk.old).files file))) }
         ensures joins { kept_at (block_place lsn) self.old ≡ None → IfOk result (λ entry. IsAdded shape.now streams lsn (TellsContents (D.state disk.old))
             (drop (offset_of lsn) ((D.state disk.old).files file)) entry self.old self.new) }
+
+        // Over any disk damage is told of bytes that were read.
+        ensures told { IfErr result (λ refusal. TellsByte shape.now streams lsn refusal) }
 
         // After a refusal the blocks that are kept are as before.
         ensures refused { OnErr result (self.new ≡ self.old) }

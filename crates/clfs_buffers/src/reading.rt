@@ -1,7 +1,7 @@
 // Reading a block of the disk. How many sectors it has is known for sure only once its header is read. So the bytes that the caller expects it to
 // have are asked for first. If they are a block, it is the one that is there: a block is judged by its own bytes, whatever follows them. If
 // not, the bytes of a largest block are asked for, and what the file has of them is enough to judge any block there.
-ghost use Rattle.std.specs.Prelude.{◌≡◌, ◌+◌, ◌*◌, ◌^◌, ◌<◌, ◌≤◌, min, max, length, take, drop, Ok, IfOk, OnOk, IsErrOf};
+ghost use Rattle.std.specs.Prelude.{◌≡◌, ◌+◌, ◌*◌, ◌^◌, ◌<◌, ◌≤◌, min, max, length, take, drop, Ok, IfErr, IfOk, OnOk, IsErrOf};
 ghost use Rattle.clfs_lsn.specs.Format.{sector_bytes};
 ghost use Rattle.clfs_lsn.specs.Limits.{most_block_records};
 ghost use Rattle.clfs_lsn.specs.Size.{IsShape};
@@ -9,7 +9,7 @@ ghost use Rattle.clfs_disk.specs.Files.{Unchanged};
 ghost use Rattle.clfs_disk.specs.State.{TellsContents, IsSteady, Passes, Rises, raised};
 ghost use Rattle.clfs_block.specs.Checks.{IsEnough};
 ghost use Rattle.clfs_block.specs.Records.{told_as, block_records};
-ghost use Rattle.clfs_buffers.specs.Reading.{first_lsn, refused_at, as_read, Gives};
+ghost use Rattle.clfs_buffers.specs.Reading.{first_lsn, refused_at, as_read, Gives, TellsBlock};
 ghost use Rattle.clfs_buffers.specs.Kept.{HaveLsns};
 ghost use Rattle.clfs_buffers.specs.Buffered.{IsRead};
 
@@ -42,6 +42,7 @@ fn read_front<D: Disk>(
     requires low { place.offset + most_block_records < 2 ^ 32 }
     ensures exact { TellsContents (D.state disk.old) → Gives result (told_as refused_at
         (block_records shape.now streams (first_lsn place) (take (length out.old) (drop place.offset ((D.state disk.old).files file))))) }
+    ensures told { IfErr result (λ refusal. TellsBlock shape.now streams (first_lsn place) refusal) }
     ensures lsns { IfOk result (λ records. HaveLsns (first_lsn place) records) }
     ensures read { IfOk result (λ records. IsRead shape.now streams place records) }
     ensures same { Unchanged (D.state disk.old).files (D.state disk.new).files }
@@ -84,6 +85,7 @@ pub(crate) fn read_kept<D: Disk>(
     requires low { place.offset + most_block_records < 2 ^ 32 }
     ensures exact { TellsContents (D.state disk.old) → Gives result
         (told_as refused_at (block_records shape.now streams (first_lsn place) (drop place.offset ((D.state disk.old).files file)))) }
+    ensures told { IfErr result (λ refusal. TellsBlock shape.now streams (first_lsn place) refusal) }
     ensures lsns { IfOk result (λ records. HaveLsns (first_lsn place) records) }
     ensures read { IfOk result (λ records. IsRead shape.now streams place records) }
     ensures same { Unchanged (D.state disk.old).files (D.state disk.new).files }

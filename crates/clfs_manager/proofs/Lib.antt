@@ -53,3 +53,4 @@ pub mod Stages
 pub mod CrashedRestart
 mod CopiedMeanwhile
 mod CopyingCalls
+pub mod Placed

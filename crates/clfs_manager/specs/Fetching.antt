@@ -15,6 +15,7 @@ use Rattle.clfs_model.specs.Live.{live, hold}
 use Rattle.clfs_model.specs.Step.{IsRecordRead, with_broken}
 use Rattle.clfs_buffers.specs.declared.refusal.ReadRefusal.{ReadRefusal}
 use Rattle.clfs_buffers.specs.declared.refusal.ReadRefusal.TheVariants as reads
+use Rattle.clfs_buffers.specs.Reading.{TellsByte}
 use Rattle.clfs_areas.specs.Table.{area_at}
 use Rattle.clfs_manager.specs.OnDisk.{IsOpen}
 use Rattle.clfs_manager.specs.declared.log.Log.{Log}
@@ -69,3 +70,23 @@ pub record Reaches (s : State) (areas : List Area) (client number place : ℕ) (
   pub live : Contains (live s (area_at place areas).stream) entry
   pub reached : record_in (area_at place areas) ≡ Some entry
   pub head_is : head_of entry ≡ head
+
+-- Damage is told of the block of the record at an LSN, by its container and offset, and at a byte that reading gives by bytes that were read.
+abbrev pub TellsOf : State → ℕ → Refusal → Type 0
+TellsOf s lsn (refusals.Damaged container offset at) = (container ≡ container_of lsn) × (offset ≡ offset_of lsn)
+    × TellsByte s.shape (length s.streams) lsn (reads.Damaged at)
+TellsOf s lsn _ = Unit {0}
+
+-- The record to which a call of a client's area comes lies at this LSN.
+pub record ComesTo (s : State) (client number : ℕ) (record_in : Area → Option LogEntry) (lsn : ℕ) : Type 0 where
+  pub area : Area
+  pub there : area_of s client number ≡ Some area
+  pub entry : LogEntry
+  pub reached : record_in area ≡ Some entry
+  pub lsn_is : entry.lsn ≡ lsn
+
+-- Damage is told of the block of the record to which the call comes.
+abbrev pub TellsWhere : State → ℕ → ℕ → (Area → Option LogEntry) → Refusal → Type 0
+TellsWhere s client number record_in (refusals.Damaged container offset at) = (lsn : ℕ) × ComesTo s client number record_in lsn
+    × TellsOf s lsn (refusals.Damaged container offset at)
+TellsWhere s client number record_in _ = Unit {0}

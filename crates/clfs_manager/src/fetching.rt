@@ -13,12 +13,12 @@ ghost use Rattle.clfs_disk.specs.State.{TellsContents, IsSteady, Passes, Rises};
 ghost use Rattle.clfs_base.specs.Spelling.{IsImage};
 ghost use Rattle.clfs_model.specs.Flush.{flushed};
 ghost use Rattle.clfs_model.specs.Step.{with_broken};
-ghost use Rattle.clfs_buffers.specs.Reading.{Gives};
+ghost use Rattle.clfs_buffers.specs.Reading.{Gives, TellsByte};
 ghost use Rattle.clfs_recover.specs.Reading.{file_of};
 ghost use Rattle.clfs_laws.specs.Refused.{is_of_call};
 ghost use Rattle.clfs_manager.specs.Memory.{IsSound};
 ghost use Rattle.clfs_manager.specs.OnDisk.{IsOpen, AreKept};
-ghost use Rattle.clfs_manager.specs.Fetching.{IsNeeded, IsNeededHead, IsReadAs, LeavesState, IsLeft, OnlyReads, refused_as};
+ghost use Rattle.clfs_manager.specs.Fetching.{IsNeeded, IsNeededHead, IsReadAs, LeavesState, IsLeft, OnlyReads, TellsOf, refused_as};
 
 use crate::log::{Log, shape_of};
 use clfs_archive::Archive;
@@ -134,6 +134,7 @@ fn stored_entry<D: Disk>(log: &mut Log, disk: &mut D, lsn: Lsn) -> Result<LogEnt
     requires there { (entry : LogEntry) × IsNeeded log.old.state.value entry × (entry.lsn ≡ lsn) }
     requires stable { lsn < flushed log.old.state.value }
     ensures exact { TellsContents (D.state disk.old) → (entry : LogEntry) → IsNeeded log.old.state.value entry → entry.lsn ≡ lsn → Gives result (Ok entry) }
+    ensures told { IfErr result (λ refusal. TellsByte log.old.state.value.shape (length log.old.state.value.streams) lsn refusal) }
     ensures lsn { IfOk result (λ read. read.lsn ≡ lsn) }
     ensures small { IfOk result (λ read. length read.bytes ≤ most_data) }
     ensures log { log.new ≡ record log.old { buffers = log.new.buffers } }
@@ -165,6 +166,7 @@ pub(crate) fn fetch<D: Disk>(log: &mut Log, disk: &mut D, head: Head) -> Result<
     ensures small { IfOk result (λ read. length read.bytes ≤ most_data) }
     ensures log { OnOk result (log.new ≡ record log.old { buffers = log.new.buffers }) }
     ensures state { IfErr result (λ refusal. LeavesState refusal log.old.state.value log.new.state.value) }
+    ensures place { IfErr result (λ refusal. TellsOf log.old.state.value head.lsn refusal) }
     ensures left { IsLeft (D.state disk.new) log.new }
     ensures reads { OnlyReads result (D.state disk.old) (D.state disk.new) }
     ensures refused { IfErr result (λ refusal. is_of_call refusal ≡ true → disk.new ≡ disk.old) }

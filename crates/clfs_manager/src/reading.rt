@@ -1,6 +1,7 @@
 // The calls that read records. Each finds the head of its record in the tables first, or is refused by what these and the areas say. Then it
 // takes the memory that a new cursor wants, gets the record, and makes or moves the cursor: so a call that is refused, or for which memory is
 // wanting, leaves the log as it was.
+ghost use Rattle.std.specs.Option.{option_and_then};
 ghost use Rattle.std.specs.Prelude.{◌≡◌, ◌<◌, ◌≤◌, ℕ, true, length, Err, IfOk, IfErr, IsErrOf};
 ghost use Rattle.clfs_lsn.specs.Head.{head_of};
 ghost use Rattle.clfs_lsn.specs.Size.{most_data};
@@ -13,7 +14,8 @@ ghost use Rattle.clfs_model.specs.declared.reply.Reply.TheVariants as replies;
 ghost use Rattle.clfs_model.specs.Conditions.{IsClient};
 ghost use Rattle.clfs_model.specs.Flush.{flushed};
 ghost use Rattle.clfs_model.specs.Run.{asks};
-ghost use Rattle.clfs_model.specs.Reading.{with_cursor, with_cursor_at};
+ghost use Rattle.clfs_model.specs.Live.{live_at};
+ghost use Rattle.clfs_model.specs.Reading.{newest_restart, next_of_cursor, record_cursor, restart_cursor, with_cursor, with_cursor_at};
 ghost use Rattle.clfs_lsn.specs.Cursors.{unused_cursor};
 ghost use Rattle.clfs_model.specs.State.{change_area};
 ghost use Rattle.clfs_areas.specs.Table.{area_at};
@@ -22,7 +24,7 @@ ghost use Rattle.clfs_manager.specs.Calls.{Steps};
 ghost use Rattle.clfs_manager.specs.Crashes.{CrashSurvives};
 ghost use Rattle.clfs_manager.specs.Memory.{IsSound};
 ghost use Rattle.clfs_manager.specs.OnDisk.{IsOpen};
-ghost use Rattle.clfs_manager.specs.Fetching.{IsNeeded, IsNeededHead, IsReadAs, LeavesState, IsLeft, OnlyReads};
+ghost use Rattle.clfs_manager.specs.Fetching.{IsNeeded, IsNeededHead, IsReadAs, LeavesState, IsLeft, OnlyReads, TellsOf, TellsWhere};
 
 use crate::fetching::fetch;
 use crate::log::Log;
@@ -75,6 +77,7 @@ impl Log {
         ensures state { IfOk result (λ found. let here = area_at place self.old.areas.areas in self.new.state.value
             ≡ change_area (with_cursor (record { number = found.0; kind = kind; last = head.lsn })) here.client here.number self.old.state.value) }
         ensures refused { IfErr result (λ refusal. LeavesState refusal self.old.state.value self.new.state.value) }
+        ensures place { IfErr result (λ refusal. TellsOf self.old.state.value head.lsn refusal) }
         ensures small { IfOk result (λ found. length found.1.bytes ≤ most_data) }
         ensures left { IsLeft (D.state disk.new) self.new }
         ensures reads { OnlyReads result (D.state disk.old) (D.state disk.new) }
@@ -108,6 +111,7 @@ impl Log {
         ensures state { IfOk result (λ found. let here = area_at place self.old.areas.areas in self.new.state.value
             ≡ change_area (with_cursor_at cursor head.lsn) here.client here.number self.old.state.value) }
         ensures refused { IfErr result (λ refusal. LeavesState refusal self.old.state.value self.new.state.value) }
+        ensures place { IfErr result (λ refusal. TellsOf self.old.state.value head.lsn refusal) }
         ensures small { IfOk result (λ entry. length entry.bytes ≤ most_data) }
         ensures left { IsLeft (D.state disk.new) self.new }
         ensures reads { OnlyReads result (D.state disk.old) (D.state disk.new) }
@@ -140,6 +144,7 @@ impl Log {
         ensures reads { OnlyReads result (D.state disk.old) (D.state disk.new) }
         ensures refused { IfErr result (λ refusal. is_of_call refusal ≡ true → disk.new ≡ disk.old) }
         ensures waits { IfOk result (λ found. flushed self.old.state.value ≤ found.1.lsn → disk.new ≡ disk.old) }
+        ensures place { IfErr result (λ refusal. TellsWhere self.old.state.value client area (λ here. live_at self.old.state.value here.stream lsn) refusal) }
     {
         refusals_are_the_calls_own();
         ways_of_a_step();
@@ -165,6 +170,7 @@ impl Log {
         ensures reads { OnlyReads result (D.state disk.old) (D.state disk.new) }
         ensures refused { IfErr result (λ refusal. is_of_call refusal ≡ true → disk.new ≡ disk.old) }
         ensures waits { IfOk result (λ found. flushed self.old.state.value ≤ found.1.lsn → disk.new ≡ disk.old) }
+        ensures place { IfErr result (λ refusal. TellsWhere self.old.state.value client area (λ here. newest_restart self.old.state.value here.stream) refusal) }
     {
         refusals_are_the_calls_own();
         ways_of_a_step();
@@ -191,6 +197,7 @@ impl Log {
         ensures reads { OnlyReads result (D.state disk.old) (D.state disk.new) }
         ensures refused { IfErr result (λ refusal. is_of_call refusal ≡ true → disk.new ≡ disk.old) }
         ensures waits { IfOk result (λ entry. flushed self.old.state.value ≤ entry.lsn → disk.new ≡ disk.old) }
+        ensures place { IfErr result (λ refusal. TellsWhere self.old.state.value client area (λ here. option_and_then (next_of_cursor self.old.state.value here) (record_cursor here cursor)) refusal) }
     {
         refusals_are_the_calls_own();
         ways_of_a_step();
@@ -217,6 +224,7 @@ impl Log {
         ensures reads { OnlyReads result (D.state disk.old) (D.state disk.new) }
         ensures refused { IfErr result (λ refusal. is_of_call refusal ≡ true → disk.new ≡ disk.old) }
         ensures waits { IfOk result (λ entry. flushed self.old.state.value ≤ entry.lsn → disk.new ≡ disk.old) }
+        ensures place { IfErr result (λ refusal. TellsWhere self.old.state.value client area (λ here. option_and_then (next_of_cursor self.old.state.value here) (restart_cursor here cursor)) refusal) }
     {
         refusals_are_the_calls_own();
         ways_of_a_step();
@@ -250,8 +258,8 @@ impl<D: Disk> Manager<D> {
         ensures same { Unchanged (D.state self.old.1).files (D.state self.new.1).files }
         ensures time { Passes Unchanged (D.state self.old.1) (D.state self.new.1) }
 
-        // Damage is told only over a disk that doesn't tell what its files hold; a fault only where the disk failed in the call, and never over a
-        // steady disk.
+        // Damage is told only over a disk that doesn't tell what its files hold, and of the block of the record to which the call comes; a fault
+        // only where the disk failed in the call, and never over a steady disk.
         ensures damage { TellsContents (D.state self.old.1) → (container offset at : ℕ) → result ≡ Err (refusals.Damaged container offset at) → ⊥ }
         ensures cause { IsErrOf result refusals.DiskFault → Rises (D.state self.old.1).faults (D.state self.new.1).faults }
         ensures steady { IsSteady (D.state self.old.1) → (IsErrOf result refusals.DiskFault → ⊥)
@@ -261,6 +269,7 @@ impl<D: Disk> Manager<D> {
         ensures stopped { self.old.0.broken ≡ true → self.new.1 ≡ self.old.1 }
         ensures refused { IfErr result (λ refusal. is_of_call refusal ≡ true → self.new.1 ≡ self.old.1) }
         ensures waits { IfOk result (λ found. flushed self.old.0 ≤ found.1.lsn → self.new.1 ≡ self.old.1) }
+        ensures place { IfErr result (λ refusal. TellsWhere self.old.0 client area (λ here. live_at self.old.0 here.stream lsn) refusal) }
     {
         self.stored();
         ways_of_a_step();
@@ -288,8 +297,8 @@ impl<D: Disk> Manager<D> {
         ensures same { Unchanged (D.state self.old.1).files (D.state self.new.1).files }
         ensures time { Passes Unchanged (D.state self.old.1) (D.state self.new.1) }
 
-        // Damage is told only over a disk that doesn't tell what its files hold; a fault only where the disk failed in the call, and never over a
-        // steady disk.
+        // Damage is told only over a disk that doesn't tell what its files hold, and of the block of the record to which the call comes; a fault
+        // only where the disk failed in the call, and never over a steady disk.
         ensures damage { TellsContents (D.state self.old.1) → (container offset at : ℕ) → result ≡ Err (refusals.Damaged container offset at) → ⊥ }
         ensures cause { IsErrOf result refusals.DiskFault → Rises (D.state self.old.1).faults (D.state self.new.1).faults }
         ensures steady { IsSteady (D.state self.old.1) → (IsErrOf result refusals.DiskFault → ⊥)
@@ -299,6 +308,7 @@ impl<D: Disk> Manager<D> {
         ensures stopped { self.old.0.broken ≡ true → self.new.1 ≡ self.old.1 }
         ensures refused { IfErr result (λ refusal. is_of_call refusal ≡ true → self.new.1 ≡ self.old.1) }
         ensures waits { IfOk result (λ entry. flushed self.old.0 ≤ entry.lsn → self.new.1 ≡ self.old.1) }
+        ensures place { IfErr result (λ refusal. TellsWhere self.old.0 client area (λ here. option_and_then (next_of_cursor self.old.0 here) (record_cursor here cursor)) refusal) }
     {
         self.stored();
         ways_of_a_step();
@@ -326,8 +336,8 @@ impl<D: Disk> Manager<D> {
         ensures same { Unchanged (D.state self.old.1).files (D.state self.new.1).files }
         ensures time { Passes Unchanged (D.state self.old.1) (D.state self.new.1) }
 
-        // Damage is told only over a disk that doesn't tell what its files hold; a fault only where the disk failed in the call, and never over a
-        // steady disk.
+        // Damage is told only over a disk that doesn't tell what its files hold, and of the block of the record to which the call comes; a fault
+        // only where the disk failed in the call, and never over a steady disk.
         ensures damage { TellsContents (D.state self.old.1) → (container offset at : ℕ) → result ≡ Err (refusals.Damaged container offset at) → ⊥ }
         ensures cause { IsErrOf result refusals.DiskFault → Rises (D.state self.old.1).faults (D.state self.new.1).faults }
         ensures steady { IsSteady (D.state self.old.1) → (IsErrOf result refusals.DiskFault → ⊥)
@@ -337,6 +347,7 @@ impl<D: Disk> Manager<D> {
         ensures stopped { self.old.0.broken ≡ true → self.new.1 ≡ self.old.1 }
         ensures refused { IfErr result (λ refusal. is_of_call refusal ≡ true → self.new.1 ≡ self.old.1) }
         ensures waits { IfOk result (λ found. flushed self.old.0 ≤ found.1.lsn → self.new.1 ≡ self.old.1) }
+        ensures place { IfErr result (λ refusal. TellsWhere self.old.0 client area (λ here. newest_restart self.old.0 here.stream) refusal) }
     {
         self.stored();
         ways_of_a_step();
@@ -369,8 +380,8 @@ impl<D: Disk> Manager<D> {
         ensures same { Unchanged (D.state self.old.1).files (D.state self.new.1).files }
         ensures time { Passes Unchanged (D.state self.old.1) (D.state self.new.1) }
 
-        // Damage is told only over a disk that doesn't tell what its files hold; a fault only where the disk failed in the call, and never over a
-        // steady disk.
+        // Damage is told only over a disk that doesn't tell what its files hold, and of the block of the record to which the call comes; a fault
+        // only where the disk failed in the call, and never over a steady disk.
         ensures damage { TellsContents (D.state self.old.1) → (container offset at : ℕ) → result ≡ Err (refusals.Damaged container offset at) → ⊥ }
         ensures cause { IsErrOf result refusals.DiskFault → Rises (D.state self.old.1).faults (D.state self.new.1).faults }
         ensures steady { IsSteady (D.state self.old.1) → (IsErrOf result refusals.DiskFault → ⊥)
@@ -380,6 +391,7 @@ impl<D: Disk> Manager<D> {
         ensures stopped { self.old.0.broken ≡ true → self.new.1 ≡ self.old.1 }
         ensures refused { IfErr result (λ refusal. is_of_call refusal ≡ true → self.new.1 ≡ self.old.1) }
         ensures waits { IfOk result (λ entry. flushed self.old.0 ≤ entry.lsn → self.new.1 ≡ self.old.1) }
+        ensures place { IfErr result (λ refusal. TellsWhere self.old.0 client area (λ here. option_and_then (next_of_cursor self.old.0 here) (restart_cursor here cursor)) refusal) }
     {
         self.stored();
         ways_of_a_step();

@@ -11,6 +11,7 @@ use Rattle.clfs_model.specs.Live.{hold}
 use Rattle.clfs_recover.specs.Reading.{file_of, IsReadAt}
 use Rattle.clfs_recover.specs.Walk.{shape_of}
 use Rattle.clfs_manager.proofs.Fetched.{is_stored, kept_gives, gives_as, file_gives, kept_after}
+use Rattle.clfs_manager.proofs.Placed.{told_byte}
 use Rattle.clfs_manager.proofs.fetching.stored_entry.Goals as goal
 use Rattle.clfs_manager.proofs.fetching.stored_entry.Given.{Over}
 
@@ -63,3 +64,7 @@ returns-clause-kept g c tells =
     (c.changes_keep_blocks.ensures.used c.args.log.now.buffers (block_place c.args.lsn))
     (λ records place found. c.changes_keep_blocks.ensures.joined c.args.log.now.buffers (block_place c.args.lsn) place records found)
     c.read.ensures.used c.read.ensures.joins c.read.ensures.refused (c.requires.open.kept tells)
+
+pub returns-clause-told : goal.returns-clause-told
+returns-clause-told g c = told_byte c.args.log.now.state.value c.shape_of-shape.result (length c.as_slice.result.now) c.args.lsn c.read.result
+    (of_shape g c ∙ c.requires.sound.holds.image_shape) (of_streams g c ∙ c.requires.sound.holds.rows) c.read.ensures.told

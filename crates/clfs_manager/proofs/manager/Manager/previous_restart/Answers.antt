@@ -12,3 +12,6 @@ returns-then-self-clause-step g c = c.ways_of_a_step.ensures.broken (g.D.Disk.st
 pub returns-clause-moments : goal.returns-clause-moments
 returns-clause-moments g c =
     c.stored.ensures.survives c.args.client (calls.PreviousRestart c.args.area c.args.cursor) c.previous_restart.new.disk (rw (← c.self.view_is) c.previous_restart.ensures.reads.time)
+
+pub returns-clause-place : goal.returns-clause-place
+returns-clause-place g c = rw (← c.self.view_is) c.previous_restart.ensures.place
