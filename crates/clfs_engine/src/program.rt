@@ -12,15 +12,16 @@ ghost use Rattle.clfs_engine.specs.Crew.{EndsCrew};
 ghost use Rattle.clfs_engine.specs.Format.{EndsFormat};
 ghost use Rattle.clfs_engine.specs.Race.{EndsRacing};
 ghost use Rattle.clfs_engine.specs.Serve.{EndsServing, EndsByUsage};
-ghost use Rattle.clfs_engine.specs.Taken.{limits_of};
+ghost use Rattle.clfs_engine.specs.Taken.{longest_script, limits_of};
 ghost use Rattle.clfs_engine.specs.Trial.{EndsTrial};
 
 use crate::checking::check;
 use crate::crewing::crew;
 use crate::formatting::format;
+use crate::input::LONGEST_SCRIPT;
 use crate::output::printed;
 use crate::racing::race;
-use crate::serving::{serve, serve_within};
+use crate::serving::serve_within;
 use crate::status::{NO_MEMORY, Outcome, USAGE};
 use crate::trying::trial;
 use clfs_command::{Command, ScriptLength, WordsRefusal, read_command};
@@ -31,7 +32,17 @@ use std::alloc::Global;
 use std::sync::Wait;
 use std::thread::Threads;
 
-/// Runs the command that the words name: `serve` with its write buffers and the length that the script may have, `race` with its write buffers,
+// How many bytes a script of such a length may have.
+fn longest_script(length: ScriptLength) -> u64
+    ensures { result ≡ longest_script length }
+{
+    match length {
+        ScriptLength::Limited => LONGEST_SCRIPT,
+        ScriptLength::Endless => u64::MAX,
+    }
+}
+
+/// Runs the command that the words name: `serve` with its write buffers, its read buffers and the length that the script may have, `race` with its write buffers,
 /// `format` with the sizes of the log and whether it is dedicated, `trial` with its number and its count, `crew` with its threads and its count, or
 /// `check`. The words are those after the folder. Only a race and a crew start threads, and wait for them.
 pub fn run<R: Threads + Wait + Sync, S: Source, K: Sink, D: Disk + Send + Drop>(
@@ -42,7 +53,7 @@ pub fn run<R: Threads + Wait + Sync, S: Source, K: Sink, D: Disk + Send + Drop>(
     sink: &mut K,
     disk: D,
 ) -> Outcome<D>
-    ensures serves { (buffers : ℕ) (length : ScriptLength) → command_of (map string_bytes words.now) ≡ Some (Serve buffers length)
+    ensures serves { (buffers reads : ℕ) (length : ScriptLength) → command_of (map string_bytes words.now) ≡ Some (Serve buffers reads length)
         → EndsServing (limits_of length) result.status buffers (D.state disk) (D.state result.disk) (S.left source.old) (S.left source.new)
         (K.written sink.old) (K.written sink.new) (S.faults source.old) (S.faults source.new) (K.faults sink.old) (K.faults sink.new) }
     ensures races { (buffers : ℕ) → command_of (map string_bytes words.now) ≡ Some (Race buffers)
@@ -58,7 +69,7 @@ pub fn run<R: Threads + Wait + Sync, S: Source, K: Sink, D: Disk + Send + Drop>(
     ensures checks { command_of (map string_bytes words.now) ≡ Some Check
         → EndsCheck result.status (D.state disk) (D.state result.disk) (K.written sink.old) (K.written sink.new) (K.faults sink.old) (K.faults sink.new) }
     // If nothing outside fails, a command is done, unless memory runs out.
-    ensures serving_comes_through { (buffers : ℕ) (length : ScriptLength) → command_of (map string_bytes words.now) ≡ Some (Serve buffers length)
+    ensures serving_comes_through { (buffers reads : ℕ) (length : ScriptLength) → command_of (map string_bytes words.now) ≡ Some (Serve buffers reads length)
         → NothingFailsAnswering (limits_of length) (D.state disk) (D.state result.disk) (S.left source.old) (S.faults source.old) (S.faults source.new) (K.faults sink.old) (K.faults sink.new)
         → ComesThrough (limits_of length) result.status buffers (D.state disk) (D.state result.disk) (S.left source.old) (S.left source.new) (K.written sink.old) (K.written sink.new) }
     ensures racing_comes_through { (buffers : ℕ) → command_of (map string_bytes words.now) ≡ Some (Race buffers)
@@ -75,9 +86,9 @@ pub fn run<R: Threads + Wait + Sync, S: Source, K: Sink, D: Disk + Send + Drop>(
     ensures usage { command_of (map string_bytes words.now) ≡ None → EndsByUsage result.status (K.written sink.old) (K.written sink.new)
         (K.faults sink.old) (K.faults sink.new) }
     // Only a script is read from the source, and only serving, racing, making and judging a log call the disk.
-    ensures unread { ((buffers : ℕ) (length : ScriptLength) → command_of (map string_bytes words.now) ≢ Some (Serve buffers length))
+    ensures unread { ((buffers reads : ℕ) (length : ScriptLength) → command_of (map string_bytes words.now) ≢ Some (Serve buffers reads length))
         → ((buffers : ℕ) → command_of (map string_bytes words.now) ≢ Some (Race buffers)) → source.new ≡ source.old }
-    ensures untouched { ((buffers : ℕ) (length : ScriptLength) → command_of (map string_bytes words.now) ≢ Some (Serve buffers length))
+    ensures untouched { ((buffers reads : ℕ) (length : ScriptLength) → command_of (map string_bytes words.now) ≢ Some (Serve buffers reads length))
         → ((buffers : ℕ) → command_of (map string_bytes words.now) ≢ Some (Race buffers))
         → ((shape : Shape) (containers : ℕ) (dedicated : Bool) → command_of (map string_bytes words.now) ≢ Some (Format shape containers dedicated))
         → command_of (map string_bytes words.now) ≢ Some Check → result.disk ≡ disk }
@@ -86,15 +97,13 @@ pub fn run<R: Threads + Wait + Sync, S: Source, K: Sink, D: Disk + Send + Drop>(
         Ok(
             Command::Serve {
                 write_buffers,
-                length: ScriptLength::Limited,
+                read_buffers,
+                length,
             },
-        ) => serve(alloc, write_buffers, source, sink, disk),
-        Ok(
-            Command::Serve {
-                write_buffers,
-                length: ScriptLength::Endless,
-            },
-        ) => serve_within(alloc, write_buffers, u64::MAX, source, sink, disk),
+        ) => {
+            let most = longest_script(length);
+            serve_within(alloc, write_buffers, read_buffers, most, source, sink, disk)
+        }
         Ok(Command::Race { write_buffers }) => {
             race(rt, alloc, write_buffers, &Pass, source, sink, disk)
         }

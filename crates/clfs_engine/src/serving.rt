@@ -18,6 +18,9 @@ use clfs_ports::{Sink, Source};
 use clfs_recover::files_have_one_meaning;
 use std::alloc::Global;
 
+// How many blocks that are read are kept, unless another number is asked for.
+const READ_BUFFERS: u32 = 32;
+
 // Answers the script by a log that was opened, and gives the status.
 fn served<S: Source, K: Sink, D: Disk>(
     alloc: Global,
@@ -40,12 +43,13 @@ fn served<S: Source, K: Sink, D: Disk>(
     }
 }
 
-/// Opens the log on a disk, answers the script that the source gives, one reply for each line, and says how it ended. A script has at most
-/// so many bytes, and a line at most 131,072 without its line feed. Each line is answered when its line feed is there, and its reply is written
+/// Opens the log on a disk, with so many write buffers, and so many blocks that are kept of those that are read; answers the script that the source
+/// gives, one reply for each line; and says how it ended. A script has at most so many bytes, and a line at most 131,072 without its line feed. Each line is answered when its line feed is there, and its reply is written
 /// before the next one is looked at.
 pub fn serve_within<S: Source, K: Sink, D: Disk + Drop>(
     alloc: Global,
     write_buffers: u32,
+    read_buffers: u32,
     most: u64,
     source: &mut S,
     sink: &mut K,
@@ -53,6 +57,7 @@ pub fn serve_within<S: Source, K: Sink, D: Disk + Drop>(
 ) -> Outcome<D>
     requires some { 1 ≤ write_buffers }
     requires at_most { write_buffers ≤ most_write_buffers }
+    requires reads { 1 ≤ read_buffers }
     ensures ends { EndsServing (script_limits most) result.status write_buffers (D.state disk) (D.state result.disk) (S.left source.old) (S.left source.new)
         (K.written sink.old) (K.written sink.new) (S.faults source.old) (S.faults source.new) (K.faults sink.old) (K.faults sink.new) }
     ensures complete { NothingFailsAnswering (script_limits most) (D.state disk) (D.state result.disk) (S.left source.old) (S.faults source.old)
@@ -60,7 +65,7 @@ pub fn serve_within<S: Source, K: Sink, D: Disk + Drop>(
         (D.state disk) (D.state result.disk) (S.left source.old) (S.left source.new) (K.written sink.old) (K.written sink.new) }
 {
     files_have_one_meaning();
-    match Manager::load(alloc, disk, write_buffers) {
+    match Manager::load_with(alloc, disk, write_buffers, read_buffers) {
         Ok(manager) => {
             let mut manager = manager;
             manager.stored();
@@ -78,7 +83,7 @@ pub fn serve_within<S: Source, K: Sink, D: Disk + Drop>(
     }
 }
 
-/// Serves a script of at most 67,108,864 bytes.
+/// Serves a script of at most 67,108,864 bytes, and keeps 32 of the blocks that are read.
 pub fn serve<S: Source, K: Sink, D: Disk + Drop>(
     alloc: Global,
     write_buffers: u32,
@@ -94,5 +99,13 @@ pub fn serve<S: Source, K: Sink, D: Disk + Drop>(
         (K.faults sink.old) (K.faults sink.new) → ComesThrough serve_limits result.status write_buffers (D.state disk) (D.state result.disk)
         (S.left source.old) (S.left source.new) (K.written sink.old) (K.written sink.new) }
 {
-    serve_within(alloc, write_buffers, LONGEST_SCRIPT, source, sink, disk)
+    serve_within(
+        alloc,
+        write_buffers,
+        READ_BUFFERS,
+        LONGEST_SCRIPT,
+        source,
+        sink,
+        disk,
+    )
 }

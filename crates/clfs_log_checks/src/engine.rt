@@ -409,7 +409,7 @@ fn a_script_within_other_limits(rt: HostRuntime) -> Result<(), Fail> {
         let mut source = MemorySource::new(script, 5, Vec::new(alloc));
         let mut sink = MemorySink::new(Vec::new(alloc), 99, Vec::new(alloc));
         let disk = formatted(&rt, alloc, ["2", "8", "2"])?;
-        let outcome = serve_within(alloc, 4, most, &mut source, &mut sink, disk);
+        let outcome = serve_within(alloc, 4, 1, most, &mut source, &mut sink, disk);
         assert_eq!(rt; outcome.status, want);
         assert_eq!(rt; sink.bytes(), written);
     }
