@@ -45,6 +45,23 @@ fn has(extents: &[Extent], wanted: &[(u32, u32, u32)]) -> bool {
 }
 
 #[test]
+fn ends_of_blocks_by_their_records(rt: HostRuntime) -> Result<(), Fail> {
+    let archive = four_blocks(rt.alloc())?;
+    let cases = [
+        (at(1, 0, 0), Some(512)),
+        (at(1, 0, 1), Some(512)),
+        (at(1, 512, 0), Some(1536)),
+        (at(2, 0, 0), Some(512)),
+        (at(3, 0, 0), Some(512)),
+        (at(3, 0, 1), None),
+    ];
+    for (lsn, want) in cases {
+        assert_eq!(rt; archive.end_from(lsn), want);
+    }
+    Ok(())
+}
+
+#[test]
 fn extents_from_the_tail_on(rt: HostRuntime) -> Result<(), Fail> {
     let mut archive = four_blocks(rt.alloc())?;
     let cases: [(Lsn, Lsn, &[(u32, u32, u32)]); 6] = [
