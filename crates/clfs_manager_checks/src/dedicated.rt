@@ -1,47 +1,49 @@
 // A dedicated log has one stream.
-use crate::logs::{base_bytes, long_name, new_log, open_stream, why_not_opened};
-use clfs_disk::Disk;
-use clfs_manager::LoadRefusal;
+ghost use Rattle.std.specs.Prelude.{◌≤◌};
+
+use crate::logs::{answers_to_name, base_bytes, is_damage_at, new_log, why_not_opened};
+use clfs_disk::{Disk, Memory};
 use clfs_model::Refusal;
-use std::test::Fail;
+use std::alloc::Global;
 
-#[test]
-fn a_dedicated_log_has_one_stream(rt: HostRuntime) -> Result<(), Fail> {
-    let alloc = rt.alloc();
+// The byte of a base copy that says that its log is dedicated, in the slot that begins at this place.
+fn flag_of(disk: &mut Memory, slot: u64) -> Option<u8>
+    requires { slot ≤ 16384 }
+{
+    let [flag]: [u8; 1] = base_bytes(disk, slot + 40)?;
+    Some(flag)
+}
+
+// The disk behind four calls that open streams, where each is answered as it should be. What is wrong with a name is told first.
+fn opened(alloc: Global, disk: Memory) -> Option<Memory> {
+    let disk = answers_to_name(alloc, disk, 64, Ok(1))?;
+    let disk = answers_to_name(alloc, disk, 1, Err(Refusal::Dedicated))?;
+    let disk = answers_to_name(alloc, disk, 64, Ok(1))?;
+    answers_to_name(alloc, disk, 65, Err(Refusal::NameInvalid { at: 64 }))
+}
+
+// The flags of the first copy, and of the one that has the stream.
+fn flags(alloc: Global) -> Option<(u8, u8)> {
     let mut disk = new_log(alloc, true)?;
-    let flag: [u8; 1] = base_bytes(&mut disk, 40)?;
-    assert!(rt; flag == [1]);
-    let first = long_name(alloc, 64)?;
-    let other = long_name(alloc, 1)?;
-    let too_long = long_name(alloc, 65)?;
-    let (made, disk) = open_stream(alloc, disk, &first)?;
-    assert!(rt; made == Ok(1));
-    let (refused, disk) = open_stream(alloc, disk, &other)?;
-    assert!(rt; refused == Err(Refusal::Dedicated));
-    let (there, disk) = open_stream(alloc, disk, &first)?;
-    assert!(rt; there == Ok(1));
-
-    // What is wrong with a name is told first.
-    let (invalid, mut disk) = open_stream(alloc, disk, &too_long)?;
-    assert!(rt; invalid == Err(Refusal::NameInvalid { at: 64 }));
-
-    // The copy that has the stream says that the log is dedicated.
-    let flag: [u8; 1] = base_bytes(&mut disk, 16384 + 40)?;
-    assert!(rt; flag == [1]);
-    Ok(())
+    let before = flag_of(&mut disk, 0)?;
+    let mut disk = opened(alloc, disk)?;
+    Some((before, flag_of(&mut disk, 16384)?))
 }
 
 #[test]
-fn a_dedicated_log_with_two_streams_is_damage(rt: HostRuntime) -> Result<(), Fail> {
-    let alloc = rt.alloc();
+fn a_dedicated_log_has_one_stream(rt: HostRuntime) {
+    assert!(rt; flags(rt.alloc()) == Some((1, 1)));
+}
+
+// A dedicated log whose base copy says that it has two streams isn't opened.
+fn is_damage(alloc: Global) -> Option<bool> {
     let mut disk = new_log(alloc, true)?;
-    disk.write(0, 22, &[2])?;
+    disk.write(0, 22, &[2]).ok()?;
     let (cause, _disk) = why_not_opened(alloc, disk);
-    let want = LoadRefusal::Damaged {
-        container: 0,
-        offset: 0,
-        at: 40,
-    };
-    assert!(rt; cause == Some(want));
-    Ok(())
+    Some(is_damage_at(cause, 40))
+}
+
+#[test]
+fn a_dedicated_log_with_two_streams_is_damage(rt: HostRuntime) {
+    assert!(rt; is_damage(rt.alloc()) == Some(true));
 }
