@@ -8,9 +8,8 @@ use clfs_lsn::{Name, Shape, Sizes};
 use clfs_manager::Manager;
 use clfs_model::{Call, Reply};
 use clfs_shared::{Recorder, Session, SharedLog};
-use std::alloc::Global;
+use std::alloc::{AllocError, Global};
 use std::sync::Wait;
-use std::test::Fail;
 
 const SHAPE: Shape = Shape {
     block_sectors: 2,
@@ -18,15 +17,10 @@ const SHAPE: Shape = Shape {
 };
 
 // A new log of two containers.
-fn new_log(alloc: Global) -> Result<Manager<Memory>, Fail> {
-    let disk = Memory::new(alloc, 64, 65536, &[])?;
-    let Ok(disk) = Manager::format(alloc, disk, SHAPE, 2, false) else {
-        return Err("no log was made".into());
-    };
-    match Manager::load(alloc, disk, 4) {
-        Ok(manager) => Ok(manager),
-        Err(_) => Err("the log wasn't opened".into()),
-    }
+fn new_log(alloc: Global) -> Option<Manager<Memory>> {
+    let disk = Memory::new(alloc, 64, 65536, &[]).ok()?;
+    let disk = Manager::format(alloc, disk, SHAPE, 2, false).ok()?;
+    Manager::load(alloc, disk, 4).ok()
 }
 
 // The two sessions of a list.
@@ -53,7 +47,8 @@ fn sessions_of<J: Recorder>(
     pair_of(sessions)
 }
 
-fn open_stream(alloc: Global) -> Result<Call, Fail>
+// The call that opens the stream `a`.
+fn opening(alloc: Global) -> Result<Call, AllocError>
     ensures { IfOk result (λ call. HasArguments call) }
 {
     let mut name = Vec::new(alloc);
@@ -87,36 +82,59 @@ fn ask<J: Recorder, W: Wait>(
     number_of(&log.step(rt, session, call))
 }
 
-// The first client reserves a sector and releases it, and before each of these the second one asks what is reserved. Then both meet, and it asks again.
-fn reserve_and_release<J: Recorder, W: Wait>(
-    rt: &W,
-    alloc: Global,
-    log: &SharedLog<Memory, J>,
-    first: &mut Session,
-    second: &mut Session,
-) -> Result<[Option<u32>; 7], Fail>
-    requires logs { IsOf log.now first.old × IsOf log.now second.old }
+// The call that reserves the sectors for a record of eight bytes.
+fn reserving(alloc: Global) -> Result<Call, AllocError>
+    ensures { IfOk result (λ call. HasArguments call) }
 {
-    let naming = open_stream(alloc)?;
-    let sizes = Sizes::from_vec(vec![in alloc; 8; 1]?);
-    let opened = ask(rt, log, first, &naming);
-    let creating = Call::CreateArea {
+    Ok(Call::Reserve {
+        area: 1,
+        sizes: Sizes::from_vec(vec![in alloc; 8; 1]?),
+    })
+}
+
+// The number of a new area of the stream.
+fn ask_for_area<J: Recorder, W: Wait>(
+    rt: &W,
+    log: &SharedLog<Memory, J>,
+    session: &mut Session,
+) -> Option<u32>
+    requires { IsOf log.now session.old }
+    ensures { IsOf log.now session.new }
+{
+    let call = Call::CreateArea {
         stream: 1,
         largest: 8,
         reads: 1,
     };
-    let created = ask(rt, log, first, &creating);
-    let none = ask(rt, log, second, &Call::Info { stream: 1 });
-    let reserved = ask(rt, log, first, &Call::Reserve { area: 1, sizes });
-    let one = ask(rt, log, second, &Call::Info { stream: 1 });
-    let releasing = Call::Release {
+    ask(rt, log, session, &call)
+}
+
+// What is held once a sector is released.
+fn ask_for_release<J: Recorder, W: Wait>(
+    rt: &W,
+    log: &SharedLog<Memory, J>,
+    session: &mut Session,
+) -> Option<u32>
+    requires { IsOf log.now session.old }
+    ensures { IsOf log.now session.new }
+{
+    let call = Call::Release {
         area: 1,
         sectors: 1,
     };
-    let released = ask(rt, log, first, &releasing);
-    let _met = log.meet(first, second);
-    let free = ask(rt, log, second, &Call::Info { stream: 1 });
-    Ok([opened, created, none, reserved, one, released, free])
+    ask(rt, log, session, &call)
+}
+
+// The sectors that all areas hold.
+fn ask_for_reserved<J: Recorder, W: Wait>(
+    rt: &W,
+    log: &SharedLog<Memory, J>,
+    session: &mut Session,
+) -> Option<u32>
+    requires { IsOf log.now session.old }
+    ensures { IsOf log.now session.new }
+{
+    ask(rt, log, session, &Call::Info { stream: 1 })
 }
 
 // The stream and the area have the number 1, and a sector is reserved only between the two calls.
@@ -130,26 +148,67 @@ const WANT: [Option<u32>; 7] = [
     Some(0),
 ];
 
-#[test]
-fn what_is_released_is_free_for_others(rt: HostRuntime) -> Result<(), Fail> {
-    let alloc = rt.alloc();
-    let Ok((log, sessions)) = SharedLog::start(alloc, new_log(alloc)?, &[1, 2]) else {
-        return Err("no log was shared".into());
-    };
-    let (mut first, mut second) = sessions_of(&log, sessions);
-    let answers = reserve_and_release(&rt, alloc, &log, &mut first, &mut second)?;
-    assert!(rt; answers == WANT);
-    Ok(())
+// The first client reserves a sector and releases it, and before each of these the second one asks what is reserved. Then both meet, and it asks again.
+// Whether each answer is the one that is wanted.
+fn are_answered<J: Recorder, W: Wait>(
+    rt: &W,
+    log: &SharedLog<Memory, J>,
+    first: &mut Session,
+    second: &mut Session,
+    opening: &Call,
+    reserving: &Call,
+) -> bool
+    requires logs { IsOf log.now first.old × IsOf log.now second.old }
+    requires opening { HasArguments opening.now }
+    requires reserving { HasArguments reserving.now }
+{
+    let opened = ask(rt, log, first, opening);
+    let created = ask_for_area(rt, log, first);
+    let none = ask_for_reserved(rt, log, second);
+    let reserved = ask(rt, log, first, reserving);
+    let one = ask_for_reserved(rt, log, second);
+    let released = ask_for_release(rt, log, first);
+    let _met = log.meet(first, second);
+    let free = ask_for_reserved(rt, log, second);
+    [opened, created, none, reserved, one, released, free] == WANT
+}
+
+// The same with the two sessions of a list. None where memory runs out.
+fn reserve_and_release<J: Recorder, W: Wait>(
+    rt: &W,
+    alloc: Global,
+    log: &SharedLog<Memory, J>,
+    sessions: Vec<Session>,
+) -> Option<bool>
+    requires two { vec_len sessions ≡ 2 }
+    requires log { All (λ s. IsOf log.now s) sessions.items }
+{
+    let (mut first, mut second) = sessions_of(log, sessions);
+    let opening = opening(alloc).ok()?;
+    let reserving = reserving(alloc).ok()?;
+    Some(are_answered(rt, log, &mut first, &mut second, &opening, &reserving))
 }
 
 #[test]
-fn a_told_journal_changes_no_answer(rt: HostRuntime) -> Result<(), Fail> {
+fn what_is_released_is_free_for_others(rt: HostRuntime) {
     let alloc = rt.alloc();
-    let Ok((log, sessions)) = SharedLog::start_told(alloc, new_log(alloc)?, &[1, 2]) else {
-        return Err("no log was shared".into());
+    let Some(manager) = new_log(alloc) else {
+        panic!(rt; "no log was made");
     };
-    let (mut first, mut second) = sessions_of(&log, sessions);
-    let answers = reserve_and_release(&rt, alloc, &log, &mut first, &mut second)?;
-    assert!(rt; answers == WANT);
-    Ok(())
+    let Ok((log, sessions)) = SharedLog::start(alloc, manager, &[1, 2]) else {
+        panic!(rt; "no log was shared");
+    };
+    assert!(rt; reserve_and_release(&rt, alloc, &log, sessions) == Some(true));
+}
+
+#[test]
+fn a_told_journal_changes_no_answer(rt: HostRuntime) {
+    let alloc = rt.alloc();
+    let Some(manager) = new_log(alloc) else {
+        panic!(rt; "no log was made");
+    };
+    let Ok((log, sessions)) = SharedLog::start_told(alloc, manager, &[1, 2]) else {
+        panic!(rt; "no log was shared");
+    };
+    assert!(rt; reserve_and_release(&rt, alloc, &log, sessions) == Some(true));
 }

@@ -6,7 +6,6 @@ use clfs_archive::{Archive, BlockEnd, open_archive};
 use clfs_lsn::{Head, Kind, Lsn};
 use clfs_model::{Extent, Refusal};
 use std::alloc::{AllocError, Global};
-use std::test::Fail;
 
 // The LSN of these parts.
 fn at(container: u32, offset: u16, sequence: u16) -> Lsn
@@ -44,8 +43,19 @@ fn has(extents: &[Extent], wanted: &[(u32, u32, u32)]) -> bool {
         ) == *want)
 }
 
+// The extents up to a place that is stable are these.
+fn gives(
+    alloc: Global,
+    archive: &Archive,
+    stable: Lsn,
+    wanted: &[(u32, u32, u32)],
+) -> Result<bool, AllocError> {
+    let extents = archive.extents(alloc, stable, 3)?;
+    Ok(has(extents.as_slice(), wanted))
+}
+
 #[test]
-fn ends_of_blocks_by_their_records(rt: HostRuntime) -> Result<(), Fail> {
+fn ends_of_blocks_by_their_records(rt: HostRuntime) -> Result<(), AllocError> {
     let archive = four_blocks(rt.alloc())?;
     let cases = [
         (at(1, 0, 0), Some(512)),
@@ -56,14 +66,15 @@ fn ends_of_blocks_by_their_records(rt: HostRuntime) -> Result<(), Fail> {
         (at(3, 0, 1), None),
     ];
     for (lsn, want) in cases {
-        assert_eq!(rt; archive.end_from(lsn), want);
+        assert!(rt; archive.end_from(lsn) == want);
     }
     Ok(())
 }
 
 #[test]
-fn extents_from_the_tail_on(rt: HostRuntime) -> Result<(), Fail> {
-    let mut archive = four_blocks(rt.alloc())?;
+fn extents_from_the_tail_on(rt: HostRuntime) -> Result<(), AllocError> {
+    let alloc = rt.alloc();
+    let mut archive = four_blocks(alloc)?;
     let cases: [(Lsn, Lsn, &[(u32, u32, u32)]); 6] = [
         (at(1, 0, 1), at(3, 0, 0), &[(1, 0, 1536), (2, 0, 512)]),
         (at(1, 0, 2), at(3, 0, 0), &[(1, 512, 1536), (2, 0, 512)]),
@@ -74,31 +85,37 @@ fn extents_from_the_tail_on(rt: HostRuntime) -> Result<(), Fail> {
     ];
     for (tail, stable, wanted) in cases {
         archive.set_archive_tail(tail);
-        let extents = archive.extents(rt.alloc(), stable, 3)?;
-        assert!(rt; has(extents.as_slice(), wanted));
+        assert!(rt; gives(alloc, &archive, stable, wanted)?);
     }
     archive.forget_below(at(2, 0, 3));
     archive.set_archive_tail(at(2, 0, 3));
-    let extents = archive.extents(rt.alloc(), at(3, 512, 0), 3)?;
-    assert!(rt; has(extents.as_slice(), &[(2, 0, 512), (3, 0, 512)]));
+    assert!(rt; gives(alloc, &archive, at(3, 512, 0), &[(2, 0, 512), (3, 0, 512)])?);
     Ok(())
 }
 
-#[test]
-fn archiving_is_set(rt: HostRuntime) -> Result<(), Fail> {
-    let mut archive = Archive::new(rt.alloc(), None);
-    let (low, high) = (at(1, 0, 0), at(2, 0, 0));
-    assert_eq!(rt; archive.tail_refusal(low, high), Some(Refusal::Ephemeral));
+// A tail is refused below the tail that there is, and above what is stable.
+fn takes(archive: &Archive, tail: Lsn, stable: Lsn) -> bool {
+    archive.tail_refusal(tail, stable).is_none()
+}
+
+// Archiving that is on isn't begun anew.
+fn begin_twice(archive: &mut Archive, low: Lsn, high: Lsn) -> bool {
+    let refusal = archive.tail_refusal(low, high);
     archive.set_archive(true, low);
     archive.set_archive(true, high);
-    assert_eq!(rt; archive.tail(), Some(low));
-    assert!(rt; archive.tail_refusal(high, high).is_none());
-    assert!(rt; archive.tail_refusal(at(2, 0, 1), high).is_some());
+    refusal == Some(Refusal::Ephemeral) && archive.tail() == Some(low)
+}
+
+#[test]
+fn archiving_is_set(rt: HostRuntime) {
+    let mut archive = Archive::new(rt.alloc(), None);
+    let (low, high) = (at(1, 0, 0), at(2, 0, 0));
+    assert!(rt; begin_twice(&mut archive, low, high));
+    assert!(rt; takes(&archive, high, high) && !takes(&archive, at(2, 0, 1), high));
     archive.set_archive_tail(high);
-    assert!(rt; archive.tail_refusal(low, high).is_some());
+    assert!(rt; !takes(&archive, low, high));
     archive.set_archive(false, low);
     assert!(rt; archive.tail().is_none());
-    Ok(())
 }
 
 // The head of a record of stream 1 with 100 bytes.
@@ -117,15 +134,15 @@ fn head(lsn: Lsn) -> Head
     }
 }
 
-#[test]
-fn blocks_of_an_opened_log(rt: HostRuntime) -> Result<(), Fail> {
-    let tail = at(1, 0, 1);
-    let none = open_archive(rt.alloc(), Some(tail), &[], at(1, 0, 0))?;
-    assert!(rt;
-        none.extents(rt.alloc(), at(1, 0, 0), 1)?
-            .as_slice()
-            .is_empty()
-    );
+// No block is in an archive that is opened without records.
+fn is_empty_at_first(alloc: Global) -> Result<bool, AllocError> {
+    let none = open_archive(alloc, Some(at(1, 0, 1)), &[], at(1, 0, 0))?;
+    let extents = none.extents(alloc, at(1, 0, 0), 1)?;
+    Ok(extents.as_slice().is_empty())
+}
+
+// Four records of the first block, one of the second, and one in container 3.
+fn opened(alloc: Global) -> Result<Archive, AllocError> {
     let heads = [
         head(at(1, 0, 0)),
         head(at(1, 0, 1)),
@@ -134,10 +151,15 @@ fn blocks_of_an_opened_log(rt: HostRuntime) -> Result<(), Fail> {
         head(at(1, 1024, 0)),
         head(at(3, 0, 0)),
     ];
-    let archive = open_archive(rt.alloc(), Some(tail), &heads, at(3, 512, 0))?;
-    let extents = archive.extents(rt.alloc(), at(3, 512, 0), 3)?;
-    assert!(rt; has(extents.as_slice(), &[(1, 0, 1536), (3, 0, 512)]));
-    let extents = archive.extents(rt.alloc(), at(1, 1024, 0), 3)?;
-    assert!(rt; has(extents.as_slice(), &[(1, 0, 1024)]));
+    open_archive(alloc, Some(at(1, 0, 1)), &heads, at(3, 512, 0))
+}
+
+#[test]
+fn blocks_of_an_opened_log(rt: HostRuntime) -> Result<(), AllocError> {
+    let alloc = rt.alloc();
+    assert!(rt; is_empty_at_first(alloc)?);
+    let archive = opened(alloc)?;
+    assert!(rt; gives(alloc, &archive, at(3, 512, 0), &[(1, 0, 1536), (3, 0, 512)])?);
+    assert!(rt; gives(alloc, &archive, at(1, 1024, 0), &[(1, 0, 1024)])?);
     Ok(())
 }

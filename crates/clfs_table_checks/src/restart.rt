@@ -3,7 +3,7 @@ ghost use Rattle.clfs_lsn.specs.declared.entry.Kind.TheVariants.{Restart};
 
 use clfs_lsn::{Head, Kind, Lsn};
 use clfs_restart::RestartAreas;
-use std::test::Fail;
+use std::alloc::{AllocError, Global};
 
 // The head of a restart area with an LSN of this number.
 fn head(number: u64) -> Head
@@ -21,18 +21,24 @@ fn head(number: u64) -> Head
     }
 }
 
-#[test]
-fn restart_areas_come_newest_first(rt: HostRuntime) -> Result<(), Fail> {
-    let mut areas = RestartAreas::new(rt.alloc(), Lsn::null());
+// The restart areas 3 and 5 of a stream.
+fn two_areas(alloc: Global) -> Result<RestartAreas, AllocError> {
+    let mut areas = RestartAreas::new(alloc, Lsn::null());
     areas.reserve()?;
     areas.push(head(3));
     areas.reserve()?;
     areas.push(head(5));
-    assert_eq!(rt; areas.newest(), Some(head(5)));
-    assert_eq!(rt; areas.below(Lsn::of_number(5)), Some(head(3)));
-    areas.set_base(Lsn::of_number(5));
-    assert!(rt; areas.below(Lsn::of_number(5)).is_none());
-    areas.forget_below(Lsn::of_number(5));
-    assert_eq!(rt; areas.newest(), Some(head(5)));
+    Ok(areas)
+}
+
+#[test]
+fn restart_areas_come_newest_first(rt: HostRuntime) -> Result<(), AllocError> {
+    let mut areas = two_areas(rt.alloc())?;
+    let five = Lsn::of_number(5);
+    assert!(rt; areas.newest() == Some(head(5)) && areas.below(five) == Some(head(3)));
+    areas.set_base(five);
+    assert!(rt; areas.below(five).is_none());
+    areas.forget_below(five);
+    assert!(rt; areas.newest() == Some(head(5)));
     Ok(())
 }

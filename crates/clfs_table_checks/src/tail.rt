@@ -3,7 +3,6 @@ ghost use Rattle.std.specs.Prelude.{◌≡◌, length, IfOk};
 use clfs_lsn::{Lsn, Place};
 use clfs_tail::LogTail;
 use std::alloc::{AllocError, Global};
-use std::test::Fail;
 
 // The LSN of a container's first record, where it may have one.
 fn first_of(container: u32) -> Option<Lsn> {
@@ -27,7 +26,7 @@ fn four_streams(alloc: Global) -> Result<LogTail, AllocError>
 }
 
 #[test]
-fn the_hold_is_the_least_that_is_needed(rt: HostRuntime) -> Result<(), Fail> {
+fn the_hold_is_the_least_that_is_needed(rt: HostRuntime) -> Result<(), AllocError> {
     let place = Place {
         container: 7,
         offset: 512,
@@ -35,16 +34,16 @@ fn the_hold_is_the_least_that_is_needed(rt: HostRuntime) -> Result<(), Fail> {
         records: 0,
     };
     let mut tail = four_streams(rt.alloc())?;
-    assert_eq!(rt; tail.hold(None, &place), clfs_lsn::frontier(&place));
+    assert!(rt; tail.hold(None, &place) == clfs_lsn::frontier(&place));
     tail.set_first(4, first_of(5));
     tail.set_first(2, first_of(3));
-    assert_eq!(rt; Some(tail.hold(None, &place)), first_of(3));
+    assert!(rt; Some(tail.hold(None, &place)) == first_of(3));
     tail.set_first(2, first_of(6));
-    assert_eq!(rt; Some(tail.hold(None, &place)), first_of(5));
-    assert_eq!(rt; Some(tail.hold(first_of(2), &place)), first_of(2));
+    assert!(rt; Some(tail.hold(None, &place)) == first_of(5));
+    assert!(rt; Some(tail.hold(first_of(2), &place)) == first_of(2));
     tail.set_first(4, None);
     tail.push(2, Lsn::from_parts(7, 0, 0));
     tail.push(3, Lsn::from_parts(7, 0, 1));
-    assert_eq!(rt; Some(tail.hold(None, &place)), first_of(6));
+    assert!(rt; Some(tail.hold(None, &place)) == first_of(6));
     Ok(())
 }
