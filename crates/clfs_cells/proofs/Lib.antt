@@ -1,0 +1,4 @@
+mod Numbers
+mod Actions
+mod RestartAreas
+mod Carrying

@@ -1,0 +1,13 @@
+use Rattle.std.proofs.Common.{refl}
+use Rattle.std.specs.Fmt.{digits}
+use Rattle.hex.specs.Hex.{decode_pairs, encode_with}
+use Rattle.clfs_model.specs.Space.{grown, has_room}
+use Rattle.clfs_model.specs.Run.{fine_outcome}
+use Rattle.clfs_model.specs.Script.{request_in}
+use Rattle.clfs_cells.specs.Lines.{txn_call_in}
+use Rattle.clfs_cells.specs.Worked.{fine_load, fine_call, call_without_memory}
+use Rattle.clfs_cells.proofs.layouts.bytes_of_records.Goals as goal
+
+pub returns : goal.returns
+unfolding grown has_room fine_outcome request_in digits decode_pairs encode_with txn_call_in fine_load fine_call call_without_memory
+returns c = record { set = refl; compensation = refl; commit = refl; rolled_back = refl; short = refl; long = refl; no_tag = refl; fifth_tag = refl; no_zero = refl; no_transaction = refl; no_cell = refl; no_cell_of_two_bytes = refl; end_with_a_cell = refl; end_with_an_old_value = refl; end_with_a_new_value = refl }

@@ -1,0 +1,13 @@
+use Rattle.std.proofs.Common.{refl}
+use Rattle.std.specs.Fmt.{digits}
+use Rattle.hex.specs.Hex.{decode_pairs, encode_with}
+use Rattle.clfs_model.specs.Space.{grown, has_room}
+use Rattle.clfs_model.specs.Run.{fine_outcome}
+use Rattle.clfs_model.specs.Script.{request_in}
+use Rattle.clfs_cells.specs.Lines.{txn_call_in}
+use Rattle.clfs_cells.specs.Worked.{fine_load, fine_call, call_without_memory}
+use Rattle.clfs_cells.proofs.layouts.lines_of_tables.Goals as goal
+
+pub returns : goal.returns
+unfolding grown has_room fine_outcome request_in digits decode_pairs encode_with txn_call_in fine_load fine_call call_without_memory
+returns c = record { begin = refl; set = refl; back = refl; commit = refl; rollback = refl; get = refl; checkpoint = refl; empty = refl; other_verb = refl; a_client = refl; no_changes = refl; too_many_changes = refl; no_transaction = refl; too_great_a_transaction = refl; no_cell = refl; too_great_a_value = refl; too_many_kept = refl; a_leading_zero = refl; no_word = refl; an_empty_word = refl; a_word_more = refl; a_word_more_behind_values = refl }
