@@ -2,3 +2,6 @@ mod Numbers
 mod Actions
 mod RestartAreas
 mod Carrying
+mod Places
+mod Undoing
+mod OpenOnes

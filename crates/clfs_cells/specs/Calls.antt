@@ -1,7 +1,8 @@
 -- The calls of a store: which calls of the log each of them makes, when it is refused, and what it leaves.
 --
--- A transaction's beginning reserves room for all its records: its sets, their taking back, and its end. Each of them takes of it. Taking back reads along the undo-next links of the log, from the newest set that stands: the log says which set comes next, and the
--- store remembers that set's cell and values. A commit answers behind its flush. A checkpoint moves the stream's base above all records before it.
+-- A transaction's beginning reserves room for all its records: its sets, their taking back, and its end. Each of them takes of it. Taking back
+-- reads along the undo-next links of the log, from the newest set that stands: the log says which set comes next, and the store remembers that
+-- set's cell and values. A commit answers behind its flush. A checkpoint moves the stream's base above all records before it.
 use Rattle.std.specs.Prelude.{ℕ, zero, suc, ◌+◌, ◌-◌, Bool, true, false, ◌==◌, nat_lt, nat_le, if◌then◌else◌, [], length, find, replicate, slice_index}
 use Rattle.std.specs.Option.{option_map_or}
 use Rattle.clfs_lsn.specs.Lsn.{null_lsn}
@@ -24,7 +25,8 @@ use Rattle.clfs_cells.specs.declared.told.TxnReply.{TxnReply}
 use Rattle.clfs_cells.specs.declared.told.TxnReply.TheVariants as told_replies
 use Rattle.clfs_cells.specs.Layout.{txn_record, txn_bytes, checkpoint_bytes}
 use Rattle.clfs_cells.specs.Plans.{Plan, ends, calls, never, CarriesOut, on_placed, on_held, on_found, on_next, on_info}
-use Rattle.clfs_cells.specs.Stored.{Made, Transaction, Memory, Store, standing, newest_standing, most_records, records_made, transaction, holder, with_begun, with_set, with_undone, without_transaction}
+use Rattle.clfs_cells.specs.declared.begun.Made.{Made}
+use Rattle.clfs_cells.specs.Stored.{is_at, Transaction, Memory, Store, standing, newest_standing, most_records, records_made, transaction, holder, with_begun, with_set, with_undone, without_transaction}
 
 -- the most open transactions
 abbrev pub most_transactions : ℕ
@@ -104,7 +106,7 @@ compensation made = Compensation (record { cell = made.change.cell; old = made.c
 -- the set that has its record at this LSN, of the open transaction of this number
 abbrev pub over_set : Memory → ℕ → ℕ → (Transaction → Made → Plan Answered) → Plan Answered
 over_set memory number lsn go = option_map_or
-    (λ (t : Transaction). option_map_or (go t) (find (λ (made : Made). made.lsn == lsn) t.made) never) (transaction memory number) never
+    (λ (t : Transaction). option_map_or (go t) (find (is_at lsn) t.made) never) (transaction memory number) never
 
 -- a cursor ends, whatever becomes of the log
 abbrev pub with_read_ended : Memory → ℕ → Plan Answered → Plan Answered

@@ -1,6 +1,7 @@
 pub mod Layout
 pub mod Table
 pub mod Stored
+pub mod Kept
 pub mod Plans
 pub mod Calls
 pub mod Loading

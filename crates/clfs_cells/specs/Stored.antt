@@ -1,19 +1,13 @@
 -- What a store of a table keeps beside its log: the cells as they are now, and of each open transaction the sets that it made. The log has all
 -- of it but what the next call needs at once: where a transaction's newest record is, and which of its sets stand.
-use Rattle.std.specs.Prelude.{ℕ, ◌+◌, ◌*◌, Bool, true, false, not, ◌&&◌, ◌==◌, List, [], ◌∷◌, ◌++◌, length, filter, find, reverse, Option, slice_get, slice_set}
+use Rattle.std.specs.Prelude.{ℕ, ◌+◌, ◌*◌, Bool, true, false, not, ◌&&◌, ◌==◌, if◌then◌else◌, List, [], ◌∷◌, ◌++◌, length, filter, find, reverse, Option, slice_get, slice_set}
 use Rattle.std.specs.List.{list_any}
 use Rattle.std.specs.Option.{option_map_or}
 use Rattle.clfs_lsn.specs.Lsn.{null_lsn}
 use Rattle.clfs_model.specs.declared.state.State.{State}
 use Rattle.clfs_model.specs.State.{change_first}
 use Rattle.clfs_cells.specs.declared.row.Change.{Change}
-
--- a set that an open transaction made: its record, the set that undoing goes on with after it, its change, and whether it was taken back
-pub record Made : Type 0 where
-  pub lsn : ℕ
-  pub undo_next : ℕ
-  pub change : Change
-  pub undone : Bool
+use Rattle.clfs_cells.specs.declared.begun.Made.{Made}
 
 -- an open transaction: its number, the sets for which it was begun, those that it made, in order, and its newest record, or null
 pub record Transaction : Type 0 where
@@ -53,22 +47,30 @@ most_records changes = 2 * changes + 1
 abbrev pub records_made : Transaction → ℕ
 records_made t = length t.made + length (filter (λ (made : Made). made.undone) t.made)
 
+-- a transaction has this number
+abbrev pub is_numbered : ℕ → Transaction → Bool
+is_numbered number t = t.number == number
+
 -- the open transaction of a number
 abbrev pub transaction : Memory → ℕ → Option Transaction
-transaction memory number = find (λ (t : Transaction). t.number == number) memory.transactions
+transaction memory number = find (is_numbered number) memory.transactions
 
 -- a transaction has made a set of the cell, one that was taken back too
 abbrev pub holds : ℕ → Transaction → Bool
 holds cell t = list_any (λ (made : Made). made.change.cell == cell) t.made
 
--- another open transaction than this one that has made a set of the cell
+-- a transaction is another one than this, and has made a set of the cell
+abbrev pub is_holder : ℕ → ℕ → Transaction → Bool
+is_holder number cell t = not (t.number == number) && holds cell t
+
+-- the open transaction other than this one that holds the cell
 abbrev pub holder : Memory → ℕ → ℕ → Option Transaction
-holder memory number cell = find (λ (t : Transaction). not (t.number == number) && holds cell t) memory.transactions
+holder memory number cell = find (is_holder number cell) memory.transactions
 
 -- one open transaction changed
 abbrev pub with_transaction : ℕ → (Transaction → Transaction) → Memory → Memory
 with_transaction number change memory =
-    record memory { transactions = change_first (λ (t : Transaction). t.number == number) change memory.transactions }
+    record memory { transactions = change_first (is_numbered number) change memory.transactions }
 
 -- a transaction that begins, with the next number
 abbrev pub with_begun : ℕ → Memory → Memory
@@ -84,14 +86,25 @@ with_set t change lsn memory =
     let memory = with_transaction t.number (λ (t : Transaction). record t { made = t.made ++ made ∷ []; last = lsn }) memory in
     record memory { cells = slice_set memory.cells change.cell change.new }
 
+-- a set has its record at this LSN
+abbrev pub is_at : ℕ → Made → Bool
+is_at lsn made = made.lsn == lsn
+
+-- a transaction with its set at this LSN taken back, by a record at another one
+abbrev pub with_one_undone : ℕ → ℕ → Transaction → Transaction
+with_one_undone lsn at t = record t { made = change_first (is_at lsn) (λ (made : Made). record made { undone = true }) t.made; last = at }
+
 -- a transaction's set taken back, by a compensation whose record is at this LSN
 abbrev pub with_undone : Transaction → Made → ℕ → Memory → Memory
 with_undone t made lsn memory =
-    let undo = change_first (λ (other : Made). other.lsn == made.lsn) (λ (other : Made). record other { undone = true }) in
-    let memory = with_transaction t.number (λ (t : Transaction). record t { made = undo t.made; last = lsn }) memory in
+    let memory = with_transaction t.number (with_one_undone made.lsn lsn) memory in
     record memory { cells = slice_set memory.cells made.change.cell made.change.old }
+
+-- the elements without the first that passes
+abbrev pub without_first : {A : Type 0} → (A → Bool) → List A → List A
+without_first p [] = []
+without_first p (x ∷ xs) = if p x then xs else x ∷ without_first p xs
 
 -- without an open transaction, which has ended
 abbrev pub without_transaction : ℕ → Memory → Memory
-without_transaction number memory =
-    record memory { transactions = filter (λ (t : Transaction). not (t.number == number)) memory.transactions }
+without_transaction number memory = record memory { transactions = without_first (is_numbered number) memory.transactions }

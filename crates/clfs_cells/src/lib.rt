@@ -9,15 +9,19 @@
 #![tactic(auto)]
 
 mod asked;
+mod begun;
 mod checkpoint;
 mod dialogues;
 mod laws;
 mod layouts;
+mod memory;
 mod row;
 mod tables;
 mod told;
+mod transaction;
 
 pub use asked::TxnCall;
+pub use begun::{MOST_CHANGES, Made, Transaction};
 pub use checkpoint::{CELLS, CHECKPOINT_BYTES, Checkpoint};
 pub use dialogues::{
     checkpoints, numbers_of_transactions, order_of_refusals, room_for_transactions,
@@ -27,6 +31,7 @@ pub use laws::{
     checkpoints_are_read_as_written, computed_ends_are_carried_out, records_are_read_as_written,
 };
 pub use layouts::{bytes_of_records, bytes_of_restart_areas, lines_of_tables};
+pub use memory::{MOST_TRANSACTIONS, Memory};
 pub use row::{Action, Change, RECORD_BYTES, TxnRecord};
 pub use tables::{committed_cells, refusals_of_the_log, streams_of_others, tables_of_others};
 pub use told::{TxnLoadRefusal, TxnRefusal, TxnReply};

@@ -1,0 +1,10 @@
+use Rattle.std.proofs.Common.{◌≡◌, filter, not, reverse, take}
+use Rattle.std.specs.Prelude.{slice_get}
+use Rattle.std.specs.Option.{option_map_or}
+use Rattle.clfs_lsn.specs.Lsn.{null_lsn}
+use Rattle.clfs_cells.specs.declared.begun.Made.{Made}
+use Rattle.clfs_cells.proofs.begun.Transaction.newest_standing.Given as goal
+
+abbrev pub invariant-loop-made : goal.invariant-loop-made
+invariant-loop-made l =
+    l.newest ≡ option_map_or (λ (made : Made). made.lsn) (slice_get (reverse (filter (λ (made : Made). not made.undone) (take l.made-index l.made-items))) 0) null_lsn
