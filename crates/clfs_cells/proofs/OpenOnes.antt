@@ -15,7 +15,7 @@ use Rattle.clfs_cells.proofs.Places.{StandsAt, stands_at, rest, found, absent, u
 
 -- a transaction that stands for any
 abbrev pub any_transaction : Code
-any_transaction = record { number = 0; changes = 0; sets = []; count = 0; last = 0; few = omega arith }
+any_transaction = record { number = 0; changes = 0; sets = []; count = 0; last = 0; few = omega arith; most = omega arith }
 
 abbrev pub shown : List Code → List Transaction
 shown xs = map transaction_of xs

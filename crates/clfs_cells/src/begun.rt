@@ -28,5 +28,6 @@ pub struct Transaction {
     pub(crate) sets: [Made; MOST_CHANGES],
     pub(crate) count: usize,
     pub(crate) last: Lsn,
-    ghost few: { count ≤ 7 },
+    ghost few: { count ≤ changes },
+    ghost most: { changes ≤ 7 },
 }

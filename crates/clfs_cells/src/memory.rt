@@ -147,6 +147,7 @@ impl Memory {
     pub fn begin(&mut self, changes: u16) -> u32
         requires room { length self.old.transactions < 8 }
         requires number { self.old.last < 4294967295 }
+        requires changes { changes ≤ 7 }
         ensures begun { self.new ≡ with_begun changes self.old }
         ensures number { result ≡ self.old.last + 1 }
     {
@@ -178,7 +179,7 @@ impl Memory {
     /// An open transaction made a set, whose record is at this LSN.
     pub fn set(&mut self, t: &Transaction, change: Change, lsn: Lsn)
         requires there { transaction self.old (transaction_of t.now).number ≡ Some (transaction_of t.now) }
-        requires room { length (transaction_of t.now).made < 7 }
+        requires room { length (transaction_of t.now).made < (transaction_of t.now).changes }
         requires cell { change.cell < 32 }
         ensures { self.new ≡ with_set (transaction_of t.now) change lsn self.old }
     {

@@ -1,5 +1,5 @@
 // What is asked of an open transaction, and what changes it.
-ghost use Rattle.std.specs.Prelude.{◌≡◌, ◌+◌, ◌<◌, ◌≤◌, [], ◌∷◌, ◌++◌, Some, find, length, nat_le, position, slice_get, slice_set, true};
+ghost use Rattle.std.specs.Prelude.{◌≡◌, ◌*◌, ◌+◌, ◌<◌, ◌≤◌, [], ◌∷◌, ◌++◌, Some, find, length, nat_le, position, slice_get, slice_set, true};
 ghost use Rattle.clfs_cells.specs.declared.begun.Made.{Made};
 ghost use Rattle.clfs_lsn.specs.Lsn.{null_lsn};
 ghost use Rattle.clfs_cells.specs.Kept.{transaction_of};
@@ -28,6 +28,7 @@ impl Made {
 impl Transaction {
     // A transaction that made no set yet.
     pub(crate) fn begun(number: u32, changes: u16) -> Transaction
+        requires { changes ≤ 7 }
         ensures { transaction_of result ≡ record { number = number; changes = changes; made = []; last = null_lsn } }
     {
         Transaction {
@@ -48,7 +49,8 @@ impl Transaction {
 
     /// The sets for which it was begun.
     pub fn changes(&self) -> u16
-        ensures { result ≡ (transaction_of self.now).changes }
+        ensures changes { result ≡ (transaction_of self.now).changes }
+        ensures few { result ≤ 7 }
     {
         self.changes
     }
@@ -105,7 +107,7 @@ impl Transaction {
     /// The records that it appended.
     pub fn records_made(&self) -> usize
         ensures records { result ≡ records_made (transaction_of self.now) }
-        ensures few { result ≤ 14 }
+        ensures few { result ≤ 2 * (transaction_of self.now).changes }
     {
         let made = self.made().len();
         made + (made - self.standing())
@@ -129,7 +131,7 @@ impl Transaction {
 
     // The same with a set more.
     pub(crate) fn with_set(&self, made: Made) -> Transaction
-        requires { length (transaction_of self.now).made < 7 }
+        requires { length (transaction_of self.now).made < (transaction_of self.now).changes }
         ensures { transaction_of result ≡ record (transaction_of self.now) { made = (transaction_of self.now).made ++ made ∷ []; last = made.lsn } }
     {
         let mut next = *self;
