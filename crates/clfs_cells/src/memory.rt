@@ -114,13 +114,15 @@ impl Memory {
 
     /// How many transactions are open.
     pub fn open_now(&self) -> usize
-        ensures { result ≡ length self.now.transactions }
+        ensures count { result ≡ length self.now.transactions }
+        ensures few { result ≤ 8 }
     {
         self.open_transactions().len()
     }
 
     fn open_transactions(&self) -> &[Transaction]
-        ensures { map transaction_of result.now ≡ self.now.transactions }
+        ensures transactions { map transaction_of result.now ≡ self.now.transactions }
+        ensures few { length result.now ≤ 8 }
     {
         open_of(self.transactions.as_slice(), self.count)
     }
@@ -168,19 +170,19 @@ impl Memory {
         }
     }
 
-    // A cell has this value now.
+    // A cell has this value now, where there is such a cell.
     fn set_cell(&mut self, cell: u16, value: u64)
-        requires { cell < 32 }
         ensures { self.new ≡ record self.old { cells = slice_set self.old.cells cell value } }
     {
-        self.cells[cell as usize] = value;
+        if (cell as usize) < CELLS {
+            self.cells[cell as usize] = value;
+        }
     }
 
     /// An open transaction made a set, whose record is at this LSN.
     pub fn set(&mut self, t: &Transaction, change: Change, lsn: Lsn)
         requires there { transaction self.old (transaction_of t.now).number ≡ Some (transaction_of t.now) }
         requires room { length (transaction_of t.now).made < (transaction_of t.now).changes }
-        requires cell { change.cell < 32 }
         ensures { self.new ≡ with_set (transaction_of t.now) change lsn self.old }
     {
         let made = Made {
@@ -195,8 +197,7 @@ impl Memory {
 
     /// A set of an open transaction was taken back, by a record at this LSN.
     pub fn undo(&mut self, t: &Transaction, made: &Made, lsn: Lsn)
-        requires there { transaction self.old (transaction_of t.now).number ≡ Some (transaction_of t.now) }
-        requires cell { made.now.change.cell < 32 }
+        requires { transaction self.old (transaction_of t.now).number ≡ Some (transaction_of t.now) }
         ensures { self.new ≡ with_undone (transaction_of t.now) made.now lsn self.old }
     {
         self.replace(t.with_undone(made.lsn, lsn));
@@ -235,7 +236,8 @@ fn take_out(transactions: &mut Vec<Transaction>, place: usize)
 // Those that are open, of all for which there is room.
 fn open_of(transactions: &[Transaction], count: usize) -> &[Transaction]
     requires { count ≤ length transactions.now }
-    ensures { result.now ≡ take count transactions.now }
+    ensures transactions { result.now ≡ take count transactions.now }
+    ensures few { length result.now ≤ count }
 {
     &transactions[..count]
 }

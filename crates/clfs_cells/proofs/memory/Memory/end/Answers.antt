@@ -8,7 +8,7 @@ use Rattle.clfs_cells.proofs.memory.Memory.end.Goals as goal
 pub returns-in-Some : goal.returns-in-Some
 returns-in-Some c =
     let p = is_numbered c.args.number in
-    let same = c.open_of-open.ensures ∙ ap (λ (l : List Code). take c.self.inside.count l) c.as_slice.ensures.value in
+    let same = c.open_of-open.ensures.transactions ∙ ap (λ (l : List Code). take c.self.inside.count l) c.as_slice.ensures.value in
     rw (← c.self.view_is)
     (ap (λ (l : List Transaction). let m : Memory = record (memory_of c.self.inside) { transactions = l } in m)
     (removed_at p c.self.inside.transactions.items c.take_out.new.transactions.items
@@ -19,7 +19,7 @@ returns-in-Some c =
 pub returns-in_default : goal.returns-in_default
 returns-in_default c =
     let p = is_numbered c.args.number in
-    let same = c.open_of-open.ensures ∙ ap (λ (l : List Code). take c.self.inside.count l) c.as_slice.ensures.value in
+    let same = c.open_of-open.ensures.transactions ∙ ap (λ (l : List Code). take c.self.inside.count l) c.as_slice.ensures.value in
     rw (← c.self.view_is)
     (ap (λ (l : List Transaction). let m : Memory = record (memory_of c.self.inside) { transactions = l } in m)
     (removed_nowhere p (take c.self.inside.count c.self.inside.transactions.items) c.place_of.result

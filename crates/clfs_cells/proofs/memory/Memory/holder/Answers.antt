@@ -12,12 +12,12 @@ numbered found = option_map (λ (t : Transaction). t.number) found
 pub returns-in_err-place : goal.returns-in_err-place
 returns-in_err-place c =
     c.from_residual.ensures
-    ∙ sym (ap (λ (l : List Transaction). numbered (find (is_holder c.args.number c.args.cell) l)) (sym c.open_transactions-open.ensures)
+    ∙ sym (ap (λ (l : List Transaction). numbered (find (is_holder c.args.number c.args.cell) l)) (sym c.open_transactions-open.ensures.transactions)
     ∙ ap numbered (none_at (is_holder c.args.number c.args.cell) c.open_transactions-open.result.now c.place_of_holder.result c.place_of_holder.ensures c.in_err-place.was))
 
 pub returns : goal.returns
 returns c =
     ap (λ (n : ℕ). Some n) c.number.ensures
     ∙ ap (λ (t : Code). Some t.number) c.index-open-place.is
-    ∙ sym (ap (λ (l : List Transaction). numbered (find (is_holder c.args.number c.args.cell) l)) (sym c.open_transactions-open.ensures)
+    ∙ sym (ap (λ (l : List Transaction). numbered (find (is_holder c.args.number c.args.cell) l)) (sym c.open_transactions-open.ensures.transactions)
     ∙ ap numbered (found_at (is_holder c.args.number c.args.cell) c.open_transactions-open.result.now c.place_of_holder.result c.in_ok-place.place c.index-open-place.result c.place_of_holder.ensures c.in_ok-place.was))
