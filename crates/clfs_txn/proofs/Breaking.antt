@@ -1,0 +1,56 @@
+-- Whether a log is broken after a call, by its answer.
+use Rattle.std.proofs.Common.{◌≡◌, ◌≢◌, ℕ, Bool, true, false, Result, Ok, Err, refl, sym, ap, ◌∙◌}
+use Rattle.std.specs.Prelude.{OnOk}
+use Rattle.clfs_model.specs.declared.call.Call.{Call}
+use Rattle.clfs_model.specs.declared.refusal.Refusal.{Refusal}
+use Rattle.clfs_model.specs.declared.refusal.Refusal.TheVariants as refusals
+use Rattle.clfs_model.specs.declared.reply.Happened.{Happened}
+use Rattle.clfs_model.specs.declared.reply.Happened.TheVariants.{Fine, Fault, Damage}
+use Rattle.clfs_model.specs.declared.reply.Reply.{Reply}
+use Rattle.clfs_model.specs.declared.reply.Reply.TheVariants as replies
+use Rattle.clfs_model.specs.declared.state.State.{State}
+use Rattle.clfs_model.specs.Happened.{happened_of, happened_of_refusal}
+use Rattle.clfs_model.specs.Step.{Step}
+use Rattle.clfs_manager.specs.Calls.{Steps, replied}
+use Rattle.clfs_cells.specs.Stored.{Memory}
+use Rattle.clfs_txn.specs.Calls.{is_break, breaks}
+use Rattle.clfs_txn.specs.Kept.{IsKept}
+
+-- what the laws say of broken logs
+pub record Laws : Type 0 where
+  pub fault : (told : Bool) (s : State) (client : ℕ) (call : Call) (happened : Happened) (reply : Reply) (t : State)
+      → Step told s client call happened reply t → happened_of reply ≡ Fault → t.broken ≡ true
+  pub damage : (told : Bool) (s : State) (client : ℕ) (call : Call) (happened : Happened) (reply : Reply) (t : State)
+      → Step told s client call happened reply t → happened_of reply ≡ Damage → t.broken ≡ true
+  pub unbroken : (told : Bool) (s : State) (client : ℕ) (call : Call) (happened : Happened) (reply : Reply) (t : State)
+      → s.broken ≡ false → happened_of reply ≡ Fine → Step told s client call happened reply t
+      → (t.broken ≡ false) × (reply ≢ replies.Refused refusals.Broken)
+
+-- after a refusal
+refused : Laws → (told : Bool) (s : State) (client : ℕ) (call : Call) (refusal : Refusal) (t : State) → s.broken ≡ false
+    → Step told s client call (happened_of_refusal refusal) (replies.Refused refusal) t → t.broken ≡ is_break refusal
+refused laws told s client call refusals.DiskFault t whole step = laws.fault told s client call Fault (replies.Refused refusals.DiskFault) t step refl
+refused laws told s client call (refusals.Damaged container offset at) t whole step =
+    laws.damage told s client call Damage (replies.Refused (refusals.Damaged container offset at)) t step refl
+refused laws told s client call other t whole step = (laws.unbroken told s client call Fine (replies.Refused other) t whole refl step).0
+
+-- after any answer, where one that isn't a refusal tells of nothing that happened
+pub broken_then : {A : Type 0} → Laws → (told : Bool) (s : State) (client : ℕ) (call : Call) (answer : A → Reply) (result : Result A Refusal) (t : State)
+    → ((value : A) → happened_of (answer value) ≡ Fine) → s.broken ≡ false → Steps told s client call answer result t → t.broken ≡ breaks result
+broken_then laws told s client call answer (Ok value) t fine whole step =
+    (laws.unbroken told s client call (happened_of (answer value)) (answer value) t whole (fine value) step).0
+broken_then laws told s client call answer (Err refusal) t fine whole step = refused laws told s client call refusal t whole step
+
+-- a store that has noted what its log's call answered
+pub kept_after : {A : Type 0} → Laws → (s : State) (client : ℕ) (call : Call) (answer : A → Reply) (result : Result A Refusal) (t : State)
+    (memory : Memory) (before after : Bool) → IsKept s memory before → ((value : A) → happened_of (answer value) ≡ Fine) → s.broken ≡ false
+    → Steps true s client call answer result t → after ≡ breaks result → IsKept t memory after
+kept_after laws s client call answer result t memory before after kept fine whole step noted = record {
+  knows = noted ∙ sym (broken_then laws true s client call answer result t fine whole step);
+  client = kept.client;
+}
+
+-- the log isn't broken where the call was answered
+pub whole_then : {A : Type 0} (result : Result A Refusal) (broken : Bool) → broken ≡ breaks result → OnOk result (broken ≡ false)
+whole_then (Ok value) broken is = is
+whole_then (Err refusal) broken is = tt

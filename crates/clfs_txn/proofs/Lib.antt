@@ -1,0 +1,6 @@
+mod Breaking
+mod Carried
+mod Begun
+mod Sets
+mod Asked
+mod Ends

@@ -1,0 +1,25 @@
+use Rattle.std.proofs.Common.{◌≡◌, ap, ◌∙◌, refl, false, true}
+use Rattle.clfs_model.specs.declared.reply.Reply.TheVariants as replies
+use Rattle.clfs_txn.proofs.Asked.{same_steps, append_is}
+use Rattle.clfs_txn.proofs.Breaking.{Laws, kept_after, broken_then, whole_then}
+use Rattle.clfs_txn.proofs.store.TxnStore.append.Goals as goal
+
+pub invariant_of-self : goal.invariant_of-self
+invariant_of-self g c =
+    let laws : Laws = record { fault = c.faults_break.ensures.fault; damage = c.faults_break.ensures.damage; unbroken = c.unbroken_stays.ensures.calls } in
+    let whole : c.self.inside.manager.0.broken ≡ false = ap (λ v. v.0.log.broken) c.self.view_is ∙ c.requires in
+    kept_after laws _ _ _ replies.Placed c.append-reply.result _ c.self.inside.memory c.self.inside.broken _ c.self.invariant
+    (λ _. refl) whole (c.append-reply.ensures.step true) c.breaks-self-inside.ensures
+
+pub returns-clause-whole : goal.returns-clause-whole
+returns-clause-whole g c =
+    let laws : Laws = record { fault = c.faults_break.ensures.fault; damage = c.faults_break.ensures.damage; unbroken = c.unbroken_stays.ensures.calls } in
+    let whole : c.self.inside.manager.0.broken ≡ false = ap (λ v. v.0.log.broken) c.self.view_is ∙ c.requires in
+    whole_then c.append-reply.result _ (broken_then laws true _ _ _ replies.Placed c.append-reply.result _ (λ _. refl) whole (c.append-reply.ensures.step true))
+
+pub returns-clause-step : goal.returns-clause-step
+returns-clause-step g c = λ told.
+    same_steps told _ _ _ _ _ _ replies.Placed c.append-reply.result _ (ap (λ v. v.0.log) c.self.view_is)
+    (c.client.ensures ∙ ap (λ v. v.0.memory.client) c.self.view_is)
+    (append_is _ _ _ _ _ (c.area.ensures ∙ ap (λ v. v.0.memory.area) c.self.view_is) c.in_ok-draft.ensures c.none-sizes.ensures)
+    (c.append-reply.ensures.step told)

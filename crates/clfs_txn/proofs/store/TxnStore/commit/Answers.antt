@@ -1,0 +1,18 @@
+use Rattle.std.proofs.Common.{refl}
+use Rattle.clfs_cells.specs.declared.asked.TxnCall.TheVariants as asked
+use Rattle.clfs_cells.specs.Kept.{transaction_of}
+use Rattle.clfs_txn.proofs.Carried.{step_is}
+use Rattle.clfs_txn.proofs.Sets.{goes_on, not_found}
+use Rattle.clfs_txn.proofs.store.TxnStore.commit.Goals as goal
+
+pub returns-in-Ok : goal.returns-in-Ok
+returns-in-Ok g c = record {
+  step = λ told.
+      step_is told c.args.self.now.0 (asked.Commit c.args.txn) _ c.end.new.self.0 _
+      (goes_on c.args.self.now.0 (asked.Commit c.args.txn) c.args.txn (transaction_of c.in-Ok.t) _ refl c.in-Ok.ensures) (c.end.ensures told);
+}
+
+pub returns-in-Err : goal.returns-in-Err
+returns-in-Err g c = record {
+  step = λ told. not_found told c.args.self.now.0 (asked.Commit c.args.txn) c.args.txn c.in-Err.refusal _ refl c.in-Err.ensures;
+}

@@ -1,0 +1,43 @@
+use Rattle.std.proofs.Common.{◌≡◌, ◌*◌, ◌-◌, ◌∙◌, ap, sym, arith, refl, ℕ}
+use Rattle.clfs_cells.specs.Kept.{transaction_of}
+use Rattle.clfs_cells.specs.Stored.{Memory, most_records, records_made, without_transaction}
+use Rattle.clfs_txn.proofs.Asked.{same_call, same_step, append_call_is, release_is}
+use Rattle.clfs_txn.proofs.Ends.{refused, done, stopped}
+use Rattle.clfs_txn.proofs.store.TxnStore.end.Goals as goal
+
+pub returns-in-Err : goal.returns-in-Err
+returns-in-Err g c =
+    let t = transaction_of c.args.t.now in
+    let call = append_call_is c.args.self.now.0.memory t c.args.action c.args.action _ _ c.args.flush refl c.null.ensures in λ told.
+    refused told c.args.self.now.0 c.append.new.self.0 t c.args.action c.args.flush c.in-Err.refusal
+    (same_call told _ _ _ _ _ _ _ call (c.in-Err.ensures.step told)) c.in-Err.ensures.memory
+
+pub returns-in-Ok : goal.returns-in-Ok
+returns-in-Ok g c =
+    let t = transaction_of c.args.t.now in
+    let call = append_call_is c.args.self.now.0.memory t c.args.action c.args.action _ _ c.args.flush refl c.null.ensures in
+    let before = ap (λ v. v.0.memory) c.self.view_is ∙ c.in_default.ensures.memory in
+    let left : 2 * c.changes.result - c.records_made.result ≡ most_records t.changes - records_made t - 1
+    = omega (arith, c.changes.ensures.changes, c.records_made.ensures.records) in
+    let release = release_is _ _ _ _ (ap (λ (m : Memory). m.area) c.end.ensures ∙ ap (λ (m : Memory). m.area) before) left in
+    let client = ap (λ (m : Memory). m.client) c.end.ensures ∙ ap (λ (m : Memory). m.client) before in
+    let memory = c.in-Ok.ensures.memory ∙ c.end.ensures ∙ ap (λ (n : ℕ). without_transaction n c.self.inside.memory) c.number.ensures
+    ∙ ap (λ (m : Memory). without_transaction t.number m) before in λ told.
+    done told c.args.self.now.0 c.release.new.self.0 c.append.new.self.0.log t c.args.action c.args.flush c.in_default.field-0 c.in-Ok.field-0
+    (same_call told _ _ _ _ _ _ _ call (c.in_default.ensures.step told))
+    (same_step told _ _ _ _ _ _ _ _ _ (ap (λ v. v.0.log) c.self.view_is) client release (c.in-Ok.ensures.step told)) memory
+
+pub returns-in-Err-release : goal.returns-in-Err-release
+returns-in-Err-release g c =
+    let t = transaction_of c.args.t.now in
+    let call = append_call_is c.args.self.now.0.memory t c.args.action c.args.action _ _ c.args.flush refl c.null.ensures in
+    let before = ap (λ v. v.0.memory) c.self.view_is ∙ c.in_default.ensures.memory in
+    let left : 2 * c.changes.result - c.records_made.result ≡ most_records t.changes - records_made t - 1
+    = omega (arith, c.changes.ensures.changes, c.records_made.ensures.records) in
+    let release = release_is _ _ _ _ (ap (λ (m : Memory). m.area) c.end.ensures ∙ ap (λ (m : Memory). m.area) before) left in
+    let client = ap (λ (m : Memory). m.client) c.end.ensures ∙ ap (λ (m : Memory). m.client) before in
+    let memory = c.in-Err-release.ensures.memory ∙ c.end.ensures ∙ ap (λ (n : ℕ). without_transaction n c.self.inside.memory) c.number.ensures
+    ∙ ap (λ (m : Memory). without_transaction t.number m) before in λ told.
+    stopped told c.args.self.now.0 c.release.new.self.0 c.append.new.self.0.log t c.args.action c.args.flush c.in_default.field-0 c.in-Err-release.refusal
+    (same_call told _ _ _ _ _ _ _ call (c.in_default.ensures.step told))
+    (same_step told _ _ _ _ _ _ _ _ _ (ap (λ v. v.0.log) c.self.view_is) client release (c.in-Err-release.ensures.step told)) memory

@@ -1,0 +1,10 @@
+use Rattle.std.proofs.Common.{refl}
+use Rattle.clfs_cells.specs.declared.asked.TxnCall.TheVariants as asked
+use Rattle.clfs_txn.proofs.Sets.{not_found}
+use Rattle.clfs_txn.proofs.store.TxnStore.set.Goals as goal
+
+pub returns-in-Err : goal.returns-in-Err
+returns-in-Err g c = record {
+  step = λ told.
+      not_found told c.args.self.now.0 (asked.Set c.args.txn c.args.cell c.args.value) c.args.txn c.in-Err.refusal _ refl c.in-Err.ensures;
+}

@@ -1,0 +1,48 @@
+use Rattle.std.proofs.Common.{◌≡◌, ◌∙◌, ap, sym, subst, Bool, ℕ}
+use Rattle.std.specs.Option.{option_map}
+use Rattle.clfs_cells.specs.declared.asked.TxnCall.TheVariants as asked
+use Rattle.clfs_cells.specs.declared.row.Action.TheVariants.{Set}
+use Rattle.clfs_cells.specs.declared.row.Change.{Change}
+use Rattle.clfs_cells.specs.declared.told.TxnRefusal.TheVariants as refusals
+use Rattle.clfs_cells.specs.declared.told.TxnReply.TheVariants as replies
+use Rattle.clfs_cells.specs.Calls.{TxnStep, change_to}
+use Rattle.clfs_cells.specs.Kept.{transaction_of}
+use Rattle.clfs_cells.specs.Stored.{Memory, Transaction, holder, with_set}
+use Rattle.clfs_txn.specs.Kept.{store_of}
+use Rattle.clfs_txn.proofs.Asked.{same_call, same_end, append_call_is}
+use Rattle.clfs_txn.proofs.Sets.{held, spent, refused, done}
+use Rattle.clfs_txn.proofs.store.TxnStore.set_open.Goals as goal
+
+pub returns-in-Some : goal.returns-in-Some
+returns-in-Some g c = λ told.
+    held told c.args.self.now.0 c.args.txn c.args.cell c.args.value (transaction_of c.args.t.now) c.in-Some.other c.requires.found
+    (c.in-Some.ensures ∙ ap (λ v. option_map (λ (t : Transaction). t.number) (holder v.0.memory c.args.txn c.args.cell)) c.self.view_is)
+
+pub returns-then-is_spent : goal.returns-then-is_spent
+returns-then-is_spent g c = λ told.
+    subst (λ (n : ℕ). TxnStep told c.args.self.now.0 (asked.Set c.args.txn c.args.cell c.args.value) (replies.Refused (refusals.ChangesSpent n)) c.args.self.now.0)
+    (sym c.changes.ensures.changes)
+    (spent told c.args.self.now.0 c.args.txn c.args.cell c.args.value (transaction_of c.args.t.now) c.requires.found
+    (c.in_default.ensures ∙ ap (λ v. option_map (λ (t : Transaction). t.number) (holder v.0.memory c.args.txn c.args.cell)) c.self.view_is)
+    (sym c.is_spent.ensures ∙ c.if-is_spent.true))
+
+pub returns-in-Ok : goal.returns-in-Ok
+returns-in-Ok g c =
+    let t = transaction_of c.args.t.now in
+    let free = c.in_default.ensures ∙ ap (λ v. option_map (λ (t : Transaction). t.number) (holder v.0.memory c.args.txn c.args.cell)) c.self.view_is in
+    let some = sym c.is_spent.ensures ∙ c.if-is_spent.false in
+    let call = append_call_is c.args.self.now.0.memory t _ _ _ _ _ (ap (λ (x : Change). Set x) c.change_to-change.ensures) c.newest_standing.ensures in
+    let same = ap (λ v. v.0.memory) c.self-2.view_is ∙ c.in-Ok.ensures.memory in λ told.
+    done told c.args.self.now.0 c.args.txn c.args.cell c.args.value t c.in-Ok.lsn (store_of c.self-2.inside.manager.0 c.set.new.self) c.requires.found free some
+    (same_end told _ _ _ _ _ _ _ (sym (ap (λ v. v.0.log) c.self-2.view_is)) (same_call told _ _ _ _ _ _ _ call (c.in-Ok.ensures.step told)))
+    (c.set.ensures ∙ ap (λ (x : Change). with_set t x c.in-Ok.lsn c.self-2.inside.memory) c.change_to-change.ensures
+    ∙ ap (λ (m : Memory). with_set t (change_to c.args.self.now.0.memory c.args.cell c.args.value) c.in-Ok.lsn m) same)
+
+pub returns-in-Err : goal.returns-in-Err
+returns-in-Err g c =
+    let t = transaction_of c.args.t.now in
+    let free = c.in_default.ensures ∙ ap (λ v. option_map (λ (t : Transaction). t.number) (holder v.0.memory c.args.txn c.args.cell)) c.self.view_is in
+    let some = sym c.is_spent.ensures ∙ c.if-is_spent.false in
+    let call = append_call_is c.args.self.now.0.memory t _ _ _ _ _ (ap (λ (x : Change). Set x) c.change_to-change.ensures) c.newest_standing.ensures in λ told.
+    refused told c.args.self.now.0 c.args.txn c.args.cell c.args.value t c.in-Err.refusal c.append.new.self.0 c.requires.found free some
+    (same_call told _ _ _ _ _ _ _ call (c.in-Err.ensures.step told)) c.in-Err.ensures.memory

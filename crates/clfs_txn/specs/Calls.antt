@@ -1,0 +1,62 @@
+-- What a call of a store answers, as a step of its definition.
+use Rattle.std.specs.Prelude.{◌≡◌, ◌⊎◌, ℕ, Bool, true, false, Option, Some, None, Result, Ok, Err}
+use Rattle.clfs_model.specs.declared.call.Draft.{Draft}
+use Rattle.clfs_cells.specs.declared.row.Action.{Action}
+use Rattle.clfs_cells.specs.Layout.{txn_bytes, txn_record}
+use Rattle.clfs_cells.specs.Stored.{Transaction, transaction}
+use Rattle.clfs_model.specs.declared.refusal.Refusal.{Refusal}
+use Rattle.clfs_model.specs.declared.refusal.Refusal.TheVariants as log_refusals
+use Rattle.clfs_cells.specs.declared.asked.TxnCall.{TxnCall}
+use Rattle.clfs_cells.specs.declared.told.TxnRefusal.{TxnRefusal}
+use Rattle.clfs_cells.specs.declared.told.TxnRefusal.TheVariants as refusals
+use Rattle.clfs_cells.specs.declared.told.TxnReply.{TxnReply}
+use Rattle.clfs_cells.specs.declared.told.TxnReply.TheVariants as replies
+use Rattle.clfs_cells.specs.Calls.{Answered, TxnStep}
+use Rattle.clfs_cells.specs.Plans.{Plan, CarriesOut}
+use Rattle.clfs_cells.specs.Stored.{Store}
+
+-- an answer as the store's reply
+abbrev pub replied : {A : Type 0} → (A → TxnReply) → Result A TxnRefusal → TxnReply
+replied answer (Ok value) = answer value
+replied answer (Err refusal) = replies.Refused refusal
+
+-- A call was answered so, which is a step from one store to another.
+abbrev pub TxnSteps : {A : Type 0} → Bool → Store → TxnCall → (A → TxnReply) → Result A TxnRefusal → Store → Type 0
+TxnSteps told s call answer result t = TxnStep told s call (replied answer result) t
+
+-- the refusals after which a log answers nothing else
+abbrev pub is_break : Refusal → Bool
+is_break log_refusals.DiskFault = true
+is_break (log_refusals.Damaged container offset at) = true
+is_break _ = false
+
+-- whether an answer is such a refusal
+abbrev pub breaks : {A : Type 0} → Result A Refusal → Bool
+breaks (Ok value) = false
+breaks (Err refusal) = is_break refusal
+
+-- a transaction's record, as it is appended
+abbrev pub draft_of : Transaction → Action → ℕ → Bool → Draft
+draft_of t action undo_next flush = record {
+  bytes = txn_bytes (txn_record t.number action);
+  previous = t.last;
+  undo_next = undo_next;
+  seal = false;
+  flush = flush;
+}
+
+-- an open transaction of this number is this one, and the log isn't broken
+pub record IsFound (s : Store) (number : ℕ) (t : Transaction) : Type 0 where
+  pub whole : s.log.broken ≡ false
+  pub there : transaction s.memory number ≡ Some t
+  pub numbered : t.number ≡ number
+
+-- why no open transaction of this number is at hand
+abbrev pub IsNotFound : Store → ℕ → TxnRefusal → Type 0
+IsNotFound s number refusal =
+    ((s.log.broken ≡ true) × (refusal ≡ refusals.Log log_refusals.Broken))
+    ⊎ ((s.log.broken ≡ false) × (transaction s.memory number ≡ None) × (refusal ≡ refusals.NoSuchTxn))
+
+-- A plan was carried out, with this answer.
+abbrev pub Carries : {A : Type 0} → Bool → Store → Plan Answered → (A → TxnReply) → Result A TxnRefusal → Store → Type 0
+Carries told s plan answer result t = CarriesOut told s.memory.client s.log plan (record { reply = replied answer result; memory = t.memory }) t.log

@@ -1,0 +1,140 @@
+// The calls of the log that a store makes. Each notes whether the log is broken then.
+ghost use Rattle.std.specs.Prelude.{◌≡◌, ◌≤◌, Bool, IfOk, OnOk, false, replicate};
+ghost use Rattle.clfs_model.specs.declared.call.Call.TheVariants as calls;
+ghost use Rattle.clfs_model.specs.declared.reply.Reply.TheVariants as replies;
+ghost use Rattle.clfs_manager.specs.Calls.{Steps};
+ghost use Rattle.clfs_cells.specs.Calls.{append_call};
+ghost use Rattle.clfs_cells.specs.Kept.{transaction_of};
+ghost use Rattle.clfs_cells.specs.Stored.{most_records};
+ghost use Rattle.clfs_txn.specs.Calls.{is_break, breaks, draft_of};
+
+use crate::store::TxnStore;
+use clfs_cells::{Action, RECORD_BYTES, Transaction, TxnRecord, records_are_read_as_written};
+use clfs_disk::Disk;
+use clfs_laws::{faults_break, unbroken_stays};
+use clfs_lsn::{Bytes, Lsn, Sizes};
+use clfs_model::{Draft, Refusal, ways_of_a_step};
+use std::alloc::{AllocError, Global};
+
+// Whether a log that refuses a call so answers nothing else from then on.
+fn is_break(refusal: &Refusal) -> bool
+    ensures { result ≡ is_break refusal.now }
+{
+    matches!(
+        refusal,
+        Refusal::DiskFault | Refusal::Damaged { .. }
+    )
+}
+
+// Whether a log that answers so answers nothing else from then on.
+fn breaks<T>(reply: &Result<T, Refusal>) -> bool
+    ensures { result ≡ breaks reply.now }
+{
+    match reply {
+        Ok(_) => false,
+        Err(refusal) => is_break(refusal),
+    }
+}
+
+// The lengths of all records of a transaction.
+fn sizes_of(alloc: Global, changes: u16) -> Result<Sizes, AllocError>
+    requires { changes ≤ 7 }
+    ensures { IfOk result (λ sizes. sizes ≡ replicate (most_records changes) 24) }
+{
+    let mut lengths = Vec::new(alloc);
+    lengths.resize(2 * changes as usize + 1, RECORD_BYTES as u32)?;
+    Ok(Sizes::from_vec(lengths))
+}
+
+// A transaction's record, as it is appended: it follows the transaction's newest record.
+fn draft_of(
+    alloc: Global,
+    t: &Transaction,
+    action: Action,
+    undo_next: Lsn,
+    flush: bool,
+) -> Result<Draft, AllocError>
+    ensures { IfOk result (λ draft. draft ≡ draft_of (transaction_of t.now) action undo_next flush) }
+{
+    let record = TxnRecord {
+        txn: t.number(),
+        action,
+    };
+    let data = record.bytes();
+    let bytes = Vec::from_slice(alloc, &data)?;
+    Ok(Draft {
+        bytes: Bytes::from_vec(bytes),
+        previous: t.last(),
+        undo_next,
+        seal: false,
+        flush,
+    })
+}
+
+impl<D: Disk> TxnStore<D> {
+    // Appends a transaction's record, of what the area holds.
+    pub(crate) fn append(
+        &mut self,
+        t: &Transaction,
+        action: Action,
+        undo_next: Lsn,
+        flush: bool,
+    ) -> Result<Lsn, Refusal>
+        requires { self.old.0.log.broken ≡ false }
+        ensures step { (told : Bool) → Steps told self.old.0.log self.old.0.memory.client
+            (append_call self.old.0.memory (transaction_of t.now) action undo_next flush) replies.Placed result self.new.0.log }
+        ensures memory { self.new.0.memory ≡ self.old.0.memory }
+        ensures whole { OnOk result (self.new.0.log.broken ≡ false) }
+    {
+        ways_of_a_step();
+        faults_break();
+        unbroken_stays();
+        records_are_read_as_written();
+        let draft = draft_of(self.alloc, t, action, undo_next, flush)?;
+        let sizes = Sizes::none(self.alloc);
+        let reply = self.manager.append(
+            self.memory.client(),
+            self.memory.area(),
+            &draft,
+            true,
+            &sizes,
+        );
+        self.broken = breaks(&reply);
+        reply
+    }
+
+    // Gives up so many sectors that the area holds.
+    pub(crate) fn release(&mut self, sectors: u32) -> Result<u32, Refusal>
+        requires { self.old.0.log.broken ≡ false }
+        ensures step { (told : Bool) → Steps told self.old.0.log self.old.0.memory.client
+            (calls.Release self.old.0.memory.area sectors) replies.Held result self.new.0.log }
+        ensures memory { self.new.0.memory ≡ self.old.0.memory }
+    {
+        faults_break();
+        unbroken_stays();
+        let reply = self
+            .manager
+            .release(self.memory.client(), self.memory.area(), sectors);
+        self.broken = breaks(&reply);
+        reply
+    }
+
+    // Reserves the room of all records of a transaction.
+    pub(crate) fn reserve(&mut self, changes: u16) -> Result<u32, Refusal>
+        requires whole { self.old.0.log.broken ≡ false }
+        requires changes { changes ≤ 7 }
+        ensures step { (told : Bool) → Steps told self.old.0.log self.old.0.memory.client
+            (calls.Reserve self.old.0.memory.area (replicate (most_records changes) 24)) replies.Held result self.new.0.log }
+        ensures memory { self.new.0.memory ≡ self.old.0.memory }
+    {
+        ways_of_a_step();
+        faults_break();
+        unbroken_stays();
+        let sizes = sizes_of(self.alloc, changes)?;
+        let reply = self
+            .manager
+            .reserve(self.memory.client(), self.memory.area(), &sizes);
+        self.broken = breaks(&reply);
+        reply
+    }
+}

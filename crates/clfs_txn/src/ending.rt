@@ -1,0 +1,48 @@
+// The end of a transaction: its last record, and the room that it holds besides.
+ghost use Rattle.std.specs.Prelude.{◌≡◌, Bool, false, true};
+ghost use Rattle.clfs_cells.specs.declared.asked.TxnCall.TheVariants as asked;
+ghost use Rattle.clfs_cells.specs.declared.row.Action.TheVariants.{Commit};
+ghost use Rattle.clfs_cells.specs.declared.told.TxnReply.TheVariants as replies;
+ghost use Rattle.clfs_cells.specs.Calls.{end_plan};
+ghost use Rattle.clfs_cells.specs.Kept.{transaction_of};
+ghost use Rattle.clfs_txn.specs.Calls.{Carries, TxnSteps};
+
+use crate::store::TxnStore;
+use clfs_cells::{Action, Transaction, TxnRefusal};
+use clfs_disk::Disk;
+use clfs_lsn::Lsn;
+
+impl<D: Disk> TxnStore<D> {
+    // An open transaction ends so.
+    pub(crate) fn end(
+        &mut self,
+        t: &Transaction,
+        action: Action,
+        flush: bool,
+    ) -> Result<(), TxnRefusal>
+        requires { self.old.0.log.broken ≡ false }
+        ensures { (told : Bool) → Carries told self.old.0 (end_plan self.old.0.memory (transaction_of t.now) action flush) (λ _. replies.Done) result self.new.0 }
+    {
+        if let Err(refusal) = self.append(t, action, Lsn::null(), flush) {
+            return Err(TxnRefusal::Log(refusal));
+        }
+        let left = 2 * t.changes() as usize - t.records_made();
+        self.memory.end(t.number());
+        match self.release(left as u32) {
+            Ok(_) => Ok(()),
+            Err(refusal) => Err(TxnRefusal::Log(refusal)),
+        }
+    }
+
+    /// What a transaction did stays: the record of its commit is on the disk when the call answers. Then the transaction isn't open any more.
+    ///
+    /// Refused in this order: `Log(Broken)`, `NoSuchTxn`, and want of memory and of the disk. After want of memory nothing has changed.
+    pub fn commit(&mut self, txn: u32) -> Result<(), TxnRefusal>
+        ensures step { (told : Bool) → TxnSteps told self.old.0 (asked.Commit txn) (λ _. replies.Done) result self.new.0 }
+    {
+        match self.open_transaction(txn) {
+            Ok(t) => self.end(&t, Action::Commit, true),
+            Err(refusal) => Err(refusal),
+        }
+    }
+}

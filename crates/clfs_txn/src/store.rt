@@ -1,0 +1,57 @@
+// A store of a table. A contract sees its log, what it keeps beside the log, and the disk.
+ghost use Rattle.std.specs.Prelude.{◌≡◌, ◌<◌, Bool, slice_index};
+ghost use Rattle.clfs_cells.specs.declared.asked.TxnCall.TheVariants as asked;
+ghost use Rattle.clfs_cells.specs.declared.told.TxnReply.TheVariants as replies;
+ghost use Rattle.clfs_cells.specs.Calls.{TxnStep};
+
+use clfs_cells::Memory;
+use clfs_disk::Disk;
+use clfs_manager::Manager;
+use std::alloc::Global;
+use std::marker::Model;
+
+/// A table of 32 cells in a log, with transactions.
+#[derive(Drop)]
+pub struct TxnStore<D: Disk> {
+    pub(crate) alloc: Global,
+    pub(crate) manager: Manager<D>,
+    pub(crate) memory: Memory,
+    // Whether an earlier call of the log met a fault of the disk or damage.
+    pub(crate) broken: bool,
+}
+
+impl<D: Disk> Model for TxnStore<D> {
+    ghost use Rattle.clfs_cells.specs.Stored.{Store};
+    ghost use Rattle.clfs_txn.specs.Kept.{IsKept, store_of};
+
+    ghost Value = { Store × D };
+
+    ghost view = { λ t. (store_of t.manager.0 t.memory, t.manager.1) };
+
+    ghost invariant = { λ t. IsKept t.manager.0 t.memory t.broken };
+}
+
+impl<D: Disk> TxnStore<D> {
+    /// The value of a cell: what was committed, with what the open transactions did besides. It calls no disk, and is answered by a broken store too.
+    pub fn get(&self, cell: u16) -> u64
+        requires { cell < 32 }
+        ensures value { result ≡ slice_index self.now.0.memory.cells cell }
+        ensures step { (told : Bool) → TxnStep told self.now.0 (asked.Get cell) (replies.Value result) self.now.0 }
+    {
+        self.memory.cell(cell)
+    }
+
+    /// The log given back. Nothing is written: what isn't flushed is lost when it is closed, and open transactions with it.
+    pub fn close(self) -> Manager<D>
+        ensures log { result.0 ≡ self.0.log }
+        ensures disk { result.1 ≡ self.1 }
+    {
+        let TxnStore {
+            alloc: _,
+            manager,
+            memory: _,
+            broken: _,
+        } = self;
+        manager
+    }
+}
