@@ -39,6 +39,7 @@ impl<D: Disk> TxnStore<D> {
     /// Refused in this order: `Log(Broken)`, `NoSuchTxn`, and want of memory and of the disk. After want of memory nothing has changed.
     pub fn commit(&mut self, txn: u32) -> Result<(), TxnRefusal>
         ensures step { (told : Bool) → TxnSteps told self.old.0 (asked.Commit txn) (λ _. replies.Done) result self.new.0 }
+        ensures stopped { self.old.0.log.broken ≡ true → self.new.1 ≡ self.old.1 }
     {
         match self.open_transaction(txn) {
             Ok(t) => self.end(&t, Action::Commit, true),

@@ -77,6 +77,7 @@ impl<D: Disk> TxnStore<D> {
     pub fn set(&mut self, txn: u32, cell: u16, value: u64) -> Result<(), TxnRefusal>
         requires { cell < 32 }
         ensures step { (told : Bool) → TxnSteps told self.old.0 (asked.Set txn cell value) (λ _. replies.Done) result self.new.0 }
+        ensures stopped { self.old.0.log.broken ≡ true → self.new.1 ≡ self.old.1 }
     {
         match self.open_transaction(txn) {
             Ok(t) => self.set_open(&t, txn, cell, value),

@@ -10,9 +10,11 @@ returns-in-Ok g c = record {
   step = λ told.
       step_is told c.args.self.now.0 (asked.Commit c.args.txn) _ c.end.new.self.0 _
       (goes_on c.args.self.now.0 (asked.Commit c.args.txn) c.args.txn (transaction_of c.in-Ok.t) _ refl c.in-Ok.ensures) (c.end.ensures told);
+  stopped = λ e. let whole = c.in-Ok.ensures.whole in absurd (cc (e, whole));
 }
 
 pub returns-in-Err : goal.returns-in-Err
 returns-in-Err g c = record {
   step = λ told. not_found told c.args.self.now.0 (asked.Commit c.args.txn) c.args.txn c.in-Err.refusal _ refl c.in-Err.ensures;
+  stopped = λ _. refl;
 }
