@@ -1,5 +1,5 @@
 -- The same call of the same log, by other names.
-use Rattle.std.proofs.Common.{◌≡◌, ℕ, Bool, true, false, List, [], ◌∷◌, Result, Option, Some, find, refl, sym, subst, ap, ◌∙◌, inl, inr}
+use Rattle.std.proofs.Common.{◌≡◌, ℕ, Bool, true, false, List, [], ◌∷◌, Result, Some, find, sym, subst, ap, ◌∙◌, inl, inr}
 use Rattle.std.proofs.lemmas.Bool.{cases_Bool, eqb-true}
 use Rattle.clfs_model.specs.declared.call.Call.{Call}
 use Rattle.clfs_model.specs.declared.call.Call.TheVariants as log_calls
@@ -58,3 +58,11 @@ same_step told log other client same call asked happened reply t p q r step =
 
 pub release_is : (area place sectors count : ℕ) → area ≡ place → sectors ≡ count → log_calls.Release area sectors ≡ log_calls.Release place count
 release_is area place sectors count p q = ap (λ (a : ℕ). log_calls.Release a sectors) p ∙ ap (λ (n : ℕ). log_calls.Release place n) q
+
+pub restart_is : (area place : ℕ) (bytes others : List ℕ) (base : ℕ) → area ≡ place → bytes ≡ others
+    → log_calls.WriteRestart area bytes base false ≡ log_calls.WriteRestart place others base false
+restart_is area place bytes others base p q =
+    ap (λ (a : ℕ). log_calls.WriteRestart a bytes base false) p ∙ ap (λ (l : List ℕ). log_calls.WriteRestart place l base false) q
+
+pub base_is : (area : ℕ) (bytes : List ℕ) (base other : ℕ) → base ≡ other → log_calls.WriteRestart area bytes base false ≡ log_calls.WriteRestart area bytes other false
+base_is area bytes base other p = ap (λ (b : ℕ). log_calls.WriteRestart area bytes b false) p

@@ -6,7 +6,6 @@ use Rattle.clfs_model.specs.declared.call.Call.TheVariants as log_calls
 use Rattle.clfs_model.specs.declared.refusal.Refusal.{Refusal}
 use Rattle.clfs_model.specs.declared.refusal.Refusal.TheVariants as log_refusals
 use Rattle.clfs_model.specs.declared.reply.Reply.TheVariants as log_replies
-use Rattle.clfs_model.specs.declared.state.State.{State}
 use Rattle.clfs_model.specs.Happened.{happened_of, happened_of_refusal}
 use Rattle.clfs_model.specs.Step.{Step}
 use Rattle.clfs_cells.specs.declared.asked.TxnCall.TheVariants as asked
@@ -15,7 +14,6 @@ use Rattle.clfs_cells.specs.declared.told.TxnReply.TheVariants as replies
 use Rattle.clfs_cells.specs.Plans.{Plan, calls, on_held}
 use Rattle.clfs_cells.specs.Calls.{Answered, TxnStep, txn_plan, stops, answers}
 use Rattle.clfs_cells.specs.Stored.{Store, Memory, most_records, with_begun}
-use Rattle.clfs_txn.specs.Kept.{store_of}
 use Rattle.clfs_txn.proofs.Carried.{passed, met, one_call, step_is, refused_at_once}
 
 pub broken : (told : Bool) (s : Store) (changes : ℕ) → s.log.broken ≡ true
@@ -45,7 +43,7 @@ reserves s changes e f g = passed s.log.broken _ s.memory _ e ∙ (passed _ _ s.
 pub refused : (told : Bool) (s : Store) (changes : ℕ) (refusal : Refusal) (u : Store) → s.log.broken ≡ false
     → nat_le 8 (length s.memory.transactions) ≡ false → (s.memory.last == 4294967295) ≡ false
     → Step told s.log s.memory.client (log_calls.Reserve s.memory.area (replicate (most_records changes) 24)) (happened_of_refusal refusal)
-        (log_replies.Refused refusal) u.log
+    (log_replies.Refused refusal) u.log
     → u.memory ≡ s.memory → TxnStep told s (asked.Begin changes) (replies.Refused (refusals.Log refusal)) u
 unfolding reserving
 refused told s changes refusal u e f g step same =
@@ -57,7 +55,7 @@ refused told s changes refusal u e f g step same =
 pub done : (told : Bool) (s : Store) (changes sectors number : ℕ) (u : Store) → s.log.broken ≡ false
     → nat_le 8 (length s.memory.transactions) ≡ false → (s.memory.last == 4294967295) ≡ false
     → Step told s.log s.memory.client (log_calls.Reserve s.memory.area (replicate (most_records changes) 24)) (happened_of (log_replies.Held sectors))
-        (log_replies.Held sectors) u.log
+    (log_replies.Held sectors) u.log
     → number ≡ s.memory.last + 1 → u.memory ≡ with_begun changes s.memory → TxnStep told s (asked.Begin changes) (replies.Begun number) u
 unfolding reserving
 done told s changes sectors number u e f g step is same =

@@ -1,5 +1,5 @@
 -- Whether a log is broken after a call, by its answer.
-use Rattle.std.proofs.Common.{◌≡◌, ◌≢◌, ℕ, Bool, true, false, Result, Ok, Err, refl, sym, ap, ◌∙◌}
+use Rattle.std.proofs.Common.{◌≡◌, ◌≢◌, ℕ, Bool, true, false, Result, Ok, Err, refl, sym, ◌∙◌}
 use Rattle.std.specs.Prelude.{OnOk}
 use Rattle.clfs_model.specs.declared.call.Call.{Call}
 use Rattle.clfs_model.specs.declared.refusal.Refusal.{Refusal}
@@ -11,7 +11,7 @@ use Rattle.clfs_model.specs.declared.reply.Reply.TheVariants as replies
 use Rattle.clfs_model.specs.declared.state.State.{State}
 use Rattle.clfs_model.specs.Happened.{happened_of, happened_of_refusal}
 use Rattle.clfs_model.specs.Step.{Step}
-use Rattle.clfs_manager.specs.Calls.{Steps, replied}
+use Rattle.clfs_manager.specs.Calls.{Steps}
 use Rattle.clfs_cells.specs.Stored.{Memory}
 use Rattle.clfs_txn.specs.Calls.{is_break, breaks}
 use Rattle.clfs_txn.specs.Kept.{IsKept}

@@ -34,7 +34,7 @@ refused told s u t action flush refusal step same =
 pub done : (told : Bool) (s u : Store) (mid : State) (t : Transaction) (action : Action) (flush : Bool) (lsn sectors : ℕ)
     → Step told s.log s.memory.client (append_call s.memory t action null_lsn flush) (happened_of (log_replies.Placed lsn)) (log_replies.Placed lsn) mid
     → Step told mid s.memory.client (log_calls.Release s.memory.area (most_records t.changes - records_made t - 1)) (happened_of (log_replies.Held sectors))
-        (log_replies.Held sectors) u.log
+    (log_replies.Held sectors) u.log
     → u.memory ≡ without_transaction t.number s.memory
     → CarriesOut told s.memory.client s.log (end_plan s.memory t action flush) (record { reply = replies.Done; memory = u.memory }) u.log
 done told s u mid t action flush lsn sectors step released same =
@@ -45,7 +45,7 @@ done told s u mid t action flush lsn sectors step released same =
 pub stopped : (told : Bool) (s u : Store) (mid : State) (t : Transaction) (action : Action) (flush : Bool) (lsn : ℕ) (refusal : Refusal)
     → Step told s.log s.memory.client (append_call s.memory t action null_lsn flush) (happened_of (log_replies.Placed lsn)) (log_replies.Placed lsn) mid
     → Step told mid s.memory.client (log_calls.Release s.memory.area (most_records t.changes - records_made t - 1)) (happened_of_refusal refusal)
-        (log_replies.Refused refusal) u.log
+    (log_replies.Refused refusal) u.log
     → u.memory ≡ without_transaction t.number s.memory
     → CarriesOut told s.memory.client s.log (end_plan s.memory t action flush) (record { reply = replies.Refused (refusals.Log refusal); memory = u.memory }) u.log
 stopped told s u mid t action flush lsn refusal step released same =

@@ -4,3 +4,5 @@ mod Begun
 mod Sets
 mod Asked
 mod Ends
+mod Above
+mod Restarts

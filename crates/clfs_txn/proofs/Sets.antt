@@ -1,16 +1,14 @@
 -- The ways in which a set goes.
-use Rattle.std.proofs.Common.{◌≡◌, ◌⊎◌, inl, inr, ℕ, Bool, true, false, length, Option, Some, None, refl, sym, subst, ap, ◌∙◌, arith}
+use Rattle.std.proofs.Common.{◌≡◌, inl, inr, ℕ, Bool, true, false, length, Option, Some, None, refl, sym, ap, ◌∙◌}
 use Rattle.std.specs.Prelude.{nat_le}
 use Rattle.std.specs.Option.{option_map, option_map_or}
 use Rattle.clfs_model.specs.declared.refusal.Refusal.{Refusal}
-use Rattle.clfs_model.specs.declared.refusal.Refusal.TheVariants as log_refusals
 use Rattle.clfs_model.specs.declared.reply.Reply.TheVariants as log_replies
 use Rattle.clfs_model.specs.Happened.{happened_of, happened_of_refusal}
 use Rattle.clfs_model.specs.Step.{Step}
 use Rattle.clfs_cells.specs.declared.asked.TxnCall.{TxnCall}
 use Rattle.clfs_cells.specs.declared.asked.TxnCall.TheVariants as asked
 use Rattle.clfs_cells.specs.declared.row.Action.TheVariants.{Set}
-use Rattle.clfs_cells.specs.declared.row.Change.{Change}
 use Rattle.clfs_cells.specs.declared.told.TxnRefusal.{TxnRefusal}
 use Rattle.clfs_cells.specs.declared.told.TxnRefusal.TheVariants as refusals
 use Rattle.clfs_cells.specs.declared.told.TxnReply.TheVariants as replies
@@ -75,7 +73,7 @@ appends s number cell value t found free some =
 pub refused : (told : Bool) (s : Store) (number cell value : ℕ) (t : Transaction) (refusal : Refusal) (u : Store) → IsFound s number t
     → None ≡ option_map (λ (t : Transaction). t.number) (holder s.memory number cell) → nat_le t.changes (length t.made) ≡ false
     → Step told s.log s.memory.client (append_call s.memory t (Set (change_to s.memory cell value)) (newest_standing t) false) (happened_of_refusal refusal)
-        (log_replies.Refused refusal) u.log
+    (log_replies.Refused refusal) u.log
     → u.memory ≡ s.memory → TxnStep told s (asked.Set number cell value) (replies.Refused (refusals.Log refusal)) u
 refused told s number cell value t refusal u found free some step same =
     let result : Answered = record { reply = replies.Refused (refusals.Log refusal); memory = u.memory } in
@@ -87,7 +85,7 @@ refused told s number cell value t refusal u found free some step same =
 pub done : (told : Bool) (s : Store) (number cell value : ℕ) (t : Transaction) (lsn : ℕ) (u : Store) → IsFound s number t
     → None ≡ option_map (λ (t : Transaction). t.number) (holder s.memory number cell) → nat_le t.changes (length t.made) ≡ false
     → Step told s.log s.memory.client (append_call s.memory t (Set (change_to s.memory cell value)) (newest_standing t) false)
-        (happened_of (log_replies.Placed lsn)) (log_replies.Placed lsn) u.log
+    (happened_of (log_replies.Placed lsn)) (log_replies.Placed lsn) u.log
     → u.memory ≡ with_set t (change_to s.memory cell value) lsn s.memory → TxnStep told s (asked.Set number cell value) replies.Done u
 done told s number cell value t lsn u found free some step same =
     let result : Answered = record { reply = replies.Done; memory = u.memory } in

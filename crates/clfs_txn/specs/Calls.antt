@@ -1,9 +1,10 @@
 -- What a call of a store answers, as a step of its definition.
-use Rattle.std.specs.Prelude.{◌≡◌, ◌⊎◌, ℕ, Bool, true, false, Option, Some, None, Result, Ok, Err}
+use Rattle.std.specs.Prelude.{◌≡◌, ◌⊎◌, ℕ, Bool, true, false, Some, None, Result, Ok, Err}
 use Rattle.clfs_model.specs.declared.call.Draft.{Draft}
+use Rattle.clfs_cells.specs.declared.checkpoint.Checkpoint.{Checkpoint}
 use Rattle.clfs_cells.specs.declared.row.Action.{Action}
 use Rattle.clfs_cells.specs.Layout.{txn_bytes, txn_record}
-use Rattle.clfs_cells.specs.Stored.{Transaction, transaction}
+use Rattle.clfs_cells.specs.Stored.{Memory, Transaction, transaction}
 use Rattle.clfs_model.specs.declared.refusal.Refusal.{Refusal}
 use Rattle.clfs_model.specs.declared.refusal.Refusal.TheVariants as log_refusals
 use Rattle.clfs_cells.specs.declared.asked.TxnCall.{TxnCall}
@@ -60,3 +61,7 @@ IsNotFound s number refusal =
 -- A plan was carried out, with this answer.
 abbrev pub Carries : {A : Type 0} → Bool → Store → Plan Answered → (A → TxnReply) → Result A TxnRefusal → Store → Type 0
 Carries told s plan answer result t = CarriesOut told s.memory.client s.log plan (record { reply = replied answer result; memory = t.memory }) t.log
+
+-- what a checkpoint has
+abbrev pub checkpoint_of : Memory → Checkpoint
+checkpoint_of memory = record { cells = memory.cells; last = memory.last }

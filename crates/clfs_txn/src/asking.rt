@@ -20,14 +20,11 @@ use std::alloc::{AllocError, Global};
 fn is_break(refusal: &Refusal) -> bool
     ensures { result ≡ is_break refusal.now }
 {
-    matches!(
-        refusal,
-        Refusal::DiskFault | Refusal::Damaged { .. }
-    )
+    matches!(refusal, Refusal::DiskFault | Refusal::Damaged { .. })
 }
 
 // Whether a log that answers so answers nothing else from then on.
-fn breaks<T>(reply: &Result<T, Refusal>) -> bool
+pub(crate) fn breaks<T>(reply: &Result<T, Refusal>) -> bool
     ensures { result ≡ breaks reply.now }
 {
     match reply {

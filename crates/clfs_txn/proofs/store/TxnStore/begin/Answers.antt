@@ -1,5 +1,4 @@
 use Rattle.std.proofs.Common.{◌≡◌, ap, ◌+◌, ◌∙◌, sym, refl, false, length}
-use Rattle.std.specs.Prelude.{◌==◌, nat_le}
 use Rattle.clfs_txn.proofs.Begun.{broken, limit_of, spent, refused, done, some_room, is_last, is_not_last}
 use Rattle.clfs_cells.specs.Stored.{with_begun}
 use Rattle.clfs_txn.specs.Kept.{store_of}

@@ -1,4 +1,4 @@
-use Rattle.std.proofs.Common.{◌≡◌, ◌*◌, ◌-◌, ◌∙◌, ap, sym, arith, refl, ℕ}
+use Rattle.std.proofs.Common.{◌≡◌, ◌*◌, ◌-◌, ◌∙◌, ap, arith, refl, ℕ}
 use Rattle.clfs_cells.specs.Kept.{transaction_of}
 use Rattle.clfs_cells.specs.Stored.{Memory, most_records, records_made, without_transaction}
 use Rattle.clfs_txn.proofs.Asked.{same_call, same_step, append_call_is, release_is}

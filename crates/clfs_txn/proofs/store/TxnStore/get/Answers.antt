@@ -1,8 +1,5 @@
-use Rattle.std.proofs.Common.{◌≡◌, ℕ, ap, ◌∙◌, refl}
+use Rattle.std.proofs.Common.{ap, ◌∙◌}
 use Rattle.std.specs.Prelude.{slice_index}
-use Rattle.clfs_cells.specs.declared.asked.TxnCall.TheVariants as asked
-use Rattle.clfs_cells.specs.declared.told.TxnReply.TheVariants as replies
-use Rattle.clfs_cells.specs.Calls.{Answered}
 use Rattle.clfs_txn.proofs.Begun.{told_value}
 use Rattle.clfs_txn.proofs.store.TxnStore.get.Goals as goal
 

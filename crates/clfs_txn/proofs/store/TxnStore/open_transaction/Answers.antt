@@ -1,4 +1,4 @@
-use Rattle.std.proofs.Common.{◌≡◌, ap, ◌∙◌, sym, false, Some}
+use Rattle.std.proofs.Common.{◌≡◌, ap, ◌∙◌, sym, Some}
 use Rattle.clfs_cells.specs.Kept.{transaction_of}
 use Rattle.clfs_cells.specs.Stored.{transaction}
 use Rattle.clfs_txn.proofs.Asked.{numbered}
