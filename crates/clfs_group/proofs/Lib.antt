@@ -1,0 +1,4 @@
+pub mod Growing
+pub mod Placed
+pub mod Refused
+pub mod Granted
