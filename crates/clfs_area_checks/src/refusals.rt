@@ -1,11 +1,12 @@
 // Each refusal of each call of an area, but those for memory.
-ghost use Rattle.std.specs.Prelude.{◌≡◌, ◌<◌, ◌≤◌, ◌^◌, length, IfOk};
+ghost use Rattle.std.specs.Prelude.{◌≡◌, ◌<◌, ◌≤◌, ◌^◌, length, IfSome};
 ghost use Rattle.clfs_shared.specs.Sessions.{IsOf};
 
 use crate::setting::{
-    LENGTH, SHAPE, has_opened, new_log, open_stream, session_of, sizes_of, zeros,
+    LENGTH, SHAPE, append, make, new_log, new_shared, refusal_of_give_back, refusal_of_sizes,
+    started, zeros,
 };
-use clfs_area::AreaState;
+use clfs_area::{AreaState, Permit};
 use clfs_disk::{Disk, Fuse, Memory};
 use clfs_lsn::Lsn;
 use clfs_manager::Manager;
@@ -15,7 +16,6 @@ use std::alloc::Global;
 use std::marker::Brand;
 use std::sync::Wait;
 use std::sync::ledger::{Blank, Ledger};
-use std::test::Fail;
 
 // Why an area of this stream and this largest record isn't made, and the session.
 fn cause_of_new<S: Ledger, R: Ledger, D: Disk, W: Wait>(
@@ -41,6 +41,30 @@ fn cause_of_new<S: Ledger, R: Ledger, D: Disk, W: Wait>(
     }
 }
 
+// The same with ledgers of its own.
+fn refusal_of_new<D: Disk, W: Wait>(
+    rt: &W,
+    alloc: Global,
+    log: &SharedLog<D>,
+    session: Session,
+    stream: u16,
+    largest: u32,
+) -> (Session, Option<Refusal>)
+    requires { IsOf log.now session }
+    ensures { IsOf log.now result.0 }
+{
+    cause_of_new::<Brand, Brand, D, W>(
+        rt,
+        alloc,
+        log,
+        session,
+        stream,
+        largest,
+        Blank::new(1),
+        Blank::new(1),
+    )
+}
+
 // Makes as many areas as a client can have.
 fn make_sixteen<D: Disk, W: Wait>(rt: &W, log: &SharedLog<D>, session: &mut Session)
     requires { IsOf log.now session.old }
@@ -56,108 +80,106 @@ fn make_sixteen<D: Disk, W: Wait>(rt: &W, log: &SharedLog<D>, session: &mut Sess
     }
 }
 
-#[test]
-fn an_area_is_refused(rt: HostRuntime) -> Result<(), Fail> {
-    let alloc = rt.alloc();
-    let Ok((log, sessions)) = SharedLog::start(alloc, new_log(alloc, 4)?, &[3]) else {
-        return Err("no log was shared".into());
-    };
-    let mut session = session_of(&log, sessions);
-    open_stream(&rt, alloc, &log, &mut session)?;
-    let (session, cause) = cause_of_new::<Brand, Brand, _, _>(
-        &rt,
-        alloc,
-        &log,
-        session,
-        9,
-        960,
-        Blank::new(1),
-        Blank::new(1),
-    );
-    assert!(rt; cause == Some(Refusal::NoSuchStream));
-    let (mut session, cause) = cause_of_new::<Brand, Brand, _, _>(
-        &rt,
-        alloc,
-        &log,
-        session,
-        1,
-        961,
-        Blank::new(1),
-        Blank::new(1),
-    );
-    assert!(rt; cause == Some(Refusal::RecordTooLong { len: 961, max: 960 }));
-    make_sixteen(&rt, &log, &mut session);
-    let (_, cause) = cause_of_new::<Brand, Brand, _, _>(
-        &rt,
-        alloc,
-        &log,
-        session,
-        1,
-        960,
-        Blank::new(1),
-        Blank::new(1),
-    );
-    assert!(rt; cause == Some(Refusal::AreaLimit { count: 16 }));
-    Ok(())
+// The refusals of an area of no stream, of one for records that are too long, and of the seventeenth.
+fn refusals_of_new<D: Disk, W: Wait>(
+    rt: &W,
+    alloc: Global,
+    log: &SharedLog<D>,
+    session: Session,
+) -> [Option<Refusal>; 3]
+    requires { IsOf log.now session }
+{
+    let (session, stream) = refusal_of_new(rt, alloc, log, session, 9, 960);
+    let (mut session, long) = refusal_of_new(rt, alloc, log, session, 1, 961);
+    make_sixteen(rt, log, &mut session);
+    let (_, limit) = refusal_of_new(rt, alloc, log, session, 1, 960);
+    [stream, long, limit]
 }
 
-// The refusals that an area's calls meet in a log of four containers, in the order in which they are asked for.
-fn refusals_of<S: Ledger, R: Ledger, D: Disk, W: Wait>(
+#[test]
+fn an_area_is_refused(rt: HostRuntime) {
+    let Some((log, session, is_opened)) = new_shared(&rt, rt.alloc()) else {
+        panic!(rt; "no log was shared");
+    };
+    assert!(rt; is_opened);
+    let stream = Some(Refusal::NoSuchStream);
+    let long = Some(Refusal::RecordTooLong { len: 961, max: 960 });
+    let limit = Some(Refusal::AreaLimit { count: 16 });
+    assert!(rt; refusals_of_new(&rt, rt.alloc(), &log, session) == [stream, long, limit]);
+}
+
+// Why a record of so many bytes isn't appended, whose undo-next link is this one.
+fn refusal_of_record<S: Ledger, R: Ledger, D: Disk, W: Wait>(
+    rt: &W,
+    alloc: Global,
+    log: &SharedLog<D>,
+    area: &mut AreaState<S, R>,
+    permit: &mut Permit<S, R>,
+    count: usize,
+    undo_next: Lsn,
+) -> Option<Refusal>
+    requires log { IsOf log.now area.old.session }
+    requires count { count ≤ 960 }
+    ensures { IsOf log.now area.new.session }
+{
+    let Ok(mut draft) = zeros(alloc, count) else {
+        return Some(Refusal::NoMemory);
+    };
+    draft.undo_next = undo_next;
+    append(rt, log, area, permit, &draft).err()
+}
+
+// The refusals that an area's calls meet in a log of four containers are these, in the order in which they are asked for.
+fn are_refused<S: Ledger, R: Ledger, D: Disk, W: Wait>(
     rt: &W,
     alloc: Global,
     log: &SharedLog<D>,
     session: Session,
     sectors: Blank,
     records: Blank,
-) -> Result<[Option<Refusal>; 4], Fail>
+) -> Option<bool>
     requires log { IsOf log.now session }
     requires sectors { (sectors.name ≡ S.name) × ((sectors.parts ≡ S.parts) × (S.parts ≡ 1)) }
     requires records { (records.name ≡ R.name) × ((records.parts ≡ R.parts) × (R.parts ≡ 1)) }
 {
-    let Ok((mut area, mut permit)) = AreaState::<S, R>::new(
-        rt, alloc, log, session, 1, 512, 4, 1, sectors, records,
-    ) else {
-        return Err("no area was made".into());
-    };
-    let long_size = area.reserve(rt, log, &mut permit, &sizes_of(alloc, 513, 1)?);
-    let full = area.reserve(rt, log, &mut permit, &sizes_of(alloc, 512, 16)?);
-    if area.reserve(rt, log, &mut permit, &sizes_of(alloc, 512, 4)?) != Ok(8) {
-        return Err("no sectors were reserved".into());
+    let (mut area, mut permit) = make::<S, R, D, W>(
+        rt, alloc, log, session, 512, 1, sectors, records,
+    )?;
+    let long_size = refusal_of_sizes(rt, alloc, log, &mut area, &mut permit, 513, 1);
+    let full = refusal_of_sizes(rt, alloc, log, &mut area, &mut permit, 512, 16);
+    let none = refusal_of_sizes(rt, alloc, log, &mut area, &mut permit, 512, 4);
+    if none.is_some() || permit.sectors() != 8 {
+        return None;
     }
-    let long = area.append(rt, log, &mut permit, &zeros(alloc, 513)?);
-    let mut linked = zeros(alloc, 8)?;
-    linked.undo_next = Lsn::from_parts(1, 0, 0);
-    let link = area.append(rt, log, &mut permit, &linked);
-    Ok([long_size.err(), full.err(), long.err(), link.err()])
+    let first = Lsn::from_parts(1, 0, 0);
+    let long = refusal_of_record(rt, alloc, log, &mut area, &mut permit, 513, Lsn::null());
+    let link = refusal_of_record(rt, alloc, log, &mut area, &mut permit, 8, first);
+    let too_long = Some(Refusal::RecordTooLong { len: 513, max: 512 });
+    let no_room = Some(Refusal::Full {
+        free: 28,
+        reserved: 0,
+        need: 32,
+    });
+    let no_link = Some(Refusal::LinkInvalid { lsn: first });
+    Some(long_size == too_long && full == no_room && long == too_long && link == no_link)
 }
 
 #[test]
-fn lengths_links_and_a_full_log_are_refused(rt: HostRuntime) -> Result<(), Fail> {
+fn lengths_links_and_a_full_log_are_refused(rt: HostRuntime) {
     let alloc = rt.alloc();
-    let Ok((log, sessions)) = SharedLog::start(alloc, new_log(alloc, 4)?, &[3]) else {
-        return Err("no log was shared".into());
+    let Some((log, session, is_opened)) = new_shared(&rt, alloc) else {
+        panic!(rt; "no log was shared");
     };
-    let mut session = session_of(&log, sessions);
-    open_stream(&rt, alloc, &log, &mut session)?;
-    let refusals = refusals_of::<Brand, Brand, _, _>(
+    assert!(rt; is_opened);
+    let are_refused = are_refused::<Brand, Brand, _, _>(
         &rt,
         alloc,
         &log,
         session,
         Blank::new(1),
         Blank::new(1),
-    )?;
-    let long = Some(Refusal::RecordTooLong { len: 513, max: 512 });
-    let full = Some(Refusal::Full {
-        free: 28,
-        reserved: 0,
-        need: 32,
-    });
-    let link = Some(Refusal::LinkInvalid {
-        lsn: Lsn::from_parts(1, 0, 0),
-    });
-    assert!(rt; refusals == [long, full, long, link]);
-    Ok(())
+    );
+    assert!(rt; are_refused == Some(true));
 }
 
 // Why an area of a log of one container gets no sectors.
@@ -168,30 +190,27 @@ fn cause_of_reserve<S: Ledger, R: Ledger, D: Disk, W: Wait>(
     session: Session,
     sectors: Blank,
     records: Blank,
-) -> Result<Option<Refusal>, Fail>
+) -> Option<Refusal>
     requires log { IsOf log.now session }
     requires sectors { (sectors.name ≡ S.name) × ((sectors.parts ≡ S.parts) × (S.parts ≡ 1)) }
     requires records { (records.name ≡ R.name) × ((records.parts ≡ R.parts) × (R.parts ≡ 1)) }
 {
-    let Ok((mut area, mut permit)) = AreaState::<S, R>::new(
-        rt, alloc, log, session, 1, 512, 4, 1, sectors, records,
-    ) else {
-        return Err("no area was made".into());
-    };
-    Ok(
-        area.reserve(rt, log, &mut permit, &sizes_of(alloc, 8, 1)?)
-            .err(),
-    )
+    let (mut area, mut permit) = make::<S, R, D, W>(
+        rt, alloc, log, session, 512, 1, sectors, records,
+    )?;
+    refusal_of_sizes(rt, alloc, log, &mut area, &mut permit, 8, 1)
 }
 
 #[test]
-fn a_log_of_one_container_gives_no_sectors(rt: HostRuntime) -> Result<(), Fail> {
+fn a_log_of_one_container_gives_no_sectors(rt: HostRuntime) {
     let alloc = rt.alloc();
-    let Ok((log, sessions)) = SharedLog::start(alloc, new_log(alloc, 1)?, &[3]) else {
-        return Err("no log was shared".into());
+    let Some(manager) = new_log(alloc, 1) else {
+        panic!(rt; "no log was made");
     };
-    let mut session = session_of(&log, sessions);
-    open_stream(&rt, alloc, &log, &mut session)?;
+    let Some((log, session, is_opened)) = started(&rt, alloc, manager) else {
+        panic!(rt; "no log was shared");
+    };
+    assert!(rt; is_opened);
     let cause = cause_of_reserve::<Brand, Brand, _, _>(
         &rt,
         alloc,
@@ -199,13 +218,30 @@ fn a_log_of_one_container_gives_no_sectors(rt: HostRuntime) -> Result<(), Fail> 
         session,
         Blank::new(1),
         Blank::new(1),
-    )?;
+    );
     assert!(rt; cause == Some(Refusal::NotEnoughContainers { have: 1 }));
-    Ok(())
 }
 
-// An append that flushes meets a fault of the disk, and every later call that the log is broken. The answers of two appends, of a reservation and of
-// giving back, and the session.
+// Why a record of the largest size isn't appended, which is to be flushed.
+fn refusal_of_flush<S: Ledger, R: Ledger, D: Disk, W: Wait>(
+    rt: &W,
+    alloc: Global,
+    log: &SharedLog<D>,
+    area: &mut AreaState<S, R>,
+    permit: &mut Permit<S, R>,
+) -> Option<Refusal>
+    requires { IsOf log.now area.old.session }
+    ensures { IsOf log.now area.new.session }
+{
+    let Ok(mut draft) = zeros(alloc, LENGTH) else {
+        return Some(Refusal::NoMemory);
+    };
+    draft.flush = true;
+    append(rt, log, area, permit, &draft).err()
+}
+
+// An append that flushes meets a fault of the disk, and every later call that the log is broken: an append, a reservation and giving back. Whether it is
+// so, and the session.
 fn over_a_disk_that_fails<S: Ledger, R: Ledger, D: Disk, W: Wait>(
     rt: &W,
     alloc: Global,
@@ -213,78 +249,61 @@ fn over_a_disk_that_fails<S: Ledger, R: Ledger, D: Disk, W: Wait>(
     session: Session,
     sectors: Blank,
     records: Blank,
-) -> Result<(Session, [Option<Refusal>; 4]), Fail>
+) -> Option<(Session, bool)>
     requires log { IsOf log.now session }
     requires sectors { (sectors.name ≡ S.name) × ((sectors.parts ≡ S.parts) × (S.parts ≡ 1)) }
     requires records { (records.name ≡ R.name) × ((records.parts ≡ R.parts) × (R.parts ≡ 1)) }
-    ensures { IfOk result (λ r. IsOf log.now r.0) }
+    ensures { IfSome result (λ r. IsOf log.now r.0) }
 {
-    let Ok((mut area, mut permit)) = AreaState::<S, R>::new(
-        rt, alloc, log, session, 1, 960, 4, 1, sectors, records,
-    ) else {
-        return Err("no area was made".into());
-    };
-    let sizes = sizes_of(alloc, 960, 2)?;
-    if area.reserve(rt, log, &mut permit, &sizes) != Ok(4) {
-        return Err("no sectors were reserved".into());
+    let (mut area, mut permit) = make::<S, R, D, W>(
+        rt, alloc, log, session, 960, 1, sectors, records,
+    )?;
+    let none = refusal_of_sizes(rt, alloc, log, &mut area, &mut permit, 960, 2);
+    if none.is_some() || permit.sectors() != 4 {
+        return None;
     }
-    let mut flushed = zeros(alloc, LENGTH)?;
-    flushed.flush = true;
-    let fault = area.append(rt, log, &mut permit, &flushed).err();
-    let append = area.append(rt, log, &mut permit, &flushed).err();
-    let reserve = area.reserve(rt, log, &mut permit, &sizes).err();
-    let give_back = area.give_back(rt, log, &mut permit).err();
-    Ok((
-        area.end(permit).session,
-        [fault, append, reserve, give_back],
-    ))
+    let fault = refusal_of_flush(rt, alloc, log, &mut area, &mut permit);
+    let append = refusal_of_flush(rt, alloc, log, &mut area, &mut permit);
+    let reserve = refusal_of_sizes(rt, alloc, log, &mut area, &mut permit, 960, 2);
+    let give_back = refusal_of_give_back(rt, log, &mut area, &mut permit);
+    let broken = Some(Refusal::Broken);
+    let are_broken = append == broken && reserve == broken && give_back == broken;
+    let is_right = fault == Some(Refusal::DiskFault) && are_broken;
+    Some((area.end(permit).session, is_right))
 }
 
 // A log over a disk that passes so many calls, from the opening of the log on; none, if the log isn't opened then.
-fn failing_log(alloc: Global, passes: u64) -> Result<Option<Manager<Fuse<Memory>>>, Fail> {
-    let disk = Memory::new(alloc, 64, 65536, &[])?;
-    let Ok(disk) = Manager::format(alloc, disk, SHAPE, 4, false) else {
-        return Err("no log was made".into());
-    };
-    Ok(Manager::load(alloc, Fuse::new(disk, passes), 4).ok())
+fn failing_log(alloc: Global, passes: u64) -> Option<Manager<Fuse<Memory>>> {
+    let disk = Memory::new(alloc, 64, 65536, &[]).ok()?;
+    let disk = Manager::format(alloc, disk, SHAPE, 4, false).ok()?;
+    Manager::load(alloc, Fuse::new(disk, passes), 4).ok()
+}
+
+// It is so over a disk that passes so many calls, and no other area is made then. None where the log isn't opened, or its stream isn't.
+fn is_broken<W: Wait>(rt: &W, alloc: Global, passes: u64) -> Option<bool> {
+    let (log, session, is_opened) = started(rt, alloc, failing_log(alloc, passes)?)?;
+    if !is_opened {
+        return None;
+    }
+    let (session, is_right) = over_a_disk_that_fails::<Brand, Brand, Fuse<Memory>, W>(
+        rt,
+        alloc,
+        &log,
+        session,
+        Blank::new(1),
+        Blank::new(1),
+    )?;
+    let (_, cause) = refusal_of_new(rt, alloc, &log, session, 1, 960);
+    Some(is_right && cause == Some(Refusal::Broken))
 }
 
 #[test]
-fn a_disk_that_fails_breaks_the_log(rt: HostRuntime) -> Result<(), Fail> {
-    let alloc = rt.alloc();
+fn a_disk_that_fails_breaks_the_log(rt: HostRuntime) {
     for passes in 1..64 {
-        let Some(manager) = failing_log(alloc, passes)? else {
-            continue;
-        };
-        let Ok((log, sessions)) = SharedLog::start(alloc, manager, &[3]) else {
-            return Err("no log was shared".into());
-        };
-        let mut session = session_of(&log, sessions);
-        if !has_opened(&rt, alloc, &log, &mut session)? {
-            continue;
+        if let Some(is_right) = is_broken(&rt, rt.alloc(), passes) {
+            assert!(rt; is_right);
+            return;
         }
-        let (session, answers) = over_a_disk_that_fails::<Brand, Brand, _, _>(
-            &rt,
-            alloc,
-            &log,
-            session,
-            Blank::new(1),
-            Blank::new(1),
-        )?;
-        let broken = Some(Refusal::Broken);
-        assert!(rt; answers == [Some(Refusal::DiskFault), broken, broken, broken]);
-        let (_, cause) = cause_of_new::<Brand, Brand, _, _>(
-            &rt,
-            alloc,
-            &log,
-            session,
-            1,
-            960,
-            Blank::new(1),
-            Blank::new(1),
-        );
-        assert!(rt; cause == broken);
-        return Ok(());
     }
-    Err("the disk never failed in an append".into())
+    panic!(rt; "the disk never failed in an append");
 }

@@ -1,15 +1,18 @@
-// What the tests begin with: a log with one stream, shared among clients, and areas of it.
-ghost use Rattle.std.specs.Prelude.{◌≡◌, ◌<◌, ◌≤◌, ◌^◌, [], ◌∷◌, length, vec_len, All, IfOk};
+// What the tests begin with: a log with one stream, shared among clients, and areas of it. Where memory or a call fails that shouldn't, there is None.
+// The calls of an area say here what a test needs to make the next one, and no more.
+ghost use Rattle.std.specs.Prelude.{◌≡◌, ◌<◌, ◌≤◌, ◌^◌, [], ◌∷◌, length, vec_len, All, IfOk, IfSome};
+ghost use Rattle.clfs_model.specs.Conditions.{HasArguments};
 ghost use Rattle.clfs_shared.specs.Sessions.{IsOf};
 
+use clfs_area::{AreaState, Permit};
 use clfs_disk::{Disk, Memory};
 use clfs_lsn::{Bytes, Lsn, Name, Shape, Sizes};
 use clfs_manager::Manager;
-use clfs_model::{Call, Draft, Reply};
+use clfs_model::{Call, Draft, Refusal, Reply};
 use clfs_shared::{Session, SharedLog};
-use std::alloc::Global;
+use std::alloc::{AllocError, Global};
 use std::sync::Wait;
-use std::test::Fail;
+use std::sync::ledger::{Blank, Ledger};
 
 /// Blocks of two sectors, in containers of eight.
 pub(crate) const SHAPE: Shape = Shape {
@@ -21,17 +24,12 @@ pub(crate) const SHAPE: Shape = Shape {
 pub(crate) const LENGTH: usize = 960;
 
 /// A new log of so many containers, opened over a disk in memory.
-pub(crate) fn new_log(alloc: Global, containers: u32) -> Result<Manager<Memory>, Fail>
+pub(crate) fn new_log(alloc: Global, containers: u32) -> Option<Manager<Memory>>
     requires { (1 ≤ containers) × (containers ≤ 256) }
 {
-    let disk = Memory::new(alloc, 64, 65536, &[])?;
-    let Ok(disk) = Manager::format(alloc, disk, SHAPE, containers, false) else {
-        return Err("no log was made".into());
-    };
-    match Manager::load(alloc, disk, 4) {
-        Ok(manager) => Ok(manager),
-        Err(_) => Err("the log wasn't opened".into()),
-    }
+    let disk = Memory::new(alloc, 64, 65536, &[]).ok()?;
+    let disk = Manager::format(alloc, disk, SHAPE, containers, false).ok()?;
+    Manager::load(alloc, disk, 4).ok()
 }
 
 // The session of a list that has one.
@@ -73,43 +71,61 @@ pub(crate) fn sessions_of<D: Disk>(log: &SharedLog<D>, sessions: Vec<Session>) -
     pair_of(sessions)
 }
 
+// The call that opens the stream `a`.
+fn opening(alloc: Global) -> Result<Call, AllocError>
+    ensures { IfOk result (λ call. HasArguments call) }
+{
+    let mut name = Vec::new(alloc);
+    name.push(b'a')?;
+    Ok(Call::OpenStream {
+        name: Name::from_vec(name),
+    })
+}
+
 /// Opens the stream `a`, and answers whether it has the number 1.
 pub(crate) fn has_opened<D: Disk, W: Wait>(
     rt: &W,
     alloc: Global,
     log: &SharedLog<D>,
     session: &mut Session,
-) -> Result<bool, Fail>
+) -> bool
     requires { IsOf log.now session.old }
     ensures { IsOf log.now session.new }
 {
-    let mut name = Vec::new(alloc);
-    name.push(b'a')?;
-    let call = Call::OpenStream {
-        name: Name::from_vec(name),
+    let Ok(call) = opening(alloc) else {
+        return false;
     };
-    Ok(matches!(log.step(rt, session, &call), Reply::Stream(1)))
+    matches!(log.step(rt, session, &call), Reply::Stream(1))
 }
 
-/// Opens the stream `a`, which has the number 1.
-pub(crate) fn open_stream<D: Disk, W: Wait>(
+/// A log that is shared by one client, and whether that one has opened the stream `a`.
+pub(crate) fn started<D: Disk + Drop, W: Wait>(
     rt: &W,
     alloc: Global,
-    log: &SharedLog<D>,
-    session: &mut Session,
-) -> Result<(), Fail>
-    requires { IsOf log.now session.old }
-    ensures { IsOf log.now session.new }
+    manager: Manager<D>,
+) -> Option<(SharedLog<D>, Session, bool)>
+    ensures { IfSome result (λ made. IsOf made.0 made.1) }
 {
-    if has_opened(rt, alloc, log, session)? {
-        Ok(())
-    } else {
-        Err("no stream was opened".into())
-    }
+    let Ok((log, sessions)) = SharedLog::start(alloc, manager, &[3]) else {
+        return None;
+    };
+    let mut session = session_of(&log, sessions);
+    let is_opened = has_opened(rt, alloc, &log, &mut session);
+    Some((log, session, is_opened))
+}
+
+/// A new log of four containers that is shared so.
+pub(crate) fn new_shared<W: Wait>(
+    rt: &W,
+    alloc: Global,
+) -> Option<(SharedLog<Memory>, Session, bool)>
+    ensures { IfSome result (λ made. IsOf made.0 made.1) }
+{
+    started(rt, alloc, new_log(alloc, 4)?)
 }
 
 /// So many lengths, all the same.
-pub(crate) fn sizes_of(alloc: Global, length: u32, count: usize) -> Result<Sizes, Fail>
+pub(crate) fn sizes_of(alloc: Global, length: u32, count: usize) -> Result<Sizes, AllocError>
     requires { count ≤ 16 }
 {
     let mut lengths = Vec::new(alloc);
@@ -118,7 +134,7 @@ pub(crate) fn sizes_of(alloc: Global, length: u32, count: usize) -> Result<Sizes
 }
 
 /// A record of so many zeros, with no links.
-pub(crate) fn zeros(alloc: Global, count: usize) -> Result<Draft, Fail>
+pub(crate) fn zeros(alloc: Global, count: usize) -> Result<Draft, AllocError>
     requires { count < 2 ^ 32 }
     ensures { IfOk result (λ draft. length draft.bytes < 2 ^ 32) }
 {
@@ -131,4 +147,77 @@ pub(crate) fn zeros(alloc: Global, count: usize) -> Result<Draft, Fail>
         seal: false,
         flush: false,
     })
+}
+
+/// An area with a permit of so many parts, which has no sectors yet.
+pub(crate) fn make<S: Ledger, R: Ledger, D: Disk, W: Wait>(
+    rt: &W,
+    alloc: Global,
+    log: &SharedLog<D>,
+    session: Session,
+    largest: u32,
+    parts: u32,
+    sectors: Blank,
+    records: Blank,
+) -> Option<(AreaState<S, R>, Permit<S, R>)>
+    requires log { IsOf log.now session }
+    requires parts { 0 < parts }
+    requires sectors { (sectors.name ≡ S.name) × ((sectors.parts ≡ S.parts) × (S.parts ≡ parts)) }
+    requires records { (records.name ≡ R.name) × ((records.parts ≡ R.parts) × (R.parts ≡ parts)) }
+    ensures { IfSome result (λ made. IsOf log.now made.0.session) }
+{
+    match AreaState::<S, R>::new(
+        rt, alloc, log, session, 1, largest, 4, parts, sectors, records,
+    ) {
+        Ok((area, permit)) => Some((area, permit)),
+        Err(_) => None,
+    }
+}
+
+/// Why a permit gets no sectors for so many records of these lengths.
+pub(crate) fn refusal_of_sizes<S: Ledger, R: Ledger, D: Disk, W: Wait>(
+    rt: &W,
+    alloc: Global,
+    log: &SharedLog<D>,
+    area: &mut AreaState<S, R>,
+    permit: &mut Permit<S, R>,
+    length: u32,
+    count: usize,
+) -> Option<Refusal>
+    requires log { IsOf log.now area.old.session }
+    requires count { count ≤ 16 }
+    ensures { IsOf log.now area.new.session }
+{
+    let Ok(sizes) = sizes_of(alloc, length, count) else {
+        return Some(Refusal::NoMemory);
+    };
+    area.reserve(rt, log, permit, &sizes).err()
+}
+
+/// What an append by a permit is answered.
+pub(crate) fn append<S: Ledger, R: Ledger, D: Disk, W: Wait>(
+    rt: &W,
+    log: &SharedLog<D>,
+    area: &mut AreaState<S, R>,
+    permit: &mut Permit<S, R>,
+    draft: &Draft,
+) -> Result<Lsn, Refusal>
+    requires log { IsOf log.now area.old.session }
+    requires bytes { length draft.now.bytes < 2 ^ 32 }
+    ensures { IsOf log.now area.new.session }
+{
+    area.append(rt, log, permit, draft)
+}
+
+/// Why the sectors of a permit aren't given back.
+pub(crate) fn refusal_of_give_back<S: Ledger, R: Ledger, D: Disk, W: Wait>(
+    rt: &W,
+    log: &SharedLog<D>,
+    area: &mut AreaState<S, R>,
+    permit: &mut Permit<S, R>,
+) -> Option<Refusal>
+    requires { IsOf log.now area.old.session }
+    ensures { IsOf log.now area.new.session }
+{
+    area.give_back(rt, log, permit).err()
 }

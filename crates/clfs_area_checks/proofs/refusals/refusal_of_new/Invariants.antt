@@ -1,4 +1,4 @@
-use Rattle.clfs_area_checks.proofs.refusals.an_area_is_refused.Given as goal
+use Rattle.clfs_area_checks.proofs.refusals.refusal_of_new.Given as goal
 
 abbrev pub ghosts-cause_of_new-S-Ledger : goal.ghosts-cause_of_new-S-Ledger
 ghosts-cause_of_new-S-Ledger g a = record { name = a.sectors.name; parts = a.sectors.parts }
