@@ -1,9 +1,10 @@
 //! Tests of the whole log by scripts through the program's commands.
 //!
 //! The crate has no function of its own. Its tests make public calls alone, so the commands aren't proved a second time for
-//! them. Scripts and their replies are in `engine`, those at the limits of a log and over disks that fail in
-//! `worked`, clients at the same time in `race`, generated lines in `trial`, threads with permits in `crew`, and what is left behind a
-//! crash in `crashes`. `damage` judges logs whose files were changed, and `faults` lets each call of the disk, the source and the sink fail in turn.
+//! them. `runs` makes one run of the program, and `watched` is a disk that counts its calls. Scripts and their replies are in `engine`,
+//! those at the limits of a log and over disks that fail in `worked`, clients at the same time in `race`, generated lines in `trial`,
+//! threads with permits in `crew`, and what is left behind a crash in `crashes`. `damage` judges logs whose files were changed, and
+//! `faults` lets each call of the disk, the source and the sink fail in turn.
 #![tactic(auto)]
 
 #[cfg(test)]
@@ -19,6 +20,10 @@ mod faults;
 #[cfg(test)]
 mod race;
 #[cfg(test)]
+mod runs;
+#[cfg(test)]
 mod trial;
+#[cfg(test)]
+mod watched;
 #[cfg(test)]
 mod worked;
