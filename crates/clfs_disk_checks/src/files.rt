@@ -2,9 +2,7 @@ use clfs_disk::Disk;
 use clfs_files::{Folder, ReaderSource, WriterSink};
 use clfs_ports::{Sink, Source};
 use std::fs::{self, File};
-use std::process::{self, Abort};
-use std::test::Fail;
-use std::{env, io};
+use std::{env, io, process};
 
 // A path of this test's own, at which nothing is.
 fn own_path(rt: &HostRuntime, name: &str) -> io::Result<String> {
@@ -69,10 +67,13 @@ fn goes(disk: &mut Folder, step: &Step) -> bool {
     }
 }
 
-fn all_go(rt: &impl Abort, disk: &mut Folder, steps: &[Step]) {
+fn all_go(disk: &mut Folder, steps: &[Step]) -> bool {
     for step in steps {
-        assert!(rt; goes(disk, step));
+        if !goes(disk, step) {
+            return false;
+        }
     }
+    true
 }
 
 // Nothing is there, and only a growth makes something. A write within a file's length is done, and no other.
@@ -112,75 +113,91 @@ const ALL_FAIL: &[Step] = &[
     Step::Fails(Done::Sync),
 ];
 
+// Each step goes in a folder behind a path, of which these bytes more are taken as its name.
+fn run(rt: &HostRuntime, path: &str, more: &str, steps: &[Step]) -> io::Result<bool> {
+    let mut disk = folder(rt, path, more)?;
+    is_send(&disk);
+    Ok(all_go(&mut disk, steps))
+}
+
+// The length of a file, if it is there.
+fn length_of(rt: &HostRuntime, path: &str, name: &str) -> io::Result<Option<u64>> {
+    match fs::metadata(rt, &format!(in rt.alloc(); "{path}{name}")?) {
+        Ok(found) => Ok(Some(found.len())),
+        Err(_) => Ok(None),
+    }
+}
+
+// The files' names are these, and no other is there.
+const LENGTHS: [(&str, Option<u64>); 3] = [
+    ("/base", Some(3_000_000)),
+    ("/c256", Some(9)),
+    ("/c1", None),
+];
+
 #[test]
-fn a_folder_keeps_its_files(rt: HostRuntime) -> Result<(), Fail> {
+fn a_folder_keeps_its_files(rt: HostRuntime) -> io::Result<()> {
     let path = own_path(&rt, "keeps")?;
-    for steps in [FIRST_RUN, SECOND_RUN] {
-        let mut disk = folder(&rt, &path, "")?;
-        is_send(&disk);
-        all_go(&rt, &mut disk, steps);
+    assert!(rt; run(&rt, &path, "", FIRST_RUN)?);
+    assert!(rt; run(&rt, &path, "", SECOND_RUN)?);
+    for (name, want) in LENGTHS {
+        assert!(rt; length_of(&rt, &path, name)? == want);
     }
-    // Their names are these, and no other is there.
-    let inner = [
-        ("/base", Some(3_000_000)),
-        ("/c256", Some(9)),
-        ("/c1", None),
-    ];
-    for (name, want) in inner {
-        let found = fs::metadata(&rt, &format!(in rt.alloc(); "{path}{name}")?);
-        assert_eq!(rt; found.ok().map(|found| found.len()), want);
-    }
-    fs::remove_dir_all(&rt, &path)?;
-    Ok(())
+    fs::remove_dir_all(&rt, &path)
+}
+
+// Of two, who comes second fails in every call and can say why; the first goes on.
+fn second_fails(first: &mut Folder, second: &mut Folder) -> bool {
+    all_go(first, FIRST_RUN)
+        && all_go(second, ALL_FAIL)
+        && second.is_taken()
+        && all_go(first, SECOND_RUN)
+        && !first.is_taken()
+}
+
+fn one_is_locked(rt: &HostRuntime, path: &str) -> io::Result<bool> {
+    let mut first = folder(rt, path, "")?;
+    let mut second = folder(rt, path, "")?;
+    Ok(second_fails(&mut first, &mut second))
+}
+
+// A folder below what isn't there can't be made.
+fn is_made_below_nothing(rt: &HostRuntime, path: &str) -> io::Result<bool> {
+    Ok(does(&mut folder(rt, path, "/no/log")?, Done::Grow(0, 8)))
 }
 
 #[test]
-fn a_folder_is_locked(rt: HostRuntime) -> Result<(), Fail> {
+fn a_folder_is_locked(rt: HostRuntime) -> io::Result<()> {
     let path = own_path(&rt, "locked")?;
-    // Of two, who comes second fails in every call and can say why; the first goes on.
-    let mut first = folder(&rt, &path, "")?;
-    let mut second = folder(&rt, &path, "")?;
-    all_go(&rt, &mut first, FIRST_RUN);
-    all_go(&rt, &mut second, ALL_FAIL);
-    assert!(rt; second.is_taken());
-    all_go(&rt, &mut first, SECOND_RUN);
-    assert!(rt; !first.is_taken());
-    drop(first);
+    assert!(rt; one_is_locked(&rt, &path)?);
     // A folder that was let go can be had again. What is no folder can't, nor can one be made below what isn't there.
-    for (more, steps) in [("", SECOND_RUN), ("/base", ALL_FAIL)] {
-        all_go(&rt, &mut folder(&rt, &path, more)?, steps);
-    }
-    assert!(rt; !does(&mut folder(&rt, &path, "/no/log")?, Done::Grow(0, 8)));
-    fs::remove_dir_all(&rt, &path)?;
-    Ok(())
+    assert!(rt; run(&rt, &path, "", SECOND_RUN)?);
+    assert!(rt; run(&rt, &path, "/base", ALL_FAIL)?);
+    assert!(rt; !is_made_below_nothing(&rt, &path)?);
+    fs::remove_dir_all(&rt, &path)
+}
+
+// How many bytes a file takes that is opened by this.
+fn written(file: File) -> Option<usize> {
+    WriterSink::new(file).write(b"abc").ok()
+}
+
+// The bytes that two reads give, and how many.
+fn read(file: File) -> Option<([u8; 3], usize, usize)> {
+    let mut out = [0u8; 8];
+    let mut source = ReaderSource::new(file);
+    let first = source.read(&mut out).ok()?;
+    let second = source.read(&mut out[4..]).ok()?;
+    Some(([out[0], out[1], out[2]], first, second))
 }
 
 #[test]
-fn streams_pass_bytes_on(rt: HostRuntime) -> Result<(), Fail> {
+fn streams_pass_bytes_on(rt: HostRuntime) -> io::Result<()> {
     let path = own_path(&rt, "streams")?;
-    let mut out = [0u8; 8];
-    assert_eq!(rt;
-        WriterSink::new(File::create(&rt, &path)?)
-            .write(b"abc")
-            .ok(),
-        Some(3)
-    );
-    let mut source = ReaderSource::new(File::open(&rt, &path)?);
-    for want in [3, 0] {
-        assert_eq!(rt; source.read(&mut out).ok(), Some(want));
-    }
-    assert_eq!(rt; &out[..3], b"abc".as_slice());
+    assert!(rt; written(File::create(&rt, &path)?) == Some(3));
+    assert!(rt; read(File::open(&rt, &path)?) == Some((*b"abc", 3, 0)));
     // What isn't open for it fails.
-    assert!(rt;
-        WriterSink::new(File::open(&rt, &path)?)
-            .write(b"d")
-            .is_err()
-    );
-    assert!(rt;
-        ReaderSource::new(File::create(&rt, &path)?)
-            .read(&mut out)
-            .is_err()
-    );
-    fs::remove_file(&rt, &path)?;
-    Ok(())
+    assert!(rt; written(File::open(&rt, &path)?).is_none());
+    assert!(rt; read(File::create(&rt, &path)?).is_none());
+    fs::remove_file(&rt, &path)
 }

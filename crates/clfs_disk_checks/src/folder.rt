@@ -3,9 +3,7 @@ use clfs_disk::Disk;
 use clfs_files::Folder;
 use std::fs::{self, File};
 use std::os::unix::fs::{MetadataExt, symlink};
-use std::process::{self, Abort};
-use std::test::Fail;
-use std::{env, io};
+use std::{env, io, process};
 
 // A path of this test's own, at which nothing is.
 fn own_path(rt: &HostRuntime, name: &str) -> io::Result<String> {
@@ -26,12 +24,11 @@ fn disk_at(rt: &HostRuntime, path: &str) -> io::Result<Folder> {
 }
 
 // A folder with two files of eight bytes, of which the first begins with these.
-fn make_log(rt: &impl Abort, disk: &mut Folder, bytes: &[u8]) {
-    for file in 0..2 {
-        assert!(rt; disk.grow(file, 8).is_ok());
-    }
-    assert!(rt; disk.write(0, 0, bytes).is_ok());
-    assert!(rt; disk.sync().is_ok());
+fn is_made(disk: &mut Folder, bytes: &[u8]) -> bool {
+    disk.grow(0, 8).is_ok()
+        && disk.grow(1, 8).is_ok()
+        && disk.write(0, 0, bytes).is_ok()
+        && disk.sync().is_ok()
 }
 
 // What file 0 begins with, if it can be read.
@@ -80,46 +77,76 @@ fn replace_file(rt: &HostRuntime, path: &str, how: Replacement) -> io::Result<()
     }
 }
 
+fn is_made_at(rt: &HostRuntime, path: &str) -> io::Result<bool> {
+    Ok(is_made(&mut disk_at(rt, path)?, b"abc"))
+}
+
+// No call of a folder is done.
+fn fails(rt: &HostRuntime, path: &str) -> io::Result<bool> {
+    let mut disk = disk_at(rt, path)?;
+    Ok(
+        first_bytes(&mut disk).is_none()
+            && disk.write(0, 0, b"xyz").is_err()
+            && disk.sync().is_err(),
+    )
+}
+
+// The file 0 has its bytes still.
+fn is_unchanged(rt: &HostRuntime, path: &str) -> io::Result<bool> {
+    let base = fs::read(rt, &below(rt, path, "base")?)?;
+    Ok(base.as_slice() == b"abc\0\0\0\0\0".as_slice())
+}
+
+// A folder with such a file is taken by no call, and keeps its bytes.
+fn is_refused(rt: &HostRuntime, how: Replacement) -> io::Result<bool> {
+    let path = own_path(rt, "names")?;
+    let is_made = is_made_at(rt, &path)?;
+    replace_file(rt, &path, how)?;
+    let is_refused = is_made && fails(rt, &path)? && is_unchanged(rt, &path)?;
+    fs::remove_dir_all(rt, &path)?;
+    Ok(is_refused)
+}
+
 #[test]
-fn each_file_has_one_name(rt: HostRuntime) -> Result<(), Fail> {
+fn each_file_has_one_name(rt: HostRuntime) -> io::Result<()> {
     for how in REPLACEMENTS {
-        let path = own_path(&rt, "names")?;
-        make_log(&rt, &mut disk_at(&rt, &path)?, b"abc");
-        replace_file(&rt, &path, *how)?;
-        let mut disk = disk_at(&rt, &path)?;
-        assert_eq!(rt; first_bytes(&mut disk), None);
-        assert!(rt; disk.write(0, 0, b"xyz").is_err());
-        assert!(rt; disk.sync().is_err());
-        let base = fs::read(&rt, &below(&rt, &path, "base")?)?;
-        assert_eq!(rt; base.as_slice(), b"abc\0\0\0\0\0".as_slice());
-        fs::remove_dir_all(&rt, &path)?;
+        assert!(rt; is_refused(&rt, *how)?);
     }
     Ok(())
 }
 
-// The number by which the system knows a file of the folder.
-fn number_of(rt: &HostRuntime, path: &str, name: &str) -> io::Result<u64> {
-    Ok(fs::metadata(rt, &below(rt, path, name)?)?.ino())
+// The number by which the system knows file 0 of the folder.
+fn number_of(rt: &HostRuntime, path: &str) -> io::Result<u64> {
+    Ok(fs::metadata(rt, &below(rt, path, "base")?)?.ino())
+}
+
+// Opens the folder: whether it has the same bytes, and whether they are in the same file.
+fn is_same(rt: &HostRuntime, path: &str) -> io::Result<(bool, bool)> {
+    let before = number_of(rt, path)?;
+    let bytes = first_bytes(&mut disk_at(rt, path)?);
+    Ok((bytes == Some(*b"abc"), number_of(rt, path)? == before))
+}
+
+// The mark of a failed sync, and what an opening left that was cut short.
+fn mark(rt: &HostRuntime, path: &str) -> io::Result<()> {
+    File::create(rt, &below(rt, path, "unsynced")?)?;
+    fs::write(rt, &below(rt, path, "unsynced-copy")?, "left")
+}
+
+fn is_unmarked(rt: &HostRuntime, path: &str) -> io::Result<bool> {
+    let is_marked = fs::exists(rt, &below(rt, path, "unsynced")?)?;
+    Ok(!is_marked && !fs::exists(rt, &below(rt, path, "unsynced-copy")?)?)
 }
 
 #[test]
-fn files_behind_a_failed_sync_are_copied(rt: HostRuntime) -> Result<(), Fail> {
+fn files_behind_a_failed_sync_are_copied(rt: HostRuntime) -> io::Result<()> {
     let path = own_path(&rt, "unsynced")?;
-    make_log(&rt, &mut disk_at(&rt, &path)?, b"abc");
-    let before = number_of(&rt, &path, "base")?;
+    assert!(rt; is_made_at(&rt, &path)?);
     // Without a mark the files stay which they are.
-    assert_eq!(rt; first_bytes(&mut disk_at(&rt, &path)?), Some(*b"abc"));
-    assert_eq!(rt; number_of(&rt, &path, "base")?, before);
-    // With one, and with what an opening left that was cut short, they are others with the same bytes, and both are gone.
-    let mark = below(&rt, &path, "unsynced")?;
-    let copy = below(&rt, &path, "unsynced-copy")?;
-    File::create(&rt, &mark)?;
-    fs::write(&rt, &copy, "left")?;
-    assert_eq!(rt; first_bytes(&mut disk_at(&rt, &path)?), Some(*b"abc"));
-    assert_ne!(rt; number_of(&rt, &path, "base")?, before);
-    for gone in [&mark, &copy] {
-        assert!(rt; !fs::exists(&rt, gone)?);
-    }
-    fs::remove_dir_all(&rt, &path)?;
-    Ok(())
+    assert!(rt; is_same(&rt, &path)? == (true, true));
+    // With one they are others with the same bytes, and it is gone.
+    mark(&rt, &path)?;
+    assert!(rt; is_same(&rt, &path)? == (true, false));
+    assert!(rt; is_unmarked(&rt, &path)?);
+    fs::remove_dir_all(&rt, &path)
 }

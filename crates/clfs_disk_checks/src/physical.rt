@@ -5,7 +5,6 @@ use clfs_base::read_newest;
 use clfs_disk::{Disk, Fuse, Memory};
 use clfs_physical::Physical;
 use std::alloc::Global;
-use std::test::Fail;
 
 // The bytes of a slot of the first version that aren't 0, of a log with blocks of 2 sectors and 2 containers of 8, both of them listed, in files 1
 // and 2: those up to byte 23, and those from byte 64 on.
@@ -19,20 +18,20 @@ const FILES: [u8; 4] = [1, 0, 2, 0];
 const OPEN: [u8; 3] = [0xA5, 1, 1];
 
 // A disk with such a log. Each sector of both containers has an open gate of an earlier use, but for the first of container 2.
-fn disk_of_a_log(alloc: Global) -> Result<Memory, Fail> {
-    let mut disk = Memory::new(alloc, 100, 200_000, &[])?;
-    disk.grow(0, 32768)?;
-    disk.write(0, 0, &FRONT)?;
-    disk.write(0, 64, &FILES)?;
+fn disk_of_a_log(alloc: Global) -> Option<Memory> {
+    let mut disk = Memory::new(alloc, 100, 200_000, &[]).ok()?;
+    disk.grow(0, 32768).ok()?;
+    disk.write(0, 0, &FRONT).ok()?;
+    disk.write(0, 64, &FILES).ok()?;
     for file in 1..3 {
-        disk.grow(file, 4096)?;
+        disk.grow(file, 4096).ok()?;
         for sector in 0..8 {
-            disk.write(file, 512 * sector, &OPEN)?;
+            disk.write(file, 512 * sector, &OPEN).ok()?;
         }
     }
-    disk.write(2, 0, &[0])?;
-    disk.sync()?;
-    Ok(disk)
+    disk.write(2, 0, &[0]).ok()?;
+    disk.sync().ok()?;
+    Some(disk)
 }
 
 // Three blocks of one sector, all but the gate of the first, and a closed gate behind them.
@@ -47,7 +46,7 @@ fn group() -> [u8; 1536] {
 }
 
 // What is written.
-#[derive(Clone, Copy, Debug)]
+#[derive(Clone, Copy)]
 enum Writing {
     Group,
     Turn,
@@ -91,36 +90,30 @@ fn is_written<D: Disk>(writing: Writing, physical: &mut Physical, disk: &mut D) 
 }
 
 // How many open blocks of one sector a file has.
-fn open_blocks(disk: &mut Memory, file: u16) -> Result<u64, Fail> {
+fn open_blocks(disk: &mut Memory, file: u16) -> Option<u64> {
+    if file > 256 {
+        return None;
+    }
     for sector in 0..8 {
         let mut head = [0; 3];
-        if file > 256 {
-            return Err("no such file".into());
-        }
-        let found = disk.read(file, 512 * sector, &mut head)?;
+        let found = disk.read(file, 512 * sector, &mut head).ok()?;
         if found < 3 || head[0] != 0xA5 || head[2] != 1 {
-            return Ok(sector);
+            return Some(sector);
         }
     }
-    Ok(8)
+    Some(8)
 }
 
 // What a crash left: the slot of the newest copy, its version, how many containers it counts and lists, the last file, and its open blocks.
 type Left = (u32, u8, u16, usize, u16, u64);
 
-fn left_in(alloc: Global, disk: &mut Memory) -> Result<Left, Fail> {
-    let (slot, image) = read_newest(alloc, disk)?;
+fn left_in(alloc: Global, disk: &mut Memory) -> Option<Left> {
+    let (slot, image) = read_newest(alloc, disk).ok()?;
     let files = image.files.as_slice();
-    let last = *files.last().ok_or("a listed file")?;
+    let last = *files.last()?;
     let count = files.len();
-    Ok((
-        slot,
-        image.version,
-        image.containers,
-        count,
-        last,
-        open_blocks(disk, last)?,
-    ))
+    let blocks = open_blocks(disk, last)?;
+    Some((slot, image.version, image.containers, count, last, blocks))
 }
 
 // Whether a crash after so many calls leaves what the call of this number wrote.
@@ -144,56 +137,70 @@ fn parts_left(gates: [u64; 3], passes: u64, pick: u8) -> usize
     3
 }
 
+// The physical layer of the log on a disk.
+fn physical_of(alloc: Global, disk: &mut Memory) -> Option<Physical> {
+    let (slot, image) = read_newest(alloc, disk).ok()?;
+    Physical::new(alloc, slot, image).ok()
+}
+
+// Whether something is written on a disk that passes so many calls, and what a crash leaves then.
+fn left_by(alloc: Global, writing: Writing, passes: u64, pick: u8) -> Option<(bool, Left)>
+    requires { pick ≤ 2 }
+{
+    let mut disk = disk_of_a_log(alloc)?;
+    let mut physical = physical_of(alloc, &mut disk)?;
+    let mut fuse = Fuse::new(disk, passes);
+    let done = is_written(writing, &mut physical, &mut fuse);
+    let mut left = fuse.into_inner().crash(pick);
+    Some((done, left_in(alloc, &mut left)?))
+}
+
+const NONE: u64 = u64::MAX;
+
+const OLD: Left = (0, 1, 2, 2, 2, 0);
+
+const GROUPED: Left = (0, 1, 2, 2, 2, 3);
+
+// What is written; its calls of the disk; the calls that write a gate by which a part counts; what is left before and after each.
+const TABLE: [(Writing, u64, [u64; 3], [Left; 4]); 4] = [
+    (
+        Writing::Group,
+        4,
+        [3, NONE, NONE],
+        [OLD, GROUPED, GROUPED, GROUPED],
+    ),
+    (
+        Writing::Turn,
+        18,
+        [3, 8, 17],
+        [OLD, GROUPED, (1, 2, 2, 1, 2, 3), (0, 2, 2, 2, 1, 0)],
+    ),
+    (
+        Writing::Copy,
+        5,
+        [4, NONE, NONE],
+        [OLD, (1, 2, 2, 1, 2, 0), OLD, OLD],
+    ),
+    (
+        Writing::Growth,
+        8,
+        [7, NONE, NONE],
+        [OLD, (1, 2, 4, 2, 2, 0), OLD, OLD],
+    ),
+];
+
 #[test]
-fn a_crash_leaves_each_part_whole_or_not_at_all(rt: HostRuntime) -> Result<(), Fail> {
-    let alloc = rt.alloc();
-    // what is written; its calls of the disk; the calls that write a gate by which a part counts; what is left before and after each
-    let none = u64::MAX;
-    let old = (0, 1, 2, 2, 2, 0);
-    let grouped = (0, 1, 2, 2, 2, 3);
-    let table = [
-        (
-            Writing::Group,
-            4,
-            [3, none, none],
-            [old, grouped, grouped, grouped],
-        ),
-        (
-            Writing::Turn,
-            18,
-            [3, 8, 17],
-            [old, grouped, (1, 2, 2, 1, 2, 3), (0, 2, 2, 2, 1, 0)],
-        ),
-        (
-            Writing::Copy,
-            5,
-            [4, none, none],
-            [old, (1, 2, 2, 1, 2, 0), old, old],
-        ),
-        (
-            Writing::Growth,
-            8,
-            [7, none, none],
-            [old, (1, 2, 4, 2, 2, 0), old, old],
-        ),
-    ];
-    for (writing, calls, gates, wanted) in table {
-        for passes in 0..calls + 2 {
+fn a_crash_leaves_each_part_whole_or_not_at_all(rt: HostRuntime) {
+    for (writing, calls, gates, wanted) in TABLE {
+        for passes in 0..calls.saturating_add(2) {
             for pick in 0..3 {
-                let mut disk = disk_of_a_log(alloc)?;
-                let (slot, image) = read_newest(alloc, &mut disk)?;
-                let mut physical = Physical::new(alloc, slot, image)?;
-                let mut fuse = Fuse::new(disk, passes);
-                let done = is_written(writing, &mut physical, &mut fuse);
-                assert_eq!(rt; done, passes >= calls, "{writing:?} after {passes} calls");
                 let parts = parts_left(gates, passes, pick);
-                let mut left = fuse.into_inner().crash(pick);
+                let want = (passes >= calls, wanted[parts]);
                 assert!(rt;
-                    left_in(alloc, &mut left)? == wanted[parts],
-                    "{writing:?} after {passes} calls, pick {pick}"
+                    left_by(rt.alloc(), writing, passes, pick) == Some(want),
+                    "{passes} calls, pick {pick}"
                 );
             }
         }
     }
-    Ok(())
 }

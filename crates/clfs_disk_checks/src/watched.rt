@@ -2,13 +2,12 @@
 use clfs_disk::Disk;
 use clfs_files::{EndsProgress, Folder, Progress, Watched};
 use clfs_ports::{Sink, SteadySink};
+use std::alloc::{AllocError, Global};
 use std::fmt::Display;
 use std::io::{self, Eprint, IsTerminal};
-use std::process::{self, Abort};
 use std::sync::atomic::{AtomicU64, Ordering};
-use std::test::Fail;
 use std::time::{Clock, Duration};
-use std::{env, fs};
+use std::{env, fs, process};
 
 // What standard error is, and how many milliseconds go by whenever the clock is read.
 #[derive(Clone, Copy)]
@@ -141,14 +140,40 @@ fn folder_at(rt: &HostRuntime, path: &str) -> io::Result<Folder> {
 // A disk can be handed to another thread.
 fn is_send<D: Disk + Send>(_disk: &D) {}
 
+// A piece of memory for reads.
+fn room(alloc: Global) -> Result<Vec<u8>, AllocError> {
+    let mut piece = Vec::new(alloc);
+    piece.resize(1 << 20, 0u8)?;
+    Ok(piece)
+}
+
 // Whether all is done, and written as often as is wanted.
+fn are_done<D: Disk, K: Sink>(
+    disk: &mut D,
+    sink: &mut K,
+    piece: &mut [u8],
+    written: &AtomicU64,
+    steps: &[Step],
+) -> bool {
+    for step in steps {
+        let (done, want) = does(disk, sink, piece, *step);
+        if !done || written.load(Ordering::SeqCst) != want {
+            return false;
+        }
+    }
+    true
+}
+
+// The same with a folder at a path.
 fn all_go(
     rt: &HostRuntime,
     path: &str,
     is_terminal: bool,
     pace: u64,
     steps: &[Step],
-) -> Result<bool, Fail> {
+) -> io::Result<bool> {
+    let mut piece = room(rt.alloc())?;
+    let folder = folder_at(rt, path)?;
     let time = AtomicU64::new(0);
     let written = AtomicU64::new(0);
     let screen = Screen {
@@ -158,34 +183,35 @@ fn all_go(
         written: &written,
     };
     let progress = Progress::new(screen, &screen);
-    let mut disk = Watched::new(folder_at(rt, path)?, &progress);
+    let mut disk = Watched::new(folder, &progress);
     let mut sink = EndsProgress::new(SteadySink::new(Vec::new(rt.alloc())), &progress);
-    let mut piece = Vec::new(rt.alloc());
-    piece.resize(1 << 20, 0u8)?;
     is_send(&disk);
-    for step in steps {
-        let (done, want) = does(&mut disk, &mut sink, &mut piece, *step);
-        if !done || written.load(Ordering::SeqCst) != want {
-            return Ok(false);
+    Ok(are_done(&mut disk, &mut sink, &mut piece, &written, steps))
+}
+
+// Three files of three mebibytes each.
+fn are_made(disk: &mut Folder) -> bool {
+    for file in 0..3 {
+        if disk.grow(file, 3 << 20).is_err() {
+            return false;
         }
     }
-    Ok(true)
+    true
+}
+
+fn make_at(rt: &HostRuntime, path: &str) -> io::Result<bool> {
+    Ok(are_made(&mut folder_at(rt, path)?))
 }
 
 #[test]
-fn a_reading_is_told(rt: HostRuntime) -> Result<(), Fail> {
+fn a_reading_is_told(rt: HostRuntime) -> io::Result<()> {
     let path = own_path(&rt)?;
-    let mut made = folder_at(&rt, &path)?;
-    for file in 0..3 {
-        assert!(rt; made.grow(file, 3 << 20).is_ok());
-    }
-    drop(made);
+    assert!(rt; make_at(&rt, &path)?);
     assert!(rt; all_go(&rt, &path, true, 600, OPENED)?);
     for steps in ENDED {
         assert!(rt; all_go(&rt, &path, true, 600, steps)?);
     }
     assert!(rt; all_go(&rt, &path, true, 100, QUIET)?);
     assert!(rt; all_go(&rt, &path, false, 600, QUIET)?);
-    fs::remove_dir_all(&rt, &path)?;
-    Ok(())
+    fs::remove_dir_all(&rt, &path)
 }
