@@ -1,6 +1,6 @@
 -- Whether a log is broken after a call, by its answer.
 use Rattle.std.proofs.Common.{◌≡◌, ◌≢◌, ℕ, Bool, true, false, Result, Ok, Err, refl, sym, ◌∙◌}
-use Rattle.std.specs.Prelude.{OnOk}
+use Rattle.std.specs.Prelude.{IfErr, OnOk}
 use Rattle.clfs_model.specs.declared.call.Call.{Call}
 use Rattle.clfs_model.specs.declared.refusal.Refusal.{Refusal}
 use Rattle.clfs_model.specs.declared.refusal.Refusal.TheVariants as refusals
@@ -12,7 +12,7 @@ use Rattle.clfs_model.specs.declared.state.State.{State}
 use Rattle.clfs_model.specs.Happened.{happened_of, happened_of_refusal}
 use Rattle.clfs_model.specs.Step.{Step}
 use Rattle.clfs_manager.specs.Calls.{Steps}
-use Rattle.clfs_cells.specs.Stored.{Memory}
+use Rattle.clfs_cells.specs.Stored.{Memory, Store}
 use Rattle.clfs_txn.specs.Calls.{is_break, breaks}
 use Rattle.clfs_txn.specs.Kept.{IsKept}
 
@@ -54,3 +54,20 @@ kept_after laws s client call answer result t memory before after kept fine whol
 pub whole_then : {A : Type 0} (result : Result A Refusal) (broken : Bool) → broken ≡ breaks result → OnOk result (broken ≡ false)
 whole_then (Ok value) broken is = is
 whole_then (Err refusal) broken is = tt
+
+fine_of : (refusal : Refusal) → is_break refusal ≡ false → happened_of_refusal refusal ≡ Fine
+fine_of refusals.DiskFault e = absurd (cc e)
+fine_of (refusals.Damaged container offset at) e = absurd (cc e)
+fine_of other e = refl
+
+-- a refusal leaves the log as it was, unless it is of a fault or of damage
+pub unchanged : {A : Type 0} → ((told : Bool) (s : State) (client : ℕ) (call : Call) (happened : Happened) (refusal : Refusal) (t : State)
+    → Step told s client call happened (replies.Refused refusal) t → happened_of_refusal refusal ≡ Fine → t ≡ s)
+    → (told : Bool) (s old : State) (client : ℕ) (call : Call) (answer : A → Reply) (result : Result A Refusal) (t : State) → s ≡ old
+    → Steps told s client call answer result t → IfErr result (λ refusal. is_break refusal ≡ false → t ≡ old)
+unchanged law told s old client call answer (Ok value) t seen step = tt
+unchanged law told s old client call answer (Err refusal) t seen step = λ fine.
+    law told s client call (happened_of_refusal refusal) refusal t step (fine_of refusal fine) ∙ seen
+
+pub same_store : (s t : Store) → t.log ≡ s.log → t.memory ≡ s.memory → t ≡ s
+same_store s t p q = λ i. record { log = p i; memory = q i }

@@ -31,6 +31,11 @@ is_break log_refusals.DiskFault = true
 is_break (log_refusals.Damaged container offset at) = true
 is_break _ = false
 
+-- whether a store is refused by such a refusal of its log
+abbrev pub is_fault : TxnRefusal → Bool
+is_fault (refusals.Log refusal) = is_break refusal
+is_fault _ = false
+
 -- whether an answer is such a refusal
 abbrev pub breaks : {A : Type 0} → Result A Refusal → Bool
 breaks (Ok value) = false

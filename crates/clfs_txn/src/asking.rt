@@ -1,5 +1,5 @@
 // The calls of the log that a store makes. Each notes whether the log is broken then.
-ghost use Rattle.std.specs.Prelude.{◌≡◌, ◌≤◌, Bool, IfOk, OnOk, false, replicate};
+ghost use Rattle.std.specs.Prelude.{◌≡◌, ◌≤◌, Bool, IfErr, IfOk, OnOk, false, replicate};
 ghost use Rattle.clfs_model.specs.declared.call.Call.TheVariants as calls;
 ghost use Rattle.clfs_model.specs.declared.reply.Reply.TheVariants as replies;
 ghost use Rattle.clfs_manager.specs.Calls.{Steps};
@@ -11,7 +11,7 @@ ghost use Rattle.clfs_txn.specs.Calls.{is_break, breaks, draft_of};
 use crate::store::TxnStore;
 use clfs_cells::{Action, RECORD_BYTES, Transaction, TxnRecord, records_are_read_as_written};
 use clfs_disk::Disk;
-use clfs_laws::{faults_break, unbroken_stays};
+use clfs_laws::{faults_break, refusals_change_nothing, unbroken_stays};
 use clfs_lsn::{Bytes, Lsn, Sizes};
 use clfs_model::{Draft, Refusal, ways_of_a_step};
 use std::alloc::{AllocError, Global};
@@ -80,11 +80,13 @@ impl<D: Disk> TxnStore<D> {
         requires { self.old.0.log.broken ≡ false }
         ensures step { (told : Bool) → Steps told self.old.0.log self.old.0.memory.client
             (append_call self.old.0.memory (transaction_of t.now) action undo_next flush) replies.Placed result self.new.0.log }
+        ensures kept { IfErr result (λ refusal. is_break refusal ≡ false → self.new.0.log ≡ self.old.0.log) }
         ensures memory { self.new.0.memory ≡ self.old.0.memory }
         ensures whole { OnOk result (self.new.0.log.broken ≡ false) }
     {
         ways_of_a_step();
         faults_break();
+        refusals_change_nothing();
         unbroken_stays();
         records_are_read_as_written();
         let draft = draft_of(self.alloc, t, action, undo_next, flush)?;
@@ -122,10 +124,12 @@ impl<D: Disk> TxnStore<D> {
         requires changes { changes ≤ 7 }
         ensures step { (told : Bool) → Steps told self.old.0.log self.old.0.memory.client
             (calls.Reserve self.old.0.memory.area (replicate (most_records changes) 24)) replies.Held result self.new.0.log }
+        ensures kept { IfErr result (λ refusal. is_break refusal ≡ false → self.new.0.log ≡ self.old.0.log) }
         ensures memory { self.new.0.memory ≡ self.old.0.memory }
     {
         ways_of_a_step();
         faults_break();
+        refusals_change_nothing();
         unbroken_stays();
         let sizes = sizes_of(self.alloc, changes)?;
         let reply = self

@@ -1,8 +1,8 @@
 // The beginning of a transaction: the log holds room for all its records, and it has a number.
-ghost use Rattle.std.specs.Prelude.{◌≡◌, ◌≤◌, Bool, true};
+ghost use Rattle.std.specs.Prelude.{◌≡◌, ◌≤◌, Bool, IfErr, false, true};
 ghost use Rattle.clfs_cells.specs.declared.asked.TxnCall.TheVariants as asked;
 ghost use Rattle.clfs_cells.specs.declared.told.TxnReply.TheVariants as replies;
-ghost use Rattle.clfs_txn.specs.Calls.{TxnSteps};
+ghost use Rattle.clfs_txn.specs.Calls.{TxnSteps, is_fault};
 
 use crate::store::TxnStore;
 use clfs_cells::{MOST_TRANSACTIONS, TxnRefusal};
@@ -18,6 +18,7 @@ impl<D: Disk> TxnStore<D> {
         requires some { 1 ≤ changes }
         requires few { changes ≤ 7 }
         ensures step { (told : Bool) → TxnSteps told self.old.0 (asked.Begin changes) replies.Begun result self.new.0 }
+        ensures kept { IfErr result (λ refusal. is_fault refusal ≡ false → self.new.0 ≡ self.old.0) }
         ensures stopped { self.old.0.log.broken ≡ true → self.new.1 ≡ self.old.1 }
     {
         if self.broken {

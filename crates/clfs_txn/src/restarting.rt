@@ -1,18 +1,18 @@
 // A checkpoint: a restart area with all cells, above which alone the log is read when the table is loaded again.
-ghost use Rattle.std.specs.Prelude.{◌≡◌, ◌+◌, ◌<◌, ◌^◌, Bool, IfOk, false, length, true};
+ghost use Rattle.std.specs.Prelude.{◌≡◌, ◌+◌, ◌<◌, ◌^◌, Bool, IfErr, IfOk, false, length, true};
 ghost use Rattle.clfs_model.specs.declared.call.Call.TheVariants as calls;
 ghost use Rattle.clfs_model.specs.declared.reply.Reply.TheVariants as log_replies;
 ghost use Rattle.clfs_manager.specs.Calls.{Steps};
 ghost use Rattle.clfs_cells.specs.declared.asked.TxnCall.TheVariants as asked;
 ghost use Rattle.clfs_cells.specs.declared.told.TxnReply.TheVariants as replies;
 ghost use Rattle.clfs_cells.specs.Layout.{checkpoint_bytes};
-ghost use Rattle.clfs_txn.specs.Calls.{TxnSteps, checkpoint_of};
+ghost use Rattle.clfs_txn.specs.Calls.{TxnSteps, checkpoint_of, is_break, is_fault};
 
 use crate::asking::breaks;
 use crate::store::TxnStore;
 use clfs_cells::{Checkpoint, TxnRefusal};
 use clfs_disk::Disk;
-use clfs_laws::{faults_break, numbers_fit_their_types, unbroken_stays};
+use clfs_laws::{faults_break, numbers_fit_their_types, refusals_change_nothing, unbroken_stays};
 use clfs_lsn::{Bytes, Lsn};
 use clfs_model::{LogInfo, Refusal, ways_of_a_step};
 use std::alloc::{AllocError, Global};
@@ -44,10 +44,12 @@ impl<D: Disk> TxnStore<D> {
         requires { self.old.0.log.broken ≡ false }
         ensures step { (told : Bool) → Steps told self.old.0.log self.old.0.memory.client
             (calls.WriteRestart self.old.0.memory.area (checkpoint_bytes (checkpoint_of self.old.0.memory)) base false) log_replies.Placed result self.new.0.log }
+        ensures kept { IfErr result (λ refusal. is_break refusal ≡ false → self.new.0.log ≡ self.old.0.log) }
         ensures memory { self.new.0.memory ≡ self.old.0.memory }
     {
         ways_of_a_step();
         faults_break();
+        refusals_change_nothing();
         unbroken_stays();
         let checkpoint = self.memory.checkpoint();
         let bytes = bytes_of(self.alloc, &checkpoint)?;
@@ -66,7 +68,8 @@ impl<D: Disk> TxnStore<D> {
     fn write_checkpoint(&mut self) -> Result<(), TxnRefusal>
         requires whole { self.old.0.log.broken ≡ false }
         requires none { length self.old.0.memory.transactions ≡ 0 }
-        ensures { (told : Bool) → TxnSteps told self.old.0 asked.Checkpoint (λ _. replies.Done) result self.new.0 }
+        ensures step { (told : Bool) → TxnSteps told self.old.0 asked.Checkpoint (λ _. replies.Done) result self.new.0 }
+        ensures kept { IfErr result (λ refusal. is_fault refusal ≡ false → self.new.0 ≡ self.old.0) }
     {
         let last = match self.info() {
             Ok(info) => info.last,
@@ -85,6 +88,7 @@ impl<D: Disk> TxnStore<D> {
     /// fault of the disk nothing has changed.
     pub fn checkpoint(&mut self) -> Result<(), TxnRefusal>
         ensures step { (told : Bool) → TxnSteps told self.old.0 asked.Checkpoint (λ _. replies.Done) result self.new.0 }
+        ensures kept { IfErr result (λ refusal. is_fault refusal ≡ false → self.new.0 ≡ self.old.0) }
         ensures stopped { self.old.0.log.broken ≡ true → self.new.1 ≡ self.old.1 }
     {
         if self.broken {

@@ -1,5 +1,5 @@
 // Setting a cell.
-ghost use Rattle.std.specs.Prelude.{◌≡◌, ◌<◌, ◌⊎◌, Bool, MatchResult, None, Some, false, true};
+ghost use Rattle.std.specs.Prelude.{◌≡◌, ◌<◌, ◌⊎◌, Bool, IfErr, MatchResult, None, Some, false, true};
 ghost use Rattle.clfs_model.specs.declared.refusal.Refusal.TheVariants as log_refusals;
 ghost use Rattle.clfs_cells.specs.declared.asked.TxnCall.TheVariants as asked;
 ghost use Rattle.clfs_cells.specs.declared.told.TxnRefusal.TheVariants as refusals;
@@ -7,7 +7,7 @@ ghost use Rattle.clfs_cells.specs.declared.told.TxnReply.TheVariants as replies;
 ghost use Rattle.clfs_cells.specs.Calls.{change_to};
 ghost use Rattle.clfs_cells.specs.Kept.{transaction_of};
 ghost use Rattle.clfs_cells.specs.Stored.{transaction};
-ghost use Rattle.clfs_txn.specs.Calls.{IsFound, IsNotFound, TxnSteps};
+ghost use Rattle.clfs_txn.specs.Calls.{IsFound, IsNotFound, TxnSteps, is_fault};
 
 use crate::store::TxnStore;
 use clfs_cells::{Action, Change, Transaction, TxnRefusal};
@@ -50,7 +50,8 @@ impl<D: Disk> TxnStore<D> {
     ) -> Result<(), TxnRefusal>
         requires cell { cell < 32 }
         requires found { IsFound self.old.0 txn (transaction_of t.now) }
-        ensures { (told : Bool) → TxnSteps told self.old.0 (asked.Set txn cell value) (λ _. replies.Done) result self.new.0 }
+        ensures step { (told : Bool) → TxnSteps told self.old.0 (asked.Set txn cell value) (λ _. replies.Done) result self.new.0 }
+        ensures kept { IfErr result (λ refusal. is_fault refusal ≡ false → self.new.0 ≡ self.old.0) }
     {
         if let Some(other) = self.memory.holder(txn, cell) {
             return Err(TxnRefusal::CellHeld { txn: other });
@@ -77,6 +78,7 @@ impl<D: Disk> TxnStore<D> {
     pub fn set(&mut self, txn: u32, cell: u16, value: u64) -> Result<(), TxnRefusal>
         requires { cell < 32 }
         ensures step { (told : Bool) → TxnSteps told self.old.0 (asked.Set txn cell value) (λ _. replies.Done) result self.new.0 }
+        ensures kept { IfErr result (λ refusal. is_fault refusal ≡ false → self.new.0 ≡ self.old.0) }
         ensures stopped { self.old.0.log.broken ≡ true → self.new.1 ≡ self.old.1 }
     {
         match self.open_transaction(txn) {

@@ -1,7 +1,7 @@
 use Rattle.std.proofs.Common.{◌≡◌, ap, ◌∙◌, refl, false, true}
 use Rattle.clfs_model.specs.declared.reply.Reply.TheVariants as replies
 use Rattle.clfs_txn.proofs.Asked.{same_steps, append_is}
-use Rattle.clfs_txn.proofs.Breaking.{Laws, kept_after, broken_then, whole_then}
+use Rattle.clfs_txn.proofs.Breaking.{Laws, kept_after, broken_then, whole_then, unchanged}
 use Rattle.clfs_txn.proofs.store.TxnStore.append.Goals as goal
 
 pub invariant_of-self : goal.invariant_of-self
@@ -23,3 +23,8 @@ returns-clause-step g c = λ told.
     (c.client.ensures ∙ ap (λ v. v.0.memory.client) c.self.view_is)
     (append_is _ _ _ _ _ (c.area.ensures ∙ ap (λ v. v.0.memory.area) c.self.view_is) c.in_ok-draft.ensures c.none-sizes.ensures)
     (c.append-reply.ensures.step told)
+
+pub returns-clause-kept : goal.returns-clause-kept
+returns-clause-kept g c =
+    unchanged c.refusals_change_nothing.ensures.calls true _ _ _ _ replies.Placed c.append-reply.result _ (ap (λ v. v.0.log) c.self.view_is)
+    (c.append-reply.ensures.step true)

@@ -5,6 +5,7 @@ use Rattle.clfs_txn.proofs.store.TxnStore.checkpoint.Goals as goal
 pub returns-then-self : goal.returns-then-self
 returns-then-self g c = record {
   step = λ told. broken told c.args.self.now.0 (sym (ap (λ v. v.0.log.broken) c.self.view_is) ∙ (sym c.self.invariant.knows ∙ c.if-self.true));
+  kept = λ _. refl;
   stopped = λ _. refl;
 }
 

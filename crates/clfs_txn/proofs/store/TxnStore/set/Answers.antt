@@ -7,8 +7,9 @@ pub returns-in-Err : goal.returns-in-Err
 returns-in-Err g c = record {
   step = λ told.
       not_found told c.args.self.now.0 (asked.Set c.args.txn c.args.cell c.args.value) c.args.txn c.in-Err.refusal _ refl c.in-Err.ensures;
+  kept = λ _. refl;
   stopped = λ _. refl;
 }
 
 pub returns-in-Ok : goal.returns-in-Ok
-returns-in-Ok g c = record { step = c.set_open.ensures; stopped = λ e. let whole = c.in-Ok.ensures.whole in absurd (cc (e, whole)) }
+returns-in-Ok g c = record { step = c.set_open.ensures.step; kept = c.set_open.ensures.kept; stopped = λ e. let whole = c.in-Ok.ensures.whole in absurd (cc (e, whole)) }

@@ -10,24 +10,25 @@ use Rattle.clfs_cells.specs.Kept.{transaction_of}
 use Rattle.clfs_cells.specs.Stored.{Memory, Transaction, holder, with_set}
 use Rattle.clfs_txn.specs.Kept.{store_of}
 use Rattle.clfs_txn.proofs.Asked.{same_call, same_end, append_call_is}
+use Rattle.clfs_txn.proofs.Breaking.{same_store}
 use Rattle.clfs_txn.proofs.Sets.{held, spent, refused, done}
 use Rattle.clfs_txn.proofs.store.TxnStore.set_open.Goals as goal
 
-pub returns-in-Some : goal.returns-in-Some
-returns-in-Some g c = λ told.
+pub returns-in-Some-clause-step : goal.returns-in-Some-clause-step
+returns-in-Some-clause-step g c = λ told.
     held told c.args.self.now.0 c.args.txn c.args.cell c.args.value (transaction_of c.args.t.now) c.in-Some.other c.requires.found
     (c.in-Some.ensures ∙ ap (λ v. option_map (λ (t : Transaction). t.number) (holder v.0.memory c.args.txn c.args.cell)) c.self.view_is)
 
-pub returns-then-is_spent : goal.returns-then-is_spent
-returns-then-is_spent g c = λ told.
+pub returns-then-is_spent-clause-step : goal.returns-then-is_spent-clause-step
+returns-then-is_spent-clause-step g c = λ told.
     subst (λ (n : ℕ). TxnStep told c.args.self.now.0 (asked.Set c.args.txn c.args.cell c.args.value) (replies.Refused (refusals.ChangesSpent n)) c.args.self.now.0)
     (sym c.changes.ensures.changes)
     (spent told c.args.self.now.0 c.args.txn c.args.cell c.args.value (transaction_of c.args.t.now) c.requires.found
     (c.in_default.ensures ∙ ap (λ v. option_map (λ (t : Transaction). t.number) (holder v.0.memory c.args.txn c.args.cell)) c.self.view_is)
     (sym c.is_spent.ensures ∙ c.if-is_spent.true))
 
-pub returns-in-Ok : goal.returns-in-Ok
-returns-in-Ok g c =
+pub returns-in-Ok-clause-step : goal.returns-in-Ok-clause-step
+returns-in-Ok-clause-step g c =
     let t = transaction_of c.args.t.now in
     let free = c.in_default.ensures ∙ ap (λ v. option_map (λ (t : Transaction). t.number) (holder v.0.memory c.args.txn c.args.cell)) c.self.view_is in
     let some = sym c.is_spent.ensures ∙ c.if-is_spent.false in
@@ -38,11 +39,14 @@ returns-in-Ok g c =
     (c.set.ensures ∙ ap (λ (x : Change). with_set t x c.in-Ok.lsn c.self-2.inside.memory) c.change_to-change.ensures
     ∙ ap (λ (m : Memory). with_set t (change_to c.args.self.now.0.memory c.args.cell c.args.value) c.in-Ok.lsn m) same)
 
-pub returns-in-Err : goal.returns-in-Err
-returns-in-Err g c =
+pub returns-in-Err-clause-step : goal.returns-in-Err-clause-step
+returns-in-Err-clause-step g c =
     let t = transaction_of c.args.t.now in
     let free = c.in_default.ensures ∙ ap (λ v. option_map (λ (t : Transaction). t.number) (holder v.0.memory c.args.txn c.args.cell)) c.self.view_is in
     let some = sym c.is_spent.ensures ∙ c.if-is_spent.false in
     let call = append_call_is c.args.self.now.0.memory t _ _ _ _ _ (ap (λ (x : Change). Set x) c.change_to-change.ensures) c.newest_standing.ensures in λ told.
     refused told c.args.self.now.0 c.args.txn c.args.cell c.args.value t c.in-Err.refusal c.append.new.self.0 c.requires.found free some
     (same_call told _ _ _ _ _ _ _ call (c.in-Err.ensures.step told)) c.in-Err.ensures.memory
+
+pub returns-in-Err-clause-kept : goal.returns-in-Err-clause-kept
+returns-in-Err-clause-kept g c = λ fine. same_store _ _ (c.in-Err.ensures.kept fine) c.in-Err.ensures.memory

@@ -1,19 +1,23 @@
 use Rattle.std.proofs.Common.{◌+◌, ap, ◌∙◌}
 use Rattle.clfs_txn.proofs.Asked.{same_call, base_is}
+use Rattle.clfs_txn.proofs.Breaking.{same_store}
 use Rattle.clfs_txn.proofs.Restarts.{unknown, refused, done}
 use Rattle.clfs_txn.proofs.store.TxnStore.write_checkpoint.Goals as goal
 
-pub returns-in-Err : goal.returns-in-Err
-returns-in-Err g c = λ told. unknown told c.args.self.now.0 c.in-Err.refusal c.requires.whole c.requires.none (c.in-Err.ensures.step told)
+pub returns-in-Err-clause-step : goal.returns-in-Err-clause-step
+returns-in-Err-clause-step g c = λ told. unknown told c.args.self.now.0 c.in-Err.refusal c.requires.whole c.requires.none (c.in-Err.ensures.step told)
 
-pub returns-in-Ok-write_restart : goal.returns-in-Ok-write_restart
-returns-in-Ok-write_restart g c = λ told.
+pub returns-in-Ok-write_restart-clause-step : goal.returns-in-Ok-write_restart-clause-step
+returns-in-Ok-write_restart-clause-step g c = λ told.
     done told c.args.self.now.0 c.write_restart.new.self.0 c.in-Ok.info c.in-Ok-write_restart.field-0 c.requires.whole c.requires.none (c.in-Ok.ensures.step told)
     (same_call told _ _ _ _ _ _ _ (base_is _ _ _ _ (c.of_number.ensures ∙ ap (λ n. n + 1) c.number.ensures)) (c.in-Ok-write_restart.ensures.step told))
     c.in-Ok-write_restart.ensures.memory
 
-pub returns-in-Err-write_restart : goal.returns-in-Err-write_restart
-returns-in-Err-write_restart g c = λ told.
+pub returns-in-Err-write_restart-clause-step : goal.returns-in-Err-write_restart-clause-step
+returns-in-Err-write_restart-clause-step g c = λ told.
     refused told c.args.self.now.0 c.write_restart.new.self.0 c.in-Ok.info c.in-Err-write_restart.refusal c.requires.whole c.requires.none (c.in-Ok.ensures.step told)
     (same_call told _ _ _ _ _ _ _ (base_is _ _ _ _ (c.of_number.ensures ∙ ap (λ n. n + 1) c.number.ensures)) (c.in-Err-write_restart.ensures.step told))
     c.in-Err-write_restart.ensures.memory
+
+pub returns-in-Err-write_restart-clause-kept : goal.returns-in-Err-write_restart-clause-kept
+returns-in-Err-write_restart-clause-kept g c = λ fine. same_store _ _ (c.in-Err-write_restart.ensures.kept fine) c.in-Err-write_restart.ensures.memory

@@ -3,7 +3,7 @@ use Rattle.clfs_model.specs.declared.reply.Reply.TheVariants as replies
 use Rattle.clfs_cells.specs.Layout.{checkpoint_bytes}
 use Rattle.clfs_txn.specs.Calls.{checkpoint_of}
 use Rattle.clfs_txn.proofs.Asked.{same_steps, restart_is}
-use Rattle.clfs_txn.proofs.Breaking.{Laws, kept_after}
+use Rattle.clfs_txn.proofs.Breaking.{Laws, kept_after, unchanged}
 use Rattle.clfs_txn.proofs.store.TxnStore.write_restart.Goals as goal
 
 pub invariant_of-self : goal.invariant_of-self
@@ -20,3 +20,8 @@ returns-clause-step g c = λ told.
     (restart_is _ _ _ _ _ (c.area.ensures ∙ ap (λ v. v.0.memory.area) c.self.view_is)
     (c.in_ok-bytes.ensures.held ∙ ap checkpoint_bytes (c.checkpoint-checkpoint.ensures ∙ ap (λ v. checkpoint_of v.0.memory) c.self.view_is)))
     (c.write_restart-reply.ensures.step told)
+
+pub returns-clause-kept : goal.returns-clause-kept
+returns-clause-kept g c =
+    unchanged c.refusals_change_nothing.ensures.calls true _ _ _ _ replies.Placed c.write_restart-reply.result _ (ap (λ v. v.0.log) c.self.view_is)
+    (c.write_restart-reply.ensures.step true)
