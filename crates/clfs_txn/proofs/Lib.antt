@@ -2,6 +2,7 @@ mod Breaking
 mod Carried
 mod Begun
 mod Sets
+mod Written
 mod Asked
 mod Ends
 mod Above

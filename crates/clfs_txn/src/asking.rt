@@ -1,5 +1,7 @@
 // The calls of the log that a store makes. Each notes whether the log is broken then.
-ghost use Rattle.std.specs.Prelude.{◌≡◌, ◌≤◌, Bool, IfErr, IfOk, OnOk, false, replicate};
+ghost use Rattle.std.specs.Prelude.{◌≡◌, ◌≤◌, Bool, IfErr, IfOk, IsErrOf, OnOk, false, replicate};
+ghost use Rattle.clfs_model.specs.declared.refusal.Refusal.TheVariants as log_refusals;
+ghost use Rattle.clfs_manager.specs.Written.{WritesDisk};
 ghost use Rattle.clfs_model.specs.declared.call.Call.TheVariants as calls;
 ghost use Rattle.clfs_model.specs.declared.reply.Reply.TheVariants as replies;
 ghost use Rattle.clfs_manager.specs.Calls.{Steps};
@@ -80,6 +82,7 @@ impl<D: Disk> TxnStore<D> {
         requires { self.old.0.log.broken ≡ false }
         ensures step { (told : Bool) → Steps told self.old.0.log self.old.0.memory.client
             (append_call self.old.0.memory (transaction_of t.now) action undo_next flush) replies.Placed result self.new.0.log }
+        ensures writes { WritesDisk (IsErrOf result log_refusals.DiskFault) (D.state self.old.1) (D.state self.new.1) }
         ensures kept { IfErr result (λ refusal. is_break refusal ≡ false → self.new.0.log ≡ self.old.0.log) }
         ensures memory { self.new.0.memory ≡ self.old.0.memory }
         ensures whole { OnOk result (self.new.0.log.broken ≡ false) }
@@ -107,6 +110,8 @@ impl<D: Disk> TxnStore<D> {
         requires { self.old.0.log.broken ≡ false }
         ensures step { (told : Bool) → Steps told self.old.0.log self.old.0.memory.client
             (calls.Release self.old.0.memory.area sectors) replies.Held result self.new.0.log }
+        ensures calm { IsErrOf result log_refusals.DiskFault → ⊥ }
+        ensures disk { self.new.1 ≡ self.old.1 }
         ensures memory { self.new.0.memory ≡ self.old.0.memory }
     {
         faults_break();
@@ -124,6 +129,7 @@ impl<D: Disk> TxnStore<D> {
         requires changes { changes ≤ 7 }
         ensures step { (told : Bool) → Steps told self.old.0.log self.old.0.memory.client
             (calls.Reserve self.old.0.memory.area (replicate (most_records changes) 24)) replies.Held result self.new.0.log }
+        ensures writes { WritesDisk (IsErrOf result log_refusals.DiskFault) (D.state self.old.1) (D.state self.new.1) }
         ensures kept { IfErr result (λ refusal. is_break refusal ≡ false → self.new.0.log ≡ self.old.0.log) }
         ensures memory { self.new.0.memory ≡ self.old.0.memory }
     {

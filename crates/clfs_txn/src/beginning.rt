@@ -1,5 +1,8 @@
 // The beginning of a transaction: the log holds room for all its records, and it has a number.
-ghost use Rattle.std.specs.Prelude.{◌≡◌, ◌≤◌, Bool, IfErr, false, true};
+ghost use Rattle.std.specs.Prelude.{◌≡◌, ◌≤◌, Bool, IfErr, IsErrOf, false, true};
+ghost use Rattle.clfs_cells.specs.declared.told.TxnRefusal.TheVariants as refusals;
+ghost use Rattle.clfs_model.specs.declared.refusal.Refusal.TheVariants as log_refusals;
+ghost use Rattle.clfs_manager.specs.Written.{WritesDisk};
 ghost use Rattle.clfs_cells.specs.declared.asked.TxnCall.TheVariants as asked;
 ghost use Rattle.clfs_cells.specs.declared.told.TxnReply.TheVariants as replies;
 ghost use Rattle.clfs_txn.specs.Calls.{TxnSteps, is_fault};
@@ -18,6 +21,7 @@ impl<D: Disk> TxnStore<D> {
         requires some { 1 ≤ changes }
         requires few { changes ≤ 7 }
         ensures step { (told : Bool) → TxnSteps told self.old.0 (asked.Begin changes) replies.Begun result self.new.0 }
+        ensures writes { WritesDisk (IsErrOf result (refusals.Log log_refusals.DiskFault)) (D.state self.old.1) (D.state self.new.1) }
         ensures kept { IfErr result (λ refusal. is_fault refusal ≡ false → self.new.0 ≡ self.old.0) }
         ensures stopped { self.old.0.log.broken ≡ true → self.new.1 ≡ self.old.1 }
     {

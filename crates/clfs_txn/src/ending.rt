@@ -1,5 +1,8 @@
 // The end of a transaction: its last record, and the room that it holds besides.
-ghost use Rattle.std.specs.Prelude.{◌≡◌, Bool, false, true};
+ghost use Rattle.std.specs.Prelude.{◌≡◌, Bool, IsErrOf, false, true};
+ghost use Rattle.clfs_cells.specs.declared.told.TxnRefusal.TheVariants as refusals;
+ghost use Rattle.clfs_model.specs.declared.refusal.Refusal.TheVariants as log_refusals;
+ghost use Rattle.clfs_manager.specs.Written.{WritesDisk};
 ghost use Rattle.clfs_cells.specs.declared.asked.TxnCall.TheVariants as asked;
 ghost use Rattle.clfs_cells.specs.declared.row.Action.TheVariants.{Commit};
 ghost use Rattle.clfs_cells.specs.declared.told.TxnReply.TheVariants as replies;
@@ -21,7 +24,8 @@ impl<D: Disk> TxnStore<D> {
         flush: bool,
     ) -> Result<(), TxnRefusal>
         requires { self.old.0.log.broken ≡ false }
-        ensures { (told : Bool) → Carries told self.old.0 (end_plan self.old.0.memory (transaction_of t.now) action flush) (λ _. replies.Done) result self.new.0 }
+        ensures writes { WritesDisk (IsErrOf result (refusals.Log log_refusals.DiskFault)) (D.state self.old.1) (D.state self.new.1) }
+        ensures step { (told : Bool) → Carries told self.old.0 (end_plan self.old.0.memory (transaction_of t.now) action flush) (λ _. replies.Done) result self.new.0 }
     {
         if let Err(refusal) = self.append(t, action, Lsn::null(), flush) {
             return Err(TxnRefusal::Log(refusal));
@@ -39,6 +43,7 @@ impl<D: Disk> TxnStore<D> {
     /// Refused in this order: `Log(Broken)`, `NoSuchTxn`, and want of memory and of the disk. After want of memory nothing has changed.
     pub fn commit(&mut self, txn: u32) -> Result<(), TxnRefusal>
         ensures step { (told : Bool) → TxnSteps told self.old.0 (asked.Commit txn) (λ _. replies.Done) result self.new.0 }
+        ensures writes { WritesDisk (IsErrOf result (refusals.Log log_refusals.DiskFault)) (D.state self.old.1) (D.state self.new.1) }
         ensures stopped { self.old.0.log.broken ≡ true → self.new.1 ≡ self.old.1 }
     {
         match self.open_transaction(txn) {

@@ -1,5 +1,8 @@
 // A checkpoint: a restart area with all cells, above which alone the log is read when the table is loaded again.
-ghost use Rattle.std.specs.Prelude.{◌≡◌, ◌+◌, ◌<◌, ◌^◌, Bool, IfErr, IfOk, false, length, true};
+ghost use Rattle.std.specs.Prelude.{◌≡◌, ◌+◌, ◌<◌, ◌^◌, Bool, IfErr, IfOk, IsErrOf, false, length, true};
+ghost use Rattle.clfs_cells.specs.declared.told.TxnRefusal.TheVariants as refusals;
+ghost use Rattle.clfs_model.specs.declared.refusal.Refusal.TheVariants as log_refusals;
+ghost use Rattle.clfs_manager.specs.Written.{WritesDisk};
 ghost use Rattle.clfs_model.specs.declared.call.Call.TheVariants as calls;
 ghost use Rattle.clfs_model.specs.declared.reply.Reply.TheVariants as log_replies;
 ghost use Rattle.clfs_manager.specs.Calls.{Steps};
@@ -32,6 +35,7 @@ impl<D: Disk> TxnStore<D> {
     fn info(&self) -> Result<LogInfo, Refusal>
         requires { self.now.0.log.broken ≡ false }
         ensures step { (told : Bool) → Steps told self.now.0.log self.now.0.memory.client (calls.Info self.now.0.memory.stream) log_replies.Info result self.now.0.log }
+        ensures calm { IsErrOf result log_refusals.DiskFault → ⊥ }
         ensures small { IfOk result (λ info. info.last + 1 < 2 ^ 64) }
     {
         numbers_fit_their_types();
@@ -44,6 +48,7 @@ impl<D: Disk> TxnStore<D> {
         requires { self.old.0.log.broken ≡ false }
         ensures step { (told : Bool) → Steps told self.old.0.log self.old.0.memory.client
             (calls.WriteRestart self.old.0.memory.area (checkpoint_bytes (checkpoint_of self.old.0.memory)) base false) log_replies.Placed result self.new.0.log }
+        ensures writes { WritesDisk (IsErrOf result log_refusals.DiskFault) (D.state self.old.1) (D.state self.new.1) }
         ensures kept { IfErr result (λ refusal. is_break refusal ≡ false → self.new.0.log ≡ self.old.0.log) }
         ensures memory { self.new.0.memory ≡ self.old.0.memory }
     {
@@ -69,6 +74,7 @@ impl<D: Disk> TxnStore<D> {
         requires whole { self.old.0.log.broken ≡ false }
         requires none { length self.old.0.memory.transactions ≡ 0 }
         ensures step { (told : Bool) → TxnSteps told self.old.0 asked.Checkpoint (λ _. replies.Done) result self.new.0 }
+        ensures writes { WritesDisk (IsErrOf result (refusals.Log log_refusals.DiskFault)) (D.state self.old.1) (D.state self.new.1) }
         ensures kept { IfErr result (λ refusal. is_fault refusal ≡ false → self.new.0 ≡ self.old.0) }
     {
         let last = match self.info() {
@@ -88,6 +94,7 @@ impl<D: Disk> TxnStore<D> {
     /// fault of the disk nothing has changed.
     pub fn checkpoint(&mut self) -> Result<(), TxnRefusal>
         ensures step { (told : Bool) → TxnSteps told self.old.0 asked.Checkpoint (λ _. replies.Done) result self.new.0 }
+        ensures writes { WritesDisk (IsErrOf result (refusals.Log log_refusals.DiskFault)) (D.state self.old.1) (D.state self.new.1) }
         ensures kept { IfErr result (λ refusal. is_fault refusal ≡ false → self.new.0 ≡ self.old.0) }
         ensures stopped { self.old.0.log.broken ≡ true → self.new.1 ≡ self.old.1 }
     {

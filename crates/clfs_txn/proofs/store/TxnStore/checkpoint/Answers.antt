@@ -1,10 +1,12 @@
 use Rattle.std.proofs.Common.{ap, ◌∙◌, sym, refl, length}
 use Rattle.clfs_txn.proofs.Restarts.{broken, some_open}
+use Rattle.clfs_txn.proofs.Written.{at_once}
 use Rattle.clfs_txn.proofs.store.TxnStore.checkpoint.Goals as goal
 
 pub returns-then-self : goal.returns-then-self
 returns-then-self g c = record {
   step = λ told. broken told c.args.self.now.0 (sym (ap (λ v. v.0.log.broken) c.self.view_is) ∙ (sym c.self.invariant.knows ∙ c.if-self.true));
+  writes = at_once _ _ refl;
   kept = λ _. refl;
   stopped = λ _. refl;
 }

@@ -3,17 +3,18 @@ use Rattle.clfs_cells.specs.Kept.{transaction_of}
 use Rattle.clfs_cells.specs.Stored.{Memory, most_records, records_made, without_transaction}
 use Rattle.clfs_txn.proofs.Asked.{same_call, same_step, append_call_is, release_is}
 use Rattle.clfs_txn.proofs.Ends.{refused, done, stopped}
+use Rattle.clfs_txn.proofs.Written.{of_log, of_ok}
 use Rattle.clfs_txn.proofs.store.TxnStore.end.Goals as goal
 
-pub returns-in-Err : goal.returns-in-Err
-returns-in-Err g c =
+pub returns-in-Err-clause-step : goal.returns-in-Err-clause-step
+returns-in-Err-clause-step g c =
     let t = transaction_of c.args.t.now in
     let call = append_call_is c.args.self.now.0.memory t c.args.action c.args.action _ _ c.args.flush refl c.null.ensures in λ told.
     refused told c.args.self.now.0 c.append.new.self.0 t c.args.action c.args.flush c.in-Err.refusal
     (same_call told _ _ _ _ _ _ _ call (c.in-Err.ensures.step told)) c.in-Err.ensures.memory
 
-pub returns-in-Ok : goal.returns-in-Ok
-returns-in-Ok g c =
+pub returns-in-Ok-clause-step : goal.returns-in-Ok-clause-step
+returns-in-Ok-clause-step g c =
     let t = transaction_of c.args.t.now in
     let call = append_call_is c.args.self.now.0.memory t c.args.action c.args.action _ _ c.args.flush refl c.null.ensures in
     let before = ap (λ v. v.0.memory) c.self.view_is ∙ c.in_default.ensures.memory in
@@ -27,8 +28,8 @@ returns-in-Ok g c =
     (same_call told _ _ _ _ _ _ _ call (c.in_default.ensures.step told))
     (same_step told _ _ _ _ _ _ _ _ _ (ap (λ v. v.0.log) c.self.view_is) client release (c.in-Ok.ensures.step told)) memory
 
-pub returns-in-Err-release : goal.returns-in-Err-release
-returns-in-Err-release g c =
+pub returns-in-Err-release-clause-step : goal.returns-in-Err-release-clause-step
+returns-in-Err-release-clause-step g c =
     let t = transaction_of c.args.t.now in
     let call = append_call_is c.args.self.now.0.memory t c.args.action c.args.action _ _ c.args.flush refl c.null.ensures in
     let before = ap (λ v. v.0.memory) c.self.view_is ∙ c.in_default.ensures.memory in
@@ -41,3 +42,14 @@ returns-in-Err-release g c =
     stopped told c.args.self.now.0 c.release.new.self.0 c.append.new.self.0.log t c.args.action c.args.flush c.in_default.field-0 c.in-Err-release.refusal
     (same_call told _ _ _ _ _ _ _ call (c.in_default.ensures.step told))
     (same_step told _ _ _ _ _ _ _ _ _ (ap (λ v. v.0.log) c.self.view_is) client release (c.in-Err-release.ensures.step told)) memory
+
+pub returns-in-Err-clause-writes : goal.returns-in-Err-clause-writes
+returns-in-Err-clause-writes g c = of_log _ _ c.in-Err.refusal c.in-Err.ensures.writes
+
+pub returns-in-Ok-clause-writes : goal.returns-in-Ok-clause-writes
+returns-in-Ok-clause-writes g c =
+    of_ok _ _ _ c.in_default.field-0 (λ f. absurd (cc f)) (rw (c.in-Ok.ensures.disk, ap (λ v. v.1) c.self.view_is) c.in_default.ensures.writes)
+
+pub returns-in-Err-release-clause-writes : goal.returns-in-Err-release-clause-writes
+returns-in-Err-release-clause-writes g c =
+    of_ok _ _ _ c.in_default.field-0 (λ f. c.in-Err-release.ensures.calm (cc f)) (rw (c.in-Err-release.ensures.disk, ap (λ v. v.1) c.self.view_is) c.in_default.ensures.writes)

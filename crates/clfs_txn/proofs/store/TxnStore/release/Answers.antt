@@ -1,6 +1,7 @@
 use Rattle.std.proofs.Common.{◌≡◌, ap, ◌∙◌, refl, false, true}
 use Rattle.clfs_model.specs.declared.reply.Reply.TheVariants as replies
 use Rattle.clfs_txn.proofs.Breaking.{Laws, kept_after}
+use Rattle.clfs_txn.proofs.Written.{no_fault}
 use Rattle.clfs_txn.proofs.store.TxnStore.release.Goals as goal
 
 pub invariant_of-self : goal.invariant_of-self
@@ -9,3 +10,8 @@ invariant_of-self g c =
     let whole : c.self.inside.manager.0.broken ≡ false = ap (λ v. v.0.log.broken) c.self.view_is ∙ c.requires in
     kept_after laws _ _ _ replies.Held c.release-reply.result _ c.self.inside.memory c.self.inside.broken _ c.self.invariant
     (λ _. refl) whole (c.release-reply.ensures.step true) c.breaks-self-inside.ensures
+
+pub returns-clause-calm : goal.returns-clause-calm
+returns-clause-calm g c =
+    let whole : c.self.inside.manager.0.broken ≡ false = ap (λ v. v.0.log.broken) c.self.view_is ∙ c.requires in
+    no_fault true _ _ _ replies.Held c.release-reply.result _ whole refl (c.release-reply.ensures.step true)

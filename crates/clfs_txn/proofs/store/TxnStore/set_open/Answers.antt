@@ -12,6 +12,7 @@ use Rattle.clfs_txn.specs.Kept.{store_of}
 use Rattle.clfs_txn.proofs.Asked.{same_call, same_end, append_call_is}
 use Rattle.clfs_txn.proofs.Breaking.{same_store}
 use Rattle.clfs_txn.proofs.Sets.{held, spent, refused, done}
+use Rattle.clfs_txn.proofs.Written.{of_log}
 use Rattle.clfs_txn.proofs.store.TxnStore.set_open.Goals as goal
 
 pub returns-in-Some-clause-step : goal.returns-in-Some-clause-step
@@ -50,3 +51,6 @@ returns-in-Err-clause-step g c =
 
 pub returns-in-Err-clause-kept : goal.returns-in-Err-clause-kept
 returns-in-Err-clause-kept g c = λ fine. same_store _ _ (c.in-Err.ensures.kept fine) c.in-Err.ensures.memory
+
+pub returns-in-Err-clause-writes : goal.returns-in-Err-clause-writes
+returns-in-Err-clause-writes g c = of_log _ _ c.in-Err.refusal c.in-Err.ensures.writes

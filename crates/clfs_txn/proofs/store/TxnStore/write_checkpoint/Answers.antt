@@ -2,6 +2,7 @@ use Rattle.std.proofs.Common.{◌+◌, ap, ◌∙◌}
 use Rattle.clfs_txn.proofs.Asked.{same_call, base_is}
 use Rattle.clfs_txn.proofs.Breaking.{same_store}
 use Rattle.clfs_txn.proofs.Restarts.{unknown, refused, done}
+use Rattle.clfs_txn.proofs.Written.{nothing, of_log}
 use Rattle.clfs_txn.proofs.store.TxnStore.write_checkpoint.Goals as goal
 
 pub returns-in-Err-clause-step : goal.returns-in-Err-clause-step
@@ -21,3 +22,9 @@ returns-in-Err-write_restart-clause-step g c = λ told.
 
 pub returns-in-Err-write_restart-clause-kept : goal.returns-in-Err-write_restart-clause-kept
 returns-in-Err-write_restart-clause-kept g c = λ fine. same_store _ _ (c.in-Err-write_restart.ensures.kept fine) c.in-Err-write_restart.ensures.memory
+
+pub returns-in-Err-clause-writes : goal.returns-in-Err-clause-writes
+returns-in-Err-clause-writes g c = nothing _ _ (λ f. c.in-Err.ensures.calm (cc f))
+
+pub returns-in-Err-write_restart-clause-writes : goal.returns-in-Err-write_restart-clause-writes
+returns-in-Err-write_restart-clause-writes g c = of_log _ _ c.in-Err-write_restart.refusal c.in-Err-write_restart.ensures.writes
