@@ -1,6 +1,7 @@
 -- How calls leave the disk, seen from a store.
-use Rattle.std.proofs.Common.{◌≡◌, ℕ, Bool, true, false, Result, Ok, Err, inl, inr, refl, ap, subst, arith}
-use Rattle.std.specs.Prelude.{IsErrOf, MatchBool}
+use Rattle.std.proofs.Common.{◌≡◌, ℕ, Bool, true, false, Result, Ok, Err, Option, Some, None, ◌⊎◌, inl, inr, refl, ap, ◌∙◌, subst, arith}
+use Rattle.std.specs.Prelude.{IsErrOf, MatchBool, MatchOption}
+use Rattle.std.specs.Option.{option_map_or}
 use Rattle.clfs_disk.specs.State.{DiskState, Later}
 use Rattle.clfs_model.specs.declared.refusal.Refusal.{Refusal}
 use Rattle.clfs_model.specs.declared.refusal.Refusal.TheVariants as log_refusals
@@ -8,10 +9,16 @@ use Rattle.clfs_cells.specs.declared.told.TxnRefusal.{TxnRefusal}
 use Rattle.clfs_cells.specs.declared.told.TxnRefusal.TheVariants as refusals
 use Rattle.clfs_cells.specs.Stored.{Store}
 use Rattle.clfs_model.specs.declared.call.Call.{Call}
-use Rattle.clfs_model.specs.declared.reply.Happened.TheVariants.{Fault}
+use Rattle.clfs_model.specs.declared.call.Call.TheVariants as calls
+use Rattle.clfs_model.specs.declared.reply.Happened.TheVariants.{Fine, Fault}
 use Rattle.clfs_model.specs.declared.reply.Reply.{Reply}
 use Rattle.clfs_model.specs.declared.reply.Reply.TheVariants as replies
+use Rattle.clfs_model.specs.declared.state.Area.{Area}
 use Rattle.clfs_model.specs.declared.state.State.{State}
+use Rattle.clfs_model.specs.Answers.{outcome, released}
+use Rattle.clfs_model.specs.Refusals.{refusal}
+use Rattle.clfs_model.specs.State.{area_of}
+use Rattle.clfs_laws.specs.Refused.{is_of_call}
 use Rattle.clfs_model.specs.Step.{Step, calls_disk}
 use Rattle.clfs_manager.specs.Calls.{Steps}
 use Rattle.clfs_manager.specs.Written.{WritesDisk}
@@ -80,4 +87,33 @@ no_fault {A} told s client call answer result t whole quiet steps is =
     elim (where_not s.broken _ _ whole step) [
       | inl lacks ↦ let other = lacks.1.0 in absurd (cc other)
       | inr goes ↦ let called = goes.1.0 in absurd (cc (called, quiet))
+    ]
+
+either : {X : Type 0} (o : Option X) (N : Type 0) (S : X → Type 0) → MatchOption o N S → ((o ≡ None) × N) ⊎ ((x : X) × ((o ≡ Some x) × S x))
+either None N S h = inl (refl, h)
+either (Some x) N S h = inr (x, (refl, h))
+
+no_want_answered : (o : Option Area) (s : State) (sectors : ℕ)
+    → replies.Refused log_refusals.NoMemory ≡ (option_map_or (λ (area : Area). released s area sectors) o (outcome (replies.Refused log_refusals.NoSuchArea) s)).reply → ⊥
+no_want_answered None s sectors e = absurd (cc e)
+no_want_answered (Some area) s sectors e = absurd (cc e)
+
+-- giving up sectors takes no memory
+pub no_want : ((s : State) (client : ℕ) (call : Call) (given : Refusal) → refusal s client call ≡ Some given → is_of_call given ≡ true)
+    → (s : State) (client area sectors : ℕ) (result : Result ℕ Refusal) (t : State) → s.broken ≡ false
+    → Steps true s client (calls.Release area sectors) replies.Held result t → IsErrOf result log_refusals.NoMemory → ⊥
+unfolding Step
+no_want own s client area sectors result t whole steps is =
+    let step : Step true s client (calls.Release area sectors) Fine (replies.Refused log_refusals.NoMemory) t
+    = subst (λ (r : Result ℕ Refusal). Steps true s client (calls.Release area sectors) replies.Held r t) is steps in
+    elim (where_not s.broken _ _ whole step) [
+      | inl lacks ↦ absurd (cc (lacks.0))
+      | inr goes ↦ elim (either (refusal s client (calls.Release area sectors)) _ _ goes) [
+        | inl comes ↦ no_want_answered (area_of s client area) s sectors comes.1.0
+        | inr refused ↦
+            let same : replies.Refused log_refusals.NoMemory ≡ replies.Refused refused.0 = refused.1.1.0 in
+            let other : log_refusals.NoMemory ≡ refused.0 = cc same in
+            let listed : is_of_call refused.0 ≡ true = own s client (calls.Release area sectors) refused.0 refused.1.0 in
+            let none : is_of_call log_refusals.NoMemory ≡ true = ap is_of_call other ∙ listed in absurd (cc none)
+      ]
     ]

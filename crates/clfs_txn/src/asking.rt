@@ -13,7 +13,9 @@ ghost use Rattle.clfs_txn.specs.Calls.{is_break, breaks, draft_of};
 use crate::store::TxnStore;
 use clfs_cells::{Action, RECORD_BYTES, Transaction, TxnRecord, records_are_read_as_written};
 use clfs_disk::Disk;
-use clfs_laws::{faults_break, refusals_change_nothing, unbroken_stays};
+use clfs_laws::{
+    faults_break, refusals_are_the_calls_own, refusals_change_nothing, unbroken_stays,
+};
 use clfs_lsn::{Bytes, Lsn, Sizes};
 use clfs_model::{Draft, Refusal, ways_of_a_step};
 use std::alloc::{AllocError, Global};
@@ -111,10 +113,12 @@ impl<D: Disk> TxnStore<D> {
         ensures step { (told : Bool) → Steps told self.old.0.log self.old.0.memory.client
             (calls.Release self.old.0.memory.area sectors) replies.Held result self.new.0.log }
         ensures calm { IsErrOf result log_refusals.DiskFault → ⊥ }
+        ensures fed { IsErrOf result log_refusals.NoMemory → ⊥ }
         ensures disk { self.new.1 ≡ self.old.1 }
         ensures memory { self.new.0.memory ≡ self.old.0.memory }
     {
         faults_break();
+        refusals_are_the_calls_own();
         unbroken_stays();
         let reply = self
             .manager

@@ -24,6 +24,7 @@ impl<D: Disk> TxnStore<D> {
         flush: bool,
     ) -> Result<(), TxnRefusal>
         requires { self.old.0.log.broken ≡ false }
+        ensures kept { IsErrOf result (refusals.Log log_refusals.NoMemory) → self.new.0 ≡ self.old.0 }
         ensures writes { WritesDisk (IsErrOf result (refusals.Log log_refusals.DiskFault)) (D.state self.old.1) (D.state self.new.1) }
         ensures step { (told : Bool) → Carries told self.old.0 (end_plan self.old.0.memory (transaction_of t.now) action flush) (λ _. replies.Done) result self.new.0 }
     {
@@ -43,6 +44,7 @@ impl<D: Disk> TxnStore<D> {
     /// Refused in this order: `Log(Broken)`, `NoSuchTxn`, and want of memory and of the disk. After want of memory nothing has changed.
     pub fn commit(&mut self, txn: u32) -> Result<(), TxnRefusal>
         ensures step { (told : Bool) → TxnSteps told self.old.0 (asked.Commit txn) (λ _. replies.Done) result self.new.0 }
+        ensures kept { IsErrOf result (refusals.Log log_refusals.NoMemory) → self.new.0 ≡ self.old.0 }
         ensures writes { WritesDisk (IsErrOf result (refusals.Log log_refusals.DiskFault)) (D.state self.old.1) (D.state self.new.1) }
         ensures stopped { self.old.0.log.broken ≡ true → self.new.1 ≡ self.old.1 }
     {

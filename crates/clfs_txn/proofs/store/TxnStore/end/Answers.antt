@@ -3,6 +3,9 @@ use Rattle.clfs_cells.specs.Kept.{transaction_of}
 use Rattle.clfs_cells.specs.Stored.{Memory, most_records, records_made, without_transaction}
 use Rattle.clfs_txn.proofs.Asked.{same_call, same_step, append_call_is, release_is}
 use Rattle.clfs_txn.proofs.Ends.{refused, done, stopped}
+use Rattle.clfs_model.specs.declared.refusal.Refusal.TheVariants as log_refusals
+use Rattle.clfs_txn.specs.Calls.{is_break}
+use Rattle.clfs_txn.proofs.Breaking.{same_store}
 use Rattle.clfs_txn.proofs.Written.{of_log, of_ok}
 use Rattle.clfs_txn.proofs.store.TxnStore.end.Goals as goal
 
@@ -53,3 +56,14 @@ returns-in-Ok-clause-writes g c =
 pub returns-in-Err-release-clause-writes : goal.returns-in-Err-release-clause-writes
 returns-in-Err-release-clause-writes g c =
     of_ok _ _ _ c.in_default.field-0 (λ f. c.in-Err-release.ensures.calm (cc f)) (rw (c.in-Err-release.ensures.disk, ap (λ v. v.1) c.self.view_is) c.in_default.ensures.writes)
+
+pub returns-in-Err-clause-kept : goal.returns-in-Err-clause-kept
+returns-in-Err-clause-kept g c = λ f.
+    let want : c.in-Err.refusal ≡ log_refusals.NoMemory = cc f in
+    same_store _ _ (c.in-Err.ensures.kept (ap is_break want)) c.in-Err.ensures.memory
+
+pub returns-in-Ok-clause-kept : goal.returns-in-Ok-clause-kept
+returns-in-Ok-clause-kept g c = λ f. absurd (cc f)
+
+pub returns-in-Err-release-clause-kept : goal.returns-in-Err-release-clause-kept
+returns-in-Err-release-clause-kept g c = λ f. absurd (c.in-Err-release.ensures.fed (cc f))

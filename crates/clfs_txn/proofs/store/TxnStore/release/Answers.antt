@@ -1,7 +1,7 @@
 use Rattle.std.proofs.Common.{◌≡◌, ap, ◌∙◌, refl, false, true}
 use Rattle.clfs_model.specs.declared.reply.Reply.TheVariants as replies
 use Rattle.clfs_txn.proofs.Breaking.{Laws, kept_after}
-use Rattle.clfs_txn.proofs.Written.{no_fault}
+use Rattle.clfs_txn.proofs.Written.{no_fault, no_want}
 use Rattle.clfs_txn.proofs.store.TxnStore.release.Goals as goal
 
 pub invariant_of-self : goal.invariant_of-self
@@ -15,3 +15,8 @@ pub returns-clause-calm : goal.returns-clause-calm
 returns-clause-calm g c =
     let whole : c.self.inside.manager.0.broken ≡ false = ap (λ v. v.0.log.broken) c.self.view_is ∙ c.requires in
     no_fault true _ _ _ replies.Held c.release-reply.result _ whole refl (c.release-reply.ensures.step true)
+
+pub returns-clause-fed : goal.returns-clause-fed
+returns-clause-fed g c =
+    let whole : c.self.inside.manager.0.broken ≡ false = ap (λ v. v.0.log.broken) c.self.view_is ∙ c.requires in
+    no_want c.refusals_are_the_calls_own.ensures.own _ _ _ _ c.release-reply.result _ whole (c.release-reply.ensures.step true)
