@@ -87,8 +87,8 @@ impl<D: Disk> TxnStore<D> {
         }
     }
 
-    /// Writes a restart area with all cells, which is on the disk when the call answers. The stream's base is that restart area then, so all records
-    /// below it are given up.
+    /// Writes a restart area with all cells, which is on the disk when the call answers. The stream's base is one above the last record before it then,
+    /// so all records below the restart area are given up.
     ///
     /// Refused in this order: `Log(Broken)`, `TxnsOpen`, and what the log refuses: `Full`, and want of memory and of the disk. After any refusal but a
     /// fault of the disk nothing has changed.

@@ -32,7 +32,7 @@ impl<D: Disk> Model for TxnStore<D> {
 }
 
 impl<D: Disk> TxnStore<D> {
-    /// The value of a cell: what was committed, with what the open transactions did besides. It calls no disk, and is answered by a broken store too.
+    /// The value that the store keeps of a cell. It asks nothing of the log, and is answered by a broken store too.
     pub fn get(&self, cell: u16) -> u64
         requires { cell < 32 }
         ensures value { result ≡ slice_index self.now.0.memory.cells cell }
@@ -41,7 +41,7 @@ impl<D: Disk> TxnStore<D> {
         self.memory.cell(cell)
     }
 
-    /// The log given back. Nothing is written: what isn't flushed is lost when it is closed, and open transactions with it.
+    /// The log given back. Nothing is written or ended: what isn't flushed is lost when the log is closed, and the area is still there.
     pub fn close(self) -> Manager<D>
         ensures log { result.0 ≡ self.0.log }
         ensures disk { result.1 ≡ self.1 }
