@@ -1,13 +1,12 @@
-ghost use Rattle.std.specs.Prelude.{◌≡◌, ◌≤◌, ◌<◌, length, IfOk};
+ghost use Rattle.std.specs.Prelude.{◌≡◌, ◌≤◌, length, IfSome};
 
 use clfs_base::{
-    Asked, BaseRefusal, Demands, NewestRefusal, close_older, decode, decode_within, encode,
-    open_slot, read_newest, write_body,
+    Asked, BaseImage, BaseRefusal, Demands, NewestRefusal, close_older, decode, decode_within,
+    encode, open_slot, read_newest, write_body,
 };
 use clfs_disk::{Disk, Fuse, Memory};
 use clfs_lsn::Lsn;
 use std::alloc::Global;
-use std::test::Fail;
 
 // The bytes of a slot of version 2 of a log with blocks of 2 sectors and 2 containers of 8, of which container 1 is listed, in file 1:
 // those up to byte 23, and byte 64. All others are 0.
@@ -29,34 +28,40 @@ const ALPHA: [u8; 21] = [
 
 const SECOND: [u8; 18] = [2, 0, 0, 0, 0, 0, 0, 0, 0, 0, 0, 0, 0, 0, 0, 0, b'b', b'-'];
 
-// A slot with these bytes at places, all others 0.
-fn slot_with(alloc: Global, parts: &[(usize, &[u8])]) -> Result<Vec<u8>, Fail>
-    ensures { IfOk result (λ bytes. length bytes.items ≡ 16384) }
-{
-    let mut bytes = Vec::new(alloc);
-    bytes.resize(16384, 0)?;
-    for (at, part) in parts {
-        for (i, byte) in part.iter().enumerate() {
-            if let Some(place) = bytes.get_mut(at.saturating_add(i)) {
-                *place = *byte;
-            }
+// Puts bytes at a place.
+fn put(slot: &mut [u8], at: usize, bytes: &[u8]) {
+    for (i, byte) in bytes.iter().enumerate() {
+        if let Some(place) = slot.get_mut(at.saturating_add(i)) {
+            *place = *byte;
         }
     }
-    if bytes.len() != 16384 {
-        return Err("no slot".into());
+}
+
+// A slot with these bytes at places, all others 0.
+fn slot_with(alloc: Global, parts: &[(usize, &[u8])]) -> Option<Vec<u8>>
+    ensures { IfSome result (λ bytes. length bytes.items ≡ 16384) }
+{
+    let mut bytes = Vec::new(alloc);
+    bytes.resize(16384, 0).ok()?;
+    for (at, part) in parts {
+        put(&mut bytes, *at, part);
     }
-    Ok(bytes)
+    if bytes.len() == 16384 {
+        Some(bytes)
+    } else {
+        None
+    }
 }
 
 // The same slots in a version.
-fn small_slot(alloc: Global, version: u8) -> Result<Vec<u8>, Fail>
-    ensures { IfOk result (λ bytes. length bytes.items ≡ 16384) }
+fn small_slot(alloc: Global, version: u8) -> Option<Vec<u8>>
+    ensures { IfSome result (λ bytes. length bytes.items ≡ 16384) }
 {
     slot_with(alloc, &[(0, &FRONT), (1, &[version]), (64, &[1])])
 }
 
-fn full_slot(alloc: Global, version: u8) -> Result<Vec<u8>, Fail>
-    ensures { IfOk result (λ bytes. length bytes.items ≡ 16384) }
+fn full_slot(alloc: Global, version: u8) -> Option<Vec<u8>>
+    ensures { IfSome result (λ bytes. length bytes.items ≡ 16384) }
 {
     slot_with(
         alloc,
@@ -77,76 +82,128 @@ fn second_row(version: u8) -> usize
     if version == 1 { 624 } else { 656 }
 }
 
-#[test]
-fn copies_are_written_and_read(rt: HostRuntime) -> Result<(), Fail> {
-    let alloc = rt.alloc();
-    // what is read in a version, and what is written of it
-    let table = [
-        (small_slot(alloc, 2)?, small_slot(alloc, 2)?),
-        (full_slot(alloc, 2)?, full_slot(alloc, 2)?),
-        (small_slot(alloc, 1)?, small_slot(alloc, 2)?),
-        (full_slot(alloc, 1)?, full_slot(alloc, 2)?),
-    ];
-    for (bytes, written) in table {
-        let image = decode(alloc, &bytes)?;
-        let mut again = slot_with(alloc, &[(0, &[0xA5])])?;
-        encode(&image, &mut again[1..]);
-        assert!(rt; again.as_slice() == written.as_slice());
+// What is written of a copy that was read.
+fn written_again(alloc: Global, bytes: &[u8]) -> Option<Vec<u8>> {
+    let image = decode(alloc, bytes).ok()?;
+    let mut again = slot_with(alloc, &[(0, &[0xA5])])?;
+    encode(&image, &mut again[1..]);
+    Some(again)
+}
+
+// A copy that is read in a version is written in the second one.
+fn is_written(alloc: Global, version: u8) -> Option<bool> {
+    let small = written_again(alloc, &small_slot(alloc, version)?)?;
+    if small.as_slice() != small_slot(alloc, 2)?.as_slice() {
+        return Some(false);
     }
-    Ok(())
+    let full = written_again(alloc, &full_slot(alloc, version)?)?;
+    Some(full.as_slice() == full_slot(alloc, 2)?.as_slice())
 }
 
 #[test]
-fn fields_stand_where_they_should(rt: HostRuntime) -> Result<(), Fail> {
-    let alloc = rt.alloc();
+fn copies_are_written_and_read(rt: HostRuntime) {
+    assert!(rt; is_written(rt.alloc(), 2) == Some(true));
+    assert!(rt; is_written(rt.alloc(), 1) == Some(true));
+}
+
+fn is_small(image: &BaseImage, version: u8) -> bool {
+    let sizes = (
+        image.block_sectors,
+        image.container_sectors,
+        image.containers,
+    );
+    image.version == version
+        && image.turn == 0
+        && !image.dedicated
+        && sizes == (2, 8, 2)
+        && image.files_made == 2
+        && image.first == 1
+        && image.files.as_slice() == [1].as_slice()
+        && image.streams.as_slice().is_empty()
+}
+
+fn has_fields_of_full(image: &BaseImage, version: u8) -> bool {
+    image.version == version
+        && image.turn == 1
+        && !image.dedicated
+        && image.containers == 4
+        && image.files_made == 4
+        && image.first == 2
+        && image.files.as_slice() == [3, 1].as_slice()
+}
+
+fn has_policies_of_full(image: &BaseImage) -> bool {
+    image.archiving
+        && image.automatic
+        && image.tail == Lsn::of_number(2 << 32)
+        && image.maximum == 8
+        && image.minimum == 2
+        && image.growth == 1
+}
+
+fn has_streams_of_full(image: &BaseImage) -> bool {
+    match image.streams.as_slice() {
+        [first, second] => {
+            first.name.as_slice() == b"alpha".as_slice()
+                && first.base == Lsn::of_number((2 << 32) + 512)
+                && second.name.as_slice() == b"b-".as_slice()
+                && second.base == Lsn::null()
+        }
+        _ => false,
+    }
+}
+
+fn has_fields_of_small(alloc: Global, version: u8) -> Option<bool> {
+    let small = decode(alloc, &small_slot(alloc, version)?).ok()?;
+    Some(is_small(&small, version))
+}
+
+fn has_all_of_full(alloc: Global, version: u8) -> Option<bool> {
+    let full = decode(alloc, &full_slot(alloc, version)?).ok()?;
+    Some(
+        has_fields_of_full(&full, version)
+            && has_policies_of_full(&full)
+            && has_streams_of_full(&full),
+    )
+}
+
+#[test]
+fn fields_stand_where_they_should(rt: HostRuntime) {
     for version in 1..3 {
-        let small = decode(alloc, &small_slot(alloc, version)?)?;
-        assert!(rt; small.version == version && small.turn == 0 && !small.dedicated);
-        assert!(rt; small.block_sectors == 2 && small.container_sectors == 8);
-        assert!(rt; small.containers == 2 && small.files_made == 2 && small.first == 1);
-        assert!(rt;
-            small.files.as_slice() == [1].as_slice() && small.streams.as_slice().is_empty()
-        );
-        let full = decode(alloc, &full_slot(alloc, version)?)?;
-        assert!(rt; full.version == version && full.turn == 1 && !full.dedicated);
-        assert!(rt; full.containers == 4 && full.files_made == 4 && full.first == 2);
-        assert!(rt; full.archiving && full.automatic && full.tail == Lsn::of_number(2 << 32));
-        assert!(rt; full.maximum == 8 && full.minimum == 2 && full.growth == 1);
-        assert!(rt; full.files.as_slice() == [3, 1].as_slice());
-        let streams = full.streams.as_slice();
-        assert_eq!(rt; streams.len(), 2);
-        assert!(rt;
-            streams[0].name.as_slice() == b"alpha".as_slice()
-                && streams[1].name.as_slice() == b"b-".as_slice()
-        );
-        assert!(rt;
-            streams[0].base == Lsn::of_number((2 << 32) + 512) && streams[1].base == Lsn::null()
-        );
+        assert!(rt; has_fields_of_small(rt.alloc(), version) == Some(true));
+        assert!(rt; has_all_of_full(rt.alloc(), version) == Some(true));
     }
-    Ok(())
+}
+
+// A slot of a dedicated log with no stream or one.
+fn dedicated_slot(alloc: Global, streams: u8) -> Option<Vec<u8>> {
+    slot_with(
+        alloc,
+        &[
+            (0, &FRONT),
+            (22, &[streams]),
+            (40, &[1]),
+            (64, &[1]),
+            (576, if streams == 0 { &[] } else { &ALPHA }),
+        ],
+    )
+}
+
+fn has_streams(alloc: Global, bytes: &[u8], streams: u8) -> Option<bool> {
+    let image = decode(alloc, bytes).ok()?;
+    Some(image.dedicated && image.streams.as_slice().len() == streams as usize)
+}
+
+fn is_read_and_written(alloc: Global, streams: u8) -> Option<bool> {
+    let bytes = dedicated_slot(alloc, streams)?;
+    let again = written_again(alloc, &bytes)?;
+    Some(has_streams(alloc, &bytes, streams)? && again.as_slice() == bytes.as_slice())
 }
 
 #[test]
-fn a_dedicated_log_has_one_stream_at_most(rt: HostRuntime) -> Result<(), Fail> {
-    let alloc = rt.alloc();
-    for streams in 0..2 {
-        let bytes = slot_with(
-            alloc,
-            &[
-                (0, &FRONT),
-                (22, &[streams]),
-                (40, &[1]),
-                (64, &[1]),
-                (576, &ALPHA[..21 * streams as usize]),
-            ],
-        )?;
-        let image = decode(alloc, &bytes)?;
-        assert!(rt; image.dedicated && image.streams.as_slice().len() == streams as usize);
-        let mut again = slot_with(alloc, &[(0, &[0xA5])])?;
-        encode(&image, &mut again[1..]);
-        assert!(rt; again.as_slice() == bytes.as_slice());
-    }
-    Ok(())
+fn a_dedicated_log_has_one_stream_at_most(rt: HostRuntime) {
+    assert!(rt; is_read_and_written(rt.alloc(), 0) == Some(true));
+    assert!(rt; is_read_and_written(rt.alloc(), 1) == Some(true));
 }
 
 // The byte at which bytes are refused.
@@ -228,108 +285,146 @@ const IN_ONE: [Change; 16] = [
     (2, 737, 1, Some(737)),
 ];
 
+// The byte at which the full slot of a version is refused, of which one byte is this.
+fn told(alloc: Global, version: u8, at: usize, value: u8) -> Option<u32> {
+    match full_slot(alloc, version) {
+        Some(mut bytes) => {
+            put(&mut bytes, at, &[value]);
+            wrong_byte(alloc, &bytes)
+        }
+        None => Some(u32::MAX),
+    }
+}
+
+// The same of the small slot of the first version.
+fn told_of_small(alloc: Global, at: usize, value: u8) -> Option<u32> {
+    let mut bytes = small_slot(alloc, 1)?;
+    put(&mut bytes, at, &[value]);
+    wrong_byte(alloc, &bytes)
+}
+
+// The same of the full slot, where the second row has the name of the first.
+fn told_of_name_twice(alloc: Global, version: u8) -> Option<u32> {
+    let mut bytes = full_slot(alloc, version)?;
+    put(&mut bytes, second_row(version), &ALPHA);
+    wrong_byte(alloc, &bytes)
+}
+
 #[test]
-fn a_changed_byte_is_told_at_its_field(rt: HostRuntime) -> Result<(), Fail> {
+fn a_changed_byte_is_told_at_its_field(rt: HostRuntime) {
     let alloc = rt.alloc();
-    let mut table = Vec::new(alloc);
     for (at, value, want) in IN_BOTH {
-        table.push((1, at, value, want))?;
-        table.push((2, at, value, want))?;
+        assert!(rt;
+            told(alloc, 1, at, value) == want,
+            "byte {at} of version 1 is {value}"
+        );
+        assert!(rt;
+            told(alloc, 2, at, value) == want,
+            "byte {at} of version 2 is {value}"
+        );
     }
-    for change in IN_ONE {
-        table.push(change)?;
-    }
-    for (version, at, value, want) in table {
-        let mut bytes = full_slot(alloc, version)?;
-        *bytes.get_mut(at).ok_or("a byte")? = value;
-        assert_eq!(rt;
-            wrong_byte(alloc, &bytes),
-            want,
+}
+
+#[test]
+fn a_changed_byte_is_told_by_the_version(rt: HostRuntime) {
+    let alloc = rt.alloc();
+    for (version, at, value, want) in IN_ONE {
+        assert!(rt;
+            told(alloc, version, at, value) == want,
             "byte {at} of version {version} is {value}"
         );
     }
-    for version in 1..3 {
-        let mut twice = full_slot(alloc, version)?;
-        for (i, byte) in ALPHA.iter().enumerate() {
-            *twice
-                .get_mut(second_row(version).saturating_add(i))
-                .ok_or("a byte")? = *byte;
-        }
-        let name = second_row(version) as u32 + 16;
-        assert_eq!(rt; wrong_byte(alloc, &twice), Some(name));
-    }
+    assert!(rt; told_of_name_twice(alloc, 1) == Some(624 + 16));
+    assert!(rt; told_of_name_twice(alloc, 2) == Some(656 + 16));
     // no dedicated log in the first version
-    let mut small = small_slot(alloc, 1)?;
-    *small.get_mut(40).ok_or("a byte")? = 1;
-    assert_eq!(rt; wrong_byte(alloc, &small), Some(40));
-    Ok(())
+    assert!(rt; told_of_small(alloc, 40, 1) == Some(40));
+}
+
+// The letter of a digit below 16.
+fn letter(digit: usize) -> u8 {
+    b'a' + (digit % 16) as u8
 }
 
 // A slot with 192 streams, whose names have 64 bytes: the digits of their numbers over and over.
-fn widest_slot(alloc: Global) -> Result<Vec<u8>, Fail>
-    ensures { IfOk result (λ bytes. length bytes.items ≡ 16384) }
+fn widest_slot(alloc: Global) -> Option<Vec<u8>>
+    ensures { IfSome result (λ bytes. length bytes.items ≡ 16384) }
 {
     let mut bytes = slot_with(alloc, &[(0, &FRONT), (22, &[192]), (64, &[1])])?;
     for row in 0..192 {
         let at = 576 + 80 * row;
-        *bytes.get_mut(at).ok_or("a row")? = 64;
-        for i in 0..64 {
-            let digit = if i % 2 == 0 { row / 16 } else { row % 16 };
-            *bytes.get_mut(at + 16 + i).ok_or("a name")? = b'a' + (digit % 16) as u8;
-        }
-    }
-    if bytes.len() != 16384 {
-        return Err("no slot".into());
-    }
-    Ok(bytes)
-}
-
-#[test]
-fn rows_go_up_to_their_end(rt: HostRuntime) -> Result<(), Fail> {
-    let alloc = rt.alloc();
-    let bytes = widest_slot(alloc)?;
-    let image = decode(alloc, &bytes)?;
-    assert_eq!(rt; image.streams.as_slice().len(), 192);
-    let mut again = slot_with(alloc, &[(0, &[0xA5])])?;
-    encode(&image, &mut again[1..]);
-    assert!(rt; again.as_slice() == bytes.as_slice());
-    // the last byte of the last name, the byte behind it, and one row more
-    for (at, value, want) in [(15935, b'/', 15872), (15936, 1, 15936), (22, 193, 22)] {
-        let mut bytes = widest_slot(alloc)?;
-        *bytes.get_mut(at).ok_or("a byte")? = value;
-        assert_eq!(rt; wrong_byte(alloc, &bytes), Some(want), "byte {at}");
-    }
-    Ok(())
-}
-
-#[test]
-fn a_missing_byte_is_told_at_its_field(rt: HostRuntime) -> Result<(), Fail> {
-    let alloc = rt.alloc();
-    for version in 1..3 {
-        let bytes = full_slot(alloc, version)?;
-        for (there, at) in [
-            (0, 1),
-            (1, 1),
-            (5, 4),
-            (39, 32),
-            (40, 40),
-            (41, 41),
-            (65, 64),
-            (68, 68),
-            (576, 576),
-            (590, 584),
-            (594, 592),
-            (600, 600),
-            (16383, 16383),
-        ] {
-            assert_eq!(rt;
-                wrong_byte(alloc, &bytes[..there]),
-                Some(at),
-                "{there} bytes"
+        put(&mut bytes, at, &[64]);
+        for i in 0..32 {
+            put(
+                &mut bytes,
+                at + 16 + 2 * i,
+                &[letter(row / 16), letter(row % 16)],
             );
         }
     }
-    Ok(())
+    if bytes.len() == 16384 {
+        Some(bytes)
+    } else {
+        None
+    }
+}
+
+fn is_widest(alloc: Global) -> Option<bool> {
+    let bytes = widest_slot(alloc)?;
+    let image = decode(alloc, &bytes).ok()?;
+    let again = written_again(alloc, &bytes)?;
+    Some(image.streams.as_slice().len() == 192 && again.as_slice() == bytes.as_slice())
+}
+
+fn told_of_widest(alloc: Global, at: usize, value: u8) -> Option<u32> {
+    let mut bytes = widest_slot(alloc)?;
+    put(&mut bytes, at, &[value]);
+    wrong_byte(alloc, &bytes)
+}
+
+#[test]
+fn rows_go_up_to_their_end(rt: HostRuntime) {
+    let alloc = rt.alloc();
+    assert!(rt; is_widest(alloc) == Some(true));
+    // the last byte of the last name, the byte behind it, and one row more
+    for (at, value, want) in [(15935, b'/', 15872), (15936, 1, 15936), (22, 193, 22)] {
+        assert!(rt; told_of_widest(alloc, at, value) == Some(want), "byte {at}");
+    }
+}
+
+// So many bytes of a slot, and the byte at which they are refused.
+const FRONTS: [(usize, u32); 13] = [
+    (0, 1),
+    (1, 1),
+    (5, 4),
+    (39, 32),
+    (40, 40),
+    (41, 41),
+    (65, 64),
+    (68, 68),
+    (576, 576),
+    (590, 584),
+    (594, 592),
+    (600, 600),
+    (16383, 16383),
+];
+
+fn told_of_front(alloc: Global, version: u8, there: usize) -> Option<u32> {
+    let bytes = full_slot(alloc, version)?;
+    wrong_byte(alloc, bytes.get(..there)?)
+}
+
+#[test]
+fn a_missing_byte_is_told_at_its_field(rt: HostRuntime) {
+    for (there, at) in FRONTS {
+        assert!(rt;
+            told_of_front(rt.alloc(), 1, there) == Some(at),
+            "{there} bytes"
+        );
+        assert!(rt;
+            told_of_front(rt.alloc(), 2, there) == Some(at),
+            "{there} bytes"
+        );
+    }
 }
 
 // This number alone.
@@ -340,183 +435,206 @@ fn exactly(number: u64) -> Asked {
     }
 }
 
+// A field of which something is asked.
+#[derive(Clone, Copy)]
+enum Field {
+    Version,
+    Turn,
+    BlockSectors,
+    ContainerSectors,
+    Streams,
+    Archiving,
+    Tail,
+}
+
 // What asks for this number alone in one field.
-fn of_version(number: u64) -> Demands {
-    Demands {
-        version: exactly(number),
-        ..Demands::anything()
+fn demands(field: Field, number: u64) -> Demands {
+    let mut demands = Demands::anything();
+    let asked = exactly(number);
+    match field {
+        Field::Version => demands.version = asked,
+        Field::Turn => demands.turn = asked,
+        Field::BlockSectors => demands.block_sectors = asked,
+        Field::ContainerSectors => demands.container_sectors = asked,
+        Field::Streams => demands.streams = asked,
+        Field::Archiving => demands.archiving = asked,
+        Field::Tail => demands.tail = asked,
+    }
+    demands
+}
+
+// The byte at which bytes are refused of which something is asked.
+fn told_within(alloc: Global, bytes: &[u8], demands: &Demands) -> Option<u32> {
+    match decode_within(alloc, bytes, demands) {
+        Ok(_) => None,
+        Err(BaseRefusal::BadByte { at }) => Some(at),
+        Err(BaseRefusal::NoMemory) => Some(u32::MAX),
     }
 }
 
-fn of_turn(number: u64) -> Demands {
-    Demands {
-        turn: exactly(number),
-        ..Demands::anything()
-    }
-}
+// A field, the number that is asked for, and the byte that is told.
+const ASKED: [(Field, u64, Option<u32>); 12] = [
+    (Field::Version, 2, None),
+    (Field::Version, 1, Some(1)),
+    (Field::Turn, 1, None),
+    (Field::Turn, 0, Some(2)),
+    (Field::BlockSectors, 2, None),
+    (Field::BlockSectors, 4, Some(4)),
+    (Field::ContainerSectors, 16, Some(8)),
+    (Field::Streams, 3, Some(22)),
+    (Field::Archiving, 1, None),
+    (Field::Archiving, 0, Some(24)),
+    (Field::Tail, 2 << 32, None),
+    (Field::Tail, 3 << 32, Some(32)),
+];
 
-fn of_block_sectors(number: u64) -> Demands {
-    Demands {
-        block_sectors: exactly(number),
-        ..Demands::anything()
-    }
-}
-
-fn of_container_sectors(number: u64) -> Demands {
-    Demands {
-        container_sectors: exactly(number),
-        ..Demands::anything()
-    }
-}
-
-fn of_streams(number: u64) -> Demands {
-    Demands {
-        streams: exactly(number),
-        ..Demands::anything()
-    }
-}
-
-fn of_archiving(number: u64) -> Demands {
-    Demands {
-        archiving: exactly(number),
-        ..Demands::anything()
-    }
-}
-
-fn of_tail(number: u64) -> Demands {
-    Demands {
-        tail: exactly(number),
-        ..Demands::anything()
-    }
+// Of two fields the first one is told.
+fn two_fields() -> Demands {
+    let mut both = demands(Field::Streams, 3);
+    both.turn = exactly(0);
+    both
 }
 
 #[test]
-fn a_copy_is_read_within_what_is_asked(rt: HostRuntime) -> Result<(), Fail> {
+fn a_copy_is_read_within_what_is_asked(rt: HostRuntime) {
     let alloc = rt.alloc();
-    let bytes = full_slot(alloc, 2)?;
-    let two_fields = Demands {
-        turn: exactly(0),
-        ..of_streams(3)
+    let Some(bytes) = full_slot(alloc, 2) else {
+        panic!(rt; "no slot was made");
     };
-    let table = [
-        (Demands::anything(), None),
-        (of_version(2), None),
-        (of_version(1), Some(1)),
-        (of_turn(1), None),
-        (of_turn(0), Some(2)),
-        (of_block_sectors(2), None),
-        (of_block_sectors(4), Some(4)),
-        (of_container_sectors(16), Some(8)),
-        (of_streams(3), Some(22)),
-        (of_archiving(1), None),
-        (of_archiving(0), Some(24)),
-        (of_tail(2 << 32), None),
-        (of_tail(3 << 32), Some(32)),
-        (two_fields, Some(2)),
-    ];
-    for (demands, want) in table {
-        let found = match decode_within(alloc, &bytes, &demands) {
-            Ok(_) => None,
-            Err(BaseRefusal::BadByte { at }) => Some(at),
-            Err(BaseRefusal::NoMemory) => Some(u32::MAX),
-        };
-        assert_eq!(rt; found, want);
+    assert!(rt; told_within(alloc, &bytes, &Demands::anything()).is_none());
+    assert!(rt; told_within(alloc, &bytes, &two_fields()) == Some(2));
+    for (field, number, want) in ASKED {
+        assert!(rt; told_within(alloc, &bytes, &demands(field, number)) == want);
     }
-    Ok(())
 }
 
-// A disk whose base file has these two slots, each with its gate, its version and its turn.
-fn disk_with(alloc: Global, slots: [(u8, u8, u8); 2]) -> Result<Memory, Fail> {
-    let mut disk = Memory::new(alloc, 20, 65536, &[])?;
-    disk.grow(0, 32768)?;
-    for (slot, (gate, version, turn)) in slots.iter().enumerate() {
-        let mut bytes = full_slot(alloc, *version)?;
-        bytes[0] = *gate;
-        bytes[2] = *turn;
-        disk.write(0, 16384 * slot as u64, &bytes)?;
+// The gate, the version and the turn of a slot.
+type Slot = (u8, u8, u8);
+
+// Writes such a slot.
+fn write_slot(alloc: Global, disk: &mut Memory, at: u64, slot: Slot) -> Option<()> {
+    let (gate, version, turn) = slot;
+    let mut bytes = full_slot(alloc, version)?;
+    put(&mut bytes, 0, &[gate]);
+    put(&mut bytes, 2, &[turn]);
+    disk.write(0, at, &bytes).ok()
+}
+
+// A disk whose base file has these two slots.
+fn disk_with(alloc: Global, slots: [Slot; 2]) -> Option<Memory> {
+    let mut disk = Memory::new(alloc, 20, 65536, &[]).ok()?;
+    disk.grow(0, 32768).ok()?;
+    write_slot(alloc, &mut disk, 0, slots[0])?;
+    write_slot(alloc, &mut disk, 16384, slots[1])?;
+    disk.sync().ok()?;
+    Some(disk)
+}
+
+// The newest copy's slot.
+fn newest<D: Disk>(alloc: Global, disk: &mut D) -> Result<u32, NewestRefusal> {
+    match read_newest(alloc, disk) {
+        Ok((slot, _)) => Ok(slot),
+        Err(refusal) => Err(refusal),
     }
-    disk.sync()?;
-    Ok(disk)
+}
+
+// Two slots, and the newer one or what is told.
+const SLOTS: [([Slot; 2], Result<u32, NewestRefusal>); 16] = [
+    ([(0xA5, 2, 2), (0xA5, 2, 0)], Ok(1)),
+    ([(0xA5, 2, 0), (0xA5, 2, 2)], Ok(0)),
+    ([(0xA5, 2, 1), (0xA5, 2, 0)], Ok(0)),
+    // the turn alone tells the newer one, whatever the versions
+    ([(0xA5, 1, 2), (0xA5, 2, 0)], Ok(1)),
+    ([(0xA5, 2, 2), (0xA5, 1, 0)], Ok(1)),
+    ([(0xA5, 1, 0), (0xA5, 2, 2)], Ok(0)),
+    ([(0xA5, 2, 0), (0xA5, 1, 2)], Ok(0)),
+    ([(0xA5, 2, 0), (0xA5, 3, 2)], Ok(0)),
+    (
+        [(0xA5, 3, 0), (0xA5, 2, 2)],
+        Err(NewestRefusal::BadByte { slot: 0, at: 1 }),
+    ),
+    (
+        [(0xA5, 1, 2), (0xA5, 0, 0)],
+        Err(NewestRefusal::BadByte { slot: 1, at: 1 }),
+    ),
+    ([(0xA4, 2, 2), (0xA5, 2, 0)], Ok(1)),
+    ([(0xA5, 2, 0), (0, 2, 3)], Ok(0)),
+    ([(0xA4, 2, 0), (0, 2, 1)], Err(NewestRefusal::NoBase)),
+    (
+        [(0xA5, 1, 1), (0xA5, 2, 1)],
+        Err(NewestRefusal::BadByte { slot: 1, at: 2 }),
+    ),
+    (
+        [(0xA5, 2, 3), (0xA5, 2, 3)],
+        Err(NewestRefusal::BadByte { slot: 0, at: 2 }),
+    ),
+    (
+        [(0, 2, 0), (0xA5, 2, 3)],
+        Err(NewestRefusal::BadByte { slot: 1, at: 2 }),
+    ),
+];
+
+// The newer slot is this, and a fault of the disk is told.
+fn is_newest(alloc: Global, slots: [Slot; 2], want: Result<u32, NewestRefusal>) -> Option<bool> {
+    let mut disk = disk_with(alloc, slots)?;
+    let found = newest(alloc, &mut disk);
+    let mut stopped = Fuse::new(disk, 1);
+    let fault = newest(alloc, &mut stopped);
+    Some(found == want && fault == Err(NewestRefusal::DiskFault))
 }
 
 #[test]
-fn the_newer_open_slot_is_read(rt: HostRuntime) -> Result<(), Fail> {
-    let alloc = rt.alloc();
-    let table = [
-        ([(0xA5, 2, 2), (0xA5, 2, 0)], Ok(1)),
-        ([(0xA5, 2, 0), (0xA5, 2, 2)], Ok(0)),
-        ([(0xA5, 2, 1), (0xA5, 2, 0)], Ok(0)),
-        // the turn alone tells the newer one, whatever the versions
-        ([(0xA5, 1, 2), (0xA5, 2, 0)], Ok(1)),
-        ([(0xA5, 2, 2), (0xA5, 1, 0)], Ok(1)),
-        ([(0xA5, 1, 0), (0xA5, 2, 2)], Ok(0)),
-        ([(0xA5, 2, 0), (0xA5, 1, 2)], Ok(0)),
-        ([(0xA5, 2, 0), (0xA5, 3, 2)], Ok(0)),
-        (
-            [(0xA5, 3, 0), (0xA5, 2, 2)],
-            Err(NewestRefusal::BadByte { slot: 0, at: 1 }),
-        ),
-        (
-            [(0xA5, 1, 2), (0xA5, 0, 0)],
-            Err(NewestRefusal::BadByte { slot: 1, at: 1 }),
-        ),
-        ([(0xA4, 2, 2), (0xA5, 2, 0)], Ok(1)),
-        ([(0xA5, 2, 0), (0, 2, 3)], Ok(0)),
-        ([(0xA4, 2, 0), (0, 2, 1)], Err(NewestRefusal::NoBase)),
-        (
-            [(0xA5, 1, 1), (0xA5, 2, 1)],
-            Err(NewestRefusal::BadByte { slot: 1, at: 2 }),
-        ),
-        (
-            [(0xA5, 2, 3), (0xA5, 2, 3)],
-            Err(NewestRefusal::BadByte { slot: 0, at: 2 }),
-        ),
-        (
-            [(0, 2, 0), (0xA5, 2, 3)],
-            Err(NewestRefusal::BadByte { slot: 1, at: 2 }),
-        ),
-    ];
-    for (slots, want) in table {
-        let mut disk = disk_with(alloc, slots)?;
-        let found = read_newest(alloc, &mut disk).map(|(slot, _)| slot);
-        assert!(rt; found == want);
-        let mut stopped = Fuse::new(disk, 1);
-        let fault = read_newest(alloc, &mut stopped).map(|(slot, _)| slot);
-        assert!(rt; fault == Err(NewestRefusal::DiskFault));
+fn the_newer_open_slot_is_read(rt: HostRuntime) {
+    for (slots, want) in SLOTS {
+        assert!(rt; is_newest(rt.alloc(), slots, want) == Some(true));
     }
-    Ok(())
+}
+
+// The bytes of a copy of the second version with turn 1.
+fn next_copy(alloc: Global) -> Option<Vec<u8>>
+    ensures { IfSome result (λ bytes. length bytes.items ≡ 16384) }
+{
+    let mut body = full_slot(alloc, 1)?;
+    let Ok(next) = decode(alloc, &body) else {
+        return None;
+    };
+    encode(&next, &mut body[1..]);
+    Some(body)
+}
+
+// Writes it into the older slot.
+fn write_copy(disk: &mut Fuse<Memory>, body: &[u8])
+    requires { length body.now ≡ 16384 }
+{
+    if close_older(disk, 1).is_ok() && write_body(disk, 1, &body[1..]).is_ok() {
+        let _ = open_slot(disk, 1);
+    }
 }
 
 // The newest copy's slot, version and turn after a crash, where over two copies of the first version a newer one with turn 1 was written
 // on a disk that passes so many calls.
-fn left_by(alloc: Global, passes: u64, pick: u8) -> Result<(u32, u8, u8), Fail>
+fn left_by(alloc: Global, passes: u64, pick: u8) -> Option<(u32, u8, u8)>
     requires { pick ≤ 2 }
 {
-    let disk = disk_with(alloc, [(0xA5, 1, 0), (0xA5, 1, 2)])?;
-    let mut body = full_slot(alloc, 1)?;
-    let next = decode(alloc, &body)?;
-    encode(&next, &mut body[1..]);
-    let mut fuse = Fuse::new(disk, passes);
-    if close_older(&mut fuse, 1).is_ok() && write_body(&mut fuse, 1, &body[1..]).is_ok() {
-        let _ = open_slot(&mut fuse, 1);
-    }
+    let body = next_copy(alloc)?;
+    let mut fuse = Fuse::new(disk_with(alloc, [(0xA5, 1, 0), (0xA5, 1, 2)])?, passes);
+    write_copy(&mut fuse, &body);
     let mut left = fuse.into_inner().crash(pick);
-    let (slot, image) = read_newest(alloc, &mut left)?;
-    Ok((slot, image.version, image.turn))
+    let (slot, image) = read_newest(alloc, &mut left).ok()?;
+    Some((slot, image.version, image.turn))
 }
 
 #[test]
-fn a_crash_leaves_the_old_copy_or_the_new_one(rt: HostRuntime) -> Result<(), Fail> {
+fn a_crash_leaves_the_old_copy_or_the_new_one(rt: HostRuntime) {
     for passes in 0..9 {
         for pick in 0..3 {
             // The seven calls are a read, three writes and a sync after each. The last write is the sixth call.
             let is_new = passes > 6 || (passes == 6 && pick > 0);
             let want = if is_new { (1, 2, 1) } else { (0, 1, 0) };
             assert!(rt;
-                left_by(rt.alloc(), passes, pick)? == want,
+                left_by(rt.alloc(), passes, pick) == Some(want),
                 "{passes} calls, pick {pick}"
             );
         }
     }
-    Ok(())
 }

@@ -1,7 +1,6 @@
 use clfs_command::{Command, ScriptLength, WordsRefusal, form_of, help_text, read_command};
 use clfs_lsn::Shape;
 use std::alloc::{AllocError, Global};
-use std::test::Fail;
 
 fn owned(alloc: Global, line: &str) -> Result<Vec<String>, AllocError> {
     let mut words = Vec::new(alloc);
@@ -13,307 +12,412 @@ fn owned(alloc: Global, line: &str) -> Result<Vec<String>, AllocError> {
     Ok(words)
 }
 
-fn format(block_sectors: u32, container_sectors: u32, containers: u32) -> Option<Command> {
-    Some(Command::Format {
-        shape: Shape {
-            block_sectors,
-            container_sectors,
-        },
-        containers,
-        dedicated: false,
-    })
+// The words of a line name this command, or none.
+fn is_read_as(alloc: Global, line: &str, want: Option<Command>) -> Result<bool, AllocError> {
+    let words = owned(alloc, line)?;
+    Ok(read_command(alloc, &words) == want.ok_or(WordsRefusal::Usage))
 }
 
-// Making a dedicated log with blocks of 2 sectors and 2 containers of 8.
-fn dedicated() -> Option<Command> {
-    Some(Command::Format {
-        shape: Shape {
-            block_sectors: 2,
-            container_sectors: 8,
-        },
-        containers: 2,
-        dedicated: true,
-    })
-}
+// Blocks of 2 sectors in containers of 8.
+const SMALL: Shape = Shape {
+    block_sectors: 2,
+    container_sectors: 8,
+};
 
-fn trial(number: u32, count: u32) -> Option<Command> {
-    Some(Command::Trial { number, count })
-}
+const LARGEST: Shape = Shape {
+    block_sectors: 128,
+    container_sectors: 16384,
+};
 
-fn crew(threads: u32, count: u32) -> Option<Command> {
-    Some(Command::Crew { threads, count })
-}
-
-fn serve(write_buffers: u32, length: ScriptLength) -> Option<Command> {
-    serve_keeping(write_buffers, 32, length)
-}
-
-fn serve_keeping(write_buffers: u32, read_buffers: u32, length: ScriptLength) -> Option<Command> {
-    Some(Command::Serve {
-        write_buffers,
-        read_buffers,
-        length,
-    })
-}
-
-fn race(write_buffers: u32) -> Option<Command> {
-    Some(Command::Race { write_buffers })
-}
+const SMALLEST: Shape = Shape {
+    block_sectors: 1,
+    container_sectors: 2,
+};
 
 // Words beside the command that they name, or none. Two spaces in a row stand for an empty word between them.
+const FORMATS: [(&str, Option<Command>); 30] = [
+    (
+        "format --block-sectors 2 --container-sectors 8 --containers 2",
+        Some(Command::Format {
+            shape: SMALL,
+            containers: 2,
+            dedicated: false,
+        }),
+    ),
+    (
+        "format --containers 2 --container-sectors 8 --block-sectors 2",
+        Some(Command::Format {
+            shape: SMALL,
+            containers: 2,
+            dedicated: false,
+        }),
+    ),
+    (
+        "format --block-sectors=128 --container-sectors=16384 --containers=256",
+        Some(Command::Format {
+            shape: LARGEST,
+            containers: 256,
+            dedicated: false,
+        }),
+    ),
+    (
+        "format --block-sectors 1 --container-sectors 2 --containers 1 --",
+        Some(Command::Format {
+            shape: SMALLEST,
+            containers: 1,
+            dedicated: false,
+        }),
+    ),
+    ("format --block-sectors 2 --container-sectors 8", None),
+    ("format --block-sectors 2 --containers 2", None),
+    ("format --container-sectors 8 --containers 2", None),
+    (
+        "format --block-sectors 2 --container-sectors 8 --containers 2 --containers 2",
+        None,
+    ),
+    (
+        "format --block-sectors 2 --container-sectors 8 --containers 0",
+        None,
+    ),
+    (
+        "format --block-sectors 2 --container-sectors 8 --containers 257",
+        None,
+    ),
+    (
+        "format --block-sectors 2 --container-sectors 3 --containers 2",
+        None,
+    ),
+    (
+        "format --block-sectors 0 --container-sectors 8 --containers 2",
+        None,
+    ),
+    (
+        "format --block-sectors 129 --container-sectors 16384 --containers 2",
+        None,
+    ),
+    (
+        "format --block-sectors 2 --container-sectors 16385 --containers 2",
+        None,
+    ),
+    (
+        "format --block-sectors 2 --container-sectors 8 --containers 02",
+        None,
+    ),
+    (
+        "format --block-sectors 2 --container-sectors 8 --containers +2",
+        None,
+    ),
+    (
+        "format --block-sectors 2 --container-sectors 8 --containers -2",
+        None,
+    ),
+    (
+        "format --block-sectors 2 --container-sectors 8 --containers 4294967298",
+        None,
+    ),
+    (
+        "format --block-sectors 2 --container-sectors 8 --containers=",
+        None,
+    ),
+    (
+        "format --block-sectors 2 --container-sectors 8 --containers ",
+        None,
+    ),
+    (
+        "format --block-sectors 2 --container-sectors 8 --containers",
+        None,
+    ),
+    (
+        "format --block 2 --container-sectors 8 --containers 2",
+        None,
+    ),
+    ("format 2 8 2", None),
+    (
+        "format --block-sectors 2 --container-sectors 8 --containers 2 --dedicated",
+        Some(Command::Format {
+            shape: SMALL,
+            containers: 2,
+            dedicated: true,
+        }),
+    ),
+    (
+        "format --dedicated --block-sectors 2 --container-sectors=8 --containers 2",
+        Some(Command::Format {
+            shape: SMALL,
+            containers: 2,
+            dedicated: true,
+        }),
+    ),
+    (
+        "format --block-sectors 2 --container-sectors 8 --containers 2 --dedicated=x",
+        None,
+    ),
+    (
+        "format --block-sectors 2 --container-sectors 8 --containers 2 --dedicated=true",
+        None,
+    ),
+    (
+        "format --block-sectors 2 --container-sectors 8 --containers 2 --dedicated x",
+        None,
+    ),
+    (
+        "format --block-sectors 2 --dedicated --container-sectors 8 --containers 2 --dedicated",
+        None,
+    ),
+    ("format --dedicated", None),
+];
+
 #[test]
-fn words_that_make_a_log(rt: HostRuntime) -> Result<(), Fail> {
-    let alloc = rt.alloc();
-    let cases = [
-        (
-            "format --block-sectors 2 --container-sectors 8 --containers 2",
-            format(2, 8, 2),
-        ),
-        (
-            "format --containers 2 --container-sectors 8 --block-sectors 2",
-            format(2, 8, 2),
-        ),
-        (
-            "format --block-sectors=128 --container-sectors=16384 --containers=256",
-            format(128, 16384, 256),
-        ),
-        (
-            "format --block-sectors 1 --container-sectors 2 --containers 1 --",
-            format(1, 2, 1),
-        ),
-        ("format --block-sectors 2 --container-sectors 8", None),
-        ("format --block-sectors 2 --containers 2", None),
-        ("format --container-sectors 8 --containers 2", None),
-        (
-            "format --block-sectors 2 --container-sectors 8 --containers 2 --containers 2",
-            None,
-        ),
-        (
-            "format --block-sectors 2 --container-sectors 8 --containers 0",
-            None,
-        ),
-        (
-            "format --block-sectors 2 --container-sectors 8 --containers 257",
-            None,
-        ),
-        (
-            "format --block-sectors 2 --container-sectors 3 --containers 2",
-            None,
-        ),
-        (
-            "format --block-sectors 0 --container-sectors 8 --containers 2",
-            None,
-        ),
-        (
-            "format --block-sectors 129 --container-sectors 16384 --containers 2",
-            None,
-        ),
-        (
-            "format --block-sectors 2 --container-sectors 16385 --containers 2",
-            None,
-        ),
-        (
-            "format --block-sectors 2 --container-sectors 8 --containers 02",
-            None,
-        ),
-        (
-            "format --block-sectors 2 --container-sectors 8 --containers +2",
-            None,
-        ),
-        (
-            "format --block-sectors 2 --container-sectors 8 --containers -2",
-            None,
-        ),
-        (
-            "format --block-sectors 2 --container-sectors 8 --containers 4294967298",
-            None,
-        ),
-        (
-            "format --block-sectors 2 --container-sectors 8 --containers=",
-            None,
-        ),
-        (
-            "format --block-sectors 2 --container-sectors 8 --containers ",
-            None,
-        ),
-        (
-            "format --block-sectors 2 --container-sectors 8 --containers",
-            None,
-        ),
-        (
-            "format --block 2 --container-sectors 8 --containers 2",
-            None,
-        ),
-        ("format 2 8 2", None),
-        (
-            "format --block-sectors 2 --container-sectors 8 --containers 2 --dedicated",
-            dedicated(),
-        ),
-        (
-            "format --dedicated --block-sectors 2 --container-sectors=8 --containers 2",
-            dedicated(),
-        ),
-        (
-            "format --block-sectors 2 --container-sectors 8 --containers 2 --dedicated=x",
-            None,
-        ),
-        (
-            "format --block-sectors 2 --container-sectors 8 --containers 2 --dedicated=true",
-            None,
-        ),
-        (
-            "format --block-sectors 2 --container-sectors 8 --containers 2 --dedicated x",
-            None,
-        ),
-        (
-            "format --block-sectors 2 --dedicated --container-sectors 8 --containers 2 --dedicated",
-            None,
-        ),
-        ("format --dedicated", None),
-    ];
-    for (line, want) in cases {
-        let command = read_command(alloc, &owned(alloc, line)?);
-        assert_eq!(rt; command, want.ok_or(WordsRefusal::Usage));
+fn words_that_make_a_log(rt: HostRuntime) -> Result<(), AllocError> {
+    for (line, want) in FORMATS {
+        assert!(rt; is_read_as(rt.alloc(), line, want)?, "{line}");
     }
     Ok(())
 }
 
+const SERVES: [(&str, Option<Command>); 36] = [
+    (
+        "serve",
+        Some(Command::Serve {
+            write_buffers: 4,
+            read_buffers: 32,
+            length: ScriptLength::Limited,
+        }),
+    ),
+    (
+        "serve --",
+        Some(Command::Serve {
+            write_buffers: 4,
+            read_buffers: 32,
+            length: ScriptLength::Limited,
+        }),
+    ),
+    (
+        "serve --write-buffers 1",
+        Some(Command::Serve {
+            write_buffers: 1,
+            read_buffers: 32,
+            length: ScriptLength::Limited,
+        }),
+    ),
+    (
+        "serve --write-buffers=64",
+        Some(Command::Serve {
+            write_buffers: 64,
+            read_buffers: 32,
+            length: ScriptLength::Limited,
+        }),
+    ),
+    (
+        "serve --endless",
+        Some(Command::Serve {
+            write_buffers: 4,
+            read_buffers: 32,
+            length: ScriptLength::Endless,
+        }),
+    ),
+    (
+        "serve --endless --write-buffers 8",
+        Some(Command::Serve {
+            write_buffers: 8,
+            read_buffers: 32,
+            length: ScriptLength::Endless,
+        }),
+    ),
+    (
+        "serve --read-buffers 1",
+        Some(Command::Serve {
+            write_buffers: 4,
+            read_buffers: 1,
+            length: ScriptLength::Limited,
+        }),
+    ),
+    (
+        "serve --endless --read-buffers=4096 --write-buffers 8",
+        Some(Command::Serve {
+            write_buffers: 8,
+            read_buffers: 4096,
+            length: ScriptLength::Endless,
+        }),
+    ),
+    ("serve --read-buffers 0", None),
+    ("serve --read-buffers 4097", None),
+    ("serve --read-buffers 32 --read-buffers 32", None),
+    ("race --read-buffers 32", None),
+    ("serve --endless --endless", None),
+    ("serve --endless=true", None),
+    ("serve --endless 1", None),
+    ("serve --write-buffers 0", None),
+    ("serve --write-buffers 65", None),
+    ("serve --write-buffers 4 --write-buffers 4", None),
+    ("serve --write-buffers", None),
+    ("serve --write-buffers -- 4", None),
+    ("serve --containers 2", None),
+    ("serve x", None),
+    ("serve -- x", None),
+    ("serve serve", None),
+    ("serve --help", None),
+    ("-- serve", None),
+    ("--write-buffers 4 serve", None),
+    ("Serve", None),
+    ("serv", None),
+    ("race", Some(Command::Race { write_buffers: 4 })),
+    (
+        "race --write-buffers 1",
+        Some(Command::Race { write_buffers: 1 }),
+    ),
+    (
+        "race --write-buffers=64",
+        Some(Command::Race { write_buffers: 64 }),
+    ),
+    ("race --write-buffers 65", None),
+    ("race --endless", None),
+    ("race serve", None),
+    ("races", None),
+];
+
 #[test]
-fn words_of_serving_and_racing(rt: HostRuntime) -> Result<(), Fail> {
-    let alloc = rt.alloc();
-    let cases = [
-        ("serve", serve(4, ScriptLength::Limited)),
-        ("serve --", serve(4, ScriptLength::Limited)),
-        ("serve --write-buffers 1", serve(1, ScriptLength::Limited)),
-        ("serve --write-buffers=64", serve(64, ScriptLength::Limited)),
-        ("serve --endless", serve(4, ScriptLength::Endless)),
-        (
-            "serve --endless --write-buffers 8",
-            serve(8, ScriptLength::Endless),
-        ),
-        (
-            "serve --read-buffers 1",
-            serve_keeping(4, 1, ScriptLength::Limited),
-        ),
-        (
-            "serve --endless --read-buffers=4096 --write-buffers 8",
-            serve_keeping(8, 4096, ScriptLength::Endless),
-        ),
-        ("serve --read-buffers 0", None),
-        ("serve --read-buffers 4097", None),
-        ("serve --read-buffers 32 --read-buffers 32", None),
-        ("race --read-buffers 32", None),
-        ("serve --endless --endless", None),
-        ("serve --endless=true", None),
-        ("serve --endless 1", None),
-        ("serve --write-buffers 0", None),
-        ("serve --write-buffers 65", None),
-        ("serve --write-buffers 4 --write-buffers 4", None),
-        ("serve --write-buffers", None),
-        ("serve --write-buffers -- 4", None),
-        ("serve --containers 2", None),
-        ("serve x", None),
-        ("serve -- x", None),
-        ("serve serve", None),
-        ("serve --help", None),
-        ("-- serve", None),
-        ("--write-buffers 4 serve", None),
-        ("Serve", None),
-        ("serv", None),
-        ("race", race(4)),
-        ("race --write-buffers 1", race(1)),
-        ("race --write-buffers=64", race(64)),
-        ("race --write-buffers 65", None),
-        ("race --endless", None),
-        ("race serve", None),
-        ("races", None),
-    ];
-    for (line, want) in cases {
-        let command = read_command(alloc, &owned(alloc, line)?);
-        assert_eq!(rt; command, want.ok_or(WordsRefusal::Usage));
+fn words_of_serving_and_racing(rt: HostRuntime) -> Result<(), AllocError> {
+    for (line, want) in SERVES {
+        assert!(rt; is_read_as(rt.alloc(), line, want)?, "{line}");
     }
     Ok(())
 }
 
+const TRIALS: [(&str, Option<Command>); 39] = [
+    (
+        "trial 1 5",
+        Some(Command::Trial {
+            number: 1,
+            count: 5,
+        }),
+    ),
+    (
+        "trial 0 1",
+        Some(Command::Trial {
+            number: 0,
+            count: 1,
+        }),
+    ),
+    (
+        "trial 4294967295 100000",
+        Some(Command::Trial {
+            number: 4294967295,
+            count: 100000,
+        }),
+    ),
+    (
+        "trial -- 1 5",
+        Some(Command::Trial {
+            number: 1,
+            count: 5,
+        }),
+    ),
+    (
+        "trial 1 -- 5",
+        Some(Command::Trial {
+            number: 1,
+            count: 5,
+        }),
+    ),
+    ("trial 4294967296 1", None),
+    ("trial 1 0", None),
+    ("trial 1 100001", None),
+    ("trial 01 5", None),
+    ("trial 1 05", None),
+    ("trial +1 5", None),
+    ("trial -1 5", None),
+    ("trial 1 -5", None),
+    ("trial 1  5", None),
+    ("trial", None),
+    ("trial 1", None),
+    ("trial 1 5 5", None),
+    ("trial 1 5 --dedicated", None),
+    (
+        "crew 1 1",
+        Some(Command::Crew {
+            threads: 1,
+            count: 1,
+        }),
+    ),
+    (
+        "crew 8 1000",
+        Some(Command::Crew {
+            threads: 8,
+            count: 1000,
+        }),
+    ),
+    (
+        "crew -- 2 5",
+        Some(Command::Crew {
+            threads: 2,
+            count: 5,
+        }),
+    ),
+    (
+        "crew 2 -- 5",
+        Some(Command::Crew {
+            threads: 2,
+            count: 5,
+        }),
+    ),
+    ("crew 0 5", None),
+    ("crew 9 5", None),
+    ("crew 2 0", None),
+    ("crew 2 1001", None),
+    ("crew 02 5", None),
+    ("crew 2 05", None),
+    ("crew +2 5", None),
+    ("crew -2 5", None),
+    ("crew 2 +5", None),
+    ("crew 2 -5", None),
+    ("crew 2  5", None),
+    ("crew", None),
+    ("crew 2", None),
+    ("crew 2 5 5", None),
+    (
+        "crew 2 5 --",
+        Some(Command::Crew {
+            threads: 2,
+            count: 5,
+        }),
+    ),
+    ("crew 2 5 --dedicated", None),
+    ("crews 2 5", None),
+];
+
 #[test]
-fn words_of_trials_and_crews(rt: HostRuntime) -> Result<(), Fail> {
-    let alloc = rt.alloc();
-    let cases = [
-        ("trial 1 5", trial(1, 5)),
-        ("trial 0 1", trial(0, 1)),
-        ("trial 4294967295 100000", trial(4294967295, 100000)),
-        ("trial -- 1 5", trial(1, 5)),
-        ("trial 1 -- 5", trial(1, 5)),
-        ("trial 4294967296 1", None),
-        ("trial 1 0", None),
-        ("trial 1 100001", None),
-        ("trial 01 5", None),
-        ("trial 1 05", None),
-        ("trial +1 5", None),
-        ("trial -1 5", None),
-        ("trial 1 -5", None),
-        ("trial 1  5", None),
-        ("trial", None),
-        ("trial 1", None),
-        ("trial 1 5 5", None),
-        ("trial 1 5 --dedicated", None),
-        ("crew 1 1", crew(1, 1)),
-        ("crew 8 1000", crew(8, 1000)),
-        ("crew -- 2 5", crew(2, 5)),
-        ("crew 2 -- 5", crew(2, 5)),
-        ("crew 0 5", None),
-        ("crew 9 5", None),
-        ("crew 2 0", None),
-        ("crew 2 1001", None),
-        ("crew 02 5", None),
-        ("crew 2 05", None),
-        ("crew +2 5", None),
-        ("crew -2 5", None),
-        ("crew 2 +5", None),
-        ("crew 2 -5", None),
-        ("crew 2  5", None),
-        ("crew", None),
-        ("crew 2", None),
-        ("crew 2 5 5", None),
-        ("crew 2 5 --", crew(2, 5)),
-        ("crew 2 5 --dedicated", None),
-        ("crews 2 5", None),
-    ];
-    for (line, want) in cases {
-        let command = read_command(alloc, &owned(alloc, line)?);
-        assert_eq!(rt; command, want.ok_or(WordsRefusal::Usage));
+fn words_of_trials_and_crews(rt: HostRuntime) -> Result<(), AllocError> {
+    for (line, want) in TRIALS {
+        assert!(rt; is_read_as(rt.alloc(), line, want)?, "{line}");
     }
     Ok(())
 }
 
+const CHECKS: [(&str, Option<Command>); 12] = [
+    ("check", Some(Command::Check)),
+    ("check --", Some(Command::Check)),
+    ("check x", None),
+    ("check --dedicated", None),
+    ("check check", None),
+    ("Check", None),
+    ("help", None),
+    ("--help", None),
+    ("-h", None),
+    ("--version", None),
+    ("", None),
+    (" ", None),
+];
+
 #[test]
-fn words_of_checks_and_of_no_command(rt: HostRuntime) -> Result<(), Fail> {
-    let alloc = rt.alloc();
-    let cases = [
-        ("check", Some(Command::Check)),
-        ("check --", Some(Command::Check)),
-        ("check x", None),
-        ("check --dedicated", None),
-        ("check check", None),
-        ("Check", None),
-        ("help", None),
-        ("--help", None),
-        ("-h", None),
-        ("--version", None),
-        ("", None),
-        (" ", None),
-    ];
-    for (line, want) in cases {
-        let command = read_command(alloc, &owned(alloc, line)?);
-        assert_eq!(rt; command, want.ok_or(WordsRefusal::Usage));
+fn words_of_checks_and_of_no_command(rt: HostRuntime) -> Result<(), AllocError> {
+    for (line, want) in CHECKS {
+        assert!(rt; is_read_as(rt.alloc(), line, want)?, "{line}");
     }
     Ok(())
 }
 
-#[test]
-fn what_the_help_says(rt: HostRuntime) -> Result<(), Fail> {
-    let text = help_text(rt.alloc())?;
-    let want = "\
+const HELP: &str = "\
 A log manager: several clients share one log, and each sees its own stream of records
 
 Usage: clfs FOLDER <COMMAND>
@@ -396,31 +500,40 @@ Usage: clfs FOLDER check
 Writes nothing, and takes no more memory for a larger log. A log is told of only if serve would open it.
 Status 0: a log is there. 3: standard output can't be written. 4: disk fault. 5: out of memory. 6: not a log.
 ";
-    assert_eq!(rt; text.as_str(), want);
+
+#[test]
+fn what_the_help_says(rt: HostRuntime) -> Result<(), AllocError> {
+    let text = help_text(rt.alloc())?;
+    assert!(rt; text.as_str() == HELP);
     Ok(())
 }
 
-// What is said of words that are no command.
+// Words, and what is said of them: they are no command.
+const FORMS: [(&str, &str); 3] = [
+    (
+        "",
+        "clfs: FOLDER and a command are needed; clfs --help has them",
+    ),
+    (
+        "forma",
+        "clfs: forma is no command: behind FOLDER stands format, serve, race, trial, crew or check",
+    ),
+    (
+        "trial 1 0",
+        "clfs: trial takes NUMBER, 0 to 4294967295, and COUNT, 1 to 100000; each is given once, and numbers are decimal, without a sign or a zero in front",
+    ),
+];
+
+fn is_told(alloc: Global, line: &str, want: &str) -> Result<bool, AllocError> {
+    let words = owned(alloc, line)?;
+    let form = form_of(alloc, &words)?;
+    Ok(form.as_str() == want)
+}
+
 #[test]
-fn which_words_are_allowed(rt: HostRuntime) -> Result<(), Fail> {
-    let alloc = rt.alloc();
-    let cases = [
-        (
-            "",
-            "clfs: FOLDER and a command are needed; clfs --help has them",
-        ),
-        (
-            "forma",
-            "clfs: forma is no command: behind FOLDER stands format, serve, race, trial, crew or check",
-        ),
-        (
-            "trial 1 0",
-            "clfs: trial takes NUMBER, 0 to 4294967295, and COUNT, 1 to 100000; each is given once, and numbers are decimal, without a sign or a zero in front",
-        ),
-    ];
-    for (line, want) in cases {
-        let form = form_of(alloc, &owned(alloc, line)?)?;
-        assert_eq!(rt; form.as_str(), want);
+fn which_words_are_allowed(rt: HostRuntime) -> Result<(), AllocError> {
+    for (line, want) in FORMS {
+        assert!(rt; is_told(rt.alloc(), line, want)?);
     }
     Ok(())
 }

@@ -1,7 +1,9 @@
+ghost use Rattle.std.specs.Prelude.{◌≤◌, IfOk};
+ghost use Rattle.clfs_lsn.specs.Spelling.{FitsAt};
+
 use clfs_lsn::{Bytes, Kind, LogEntry, Lsn};
 use clfs_record::{HeadRefusal, RecordRefusal, decode, decode_head, encode, stream_of};
-use std::alloc::Global;
-use std::test::Fail;
+use std::alloc::{AllocError, Global};
 
 // The ten bytes 0 to 9 in stream 1, without links, as they stand in a block.
 const SPELLED: [u8; 48] = [
@@ -14,10 +16,10 @@ fn read(alloc: Global, bytes: &[u8; 48]) -> Result<(LogEntry, usize), RecordRefu
     decode(alloc, bytes, Lsn::of_number(1 << 32), stream_of(bytes), 1)
 }
 
-#[test]
-fn a_record_is_written_and_read(rt: HostRuntime) -> Result<(), Fail> {
-    let alloc = rt.alloc();
-    let entry = LogEntry {
+fn entry(alloc: Global) -> Result<LogEntry, AllocError>
+    ensures { IfOk result (λ entry. FitsAt entry.lsn entry.stream entry) }
+{
+    Ok(LogEntry {
         lsn: Lsn::of_number(1 << 32),
         stream: 1,
         kind: Kind::Plain,
@@ -25,21 +27,44 @@ fn a_record_is_written_and_read(rt: HostRuntime) -> Result<(), Fail> {
         undo_next: Lsn::null(),
         new_base: Lsn::null(),
         bytes: Bytes::from_vec(Vec::from_slice(alloc, &SPELLED[32..42])?),
-    };
+    })
+}
+
+// The record is written behind what is there.
+fn is_written(alloc: Global, entry: &LogEntry) -> Result<bool, AllocError>
+    requires { FitsAt entry.now.lsn entry.now.stream entry.now }
+{
     let mut out = Bytes::from_vec(Vec::from_slice(alloc, b"before")?);
-    encode(alloc, &entry, &mut out)?;
-    assert_eq!(rt; out.len(), 54);
-    assert!(rt; out.as_slice().starts_with(b"before"));
-    assert!(rt; out.as_slice().ends_with(&SPELLED));
-    let (again, size) = read(alloc, &SPELLED)?;
-    assert_eq!(rt; size, 48);
-    assert!(rt; again.bytes.as_slice() == entry.bytes.as_slice());
-    assert!(rt; again.lsn == entry.lsn && again.stream == 1 && again.kind == Kind::Plain);
-    assert!(rt;
-        again.previous == Lsn::null()
-            && again.undo_next == Lsn::null()
-            && again.new_base == Lsn::null()
-    );
+    encode(alloc, entry, &mut out)?;
+    Ok(
+        out.len() == 54
+            && out.as_slice().starts_with(b"before")
+            && out.as_slice().ends_with(&SPELLED),
+    )
+}
+
+fn is_same(a: &LogEntry, b: &LogEntry) -> bool {
+    a.lsn == b.lsn
+        && a.stream == b.stream
+        && a.kind == b.kind
+        && a.previous == b.previous
+        && a.undo_next == b.undo_next
+        && a.new_base == b.new_base
+        && a.bytes.as_slice() == b.bytes.as_slice()
+}
+
+fn is_read(alloc: Global, entry: &LogEntry) -> bool {
+    match read(alloc, &SPELLED) {
+        Ok((again, size)) => size == 48 && is_same(&again, entry),
+        Err(_) => false,
+    }
+}
+
+#[test]
+fn a_record_is_written_and_read(rt: HostRuntime) -> Result<(), AllocError> {
+    let entry = entry(rt.alloc())?;
+    assert!(rt; is_written(rt.alloc(), &entry)?);
+    assert!(rt; is_read(rt.alloc(), &entry));
     Ok(())
 }
 
@@ -58,27 +83,36 @@ fn wrong_byte(raised: u32) -> Option<u32> {
     }
 }
 
+// The byte at which a record is refused, as it is read and as its head is.
+fn told(alloc: Global, bytes: &[u8; 48]) -> (Option<u32>, Option<u32>) {
+    let at = match read(alloc, bytes) {
+        Ok(_) => None,
+        Err(RecordRefusal::BadByte { at }) => Some(at),
+        Err(RecordRefusal::NoMemory) => Some(48),
+    };
+    let head = decode_head(bytes, Lsn::of_number(1 << 32), stream_of(bytes), 1);
+    (at, head.err().map(|HeadRefusal::BadByte { at }| at))
+}
+
+// A record that ends behind so many bytes is refused at its first one.
+fn is_refused_short(alloc: Global, short: usize) -> bool
+    requires { short ≤ 48 }
+{
+    let cut = decode(alloc, &SPELLED[..short], Lsn::of_number(1 << 32), 1, 1);
+    matches!(cut, Err(RecordRefusal::BadByte { at: 0 }))
+}
+
 #[test]
-fn each_byte_is_checked(rt: HostRuntime) -> Result<(), Fail> {
+fn each_byte_is_checked(rt: HostRuntime) {
     for raised in 0..48 {
         let mut bytes = SPELLED;
         bytes[raised as usize] = bytes[raised as usize].wrapping_add(1);
-        let at = match read(rt.alloc(), &bytes) {
-            Ok(_) => None,
-            Err(RecordRefusal::BadByte { at }) => Some(at),
-            Err(RecordRefusal::NoMemory) => Some(48),
-        };
-        assert_eq!(rt; at, wrong_byte(raised), "byte {raised} raised");
-        let head = decode_head(&bytes, Lsn::of_number(1 << 32), stream_of(&bytes), 1);
-        let head_at = head.err().map(|HeadRefusal::BadByte { at }| at);
-        assert_eq!(rt; head_at, at, "byte {raised} raised");
-    }
-    for short in [0, 31, 32, 47] {
-        let cut = decode(rt.alloc(), &SPELLED[..short], Lsn::of_number(1 << 32), 1, 1);
+        let want = wrong_byte(raised);
         assert!(rt;
-            matches!(cut, Err(RecordRefusal::BadByte { at: 0 })),
-            "{short} bytes"
+            told(rt.alloc(), &bytes) == (want, want),
+            "byte {raised} raised"
         );
     }
-    Ok(())
+    assert!(rt; is_refused_short(rt.alloc(), 0) && is_refused_short(rt.alloc(), 31));
+    assert!(rt; is_refused_short(rt.alloc(), 32) && is_refused_short(rt.alloc(), 47));
 }
