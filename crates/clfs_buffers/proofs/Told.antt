@@ -1,6 +1,7 @@
 -- Of which bytes damage is told.
-use Rattle.std.proofs.Common.{◌≡◌, ℕ, List, Option, Some, None, Result, Ok, Err, ap, sym}
+use Rattle.std.proofs.Common.{◌≡◌, ◌≤◌, ◌*◌, ℕ, List, length, take, arith, length-take, Option, Some, None, Result, Ok, Err, ap, sym}
 use Rattle.std.specs.Option.{ok_or}
+use Rattle.clfs_lsn.specs.Format.{sector_bytes}
 use Rattle.clfs_lsn.specs.declared.entry.LogEntry.{LogEntry}
 use Rattle.clfs_lsn.specs.declared.shape.Shape.{Shape}
 use Rattle.clfs_block.specs.Records.{told_as, block_records}
@@ -9,12 +10,24 @@ use Rattle.clfs_block.specs.declared.head.BlockRefusal.TheVariants.{Closed, BadB
 use Rattle.clfs_buffers.specs.Kept.{RefusesAs}
 use Rattle.clfs_buffers.specs.Reading.{refused_at, as_read, TellsBlock}
 
+-- what is read into bytes isn't longer than they are
+pub fronts_are_short : (n room most : ℕ) (bytes : List ℕ) → n ≤ room → room ≤ most → length (take n bytes) ≤ most
+fronts_are_short n room most bytes within few = omega (arith, length-take n bytes, within, few)
+
 -- a block's refusal is told of the bytes that were judged
-pub told_of : (shape : Shape) (streams lsn : ℕ) (bytes : List ℕ) (refusal : BlockRefusal)
+pub told_of : (shape : Shape) (streams lsn : ℕ) (bytes : List ℕ) (refusal : BlockRefusal) → length bytes ≤ sector_bytes * shape.block_sectors
     → RefusesAs refusal (block_records shape streams lsn bytes) → TellsBlock shape streams lsn (as_read refusal)
-told_of shape streams lsn bytes Closed is = (bytes, ap (λ (r : Result (List LogEntry) BlockRefusal). told_as refused_at r) is)
-told_of shape streams lsn bytes (BadByte at) is = (bytes, ap (λ (r : Result (List LogEntry) BlockRefusal). told_as refused_at r) is)
-told_of shape streams lsn bytes NoMemory is = tt
+told_of shape streams lsn bytes Closed few is = record {
+  bytes = bytes;
+  few = few;
+  wrong = ap (λ (r : Result (List LogEntry) BlockRefusal). told_as refused_at r) is;
+}
+told_of shape streams lsn bytes (BadByte at) few is = record {
+  bytes = bytes;
+  few = few;
+  wrong = ap (λ (r : Result (List LogEntry) BlockRefusal). told_as refused_at r) is;
+}
+told_of shape streams lsn bytes NoMemory few is = tt
 
 -- that there are too few records is told at the field of their number
 pub told_at : (found : Option LogEntry) (at : ℕ) → ok_or {E = ℕ} found 4 ≡ Err at → at ≡ 4

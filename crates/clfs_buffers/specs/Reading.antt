@@ -1,6 +1,7 @@
 -- What reading gives at an LSN: its record, or the byte of its block at which damage is told.
-use Rattle.std.specs.Prelude.{◌≡◌, ◌⊎◌, ℕ, List, slice_get, Result, Ok, Err}
+use Rattle.std.specs.Prelude.{◌≡◌, ◌⊎◌, ◌≤◌, ◌*◌, ℕ, List, length, slice_get, Result, Ok, Err}
 use Rattle.std.specs.Option.{ok_or}
+use Rattle.clfs_lsn.specs.Format.{sector_bytes}
 use Rattle.clfs_lsn.specs.Lsn.{lsn_number, container_of, offset_of, sequence_of}
 use Rattle.clfs_lsn.specs.declared.entry.LogEntry.{LogEntry}
 use Rattle.clfs_lsn.specs.declared.shape.Shape.{Shape}
@@ -48,14 +49,21 @@ Gives (Err (Damaged at)) read = read ≡ Err at
 Gives (Err DiskFault) read = Unit {0}
 Gives (Err NoMemory) read = Unit {0}
 
--- Damage of a block is told of bytes that were read: by them reading gives just this byte.
+-- Reading finds some bytes wrong at this byte, no more of them than a largest block has. That they are those that the disk gave can't be said of a
+-- disk that doesn't tell what its files hold.
+pub record IsWrongAt (shape : Shape) (streams lsn at : ℕ) : Type 0 where
+  pub bytes : List ℕ
+  pub few : length bytes ≤ sector_bytes * shape.block_sectors
+  pub wrong : told_as refused_at (block_records shape streams lsn bytes) ≡ Err at
+
+-- Damage of a block is told at such a byte.
 abbrev pub TellsBlock : Shape → ℕ → ℕ → ReadRefusal → Type 0
-TellsBlock shape streams lsn (Damaged at) = (bytes : List ℕ) × (told_as refused_at (block_records shape streams lsn bytes) ≡ Err at)
+TellsBlock shape streams lsn (Damaged at) = IsWrongAt shape streams lsn at
 TellsBlock shape streams lsn DiskFault = Unit {0}
 TellsBlock shape streams lsn NoMemory = Unit {0}
 
--- Damage at a record is told of bytes that were read in this call, by which reading gives just this byte; or at the field of the number of
--- records, where these are too few, be the block kept or read now.
+-- Damage at a record is told at such a byte of its block, or at the field of the number of records, where these are too few, be the block kept or
+-- read now.
 abbrev pub TellsByte : Shape → ℕ → ℕ → ReadRefusal → Type 0
 TellsByte shape streams lsn (Damaged at) = TellsBlock shape streams (first_lsn (block_place lsn)) (Damaged at) ⊎ (at ≡ 4)
 TellsByte shape streams lsn DiskFault = Unit {0}

@@ -98,7 +98,7 @@ impl Buffers {
         ensures joins { kept_at (block_place lsn) self.old ≡ None → IfOk result (λ entry. IsAdded shape.now streams lsn (TellsContents (D.state disk.old))
             (drop (offset_of lsn) ((D.state disk.old).files file)) entry self.old self.new) }
 
-        // Over any disk damage is told of bytes that were read.
+        // Over any disk damage is told at a byte at which some bytes of a block's length are wrong, or at the field of the number of records.
         ensures told { IfErr result (λ refusal. TellsByte shape.now streams lsn refusal) }
 
         // After a refusal the blocks that are kept are as before.

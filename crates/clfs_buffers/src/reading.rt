@@ -40,6 +40,7 @@ fn read_front<D: Disk>(
     requires shape { IsShape shape.now }
     requires file { file ≤ 256 }
     requires low { place.offset + most_block_records < 2 ^ 32 }
+    requires few { length out.old ≤ sector_bytes * shape.now.block_sectors }
     ensures exact { TellsContents (D.state disk.old) → Gives result (told_as refused_at
         (block_records shape.now streams (first_lsn place) (take (length out.old) (drop place.offset ((D.state disk.old).files file))))) }
     ensures told { IfErr result (λ refusal. TellsBlock shape.now streams (first_lsn place) refusal) }
