@@ -25,10 +25,11 @@ use Rattle.clfs_cells.specs.Stored.{Memory}
 abbrev pub Loaded : Type 0
 Loaded = Result Memory TxnLoadRefusal
 
--- the most bytes of data of the area's records, and the most cursors that it has at a time
+-- the most bytes of data of the area's records: those of a restart area
 abbrev pub area_largest : ℕ
 area_largest = 260
 
+-- the most cursors that the area has at a time
 abbrev pub area_reads : ℕ
 area_reads = 2
 

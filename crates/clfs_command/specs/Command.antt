@@ -26,10 +26,11 @@ is_set name options = option_map_or (λ text. bytes_eq text (codes "true")) (fir
 abbrev pub most_trial_lines : ℕ
 most_trial_lines = 100000
 
--- the most threads of a crew, and the most records that each of them appends
+-- the most threads of a crew
 abbrev pub most_crew_threads : ℕ
 most_crew_threads = 8
 
+-- the most records that each thread of a crew appends
 abbrev pub most_crew_records : ℕ
 most_crew_records = 1000
 
