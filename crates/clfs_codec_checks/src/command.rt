@@ -386,9 +386,49 @@ const TRIALS: [(&str, Option<Command>); 39] = [
     ("crews 2 5", None),
 ];
 
+const CROWDS: [(&str, Option<Command>); 11] = [
+    (
+        "crowd 1 1",
+        Some(Command::Crowd {
+            threads: 1,
+            count: 1,
+        }),
+    ),
+    (
+        "crowd 8 1000",
+        Some(Command::Crowd {
+            threads: 8,
+            count: 1000,
+        }),
+    ),
+    (
+        "crowd -- 2 5",
+        Some(Command::Crowd {
+            threads: 2,
+            count: 5,
+        }),
+    ),
+    ("crowd 0 5", None),
+    ("crowd 9 5", None),
+    ("crowd 2 0", None),
+    ("crowd 2 1001", None),
+    ("crowd 2 +5", None),
+    ("crowd 2", None),
+    ("crowd 2 5 5", None),
+    ("crowds 2 5", None),
+];
+
 #[test]
 fn words_of_trials_and_crews(rt: HostRuntime) -> Result<(), AllocError> {
     for (line, want) in TRIALS {
+        assert!(rt; is_read_as(rt.alloc(), line, want)?, "{line}");
+    }
+    Ok(())
+}
+
+#[test]
+fn words_of_crowds(rt: HostRuntime) -> Result<(), AllocError> {
+    for (line, want) in CROWDS {
         assert!(rt; is_read_as(rt.alloc(), line, want)?, "{line}");
     }
     Ok(())
@@ -431,6 +471,7 @@ Commands:
   trial   Answers lines that are made of a number, over a log in memory, and prints their sums
   crew    Appends in threads by permits of one shared area, over a log in memory
   check   Judges the log in FOLDER and tells what is in it, or where it is broken
+  crowd   Appends in threads that share their flushes, over a log in memory
 
 Options may stand in any order, as --containers 4 or --containers=4; numbers are decimal, without a sign or a zero in front.
 Status 1: the words are no command, and standard error says which are.
@@ -499,6 +540,17 @@ Usage: clfs FOLDER check
 
 Writes nothing, and takes no more memory for a larger log. A log is told of only if serve would open it.
 Status 0: a log is there. 3: standard output can't be written. 4: disk fault. 5: out of memory. 6: not a log.
+
+Appends in threads that share their flushes, over a log in memory
+
+Usage: clfs FOLDER crowd <THREADS> <COUNT>
+
+Arguments:
+  <THREADS>  How many threads there are, 1 to 8
+  <COUNT>    How many records each of them appends, 1 to 1000
+
+Looks at no folder, and reads nothing. What isn't counted lacked memory.
+Status 0: the line is printed. 3: standard output can't be written. 5: out of memory.
 ";
 
 #[test]
@@ -516,7 +568,7 @@ const FORMS: [(&str, &str); 3] = [
     ),
     (
         "forma",
-        "clfs: forma is no command: behind FOLDER stands format, serve, race, trial, crew or check",
+        "clfs: forma is no command: behind FOLDER stands format, serve, race, trial, crew, check or crowd",
     ),
     (
         "trial 1 0",

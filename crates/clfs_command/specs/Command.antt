@@ -12,7 +12,7 @@ use Rattle.clfs_command.specs.Line.{command_line}
 use Rattle.clfs_command.specs.declared.words.ScriptLength.{ScriptLength}
 use Rattle.clfs_command.specs.declared.words.ScriptLength.TheVariants.{Limited, Endless}
 use Rattle.clfs_command.specs.declared.words.Command.{Command}
-use Rattle.clfs_command.specs.declared.words.Command.TheVariants.{Format, Serve, Race, Trial, Crew, Check}
+use Rattle.clfs_command.specs.declared.words.Command.TheVariants.{Format, Serve, Race, Trial, Crew, Check, Crowd}
 
 -- the decimal number of 32 bits that an option has, without a sign or a leading zero
 abbrev pub number_of : Text → List Row → Option ℕ
@@ -26,11 +26,11 @@ is_set name options = option_map_or (λ text. bytes_eq text (codes "true")) (fir
 abbrev pub most_trial_lines : ℕ
 most_trial_lines = 100000
 
--- the most threads of a crew
+-- the most threads of a crew, and of a crowd
 abbrev pub most_crew_threads : ℕ
 most_crew_threads = 8
 
--- the most records that each thread of a crew appends
+-- the most records that each thread of a crew or of a crowd appends
 abbrev pub most_crew_records : ℕ
 most_crew_records = 1000
 
@@ -80,6 +80,12 @@ crew_of (Some threads) (Some count) =
     if nat_le 1 threads && nat_le threads most_crew_threads && nat_le 1 count && nat_le count most_crew_records then Some (Crew threads count) else None
 crew_of _ _ = None
 
+-- a crowd of so many threads, each with so many records, if it can have them
+abbrev pub crowd_of : Option ℕ → Option ℕ → Option Command
+crowd_of (Some threads) (Some count) =
+    if nat_le 1 threads && nat_le threads most_crew_threads && nat_le 1 count && nat_le count most_crew_records then Some (Crowd threads count) else None
+crowd_of _ _ = None
+
 -- the command that a subcommand and its options stand for
 abbrev pub with_options : Text × List Row → Option Command
 with_options (name, options) =
@@ -91,7 +97,8 @@ with_options (name, options) =
     else if bytes_eq name (codes "race") then race_of (number_of (codes "write-buffers") options)
     else if bytes_eq name (codes "trial") then trial_of (number_of (codes "NUMBER") options) (number_of (codes "COUNT") options)
     else if bytes_eq name (codes "crew") then crew_of (number_of (codes "THREADS") options) (number_of (codes "COUNT") options)
-    else if bytes_eq name (codes "check") then Some Check else None
+    else if bytes_eq name (codes "check") then Some Check
+    else if bytes_eq name (codes "crowd") then crowd_of (number_of (codes "THREADS") options) (number_of (codes "COUNT") options) else None
 
 -- The command that words name. They name none where clap finds a fault in them, or a number isn't one that a log can have.
 abbrev pub command_of : List Text → Option Command
@@ -105,3 +112,4 @@ HasItsRanges (Race buffers) = (1 ≤ buffers) × (buffers ≤ most_write_buffers
 HasItsRanges (Trial number count) = (1 ≤ count) × (count ≤ most_trial_lines)
 HasItsRanges (Crew threads count) = (1 ≤ threads) × ((threads ≤ most_crew_threads) × ((1 ≤ count) × (count ≤ most_crew_records)))
 HasItsRanges Check = Unit {0}
+HasItsRanges (Crowd threads count) = (1 ≤ threads) × ((threads ≤ most_crew_threads) × ((1 ≤ count) × (count ≤ most_crew_records)))

@@ -55,8 +55,12 @@ crew_line = with_rule (with_rule (command_named (codes "crew")) (word (codes "TH
 abbrev pub check_line : App
 check_line = command_named (codes "check")
 
+-- `crowd THREADS COUNT`
+abbrev pub crowd_line : App
+crowd_line = with_rule (with_rule (command_named (codes "crowd")) (word (codes "THREADS"))) (word (codes "COUNT"))
+
 -- the words behind FOLDER, of which the first names the subcommand
 abbrev pub command_line : App
-command_line = with_subcommand (with_subcommand (with_subcommand (with_subcommand (with_subcommand (with_subcommand (on_top
+command_line = with_subcommand (with_subcommand (with_subcommand (with_subcommand (with_subcommand (with_subcommand (with_subcommand (on_top
     (λ s. record s { no_binary_name = true; disable_help_subcommand = true; subcommand_required = true }) (command_named (codes "clfs")))
-    format_line.top) serve_line.top) race_line.top) trial_line.top) crew_line.top) check_line.top
+    format_line.top) serve_line.top) race_line.top) trial_line.top) crew_line.top) check_line.top) crowd_line.top

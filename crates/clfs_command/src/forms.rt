@@ -15,6 +15,7 @@ fn known_form(command: &str) -> Option<&'static str> {
         "trial" => Some("NUMBER, 0 to 4294967295, and COUNT, 1 to 100000"),
         "crew" => Some("THREADS, 1 to 8, and COUNT, 1 to 1000"),
         "check" => Some("no more words"),
+        "crowd" => Some("THREADS, 1 to 8, and COUNT, 1 to 1000"),
         _ => None,
     }
 }
@@ -32,7 +33,7 @@ pub fn form_of(alloc: Global, words: &[String]) -> Result<String, AllocError> {
             "clfs: {first} takes {form}; each is given once, and numbers are decimal, without a sign or a zero in front"
         ),
         None => format!(in alloc;
-            "clfs: {first} is no command: behind FOLDER stands format, serve, race, trial, crew or check"
+            "clfs: {first} is no command: behind FOLDER stands format, serve, race, trial, crew, check or crowd"
         ),
     }
 }

@@ -1,6 +1,6 @@
 // What `clfs --help` prints: the commands, and the options of each.
 use crate::line::{
-    check_line, command_line, crew_line, format_line, race_line, serve_line, trial_line,
+    check_line, command_line, crew_line, crowd_line, format_line, race_line, serve_line, trial_line,
 };
 use std::alloc::{AllocError, Global};
 
@@ -41,6 +41,11 @@ const CHECK_NOTES: &str = "\
 Writes nothing, and takes no more memory for a larger log. A log is told of only if serve would open it.
 Status 0: a log is there. 3: standard output can't be written. 4: disk fault. 5: out of memory. 6: not a log.";
 
+// What `crowd` does, and how it ends.
+const CROWD_NOTES: &str = "\
+Looks at no folder, and reads nothing. What isn't counted lacked memory.
+Status 0: the line is printed. 3: standard output can't be written. 5: out of memory.";
+
 // What is said of all commands.
 const NOTES: &str = "\
 Options may stand in any order, as --containers 4 or --containers=4; numbers are decimal, without a sign or a zero in front.
@@ -80,6 +85,9 @@ pub fn help_text(alloc: Global) -> Result<String, AllocError> {
     let check = check_line(alloc)
         .bin_name("clfs FOLDER check")?
         .render_help()?;
+    let crowd = crowd_line(alloc)?
+        .bin_name("clfs FOLDER crowd")?
+        .render_help()?;
     push_notes(NOTES, &mut text)?;
     let parts = [
         (&format, FORMAT_NOTES),
@@ -88,6 +96,7 @@ pub fn help_text(alloc: Global) -> Result<String, AllocError> {
         (&trial, TRIAL_NOTES),
         (&crew, CREW_NOTES),
         (&check, CHECK_NOTES),
+        (&crowd, CROWD_NOTES),
     ];
     for (part, notes) in parts {
         push_part(part.as_str(), &mut text)?;

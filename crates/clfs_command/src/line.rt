@@ -1,7 +1,7 @@
 // The command line behind FOLDER, as clap takes it.
 ghost use Rattle.std.specs.Prelude.{◌≡◌, IfOk, codes, false};
 ghost use Rattle.clap.specs.Words.{app_of, rule_of};
-ghost use Rattle.clfs_command.specs.Line.{option, needed, with_default, flag, word, command_named, format_line, serve_line, race_line, trial_line, crew_line, check_line, command_line};
+ghost use Rattle.clfs_command.specs.Line.{option, needed, with_default, flag, word, command_named, format_line, serve_line, race_line, trial_line, crew_line, check_line, crowd_line, command_line};
 
 use clap::{Arg, ArgAction, Command};
 use std::alloc::{AllocError, Global};
@@ -139,6 +139,18 @@ pub fn check_line<'a>(alloc: Global) -> Command<'a>
     command_named(alloc, "check", about)
 }
 
+/// The line of `crowd`.
+pub fn crowd_line<'a>(alloc: Global) -> Result<Command<'a>, AllocError>
+    ensures { IfOk result (λ r. app_of r ≡ crowd_line) }
+{
+    let about = "Appends in threads that share their flushes, over a log in memory";
+    let threads = "How many threads there are, 1 to 8";
+    let count = "How many records each of them appends, 1 to 1000";
+    command_named(alloc, "crowd", about)
+        .arg(word(alloc, "THREADS", threads))?
+        .arg(word(alloc, "COUNT", count))
+}
+
 /// All of the line, of which the first word names the subcommand.
 pub fn command_line<'a>(alloc: Global) -> Result<Command<'a>, AllocError>
     ensures { IfOk result (λ r. app_of r ≡ command_line) }
@@ -154,5 +166,6 @@ pub fn command_line<'a>(alloc: Global) -> Result<Command<'a>, AllocError>
         .subcommand(race_line(alloc)?)?
         .subcommand(trial_line(alloc)?)?
         .subcommand(crew_line(alloc)?)?
-        .subcommand(check_line(alloc))
+        .subcommand(check_line(alloc))?
+        .subcommand(crowd_line(alloc)?)
 }

@@ -3,7 +3,7 @@ ghost use Rattle.std.specs.Prelude.{◌≡◌, map, Some, None, IfSome, IfOk, If
 ghost use Rattle.std.specs.Option.{option_and_then};
 ghost use Rattle.std.specs.String.{string_bytes};
 ghost use Rattle.clap.specs.Words.{rows_of, found_of, subcommand_rows_of};
-ghost use Rattle.clfs_command.specs.Command.{number_of, is_set, is_size, format_of, length_of, are_buffers, serve_of, race_of, trial_of, crew_of, with_options, command_of, HasItsRanges};
+ghost use Rattle.clfs_command.specs.Command.{number_of, is_set, is_size, format_of, length_of, are_buffers, serve_of, race_of, trial_of, crew_of, crowd_of, with_options, command_of, HasItsRanges};
 
 use crate::line::command_line;
 use clap::ArgMatches;
@@ -64,6 +64,13 @@ pub enum Command {
     },
     /// To judge a log.
     Check,
+    /// To append in threads that share their flushes, over a log in memory.
+    Crowd {
+        /// How many threads there are, 1 to 8.
+        threads: u32,
+        /// How many records each of them appends, 1 to 1,000.
+        count: u32,
+    },
 }
 
 /// Why no command was read.
@@ -102,10 +109,10 @@ const MOST_READ_BUFFERS: u32 = 4096;
 // The most lines of a trial.
 const MOST_TRIAL_LINES: u32 = 100000;
 
-// The most threads of a crew.
+// The most threads of a crew, and of a crowd.
 const MOST_CREW_THREADS: u32 = 8;
 
-// The most records that a thread of a crew appends.
+// The most records that a thread of a crew appends, or of a crowd.
 const MOST_CREW_RECORDS: u32 = 1000;
 
 fn is_size(block: u32, container: u32, containers: u32) -> bool
@@ -232,6 +239,18 @@ fn crew_of(threads: Option<u32>, count: Option<u32>) -> Option<Command>
     Some(Command::Crew { threads, count })
 }
 
+fn crowd_of(threads: Option<u32>, count: Option<u32>) -> Option<Command>
+    ensures command { result ≡ crowd_of threads count }
+    ensures ranges { IfSome result HasItsRanges }
+{
+    let threads = threads?;
+    let count = count?;
+    if !(1..=MOST_CREW_THREADS).contains(&threads) || !(1..=MOST_CREW_RECORDS).contains(&count) {
+        return None;
+    }
+    Some(Command::Crowd { threads, count })
+}
+
 // The command that a subcommand and its options stand for.
 fn with_options(name: &str, options: &ArgMatches) -> Option<Command>
     ensures command { result ≡ with_options (name.now, rows_of (found_of options.now)) }
@@ -253,6 +272,7 @@ fn with_options(name: &str, options: &ArgMatches) -> Option<Command>
         "trial" => trial_of(number_of("NUMBER", options), number_of("COUNT", options)),
         "crew" => crew_of(number_of("THREADS", options), number_of("COUNT", options)),
         "check" => Some(Command::Check),
+        "crowd" => crowd_of(number_of("THREADS", options), number_of("COUNT", options)),
         _ => None,
     }
 }

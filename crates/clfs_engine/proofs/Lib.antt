@@ -22,3 +22,6 @@ pub mod TakenCalls
 pub mod RaceEnds
 pub mod RaceThrough
 pub mod Crews
+pub mod Commits
+pub mod Crowds
+pub mod Gathered

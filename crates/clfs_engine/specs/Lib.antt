@@ -20,3 +20,5 @@ pub mod Check
 pub mod Complete
 pub mod Crew
 pub mod Work
+pub mod Crowd
+pub mod Commits

@@ -22,7 +22,7 @@ too_long_text = codes "input too long\n"
 
 -- the line for words that are no command
 abbrev pub usage_text : List ℕ
-usage_text = codes "usage: clfs FOLDER format, serve, race, trial, crew or check\n"
+usage_text = codes "usage: clfs FOLDER format, serve, race, trial, crew, check or crowd\n"
 
 -- the replies to the lines that came whole and before a limit, and then the line for an input that is too long
 pub record IsAnsweredUpToLimit (limits : Limits) (Is : Answers) (bytes text : List ℕ) : Type 0 where

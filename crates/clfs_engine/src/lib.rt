@@ -12,7 +12,8 @@
 //!
 //! `trial` answers lines that `clfs_trial` makes, by a log in memory, and prints their sums. `check` judges a log by `clfs_check`, and prints what
 //! is in it. `crew` lets threads append by permits of one shared area (`clfs_area`), over a log in memory, and prints how many
-//! records there are and how many sectors are still held.
+//! records there are and how many sectors are still held. `crowd` lets threads append that share their flushes (`clfs_group`), over a log in memory,
+//! and prints how many records there are and of how many of them the threads were told that they are on the disk.
 //!
 //! If nothing outside fails, a command is done, unless memory runs out; each says so in a clause of its own, `complete` (specs/Complete.antt).
 #![tactic(auto)]
@@ -21,10 +22,12 @@ mod answering;
 mod asking;
 mod checking;
 mod crewing;
+mod crowding;
 mod desk;
 mod formatting;
 mod input;
 mod making;
+mod members;
 mod output;
 mod program;
 mod racing;
@@ -41,6 +44,7 @@ mod working;
 pub use checking::check;
 pub use clfs_race::{Gate, Pass};
 pub use crewing::crew;
+pub use crowding::crowd;
 pub use formatting::format;
 pub use program::run;
 pub use racing::race;

@@ -3,12 +3,13 @@ ghost use Rattle.std.specs.Prelude.{◌≡◌, ◌≢◌, ℕ, Bool, map, Some, 
 ghost use Rattle.std.specs.String.{string_bytes};
 ghost use Rattle.clfs_lsn.specs.declared.shape.Shape.{Shape};
 ghost use Rattle.clfs_command.specs.Command.{command_of};
-ghost use Rattle.clfs_command.specs.declared.words.Command.TheVariants.{Format, Serve, Race, Trial, Crew, Check};
+ghost use Rattle.clfs_command.specs.declared.words.Command.TheVariants.{Format, Serve, Race, Trial, Crew, Check, Crowd};
 ghost use Rattle.clfs_command.specs.declared.words.ScriptLength.{ScriptLength};
 ghost use Rattle.clfs_ports.specs.Cause.{Rises};
 ghost use Rattle.clfs_engine.specs.Check.{EndsCheck};
 ghost use Rattle.clfs_engine.specs.Complete.{IsDone, NothingFailsAnswering, NothingFailsRacing, NothingFailsMaking, NothingFailsChecking, ComesThrough, RaceComesThrough};
 ghost use Rattle.clfs_engine.specs.Crew.{EndsCrew};
+ghost use Rattle.clfs_engine.specs.Crowd.{EndsCrowd};
 ghost use Rattle.clfs_engine.specs.Format.{EndsFormat};
 ghost use Rattle.clfs_engine.specs.Race.{EndsRacing};
 ghost use Rattle.clfs_engine.specs.Serve.{EndsServing, EndsByUsage};
@@ -17,6 +18,7 @@ ghost use Rattle.clfs_engine.specs.Trial.{EndsTrial};
 
 use crate::checking::check;
 use crate::crewing::crew;
+use crate::crowding::crowd;
 use crate::formatting::format;
 use crate::input::LONGEST_SCRIPT;
 use crate::output::printed;
@@ -43,8 +45,9 @@ fn longest_script(length: ScriptLength) -> u64
 }
 
 /// Runs the command that the words name: `serve` with its write buffers, its read buffers and the length that the script may have, `race` with its write buffers,
-/// `format` with the sizes of the log and whether it is dedicated, `trial` with its number and its count, `crew` with its threads and its count, or
-/// `check`. The words are those after the folder. Only a race and a crew start threads, and wait for them.
+/// `format` with the sizes of the log and whether it is dedicated, `trial` with its number and its count, `crew` and `crowd`
+/// with their threads and their count, or `check`. The words are those after the folder. Only a race, a crew and a crowd start threads, and wait for
+/// them.
 pub fn run<R: Threads + Wait + Sync, S: Source, K: Sink, D: Disk + Send + Drop>(
     rt: &R,
     alloc: Global,
@@ -66,6 +69,8 @@ pub fn run<R: Threads + Wait + Sync, S: Source, K: Sink, D: Disk + Send + Drop>(
         → EndsTrial result.status number count (K.written sink.old) (K.written sink.new) (K.faults sink.old) (K.faults sink.new) }
     ensures crews { (threads count : ℕ) → command_of (map string_bytes words.now) ≡ Some (Crew threads count)
         → EndsCrew result.status threads count (K.written sink.old) (K.written sink.new) (K.faults sink.old) (K.faults sink.new) }
+    ensures crowds { (threads count : ℕ) → command_of (map string_bytes words.now) ≡ Some (Crowd threads count)
+        → EndsCrowd result.status threads count (K.written sink.old) (K.written sink.new) (K.faults sink.old) (K.faults sink.new) }
     ensures checks { command_of (map string_bytes words.now) ≡ Some Check
         → EndsCheck result.status (D.state disk) (D.state result.disk) (K.written sink.old) (K.written sink.new) (K.faults sink.old) (K.faults sink.new) }
     // If nothing outside fails, a command is done, unless memory runs out.
@@ -80,6 +85,8 @@ pub fn run<R: Threads + Wait + Sync, S: Source, K: Sink, D: Disk + Send + Drop>(
     ensures trying_is_done { (number count : ℕ) → command_of (map string_bytes words.now) ≡ Some (Trial number count)
         → (Rises (K.faults sink.old) (K.faults sink.new) → ⊥) → IsDone result.status }
     ensures crewing_is_done { (threads count : ℕ) → command_of (map string_bytes words.now) ≡ Some (Crew threads count)
+        → (Rises (K.faults sink.old) (K.faults sink.new) → ⊥) → IsDone result.status }
+    ensures crowding_is_done { (threads count : ℕ) → command_of (map string_bytes words.now) ≡ Some (Crowd threads count)
         → (Rises (K.faults sink.old) (K.faults sink.new) → ⊥) → IsDone result.status }
     ensures checking_is_done { command_of (map string_bytes words.now) ≡ Some Check
         → NothingFailsChecking (D.state disk) (D.state result.disk) (K.faults sink.old) (K.faults sink.new) → IsDone result.status }
@@ -123,8 +130,12 @@ pub fn run<R: Threads + Wait + Sync, S: Source, K: Sink, D: Disk + Send + Drop>(
             disk,
         },
         Ok(Command::Check) => check(alloc, sink, disk),
+        Ok(Command::Crowd { threads, count }) => Outcome {
+            status: crowd(rt, alloc, threads, count, sink),
+            disk,
+        },
         Err(WordsRefusal::Usage) => {
-            let line = b"usage: clfs FOLDER format, serve, race, trial, crew or check\n";
+            let line = b"usage: clfs FOLDER format, serve, race, trial, crew, check or crowd\n";
             Outcome {
                 status: printed(sink, line, USAGE),
                 disk,

@@ -29,11 +29,12 @@ fn has_area_again<D: Disk, W: Wait>(rt: &W, log: &SharedLog<D>, session: &mut Se
     matches!(log.step(rt, session, &creating), Reply::Area(2))
 }
 
-// The sessions of a caller and of a group that ended, and what the caller was answered.
+// The sessions of a caller and of a group that ended, the LSNs of the caller's records, and what it was answered.
 #[derive(Drop)]
 struct Ended {
     caller: Session,
     session: Session,
+    records: [Lsn; 2],
     answers: [Result<Lsn, Refusal>; 3],
 }
 
@@ -68,6 +69,7 @@ fn of_two_records<N: GroupName, D: Disk, W: Wait>(
     Ok(Ended {
         caller,
         session: group.end(),
+        records: [first, second],
         answers,
     })
 }
@@ -82,10 +84,12 @@ fn is_one_flush<W: Wait>(rt: &W, alloc: Global) -> Result<bool, Fail> {
     let Ended {
         caller,
         mut session,
+        records,
         answers,
     } = of_two_records::<Brand, _, _>(rt, alloc, &log, caller, session, 1)?;
     let stable = Lsn::from_parts(1, 512, 0);
     let lsn = Lsn::from_parts(1, 1024, 0);
+    let placed = records == [Lsn::from_parts(1, 0, 0), Lsn::from_parts(1, 0, 1)];
     let answered = answers
         == [
             Ok(stable),
@@ -96,7 +100,8 @@ fn is_one_flush<W: Wait>(rt: &W, alloc: Global) -> Result<bool, Fail> {
     let next = append(rt, alloc, &log, &mut session, 2);
     let sessions = both(alloc, &log, caller, session)?;
     let journal = journal_of(log, sessions);
-    Ok(made && answered && again && next == Some(stable) && flushes_of(&journal) == (1, 2))
+    let once = flushes_of(&journal) == (1, 2);
+    Ok(made && placed && answered && again && next == Some(stable) && once)
 }
 
 #[test]
@@ -193,17 +198,15 @@ fn answers_over<W: Wait>(
 fn a_mark_is_answered_though_the_log_is_broken(rt: HostRuntime) -> Result<(), Fail> {
     let alloc = rt.alloc();
     let stable = Lsn::from_parts(1, 512, 0);
+    let expected = [
+        Ok(stable),
+        Err(Refusal::DiskFault),
+        Err(Refusal::Broken),
+        Ok(stable),
+    ];
     for passes in 1..64 {
         if let Some(answers) = answers_over(&rt, alloc, passes)? {
-            assert!(rt;
-                answers
-                    == [
-                        Ok(stable),
-                        Err(Refusal::DiskFault),
-                        Err(Refusal::Broken),
-                        Ok(stable)
-                    ]
-            );
+            assert!(rt; answers == expected);
             return Ok(());
         }
     }

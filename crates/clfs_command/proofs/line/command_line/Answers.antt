@@ -4,7 +4,7 @@ use Rattle.clap.specs.Words.{App, app_of, shape_of, with_subcommand}
 use Rattle.clap.specs.Simple.{app_of_fields, on_top}
 use Rattle.clap.specs.declared.builder.command.Command.{Command}
 use Rattle.clap.specs.declared.builder.command.Command.TheViews.{out-Command}
-use Rattle.clfs_command.specs.Line.{format_line, serve_line, race_line, trial_line, crew_line, check_line}
+use Rattle.clfs_command.specs.Line.{format_line, serve_line, race_line, trial_line, crew_line, check_line, crowd_line}
 use Rattle.clfs_command.proofs.line.command_line.Goals as goal
 
 -- a command that uses none of the settings that change how words are read has no option for all levels
@@ -32,5 +32,7 @@ returns c =
     let third = c.in_ok-subcommand-3.ensures.shape (joined _ _ race refl) ∙ ap₂ with_subcommand second (ap (λ (x : App). x.top) race) in
     let fourth = c.in_ok-subcommand-4.ensures.shape (joined _ _ trial refl) ∙ ap₂ with_subcommand third (ap (λ (x : App). x.top) trial) in
     let fifth = c.in_ok-subcommand-5.ensures.shape (joined _ _ crew refl) ∙ ap₂ with_subcommand fourth (ap (λ (x : App). x.top) crew) in
-    IfOk-weaker c.subcommand-6.result _ _
-    (λ r added. added.shape (joined _ _ check refl) ∙ ap₂ with_subcommand fifth (ap (λ (x : App). x.top) check)) c.subcommand-6.ensures
+    let crowd : app_of c.in_ok-crowd_line.field-0 ≡ crowd_line = c.in_ok-crowd_line.ensures in
+    let sixth = c.in_ok-subcommand-6.ensures.shape (joined _ _ check refl) ∙ ap₂ with_subcommand fifth (ap (λ (x : App). x.top) check) in
+    IfOk-weaker c.subcommand-7.result _ _
+    (λ r added. added.shape (joined _ _ crowd refl) ∙ ap₂ with_subcommand sixth (ap (λ (x : App). x.top) crowd)) c.subcommand-7.ensures
