@@ -1,6 +1,7 @@
 -- The same call of the same log, by other names.
 use Rattle.std.proofs.Common.{◌≡◌, ℕ, Bool, true, false, List, [], ◌∷◌, Result, Some, find, sym, subst, ap, ◌∙◌, inl, inr}
 use Rattle.std.proofs.lemmas.Bool.{cases_Bool, eqb-true}
+use Rattle.clfs_lsn.specs.declared.cursor.Mode.{Mode}
 use Rattle.clfs_model.specs.declared.call.Call.{Call}
 use Rattle.clfs_model.specs.declared.call.Call.TheVariants as log_calls
 use Rattle.clfs_model.specs.declared.call.Draft.{Draft}
@@ -66,3 +67,12 @@ restart_is area place bytes others base p q =
 
 pub base_is : (area : ℕ) (bytes : List ℕ) (base other : ℕ) → base ≡ other → log_calls.WriteRestart area bytes base false ≡ log_calls.WriteRestart area bytes other false
 base_is area bytes base other p = ap (λ (b : ℕ). log_calls.WriteRestart area bytes b false) p
+
+pub read_is : (area place lsn : ℕ) (mode : Mode) → area ≡ place → log_calls.Read area lsn mode ≡ log_calls.Read place lsn mode
+read_is area place lsn mode p = ap (λ (a : ℕ). log_calls.Read a lsn mode) p
+
+pub read_next_is : (area place cursor : ℕ) → area ≡ place → log_calls.ReadNext area cursor ≡ log_calls.ReadNext place cursor
+read_next_is area place cursor p = ap (λ (a : ℕ). log_calls.ReadNext a cursor) p
+
+pub end_read_is : (area place cursor : ℕ) → area ≡ place → log_calls.EndRead area cursor ≡ log_calls.EndRead place cursor
+end_read_is area place cursor p = ap (λ (a : ℕ). log_calls.EndRead a cursor) p

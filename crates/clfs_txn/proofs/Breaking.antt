@@ -1,6 +1,7 @@
 -- Whether a log is broken after a call, by its answer.
 use Rattle.std.proofs.Common.{◌≡◌, ◌≢◌, ℕ, Bool, true, false, Result, Ok, Err, refl, sym, ◌∙◌}
 use Rattle.std.specs.Prelude.{IfErr, OnOk}
+use Rattle.std.specs.List.{AllByRecursion}
 use Rattle.clfs_model.specs.declared.call.Call.{Call}
 use Rattle.clfs_model.specs.declared.refusal.Refusal.{Refusal}
 use Rattle.clfs_model.specs.declared.refusal.Refusal.TheVariants as refusals
@@ -11,10 +12,13 @@ use Rattle.clfs_model.specs.declared.reply.Reply.TheVariants as replies
 use Rattle.clfs_model.specs.declared.state.State.{State}
 use Rattle.clfs_model.specs.Happened.{happened_of, happened_of_refusal}
 use Rattle.clfs_model.specs.Step.{Step}
-use Rattle.clfs_manager.specs.Calls.{Steps}
+use Rattle.clfs_model.specs.Valid.{IsValid}
+use Rattle.clfs_manager.specs.Calls.{Steps, replied}
 use Rattle.clfs_cells.specs.Stored.{Memory, Store}
 use Rattle.clfs_txn.specs.Calls.{is_break, breaks}
-use Rattle.clfs_txn.specs.Kept.{IsKept}
+use Rattle.clfs_txn.specs.Kept.{AreLogged, IsKept}
+use Rattle.clfs_txn.proofs.Appended.{OnlyAdds}
+use Rattle.clfs_txn.proofs.Logged.{all_logged_on}
 
 -- what the laws say of broken logs
 pub record Laws : Type 0 where
@@ -25,6 +29,7 @@ pub record Laws : Type 0 where
   pub unbroken : (told : Bool) (s : State) (client : ℕ) (call : Call) (happened : Happened) (reply : Reply) (t : State)
       → s.broken ≡ false → happened_of reply ≡ Fine → Step told s client call happened reply t
       → (t.broken ≡ false) × (reply ≢ replies.Refused refusals.Broken)
+  pub adds : OnlyAdds
 
 -- after a refusal
 refused : Laws → (told : Bool) (s : State) (client : ℕ) (call : Call) (refusal : Refusal) (t : State) → s.broken ≡ false
@@ -41,14 +46,27 @@ broken_then laws told s client call answer (Ok value) t fine whole step =
     (laws.unbroken told s client call (happened_of (answer value)) (answer value) t whole (fine value) step).0
 broken_then laws told s client call answer (Err refusal) t fine whole step = refused laws told s client call refusal t whole step
 
+-- the sets of the open transactions are in the log still
+pub still_logged : OnlyAdds → (told : Bool) (s : State) (client : ℕ) (call : Call) (happened : Happened) (reply : Reply) (t : State) (memory : Memory) → IsValid s
+    → Step told s client call happened reply t → AllByRecursion (AreLogged s) memory.transactions → AllByRecursion (AreLogged t) memory.transactions
+still_logged adds told s client call happened reply t memory valid step logged =
+    let more = adds told s client call happened reply t valid step in all_logged_on s t more.0 memory.transactions more.1 logged
+
 -- a store that has noted what its log's call answered
-pub kept_after : {A : Type 0} → Laws → (s : State) (client : ℕ) (call : Call) (answer : A → Reply) (result : Result A Refusal) (t : State)
-    (memory : Memory) (before after : Bool) → IsKept s memory before → ((value : A) → happened_of (answer value) ≡ Fine) → s.broken ≡ false
-    → Steps true s client call answer result t → after ≡ breaks result → IsKept t memory after
-kept_after laws s client call answer result t memory before after kept fine whole step noted = record {
-  knows = noted ∙ sym (broken_then laws true s client call answer result t fine whole step);
+pub kept_by : {A : Type 0} → Laws → (told : Bool) (s : State) (client : ℕ) (call : Call) (answer : A → Reply) (result : Result A Refusal) (t : State)
+    (memory : Memory) (before after : Bool) → IsValid s → IsKept s memory before → ((value : A) → happened_of (answer value) ≡ Fine) → s.broken ≡ false
+    → Steps told s client call answer result t → after ≡ breaks result → IsKept t memory after
+kept_by laws told s client call answer result t memory before after valid kept fine whole step noted = record {
+  knows = noted ∙ sym (broken_then laws told s client call answer result t fine whole step);
   client = kept.client;
+  logged = still_logged laws.adds told s client call (happened_of (replied answer result)) (replied answer result) t memory valid step kept.logged;
 }
+
+pub kept_after : {A : Type 0} → Laws → (s : State) (client : ℕ) (call : Call) (answer : A → Reply) (result : Result A Refusal) (t : State)
+    (memory : Memory) (before after : Bool) → IsValid s → IsKept s memory before → ((value : A) → happened_of (answer value) ≡ Fine) → s.broken ≡ false
+    → Steps true s client call answer result t → after ≡ breaks result → IsKept t memory after
+kept_after laws s client call answer result t memory before after valid kept fine whole step noted =
+    kept_by laws true s client call answer result t memory before after valid kept fine whole step noted
 
 -- the log isn't broken where the call was answered
 pub whole_then : {A : Type 0} (result : Result A Refusal) (broken : Bool) → broken ≡ breaks result → OnOk result (broken ≡ false)

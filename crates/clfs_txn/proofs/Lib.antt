@@ -3,7 +3,15 @@ mod Carried
 mod Begun
 mod Sets
 mod Written
+mod Joined
 mod Asked
+mod Answered
+mod Cursors
+mod Appended
+mod Logged
+mod Undone
 mod Ends
 mod Above
 mod Restarts
+mod Quiet
+mod Backs

@@ -18,7 +18,7 @@ use Rattle.clfs_cells.specs.Stored.{Store, Memory, Transaction, transaction, hol
 use Rattle.clfs_txn.specs.Calls.{IsFound, IsNotFound}
 use Rattle.clfs_txn.proofs.Carried.{passed, met, one_call, step_is, refused_at_once}
 
-over : (memory : Memory) (number : ℕ) (go : Transaction → Plan Answered) (found : Option Transaction) → transaction memory number ≡ found
+pub over : (memory : Memory) (number : ℕ) (go : Transaction → Plan Answered) (found : Option Transaction) → transaction memory number ≡ found
     → over_transaction memory number go ≡ option_map_or go found (refuses memory refusals.NoSuchTxn)
 over memory number go found is = ap (λ (o : Option Transaction). option_map_or go o (refuses memory refusals.NoSuchTxn)) is
 

@@ -65,6 +65,13 @@ of_log {A} {B} old new refusal is = writes_as _ _ old new
     (λ f. let same : refusal ≡ log_refusals.DiskFault = cc f in ap (λ (r : Refusal). Err (refusals.Log r)) same)
     (λ f. let same : refusal ≡ log_refusals.DiskFault = cc f in ap (λ (r : Refusal). Err r) same) is
 
+-- a call of the log that is refused as one in it was
+pub of_same : {A B : Type 0} (old new : DiskState) (refusal : Refusal) → WritesDisk (IsErrOf {T = A} (Err refusal) log_refusals.DiskFault) old new
+    → WritesDisk (IsErrOf {T = B} (Err refusal) log_refusals.DiskFault) old new
+of_same {A} {B} old new refusal is = writes_as _ _ old new
+    (λ f. let same : refusal ≡ log_refusals.DiskFault = cc f in ap (λ (r : Refusal). Err r) same)
+    (λ f. let same : refusal ≡ log_refusals.DiskFault = cc f in ap (λ (r : Refusal). Err r) same) is
+
 -- a call that met no fault, after one of the log that was answered
 pub of_ok : {A : Type 0} (other : Type 0) (old new : DiskState) (value : A) → (other → ⊥) → WritesDisk (IsErrOf (Ok value) log_refusals.DiskFault) old new
     → WritesDisk other old new
@@ -74,7 +81,7 @@ of_ok {A} other old new value fine is = writes_as _ other old new (λ f. absurd 
 pub not_found : (s : Store) (number : ℕ) (refusal : TxnRefusal) → IsNotFound s number refusal → is_fault refusal ≡ false
 not_found s number refusal is = elim is [ inl broken ↦ ap is_fault broken.1 | inr none ↦ ap is_fault none.2 ]
 
-where_not : (b : Bool) (A B : Type 0) → b ≡ false → MatchBool b A B → B
+pub where_not : (b : Bool) (A B : Type 0) → b ≡ false → MatchBool b A B → B
 where_not true A B e x = absurd (cc e)
 where_not false A B e x = x
 
@@ -89,7 +96,7 @@ no_fault {A} told s client call answer result t whole quiet steps is =
       | inr goes ↦ let called = goes.1.0 in absurd (cc (called, quiet))
     ]
 
-either : {X : Type 0} (o : Option X) (N : Type 0) (S : X → Type 0) → MatchOption o N S → ((o ≡ None) × N) ⊎ ((x : X) × ((o ≡ Some x) × S x))
+pub either : {X : Type 0} (o : Option X) (N : Type 0) (S : X → Type 0) → MatchOption o N S → ((o ≡ None) × N) ⊎ ((x : X) × ((o ≡ Some x) × S x))
 either None N S h = inl (refl, h)
 either (Some x) N S h = inr (x, (refl, h))
 

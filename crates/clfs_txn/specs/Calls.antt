@@ -12,8 +12,9 @@ use Rattle.clfs_cells.specs.declared.told.TxnRefusal.{TxnRefusal}
 use Rattle.clfs_cells.specs.declared.told.TxnRefusal.TheVariants as refusals
 use Rattle.clfs_cells.specs.declared.told.TxnReply.{TxnReply}
 use Rattle.clfs_cells.specs.declared.told.TxnReply.TheVariants as replies
-use Rattle.clfs_cells.specs.Calls.{Answered, TxnStep}
+use Rattle.clfs_cells.specs.Calls.{Answered, TxnStep, stops, with_read_ended}
 use Rattle.clfs_cells.specs.Plans.{Plan, CarriesOut}
+use Rattle.clfs_model.specs.declared.state.State.{State}
 use Rattle.clfs_cells.specs.Stored.{Store}
 
 -- an answer as the store's reply
@@ -70,3 +71,27 @@ Carries told s plan answer result t = CarriesOut told s.memory.client s.log plan
 -- what a checkpoint has
 abbrev pub checkpoint_of : Memory → Checkpoint
 checkpoint_of memory = record { cells = memory.cells; last = memory.last }
+
+-- Part of a plan was carried out, up to this rest: whoever carries the rest out has carried out the plan.
+pub record Leads (told : Bool) (client : ℕ) (log : State) (plan : Plan Answered) (mid : State) (rest : Plan Answered) : Type 0 where
+  pub carried : (result : Answered) (t : State) → CarriesOut told client mid rest result t → CarriesOut told client log plan result t
+
+-- how a plan goes on behind sets that were taken back, or behind the refusal that stopped it
+abbrev pub or_stopped : {A : Type 0} → (Memory → Plan Answered) → Result A Refusal → Memory → Plan Answered
+or_stopped rest (Ok value) memory = rest memory
+or_stopped rest (Err refusal) memory = stops memory refusal
+
+-- the same of one set, where the cursor ends if it was refused
+abbrev pub or_ended : {A : Type 0} → ℕ → (Memory → Plan Answered) → Result A Refusal → Memory → Plan Answered
+or_ended cursor rest (Ok value) memory = rest memory
+or_ended cursor rest (Err refusal) memory = with_read_ended memory cursor (stops memory refusal)
+
+-- what a store's calls of its log leave as it is: whose area it is
+pub record HasSameArea (old new : Memory) : Type 0 where
+  pub client : new.client ≡ old.client
+  pub area : new.area ≡ old.area
+
+-- the log refused a call of the store
+abbrev pub is_of_log : TxnRefusal → Bool
+is_of_log (refusals.Log refusal) = true
+is_of_log _ = false

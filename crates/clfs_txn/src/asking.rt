@@ -1,5 +1,5 @@
 // The calls of the log that a store makes. Each notes whether the log is broken then.
-ghost use Rattle.std.specs.Prelude.{◌≡◌, ◌≤◌, Bool, IfErr, IfOk, IsErrOf, OnOk, false, replicate};
+ghost use Rattle.std.specs.Prelude.{◌≡◌, ◌≤◌, ℕ, Bool, IfErr, IfOk, IsErrOf, OnOk, false, replicate};
 ghost use Rattle.clfs_model.specs.declared.refusal.Refusal.TheVariants as log_refusals;
 ghost use Rattle.clfs_manager.specs.Written.{WritesDisk};
 ghost use Rattle.clfs_model.specs.declared.call.Call.TheVariants as calls;
@@ -8,16 +8,23 @@ ghost use Rattle.clfs_manager.specs.Calls.{Steps};
 ghost use Rattle.clfs_cells.specs.Calls.{append_call};
 ghost use Rattle.clfs_cells.specs.Kept.{transaction_of};
 ghost use Rattle.clfs_cells.specs.Stored.{most_records};
-ghost use Rattle.clfs_txn.specs.Calls.{is_break, breaks, draft_of};
+ghost use Rattle.clfs_cells.specs.Calls.{Answered, with_read_ended};
+ghost use Rattle.clfs_cells.specs.Plans.{Plan};
+ghost use Rattle.clfs_lsn.specs.declared.cursor.Mode.{Mode as Way};
+ghost use Rattle.clfs_lsn.specs.declared.cursor.Mode.TheVariants.{UndoNext};
+ghost use Rattle.clfs_lsn.specs.declared.entry.LogEntry.{LogEntry as Record};
+ghost use Rattle.clfs_txn.specs.Calls.{Leads, is_break, breaks, draft_of};
+ghost use Rattle.clfs_txn.specs.Reading.{HasLink, IsAt, IsSet};
 
 use crate::store::TxnStore;
 use clfs_cells::{Action, RECORD_BYTES, Transaction, TxnRecord, records_are_read_as_written};
 use clfs_disk::Disk;
 use clfs_laws::{
-    faults_break, refusals_are_the_calls_own, refusals_change_nothing, unbroken_stays,
+    broken_stays, faults_break, refusals_are_the_calls_own, refusals_change_nothing,
+    steps_keep_a_state_valid, steps_only_add_records, unbroken_stays,
 };
-use clfs_lsn::{Bytes, Lsn, Sizes};
-use clfs_model::{Draft, Refusal, ways_of_a_step};
+use clfs_lsn::{Bytes, LogEntry, Lsn, Sizes};
+use clfs_model::{Draft, Mode, Refusal, ways_of_a_step};
 use std::alloc::{AllocError, Global};
 
 // Whether a log that refuses a call so answers nothing else from then on.
@@ -88,12 +95,17 @@ impl<D: Disk> TxnStore<D> {
         ensures kept { IfErr result (λ refusal. is_break refusal ≡ false → self.new.0.log ≡ self.old.0.log) }
         ensures memory { self.new.0.memory ≡ self.old.0.memory }
         ensures whole { OnOk result (self.new.0.log.broken ≡ false) }
+        ensures linked { IfOk result (λ lsn. HasLink self.new.0.log lsn undo_next) }
+        ensures cursors { OnOk result ((cursor last : ℕ) (mode : Way) → IsAt self.old.0.log self.old.0.memory.client self.old.0.memory.area cursor mode last
+            → IsAt self.new.0.log self.old.0.memory.client self.old.0.memory.area cursor mode last) }
     {
         ways_of_a_step();
         faults_break();
         refusals_change_nothing();
         unbroken_stays();
+        steps_only_add_records();
         records_are_read_as_written();
+        self.manager.stored();
         let draft = draft_of(self.alloc, t, action, undo_next, flush)?;
         let sizes = Sizes::none(self.alloc);
         let reply = self.manager.append(
@@ -120,6 +132,8 @@ impl<D: Disk> TxnStore<D> {
         faults_break();
         refusals_are_the_calls_own();
         unbroken_stays();
+        steps_only_add_records();
+        self.manager.stored();
         let reply = self
             .manager
             .release(self.memory.client(), self.memory.area(), sectors);
@@ -141,11 +155,77 @@ impl<D: Disk> TxnStore<D> {
         faults_break();
         refusals_change_nothing();
         unbroken_stays();
+        steps_only_add_records();
+        self.manager.stored();
         let sizes = sizes_of(self.alloc, changes)?;
         let reply = self
             .manager
             .reserve(self.memory.client(), self.memory.area(), &sizes);
         self.broken = breaks(&reply);
         reply
+    }
+
+    // Reads the record of an LSN, with a cursor that goes on from it in this mode.
+    pub(crate) fn read(&mut self, lsn: Lsn, mode: Mode) -> Result<(u16, LogEntry), Refusal>
+        requires { self.old.0.log.broken ≡ false }
+        ensures step { Steps (D.state self.old.1).nature.tells_contents self.old.0.log self.old.0.memory.client
+            (calls.Read self.old.0.memory.area lsn mode) (λ (found : ℕ × Record). replies.Found found.0 found.1) result self.new.0.log }
+        ensures writes { WritesDisk (IsErrOf result log_refusals.DiskFault) (D.state self.old.1) (D.state self.new.1) }
+        ensures memory { self.new.0.memory ≡ self.old.0.memory }
+        ensures whole { OnOk result (self.new.0.log.broken ≡ false) }
+        ensures at { IfOk result (λ found. IsAt self.new.0.log self.old.0.memory.client self.old.0.memory.area found.0 mode lsn) }
+        ensures there { IfOk result (λ found. found.1.lsn ≡ lsn) }
+    {
+        faults_break();
+        unbroken_stays();
+        steps_only_add_records();
+        steps_keep_a_state_valid();
+        self.manager.stored();
+        let reply = self
+            .manager
+            .read(self.memory.client(), self.memory.area(), lsn, mode);
+        self.broken = breaks(&reply);
+        reply
+    }
+
+    // Reads on with a cursor.
+    pub(crate) fn read_next(&mut self, cursor: u16) -> Result<LogEntry, Refusal>
+        requires { self.old.0.log.broken ≡ false }
+        ensures step { Steps (D.state self.old.1).nature.tells_contents self.old.0.log self.old.0.memory.client
+            (calls.ReadNext self.old.0.memory.area cursor) replies.Next result self.new.0.log }
+        ensures writes { WritesDisk (IsErrOf result log_refusals.DiskFault) (D.state self.old.1) (D.state self.new.1) }
+        ensures memory { self.new.0.memory ≡ self.old.0.memory }
+        ensures whole { OnOk result (self.new.0.log.broken ≡ false) }
+        ensures at { IfOk result (λ entry. (mode : Way) (last : ℕ) → IsAt self.old.0.log self.old.0.memory.client self.old.0.memory.area cursor mode last
+            → IsAt self.new.0.log self.old.0.memory.client self.old.0.memory.area cursor mode entry.lsn) }
+        ensures set { IfOk result (λ entry. (number last : ℕ) → IsAt self.old.0.log self.old.0.memory.client self.old.0.memory.area cursor UndoNext last
+            → IsSet self.old.0.memory number last → IsSet self.old.0.memory number entry.lsn) }
+    {
+        faults_break();
+        unbroken_stays();
+        steps_only_add_records();
+        self.manager.stored();
+        let reply = self
+            .manager
+            .read_next(self.memory.client(), self.memory.area(), cursor);
+        self.broken = breaks(&reply);
+        reply
+    }
+
+    // Ends a cursor, whatever became of the log.
+    pub(crate) fn end_read(&mut self, cursor: u16)
+        ensures step { (told : Bool) (rest : Plan Answered) → Leads told self.old.0.memory.client self.old.0.log
+            (with_read_ended self.old.0.memory cursor rest) self.new.0.log rest }
+        ensures same { self.new.0.log.broken ≡ self.old.0.log.broken }
+        ensures disk { self.new.1 ≡ self.old.1 }
+        ensures memory { self.new.0.memory ≡ self.old.0.memory }
+    {
+        broken_stays();
+        unbroken_stays();
+        steps_only_add_records();
+        self.manager.stored();
+        let _ = self
+            .manager
+            .end_read(self.memory.client(), self.memory.area(), cursor);
     }
 }

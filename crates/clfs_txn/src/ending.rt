@@ -1,5 +1,5 @@
 // The end of a transaction: its last record, and the room that it holds besides.
-ghost use Rattle.std.specs.Prelude.{◌≡◌, Bool, IsErrOf, false, true};
+ghost use Rattle.std.specs.Prelude.{◌≡◌, Bool, IfErr, IsErrOf, false, true};
 ghost use Rattle.clfs_cells.specs.declared.told.TxnRefusal.TheVariants as refusals;
 ghost use Rattle.clfs_model.specs.declared.refusal.Refusal.TheVariants as log_refusals;
 ghost use Rattle.clfs_manager.specs.Written.{WritesDisk};
@@ -8,7 +8,7 @@ ghost use Rattle.clfs_cells.specs.declared.row.Action.TheVariants.{Commit};
 ghost use Rattle.clfs_cells.specs.declared.told.TxnReply.TheVariants as replies;
 ghost use Rattle.clfs_cells.specs.Calls.{end_plan};
 ghost use Rattle.clfs_cells.specs.Kept.{transaction_of};
-ghost use Rattle.clfs_txn.specs.Calls.{Carries, TxnSteps};
+ghost use Rattle.clfs_txn.specs.Calls.{Carries, TxnSteps, is_of_log};
 
 use crate::store::TxnStore;
 use clfs_cells::{Action, Transaction, TxnRefusal};
@@ -25,6 +25,7 @@ impl<D: Disk> TxnStore<D> {
     ) -> Result<(), TxnRefusal>
         requires { self.old.0.log.broken ≡ false }
         ensures kept { IsErrOf result (refusals.Log log_refusals.NoMemory) → self.new.0 ≡ self.old.0 }
+        ensures log { IfErr result (λ refusal. is_of_log refusal ≡ true) }
         ensures writes { WritesDisk (IsErrOf result (refusals.Log log_refusals.DiskFault)) (D.state self.old.1) (D.state self.new.1) }
         ensures step { (told : Bool) → Carries told self.old.0 (end_plan self.old.0.memory (transaction_of t.now) action flush) (λ _. replies.Done) result self.new.0 }
     {

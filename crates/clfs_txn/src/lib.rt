@@ -4,8 +4,8 @@
 //! the room of all its records, so what it does later takes of what is held. A commit is answered behind its flush. What each call does is defined in
 //! `clfs_cells`: which calls of the log it makes, one after the other, and what it answers by their replies.
 //!
-//! Beginning, setting, committing, reading a cell, writing a checkpoint and closing are here. Taking sets back, and loading a store from a log, are
-//! defined there too, but no function does them yet, so no store can be had from outside this crate.
+//! Beginning, setting, taking sets back, committing, rolling back, reading a cell, writing a checkpoint and closing are here. Loading a store from a log
+//! is defined there too, but no function does it yet, so no store can be had from outside this crate.
 #![tactic(auto)]
 
 mod asking;
@@ -14,5 +14,6 @@ mod ending;
 mod restarting;
 mod setting;
 mod store;
+mod undoing;
 
 pub use store::TxnStore;

@@ -15,7 +15,10 @@ use crate::asking::breaks;
 use crate::store::TxnStore;
 use clfs_cells::{Checkpoint, TxnRefusal};
 use clfs_disk::Disk;
-use clfs_laws::{faults_break, numbers_fit_their_types, refusals_change_nothing, unbroken_stays};
+use clfs_laws::{
+    faults_break, numbers_fit_their_types, refusals_change_nothing, steps_only_add_records,
+    unbroken_stays,
+};
 use clfs_lsn::{Bytes, Lsn};
 use clfs_model::{LogInfo, Refusal, ways_of_a_step};
 use std::alloc::{AllocError, Global};
@@ -56,6 +59,8 @@ impl<D: Disk> TxnStore<D> {
         faults_break();
         refusals_change_nothing();
         unbroken_stays();
+        steps_only_add_records();
+        self.manager.stored();
         let checkpoint = self.memory.checkpoint();
         let bytes = bytes_of(self.alloc, &checkpoint)?;
         let reply = self.manager.write_restart(

@@ -7,6 +7,7 @@ use Rattle.clfs_model.specs.declared.refusal.Refusal.TheVariants as log_refusals
 use Rattle.clfs_txn.specs.Calls.{is_break}
 use Rattle.clfs_txn.proofs.Breaking.{same_store}
 use Rattle.clfs_txn.proofs.Written.{of_log, of_ok}
+use Rattle.clfs_txn.proofs.Logged.{ended_logged}
 use Rattle.clfs_txn.proofs.store.TxnStore.end.Goals as goal
 
 pub returns-in-Err-clause-step : goal.returns-in-Err-clause-step
@@ -67,3 +68,10 @@ returns-in-Ok-clause-kept g c = λ f. absurd (cc f)
 
 pub returns-in-Err-release-clause-kept : goal.returns-in-Err-release-clause-kept
 returns-in-Err-release-clause-kept g c = λ f. absurd (c.in-Err-release.ensures.fed (cc f))
+
+pub invariant_of-self : goal.invariant_of-self
+invariant_of-self g c = record {
+  knows = c.self.invariant.knows;
+  client = rw c.end.ensures c.self.invariant.client;
+  logged = rw c.end.ensures (ended_logged c.self.inside.manager.0 c.number.result c.self.inside.memory c.self.invariant.logged);
+}

@@ -13,6 +13,9 @@ use Rattle.clfs_txn.proofs.Asked.{same_call, same_end, append_call_is}
 use Rattle.clfs_txn.proofs.Breaking.{same_store}
 use Rattle.clfs_txn.proofs.Sets.{held, spent, refused, done}
 use Rattle.clfs_txn.proofs.Written.{of_log}
+use Rattle.clfs_cells.specs.Stored.{newest_standing, transaction}
+use Rattle.clfs_txn.specs.Reading.{HasLink}
+use Rattle.clfs_txn.proofs.Logged.{set_logged}
 use Rattle.clfs_txn.proofs.store.TxnStore.set_open.Goals as goal
 
 pub returns-in-Some-clause-step : goal.returns-in-Some-clause-step
@@ -54,3 +57,15 @@ returns-in-Err-clause-kept g c = λ fine. same_store _ _ (c.in-Err.ensures.kept 
 
 pub returns-in-Err-clause-writes : goal.returns-in-Err-clause-writes
 returns-in-Err-clause-writes g c = of_log _ _ c.in-Err.refusal c.in-Err.ensures.writes
+
+pub invariant_of-self : goal.invariant_of-self
+invariant_of-self g c =
+    let t = transaction_of c.args.t.now in
+    let same = ap (λ v. v.0.memory) c.self-2.view_is ∙ c.in-Ok.ensures.memory in
+    let there = ap (λ (m : Memory). transaction m t.number) same ∙ ap (λ (n : ℕ). transaction c.args.self.now.0.memory n) c.requires.found.numbered ∙ c.requires.found.there in
+    let linked : HasLink c.self-2.inside.manager.0 c.in-Ok.lsn (newest_standing t) = rw (ap (λ v. v.0.log) c.self-2.view_is) (subst (λ (n : ℕ). HasLink c.append.new.self.0.log c.in-Ok.lsn n) c.newest_standing.ensures c.in-Ok.ensures.linked) in
+    record {
+      knows = c.self-2.invariant.knows;
+      client = rw c.set.ensures c.self-2.invariant.client;
+      logged = rw c.set.ensures (set_logged c.self-2.inside.manager.0 c.self-2.inside.memory t c.change_to-change.result c.in-Ok.lsn there linked c.self-2.invariant.logged);
+    }

@@ -1,0 +1,80 @@
+-- The ways in which taking sets back and rolling back go.
+use Rattle.std.proofs.Common.{◌≡◌, ℕ, ◌-◌, ◌<◌, ◌≤◌, Bool, false, length, Result, Some, refl, sym, subst, ap, ◌∙◌, arith}
+use Rattle.std.proofs.lemmas.Bool.{lt-ltb, le-ltb}
+use Rattle.clfs_model.specs.declared.refusal.Refusal.{Refusal}
+use Rattle.clfs_cells.specs.declared.asked.TxnCall.TheVariants as asked
+use Rattle.clfs_cells.specs.declared.row.Action.TheVariants.{RolledBack}
+use Rattle.clfs_cells.specs.declared.told.TxnRefusal.{TxnRefusal}
+use Rattle.clfs_cells.specs.declared.told.TxnRefusal.TheVariants as refusals
+use Rattle.clfs_cells.specs.declared.told.TxnReply.TheVariants as replies
+use Rattle.clfs_cells.specs.Calls.{Answered, TxnStep, answers, end_plan, over_transaction, stops, txn_plan, undo_sets}
+use Rattle.clfs_cells.specs.Plans.{Plan, CarriesOut}
+use Rattle.clfs_cells.specs.Stored.{Memory, Store, Transaction, standing}
+use Rattle.clfs_txn.specs.Calls.{Carries, IsFound, Leads, TxnSteps, replied}
+use Rattle.clfs_txn.proofs.Carried.{as_plan, met, passed, refused_at_once, step_is}
+use Rattle.clfs_txn.proofs.Sets.{goes_on, over}
+
+-- more are to be kept than stand
+pub too_many : (told : Bool) (s : Store) (number kept have : ℕ) (t : Transaction) → IsFound s number t → have ≡ length (standing t) → have < kept
+    → TxnStep told s (asked.Back number kept) (replies.Refused (refusals.KeptTooMany have)) s
+too_many told s number kept have t found is less =
+    subst (λ (n : ℕ). TxnStep told s (asked.Back number kept) (replies.Refused (refusals.KeptTooMany n)) s) (sym is)
+    (refused_at_once told s (asked.Back number kept) (refusals.KeptTooMany (length (standing t)))
+    (goes_on s (asked.Back number kept) number t _ refl found ∙ met _ _ s.memory _ (lt-ltb (length (standing t)) kept (omega (arith, is, less)))))
+
+-- sets are taken back
+abbrev done_with : Memory → Plan Answered
+done_with now = answers replies.Done now
+
+back_goes : (s : Store) (number kept have : ℕ) (t : Transaction) → IsFound s number t → have ≡ length (standing t) → kept ≤ have
+    → txn_plan s.log s.memory (asked.Back number kept) ≡ undo_sets (have - kept) s.memory t done_with
+back_goes s number kept have t found is enough =
+    goes_on s (asked.Back number kept) number t _ refl found ∙ passed _ _ s.memory _ (le-ltb (length (standing t)) kept (omega (arith, is, enough)))
+    ∙ ap (λ (n : ℕ). undo_sets (n - kept) s.memory t done_with) (sym is)
+
+pub backs_done : (told : Bool) (s u : Store) (number kept have : ℕ) (t : Transaction) → IsFound s number t → have ≡ length (standing t) → kept ≤ have
+    → Leads told s.memory.client s.log (undo_sets (have - kept) s.memory t done_with) u.log (done_with u.memory)
+    → TxnStep told s (asked.Back number kept) replies.Done u
+backs_done told s u number kept have t found is enough leads =
+    step_is told s (asked.Back number kept) replies.Done u (undo_sets (have - kept) s.memory t done_with) (back_goes s number kept have t found is enough)
+    (leads.carried (record { reply = replies.Done; memory = u.memory }) u.log (refl, refl))
+
+pub backs_refused : (told : Bool) (s u : Store) (number kept have : ℕ) (t : Transaction) (refusal : Refusal) → IsFound s number t → have ≡ length (standing t) → kept ≤ have
+    → Leads told s.memory.client s.log (undo_sets (have - kept) s.memory t done_with) u.log (stops u.memory refusal)
+    → TxnStep told s (asked.Back number kept) (replies.Refused (refusals.Log refusal)) u
+backs_refused told s u number kept have t refusal found is enough leads =
+    step_is told s (asked.Back number kept) (replies.Refused (refusals.Log refusal)) u (undo_sets (have - kept) s.memory t done_with)
+    (back_goes s number kept have t found is enough)
+    (leads.carried (record { reply = replies.Refused (refusals.Log refusal); memory = u.memory }) u.log (refl, refl))
+
+-- ---- rolling back
+
+-- what comes behind the sets
+abbrev ending : ℕ → Memory → Plan Answered
+ending number now = over_transaction now number (λ (t : Transaction). end_plan now t RolledBack false)
+
+roll_goes : (s : Store) (number have : ℕ) (t : Transaction) → IsFound s number t → have ≡ length (standing t)
+    → txn_plan s.log s.memory (asked.Rollback number) ≡ undo_sets have s.memory t (ending number)
+roll_goes s number have t found is =
+    goes_on s (asked.Rollback number) number t _ refl found ∙ ap (λ (n : ℕ). undo_sets n s.memory t (ending number)) (sym is)
+
+pub rolls_refused : (told : Bool) (s u : Store) (number have : ℕ) (t : Transaction) (refusal : Refusal) → IsFound s number t → have ≡ length (standing t)
+    → Leads told s.memory.client s.log (undo_sets have s.memory t (ending number)) u.log (stops u.memory refusal)
+    → TxnStep told s (asked.Rollback number) (replies.Refused (refusals.Log refusal)) u
+rolls_refused told s u number have t refusal found is leads =
+    step_is told s (asked.Rollback number) (replies.Refused (refusals.Log refusal)) u (undo_sets have s.memory t (ending number)) (roll_goes s number have t found is)
+    (leads.carried (record { reply = replies.Refused (refusals.Log refusal); memory = u.memory }) u.log (refl, refl))
+
+pub rolls_ended : {A : Type 0} (told : Bool) (s mid u : Store) (number have : ℕ) (t last : Transaction) (result : Result A TxnRefusal) → IsFound s number t
+    → have ≡ length (standing t) → Leads told s.memory.client s.log (undo_sets have s.memory t (ending number)) mid.log (ending number mid.memory)
+    → IsFound mid number last → mid.memory.client ≡ s.memory.client
+    → Carries told mid (end_plan mid.memory last RolledBack false) (λ _. replies.Done) result u
+    → TxnSteps told s (asked.Rollback number) (λ _. replies.Done) result u
+rolls_ended told s mid u number have t last result found is leads still client ended =
+    let answer : Answered = record { reply = replied (λ _. replies.Done) result; memory = u.memory } in
+    let go : Transaction → Plan Answered = λ (x : Transaction). end_plan mid.memory x RolledBack false in
+    let here : CarriesOut told s.memory.client mid.log (end_plan mid.memory last RolledBack false) answer u.log
+    = subst (λ (c : ℕ). CarriesOut told c mid.log (end_plan mid.memory last RolledBack false) answer u.log) client ended in
+    step_is told s (asked.Rollback number) (replied (λ _. replies.Done) result) u (undo_sets have s.memory t (ending number)) (roll_goes s number have t found is)
+    (leads.carried answer u.log (as_plan told s.memory.client mid.log (ending number mid.memory) (end_plan mid.memory last RolledBack false) answer u.log
+    (over mid.memory number go (Some last) still.there) here))
