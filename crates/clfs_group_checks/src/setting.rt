@@ -1,6 +1,8 @@
 // What the tests begin with, a log with one stream that is shared among clients, and what they end with, its journal.
-ghost use Rattle.std.specs.Prelude.{◌≡◌, [], ◌∷◌, vec_len, map, All, IfOk};
+ghost use Rattle.std.specs.Prelude.{◌≡◌, ◌<◌, ℕ, [], ◌∷◌, true, length, vec_len, map, All, IfSome};
+ghost use Rattle.clfs_model.specs.Conditions.{IsClient};
 ghost use Rattle.clfs_shared.specs.Sessions.{IsOf};
+ghost use Rattle.clfs_turn.specs.Lists.{are_distinct, is_in};
 ghost use Rattle.clfs_turn.specs.Seats.{IsSameSeat};
 
 use clfs_disk::{Disk, Fuse, Memory};
@@ -10,7 +12,6 @@ use clfs_model::{Call, Draft, Journal, Reply};
 use clfs_shared::{Session, SharedLog};
 use std::alloc::Global;
 use std::sync::Wait;
-use std::test::Fail;
 
 /// Blocks of two sectors, in containers of eight.
 const SHAPE: Shape = Shape {
@@ -18,20 +19,31 @@ const SHAPE: Shape = Shape {
     container_sectors: 8,
 };
 
-/// A new log of four containers, opened over a disk that passes so many calls from then on; none, if the log isn't opened by them.
-pub(crate) fn log_over(alloc: Global, passes: u64) -> Result<Option<Manager<Fuse<Memory>>>, Fail> {
-    let disk = Memory::new(alloc, 128, 65536, &[])?;
-    let Ok(disk) = Manager::format(alloc, disk, SHAPE, 4, false) else {
-        return Err("no log was made".into());
-    };
-    Ok(Manager::load(alloc, Fuse::new(disk, passes), 4).ok())
+// A new log of four containers, opened over a disk that passes so many calls from then on; none, if the log isn't opened by them.
+fn log_over(alloc: Global, passes: u64) -> Option<Manager<Fuse<Memory>>> {
+    let disk = Memory::new(alloc, 128, 65536, &[]).ok()?;
+    let disk = Manager::format(alloc, disk, SHAPE, 4, false).ok()?;
+    Manager::load(alloc, Fuse::new(disk, passes), 4).ok()
 }
 
-/// A new log over a disk that doesn't fail in these tests.
-pub(crate) fn new_log(alloc: Global) -> Result<Manager<Fuse<Memory>>, Fail> {
-    match log_over(alloc, 1024)? {
-        Some(manager) => Ok(manager),
-        None => Err("the log wasn't opened".into()),
+/// How many calls a disk passes that doesn't fail in these tests.
+pub(crate) const ALL: u64 = 1024;
+
+/// A log that is shared, and a session for each of its clients.
+pub(crate) type Shared = (SharedLog<Fuse<Memory>>, Vec<Session>);
+
+/// Shares a new log among these clients, over a disk that passes so many calls from its opening on.
+pub(crate) fn shared(alloc: Global, passes: u64, clients: &[u16]) -> Option<Shared>
+    requires some { 0 < length clients.now }
+    requires apart { are_distinct clients.now ≡ true }
+    requires ranges { (c : ℕ) → is_in c clients.now ≡ true → IsClient c }
+    ensures clients { IfSome result (λ t. t.0.clients ≡ clients.now) }
+    ensures sessions { IfSome result (λ t. map (λ s. s.client) t.1.items ≡ clients.now) }
+    ensures belong { IfSome result (λ t. All (λ s. IsOf t.0 s) t.1.items) }
+{
+    match SharedLog::start(alloc, log_over(alloc, passes)?, clients) {
+        Ok(shared) => Some(shared),
+        Err(_) => None,
     }
 }
 
@@ -87,13 +99,13 @@ pub(crate) fn three_sessions_of<D: Disk>(
 }
 
 // A list of two sessions.
-fn pair(alloc: Global, first: Session, second: Session) -> Result<Vec<Session>, Fail>
-    ensures { IfOk result (λ sessions. sessions.items ≡ first ∷ second ∷ []) }
+fn pair(alloc: Global, first: Session, second: Session) -> Option<Vec<Session>>
+    ensures { IfSome result (λ sessions. sessions.items ≡ first ∷ second ∷ []) }
 {
     let mut sessions = Vec::new(alloc);
-    sessions.push(first)?;
-    sessions.push(second)?;
-    Ok(sessions)
+    sessions.push(first).ok()?;
+    sessions.push(second).ok()?;
+    Some(sessions)
 }
 
 /// A list of both sessions of a log.
@@ -102,30 +114,25 @@ pub(crate) fn both<D: Disk>(
     log: &SharedLog<D>,
     first: Session,
     second: Session,
-) -> Result<Vec<Session>, Fail>
+) -> Option<Vec<Session>>
     requires first { IsOf log.now first }
     requires second { IsOf log.now second }
-    ensures log { IfOk result (λ sessions. All (λ s. IsOf log.now s) sessions.items) }
-    ensures clients { IfOk result (λ sessions. map (λ s. s.client) sessions.items ≡ first.client ∷ second.client ∷ []) }
+    ensures log { IfSome result (λ sessions. All (λ s. IsOf log.now s) sessions.items) }
+    ensures clients { IfSome result (λ sessions. map (λ s. s.client) sessions.items ≡ first.client ∷ second.client ∷ []) }
 {
     let _shared = log;
     pair(alloc, first, second)
 }
 
 // A list of three sessions.
-fn triple(
-    alloc: Global,
-    first: Session,
-    second: Session,
-    third: Session,
-) -> Result<Vec<Session>, Fail>
-    ensures { IfOk result (λ sessions. sessions.items ≡ first ∷ second ∷ third ∷ []) }
+fn triple(alloc: Global, first: Session, second: Session, third: Session) -> Option<Vec<Session>>
+    ensures { IfSome result (λ sessions. sessions.items ≡ first ∷ second ∷ third ∷ []) }
 {
     let mut sessions = Vec::new(alloc);
-    sessions.push(first)?;
-    sessions.push(second)?;
-    sessions.push(third)?;
-    Ok(sessions)
+    sessions.push(first).ok()?;
+    sessions.push(second).ok()?;
+    sessions.push(third).ok()?;
+    Some(sessions)
 }
 
 /// A list of the three sessions of a log.
@@ -135,12 +142,12 @@ pub(crate) fn all_three<D: Disk>(
     first: Session,
     second: Session,
     third: Session,
-) -> Result<Vec<Session>, Fail>
+) -> Option<Vec<Session>>
     requires first { IsOf log.now first }
     requires second { IsOf log.now second }
     requires third { IsOf log.now third }
-    ensures log { IfOk result (λ sessions. All (λ s. IsOf log.now s) sessions.items) }
-    ensures clients { IfOk result (λ sessions. map (λ s. s.client) sessions.items ≡ first.client ∷ second.client ∷ third.client ∷ []) }
+    ensures log { IfSome result (λ sessions. All (λ s. IsOf log.now s) sessions.items) }
+    ensures clients { IfSome result (λ sessions. map (λ s. s.client) sessions.items ≡ first.client ∷ second.client ∷ third.client ∷ []) }
 {
     let _shared = log;
     triple(alloc, first, second, third)
@@ -160,12 +167,15 @@ pub(crate) fn has_area<D: Disk, W: Wait>(
     alloc: Global,
     log: &SharedLog<D>,
     session: &mut Session,
-) -> Result<bool, Fail>
+) -> bool
     requires { IsOf log.now session.old }
     ensures { IsSameSeat session.old session.new }
 {
+    let Ok(name) = vec![in alloc; b'a'; 1] else {
+        return false;
+    };
     let naming = Call::OpenStream {
-        name: Name::from_vec(vec![in alloc; b'a'; 1]?),
+        name: Name::from_vec(name),
     };
     let creating = Call::CreateArea {
         stream: 1,
@@ -174,7 +184,7 @@ pub(crate) fn has_area<D: Disk, W: Wait>(
     };
     let opened = log.step(rt, session, &naming);
     let created = log.step(rt, session, &creating);
-    Ok(matches!(opened, Reply::Stream(1)) && matches!(created, Reply::Area(1)))
+    matches!(opened, Reply::Stream(1)) && matches!(created, Reply::Area(1))
 }
 
 /// Appends a record of eight zeros by the session's area of this number, and answers its LSN; none, if it is refused or there is no memory.

@@ -1,20 +1,19 @@
 // Two real threads append by sessions of their own, and share the flushes of one group. If the system makes no thread, `thread::join` calls the
 // closure itself.
-ghost use Rattle.std.specs.Prelude.{◌≡◌, IfOk};
+ghost use Rattle.std.specs.Prelude.{◌≡◌};
 ghost use Rattle.clfs_shared.specs.Sessions.{IsOf};
 ghost use Rattle.clfs_turn.specs.Seats.{IsSameSeat};
 
 use crate::setting::{
-    all_three, append, flushes_of, has_area, journal_of, new_log, three_sessions_of,
+    ALL, all_three, append, flushes_of, has_area, journal_of, shared, three_sessions_of,
 };
 use clfs_disk::Disk;
-use clfs_group::{Group, GroupName};
+use clfs_group::{Group, GroupName, GroupRefused};
 use clfs_lsn::Lsn;
 use clfs_shared::{Session, SharedLog};
 use std::alloc::Global;
 use std::marker::Brand;
 use std::sync::Wait;
-use std::test::Fail;
 use std::thread;
 use std::thread::Threads;
 
@@ -46,7 +45,37 @@ fn commit<N: GroupName, D: Disk, W: Wait>(
     Committed { session, lsns }
 }
 
-// Two threads commit a record each, by one group. It answers what they did, and the group's session.
+// Two threads commit a record each, by one group.
+fn in_two_threads<N, D, W>(
+    rt: &W,
+    alloc: Global,
+    log: &SharedLog<D>,
+    group: &Group<N>,
+    first: Session,
+    second: Session,
+) -> (Committed, Committed)
+where
+    N: GroupName + Send + Sync,
+    D: Disk + Send + Drop,
+    W: Threads + Wait + Sync,
+    requires log { IsOf log.now N.session × (IsOf log.now first × IsOf log.now second) }
+    ensures first { IsSameSeat first result.0.session }
+    ensures second { IsSameSeat second result.1.session }
+{
+    thread::join(
+        rt,
+        || -> Committed
+            requires { IsOf log.now N.session × IsOf log.now first }
+            ensures { IsSameSeat first result.session }
+        { commit(rt, alloc, log, group, first) },
+        || -> Committed
+            requires { IsOf log.now N.session × IsOf log.now second }
+            ensures { IsSameSeat second result.session }
+        { commit(rt, alloc, log, group, second) },
+    )
+}
+
+// Does so by a group of this session. It answers what they did, and the group's session.
 fn two_commits<N, D, W>(
     rt: &W,
     alloc: Global,
@@ -55,66 +84,62 @@ fn two_commits<N, D, W>(
     second: Session,
     session: Session,
     stream: u16,
-) -> Result<(Committed, Committed, Session), Fail>
+) -> (Committed, Committed, Session)
 where
     N: GroupName + Send + Sync,
     D: Disk + Send + Drop,
     W: Threads + Wait + Sync,
     requires log { IsOf log.now first × (IsOf log.now second × IsOf log.now session) }
     requires name { (session ≡ N.session) × (stream ≡ N.stream) }
-    ensures first { IfOk result (λ r. IsSameSeat first r.0.session) }
-    ensures second { IfOk result (λ r. IsSameSeat second r.1.session) }
-    ensures group { IfOk result (λ r. IsSameSeat session r.2) }
+    ensures first { IsSameSeat first result.0.session }
+    ensures second { IsSameSeat second result.1.session }
+    ensures group { IsSameSeat session result.2 }
 {
-    let Ok(group) = Group::<N>::new(rt, log, session, stream) else {
-        return Err("no group was made".into());
-    };
-    let shared = &group;
-    let (by_first, by_second) = thread::join(
-        rt,
-        || -> Committed
-            requires { IsOf log.now N.session × IsOf log.now first }
-            ensures { IsSameSeat first result.session }
-        { commit(rt, alloc, log, shared, first) },
-        || -> Committed
-            requires { IsOf log.now N.session × IsOf log.now second }
-            ensures { IsSameSeat second result.session }
-        { commit(rt, alloc, log, shared, second) },
-    );
-    Ok((by_first, by_second, group.end()))
+    match Group::<N>::new(rt, log, session, stream) {
+        Ok(group) => {
+            let (by_first, by_second) = in_two_threads(rt, alloc, log, &group, first, second);
+            (by_first, by_second, group.end())
+        }
+        Err(GroupRefused { session, cause: _ }) => (none(first), none(second), session),
+    }
+}
+
+// A session that committed nothing.
+fn none(session: Session) -> Committed
+    ensures { result.session ≡ session }
+{
+    Committed {
+        session,
+        lsns: None,
+    }
+}
+
+// Whether each thread was answered an LSN above that of its record, and the records aren't the same.
+fn are_above(of_first: Option<(Lsn, Lsn)>, of_second: Option<(Lsn, Lsn)>) -> bool {
+    match (of_first, of_second) {
+        (Some((one, over_one)), Some((other, over_other))) => {
+            one < over_one && other < over_other && one != other
+        }
+        _ => false,
+    }
 }
 
 // Whether two threads that share a group are each answered an LSN above that of their record, by one flush or by two.
-fn is_shared<W: Threads + Wait + Sync>(rt: &W, alloc: Global) -> Result<bool, Fail> {
-    let Ok((log, sessions)) = SharedLog::start(alloc, new_log(alloc)?, &[3, 5, 64]) else {
-        return Err("no log was shared".into());
-    };
+fn is_shared<W: Threads + Wait + Sync>(rt: &W, alloc: Global) -> Option<bool> {
+    let (log, sessions) = shared(alloc, ALL, &[3, 5, 64])?;
     let (mut first, mut second, session) = three_sessions_of(&log, sessions);
-    let made_first = has_area(rt, alloc, &log, &mut first)?;
-    let made_second = has_area(rt, alloc, &log, &mut second)?;
+    let made_first = has_area(rt, alloc, &log, &mut first);
+    let made_second = has_area(rt, alloc, &log, &mut second);
     let (by_first, by_second, session) = two_commits::<Brand, _, _>(
         rt, alloc, &log, first, second, session, 1,
-    )?;
-    let Committed {
-        session: first,
-        lsns: of_first,
-    } = by_first;
-    let Committed {
-        session: second,
-        lsns: of_second,
-    } = by_second;
-    let (Some((one, over_one)), Some((other, over_other))) = (of_first, of_second) else {
-        return Err("a record isn't on the disk".into());
-    };
-    let sessions = all_three(alloc, &log, first, second, session)?;
+    );
+    let above = are_above(by_first.lsns, by_second.lsns);
+    let sessions = all_three(alloc, &log, by_first.session, by_second.session, session)?;
     let (answered, all) = flushes_of(&journal_of(log, sessions));
-    let above = one < over_one && other < over_other && one != other;
-    Ok(made_first && made_second && above && 1 <= answered && answered <= 2 && answered == all)
+    Some(made_first && made_second && above && 1 <= answered && answered <= 2 && answered == all)
 }
 
 #[test]
-fn two_threads_share_a_group(rt: HostRuntime) -> Result<(), Fail> {
-    let alloc = rt.alloc();
-    assert!(rt; is_shared(&rt, alloc)?);
-    Ok(())
+fn two_threads_share_a_group(rt: HostRuntime) {
+    assert!(rt; is_shared(&rt, rt.alloc()) == Some(true));
 }
