@@ -1,0 +1,5 @@
+mod Bare
+mod Blocks
+mod Grammar
+mod Searches
+mod Slots

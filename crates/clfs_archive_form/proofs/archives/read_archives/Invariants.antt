@@ -1,0 +1,16 @@
+use Rattle.std.proofs.Common.{◌-◌, ◌≤◌, length}
+use Rattle.clfs_base.specs.Spelling.{IsImage}
+use Rattle.clfs_archive_form.specs.Reading.{LieWithin}
+use Rattle.clfs_archive_form.proofs.Grammar.{ReadTo}
+use Rattle.clfs_archive_form.proofs.archives.read_archives.Given as goal
+
+abbrev pub invariant-loop-at : goal.invariant-loop-at
+invariant-loop-at l = record {
+  within : l.at ≤ length l.bytes;
+  copy : IsImage l.image;
+  read : ReadTo l.bytes l.image l.containers.items l.at;
+  lie : LieWithin (length l.bytes) l.containers.items;
+}
+
+abbrev pub decreases-loop-at : goal.decreases-loop-at
+decreases-loop-at l = length l.bytes - l.at

@@ -1,0 +1,23 @@
+use Rattle.std.proofs.Common.{refl}
+use Rattle.clfs_lsn.specs.Spelling.{record_at}
+use Rattle.clfs_block.specs.Checks.{frame_at, sectors_at}
+use Rattle.clfs_block.specs.Records.{block_records}
+use Rattle.clfs_archive_form.specs.Archives.{copy_there, rest_there}
+use Rattle.clfs_archive_form.specs.Containers.{container_there}
+use Rattle.clfs_archive_form.specs.Restoring.{kept_records}
+use Rattle.clfs_archive_form.proofs.rows.archive_of_a_small_log.Goals as goal
+
+pub returns : goal.returns
+unfolding copy_there rest_there container_there kept_records block_records frame_at sectors_at record_at
+returns c = record {
+  length = refl;
+  front = refl;
+  empty = refl;
+  turn = refl;
+  version = refl;
+  from_first = refl;
+  from_tail = refl;
+  count = refl;
+  later_tail = refl;
+  high_tail = refl;
+}

@@ -1,0 +1,23 @@
+use Rattle.std.proofs.Common.{refl}
+use Rattle.clfs_lsn.specs.Spelling.{record_at}
+use Rattle.clfs_block.specs.Checks.{frame_at, sectors_at}
+use Rattle.clfs_block.specs.Records.{block_records}
+use Rattle.clfs_archive_form.specs.Archives.{copy_there, rest_there}
+use Rattle.clfs_archive_form.specs.Containers.{container_there}
+use Rattle.clfs_archive_form.specs.Restoring.{kept_records}
+use Rattle.clfs_archive_form.proofs.rows.restored_small_logs.Goals as goal
+
+pub returns : goal.returns
+unfolding copy_there rest_there container_there kept_records block_records frame_at sectors_at record_at
+returns c = record {
+  all = refl;
+  block = refl;
+  nothing = refl;
+  within = refl;
+  used = refl;
+  base = refl;
+  tail = refl;
+  later_container = refl;
+  both_containers = refl;
+  last_copy = refl;
+}

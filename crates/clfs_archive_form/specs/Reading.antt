@@ -1,0 +1,68 @@
+-- What the calls answer, against the definitions.
+use Rattle.std.specs.Prelude.{◌≡◌, ℕ, ◌+◌, ◌≤◌, List, [], ◌∷◌, ◌++◌, Option, Some, None, Result, Ok, Err}
+use Rattle.clfs_lsn.specs.declared.entry.LogEntry.{LogEntry}
+use Rattle.clfs_block.specs.declared.head.BlockRefusal.{BlockRefusal}
+use Rattle.clfs_block.specs.declared.head.BlockRefusal.TheVariants as blocks
+use Rattle.clfs_recover.specs.Gathering.{RefusesAs}
+use Rattle.clfs_recover.specs.declared.refusal.LoadRefusal.{LoadRefusal}
+use Rattle.clfs_recover.specs.declared.refusal.LoadRefusal.TheVariants as loading
+use Rattle.clfs_base.specs.declared.image.BaseImage.{BaseImage}
+use Rattle.clfs_archive_form.specs.declared.archive.Archive.{Archive}
+use Rattle.clfs_archive_form.specs.declared.archive.Stored.{Stored}
+use Rattle.clfs_archive_form.specs.declared.refusal.InputRefusal.{InputRefusal}
+use Rattle.clfs_archive_form.specs.declared.refusal.InputRefusal.TheVariants.{NotAnArchive, Gap, UpToInvalid, NoMemory}
+use Rattle.clfs_archive_form.specs.Archives.{joined}
+
+-- A refusal names the first wrong byte. Want of memory may come in place of any answer.
+abbrev pub RefusesAt : {Y : Type 0} → InputRefusal → Result Y ℕ → Type 0
+RefusesAt (NotAnArchive at) read = read ≡ Err at
+RefusesAt (Gap container) read = ⊥
+RefusesAt (UpToInvalid low high) read = ⊥
+RefusesAt NoMemory read = Unit {0}
+
+-- The answer is what the bytes are: the same value, or a refusal at their first wrong byte.
+abbrev pub Gives : {Y : Type 0} → Result Y InputRefusal → Result Y ℕ → Type 0
+Gives (Ok value) read = read ≡ Ok value
+Gives (Err refusal) read = RefusesAt refusal read
+
+-- The answer is the archives that the bytes are, taken together.
+abbrev pub GivesJoined : Result Archive InputRefusal → Result (List Archive) ℕ → Type 0
+GivesJoined (Ok archive) read = (archives : List Archive) × (read ≡ Ok archives) × (joined archives ≡ Some archive)
+GivesJoined (Err refusal) read = RefusesAt refusal read
+
+-- The blocks of containers lie in so many bytes.
+abbrev pub LieWithin : ℕ → List Stored → Type 0
+LieWithin bytes [] = Unit {0}
+LieWithin bytes (stored ∷ others) = (stored.at + stored.len ≤ bytes) × LieWithin bytes others
+
+-- Containers were taken in behind those of before, and the place behind them was answered; or their first wrong byte.
+abbrev pub TakesContainers : Result ℕ InputRefusal → List Stored → List Stored → (List Stored → ℕ) → Result (List Stored) ℕ → Type 0
+TakesContainers (Ok end) old new end_of read = (more : List Stored) × (read ≡ Ok more) × (new ≡ old ++ more) × (end ≡ end_of more)
+TakesContainers (Err refusal) old new end_of read = RefusesAt refusal read
+
+-- The same of an archive: its base copy and the place behind it were answered.
+abbrev pub TakesArchive : Result (BaseImage × ℕ) InputRefusal → List Stored → List Stored → Result (Archive × ℕ) ℕ → Type 0
+TakesArchive (Ok x) old new read =
+    (more : List Stored) × (read ≡ Ok (record { image = x.0; containers = more }, x.1)) × (new ≡ old ++ more)
+TakesArchive (Err refusal) old new read = RefusesAt refusal read
+
+-- The refusal of an input for that of a block in it, where the blocks of its container begin at a byte. Of bytes in memory no other comes than these.
+abbrev pub refusal_told : ℕ → LoadRefusal → InputRefusal
+refusal_told from (loading.Damaged container offset at) = NotAnArchive (from + offset + at)
+refusal_told from loading.NoBase = NoMemory
+refusal_told from loading.DiskFault = NoMemory
+refusal_told from loading.NoMemory = NoMemory
+
+-- A block's records are right, or its first wrong byte is told.
+abbrev pub JudgesBlock : ℕ → ℕ → Result (Option ℕ) LoadRefusal → Result (List LogEntry) BlockRefusal → Type 0
+JudgesBlock container offset (Ok (Some sectors)) read = (entries : List LogEntry) × (read ≡ Ok entries)
+JudgesBlock container offset (Ok None) read = read ≡ Err blocks.Closed
+JudgesBlock container offset (Err loading.NoBase) read = ⊥
+JudgesBlock container offset (Err (loading.Damaged c o at)) read = (c ≡ container) × (o ≡ offset) × (read ≡ Err (blocks.BadByte at))
+JudgesBlock container offset (Err loading.DiskFault) read = Unit {0}
+JudgesBlock container offset (Err loading.NoMemory) read = Unit {0}
+
+-- The blocks of a container are right, or the first place is told at which they aren't.
+abbrev pub JudgesBlocks : {T : Type 0} → Result T LoadRefusal → Result (List LogEntry) LoadRefusal → Type 0
+JudgesBlocks (Ok value) read = (entries : List LogEntry) × (read ≡ Ok entries)
+JudgesBlocks (Err refusal) read = RefusesAs refusal read

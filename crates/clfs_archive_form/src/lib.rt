@@ -1,0 +1,29 @@
+//! Archives of a log, as bytes: what an archive is, reading one or more of them, and what is restored of them.
+//!
+//! An archive is a base copy and the open blocks of containers, in a row of bytes that can be written and read without going back
+//! (specs/Form.antt). `read_archives` judges bytes that are to be one or more archives one behind the other, from the first byte on, and the first byte
+//! that is wrong is told (specs/Archives.antt). The base copy is judged by the table of every base copy with narrower ranges, and a block as opening a
+//! log judges it, so nothing of the two is said twice. What is read are base copies and places of the input: no block is copied.
+//!
+//! The last base copy says what the log is, and of a container that comes more than once the last copy counts. `missing_container` tells a container
+//! that is listed and not there, `bounds` between which LSNs the log can be cut off, and `choose_up_to` where it is. The state that is restored then is
+//! defined in specs/Restoring.antt; who makes files of it writes them so that they stand for it.
+#![tactic(auto)]
+
+mod archive;
+mod archives;
+mod choosing;
+mod containers;
+mod copies;
+mod judge;
+mod refusal;
+mod rows;
+
+pub use archive::{Archive, Containers, Stored};
+pub use archives::read_archives;
+pub use choosing::{bounds, choose_up_to, missing_container};
+pub use refusal::InputRefusal;
+pub use rows::{
+    archive_of_a_small_log, bounds_of_small_archives, containers_of_an_archive,
+    letters_and_copies_of_archives, restored_small_logs,
+};
