@@ -1,0 +1,12 @@
+mod Written
+mod PrintedParts
+mod RecordsMet
+mod BlockTold
+mod FilePieces
+mod DiskReads
+mod Walks
+mod ContainersTold
+mod LastLines
+mod CopiesTold
+mod BlockMatches
+mod OpeningFinds

@@ -1,0 +1,22 @@
+use Rattle.std.proofs.Common.{◌≡◌, ◌+◌, ◌-◌, ◌≤◌, List, ◌++◌, length}
+use Rattle.std.specs.List.{flat_map}
+use Rattle.clfs_lsn.specs.Lsn.{lsn_number}
+use Rattle.clfs_lsn.specs.declared.entry.LogEntry.{LogEntry}
+use Rattle.clfs_block.specs.Records.{records_from}
+use Rattle.clfs_block.specs.RecordLaws.{behind}
+use Rattle.clfs_dump.specs.Telling.{record_text, records_met}
+use Rattle.clfs_dump.proofs.records.push_records.Given as goal
+
+abbrev pub invariant-loop-sequence : goal.invariant-loop-sequence
+invariant-loop-sequence l =
+    let streams = length l.rows in
+    let start = lsn_number l.place.container l.place.offset 0 in
+    let text = record_text l.selection l.rows in
+    record {
+      low : 16 ≤ l.at;
+      high : l.at ≤ length l.payload;
+      text : l.out ++ flat_map text (records_met streams l.payload (l.count - l.sequence) (start + l.sequence) l.at)
+          ≡ l.fn.out ++ flat_map text (records_met streams l.payload l.count start 16);
+      read : (entries : List LogEntry)
+          × (behind entries (records_from streams l.payload (l.count - l.sequence) (start + l.sequence) l.at) ≡ records_from streams l.payload l.count start 16);
+    }

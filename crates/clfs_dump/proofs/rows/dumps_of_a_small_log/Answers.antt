@@ -1,0 +1,25 @@
+use Rattle.std.proofs.Common.{refl}
+use Rattle.std.specs.Fmt.{digits}
+use Rattle.hex.specs.Hex.{encode_with}
+use Rattle.clfs_lsn.specs.Spelling.{record_at}
+use Rattle.clfs_block.specs.Checks.{frame_at, sectors_at}
+use Rattle.clfs_block.specs.Records.{block_records}
+use Rattle.clfs_dump.proofs.rows.dumps_of_a_small_log.Goals as goal
+
+pub returns : goal.returns
+unfolding digits encode_with block_records frame_at sectors_at record_at
+returns c = record {
+  all = refl;
+  end = refl;
+  records = refl;
+  dead = refl;
+  from = refl;
+  to = refl;
+  named = refl;
+  other = refl;
+  version = refl;
+  version_place = refl;
+  second = refl;
+  second_place = refl;
+  behind = refl;
+}

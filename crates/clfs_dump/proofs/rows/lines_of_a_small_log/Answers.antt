@@ -1,0 +1,8 @@
+use Rattle.std.proofs.Common.{refl}
+use Rattle.std.specs.Fmt.{digits}
+use Rattle.hex.specs.Hex.{encode_with}
+use Rattle.clfs_dump.proofs.rows.lines_of_a_small_log.Goals as goal
+
+pub returns : goal.returns
+unfolding digits encode_with
+returns c = record { hex = refl; nothing = refl; text = refl }
