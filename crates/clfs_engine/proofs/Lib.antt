@@ -1,13 +1,7 @@
-pub mod NoFeeds
-pub mod ScriptLines
 pub mod WholeSteps
 pub mod SoFar
-pub mod Written
 pub mod UnderWay
-pub mod InPart
-pub mod Pieces
-pub mod LastLine
-pub mod AnsweringEnds
+pub mod Lines
 pub mod OnlyRead
 pub mod Loaded
 pub mod ServingEnds

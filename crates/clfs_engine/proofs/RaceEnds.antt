@@ -3,6 +3,7 @@ use Rattle.std.proofs.Common.{◌≡◌, ℕ, ◌≤◌, ◌⊎◌, Bool, true, 
 use Rattle.std.specs.Prelude.{Option}
 use Rattle.std.specs.List.{flat_map}
 use Rattle.std.specs.Io.KnownBytes.{Consumes}
+use Rattle.std.proofs.KnownBytes.{Appends-nil}
 use Rattle.std.proofs.lemmas.List.{append-nil}
 use Rattle.clfs_disk.specs.State.{DiskState}
 use Rattle.clfs_model.specs.Accepted.{race_limits, accepted}
@@ -21,8 +22,7 @@ use Rattle.clfs_engine.specs.Race.{EndsRacing, FailsWithin, LeavesFiles}
 use Rattle.clfs_engine.specs.Raced.{HasTaken, IsRaced, IsRacedInPart}
 use Rattle.clfs_engine.specs.Ran.{HasRun, TellsRace, end_text, end_status}
 use Rattle.clfs_engine.specs.Serve.{IsServeStatus}
-use Rattle.clfs_engine.specs.Taken.{AreFrontLines}
-use Rattle.clfs_engine.proofs.Written.{appends_none}
+use Rattle.clfs_lines.specs.Taken.{AreFrontLines}
 use Rattle.clfs_engine.proofs.Clients.{is_shuffle, is_shuffle_of_fronts}
 use Rattle.clfs_engine.proofs.ServingEnds.{refused_statuses, serve_status, not_answered, fault_by, no_log_by, no_log_line, refusal_text}
 
@@ -223,7 +223,7 @@ race_without_memory buffers disk left left' written source source' sink read cou
   sink_fault_front = λ e. absurd (omega (arith, e));
   disk_fault = λ e. absurd (omega (arith, e));
   disk_fault_line = λ e. absurd (omega (arith, e));
-  no_memory_silence = λ e. appends_none written;
+  no_memory_silence = λ e. Appends-nil written;
   no_memory = λ e. inl (left_alone disk);
   no_log = λ e. absurd (omega (arith, e));
   too_long = λ e. absurd (omega (arith, e));

@@ -20,8 +20,9 @@ use Rattle.clfs_shared.specs.Journal.{is_fault, is_damage}
 use Rattle.clfs_engine.specs.Complete.{DidNotFail, IsDone, NothingFailsRacing, AreCalm, replies_of, IsRacedCalmly, IsRacedCalmlyInPart, RaceComesThrough}
 use Rattle.clfs_engine.specs.Race.{EndsRacing}
 use Rattle.clfs_engine.specs.Raced.{HasTaken, IsRaced, IsRacedInPart, is_any_broken}
-use Rattle.clfs_engine.specs.Serve.{IsServeStatus, IsWholeAnswer}
-use Rattle.clfs_engine.specs.Taken.{AreReached}
+use Rattle.clfs_lines.specs.Answering.{IsWholeAnswer}
+use Rattle.clfs_engine.specs.Serve.{IsServeStatus}
+use Rattle.clfs_lines.specs.Taken.{AreReached}
 use Rattle.clfs_engine.specs.Told.{tells_fault, tells_damage, tells_broken, has_fault, has_damage, has_broken}
 use Rattle.clfs_engine.proofs.RaceEnds.{left_alone}
 use Rattle.clfs_engine.proofs.TakenCalls.{or_parts, fine_by}

@@ -2,12 +2,12 @@
 use Rattle.std.proofs.Common.{◌≡◌, ◌≢◌, ℕ, ◌≤◌, ◌⊎◌, List, sym, subst, ◌∙◌, inl, inr, refl, arith}
 use Rattle.std.specs.Prelude.{Option}
 use Rattle.std.specs.Io.KnownBytes.{Appends}
+use Rattle.std.proofs.KnownBytes.{Appends-nil}
 use Rattle.clfs_ports.specs.Cause.{Rises}
 use Rattle.clfs_recover.specs.declared.refusal.LoadRefusal.{LoadRefusal}
 use Rattle.clfs_recover.specs.declared.refusal.LoadRefusal.TheVariants.{NoMemory}
-use Rattle.clfs_engine.specs.Ends.{AppendsFront}
+use Rattle.clfs_lines.specs.Ends.{AppendsFront}
 use Rattle.clfs_engine.specs.Opened.{TellsRefusal, refusal_line, refusal_status}
-use Rattle.clfs_engine.proofs.Written.{appends_none}
 
 -- its line was written, unless the sink failed
 pub told_line : (result status : ℕ) (refusal : LoadRefusal) (text : List ℕ) (written written' : Option (List ℕ)) (sink sink' : ℕ) → text ≡ refusal_line refusal
@@ -43,6 +43,6 @@ told_nothing refusal written sink = record {
   line = λ no_fault no_memory. absurd (no_memory refl);
   sink_fault = λ e. absurd (omega (arith, e));
   sink_fault_front = λ e. absurd (omega (arith, e));
-  no_memory_silence = λ e. appends_none written;
+  no_memory_silence = λ e. Appends-nil written;
   sink_count = omega arith;
 }

@@ -7,29 +7,30 @@ use Rattle.clfs_recover.specs.declared.refusal.LoadRefusal.TheVariants.{NoBase, 
 use Rattle.clfs_model.specs.Accepted.{Limits}
 use Rattle.clfs_engine.specs.Answered.{IsAnswered, IsAnsweredInPart}
 use Rattle.clfs_engine.specs.Opened.{IsNoLog, no_log_text, RefusesLog, IsRefusalText, TellsRefusal, refusal_line, refusal_status}
-use Rattle.clfs_engine.specs.Serve.{Answers, EndsAnswering, EndsServing, IsAnswerStatus, IsServeStatus, IsWholeAnswer, IsAnswerUpToFault, IsAnswerUpToLimit, IsFrontUpToLimit, StopsShort, StopsAtFault}
+use Rattle.clfs_lines.specs.Answering.{Answers, EndsAnswering, IsAnswerStatus, IsWholeAnswer, IsAnswerUpToFault, IsAnswerUpToLimit, IsFrontUpToLimit, StopsShort, StopsAtFault}
+use Rattle.clfs_engine.specs.Serve.{EndsServing, IsServeStatus}
 
 -- ---- other words for the same answers
 
 module _ (limits : Limits) (Is Other : Answers) (also : (lines : List (List ℕ)) (text : List ℕ) → Is lines text → Other lines text) where
-  whole_as : (left left' : Option (List ℕ)) (text : List ℕ) → IsWholeAnswer limits Is left left' text → IsWholeAnswer limits Other left left' text
+  pub whole_as : (left left' : Option (List ℕ)) (text : List ℕ) → IsWholeAnswer limits Is left left' text → IsWholeAnswer limits Other left left' text
   whole_as left left' text is = record { script = is.script; read = is.read; answered = also _ text is.answered }
 
-  fault_as : (left left' : Option (List ℕ)) (text : List ℕ) → IsAnswerUpToFault limits Is left left' text → IsAnswerUpToFault limits Other left left' text
+  pub fault_as : (left left' : Option (List ℕ)) (text : List ℕ) → IsAnswerUpToFault limits Is left left' text → IsAnswerUpToFault limits Other left left' text
   fault_as left left' text is = record { bytes = is.bytes; given = is.given; answered = also _ text is.answered }
 
-  limit_as : (left left' : Option (List ℕ)) (text : List ℕ) → IsAnswerUpToLimit limits Is left left' text → IsAnswerUpToLimit limits Other left left' text
+  pub limit_as : (left left' : Option (List ℕ)) (text : List ℕ) → IsAnswerUpToLimit limits Is left left' text → IsAnswerUpToLimit limits Other left left' text
   limit_as left left' text is = record {
     bytes = is.bytes;
     given = is.given;
     answered = record { output = is.answered.output; answered = also _ is.answered.output is.answered.answered; line = is.answered.line };
   }
 
-  at_limit_as : (left left' : Option (List ℕ)) (text : List ℕ) → IsFrontUpToLimit limits Is left left' text → IsFrontUpToLimit limits Other left left' text
+  pub at_limit_as : (left left' : Option (List ℕ)) (text : List ℕ) → IsFrontUpToLimit limits Is left left' text → IsFrontUpToLimit limits Other left left' text
   at_limit_as left left' text is =
       record { bytes = is.bytes; given = is.given; output = is.output; answered = also _ is.output is.answered; count = is.count; front = is.front }
 
-stops_as : (limits : Limits) (InPart Other : Answers) → ((lines : List (List ℕ)) (text : List ℕ) → InPart lines text → Other lines text) → (left left' written written' : Option (List ℕ))
+pub stops_as : (limits : Limits) (InPart Other : Answers) → ((lines : List (List ℕ)) (text : List ℕ) → InPart lines text → Other lines text) → (left left' written written' : Option (List ℕ))
     → StopsShort limits InPart left left' written written' → StopsShort limits Other left left' written written'
 stops_as limits InPart Other also left left' written written' is = (is.0, (is.1.0, (is.1.1.0, also is.0 is.1.1.0 is.1.1.1, is.1.1.2)))
 

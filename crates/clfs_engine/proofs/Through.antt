@@ -13,8 +13,9 @@ use Rattle.clfs_recover.specs.declared.refusal.LoadRefusal.TheVariants.{NoBase, 
 use Rattle.clfs_engine.specs.Answered.{IsAnswered, IsAnsweredInPart}
 use Rattle.clfs_engine.specs.Complete.{DidNotFail, IsDone, TellsLog, NothingFailsAnswering, AreCalm, IsAnsweredCalmly, IsAnsweredCalmlyInPart, ComesThrough}
 use Rattle.clfs_engine.specs.Opened.{IsNoLog, RefusesLog}
-use Rattle.clfs_engine.specs.Serve.{EndsServing, IsServeStatus, IsWholeAnswer, StopsShort}
-use Rattle.clfs_engine.specs.Taken.{IsPastLimit}
+use Rattle.clfs_lines.specs.Answering.{IsWholeAnswer, StopsShort}
+use Rattle.clfs_engine.specs.Serve.{EndsServing, IsServeStatus}
+use Rattle.clfs_lines.specs.Taken.{IsPastLimit}
 use Rattle.clfs_engine.specs.Told.{has_fault}
 use Rattle.clfs_engine.proofs.Fronts.{front_is_within}
 

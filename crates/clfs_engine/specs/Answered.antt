@@ -45,6 +45,12 @@ pub record AnswersLine (s : State) (old : DiskState) (line before after : List �
   pub answered : AnswersOne s old (line_request (without_return line)) reply t new
   pub text : after ≡ before ++ reply_line (client_of (line_request (without_return line))) reply
 
+-- one line was answered, and its reply is this text
+pub record AnswersText (s : State) (old : DiskState) (line text : List ℕ) (t : State) (new : DiskState) : Type 0 where
+  pub reply : Reply
+  pub answered : AnswersOne s old (line_request (without_return line)) reply t new
+  pub is : text ≡ reply_line (client_of (line_request (without_return line))) reply
+
 -- one line was answered, and memory ran out behind that
 pub record AnswersUnwritten (s : State) (old : DiskState) (line : List ℕ) (t : State) (new : DiskState) : Type 0 where
   pub reply : Reply

@@ -8,9 +8,10 @@ use Rattle.clfs_disk.specs.State.{DiskState, TellsContents, IsHonest, IsSettled,
 use Rattle.clfs_recover.specs.declared.refusal.LoadRefusal.TheVariants.{DiskFault}
 use Rattle.clfs_check.specs.Reporting.{IsReport, IsReportOfLog}
 use Rattle.clfs_check.specs.declared.report.Report.{Report}
-use Rattle.clfs_engine.specs.Ends.{AppendsFront, disk_fault_text}
+use Rattle.clfs_lines.specs.Ends.{AppendsFront}
+use Rattle.clfs_engine.specs.Ends.{disk_fault_text}
 use Rattle.clfs_engine.specs.Opened.{RefusesLog, IsNoLogText, IsRefusalText}
-use Rattle.clfs_engine.specs.Serve.{Writes, WritesFront}
+use Rattle.clfs_lines.specs.Answering.{Writes, WritesFront}
 
 -- what a report counts
 abbrev pub counts_text : Report → List ℕ

@@ -13,8 +13,9 @@ use Rattle.clfs_manager.specs.Formatting.{open_slot_of}
 use Rattle.clfs_engine.specs.Answered.{IsAnswered, IsAnsweredInPart}
 use Rattle.clfs_engine.specs.Race.{LeavesFiles}
 use Rattle.clfs_engine.specs.Raced.{IsRaced, IsRacedInPart}
-use Rattle.clfs_engine.specs.Serve.{IsWholeAnswer, StopsShort, StaysUnopened, Writes}
-use Rattle.clfs_engine.specs.Taken.{AreReached}
+use Rattle.clfs_lines.specs.Answering.{IsWholeAnswer, StopsShort, Writes}
+use Rattle.clfs_engine.specs.Serve.{StaysUnopened}
+use Rattle.clfs_lines.specs.Taken.{AreReached}
 use Rattle.clfs_engine.specs.Told.{has_fault, has_damage, has_broken}
 
 -- The command was done, or memory ran out.

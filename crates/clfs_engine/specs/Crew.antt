@@ -12,7 +12,7 @@ use Rattle.clfs_model.specs.declared.reply.Reply.TheVariants as replies
 use Rattle.clfs_model.specs.declared.state.State.{State}
 use Rattle.clfs_model.specs.Journals.{IsLegal, held_in}
 use Rattle.clfs_model.specs.State.{log_of}
-use Rattle.clfs_engine.specs.Serve.{Writes, WritesFront}
+use Rattle.clfs_lines.specs.Answering.{Writes, WritesFront}
 use Rattle.clfs_engine.specs.Trial.{is_refusal}
 
 -- ---- the journal of a crew

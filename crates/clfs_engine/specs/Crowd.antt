@@ -14,7 +14,7 @@ use Rattle.clfs_model.specs.Flush.{flushed}
 use Rattle.clfs_model.specs.Journals.{IsLegal}
 use Rattle.clfs_model.specs.State.{log_of}
 use Rattle.clfs_engine.specs.Crew.{placed_in}
-use Rattle.clfs_engine.specs.Serve.{Writes, WritesFront}
+use Rattle.clfs_lines.specs.Answering.{Writes, WritesFront}
 
 -- ---- the journal of a crowd
 

@@ -1,11 +1,5 @@
--- An output that is written as far as the sink takes it.
-use Rattle.std.specs.Prelude.{ℕ, List, take, codes, Option}
-use Rattle.std.specs.Io.KnownBytes.{Appends}
-
--- a front of these bytes was written, and nothing else
-pub record AppendsFront (written written_after : Option (List ℕ)) (bytes : List ℕ) : Type 0 where
-  pub count : ℕ
-  pub front : Appends written written_after (take count bytes)
+-- What is written if the disk fails.
+use Rattle.std.specs.Prelude.{ℕ, List, codes}
 
 -- the line for a disk that failed before a log was made or opened
 abbrev pub disk_fault_text : List ℕ

@@ -8,7 +8,8 @@ use Rattle.clfs_disk.specs.State.{DiskState, TellsContents, IsHonest, IsSteady, 
 use Rattle.clfs_model.specs.State.{fresh}
 use Rattle.clfs_recover.specs.Files.{StandsFor, AreWholeFiles}
 use Rattle.clfs_manager.specs.Formatting.{open_slot_of, ComesAtOnce, KeepsLog}
-use Rattle.clfs_engine.specs.Ends.{AppendsFront, disk_fault_text}
+use Rattle.clfs_lines.specs.Ends.{AppendsFront}
+use Rattle.clfs_engine.specs.Ends.{disk_fault_text}
 
 -- the line for a log that was made
 abbrev pub formatted_text : List ℕ

@@ -1,9 +1,7 @@
 pub mod Told
 pub mod Answered
 pub mod Asked
-pub mod Feeds
-pub mod Taken
-pub mod Reached
+pub mod Lengths
 pub mod Ends
 pub mod Opened
 pub mod Serve
@@ -11,7 +9,6 @@ pub mod Made
 pub mod Raced
 pub mod Race
 pub mod Ran
-pub mod Stopped
 pub mod Format
 pub mod Worked
 pub mod Crashed

@@ -8,7 +8,8 @@ use Rattle.clfs_recover.specs.Opening.{IsRefused}
 use Rattle.clfs_recover.specs.declared.refusal.LoadRefusal.{LoadRefusal}
 use Rattle.clfs_recover.specs.declared.refusal.LoadRefusal.TheVariants.{NoBase, Damaged, DiskFault, NoMemory}
 use Rattle.clfs_ports.specs.Cause as ports
-use Rattle.clfs_engine.specs.Ends.{AppendsFront, disk_fault_text}
+use Rattle.clfs_lines.specs.Ends.{AppendsFront}
+use Rattle.clfs_engine.specs.Ends.{disk_fault_text}
 
 -- the line for files that aren't a log's: the place is told in decimal numbers
 abbrev pub no_log_text : LoadRefusal → List ℕ

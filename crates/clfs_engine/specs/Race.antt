@@ -10,8 +10,9 @@ use Rattle.clfs_race.specs.Taken.{TakesBytes}
 use Rattle.clfs_engine.specs.Ends.{disk_fault_text}
 use Rattle.clfs_engine.specs.Opened.{RefusesLog, IsNoLogText, IsRefusalText}
 use Rattle.clfs_engine.specs.Raced.{IsRaced, IsRacedInPart}
-use Rattle.clfs_engine.specs.Serve.{Answers, IsServeStatus, IsWholeAnswer, IsAnswerUpToFault, IsAnswerUpToLimit, Writes, WritesFront}
-use Rattle.clfs_engine.specs.Taken.{AreReached}
+use Rattle.clfs_lines.specs.Answering.{Answers, IsWholeAnswer, IsAnswerUpToFault, IsAnswerUpToLimit, Writes, WritesFront}
+use Rattle.clfs_engine.specs.Serve.{IsServeStatus}
+use Rattle.clfs_lines.specs.Taken.{AreReached}
 
 -- The source failed before it passed a limit.
 pub record FailsWithin (left left_after : Option (List ℕ)) (source source_after : ℕ) : Type 0 where

@@ -14,8 +14,8 @@ use Rattle.clfs_race.specs.declared.input.ScriptEnd.{ScriptEnd}
 use Rattle.clfs_race.specs.declared.input.ScriptEnd.TheVariants.{Whole, Fault, TooLong}
 use Rattle.clfs_shared.specs.declared.opening.Opening.{Opening}
 use Rattle.clfs_shared.specs.Reached.{IsReached}
-use Rattle.clfs_engine.specs.Ends.{AppendsFront}
-use Rattle.clfs_engine.specs.Serve.{too_long_text}
+use Rattle.clfs_lines.specs.Ends.{AppendsFront}
+use Rattle.clfs_lines.specs.Answering.{too_long_text}
 use Rattle.clfs_engine.specs.Made.{calls_of}
 
 -- each client has as many entries as calls

@@ -13,7 +13,7 @@ use Rattle.clfs_model.specs.Run.{Run, all_fine}
 use Rattle.clfs_model.specs.State.{log_of}
 use Rattle.clfs_trial.specs.Generated.{generated, opening_lines}
 use Rattle.clfs_engine.specs.Answered.{requests_of, AnswersAll}
-use Rattle.clfs_engine.specs.Serve.{Writes, WritesFront}
+use Rattle.clfs_lines.specs.Answering.{Writes, WritesFront}
 use Rattle.clfs_engine.specs.Told.{has_fault, has_damage, has_broken}
 use Rattle.clfs_engine.specs.declared.tally.Tally.{Tally}
 

@@ -1,29 +1,24 @@
 // The answer to one line, by the manager of a log.
-ghost use Rattle.std.specs.Prelude.{◌≡◌, ◌≤◌, ◌⊎◌, ◌++◌, [], length, OnOk, OnErr, IfOk, IfErr};
+ghost use Rattle.std.specs.Prelude.{◌≡◌, ◌≤◌, ◌⊎◌, length, OnOk, OnErr, IfOk};
 ghost use Rattle.clfs_model.specs.Lines.{without_return};
 ghost use Rattle.clfs_model.specs.Run.{reopens};
 ghost use Rattle.clfs_model.specs.Script.{line_request};
 ghost use Rattle.clfs_model.specs.declared.reply.Reply.TheVariants as replies;
 ghost use Rattle.clfs_manager.specs.Calls.{replied};
-ghost use Rattle.clfs_model.specs.Accepted.{serve_limits};
 ghost use Rattle.clfs_engine.specs.Answered.{AnswersOne, AnswersLine, AnswersUnwritten};
 ghost use Rattle.clfs_engine.specs.Asked.{request};
 ghost use Rattle.clfs_race.specs.Meets.{Meets};
-ghost use Rattle.clfs_engine.specs.Stopped.{StopsLine};
 
 use crate::asking::{Asked, read_line};
-use crate::status::Stop;
 use clfs_disk::Disk;
 use clfs_laws::{broken_stays, faults_break};
+use clfs_lines::Answering;
 use clfs_lsn::{Bytes, Lsn};
 use clfs_manager::Manager;
 use clfs_model::{Refusal, Reply};
 use clfs_race::without_return;
 use clfs_script::write_reply;
 use std::alloc::{AllocError, Global};
-
-/// The most bytes of a line without its line feed.
-const LONGEST_LINE: usize = 131072;
 
 // What opening the log anew answered, as a reply.
 fn flushed(answer: Result<Lsn, Refusal>) -> Reply
@@ -90,64 +85,19 @@ pub fn answer_line<D: Disk>(
     write_reply(client, &reply, out)
 }
 
-/// Adds bytes to the part of a line that came before, where the line doesn't get too long by them.
-pub fn carry(carried: &mut Vec<u8>, more: &[u8]) -> Result<(), Stop>
-    requires { length carried.old.items ≤ serve_limits.line }
-    ensures bytes { OnOk result (carried.new.items ≡ carried.old.items ++ more.now) }
-    ensures short { OnOk result (length carried.new.items ≤ serve_limits.line) }
-    ensures stopped { IfErr result (λ stop. StopsLine stop (carried.old.items ++ more.now) Unit Unit) }
-{
-    if more.len() > LONGEST_LINE - carried.len() {
-        return Err(Stop::TooLong);
-    }
-    match carried.extend_from_slice(more) {
-        Ok(()) => Ok(()),
-        Err(_) => Err(Stop::NoMemory),
-    }
+/// A log that answers the lines of a script.
+#[derive(Drop)]
+pub struct ScriptLog<D: Disk + Drop> {
+    /// The log's manager.
+    pub manager: Manager<D>,
 }
 
-// Answers one line, where it isn't too long.
-fn answer_short<D: Disk>(
-    alloc: Global,
-    manager: &mut Manager<D>,
-    line: &[u8],
-    out: &mut Bytes,
-) -> Result<(), Stop>
-    ensures ok { OnOk result (AnswersLine manager.old.0 (D.state manager.old.1) line.now out.old out.new manager.new.0 (D.state manager.new.1)) }
-    ensures short { OnOk result (length line.now ≤ serve_limits.line) }
-    ensures stopped { IfErr result (λ stop. StopsLine stop line.now (manager.new ≡ manager.old)
-        (AnswersUnwritten manager.old.0 (D.state manager.old.1) line.now manager.new.0 (D.state manager.new.1))) }
-{
-    if line.len() > LONGEST_LINE {
-        return Err(Stop::TooLong);
-    }
-    match answer_line(alloc, manager, line, out) {
-        Ok(()) => Ok(()),
-        Err(_) => Err(Stop::NoMemory),
-    }
-}
+impl<D: Disk + Drop> Answering for ScriptLog<D> {
+    ghost use Rattle.clfs_engine.specs.Answered.{AnswersText};
 
-/// Answers a line of which a part may have come before. Its bytes are brought together only where one has.
-pub fn answer_joined<D: Disk>(
-    alloc: Global,
-    manager: &mut Manager<D>,
-    carried: &mut Vec<u8>,
-    line: &[u8],
-    out: &mut Bytes,
-) -> Result<(), Stop>
-    requires { length carried.old.items ≤ serve_limits.line }
-    ensures ok { OnOk result (AnswersLine manager.old.0 (D.state manager.old.1) (carried.old.items ++ line.now) out.old out.new
-        manager.new.0 (D.state manager.new.1)) }
-    ensures short { OnOk result (length (carried.old.items ++ line.now) ≤ serve_limits.line) }
-    ensures carried { OnOk result (carried.new.items ≡ []) }
-    ensures stopped { IfErr result (λ stop. StopsLine stop (carried.old.items ++ line.now) (manager.new ≡ manager.old)
-        (AnswersUnwritten manager.old.0 (D.state manager.old.1) (carried.old.items ++ line.now) manager.new.0 (D.state manager.new.1))) }
-{
-    if carried.is_empty() {
-        return answer_short(alloc, manager, line, out);
+    ghost answers = { λ a line reply b. AnswersText a.manager.0 (D.state a.manager.1) line reply b.manager.0 (D.state b.manager.1) };
+
+    fn answer(&mut self, alloc: Global, line: &[u8], out: &mut Bytes) -> Result<(), AllocError> {
+        answer_line(alloc, &mut self.manager, line, out)
     }
-    carry(carried, line)?;
-    let answered = answer_short(alloc, manager, carried, out);
-    carried.clear();
-    answered
 }

@@ -3,11 +3,11 @@ ghost use Rattle.std.specs.Prelude.{◌≡◌, ◌++◌, OnOk, IfOk, decimal};
 ghost use Rattle.clfs_engine.specs.Check.{counts_text, whole_text, report_text, TellsReport, EndsCheck};
 ghost use Rattle.clfs_engine.specs.Complete.{IsDone, NothingFailsChecking};
 
-use crate::output::printed;
 use crate::refusing::{push_number, refused};
-use crate::status::{DONE, NO_MEMORY, Outcome};
+use crate::status::Outcome;
 use clfs_check::Report;
 use clfs_disk::Disk;
+use clfs_lines::{DONE, NO_MEMORY, printed};
 use clfs_lsn::Bytes;
 use clfs_ports::Sink;
 use clfs_recover::files_have_one_meaning;

@@ -18,13 +18,12 @@ ghost use Rattle.clfs_turn.specs.Seats.{IsSameSeat};
 
 use crate::desk::Desk;
 use crate::making::made_log;
-use crate::output::printed;
 use crate::refusing::push_number;
-use crate::status::{DONE, NO_MEMORY};
 use crate::working::{divided, joined, run_workers};
 use clfs_area::{AreaState, Ended, LogName, Permit};
 use clfs_disk::{Disk, Steady};
 use clfs_laws::held_is_by_own_entries;
+use clfs_lines::{DONE, NO_MEMORY, printed};
 use clfs_lsn::{Bytes, Lsn, Name, Shape, Sizes};
 use clfs_manager::Manager;
 use clfs_model::{Call, Draft, Reply};

@@ -18,15 +18,14 @@ ghost use Rattle.clfs_turn.specs.Seats.{IsNewSeat, IsSameSeat};
 
 use crate::making::made_log;
 use crate::members::{Member, Totals, members_of, run_members, totals_of};
-use crate::output::printed;
 use crate::refusing::push_number;
-use crate::status::{DONE, NO_MEMORY};
 use clfs_disk::{Disk, Steady};
 use clfs_group::{Group, GroupName, what_is_stable_stays};
 use clfs_laws::{
     fronts_are_legal, held_is_by_own_entries, plain_work_takes_its_own_sectors,
     refusals_are_the_calls_own, rows_are_by_own_entries, steps_keep_a_state_valid, unbroken_stays,
 };
+use clfs_lines::{DONE, NO_MEMORY, printed};
 use clfs_lsn::{Bytes, Lsn, Name, Shape};
 use clfs_manager::Manager;
 use clfs_model::{Call, Draft, Reply};

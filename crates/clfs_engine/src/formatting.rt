@@ -5,9 +5,9 @@ ghost use Rattle.clfs_lsn.specs.Size.{IsShape};
 ghost use Rattle.clfs_engine.specs.Complete.{IsDone, NothingFailsMaking};
 ghost use Rattle.clfs_engine.specs.Format.{EndsFormat};
 
-use crate::output::printed;
-use crate::status::{DISK_FAULT, DONE, EXISTS, NO_MEMORY, Outcome};
+use crate::status::{DISK_FAULT, EXISTS, Outcome};
 use clfs_disk::Disk;
+use clfs_lines::{DONE, NO_MEMORY, printed};
 use clfs_lsn::Shape;
 use clfs_manager::{FormatRefusal, FormatRefused, Manager};
 use clfs_ports::Sink;

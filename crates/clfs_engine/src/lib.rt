@@ -25,23 +25,21 @@ mod crewing;
 mod crowding;
 mod desk;
 mod formatting;
-mod input;
 mod making;
 mod members;
-mod output;
 mod program;
 mod racing;
 mod refusing;
 mod rows;
 mod serving;
 mod status;
-mod streaming;
 mod tally;
 mod trying;
 mod workers;
 mod working;
 
 pub use checking::check;
+pub use clfs_lines::{DONE, INPUT_TOO_LONG, NO_MEMORY, SINK_FAULT, SOURCE_FAULT};
 pub use clfs_race::{Gate, Pass};
 pub use crewing::crew;
 pub use crowding::crowd;
@@ -50,8 +48,5 @@ pub use program::run;
 pub use racing::race;
 pub use rows::{appends_and_reads, areas, ends_of_lines, lengths_of_records, words_of_lines};
 pub use serving::{serve, serve_within};
-pub use status::{
-    DISK_FAULT, DONE, EXISTS, INPUT_TOO_LONG, NO_MEMORY, NOT_A_LOG, Outcome, SINK_FAULT,
-    SOURCE_FAULT, USAGE,
-};
+pub use status::{DISK_FAULT, EXISTS, NOT_A_LOG, Outcome, USAGE};
 pub use trying::trial;

@@ -15,12 +15,12 @@ ghost use Rattle.clfs_engine.specs.Complete.{NothingFailsRacing, RaceComesThroug
 ghost use Rattle.clfs_engine.specs.Race.{EndsRacing};
 ghost use Rattle.clfs_engine.specs.Ran.{HasRun, has_all, end_text, end_status, TellsRace};
 
-use crate::output::printed;
 use crate::refusing::refused;
-use crate::status::{DONE, INPUT_TOO_LONG, NO_MEMORY, Outcome, SOURCE_FAULT};
+use crate::status::Outcome;
 use crate::workers::run_clients;
 use clfs_disk::Disk;
 use clfs_laws::unbroken_stays;
+use clfs_lines::{DONE, INPUT_TOO_LONG, NO_MEMORY, SOURCE_FAULT, printed};
 use clfs_lsn::Bytes;
 use clfs_manager::{LoadRefused, Manager};
 use clfs_model::{Entry, Journal};

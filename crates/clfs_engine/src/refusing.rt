@@ -3,8 +3,8 @@ ghost use Rattle.std.specs.Prelude.{◌≡◌, ◌++◌, OnOk, IfOk};
 ghost use Rattle.clfs_engine.specs.Opened.{no_log_text, TellsRefusal};
 ghost use Rattle.std.specs.Fmt.{decimal};
 
-use crate::output::printed;
-use crate::status::{DISK_FAULT, NO_MEMORY, NOT_A_LOG};
+use crate::status::{DISK_FAULT, NOT_A_LOG};
+use clfs_lines::{NO_MEMORY, printed};
 use clfs_lsn::Bytes;
 use clfs_manager::LoadRefusal;
 use clfs_ports::Sink;

@@ -1,47 +1,27 @@
 // Serving a script: the log is opened, and the script is answered while it comes.
 ghost use Rattle.std.specs.Prelude.{◌≤◌};
 ghost use Rattle.clfs_lsn.specs.Limits.{most_write_buffers};
-ghost use Rattle.clfs_engine.specs.Answered.{AnswersLines, AnswersInPart};
 ghost use Rattle.clfs_model.specs.Accepted.{serve_limits};
 ghost use Rattle.clfs_engine.specs.Complete.{NothingFailsAnswering, NothingFailsServing, ComesThrough};
-ghost use Rattle.clfs_engine.specs.Serve.{EndsAnswering, EndsServing};
-ghost use Rattle.clfs_engine.specs.Taken.{script_limits};
+ghost use Rattle.clfs_engine.specs.Serve.{EndsServing};
+ghost use Rattle.clfs_lines.specs.Taken.{script_limits};
 
-use crate::input::LONGEST_SCRIPT;
-use crate::output::printed;
+use crate::answering::ScriptLog;
 use crate::refusing::refused;
-use crate::status::{DONE, INPUT_TOO_LONG, NO_MEMORY, Outcome, SINK_FAULT, SOURCE_FAULT, Stop};
-use crate::streaming::answer_script;
+use crate::status::Outcome;
 use clfs_disk::Disk;
+use clfs_laws::refusals_are_the_calls_own;
+use clfs_lines::answered;
 use clfs_manager::{LoadRefused, Manager};
 use clfs_ports::{Sink, Source};
 use clfs_recover::files_have_one_meaning;
 use std::alloc::Global;
 
+/// The most bytes of a script, unless it is endless.
+pub const LONGEST_SCRIPT: u64 = 67108864;
+
 // How many blocks that are read are kept, unless another number is asked for.
 const READ_BUFFERS: u32 = 32;
-
-// Answers the script by a log that was opened, and gives the status.
-fn served<S: Source, K: Sink, D: Disk>(
-    alloc: Global,
-    manager: &mut Manager<D>,
-    most: u64,
-    source: &mut S,
-    sink: &mut K,
-) -> u8
-    ensures { EndsAnswering (script_limits most) (AnswersLines manager.old.0 (D.state manager.old.1) manager.new.0 (D.state manager.new.1))
-        (AnswersInPart manager.old.0 (D.state manager.old.1) manager.new.0 (D.state manager.new.1)) result
-        (S.left source.old) (S.left source.new) (K.written sink.old) (K.written sink.new)
-        (S.faults source.old) (S.faults source.new) (K.faults sink.old) (K.faults sink.new) }
-{
-    match answer_script(alloc, manager, most, source, sink) {
-        Ok(()) => DONE,
-        Err(Stop::SourceFault) => SOURCE_FAULT,
-        Err(Stop::SinkFault) => SINK_FAULT,
-        Err(Stop::NoMemory) => NO_MEMORY,
-        Err(Stop::TooLong) => printed(sink, b"input too long\n", INPUT_TOO_LONG),
-    }
-}
 
 /// Opens the log on a disk, with so many write buffers, and so many blocks that are kept of those that are read; answers the script that the source
 /// gives, one reply for each line; and says how it ended. A script has at most so many bytes, and a line at most 131,072 without its line feed. Each line is answered when its line feed is there, and its reply is written
@@ -65,15 +45,16 @@ pub fn serve_within<S: Source, K: Sink, D: Disk + Drop>(
         (D.state disk) (D.state result.disk) (S.left source.old) (S.left source.new) (K.written sink.old) (K.written sink.new) }
 {
     files_have_one_meaning();
+    refusals_are_the_calls_own();
     match Manager::load_with(alloc, disk, write_buffers, read_buffers) {
         Ok(manager) => {
-            let mut manager = manager;
-            manager.stored();
-            let status = served(alloc, &mut manager, most, source, sink);
-            manager.stored();
+            let mut log = ScriptLog { manager };
+            log.manager.stored();
+            let status = answered(alloc, &mut log, most, source, sink);
+            log.manager.stored();
             Outcome {
                 status,
-                disk: manager.close(),
+                disk: log.manager.close(),
             }
         }
         Err(LoadRefused { disk, cause }) => Outcome {

@@ -12,13 +12,11 @@ ghost use Rattle.clfs_engine.specs.Trial.{HasTried, trial_log, trial_text, IsTri
 
 use crate::answering::reply_to_line;
 use crate::making::made_log;
-use crate::output::printed;
 use crate::refusing::push_number;
-use crate::status::{DONE, NO_MEMORY};
-use crate::streaming::cleared;
 use crate::tally::{Tally, told_lsn};
 use clfs_disk::{Disk, Steady};
 use clfs_laws::refusals_are_the_calls_own;
+use clfs_lines::{DONE, NO_MEMORY, cleared, printed};
 use clfs_lsn::{Bytes, Lsn, Shape};
 use clfs_manager::Manager;
 use clfs_ports::Sink;

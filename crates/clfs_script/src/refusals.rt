@@ -45,7 +45,8 @@ fn push_places(
     push_place(b" ", third, out)
 }
 
-pub(crate) fn push_refusal(refusal: &Refusal, out: &mut Bytes) -> Result<(), AllocError>
+/// Writes a refusal's number, its name and its fields in order behind the text that is there.
+pub fn push_refusal(refusal: &Refusal, out: &mut Bytes) -> Result<(), AllocError>
     ensures { OnOk result (out.new ≡ out.old ++ refusal_text refusal.now) }
 {
     match *refusal {

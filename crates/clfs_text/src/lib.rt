@@ -15,6 +15,6 @@ mod words;
 pub use bytes::{data_of_word, push_data};
 pub use lead::Lead;
 pub use lsns::lsn_of_word;
-pub use numbers::{decimal_number, hex_number};
+pub use numbers::{decimal_number, hex_number, long_decimal_number};
 pub use printing::{push_decimal, push_hex, push_lsn};
 pub use words::{BadWord, Word, Words};

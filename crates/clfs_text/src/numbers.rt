@@ -50,6 +50,23 @@ pub fn decimal_number(most: u32, word: &[u8]) -> Option<u32>
     Some(value as u32)
 }
 
+/// The same of a number that may have 64 bits.
+pub fn long_decimal_number(most: u64, word: &[u8]) -> Option<u64>
+    ensures { result ≡ decimal_number most word.now }
+{
+    if begins_badly(word) {
+        return None;
+    }
+    let mut value = 0u128;
+    for byte in word {
+        value = value * 10 + decimal_digit(*byte)? as u128;
+        if value > most as u128 {
+            return None;
+        }
+    }
+    Some(value as u64)
+}
+
 /// The number below 2^32 that a word spells in lower-case hexadecimal digits without a leading zero.
 pub fn hex_number(word: &[u8]) -> Option<u32>
     ensures { result ≡ hex_number word.now }

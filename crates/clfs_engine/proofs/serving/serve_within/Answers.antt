@@ -1,5 +1,6 @@
-use Rattle.clfs_engine.specs.Answered.{AnswersLines, AnswersInPart}
-use Rattle.clfs_engine.specs.Taken.{script_limits}
+use Rattle.clfs_lines.specs.Through.{AnswersThrough, AnswersInPart}
+use Rattle.clfs_lines.specs.Taken.{script_limits}
+use Rattle.clfs_engine.proofs.Lines.{answered_lines, answered_in_part}
 use Rattle.clfs_engine.proofs.Loaded.{IsLoaded, IsKeptOn, is_answered, is_answered_in_part}
 use Rattle.clfs_engine.proofs.ServingEnds.{answering_serves, refusal_serves}
 use Rattle.clfs_engine.proofs.Through.{AreOne, comes_through}
@@ -9,9 +10,9 @@ pub returns-in-Ok-clause-ends : goal.returns-in-Ok-clause-ends
 returns-in-Ok-clause-ends g c =
     let old = g.D.Disk.state c.args.disk in
     let mid = g.D.Disk.state c.in-Ok.manager.1 in
-    let new = g.D.Disk.state c.served-status.new.manager.1 in
+    let new = g.D.Disk.state c.answered-status.new.answering.manager.1 in
     let s = c.in-Ok.manager.0 in
-    let t = c.served-status.new.manager.0 in
+    let t = c.answered-status.new.answering.manager.0 in
     let load = c.in-Ok.ensures in
     let loaded : IsLoaded c.args.write_buffers old mid s = record {
       stands = load.loaded;
@@ -24,9 +25,13 @@ returns-in-Ok-clause-ends g c =
       left = c.stored.ensures.survives_nothing 0;
     } in
     let kept : IsKeptOn t new = record { files = c.stored-in-Ok.ensures.files; settled = c.stored-in-Ok.ensures.settled } in
-    rw c.close.ensures (answering_serves (script_limits c.args.most) (AnswersLines s mid t new) (AnswersInPart s mid t new) c.served-status.result c.args.write_buffers old new _ _ _ _ _ _ _ _
-    (is_answered c.args.write_buffers old mid new s t loaded kept) (is_answered_in_part c.args.write_buffers old mid new s t loaded kept)
-    c.served-status.ensures)
+    let own = c.refusals_are_the_calls_own.ensures.own in
+    rw c.close.ensures (answering_serves (script_limits c.args.most) _ _ c.answered-status.result c.args.write_buffers old new _ _ _ _ _ _ _ _
+    (λ lines text is. is_answered c.args.write_buffers old mid new s t loaded kept lines text
+    (answered_lines _ (λ log. log.manager.0) (λ log. g.D.Disk.state log.manager.1) own _ _ lines text is))
+    (λ torn lines text is. is_answered_in_part c.args.write_buffers old mid new s t loaded kept torn lines text
+    (answered_in_part _ (λ log. log.manager.0) (λ log. g.D.Disk.state log.manager.1) own _ _ torn lines text is))
+    c.answered-status.ensures)
 
 pub returns-in-Err-clause-ends : goal.returns-in-Err-clause-ends
 returns-in-Err-clause-ends g c =

@@ -1,0 +1,45 @@
+-- What a source gave of a script, and which of its lines are answered.
+use Rattle.std.specs.Prelude.{◌≡◌, ◌⊎◌, ℕ, Bool, nat_le, true, false, List, ◌++◌, length, Option}
+use Rattle.std.specs.Io.KnownBytes.{Consumes, IsAtEnd}
+use Rattle.clfs_model.specs.Lines.{lines_of}
+use Rattle.clfs_model.specs.Accepted.{Limits, serve_limits, is_within, accepted}
+
+-- the limits of a script with at most so many bytes, whose lines are answered one after the other
+abbrev pub script_limits : ℕ → Limits
+script_limits most = record { bytes = most; line = serve_limits.line; lines = most }
+
+-- whether a line is none too long
+abbrev pub is_short : List ℕ → Bool
+is_short line = nat_le (length line) serve_limits.line
+
+-- A script that was read to its end: the source had it, nothing is left, and it is within its limits.
+pub record IsWholeScript (limits : Limits) (left left_after : Option (List ℕ)) (script : List ℕ) : Type 0 where
+  pub given : Consumes left left_after script
+  pub end : IsAtEnd left_after
+  pub within : is_within limits script ≡ true
+
+-- What the source gave passes a limit.
+pub record IsPastLimit (limits : Limits) (left left_after : Option (List ℕ)) (bytes : List ℕ) : Type 0 where
+  pub given : Consumes left left_after bytes
+  pub past : is_within limits bytes ≡ false
+
+-- lines that stand at the front of others
+pub record IsFrontOf (all lines : List (List ℕ)) : Type 0 where
+  pub rest : List (List ℕ)
+  pub front : lines ++ rest ≡ all
+
+-- Lines at the front of those that are answered of the bytes that a source gave.
+pub record AreFrontLines (limits : Limits) (left left_after : Option (List ℕ)) (lines : List (List ℕ)) : Type 0 where
+  pub bytes : List ℕ
+  pub given : Consumes left left_after bytes
+  pub front : IsFrontOf (accepted limits bytes) lines
+
+-- All lines of a script that was read to its end.
+pub record AreAllLines (limits : Limits) (left left_after : Option (List ℕ)) (lines : List (List ℕ)) : Type 0 where
+  pub script : List ℕ
+  pub read : IsWholeScript limits left left_after script
+  pub all : lines_of script ≡ lines
+
+-- lines up to which it was come
+abbrev pub AreReached : Limits → Option (List ℕ) → Option (List ℕ) → List (List ℕ) → Type 0
+AreReached limits left left_after lines = AreFrontLines limits left left_after lines ⊎ AreAllLines limits left left_after lines
