@@ -1,3 +1,4 @@
+pub mod CopyReads
 pub mod Searches
 pub mod Chains
 pub mod Filling

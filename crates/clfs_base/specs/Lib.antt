@@ -3,6 +3,7 @@ pub mod Spelling
 pub mod Streams
 pub mod Checks
 pub mod Demands
+pub mod Reading
 pub mod Slots
 pub mod Vector
 pub mod Decoding

@@ -1,11 +1,13 @@
 // Reading the newest copy of the base file: three bytes of each slot say which one counts, and that one alone is read whole.
-ghost use Rattle.std.specs.Prelude.{◌≡◌, ◌⊎◌, ◌+◌, ◌-◌, ◌≤◌, ◌<◌, ◌==◌, ℕ, List, take, drop, Ok, OnErr, IfOk, IfErr, IsOk, IsErrOf};
+ghost use Rattle.std.specs.Prelude.{◌≡◌, ◌⊎◌, ◌+◌, ◌-◌, ◌≤◌, ◌<◌, ◌==◌, ℕ, List, length, take, drop, Ok, OnErr, IfOk, IfErr, IsOk, IsErrOf};
 ghost use Rattle.clfs_disk.specs.Files.{Unchanged};
 ghost use Rattle.clfs_disk.specs.State.{TellsContents, IsSteady, Passes, Rises, raised};
 ghost use Rattle.clfs_base.specs.Spelling.{IsImage};
 ghost use Rattle.clfs_base.specs.Checks.{image_at};
 ghost use Rattle.clfs_base.specs.Slots.{slot_place, slot_of, front_of, newer_slot, slot_by, used_slot, copy_in, newest_of};
 ghost use Rattle.clfs_base.specs.Decoding.{GivesNewest, IsOutside};
+ghost use Rattle.clfs_base.specs.Layout.{slot_bytes};
+ghost use Rattle.clfs_base.specs.Reading.{IsReadCopy, IsUsedSlot};
 
 use crate::decoder::decode;
 use crate::image::BaseImage;
@@ -34,6 +36,8 @@ pub fn read_newest<D: Disk>(alloc: Global, disk: &mut D) -> Result<(u32, BaseIma
     ensures slot { IfOk result (λ x. x.0 ≤ 1) }
     ensures image { IfOk result (λ x. IsImage x.1) }
 
+    // Whatever the disk, the answer is that of some bytes of a base file's two slots.
+    ensures told { IsReadCopy result }
     ensures same { Unchanged (D.state disk.old).files (D.state disk.new).files }
     ensures time { Passes Unchanged (D.state disk.old) (D.state disk.new) }
     ensures calls_at_most { (D.state disk.new).calls ≤ raised 3 (D.state disk.old).calls }
@@ -51,6 +55,7 @@ pub fn read_newest<D: Disk>(alloc: Global, disk: &mut D) -> Result<(u32, BaseIma
 fn read_used<D: Disk>(disk: &mut D) -> Result<u32, NewestRefusal>
     ensures used { TellsContents (D.state disk.old) → GivesNewest result (used_slot ((D.state disk.old).files 0)) }
     ensures slot { IfOk result (λ slot. slot ≤ 1) }
+    ensures told { IsUsedSlot result }
     ensures same { Unchanged (D.state disk.old).files (D.state disk.new).files }
     ensures time { Passes Unchanged (D.state disk.old) (D.state disk.new) }
     ensures calls_at_most { (D.state disk.new).calls ≤ raised 2 (D.state disk.old).calls }
@@ -66,6 +71,7 @@ fn read_used<D: Disk>(disk: &mut D) -> Result<u32, NewestRefusal>
 // What decides on a slot, by one call of the disk.
 fn read_front<D: Disk>(disk: &mut D, slot: u32) -> Result<Front, Failed>
     ensures front { IfOk result (λ front. TellsContents (D.state disk.old) → front ≡ front_of ((D.state disk.old).files 0) slot) }
+    ensures told { IfOk result (λ front. (bytes : List ℕ) × (length bytes ≤ 3) × (front ≡ front_of bytes 0)) }
     ensures same { Unchanged (D.state disk.old).files (D.state disk.new).files }
     ensures time { Passes Unchanged (D.state disk.old) (D.state disk.new) }
     ensures calls { (D.state disk.new).calls ≡ raised 1 (D.state disk.old).calls }
@@ -137,6 +143,7 @@ fn newer_slot(first: u8, second: u8) -> Result<u32, NewestRefusal>
 // The bytes of a slot that are there, by one call of the disk, or none where memory is wanted.
 fn read_slot<D: Disk>(alloc: Global, disk: &mut D, slot: u32) -> Result<Vec<u8>, NewestRefusal>
     ensures bytes { IfOk result (λ bytes. TellsContents (D.state disk.old) → bytes.items ≡ slot_of ((D.state disk.old).files 0) slot) }
+    ensures few { IfOk result (λ bytes. length bytes.items ≤ slot_bytes) }
     ensures same { Unchanged (D.state disk.old).files (D.state disk.new).files }
     ensures time { Passes Unchanged (D.state disk.old) (D.state disk.new) }
     ensures calls { ((D.state disk.new).calls ≡ (D.state disk.old).calls) ⊎ ((D.state disk.new).calls ≡ raised 1 (D.state disk.old).calls) }

@@ -1,3 +1,4 @@
+pub mod Told
 pub mod Raising
 pub mod Steps
 pub mod Blocks

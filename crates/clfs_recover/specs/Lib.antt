@@ -5,6 +5,7 @@ pub mod Gathering
 pub mod Bases
 pub mod Fronts
 pub mod Opening
+pub mod Telling
 pub mod Stored
 pub mod KnownLogs
 pub mod Counting

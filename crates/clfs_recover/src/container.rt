@@ -10,6 +10,7 @@ ghost use Rattle.clfs_base.specs.declared.image.Row.{Row};
 ghost use Rattle.clfs_recover.specs.Walk.{container_records};
 ghost use Rattle.clfs_recover.specs.Fronts.{Shows, Reaches};
 ghost use Rattle.clfs_recover.specs.Gathering.{HasTaken, RefusesAs, TakesContainer, IsEnd};
+ghost use Rattle.clfs_recover.specs.Telling.{TellsBlock};
 
 use crate::block::gather_block;
 use crate::gatherer::Gatherer;
@@ -76,6 +77,8 @@ pub(crate) fn gather_container<D: Disk, G: Gatherer>(
         → AreOpen shape.now.container_sectors ((D.state disk.old).files listed.now.file) blocks
         → IfErr result (λ refusal. RefusesAs refusal (container_records shape.now (vec_len bases.old) listed.now.id
         (record { bytes = (D.state disk.old).files listed.now.file; blocks = blocks }))) }
+    ensures told { (rows : List Row) (before : List LogEntry) → HasTaken (G.has gatherer.old) rows bases.old.items before
+        → IfErr result (TellsBlock shape.now (vec_len bases.old) listed.now.id 1) }
     ensures end { IfOk result (λ end. IsEnd shape.now end) }
     ensures room { piece.new.room ≡ piece.old.room }
     ensures streams { vec_len bases.new ≡ vec_len bases.old }

@@ -10,6 +10,7 @@ ghost use Rattle.clfs_base.specs.declared.image.Row.{Row};
 ghost use Rattle.clfs_recover.specs.Walk.{Container, listed_records};
 ghost use Rattle.clfs_recover.specs.Files.{AreListed};
 ghost use Rattle.clfs_recover.specs.Gathering.{HasTaken, RefusesAs, TakesListed, IsEnd};
+ghost use Rattle.clfs_recover.specs.Telling.{TellsBlock};
 
 use crate::container::{Listed, gather_container};
 use crate::gatherer::Gatherer;
@@ -44,6 +45,8 @@ pub(crate) fn gather_listed<D: Disk, G: Gatherer>(
         → HasTaken (G.has gatherer.old) rows bases.old.items before
         → AreListed shape.now.container_sectors (D.state disk.old).files files.now listed
         → IfErr result (λ refusal. RefusesAs refusal (listed_records shape.now (vec_len bases.old) first listed)) }
+    ensures told { (rows : List Row) (before : List LogEntry) → HasTaken (G.has gatherer.old) rows bases.old.items before
+        → IfErr result (TellsBlock shape.now (vec_len bases.old) first (length files.now)) }
     ensures end { IfOk result (λ end. IsEnd shape.now end) }
     ensures streams { vec_len bases.new ≡ vec_len bases.old }
     ensures same { Unchanged (D.state disk.old).files (D.state disk.new).files }

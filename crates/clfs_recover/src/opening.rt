@@ -15,6 +15,7 @@ ghost use Rattle.clfs_recover.specs.Files.{AreListed};
 ghost use Rattle.clfs_recover.specs.Gathering.{RefusesAs, IsEnd};
 ghost use Rattle.clfs_recover.specs.Opening.{parts_of, told_parts, IsWalked, IsWalkedLog, IsLoaded, AreHeadsLoaded};
 ghost use Rattle.clfs_recover.specs.KnownLogs.{IsOpenedFrom};
+ghost use Rattle.clfs_recover.specs.Telling.{TellsBehind, TellsOpening};
 ghost use Rattle.clfs_recover.specs.declared.parts.Parts.{Parts};
 
 use crate::gatherer::Gatherer;
@@ -116,6 +117,7 @@ fn walk_image<D: Disk, G: Gatherer>(
     ensures refused { TellsContents (D.state disk.old) → G.has gatherer.old [] → (listed : List Container)
         → AreListed image.container_sectors (D.state disk.old).files image.files listed
         → IfErr result (λ refusal. RefusesAs refusal (walked slot image listed)) }
+    ensures told { G.has gatherer.old [] → IfErr result (TellsBehind slot image) }
     ensures same { Unchanged (D.state disk.old).files (D.state disk.new).files }
     ensures time { Passes Unchanged (D.state disk.old) (D.state disk.new) }
     ensures cause { IsErrOf result LoadRefusal.DiskFault → Rises (D.state disk.old).faults (D.state disk.new).faults }
@@ -160,6 +162,7 @@ pub fn walk<D: Disk, G: Gatherer>(
     gatherer: &mut G,
 ) -> Result<Walked, LoadRefusal>
     ensures exact { TellsContents (D.state disk.old) → G.has gatherer.old [] → IsWalked (G.has gatherer.new) (D.state disk.old).files result }
+    ensures told { G.has gatherer.old [] → IfErr result TellsOpening }
     ensures log { G.has gatherer.old [] → IfOk result (λ walked. (entries : List LogEntry) × G.has gatherer.new entries
         × IsOpenedFrom (D.state disk.old) (parts_of walked entries)) }
     ensures settled { OnOk result (IsHonest (D.state disk.old) → IsSettled (D.state disk.new)) }
@@ -180,6 +183,7 @@ pub fn walk<D: Disk, G: Gatherer>(
 /// Opens a log with its records.
 pub fn load<D: Disk>(alloc: Global, disk: &mut D) -> Result<Parts, LoadRefusal>
     ensures exact { TellsContents (D.state disk.old) → IsLoaded (D.state disk.old).files result }
+    ensures told { IfErr result TellsOpening }
     ensures log { IfOk result (λ parts. IsOpenedFrom (D.state disk.old) parts) }
     ensures settled { OnOk result (IsHonest (D.state disk.old) → IsSettled (D.state disk.new)) }
     ensures settled_refused { IfErr result (λ refusal. refusal ≢ LoadRefusal.DiskFault → IsHonest (D.state disk.old) → IsSettled (D.state disk.new)) }
@@ -203,6 +207,7 @@ pub fn load<D: Disk>(alloc: Global, disk: &mut D) -> Result<Parts, LoadRefusal>
 /// Opens a log with the heads of its records, as `load` does with the records.
 pub fn load_heads<D: Disk>(alloc: Global, disk: &mut D) -> Result<HeadParts, LoadRefusal>
     ensures exact { TellsContents (D.state disk.old) → AreHeadsLoaded (D.state disk.old).files result }
+    ensures told { IfErr result TellsOpening }
     ensures log { IfOk result (λ opened. (opened.heads ≡ map head_of opened.entries.value) × IsOpenedFrom (D.state disk.old) (told_parts opened)) }
     ensures settled { OnOk result (IsHonest (D.state disk.old) → IsSettled (D.state disk.new)) }
     ensures settled_refused { IfErr result (λ refusal. refusal ≢ LoadRefusal.DiskFault → IsHonest (D.state disk.old) → IsSettled (D.state disk.new)) }

@@ -1,9 +1,12 @@
-use Rattle.std.proofs.Common.{ℕ, List, Result, IsTrue, ap, subst, sym, ◌∙◌}
+use Rattle.std.proofs.Common.{ℕ, List, Result, IsTrue, ap, subst, sym, ◌∙◌, length, ◌≤◌}
+use Rattle.std.proofs.lemmas.Result.{err_from_is_err_and}
 use Rattle.clfs_disk.specs.State.{Nature, TellsContents}
 use Rattle.clfs_base.specs.declared.refusal.NewestRefusal.{NewestRefusal}
+use Rattle.clfs_base.specs.Layout.{slot_bytes}
 use Rattle.clfs_base.specs.Checks.{image_at}
 use Rattle.clfs_base.specs.Slots.{slot_of, copy_in, copy_of}
 use Rattle.clfs_base.specs.Decoding.{GivesNewest}
+use Rattle.clfs_base.proofs.CopyReads.{used_outside, none_used, copy_by}
 use Rattle.clfs_base.proofs.newest.read_newest.Goals as goal
 
 pub returns-clause-newest : goal.returns-clause-newest
@@ -18,3 +21,17 @@ returns-clause-newest g c tells =
 
 pub returns-clause-time : goal.returns-clause-time
 returns-clause-time g c = c.calls_join.ensures.reads _ _ _ c.in_ok-slot.ensures.time c.in_ok-bytes.ensures.time
+
+pub returns-in_err-slot-clause-told : goal.returns-in_err-slot-clause-told
+returns-in_err-slot-clause-told g c =
+    let p = err_from_is_err_and c.from_residual.result c.from_residual.ensures.1 in
+    rw (p.1, p.2) (none_used c.in_err-slot.field-0.0 c.in_err-slot.ensures.told)
+
+pub returns-in_err-bytes-clause-told : goal.returns-in_err-bytes-clause-told
+returns-in_err-bytes-clause-told g c =
+    let p = err_from_is_err_and c.from_residual-in_err-bytes.result c.from_residual-in_err-bytes.ensures.1 in
+    rw (p.1, p.2) (none_used c.in_err-bytes.field-0.0 (used_outside c.in_err-bytes.field-0.0 c.in_err-bytes.ensures.refusal))
+
+pub returns-clause-told : goal.returns-clause-told
+returns-clause-told g c = copy_by c.decode_slot.result c.in_ok-slot.slot c.deref.result.now c.in_ok-slot.ensures.told
+    (subst (λ (l : List ℕ). length l ≤ slot_bytes) (sym c.deref.ensures.value) c.in_ok-bytes.ensures.few) c.decode_slot.ensures.newest

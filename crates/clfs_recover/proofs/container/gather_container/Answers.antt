@@ -8,6 +8,7 @@ use Rattle.clfs_block.specs.Records.{block_records}
 use Rattle.clfs_recover.specs.Gathering.{GathersBlock}
 use Rattle.clfs_recover.specs.declared.refusal.LoadRefusal.{LoadRefusal}
 use Rattle.clfs_recover.proofs.Containers.{block_end}
+use Rattle.clfs_recover.proofs.Told.{block_told}
 use Rattle.clfs_recover.proofs.Taken.{starts, goes_on, is_closed, is_full, is_refused}
 use Rattle.clfs_recover.proofs.Pieces.{shows_still, front_still}
 use Rattle.clfs_recover.proofs.Disks.{tells_still, steady_still}
@@ -139,3 +140,16 @@ returns-after-loop-offset-clause-taken g c rows before has =
     is_full c.args.shape.now (vec_len c.args.bases.now) c.args.listed.now.id (TellsContents first) (first.files c.args.listed.now.file)
     (g.G.Gatherer.has c.loop-offset.gatherer) rows c.loop-offset.bases.items before c.loop-offset.offset
     (c.loop-offset.invariant.behind rows before has) (omega (arith, c.loop-offset-test.false))
+
+pub returns-in_err-sectors-clause-told : goal.returns-in_err-sectors-clause-told
+returns-in_err-sectors-clause-told g c rows before has =
+    let p = err_from_is_err_and c.from_residual-in_err-sectors.result c.from_residual-in_err-sectors.ensures.1 in
+    let at = c.loop-offset.invariant.behind rows before has in
+    let gathers = subst (λ (n : ℕ). GathersBlock (g.G.Gatherer.has c.gather_block.new.gatherer) rows c.gather_block.new.bases.items (before ++ at.entries)
+    c.args.listed.now.id c.loop-offset.offset (Err c.in_err-sectors.field-0.0)
+    (block_records c.args.shape.now n (lsn_number c.args.listed.now.id c.loop-offset.offset 0) c.bytes_from-bytes.result.now))
+    c.loop-offset.invariant.same_streams (c.in_err-sectors.ensures.exact rows (before ++ at.entries) at.taken) in
+    rw (p.1, p.2) (block_told c.blocks_are_judged_alone.ensures c.blocks_are_read_as_written.ensures c.args.shape.now (vec_len c.args.bases.now)
+    c.args.listed.now.id c.loop-offset.offset c.bytes_from-bytes.result.now c.requires.shape c.loop-offset.invariant.whole
+    c.loop-offset-test.true (g.G.Gatherer.has c.gather_block.new.gatherer) rows c.gather_block.new.bases.items (before ++ at.entries)
+    c.in_err-sectors.field-0.0 gathers)

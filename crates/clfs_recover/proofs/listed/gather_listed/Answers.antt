@@ -1,8 +1,10 @@
-use Rattle.std.proofs.Common.{◌+◌, ◌++◌, get_or, vec_len, refl, ◌∙◌, arith}
+use Rattle.std.proofs.Common.{ℕ, ◌+◌, ◌++◌, length, get_or, vec_len, refl, subst, ◌∙◌, arith}
 use Rattle.std.proofs.lemmas.Result.{err_from_is_err_and}
 use Rattle.clfs_disk.specs.Files.{Unchanged}
 use Rattle.clfs_disk.specs.State.{TellsContents}
 use Rattle.clfs_recover.proofs.Listing.{starts_listed, all_listed, goes_on_listed, taken_otherwise, refused_otherwise, listed_refused}
+use Rattle.clfs_recover.proofs.Told.{listed_told}
+use Rattle.clfs_recover.specs.Telling.{TellsBlock}
 use Rattle.clfs_recover.proofs.Disks.{tells_still, steady_still, no_time}
 use Rattle.clfs_recover.proofs.listed.gather_listed.Goals as goal
 
@@ -65,3 +67,11 @@ loop-i-preserved g c = record {
       (λ tells. tells_still Unchanged first now c.loop-i.invariant.time tells) (c.loop-i.invariant.same number)
       (c.in_ok-end.ensures.taken rows (before ++ at.entries) at.taken));
 }
+
+pub returns-in_err-end-clause-told : goal.returns-in_err-end-clause-told
+returns-in_err-end-clause-told g c rows before has =
+    let p = err_from_is_err_and c.from_residual.result c.from_residual.ensures.1 in
+    let at = c.loop-i.invariant.behind rows before has in
+    rw (p.1, p.2) (listed_told c.args.shape.now (vec_len c.args.bases.now) c.args.first c.loop-i.i (length c.args.files.now) c.in_err-end.field-0.0
+    c.loop-i-test.true (subst (λ (n : ℕ). TellsBlock c.args.shape.now n (c.args.first + c.loop-i.i) 1 c.in_err-end.field-0.0) c.loop-i.invariant.same_streams
+    (c.in_err-end.ensures.told rows (before ++ at.entries) at.taken)))

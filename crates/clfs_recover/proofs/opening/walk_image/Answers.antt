@@ -1,11 +1,13 @@
-use Rattle.std.proofs.Common.{◌≡◌, ℕ, List, [], length, map, Some, None, vec_len, sym, ◌∙◌, ap, subst, arith}
+use Rattle.std.proofs.Common.{inl, inr, ◌≡◌, ℕ, List, [], length, map, Some, None, vec_len, sym, ◌∙◌, ap, subst, arith}
 use Rattle.std.proofs.lemmas.Result.{err_from_is_err_and}
 use Rattle.clfs_lsn.specs.Place.{frontier}
+use Rattle.clfs_lsn.specs.declared.place.Place.{Place}
 use Rattle.clfs_disk.specs.State.{TellsContents}
 use Rattle.clfs_base.specs.declared.image.Row.{Row}
 use Rattle.clfs_recover.specs.Walk.{shape_of, listed_records, image_fault}
 use Rattle.clfs_recover.specs.Files.{AreListed}
 use Rattle.clfs_recover.specs.Gathering.{RefusesAs}
+use Rattle.clfs_recover.specs.Telling.{TellsBlock}
 use Rattle.clfs_recover.proofs.Raising.{first_bases, length-bases_with}
 use Rattle.clfs_recover.proofs.Finding.{walk_refused}
 use Rattle.clfs_recover.proofs.OpenedLogs.{taken_by_image, is_fault, fits_records}
@@ -54,3 +56,27 @@ returns-clause-log g c has =
     sym (ap (image_fault image) c.frontier.ensures) ∙ sym c.wrong_image.ensures ∙ c.in_default.is in
     fits_records (g.G.Gatherer.has c.gather_listed.new.gatherer) (TellsContents disk) disk.files c.args.slot image c.requires.slot c.requires.image
     c.from_vec.result c.gather_listed.new.bases.items c.place_behind-place.result c.in_ok-end.end taken c.from_vec.ensures c.place_behind-place.ensures right
+
+pub returns-in_err-end-clause-told : goal.returns-in_err-end-clause-told
+returns-in_err-end-clause-told g c has =
+    let p = err_from_is_err_and c.from_residual-in_err-end.result c.from_residual-in_err-end.ensures.1 in
+    let image = c.args.image in
+    let rows = image.streams in
+    let moved = c.in_ok-bases.ensures ∙ ap (λ (l : List Row). bases_of l) c.as_slice.ensures ∙ first_bases rows in
+    let streams : vec_len c.in_ok-bases.bases ≡ length rows = omega (arith, ap length moved, length-bases_with rows []) in
+    rw (p.1, p.2) (inl (subst (λ (n : ℕ). TellsBlock (shape_of image) n image.first (length image.files) c.in_err-end.field-0.0) streams
+    (subst (λ (l : List ℕ). TellsBlock (shape_of image) (vec_len c.in_ok-bases.bases) image.first (length l) c.in_err-end.field-0.0) c.as_slice-files.ensures
+    (c.in_err-end.ensures.told rows [] (record { records = has; moved = moved })))))
+
+pub returns-in-Some-clause-told : goal.returns-in-Some-clause-told
+returns-in-Some-clause-told g c has =
+    let image = c.args.image in
+    let wrong : image_fault image (frontier c.place_behind-place.result) ≡ Some c.in-Some.at =
+    sym (ap (image_fault image) c.frontier.ensures) ∙ sym c.wrong_image.ensures ∙ c.in-Some.is in
+    inr (record {
+      place = c.place_behind-place.result;
+      last = let e = ap (λ (p : Place). p.container) c.place_behind-place.ensures in omega (arith, e, c.requires.image.some_listed);
+      at = c.in-Some.at;
+      wrong = wrong;
+      told = c.damaged_slot.ensures;
+    })
