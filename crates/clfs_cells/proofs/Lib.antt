@@ -5,3 +5,4 @@ mod Carrying
 mod Places
 mod Undoing
 mod OpenOnes
+mod Replaying

@@ -5,5 +5,6 @@ pub mod Kept
 pub mod Plans
 pub mod Calls
 pub mod Loading
+pub mod Loaded
 pub mod Lines
 pub mod Worked

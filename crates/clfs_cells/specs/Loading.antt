@@ -38,15 +38,19 @@ abbrev pub last_number : ℕ → List TxnRecord → ℕ
 last_number last [] = last
 last_number last (r ∷ records) = last_number (max last r.txn) records
 
+-- a restart area brought up to date by the records above it
+abbrev pub replayed : Checkpoint → List TxnRecord → Checkpoint
+replayed c records = record { cells = changed c.cells (committed records); last = last_number c.last records }
+
 -- what a store keeps that has just been loaded, of a restart area and the records above it
 abbrev pub memory_of : ℕ → ℕ → ℕ → Checkpoint → List TxnRecord → Memory
 memory_of client area stream c records = record {
   client = client;
   area = area;
   stream = stream;
-  cells = changed c.cells (committed records);
+  cells = (replayed c records).cells;
   transactions = [];
-  last = last_number c.last records;
+  last = (replayed c records).last;
 }
 
 -- Loading is refused. It leaves the client no area, unless the log is broken.
@@ -95,11 +99,18 @@ load_stream most client area stream info =
     else if info.restart == null_lsn then gives_up area (refusals.NotATable info.last)
     else load_table most client area stream
 
+-- The table's stream is opened, and the client gets an area on it. What comes then goes on by the numbers of both.
+abbrev pub in_table_area : (ℕ → ℕ → Plan Loaded) → Plan Loaded
+in_table_area rest = calls (log_calls.OpenStream table_name) (on_stream (λ refusal. ends (Err (refusals.Log refusal))) (λ stream.
+    calls (log_calls.CreateArea stream area_largest area_reads) (on_area (λ refusal. ends (Err (refusals.Log refusal))) (λ area. rest area stream))))
+
+-- what is done once there is the area: the stream is asked for, and its table is read
+abbrev pub load_area : ℕ → ℕ → ℕ → ℕ → Plan Loaded
+load_area most client area stream = calls (log_calls.Info stream) (on_info (stopped area) (load_stream most client area stream))
+
 -- loading for a client, of a log with so many records at most
 abbrev pub load_plan : ℕ → ℕ → Plan Loaded
-load_plan most client = calls (log_calls.OpenStream table_name) (on_stream (λ refusal. ends (Err (refusals.Log refusal))) (λ stream.
-    calls (log_calls.CreateArea stream area_largest area_reads) (on_area (λ refusal. ends (Err (refusals.Log refusal))) (λ area.
-    calls (log_calls.Info stream) (on_info (stopped area) (load_stream most client area stream))))))
+load_plan most client = in_table_area (load_area most client)
 
 -- Loading: what it may come to, and the log that it leaves.
 unfoldable pub LoadStep : Bool → State → ℕ → Loaded → State → Type 0

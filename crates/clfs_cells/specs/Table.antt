@@ -43,11 +43,13 @@ is_committed records txn = list_any (λ (r : TxnRecord). (r.txn == txn) && is_co
 abbrev pub committed : List TxnRecord → List TxnRecord
 committed records = filter (λ (r : TxnRecord). is_committed records r.txn) records
 
--- The table's records: those that the live records of the stream above its newest restart area spell, or all live records where there is none.
+-- the live records of the stream above its newest restart area, or all live records where there is none
+abbrev pub entries_after : State → ℕ → List LogEntry
+entries_after s stream = filter (λ (entry : LogEntry). nat_lt (lsn_or_null (newest_restart s stream)) entry.lsn) (live s stream)
+
+-- the table's records: those that these spell
 abbrev pub records_after : State → ℕ → List TxnRecord
-records_after s stream =
-    filter_map (λ (entry : LogEntry). txn_record_of entry.bytes)
-    (filter (λ (entry : LogEntry). nat_lt (lsn_or_null (newest_restart s stream)) entry.lsn) (live s stream))
+records_after s stream = filter_map (λ (entry : LogEntry). txn_record_of entry.bytes) (entries_after s stream)
 
 -- the cells of the newest restart area, or zeros where there is none
 abbrev pub first_cells : State → ℕ → List ℕ

@@ -20,9 +20,10 @@ use Rattle.clfs_cells.specs.Calls.{Answered, txn_plan}
 use Rattle.clfs_cells.specs.Layout.{txn_bytes, txn_record, checkpoint_bytes}
 use Rattle.clfs_cells.specs.Lines.{calls_of_lines, txn_reply_line, bad_line_reply}
 use Rattle.clfs_cells.specs.Loading.{Loaded, load_plan}
+use Rattle.clfs_cells.specs.Loaded.{load_refusal, last_of}
 use Rattle.clfs_cells.specs.Plans.{Ended, fine_end, end_without_memory}
 use Rattle.clfs_cells.specs.Stored.{Store, Transaction}
-use Rattle.clfs_cells.specs.Table.{table_with}
+use Rattle.clfs_cells.specs.Table.{table, table_with}
 
 -- the log of most rows: blocks of one sector, four containers of sixteen sectors, four write buffers
 abbrev pub worked_log : State
@@ -69,6 +70,15 @@ abbrev pub IsNotLoaded : State → TxnLoadRefusal → Type 0
 IsNotLoaded log refusal =
     (option_and_then (λ (ended : Ended Loaded). refused_in ended.value) (fine_load log) ≡ Some refusal)
     × (option_map (λ (ended : Ended Loaded). ended.log.areas) (fine_load log) ≡ Some [])
+    × (load_refusal log 1 ≡ Some refusal)
+
+-- A store is loaded from the log, and this is the number of its last transaction: what it has is what is said of the log.
+abbrev pub LastIs : State → ℕ → Type 0
+LastIs log last =
+    (option_map (λ (s : Store). s.memory.last) (loaded log) ≡ Some last)
+    × (option_map (λ (s : Store). s.memory.cells) (loaded log) ≡ Some (table log))
+    × (last_of log ≡ last)
+    × (load_refusal log 1 ≡ None)
 
 -- ---- calls
 

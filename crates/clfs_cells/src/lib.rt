@@ -15,6 +15,7 @@ mod dialogues;
 mod laws;
 mod layouts;
 mod memory;
+mod replay;
 mod row;
 mod tables;
 mod told;
@@ -32,6 +33,9 @@ pub use laws::{
 };
 pub use layouts::{bytes_of_records, bytes_of_restart_areas, lines_of_tables};
 pub use memory::{MOST_TRANSACTIONS, Memory};
+pub use replay::Replay;
 pub use row::{Action, Change, RECORD_BYTES, TxnRecord};
-pub use tables::{committed_cells, refusals_of_the_log, streams_of_others, tables_of_others};
+pub use tables::{
+    committed_cells, refusals_of_the_log, streams_of_others, tables_of_others, what_is_loaded,
+};
 pub use told::{TxnLoadRefusal, TxnRefusal, TxnReply};

@@ -112,6 +112,21 @@ impl Memory {
         }
     }
 
+    /// The client's area, once there is one.
+    pub fn set_area(&mut self, area: u16)
+        ensures { self.new ≡ record self.old { area = area } }
+    {
+        self.area = area;
+    }
+
+    /// The cells and the last number, as they were read from the log.
+    pub fn set_table(&mut self, table: &Checkpoint)
+        ensures { self.new ≡ record self.old { cells = table.now.cells; last = table.now.last } }
+    {
+        self.cells = table.cells;
+        self.last = table.last;
+    }
+
     /// How many transactions are open.
     pub fn open_now(&self) -> usize
         ensures count { result ≡ length self.now.transactions }

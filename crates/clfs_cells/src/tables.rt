@@ -4,7 +4,7 @@ ghost use Rattle.clfs_model.specs.declared.refusal.Refusal.TheVariants as log_re
 ghost use Rattle.clfs_cells.specs.declared.row.Action.TheVariants.{Set, Compensation, Commit, RolledBack};
 ghost use Rattle.clfs_cells.specs.declared.told.TxnLoadRefusal.TheVariants.{Log, NotATable};
 ghost use Rattle.clfs_cells.specs.Table.{table};
-ghost use Rattle.clfs_cells.specs.Worked.{worked_log, small_log, log_of_one, dedicated_log, made_by, ◌⟹◌, IsDialogue, IsNotLoaded, store_after, next_day, cells_in, table_and_open, cells_of, append_line, record_line, restart_line, checkpoint_line, foreign_log, first_day, one_of_two, three_sets};
+ghost use Rattle.clfs_cells.specs.Worked.{worked_log, small_log, log_of_one, dedicated_log, made_by, ◌⟹◌, IsDialogue, IsNotLoaded, LastIs, store_after, next_day, cells_in, table_and_open, cells_of, append_line, record_line, restart_line, checkpoint_line, foreign_log, first_day, one_of_two, three_sets};
 
 /// A log's table has what was committed, and nothing else, whatever reached the disk. A store's cells have what its open transactions did besides.
 pub fn committed_cells()
@@ -41,6 +41,17 @@ pub fn tables_of_others()
         ∷ codes "get 2" ⟹ codes "value 0"
         ∷ codes "begin 1" ⟹ codes "txn 10"
         ∷ []) }
+{}
+
+/// What is loaded is said of the log alone: the table, and the greatest number of a transaction in the newest restart area and above it, whatever the
+/// record says.
+pub fn what_is_loaded()
+    ensures new { LastIs worked_log 0 }
+    ensures committed { LastIs (next_day worked_log first_day) 1 }
+    ensures open_ones { LastIs (next_day worked_log one_of_two) 2 }
+    ensures by_a_compensation { LastIs (foreign_log (checkpoint_line 7 3 ++ (record_line 1 Commit
+        ++ record_line 9 (Compensation (record { cell = 1; old = 7; new = 6 }))))) 9 }
+    ensures below_a_restart_area { LastIs (foreign_log (record_line 40 Commit ++ checkpoint_line 7 3)) 3 }
 {}
 
 /// Streams that are no table: without a restart area the last record is told; else the restart area, or the first record above it of another layout.

@@ -10,4 +10,4 @@ use Rattle.clfs_cells.proofs.tables.streams_of_others.Goals as goal
 
 pub returns : goal.returns
 unfolding grown has_room fine_outcome request_in digits decode_pairs encode_with txn_call_in fine_load fine_call call_without_memory
-returns c = record { no_restart_area = (refl, refl); another_restart_area = (refl, refl); no_such_cell = (refl, refl) }
+returns c = record { no_restart_area = (refl, refl, refl); another_restart_area = (refl, refl, refl); no_such_cell = (refl, refl, refl) }

@@ -1,0 +1,19 @@
+use Rattle.std.proofs.Common.{refl}
+use Rattle.std.specs.Fmt.{digits}
+use Rattle.hex.specs.Hex.{decode_pairs, encode_with}
+use Rattle.clfs_model.specs.Space.{grown, has_room}
+use Rattle.clfs_model.specs.Run.{fine_outcome}
+use Rattle.clfs_model.specs.Script.{request_in}
+use Rattle.clfs_cells.specs.Lines.{txn_call_in}
+use Rattle.clfs_cells.specs.Worked.{fine_load, fine_call, call_without_memory}
+use Rattle.clfs_cells.proofs.tables.what_is_loaded.Goals as goal
+
+pub returns : goal.returns
+unfolding grown has_room fine_outcome request_in digits decode_pairs encode_with txn_call_in fine_load fine_call call_without_memory
+returns c = record {
+  new = (refl, refl, refl, refl);
+  committed = (refl, refl, refl, refl);
+  open_ones = (refl, refl, refl, refl);
+  by_a_compensation = (refl, refl, refl, refl);
+  below_a_restart_area = (refl, refl, refl, refl);
+}
