@@ -1,0 +1,127 @@
+-- A table's first restart area: what writing it leaves of the log.
+use Rattle.std.proofs.Common.{◌≡◌, ℕ, Bool, true, false, refl, ap, ◌∙◌, inl, inr, arith, List, [], ◌∷◌, ◌++◌, length, Option, Some}
+use Rattle.std.specs.Prelude.{◌&&◌, ◌==◌, filter, nat_lt}
+use Rattle.std.specs.Option.{option_map_or}
+use Rattle.std.proofs.lemmas.Bool.{cases_Bool, le-ltb}
+use Rattle.std.proofs.lemmas.List.Elements.{filter-append}
+use Rattle.clfs_lsn.specs.Lsn.{null_lsn}
+use Rattle.clfs_lsn.specs.Place.{joins, begins_here}
+use Rattle.clfs_lsn.specs.declared.entry.LogEntry.{LogEntry}
+use Rattle.clfs_lsn.specs.declared.stream.Stream.{Stream}
+use Rattle.clfs_model.specs.declared.state.Area.{Area}
+use Rattle.clfs_model.specs.declared.state.State.{State}
+use Rattle.clfs_model.specs.Answers.{restarted, restart_record}
+use Rattle.clfs_model.specs.Flush.{flush, seal}
+use Rattle.clfs_model.specs.Live.{is_live, live}
+use Rattle.clfs_model.specs.Put.{made_ready, need_of, next_lsn, put}
+use Rattle.clfs_model.specs.Refusals.{stream_number}
+use Rattle.clfs_model.specs.Space.{grown, grown_if}
+use Rattle.clfs_model.specs.State.{log_of}
+use Rattle.clfs_cells.specs.Layout.{blank_cells, blank_checkpoint, checkpoint_bytes}
+use Rattle.clfs_cells.specs.Table.{table, table_in, table_name}
+use Rattle.clfs_cells_laws.proofs.Ground.{cells_in}
+
+-- ---- a table is read of the records and the streams alone
+
+over : List Stream → List LogEntry → State
+over streams records = record (log_of 1 16 4 4) { streams = streams; records = records }
+
+pub table_by : (t u : State) → t.records ≡ u.records → t.streams ≡ u.streams → table t ≡ table u
+unfolding over
+table_by t u p q = ap (λ (records : List LogEntry). table (over t.streams records)) p ∙ ap (λ (streams : List Stream). table (over streams u.records)) q
+
+-- ---- what changes
+
+-- the records, the streams, the areas and whether the log is broken are as they were
+pub record KeepsLists (s t : State) : Type 0 where
+  pub records : t.records ≡ s.records
+  pub streams : t.streams ≡ s.streams
+  pub areas : t.areas ≡ s.areas
+  pub broken : t.broken ≡ s.broken
+
+keeps_same : (s : State) → KeepsLists s s
+keeps_same s = record { records = refl; streams = refl; areas = refl; broken = refl }
+
+keeps_then : (a b c : State) → KeepsLists a b → KeepsLists b c → KeepsLists a c
+keeps_then a b c first next = record {
+  records = next.records ∙ first.records;
+  streams = next.streams ∙ first.streams;
+  areas = next.areas ∙ first.areas;
+  broken = next.broken ∙ first.broken;
+}
+
+keeps_seal : (s : State) → KeepsLists s (seal s)
+keeps_seal s = elim (cases_Bool (nat_lt 0 s.place.records)) [
+  | inl open_block ↦ rw open_block (record { records = refl; streams = refl; areas = refl; broken = refl })
+  | inr empty ↦ rw empty (keeps_same s)
+]
+
+keeps_flush : (s : State) → KeepsLists s (flush s)
+keeps_flush s = let sealed = keeps_seal s in
+    record { records = sealed.records; streams = sealed.streams; areas = sealed.areas; broken = sealed.broken }
+
+keeps_ready : (s : State) (n : ℕ) → KeepsLists s (made_ready s n)
+keeps_ready s n = elim (cases_Bool (joins s.shape s.place n)) [
+  | inl joining ↦ rw joining (keeps_same s)
+  | inr begins ↦ rw begins (elim (cases_Bool (begins_here s.shape s.place n)) [
+    | inl here ↦ rw here (keeps_seal s)
+    | inr further ↦ rw further (keeps_flush s)
+  ])
+]
+
+keeps_grown_if : (grows : Bool) (s : State) (wanted : ℕ) → KeepsLists s (grown_if grows s wanted)
+keeps_grown_if true s wanted = record { records = refl; streams = refl; areas = refl; broken = refl }
+keeps_grown_if false s wanted = keeps_same s
+
+keeps_grown : (s : State) (need : ℕ) → KeepsLists s (grown s need)
+unfolding grown
+keeps_grown s need = keeps_grown_if _ s _
+
+-- the record that is put
+abbrev pub put_record : State → Area → List ℕ → LogEntry
+put_record s area bytes =
+    let before = grown s (need_of false (length bytes) []) in
+    record (restart_record s area bytes null_lsn) { lsn = next_lsn before (length bytes) }
+
+-- after a restart area the log has one record more
+pub record Restarted (s : State) (area : Area) (bytes : List ℕ) (t : State) : Type 0 where
+  pub records : t.records ≡ s.records ++ put_record s area bytes ∷ []
+  pub streams : t.streams ≡ s.streams
+  pub areas : t.areas ≡ s.areas
+  pub broken : t.broken ≡ s.broken
+
+pub restarts : (s : State) (area : Area) (bytes : List ℕ) → Restarted s area bytes (restarted s area bytes null_lsn false)
+restarts s area bytes =
+    let before = grown s (need_of false (length bytes) []) in
+    let grew = keeps_grown s (need_of false (length bytes) []) in
+    let ready = keeps_ready before (length bytes) in
+    let last = keeps_flush (put before (restart_record s area bytes null_lsn)) in
+    record {
+      records = last.records ∙ ap (λ (l : List LogEntry). l ++ put_record s area bytes ∷ []) grew.records;
+      streams = last.streams ∙ ready.streams ∙ grew.streams;
+      areas = last.areas ∙ ready.areas ∙ grew.areas;
+      broken = last.broken ∙ ready.broken ∙ grew.broken;
+    }
+
+-- ---- a table of zeros
+
+one_restart : (entry : LogEntry) (area : Area) (s : State) → entry ≡ put_record s area (checkpoint_bytes blank_checkpoint) → cells_in (entry ∷ []) ≡ blank_cells
+one_restart entry area s is =
+    let lsn : ℕ = next_lsn (grown s (need_of false 260 [])) 260 in
+    ap (λ (e : LogEntry). cells_in (e ∷ [])) is ∙ rw (le-ltb lsn lsn (omega arith)) refl
+
+-- a table of a stream that has no records but this
+pub zeros : (s t : State) (area : Area) (stream : ℕ) → stream_number s table_name ≡ Some stream → live s stream ≡ []
+    → Restarted s area (checkpoint_bytes blank_checkpoint) t → table t ≡ blank_cells
+zeros s t area stream numbered none made =
+    let entry : LogEntry = put_record s area (checkpoint_bytes blank_checkpoint) in
+    let u : State = record s { records = s.records ++ entry ∷ [] } in
+    let p : LogEntry → Bool = λ e. (e.stream == stream) && is_live s e in
+    let lives : live u stream ≡ filter p (entry ∷ []) = filter-append p s.records (entry ∷ []) ∙ ap (λ (l : List LogEntry). l ++ filter p (entry ∷ [])) none in
+    table_by t u made.records made.streams
+    ∙ ap (λ (o : Option ℕ). option_map_or (table_in u) o blank_cells) numbered
+    ∙ ap cells_in lives
+    ∙ elim (cases_Bool (p entry)) [
+      | inl is ↦ rw is (one_restart entry area s refl)
+      | inr other ↦ rw other refl
+    ]

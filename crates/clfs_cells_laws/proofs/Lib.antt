@@ -1,0 +1,12 @@
+mod Written
+mod Ways
+mod OwnArea
+mod Above
+mod Ground
+mod ReadBack
+mod Records
+mod Newest
+mod FirstRestart
+mod LoadArea
+mod Opening
+mod Loads
