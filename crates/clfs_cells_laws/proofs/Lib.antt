@@ -10,3 +10,4 @@ mod FirstRestart
 mod LoadArea
 mod Opening
 mod Loads
+mod Cut
