@@ -1,5 +1,6 @@
 mod Bare
 mod Blocks
 mod Grammar
+mod OpenEnds
 mod Searches
 mod Slots

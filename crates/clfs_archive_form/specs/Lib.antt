@@ -3,6 +3,7 @@ pub mod Copies
 pub mod Containers
 pub mod Archives
 pub mod Judging
+pub mod Drafting
 pub mod Reading
 pub mod Restoring
 pub mod Worked

@@ -17,7 +17,7 @@ use clfs_lsn::Shape;
 use std::alloc::Global;
 
 // The letters that an archive begins with.
-const MAGIC: [u8; 8] = *b"CLFSARC1";
+pub(crate) const MAGIC: [u8; 8] = *b"CLFSARC1";
 
 // Where the number of containers stands, and the first container.
 const COUNT_AT: usize = 16391;

@@ -1,14 +1,19 @@
 // Judging the blocks of an archive's containers where they stand, as the walk of opening judges those of files. Memory for one block's payload, and
 // for a base of each stream, serves all of them; no record is kept.
-ghost use Rattle.std.specs.Prelude.{◌≡◌, ◌+◌, ◌*◌, ◌^◌, ◌<◌, ◌≤◌, ℕ, length, Ok, Some, IfOk, replicate};
+ghost use Rattle.std.specs.Prelude.{◌≡◌, ◌+◌, ◌*◌, ◌^◌, ◌<◌, ◌≤◌, ℕ, List, length, drop, Ok, Err, Some, IfOk, IsErrOf, replicate};
 ghost use Rattle.clfs_lsn.specs.Format.{sector_bytes};
 ghost use Rattle.clfs_lsn.specs.Lsn.{lsn_number};
 ghost use Rattle.clfs_lsn.specs.Size.{IsShape};
+ghost use Rattle.clfs_lsn.specs.declared.entry.LogEntry.{LogEntry};
+ghost use Rattle.clfs_container.specs.OpenBlocks.{AreWhole, total};
 ghost use Rattle.clfs_block.specs.Checks.{frame_at};
 ghost use Rattle.clfs_block.specs.Records.{block_records};
 ghost use Rattle.clfs_block.specs.declared.head.BlockHead.{BlockHead};
+ghost use Rattle.clfs_block.specs.declared.head.BlockRefusal.TheVariants as blocks;
 ghost use Rattle.clfs_recover.specs.Stored.{stored_in};
+ghost use Rattle.clfs_recover.specs.declared.refusal.LoadRefusal.TheVariants.{NoBase, Damaged, DiskFault};
 ghost use Rattle.clfs_archive_form.specs.Containers.{blocks_in};
+ghost use Rattle.clfs_archive_form.specs.Drafting.{EndsAt};
 ghost use Rattle.clfs_archive_form.specs.Reading.{JudgesBlock, JudgesBlocks};
 
 use clfs_block::{blocks_are_read_as_written, records_are_read_of_their_block};
@@ -31,7 +36,7 @@ impl Gatherer for Nothing {
 
 /// What blocks are judged by, and the memory for it.
 #[derive(Drop)]
-pub(crate) struct Judge {
+pub struct Judge {
     shape: Shape,
     bases: Vec<Lsn>,
     payload: Bytes,
@@ -50,7 +55,7 @@ impl Model for Judge {
 }
 
 impl Judge {
-    // A judge of blocks in a log of this shape with so many streams.
+    /// A judge of blocks in a log of this shape with so many streams.
     pub fn new(alloc: Global, shape: &Shape, streams: u16) -> Result<Judge, AllocError>
         requires { IsShape shape.now }
         ensures { IfOk result (λ judge. judge ≡ record { shape = shape.now; streams = streams }) }
@@ -64,7 +69,7 @@ impl Judge {
         })
     }
 
-    // The log's shape.
+    /// The log's shape.
     pub fn shape(&self) -> &Shape
         ensures is { result.now ≡ self.now.shape }
         ensures shape { IsShape result.now }
@@ -84,6 +89,7 @@ impl Judge {
             (block_records self.old.shape self.old.streams (lsn_number place.now.container place.now.offset 0) bytes.now) }
         ensures framed { (sectors : ℕ) → result ≡ Ok (Some sectors) → (head : BlockHead)
             × (frame_at self.old.shape (lsn_number place.now.container place.now.offset 0) bytes.now ≡ Ok head) × (head.sectors ≡ sectors) }
+        ensures no_fault { IsErrOf result DiskFault → ⊥ }
         ensures same { self.new ≡ self.old }
     {
         gather_block(
@@ -97,7 +103,7 @@ impl Judge {
         )
     }
 
-    // Judges all bytes as the blocks of a container, one behind the other; a closed gate is damage.
+    /// Judges all bytes as the blocks of a container, one behind the other; a closed gate is damage.
     pub fn blocks(&mut self, alloc: Global, id: u32, bytes: &[u8]) -> Result<(), LoadRefusal>
         requires { length bytes.now < 2 ^ 31 }
         ensures exact { JudgesBlocks result (stored_in self.old.shape self.old.streams id 0 (blocks_in bytes.now)) }
@@ -118,5 +124,35 @@ impl Judge {
             }
         }
         Ok(())
+    }
+
+    /// Where the open blocks end that a container's file begins with, whose bytes these are: at a closed gate, or with the container. Each is judged
+    /// as opening judges it.
+    pub fn open_end(&mut self, alloc: Global, id: u32, bytes: &[u8]) -> Result<u32, LoadRefusal>
+        requires { length bytes.now < 2 ^ 31 }
+        ensures found { (blocks : List (List ℕ)) (entries : List LogEntry) → AreWhole self.old.shape.container_sectors bytes.now blocks
+            → stored_in self.old.shape self.old.streams id 0 blocks ≡ Ok entries → EndsAt result (total blocks) }
+        ensures end { IfOk result (λ end. end ≤ length bytes.now) }
+        ensures damage { (container offset at : ℕ) → result ≡ Err (Damaged container offset at) → (container ≡ id)
+            × (block_records self.old.shape self.old.streams (lsn_number id offset 0) (drop offset bytes.now) ≡ Err (blocks.BadByte at)) }
+        ensures no_fault { (result ≡ Err NoBase → ⊥) × (result ≡ Err DiskFault → ⊥) }
+        ensures same { self.new ≡ self.old }
+    {
+        blocks_are_read_as_written();
+        records_are_read_of_their_block();
+        let end = SECTOR * self.shape.container_sectors;
+        let mut offset = 0;
+        while offset < end {
+            let place = BlockPlace {
+                container: id,
+                offset,
+            };
+            let rest = bytes.split_at(offset as usize).1;
+            match self.block(alloc, &place, rest)? {
+                Some(sectors) => offset += SECTOR * sectors,
+                None => break,
+            }
+        }
+        Ok(offset)
     }
 }

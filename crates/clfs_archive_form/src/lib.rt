@@ -8,6 +8,9 @@
 //! The last base copy says what the log is, and of a container that comes more than once the last copy counts. `missing_container` tells a container
 //! that is listed and not there, `bounds` between which LSNs the log can be cut off, and `choose_up_to` where it is. The state that is restored then is
 //! defined in specs/Restoring.antt; who makes files of it writes them so that they stand for it.
+//!
+//! Who writes an archive puts it together as a `Draft`, which counts an archive to its end that has more bytes than it may have and keeps no more of
+//! it; `Judge::open_end` tells where the open blocks of a container's file end, and judges them as opening the log does.
 #![tactic(auto)]
 
 mod archive;
@@ -15,6 +18,7 @@ mod archives;
 mod choosing;
 mod containers;
 mod copies;
+mod draft;
 mod judge;
 mod refusal;
 mod rows;
@@ -22,6 +26,8 @@ mod rows;
 pub use archive::{Archive, Containers, Stored};
 pub use archives::read_archives;
 pub use choosing::{bounds, choose_up_to, missing_container};
+pub use draft::{Draft, MOST_BYTES, TooLong, archived};
+pub use judge::Judge;
 pub use refusal::InputRefusal;
 pub use rows::{
     archive_of_a_small_log, bounds_of_small_archives, containers_of_an_archive,

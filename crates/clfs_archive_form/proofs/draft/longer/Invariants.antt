@@ -1,0 +1,5 @@
+use Rattle.std.proofs.Common.{◌++◌}
+use Rattle.clfs_archive_form.proofs.draft.longer.Given as goal
+
+abbrev pub ghost-next : goal.ghost-next
+ghost-next a = a.self.now.value ++ a.with.now.now
