@@ -1,0 +1,6 @@
+mod Pieces
+mod Fronts
+mod Found
+mod Joining
+mod Listing
+mod Archived

@@ -1,0 +1,36 @@
+use Rattle.std.proofs.Common.{◌≡◌, ℕ, List, Option, Some, None, Result, Ok, Err, sym, ◌∙◌, ap, arith}
+use Rattle.std.proofs.lemmas.Result.{err_from_is_err_and}
+use Rattle.clfs_base.specs.Slots.{slot_of}
+use Rattle.clfs_base.specs.declared.refusal.NewestRefusal.TheVariants as newest
+use Rattle.clfs_restore.proofs.Found.{same_slot, copy_found, copy_wrong, no_slot, no_copy}
+use Rattle.clfs_restore.proofs.copy.newest_in.Goals as goal
+
+pub returns-in_err-slot-clause-copy : goal.returns-in_err-slot-clause-copy
+returns-in_err-slot-clause-copy c file is =
+    let p = err_from_is_err_and c.from_residual.result c.from_residual.ensures.1 in
+    let first = c.slot_of.ensures ∙ ap (λ (l : List ℕ). slot_of l 0) is ∙ same_slot file 0 (omega arith) in
+    let second = c.slot_of-2.ensures ∙ ap (λ (l : List ℕ). slot_of l 1) is ∙ same_slot file 1 (omega arith) in
+    let none = c.in_err-slot.ensures.used file first second in
+    rw (p.1, p.2) (no_copy c.in_err-slot.field-0.0 _ (none.0, no_slot file none.0 none.1))
+
+pub returns-in-Ok-clause-copy : goal.returns-in-Ok-clause-copy
+returns-in-Ok-clause-copy c file is =
+    let slot = c.in_ok-slot.slot in
+    let first = c.slot_of.ensures ∙ ap (λ (l : List ℕ). slot_of l 0) is ∙ same_slot file 0 (omega arith) in
+    let second = c.slot_of-2.ensures ∙ ap (λ (l : List ℕ). slot_of l 1) is ∙ same_slot file 1 (omega arith) in
+    let used = c.in_ok-slot.ensures.used file first second in
+    let there = c.slot_of-bytes.ensures ∙ ap (λ (l : List ℕ). slot_of l slot) is ∙ same_slot file slot c.in_ok-slot.ensures.slot in
+    (slot, copy_found file c.slot_of-bytes.result.now slot c.in-Ok.image used there c.in-Ok.ensures.exact.0 c.in-Ok.ensures.exact.1)
+
+pub returns-in-Err-BadByte-clause-copy : goal.returns-in-Err-BadByte-clause-copy
+returns-in-Err-BadByte-clause-copy c file is =
+    let slot = c.in_ok-slot.slot in
+    let first = c.slot_of.ensures ∙ ap (λ (l : List ℕ). slot_of l 0) is ∙ same_slot file 0 (omega arith) in
+    let second = c.slot_of-2.ensures ∙ ap (λ (l : List ℕ). slot_of l 1) is ∙ same_slot file 1 (omega arith) in
+    let used = c.in_ok-slot.ensures.used file first second in
+    let there = c.slot_of-bytes.ensures ∙ ap (λ (l : List ℕ). slot_of l slot) is ∙ same_slot file slot c.in_ok-slot.ensures.slot in
+    rw c.wrong_slot.ensures (
+      newest.BadByte slot c.in-Err-BadByte.at,
+      copy_wrong file c.slot_of-bytes.result.now slot c.in-Err-BadByte.at used there
+          (rw c.in-Err-BadByte.field-0-is at c.in-Err-BadByte.ensures.exact),
+    )
