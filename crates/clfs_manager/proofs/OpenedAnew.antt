@@ -1,7 +1,8 @@
 -- A log that was opened anew, or that wasn't.
-use Rattle.std.proofs.Common.{◌≡◌, ℕ, Bool, true, false, refl, sym, subst, ◌∙◌, inl, inr, Ok, Err}
+use Rattle.std.proofs.Common.{◌≡◌, ℕ, Bool, true, false, [], refl, sym, subst, ◌∙◌, inl, inr, Ok, Err, arith}
 use Rattle.std.specs.Prelude.{IsErrOf}
 use Rattle.clfs_disk.specs.Files.{Files, Unchanged}
+use Rattle.clfs_base.specs.declared.refusal.NewestRefusal.TheVariants as newest
 use Rattle.clfs_disk.specs.State.{DiskState, TellsContents, IsSteady, Passes, Rises}
 use Rattle.clfs_model.specs.declared.refusal.Refusal.{Refusal}
 use Rattle.clfs_model.specs.declared.refusal.Refusal.TheVariants as refusals
@@ -11,11 +12,12 @@ use Rattle.clfs_model.specs.Happened.{happened_of_refusal}
 use Rattle.clfs_model.specs.Step.{ReopenStep}
 use Rattle.clfs_recover.specs.Files.{StandsFor, IsDamaged, HasNoBase}
 use Rattle.clfs_recover.specs.Opening.{IsRefused}
+use Rattle.clfs_recover.specs.Telling.{TellsOpening}
 use Rattle.clfs_recover.specs.declared.refusal.LoadRefusal.{LoadRefusal}
 use Rattle.clfs_recover.specs.declared.refusal.LoadRefusal.TheVariants.{NoBase, Damaged, DiskFault, NoMemory}
 use Rattle.clfs_manager.specs.Fetching.{LeavesState, OnlyReads}
 use Rattle.clfs_manager.specs.OnDisk.{IsManaged}
-use Rattle.clfs_manager.specs.Reopening.{HoldsFlushed, refused_as}
+use Rattle.clfs_manager.specs.Reopening.{HoldsFlushed, TellsPlace, refused_as}
 use Rattle.clfs_manager.specs.declared.log.Log.{Log}
 use Rattle.clfs_manager.proofs.FilesHold.{reopens}
 use Rattle.clfs_manager.proofs.FlushKeeps.{ReopensValid, ReopensStorable, managed_broken}
@@ -104,4 +106,19 @@ quiet_reads disk still = record {
   damage = λ tells container offset at e. cc e;
   cause = λ e. absurd (cc e);
   steady = λ calm. (λ e. cc e, refl);
+}
+
+-- Damage is told as opening tells it.
+pub refused_place : (refusal : LoadRefusal) → TellsOpening refusal → TellsPlace (refused_as refusal)
+refused_place NoBase told = record { reason = NoBase; told = told; is = refl }
+refused_place (Damaged container offset at) told = record { reason = Damaged container offset at; told = told; is = refl }
+refused_place DiskFault told = tt
+refused_place NoMemory told = tt
+
+-- Want of memory is told by no bytes.
+pub memory_told : TellsOpening NoMemory
+memory_told = record {
+  newest = Err newest.NoMemory;
+  copy = record { first = []; second = []; bytes = []; few_first = omega arith; few_second = omega arith; few = omega arith; read = tt };
+  told = refl;
 }

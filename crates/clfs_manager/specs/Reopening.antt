@@ -1,10 +1,12 @@
 -- Opening a log anew: why it is refused, and what files hold of a log.
+use Rattle.std.specs.Prelude.{◌≡◌}
 use Rattle.clfs_disk.specs.Files.{Files}
 use Rattle.clfs_model.specs.declared.refusal.Refusal.{Refusal}
 use Rattle.clfs_model.specs.declared.refusal.Refusal.TheVariants as refusals
 use Rattle.clfs_model.specs.declared.state.State.{State}
 use Rattle.clfs_model.specs.Flush.{cut, IsSame}
 use Rattle.clfs_recover.specs.Files.{StandsFor}
+use Rattle.clfs_recover.specs.Telling.{TellsOpening}
 use Rattle.clfs_recover.specs.declared.refusal.LoadRefusal.{LoadRefusal}
 use Rattle.clfs_recover.specs.declared.refusal.LoadRefusal.TheVariants.{NoBase, Damaged, DiskFault, NoMemory}
 
@@ -20,3 +22,13 @@ pub record HoldsFlushed (files : Files) (s : State) : Type 0 where
   pub opened : State
   pub stands : StandsFor files opened
   pub same : IsSame (cut s) opened
+
+-- Damage is told for a reason that opening tells.
+pub record TellsReason (refusal : Refusal) : Type 0 where
+  pub reason : LoadRefusal
+  pub told : TellsOpening reason
+  pub is : refusal ≡ refused_as reason
+
+abbrev pub TellsPlace : Refusal → Type 0
+TellsPlace (refusals.Damaged container offset at) = TellsReason (refusals.Damaged container offset at)
+TellsPlace _ = Unit {0}

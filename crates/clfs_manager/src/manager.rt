@@ -11,6 +11,7 @@ ghost use Rattle.clfs_model.specs.Storable.{IsStorable};
 ghost use Rattle.clfs_model.specs.Valid.{IsValid};
 ghost use Rattle.clfs_recover.specs.Files.{StandsFor, AreWholeFiles, state_of};
 ghost use Rattle.clfs_recover.specs.Opening.{IsRefused, told_parts};
+ghost use Rattle.clfs_recover.specs.Telling.{TellsOpening};
 ghost use Rattle.clfs_manager.specs.Formatting.{open_slot_of, ComesAtOnce, KeepsLog, making_calls};
 
 use crate::format::format_disk;
@@ -136,6 +137,9 @@ impl<D: Disk> Manager<D> {
         // A refusal is what opening finds in the files: that no slot is open, or the first place of damage.
         ensures refused { IfErr result (λ refused. TellsContents (D.state disk) → IsRefused (D.state disk).files refused.cause) }
 
+        // Whatever the disk, damage is told of some bytes that fail at just that place: of a base copy, or of a block of a container that it lists.
+        ensures place { IfErr result (λ refused. TellsOpening refused.cause) }
+
         // No file changes.
         ensures same { IfOk result (λ manager. Unchanged (D.state disk).files (D.state manager.1).files
             × Passes Unchanged (D.state disk) (D.state manager.1)) }
@@ -173,6 +177,9 @@ impl<D: Disk> Manager<D> {
 
         // A refusal is what opening finds in the files: that no slot is open, or the first place of damage.
         ensures refused { IfErr result (λ refused. TellsContents (D.state disk) → IsRefused (D.state disk).files refused.cause) }
+
+        // Whatever the disk, damage is told of some bytes that fail at just that place: of a base copy, or of a block of a container that it lists.
+        ensures place { IfErr result (λ refused. TellsOpening refused.cause) }
 
         // No file changes.
         ensures same { IfOk result (λ manager. Unchanged (D.state disk).files (D.state manager.1).files

@@ -11,11 +11,12 @@ ghost use Rattle.clfs_model.specs.Run.{reopens};
 ghost use Rattle.clfs_model.specs.Step.{ReopenStep};
 ghost use Rattle.clfs_recover.specs.Files.{StandsFor};
 ghost use Rattle.clfs_recover.specs.Opening.{IsRefused};
+ghost use Rattle.clfs_recover.specs.Telling.{TellsOpening};
 ghost use Rattle.clfs_manager.specs.Calls.{replied};
 ghost use Rattle.clfs_manager.specs.Crashes.{CrashSurvives};
 ghost use Rattle.clfs_manager.specs.Fetching.{LeavesState, OnlyReads};
 ghost use Rattle.clfs_manager.specs.OnDisk.{IsManaged};
-ghost use Rattle.clfs_manager.specs.Reopening.{refused_as};
+ghost use Rattle.clfs_manager.specs.Reopening.{TellsPlace, refused_as};
 
 use crate::fetching::break_log;
 use crate::log::{Log, open_log};
@@ -50,6 +51,7 @@ pub(crate) fn read_log<D: Disk>(
     ensures stable { IfOk result (λ log. cut log.state.value ≡ log.state.value) }
     ensures unbroken { IfOk result (λ log. log.broken ≡ false) }
     ensures refused { IfErr result (λ refusal. TellsContents (D.state disk.old) → IsRefused (D.state disk.old).files refusal) }
+    ensures place { IfErr result TellsOpening }
     ensures same { Unchanged (D.state disk.old).files (D.state disk.new).files }
     ensures time { Passes Unchanged (D.state disk.old) (D.state disk.new) }
     ensures cause { IsErrOf result LoadRefusal.DiskFault → Rises (D.state disk.old).faults (D.state disk.new).faults }
@@ -119,6 +121,9 @@ impl<D: Disk> Manager<D> {
         // No file changes. Damage is told only over a disk that doesn't tell what its files hold; a fault only where the disk failed in the call, and
         // never over a steady disk.
         ensures reads { OnlyReads result (D.state self.old.1) (D.state self.new.1) }
+
+        // Damage is told of some bytes that fail at just that place: of a base copy, or of a block of a container that it lists.
+        ensures place { IfErr result TellsPlace }
         ensures moments { (client : ℕ) → CrashSurvives (reopens client) self.old.0 (D.state self.old.1) (D.state self.new.1) }
         ensures stopped { self.old.0.broken ≡ true → self.new.1 ≡ self.old.1 }
     {

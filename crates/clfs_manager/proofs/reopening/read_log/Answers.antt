@@ -1,8 +1,10 @@
 use Rattle.clfs_manager.proofs.Settled.{honest_before}
 use Rattle.std.proofs.Common.{◌∙◌, refl, sym}
+use Rattle.std.proofs.lemmas.Result.{err_from_is_err_and}
 use Rattle.clfs_recover.specs.Files.{state_of}
 use Rattle.clfs_recover.specs.Opening.{told_parts}
 use Rattle.clfs_manager.proofs.OpenedOnDisk.{AreListed, found_files, opened_open}
+use Rattle.clfs_manager.proofs.OpenedAnew.{memory_told}
 use Rattle.clfs_manager.proofs.reopening.read_log.Goals as goal
 
 pub returns-clause-managed : goal.returns-clause-managed
@@ -42,3 +44,8 @@ returns-clause-stable g c =
 
 pub returns-clause-steady : goal.returns-clause-steady
 returns-clause-steady g c = λ steady. (λ e. cc e, (c.in_ok-opened.ensures.steady steady).1)
+
+pub returns-in_err-log-clause-place : goal.returns-in_err-log-clause-place
+returns-in_err-log-clause-place g c =
+    let p = err_from_is_err_and c.from_residual-in_err-log.result c.from_residual-in_err-log.ensures.1 in
+    rw (p.1, p.2) memory_told

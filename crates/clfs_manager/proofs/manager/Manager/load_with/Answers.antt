@@ -1,6 +1,7 @@
 use Rattle.std.proofs.Common.{◌∙◌, refl, sym}
 use Rattle.clfs_recover.specs.Files.{state_of}
 use Rattle.clfs_recover.specs.Opening.{told_parts}
+use Rattle.clfs_manager.proofs.OpenedAnew.{memory_told}
 use Rattle.clfs_manager.proofs.OpenedOnDisk.{AreListed, found_files, opened_open}
 use Rattle.clfs_manager.proofs.Settled.{honest_before}
 use Rattle.clfs_manager.proofs.manager.Manager.load_with.Goals as goal
@@ -49,3 +50,6 @@ pub returns-in-Ok-open_log-clause-stable : goal.returns-in-Ok-open_log-clause-st
 returns-in-Ok-open_log-clause-stable g c =
     let files = c.logs_are_found_in_files.ensures.state (told_parts c.in-Ok.opened) c.args.write_buffers c.in-Ok.ensures.log.1.log in
     rw c.in-Ok-open_log.ensures.state (c.opened_states_are_cut.ensures.cut files.0 _ files.1)
+
+pub returns-in-Err-open_log-clause-place : goal.returns-in-Err-open_log-clause-place
+returns-in-Err-open_log-clause-place g c = memory_told

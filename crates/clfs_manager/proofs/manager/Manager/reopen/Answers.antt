@@ -2,7 +2,7 @@ use Rattle.std.proofs.Common.{◌∙◌}
 use Rattle.clfs_model.specs.declared.reply.Happened.TheVariants.{Fine}
 use Rattle.clfs_manager.proofs.FilesHold.{files_hold, reopened, reopens_broken}
 use Rattle.clfs_manager.proofs.Intact.{intact_managed}
-use Rattle.clfs_manager.proofs.OpenedAnew.{managed_refused, refused_reopens, refused_reads, answered_reads}
+use Rattle.clfs_manager.proofs.OpenedAnew.{managed_refused, refused_place, refused_reopens, refused_reads, answered_reads}
 use Rattle.clfs_manager.proofs.ReadSteps.{broken_in}
 use Rattle.clfs_manager.proofs.manager.Manager.reopen.Goals as goal
 
@@ -59,6 +59,9 @@ returns-in-Err-clause-reads g c =
     (λ tells. files_hold c.logs_are_copies_and_blocks.ensures.stands c.logs_are_copies_and_blocks.ensures.by_file c.opening_anew_comes_to_the_cut.ensures.step
     c.the_holds_container_never_falls.ensures.reopening s log.physical opened.blocks old.files managed.valid managed.storable whole opened.stored (opened.files tells))
     read.refused read.same read.time read.cause read.steady))
+
+pub returns-in-Err-clause-place : goal.returns-in-Err-clause-place
+returns-in-Err-clause-place g c = rw c.refuse.ensures.refusal (refused_place c.in-Err.refusal c.in-Err.ensures.place)
 
 pub returns-in-Err-clause-moments : goal.returns-in-Err-clause-moments
 returns-in-Err-clause-moments g c = λ client.
