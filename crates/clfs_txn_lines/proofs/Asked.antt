@@ -1,0 +1,53 @@
+-- What a call of a store answered, as the answer to what a line asks for.
+use Rattle.std.proofs.Common.{◌≡◌, ◌∙◌, Result, Ok, Err, true, ap, sym, subst}
+use Rattle.std.specs.Prelude.{IsErrOf, OnErr}
+use Rattle.clfs_disk.specs.State.{DiskState}
+use Rattle.clfs_model.specs.declared.refusal.Refusal.TheVariants as log_refusals
+use Rattle.clfs_manager.specs.Written.{WritesDisk}
+use Rattle.clfs_cells.specs.declared.asked.TxnCall.{TxnCall}
+use Rattle.clfs_cells.specs.declared.told.TxnRefusal.{TxnRefusal}
+use Rattle.clfs_cells.specs.declared.told.TxnRefusal.TheVariants.{Log}
+use Rattle.clfs_cells.specs.declared.told.TxnReply.{TxnReply}
+use Rattle.clfs_cells.specs.declared.told.TxnReply.TheVariants.{Refused}
+use Rattle.clfs_cells.specs.Calls.{TxnStep}
+use Rattle.clfs_cells.specs.Stored.{Store}
+use Rattle.clfs_txn.specs.Calls.{TxnSteps, replied}
+use Rattle.clfs_txn_lines.specs.Answered.{AnswersAsked, fault_reply}
+
+-- a refusal that tells a fault is such a reply
+fault_reply_of : (A : Type 0) (answer : A → TxnReply) (result : Result A TxnRefusal) (reply : TxnReply) → reply ≡ replied answer result
+    → IsErrOf result (Log log_refusals.DiskFault) → reply ≡ fault_reply
+fault_reply_of A answer result reply is fault = is ∙ ap (λ (r : Result A TxnRefusal). replied answer r) fault
+
+-- such a reply is of a refusal that tells a fault
+fault_of_reply : {A : Type 0} (answer : A → TxnReply) (result : Result A TxnRefusal) (reply : TxnReply) → ((value : A) → answer value ≡ fault_reply → ⊥)
+    → reply ≡ replied answer result → reply ≡ fault_reply → IsErrOf result (Log log_refusals.DiskFault)
+fault_of_reply answer (Ok value) reply never is fault = absurd (never value (sym is ∙ fault))
+fault_of_reply answer (Err refusal) reply never is fault = let same : Refused refusal ≡ fault_reply = sym is ∙ fault in cc same
+
+writes_as : (old new : DiskState) (P Q : Type 0) → (P → Q) → (Q → P) → WritesDisk P old new → WritesDisk Q old new
+writes_as old new P Q to from writes = record {
+  time = writes.time;
+  cause = λ fault. writes.cause (from fault);
+  whole = λ none. writes.whole (λ fault. none (to fault));
+  steady = λ steady told whole. let fine = writes.steady steady told whole in (λ fault. fine.0 (from fault), fine.1);
+}
+
+pub answered_as : {A : Type 0} (D : Type 0) (state : D → DiskState) (old new : D) (s t : Store) (call : TxnCall) (answer : A → TxnReply) (result : Result A TxnRefusal) (reply : TxnReply)
+    → ((value : A) → answer value ≡ fault_reply → ⊥) → reply ≡ replied answer result → TxnSteps (state old).nature.tells_contents s call answer result t
+    → WritesDisk (IsErrOf result (Log log_refusals.DiskFault)) (state old) (state new) → (s.log.broken ≡ true → new ≡ old)
+    → AnswersAsked s (state old) (Ok call) reply t (state new)
+answered_as D state old new s t call answer result reply never is step writes stopped = record {
+  step = subst (λ (r : TxnReply). TxnStep (state old).nature.tells_contents s call r t) (sym is) step;
+  writes = writes_as (state old) (state new) (IsErrOf result (Log log_refusals.DiskFault)) (reply ≡ fault_reply)
+      (fault_reply_of _ answer result reply is) (fault_of_reply answer result reply never is) writes;
+  stopped = λ broken. record {
+    clock = ap (λ (d : D). (state d).clock) (stopped broken);
+    images = λ moment image at. subst (λ (d : D). (state d).image_at moment image) (stopped broken) at;
+  };
+}
+
+-- what is so holds also if there is an error
+pub if_refused : {T E P : Type 0} (result : Result T E) → P → OnErr result P
+if_refused (Ok value) holds = tt
+if_refused (Err e) holds = holds
