@@ -1,4 +1,6 @@
-use clfs_command::{Command, ScriptLength, WordsRefusal, form_of, help_text, read_command};
+use clfs_command::{
+    Command, DataWord, DumpOptions, ScriptLength, WordsRefusal, form_of, help_text, read_command,
+};
 use clfs_lsn::Shape;
 use std::alloc::{AllocError, Global};
 
@@ -12,10 +14,19 @@ fn owned(alloc: Global, line: &str) -> Result<Vec<String>, AllocError> {
     Ok(words)
 }
 
+// Two commands are the same.
+fn are_same(command: &Command, want: &Command) -> bool {
+    command == want
+}
+
 // The words of a line name this command, or none.
 fn is_read_as(alloc: Global, line: &str, want: Option<Command>) -> Result<bool, AllocError> {
     let words = owned(alloc, line)?;
-    Ok(read_command(alloc, &words) == want.ok_or(WordsRefusal::Usage))
+    Ok(match (read_command(alloc, &words), want) {
+        (Ok(command), Some(want)) => are_same(&command, &want),
+        (Err(WordsRefusal::Usage), None) => true,
+        _ => false,
+    })
 }
 
 // Blocks of 2 sectors in containers of 8.
@@ -434,6 +445,89 @@ fn words_of_crowds(rt: HostRuntime) -> Result<(), AllocError> {
     Ok(())
 }
 
+// What is asked for of a dump: the two LSNs as numbers, the name and the form of data.
+type Wanted = (Option<u64>, Option<u64>, Option<&'static str>, DataWord);
+
+// Words beside what they ask for of a dump, or none.
+const DUMPS: [(&str, Option<Wanted>); 22] = [
+    ("dump", Some((None, None, None, DataWord::Hex))),
+    ("dump --", Some((None, None, None, DataWord::Hex))),
+    (
+        "dump --from 1:200:0",
+        Some((Some(4294967808), None, None, DataWord::Hex)),
+    ),
+    (
+        "dump --to=ffffffff:0:0 --from 0:0:0",
+        Some((Some(0), Some(18446744069414584320), None, DataWord::Hex)),
+    ),
+    (
+        "dump --stream a --data text",
+        Some((None, None, Some("a"), DataWord::Text)),
+    ),
+    (
+        "dump --data none --stream=-a",
+        Some((None, None, Some("-a"), DataWord::Nothing)),
+    ),
+    (
+        "dump --data=hex --to 1:0:1 --stream 0123456789012345678901234567890123456789012345678901234567890123",
+        Some((
+            None,
+            Some(4294967297),
+            Some("0123456789012345678901234567890123456789012345678901234567890123"),
+            DataWord::Hex,
+        )),
+    ),
+    (
+        "dump --stream 01234567890123456789012345678901234567890123456789012345678901234",
+        None,
+    ),
+    ("dump --stream ", None),
+    ("dump --stream=", None),
+    ("dump --stream", None),
+    ("dump --stream -a", None),
+    ("dump --from 1:200", None),
+    ("dump --from 1:1:0", None),
+    ("dump --from -", None),
+    ("dump --to 1:200:0 --to 1:200:0", None),
+    ("dump --data", None),
+    ("dump --data Hex", None),
+    ("dump --data raw", None),
+    ("dump --fro 1:200:0", None),
+    ("dump x", None),
+    ("dumps", None),
+];
+
+// Words ask for this of a dump.
+fn asks_for(options: &DumpOptions, want: &Wanted) -> bool {
+    let (from, to, stream, form) = want;
+    let name = match &options.stream {
+        Some(name) => Some(name.as_slice()),
+        None => None,
+    };
+    options.from.map(|lsn| lsn.number()) == *from
+        && options.to.map(|lsn| lsn.number()) == *to
+        && name == stream.map(|name| name.as_bytes())
+        && options.form == *form
+}
+
+// The words of a line name a dump of this, or no command.
+fn is_dump(alloc: Global, line: &str, want: Option<Wanted>) -> Result<bool, AllocError> {
+    let words = owned(alloc, line)?;
+    Ok(match (read_command(alloc, &words), want) {
+        (Ok(Command::Dump(options)), Some(want)) => asks_for(&options, &want),
+        (Err(WordsRefusal::Usage), None) => true,
+        _ => false,
+    })
+}
+
+#[test]
+fn words_of_dumps(rt: HostRuntime) -> Result<(), AllocError> {
+    for (line, want) in DUMPS {
+        assert!(rt; is_dump(rt.alloc(), line, want)?, "{line}");
+    }
+    Ok(())
+}
+
 const CHECKS: [(&str, Option<Command>); 12] = [
     ("check", Some(Command::Check)),
     ("check --", Some(Command::Check)),
@@ -472,6 +566,7 @@ Commands:
   crew    Appends in threads by permits of one shared area, over a log in memory
   check   Judges the log in FOLDER and tells what is in it, or where it is broken
   crowd   Appends in threads that share their flushes, over a log in memory
+  dump    Prints the log in FOLDER as text, or up to where it is broken
 
 Options may stand in any order, as --containers 4 or --containers=4; numbers are decimal, without a sign or a zero in front.
 Status 1: the words are no command, and standard error says which are.
@@ -551,6 +646,20 @@ Arguments:
 
 Looks at no folder, and reads nothing. What isn't counted lacked memory.
 Status 0: the line is printed. 3: standard output can't be written. 5: out of memory.
+
+Prints the log in FOLDER as text, or up to where it is broken
+
+Usage: clfs FOLDER dump [OPTIONS]
+
+Options:
+      --from <LSN>     Prints no record below this LSN, as 1:200:0
+      --to <LSN>       Prints no record at this LSN or above
+      --stream <NAME>  Prints the records of the stream of this name alone, 1 to 64 bytes
+      --data <FORM>    How data are printed: hex, text or none [default: hex]
+
+Writes nothing to the log. It is printed up to its end, or up to the first wrong byte, which is then named; all of it is judged, whatever is printed.
+Without an option all records are printed, dead ones too. If no stream has the name, none is.
+Status 0: a log is there. 3: standard output can't be written. 4: disk fault. 5: out of memory. 6: not a log.
 ";
 
 #[test]
@@ -561,18 +670,22 @@ fn what_the_help_says(rt: HostRuntime) -> Result<(), AllocError> {
 }
 
 // Words, and what is said of them: they are no command.
-const FORMS: [(&str, &str); 3] = [
+const FORMS: [(&str, &str); 4] = [
     (
         "",
         "clfs: FOLDER and a command are needed; clfs --help has them",
     ),
     (
         "forma",
-        "clfs: forma is no command: behind FOLDER stands format, serve, race, trial, crew, check or crowd",
+        "clfs: forma is no command: after FOLDER comes format, serve, race, trial, crew, check, crowd or dump",
     ),
     (
         "trial 1 0",
         "clfs: trial takes NUMBER, 0 to 4294967295, and COUNT, 1 to 100000; each is given once, and numbers are decimal, without a sign or a zero in front",
+    ),
+    (
+        "dump --from 1",
+        "clfs: dump takes --from LSN, as 1:200:0, or not; --to LSN or not; --stream NAME, 1 to 64 bytes, or not; and --data hex, text or none, or not; each is given once, and numbers are decimal, without a sign or a zero in front",
     ),
 ];
 

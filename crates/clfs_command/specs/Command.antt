@@ -1,18 +1,22 @@
 -- The command that the words behind FOLDER name: what clap finds in them, with numbers that a log can have.
-use Rattle.std.specs.Prelude.{ℕ, Bool, ◌&&◌, ◌*◌, ◌≤◌, nat_le, false, if◌then◌else◌, List, codes, Option, Some, None}
-use Rattle.std.specs.Option.{option_and_then, option_map_or}
+use Rattle.std.specs.Prelude.{ℕ, Bool, ◌&&◌, ◌-◌, ◌*◌, ◌≤◌, nat_le, false, if◌then◌else◌, List, ◌++◌, length, replicate, codes, Option, Some, None}
+use Rattle.std.specs.Option.{option_map, option_and_then, option_map_or}
 use Rattle.std.specs.Str.{bytes_eq}
 use Rattle.clap.specs.Walk.{Row, Text, first_of, is_empty}
 use Rattle.clap.specs.Simple.{subcommand_of}
 use Rattle.clap.specs.Faults.{fault_of}
-use Rattle.clfs_lsn.specs.Limits.{most_block_sectors, most_container_sectors, most_containers, most_write_buffers}
+use Rattle.clfs_lsn.specs.Limits.{longest_name, most_block_sectors, most_container_sectors, most_containers, most_write_buffers}
 use Rattle.clfs_lsn.specs.Size.{IsShape}
-use Rattle.clfs_lsn.specs.Words.{decimal_number}
+use Rattle.clfs_lsn.specs.Words.{decimal_number, lsn_of_word}
 use Rattle.clfs_command.specs.Line.{command_line}
 use Rattle.clfs_command.specs.declared.words.ScriptLength.{ScriptLength}
 use Rattle.clfs_command.specs.declared.words.ScriptLength.TheVariants.{Limited, Endless}
+use Rattle.clfs_command.specs.declared.words.AskedName.{AskedName}
+use Rattle.clfs_command.specs.declared.words.DataWord.{DataWord}
+use Rattle.clfs_command.specs.declared.words.DataWord.TheVariants.{Hex, Nothing}
+use Rattle.clfs_command.specs.declared.words.DataWord.TheVariants as words
 use Rattle.clfs_command.specs.declared.words.Command.{Command}
-use Rattle.clfs_command.specs.declared.words.Command.TheVariants.{Format, Serve, Race, Trial, Crew, Check, Crowd}
+use Rattle.clfs_command.specs.declared.words.Command.TheVariants.{Format, Serve, Race, Trial, Crew, Check, Crowd, Dump}
 
 -- the decimal number of 32 bits that an option has, without a sign or a leading zero
 abbrev pub number_of : Text → List Row → Option ℕ
@@ -86,6 +90,40 @@ crowd_of (Some threads) (Some count) =
     if nat_le 1 threads && nat_le threads most_crew_threads && nat_le 1 count && nat_le count most_crew_records then Some (Crowd threads count) else None
 crowd_of _ _ = None
 
+-- the name that a word is, if a stream can have so long a name
+abbrev pub name_of_word : Text → Option AskedName
+name_of_word word =
+    if nat_le 1 (length word) && nat_le (length word) longest_name
+    then Some (record { bytes = word ++ replicate (longest_name - length word) 0; length = length word }) else None
+
+-- what an option that may be missing stands for, by what its text does
+abbrev pub asked_by : {T : Type 0} → (Text → Option T) → Option Text → Option (Option T)
+asked_by reads None = Some None
+asked_by reads (Some text) = option_map Some (reads text)
+
+-- the LSN that an option has, if it is there
+abbrev pub lsn_of : Text → List Row → Option (Option ℕ)
+lsn_of name options = asked_by lsn_of_word (first_of name options)
+
+-- the name that an option has, if it is there
+abbrev pub name_of : Text → List Row → Option (Option AskedName)
+name_of name options = asked_by name_of_word (first_of name options)
+
+-- the form of data that a word names
+abbrev pub data_of_word : Text → Option DataWord
+data_of_word word =
+    if bytes_eq word (codes "hex") then Some Hex else if bytes_eq word (codes "text") then Some words.Text
+    else if bytes_eq word (codes "none") then Some Nothing else None
+
+-- the form of data that an option has
+abbrev pub data_of : Text → List Row → Option DataWord
+data_of name options = option_and_then data_of_word (first_of name options)
+
+-- a dump of these records, if all that is asked for can be
+abbrev pub dump_of : Option (Option ℕ) → Option (Option ℕ) → Option (Option AskedName) → Option DataWord → Option Command
+dump_of (Some from) (Some to) (Some stream) (Some form) = Some (Dump (record { from = from; to = to; stream = stream; form = form }))
+dump_of _ _ _ _ = None
+
 -- the command that a subcommand and its options stand for
 abbrev pub with_options : Text × List Row → Option Command
 with_options (name, options) =
@@ -98,7 +136,9 @@ with_options (name, options) =
     else if bytes_eq name (codes "trial") then trial_of (number_of (codes "NUMBER") options) (number_of (codes "COUNT") options)
     else if bytes_eq name (codes "crew") then crew_of (number_of (codes "THREADS") options) (number_of (codes "COUNT") options)
     else if bytes_eq name (codes "check") then Some Check
-    else if bytes_eq name (codes "crowd") then crowd_of (number_of (codes "THREADS") options) (number_of (codes "COUNT") options) else None
+    else if bytes_eq name (codes "crowd") then crowd_of (number_of (codes "THREADS") options) (number_of (codes "COUNT") options)
+    else if bytes_eq name (codes "dump") then dump_of (lsn_of (codes "from") options) (lsn_of (codes "to") options) (name_of (codes "stream") options)
+    (data_of (codes "data") options) else None
 
 -- The command that words name. They name none where clap finds a fault in them, or a number isn't one that a log can have.
 abbrev pub command_of : List Text → Option Command
@@ -112,4 +152,5 @@ HasItsRanges (Race buffers) = (1 ≤ buffers) × (buffers ≤ most_write_buffers
 HasItsRanges (Trial number count) = (1 ≤ count) × (count ≤ most_trial_lines)
 HasItsRanges (Crew threads count) = (1 ≤ threads) × ((threads ≤ most_crew_threads) × ((1 ≤ count) × (count ≤ most_crew_records)))
 HasItsRanges Check = Unit {0}
+HasItsRanges (Dump options) = Unit {0}
 HasItsRanges (Crowd threads count) = (1 ≤ threads) × ((threads ≤ most_crew_threads) × ((1 ≤ count) × (count ≤ most_crew_records)))

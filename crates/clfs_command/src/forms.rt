@@ -16,6 +16,9 @@ fn known_form(command: &str) -> Option<&'static str> {
         "crew" => Some("THREADS, 1 to 8, and COUNT, 1 to 1000"),
         "check" => Some("no more words"),
         "crowd" => Some("THREADS, 1 to 8, and COUNT, 1 to 1000"),
+        "dump" => Some(
+            "--from LSN, as 1:200:0, or not; --to LSN or not; --stream NAME, 1 to 64 bytes, or not; and --data hex, text or none, or not",
+        ),
         _ => None,
     }
 }
@@ -33,7 +36,7 @@ pub fn form_of(alloc: Global, words: &[String]) -> Result<String, AllocError> {
             "clfs: {first} takes {form}; each is given once, and numbers are decimal, without a sign or a zero in front"
         ),
         None => format!(in alloc;
-            "clfs: {first} is no command: behind FOLDER stands format, serve, race, trial, crew, check or crowd"
+            "clfs: {first} is no command: after FOLDER comes format, serve, race, trial, crew, check, crowd or dump"
         ),
     }
 }

@@ -1,7 +1,9 @@
 // What `clfs --help` prints: the commands, and the options of each.
 use crate::line::{
-    check_line, command_line, crew_line, crowd_line, format_line, race_line, serve_line, trial_line,
+    check_line, command_line, crew_line, crowd_line, dump_line, format_line, race_line, serve_line,
+    trial_line,
 };
+use clap::Command;
 use std::alloc::{AllocError, Global};
 
 // How the program is called.
@@ -46,6 +48,12 @@ const CROWD_NOTES: &str = "\
 Looks at no folder, and reads nothing. What isn't counted lacked memory.
 Status 0: the line is printed. 3: standard output can't be written. 5: out of memory.";
 
+// What `dump` does, and how it ends.
+const DUMP_NOTES: &str = "\
+Writes nothing to the log. It is printed up to its end, or up to the first wrong byte, which is then named; all of it is judged, whatever is printed.
+Without an option all records are printed, dead ones too. If no stream has the name, none is.
+Status 0: a log is there. 3: standard output can't be written. 4: disk fault. 5: out of memory. 6: not a log.";
+
 // What is said of all commands.
 const NOTES: &str = "\
 Options may stand in any order, as --containers 4 or --containers=4; numbers are decimal, without a sign or a zero in front.
@@ -63,44 +71,55 @@ fn push_notes(notes: &str, text: &mut String) -> Result<(), AllocError> {
     text.push('\n')
 }
 
+// Adds the help of a command, as it is called, with its notes.
+fn push_command(
+    line: Command,
+    call: &str,
+    notes: &str,
+    text: &mut String,
+) -> Result<(), AllocError> {
+    let part = line.bin_name(call)?.render_help()?;
+    push_part(part.as_str(), text)?;
+    push_notes(notes, text)
+}
+
 /// The help of the program: what it is, how it is called, which commands there are, and of each the options, what it does, and its
 /// statuses. The text is clap's for the command line that `read_command` reads, with notes.
 pub fn help_text(alloc: Global) -> Result<String, AllocError> {
     let mut text = command_line(alloc)?.override_usage(USAGE).render_help()?;
-    let format = format_line(alloc)?
-        .bin_name("clfs FOLDER format")?
-        .render_help()?;
-    let serve = serve_line(alloc)?
-        .bin_name("clfs FOLDER serve")?
-        .render_help()?;
-    let race = race_line(alloc)?
-        .bin_name("clfs FOLDER race")?
-        .render_help()?;
-    let trial = trial_line(alloc)?
-        .bin_name("clfs FOLDER trial")?
-        .render_help()?;
-    let crew = crew_line(alloc)?
-        .bin_name("clfs FOLDER crew")?
-        .render_help()?;
-    let check = check_line(alloc)
-        .bin_name("clfs FOLDER check")?
-        .render_help()?;
-    let crowd = crowd_line(alloc)?
-        .bin_name("clfs FOLDER crowd")?
-        .render_help()?;
     push_notes(NOTES, &mut text)?;
-    let parts = [
-        (&format, FORMAT_NOTES),
-        (&serve, SERVE_NOTES),
-        (&race, RACE_NOTES),
-        (&trial, TRIAL_NOTES),
-        (&crew, CREW_NOTES),
-        (&check, CHECK_NOTES),
-        (&crowd, CROWD_NOTES),
-    ];
-    for (part, notes) in parts {
-        push_part(part.as_str(), &mut text)?;
-        push_notes(notes, &mut text)?;
-    }
+    push_command(
+        format_line(alloc)?,
+        "clfs FOLDER format",
+        FORMAT_NOTES,
+        &mut text,
+    )?;
+    push_command(
+        serve_line(alloc)?,
+        "clfs FOLDER serve",
+        SERVE_NOTES,
+        &mut text,
+    )?;
+    push_command(race_line(alloc)?, "clfs FOLDER race", RACE_NOTES, &mut text)?;
+    push_command(
+        trial_line(alloc)?,
+        "clfs FOLDER trial",
+        TRIAL_NOTES,
+        &mut text,
+    )?;
+    push_command(crew_line(alloc)?, "clfs FOLDER crew", CREW_NOTES, &mut text)?;
+    push_command(
+        check_line(alloc),
+        "clfs FOLDER check",
+        CHECK_NOTES,
+        &mut text,
+    )?;
+    push_command(
+        crowd_line(alloc)?,
+        "clfs FOLDER crowd",
+        CROWD_NOTES,
+        &mut text,
+    )?;
+    push_command(dump_line(alloc)?, "clfs FOLDER dump", DUMP_NOTES, &mut text)?;
     Ok(text)
 }

@@ -12,4 +12,6 @@ mod words;
 
 pub use forms::form_of;
 pub use help::help_text;
-pub use words::{Command, ScriptLength, WordsRefusal, read_command};
+pub use words::{
+    AskedName, Command, DataWord, DumpOptions, ScriptLength, WordsRefusal, read_command,
+};

@@ -1,7 +1,7 @@
 // The command line behind FOLDER, as clap takes it.
 ghost use Rattle.std.specs.Prelude.{◌≡◌, IfOk, codes, false};
 ghost use Rattle.clap.specs.Words.{app_of, rule_of};
-ghost use Rattle.clfs_command.specs.Line.{option, needed, with_default, flag, word, command_named, format_line, serve_line, race_line, trial_line, crew_line, check_line, crowd_line, command_line};
+ghost use Rattle.clfs_command.specs.Line.{option, needed, with_default, flag, word, command_named, format_line, serve_line, race_line, trial_line, crew_line, check_line, crowd_line, dump_line, command_line};
 
 use clap::{Arg, ArgAction, Command};
 use std::alloc::{AllocError, Global};
@@ -151,6 +151,30 @@ pub fn crowd_line<'a>(alloc: Global) -> Result<Command<'a>, AllocError>
         .arg(word(alloc, "COUNT", count))
 }
 
+// The option `--data`, which is hex if it isn't there.
+fn data_form<'a>(alloc: Global) -> Arg<'a>
+    ensures rule { rule_of result ≡ with_default (codes "data") (codes "hex") }
+    ensures local { result.global ≡ false }
+{
+    let help = "How data are printed: hex, text or none";
+    option(alloc, "data", "FORM", help).default_value("hex")
+}
+
+/// The line of `dump`.
+pub fn dump_line<'a>(alloc: Global) -> Result<Command<'a>, AllocError>
+    ensures { IfOk result (λ r. app_of r ≡ dump_line) }
+{
+    let about = "Prints the log in FOLDER as text, or up to where it is broken";
+    let from = "Prints no record below this LSN, as 1:200:0";
+    let to = "Prints no record at this LSN or above";
+    let stream = "Prints the records of the stream of this name alone, 1 to 64 bytes";
+    command_named(alloc, "dump", about)
+        .arg(option(alloc, "from", "LSN", from))?
+        .arg(option(alloc, "to", "LSN", to))?
+        .arg(option(alloc, "stream", "NAME", stream))?
+        .arg(data_form(alloc))
+}
+
 /// All of the line, of which the first word names the subcommand.
 pub fn command_line<'a>(alloc: Global) -> Result<Command<'a>, AllocError>
     ensures { IfOk result (λ r. app_of r ≡ command_line) }
@@ -167,5 +191,6 @@ pub fn command_line<'a>(alloc: Global) -> Result<Command<'a>, AllocError>
         .subcommand(trial_line(alloc)?)?
         .subcommand(crew_line(alloc)?)?
         .subcommand(check_line(alloc))?
-        .subcommand(crowd_line(alloc)?)
+        .subcommand(crowd_line(alloc)?)?
+        .subcommand(dump_line(alloc)?)
 }

@@ -1,15 +1,15 @@
 // Which command the words behind FOLDER name.
-ghost use Rattle.std.specs.Prelude.{◌≡◌, map, Some, None, IfSome, IfOk, IfErr};
+ghost use Rattle.std.specs.Prelude.{◌≡◌, take, map, Some, None, IfSome, IfOk, IfErr};
 ghost use Rattle.std.specs.Option.{option_and_then};
 ghost use Rattle.std.specs.String.{string_bytes};
 ghost use Rattle.clap.specs.Words.{rows_of, found_of, subcommand_rows_of};
-ghost use Rattle.clfs_command.specs.Command.{number_of, is_set, is_size, format_of, length_of, are_buffers, serve_of, race_of, trial_of, crew_of, crowd_of, with_options, command_of, HasItsRanges};
+ghost use Rattle.clfs_command.specs.Command.{number_of, is_set, is_size, format_of, length_of, are_buffers, serve_of, race_of, trial_of, crew_of, crowd_of, name_of_word, lsn_of, name_of, data_of_word, data_of, dump_of, with_options, command_of, HasItsRanges};
 
 use crate::line::command_line;
 use clap::ArgMatches;
 use clap::error::ErrorKind;
-use clfs_lsn::{MOST_CONTAINERS, Shape};
-use clfs_text::decimal_number;
+use clfs_lsn::{LONGEST_NAME, Lsn, MOST_CONTAINERS, Shape};
+use clfs_text::{decimal_number, lsn_of_word};
 use std::alloc::{AllocError, Global};
 use thiserror::Error;
 
@@ -20,6 +20,64 @@ pub enum ScriptLength {
     Limited,
     /// 18,446,744,073,709,551,615 bytes, which no script reaches.
     Endless,
+}
+
+/// How the data of records are asked for.
+#[derive(Clone, Copy, Debug, PartialEq, Eq)]
+pub enum DataWord {
+    /// In hexadecimal digits.
+    Hex,
+    /// Between quotation marks.
+    Text,
+    /// Not at all.
+    Nothing,
+}
+
+/// The name of a stream that is asked for, of 1 to 64 bytes.
+#[derive(Clone, Copy, Debug, PartialEq, Eq)]
+pub struct AskedName {
+    /// Its bytes, and zeros behind them.
+    pub bytes: [u8; 64],
+    /// How many they are.
+    pub length: u32,
+}
+
+impl AskedName {
+    /// The name that a word is, if a stream can have so long a name.
+    pub fn of_word(word: &[u8]) -> Option<AskedName>
+        ensures { result ≡ name_of_word word.now }
+    {
+        if word.is_empty() || word.len() > LONGEST_NAME as usize {
+            return None;
+        }
+        let mut bytes = [0; 64];
+        bytes[..word.len()].copy_from_slice(word);
+        Some(AskedName {
+            bytes,
+            length: word.len() as u32,
+        })
+    }
+
+    /// Its bytes.
+    pub fn as_slice(&self) -> &[u8]
+        ensures { result.now ≡ take self.now.length self.now.bytes }
+    {
+        let count = (self.length as usize).min(64);
+        self.bytes.split_at(count).0
+    }
+}
+
+/// Which records of a log are printed, and how. What isn't there asks for nothing.
+#[derive(Clone, Copy, Debug, PartialEq, Eq)]
+pub struct DumpOptions {
+    /// No record below this LSN.
+    pub from: Option<Lsn>,
+    /// No record at this LSN or above.
+    pub to: Option<Lsn>,
+    /// No record of a stream with another name.
+    pub stream: Option<AskedName>,
+    /// How the data of records are printed.
+    pub form: DataWord,
 }
 
 /// What a user can ask the program for.
@@ -71,6 +129,8 @@ pub enum Command {
         /// How many records each of them appends, 1 to 1,000.
         count: u32,
     },
+    /// To print a log as text.
+    Dump(DumpOptions),
 }
 
 /// Why no command was read.
@@ -251,6 +311,62 @@ fn crowd_of(threads: Option<u32>, count: Option<u32>) -> Option<Command>
     Some(Command::Crowd { threads, count })
 }
 
+// The LSN that an option has, if it is there; None where its value is no LSN.
+fn lsn_of(name: &str, options: &ArgMatches) -> Option<Option<Lsn>>
+    ensures { result ≡ lsn_of name.now (rows_of (found_of options.now)) }
+{
+    match options.get_str(name) {
+        Some(text) => Some(Some(lsn_of_word(text.as_bytes())?)),
+        None => Some(None),
+    }
+}
+
+// The name that an option has, if it is there; None where no stream can have such a name.
+fn name_of(name: &str, options: &ArgMatches) -> Option<Option<AskedName>>
+    ensures { result ≡ name_of name.now (rows_of (found_of options.now)) }
+{
+    match options.get_str(name) {
+        Some(text) => Some(Some(AskedName::of_word(text.as_bytes())?)),
+        None => Some(None),
+    }
+}
+
+// The form of data that a word names.
+fn data_of_word(word: &[u8]) -> Option<DataWord>
+    ensures { result ≡ data_of_word word.now }
+{
+    match word {
+        b"hex" => Some(DataWord::Hex),
+        b"text" => Some(DataWord::Text),
+        b"none" => Some(DataWord::Nothing),
+        _ => None,
+    }
+}
+
+// The form of data that an option has.
+fn data_of(name: &str, options: &ArgMatches) -> Option<DataWord>
+    ensures { result ≡ data_of name.now (rows_of (found_of options.now)) }
+{
+    data_of_word(options.get_str(name)?.as_bytes())
+}
+
+fn dump_of(
+    from: Option<Option<Lsn>>,
+    to: Option<Option<Lsn>>,
+    stream: Option<Option<AskedName>>,
+    form: Option<DataWord>,
+) -> Option<Command>
+    ensures command { result ≡ dump_of from to stream form }
+    ensures ranges { IfSome result HasItsRanges }
+{
+    Some(Command::Dump(DumpOptions {
+        from: from?,
+        to: to?,
+        stream: stream?,
+        form: form?,
+    }))
+}
+
 // The command that a subcommand and its options stand for.
 fn with_options(name: &str, options: &ArgMatches) -> Option<Command>
     ensures command { result ≡ with_options (name.now, rows_of (found_of options.now)) }
@@ -273,6 +389,12 @@ fn with_options(name: &str, options: &ArgMatches) -> Option<Command>
         "crew" => crew_of(number_of("THREADS", options), number_of("COUNT", options)),
         "check" => Some(Command::Check),
         "crowd" => crowd_of(number_of("THREADS", options), number_of("COUNT", options)),
+        "dump" => dump_of(
+            lsn_of("from", options),
+            lsn_of("to", options),
+            name_of("stream", options),
+            data_of("data", options),
+        ),
         _ => None,
     }
 }
@@ -286,6 +408,18 @@ fn found_command(matches: &ArgMatches) -> Option<Command>
     with_options(name, options)
 }
 
+// The same, or that the words are no command.
+fn command_in(matches: &ArgMatches) -> Result<Command, WordsRefusal>
+    ensures command { IfOk result (λ command. option_and_then with_options (subcommand_rows_of matches.now) ≡ Some command) }
+    ensures usage { IfErr result (λ refusal. option_and_then with_options (subcommand_rows_of matches.now) ≡ None) }
+    ensures ranges { IfOk result HasItsRanges }
+{
+    match found_command(matches) {
+        Some(command) => Ok(command),
+        None => Err(WordsRefusal::Usage),
+    }
+}
+
 /// The command that the words name, COMMAND first.
 pub fn read_command(alloc: Global, words: &[String]) -> Result<Command, WordsRefusal>
     ensures command { IfOk result (λ command. command_of (map string_bytes words.now) ≡ Some command) }
@@ -294,7 +428,7 @@ pub fn read_command(alloc: Global, words: &[String]) -> Result<Command, WordsRef
 {
     let line = command_line(alloc)?;
     match line.try_get_matches_from(words) {
-        Ok(matches) => found_command(&matches).ok_or(WordsRefusal::Usage),
+        Ok(matches) => command_in(&matches),
         Err(error) => match error.kind() {
             ErrorKind::OutOfMemory => Err(WordsRefusal::NoMemory),
             _ => Err(WordsRefusal::Usage),

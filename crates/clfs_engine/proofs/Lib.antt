@@ -1,5 +1,6 @@
 pub mod WholeSteps
 pub mod SoFar
+pub mod Written
 pub mod UnderWay
 pub mod Lines
 pub mod OnlyRead
@@ -11,6 +12,7 @@ pub mod Trials
 pub mod Fronts
 pub mod Through
 pub mod CheckEnds
+pub mod DumpEnds
 pub mod Clients
 pub mod TakenCalls
 pub mod RaceEnds

@@ -14,6 +14,7 @@ pub mod Worked
 pub mod Crashed
 pub mod Trial
 pub mod Check
+pub mod Dump
 pub mod Complete
 pub mod Crew
 pub mod Work

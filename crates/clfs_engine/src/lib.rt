@@ -11,7 +11,7 @@
 //! calls are its lines in order.
 //!
 //! `trial` answers lines that `clfs_trial` makes, by a log in memory, and prints their sums. `check` judges a log by `clfs_check`, and prints what
-//! is in it. `crew` lets threads append by permits of one shared area (`clfs_area`), over a log in memory, and prints how many
+//! is in it; `dump` prints a log as text by `clfs_dump`. `crew` lets threads append by permits of one shared area (`clfs_area`), over a log in memory, and prints how many
 //! records there are and how many sectors are still held. `crowd` lets threads append that share their flushes (`clfs_group`), over a log in memory,
 //! and prints how many records there are and of how many of them the threads were told that they are on the disk.
 //!
@@ -24,6 +24,7 @@ mod checking;
 mod crewing;
 mod crowding;
 mod desk;
+mod dumping;
 mod formatting;
 mod making;
 mod members;
@@ -43,6 +44,7 @@ pub use clfs_lines::{DONE, INPUT_TOO_LONG, NO_MEMORY, SINK_FAULT, SOURCE_FAULT};
 pub use clfs_race::{Gate, Pass};
 pub use crewing::crew;
 pub use crowding::crowd;
+pub use dumping::dump;
 pub use formatting::format;
 pub use program::run;
 pub use racing::race;

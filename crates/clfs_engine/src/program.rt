@@ -3,13 +3,15 @@ ghost use Rattle.std.specs.Prelude.{◌≡◌, ◌≢◌, ℕ, Bool, map, Some, 
 ghost use Rattle.std.specs.String.{string_bytes};
 ghost use Rattle.clfs_lsn.specs.declared.shape.Shape.{Shape};
 ghost use Rattle.clfs_command.specs.Command.{command_of};
-ghost use Rattle.clfs_command.specs.declared.words.Command.TheVariants.{Format, Serve, Race, Trial, Crew, Check, Crowd};
+ghost use Rattle.clfs_command.specs.declared.words.Command.TheVariants.{Format, Serve, Race, Trial, Crew, Check, Crowd, Dump};
+ghost use Rattle.clfs_command.specs.declared.words.DumpOptions.{DumpOptions};
 ghost use Rattle.clfs_command.specs.declared.words.ScriptLength.{ScriptLength};
 ghost use Rattle.clfs_ports.specs.Cause.{Rises};
 ghost use Rattle.clfs_engine.specs.Check.{EndsCheck};
 ghost use Rattle.clfs_engine.specs.Complete.{IsDone, NothingFailsAnswering, NothingFailsRacing, NothingFailsMaking, NothingFailsChecking, ComesThrough, RaceComesThrough};
 ghost use Rattle.clfs_engine.specs.Crew.{EndsCrew};
 ghost use Rattle.clfs_engine.specs.Crowd.{EndsCrowd};
+ghost use Rattle.clfs_engine.specs.Dump.{EndsDump, selection_of};
 ghost use Rattle.clfs_engine.specs.Format.{EndsFormat};
 ghost use Rattle.clfs_engine.specs.Race.{EndsRacing};
 ghost use Rattle.clfs_engine.specs.Serve.{EndsServing, EndsByUsage};
@@ -19,6 +21,7 @@ ghost use Rattle.clfs_engine.specs.Trial.{EndsTrial};
 use crate::checking::check;
 use crate::crewing::crew;
 use crate::crowding::crowd;
+use crate::dumping::dump;
 use crate::formatting::format;
 use crate::racing::race;
 use crate::serving::{LONGEST_SCRIPT, serve_within};
@@ -45,8 +48,8 @@ fn longest_script(length: ScriptLength) -> u64
 
 /// Runs the command that the words name: `serve` with its write buffers, its read buffers and the length that the script may have, `race` with its write buffers,
 /// `format` with the sizes of the log and whether it is dedicated, `trial` with its number and its count, `crew` and `crowd`
-/// with their threads and their count, or `check`. The words are those after the folder. Only a race, a crew and a crowd start threads, and wait for
-/// them.
+/// with their threads and their count, `dump` with its options, or `check`. The words are those after the folder. Only a race, a crew and a crowd
+/// start threads, and wait for them.
 pub fn run<R: Threads + Wait + Sync, S: Source, K: Sink, D: Disk + Send + Drop>(
     rt: &R,
     alloc: Global,
@@ -72,6 +75,9 @@ pub fn run<R: Threads + Wait + Sync, S: Source, K: Sink, D: Disk + Send + Drop>(
         → EndsCrowd result.status threads count (K.written sink.old) (K.written sink.new) (K.faults sink.old) (K.faults sink.new) }
     ensures checks { command_of (map string_bytes words.now) ≡ Some Check
         → EndsCheck result.status (D.state disk) (D.state result.disk) (K.written sink.old) (K.written sink.new) (K.faults sink.old) (K.faults sink.new) }
+    ensures dumps { (options : DumpOptions) → command_of (map string_bytes words.now) ≡ Some (Dump options)
+        → EndsDump (selection_of options) result.status (D.state disk) (D.state result.disk) (K.written sink.old) (K.written sink.new)
+        (K.faults sink.old) (K.faults sink.new) }
     // If nothing outside fails, a command is done, unless memory runs out.
     ensures serving_comes_through { (buffers reads : ℕ) (length : ScriptLength) → command_of (map string_bytes words.now) ≡ Some (Serve buffers reads length)
         → NothingFailsAnswering (limits_of length) (D.state disk) (D.state result.disk) (S.left source.old) (S.faults source.old) (S.faults source.new) (K.faults sink.old) (K.faults sink.new)
@@ -89,15 +95,18 @@ pub fn run<R: Threads + Wait + Sync, S: Source, K: Sink, D: Disk + Send + Drop>(
         → (Rises (K.faults sink.old) (K.faults sink.new) → ⊥) → IsDone result.status }
     ensures checking_is_done { command_of (map string_bytes words.now) ≡ Some Check
         → NothingFailsChecking (D.state disk) (D.state result.disk) (K.faults sink.old) (K.faults sink.new) → IsDone result.status }
+    ensures dumping_is_done { (options : DumpOptions) → command_of (map string_bytes words.now) ≡ Some (Dump options)
+        → NothingFailsChecking (D.state disk) (D.state result.disk) (K.faults sink.old) (K.faults sink.new) → IsDone result.status }
     ensures usage { command_of (map string_bytes words.now) ≡ None → EndsByUsage result.status (K.written sink.old) (K.written sink.new)
         (K.faults sink.old) (K.faults sink.new) }
-    // Only a script is read from the source, and only serving, racing, making and judging a log call the disk.
+    // Only a script is read from the source, and only serving, racing, making, judging and dumping a log call the disk.
     ensures unread { ((buffers reads : ℕ) (length : ScriptLength) → command_of (map string_bytes words.now) ≢ Some (Serve buffers reads length))
         → ((buffers : ℕ) → command_of (map string_bytes words.now) ≢ Some (Race buffers)) → source.new ≡ source.old }
     ensures untouched { ((buffers reads : ℕ) (length : ScriptLength) → command_of (map string_bytes words.now) ≢ Some (Serve buffers reads length))
         → ((buffers : ℕ) → command_of (map string_bytes words.now) ≢ Some (Race buffers))
         → ((shape : Shape) (containers : ℕ) (dedicated : Bool) → command_of (map string_bytes words.now) ≢ Some (Format shape containers dedicated))
-        → command_of (map string_bytes words.now) ≢ Some Check → result.disk ≡ disk }
+        → command_of (map string_bytes words.now) ≢ Some Check
+        → ((options : DumpOptions) → command_of (map string_bytes words.now) ≢ Some (Dump options)) → result.disk ≡ disk }
 {
     match read_command(alloc, words) {
         Ok(
@@ -129,6 +138,7 @@ pub fn run<R: Threads + Wait + Sync, S: Source, K: Sink, D: Disk + Send + Drop>(
             disk,
         },
         Ok(Command::Check) => check(alloc, sink, disk),
+        Ok(Command::Dump(options)) => dump(alloc, &options, sink, disk),
         Ok(Command::Crowd { threads, count }) => Outcome {
             status: crowd(rt, alloc, threads, count, sink),
             disk,

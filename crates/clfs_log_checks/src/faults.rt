@@ -30,7 +30,7 @@ const NONE: Fails = Fails {
 };
 
 // Makes a log on a disk whose call of a number fails. None where making it meets that call.
-fn made(
+pub(crate) fn made(
     rt: &(impl Abort + Threads + Wait + Sync),
     alloc: Global,
     fails: u64,

@@ -4,7 +4,7 @@ use Rattle.clap.specs.Words.{App, app_of, shape_of, with_subcommand}
 use Rattle.clap.specs.Simple.{app_of_fields, on_top}
 use Rattle.clap.specs.declared.builder.command.Command.{Command}
 use Rattle.clap.specs.declared.builder.command.Command.TheViews.{out-Command}
-use Rattle.clfs_command.specs.Line.{format_line, serve_line, race_line, trial_line, crew_line, check_line, crowd_line}
+use Rattle.clfs_command.specs.Line.{format_line, serve_line, race_line, trial_line, crew_line, check_line, crowd_line, dump_line}
 use Rattle.clfs_command.proofs.line.command_line.Goals as goal
 
 -- a command that uses none of the settings that change how words are read has no option for all levels
@@ -34,5 +34,7 @@ returns c =
     let fifth = c.in_ok-subcommand-5.ensures.shape (joined _ _ crew refl) ∙ ap₂ with_subcommand fourth (ap (λ (x : App). x.top) crew) in
     let crowd : app_of c.in_ok-crowd_line.field-0 ≡ crowd_line = c.in_ok-crowd_line.ensures in
     let sixth = c.in_ok-subcommand-6.ensures.shape (joined _ _ check refl) ∙ ap₂ with_subcommand fifth (ap (λ (x : App). x.top) check) in
-    IfOk-weaker c.subcommand-7.result _ _
-    (λ r added. added.shape (joined _ _ crowd refl) ∙ ap₂ with_subcommand sixth (ap (λ (x : App). x.top) crowd)) c.subcommand-7.ensures
+    let seventh = c.in_ok-subcommand-7.ensures.shape (joined _ _ crowd refl) ∙ ap₂ with_subcommand sixth (ap (λ (x : App). x.top) crowd) in
+    let dump : app_of c.in_ok-dump_line.field-0 ≡ dump_line = c.in_ok-dump_line.ensures in
+    IfOk-weaker c.subcommand-8.result _ _
+    (λ r added. added.shape (joined _ _ dump refl) ∙ ap₂ with_subcommand seventh (ap (λ (x : App). x.top) dump)) c.subcommand-8.ensures
