@@ -1,4 +1,4 @@
--- One or more archives one behind the other. The checks go from the first byte on; the first that fails tells its byte.
+-- One or more archives one after the other. The checks go from the first byte on; the first that fails tells its byte.
 use Rattle.std.specs.Prelude.{ℕ, zero, suc, ◌+◌, ◌-◌, ◌/◌, Bool, ◌&&◌, ◌==◌, nat_lt, if◌then◌else◌, List, [], ◌∷◌, ◌++◌, length, slice_index, Option, Some, None, Result, Ok, Err}
 use Rattle.clfs_lsn.specs.Lsn.{container_of}
 use Rattle.clfs_base.specs.declared.demands.Demands.{Demands}
@@ -17,7 +17,7 @@ abbrev pub unless_found : Option ℕ → ℕ → Result ℕ ℕ
 unless_found None at = Ok at
 unless_found (Some wrong) at = Err (at + wrong)
 
--- the letter of this number stands behind a place
+-- the letter of this number stands after a place
 abbrev pub has_letter : List ℕ → ℕ → ℕ → Bool
 has_letter bytes at i = nat_lt (at + i) (length bytes) && (slice_index bytes (at + i) == slice_index magic i)
 
@@ -43,7 +43,7 @@ rest_there image bytes at = do
   count ← just_there bytes (at + count_at) (wanted_count image)
   containers_there (shape_of image) (length image.streams) bytes count (container_of image.tail) (at + containers_at)
 
--- the archive that begins at a place, and the place behind it
+-- the archive that begins at a place, and the place after it
 unfoldable pub archive_there : Demands → List ℕ → ℕ → Result (Archive × ℕ) ℕ
 archive_there demands bytes at = do
   start ← magic_there bytes at
@@ -51,7 +51,7 @@ archive_there demands bytes at = do
   containers ← rest_there image bytes at
   Ok (record { image = image; containers = containers }, at + containers_at + containers_len containers)
 
--- the archives from a place on, of which there are no more than so many, behind one with this copy
+-- the archives from a place on, of which there are no more than so many, after one with this copy
 abbrev pub archives_behind : ℕ → BaseImage → List ℕ → ℕ → Result (List Archive) ℕ
 archives_behind zero before bytes at = Ok []
 archives_behind (suc n) before bytes at = if nat_lt at (length bytes) then (do
@@ -67,11 +67,11 @@ archives_in bytes = do
   others ← archives_behind (length bytes / containers_at) first.0.image bytes first.1
   Ok (first.0 ∷ others)
 
--- An archive with another one behind it: the later base copy counts, and the containers of both are there.
+-- An archive with another one after it: the later base copy counts, and the containers of both are there.
 abbrev pub with_later : Archive → Archive → Archive
 with_later earlier later = record { image = later.image; containers = earlier.containers ++ later.containers }
 
--- archives behind one, taken together with it
+-- archives after one, taken together with it
 abbrev pub joined_from : Archive → List Archive → Archive
 joined_from archive [] = archive
 joined_from archive (later ∷ others) = joined_from (with_later archive later) others

@@ -84,7 +84,7 @@ containers_there shape streams bytes (suc count) id at = do
   others ← containers_there shape streams bytes count (id + 1) (at + piece_header + stored.len)
   Ok (stored ∷ others)
 
--- the bytes of containers one behind the other
+-- the bytes of containers one after the other
 abbrev pub containers_len : List Stored → ℕ
 containers_len [] = 0
 containers_len (stored ∷ others) = piece_header + stored.len + containers_len others

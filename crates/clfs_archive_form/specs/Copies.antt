@@ -30,7 +30,7 @@ first_demands = record {
   tail = Anything;
 }
 
--- what is asked of the copy behind this one: it is of the same shape, and has no fewer streams
+-- what is asked of the copy after this one: it is of the same shape, and has no fewer streams
 abbrev pub later_demands : BaseImage → Demands
 later_demands before = record first_demands {
   block_sectors = just before.block_sectors;

@@ -24,7 +24,7 @@ front_bytes image count = magic ++ (spelled (archived_image image) ++ little_byt
 abbrev pub container_bytes : ℕ → List ℕ → List ℕ
 container_bytes id blocks = little_bytes 4 id ++ (little_bytes 4 (length blocks) ++ blocks)
 
--- The bytes from before are at the front. Those of the archive are counted, and stand behind them as long as they are no more than it may have.
+-- The bytes from before are at the front. Those of the archive are counted, and stand after them as long as they are no more than it may have.
 pub record IsDraft (bytes : List ℕ) (start count : ℕ) (archive : List ℕ) : Type 0 where
   pub within : start ≤ length bytes
   pub counted : count ≡ length archive

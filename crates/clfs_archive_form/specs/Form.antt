@@ -14,11 +14,11 @@ use Rattle.clfs_recover.specs.Stored.{HasLog}
 abbrev pub magic : List ℕ
 magic = codes "CLFSARC1"
 
--- Where the base copy's slot stands behind an archive's first byte. Its gate isn't there: in its place is the last letter.
+-- Where the base copy's slot stands after an archive's first byte. Its gate isn't there: in its place is the last letter.
 abbrev pub slot_at : ℕ
 slot_at = 7
 
--- where the number of containers stands, behind the slot
+-- where the number of containers stands, after the slot
 abbrev pub count_at : ℕ
 count_at = 16391
 
@@ -34,7 +34,7 @@ piece_header = 8
 abbrev pub archived_image : BaseImage → BaseImage
 archived_image image = record (current image) { turn = 0 }
 
--- a container's id, the length of its blocks, and these one behind the other
+-- a container's id, the length of its blocks, and these one after the other
 abbrev pub piece_bytes : ℕ × List (List ℕ) → List ℕ
 piece_bytes piece = little_bytes 4 piece.0 ++ (little_bytes 4 (total piece.1) ++ flat_map (λ (block : List ℕ). block) piece.1)
 
@@ -43,7 +43,7 @@ abbrev pub archive_bytes : BaseImage → List (ℕ × List (List ℕ)) → List 
 archive_bytes image pieces =
     magic ++ (spelled (archived_image image) ++ (little_bytes 4 (length pieces) ++ flat_map piece_bytes pieces))
 
--- the containers that are archived: of those that the copy lists, whose blocks these are, the archive tail's and all behind it
+-- the containers that are archived: of those that the copy lists, whose blocks these are, the archive tail's and all after it
 abbrev pub archived_pieces : BaseImage → List (List (List ℕ)) → List (ℕ × List (List ℕ))
 archived_pieces image blocks = drop (container_of image.tail - image.first) (zip (range_with_len image.first (length blocks)) blocks)
 

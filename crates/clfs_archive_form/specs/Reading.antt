@@ -35,12 +35,12 @@ abbrev pub LieWithin : ℕ → List Stored → Type 0
 LieWithin bytes [] = Unit {0}
 LieWithin bytes (stored ∷ others) = (stored.at + stored.len ≤ bytes) × LieWithin bytes others
 
--- Containers were taken in behind those of before, and the place behind them was answered; or their first wrong byte.
+-- Containers were taken in after those of before, and the place after them was answered; or their first wrong byte.
 abbrev pub TakesContainers : Result ℕ InputRefusal → List Stored → List Stored → (List Stored → ℕ) → Result (List Stored) ℕ → Type 0
 TakesContainers (Ok end) old new end_of read = (more : List Stored) × (read ≡ Ok more) × (new ≡ old ++ more) × (end ≡ end_of more)
 TakesContainers (Err refusal) old new end_of read = RefusesAt refusal read
 
--- The same of an archive: its base copy and the place behind it were answered.
+-- The same of an archive: its base copy and the place after it were answered.
 abbrev pub TakesArchive : Result (BaseImage × ℕ) InputRefusal → List Stored → List Stored → Result (Archive × ℕ) ℕ → Type 0
 TakesArchive (Ok x) old new read =
     (more : List Stored) × (read ≡ Ok (record { image = x.0; containers = more }, x.1)) × (new ≡ old ++ more)

@@ -104,7 +104,7 @@ in_container id entries = filter (λ (entry : LogEntry). container_of entry.lsn 
 abbrev pub end_of_last : List LogEntry → List LogEntry → ℕ
 end_of_last entries here = option_map_or (λ (entry : LogEntry). end_of_block entries entry.lsn) (last_or None here) 0
 
--- Where the restored log goes on: in the container of the LSN, behind the last block that is left there, which is made short where its later
+-- Where the restored log goes on: in the container of the LSN, after the last block that is left there, which is made short where its later
 -- records are cut off.
 abbrev pub restored_place : List LogEntry → ℕ → Place
 restored_place entries up_to = record {

@@ -1,5 +1,5 @@
 -- Small archives for the worked rows. The copies of whole archives are too long to be judged there byte by byte: the rows show a copy's front, and what
--- follows a copy behind as many other bytes.
+-- follows a copy after as many other bytes.
 use Rattle.std.specs.Prelude.{ℕ, ◌+◌, ◌-◌, true, List, [], ◌∷◌, ◌++◌, length, take, replicate, Option, Some}
 use Rattle.std.specs.List.{flat_map, zip}
 use Rattle.byteorder.specs.Endian.{little_bytes}
@@ -82,7 +82,7 @@ longer_copy = record small_copy { files = 1 ∷ 2 ∷ [] }
 abbrev pub small_rest : List ℕ
 small_rest = little_bytes 4 1 ++ (little_bytes 4 1 ++ (little_bytes 4 1024 ++ (first_block ++ second_block)))
 
--- an archive whose copy isn't looked at, with these bytes behind that
+-- an archive whose copy isn't looked at, with these bytes after that
 abbrev pub behind_copy : List ℕ → List ℕ
 behind_copy rest = replicate count_at 0 ++ rest
 

@@ -1,4 +1,4 @@
-// Archives one behind the other, each from its letters to its last container.
+// Archives one after the other, each from its letters to its last container.
 ghost use Rattle.std.specs.Prelude.{◌≡◌, ◌+◌, ◌<◌, ◌≤◌, IsTrue, length, None, IfOk, IfSome, OnOk};
 ghost use Rattle.clfs_base.specs.Spelling.{IsImage};
 ghost use Rattle.clfs_block.specs.Checks.{first_failing};
@@ -24,7 +24,7 @@ const COUNT_AT: usize = 16391;
 
 const CONTAINERS_AT: usize = 16395;
 
-// Whether the letter of this number stands behind a place.
+// Whether the letter of this number stands after a place.
 fn has_letter(bytes: &[u8], at: usize, i: usize) -> bool
     requires place { at ≤ length bytes.now }
     requires letter { i < 8 }
@@ -70,7 +70,7 @@ fn wanted_count(image: &BaseImage) -> u64
     behind.saturating_sub(image.tail.container() as u64)
 }
 
-// What follows the base copy of the archive that begins at a place: the containers, which are taken in. It answers the place behind them.
+// What follows the base copy of the archive that begins at a place: the containers, which are taken in. It answers the place after them.
 fn read_rest(
     alloc: Global,
     image: &BaseImage,
@@ -103,7 +103,7 @@ fn read_rest(
     )
 }
 
-// The archive that begins at a place, whose containers are taken in: its base copy, and the place behind it.
+// The archive that begins at a place, whose containers are taken in: its base copy, and the place after it.
 fn read_archive(
     alloc: Global,
     asked: &Demands,
@@ -123,7 +123,7 @@ fn read_archive(
     Ok((image, end))
 }
 
-/// Reads one or more archives, one behind the other, and takes them together: the last base copy counts. All of them is judged, and nothing of their
+/// Reads one or more archives, one after the other, and takes them together: the last base copy counts. All of them is judged, and nothing of their
 /// blocks is kept but where they stand.
 pub fn read_archives(alloc: Global, bytes: &[u8]) -> Result<Archive, InputRefusal>
     ensures exact { GivesJoined result (archives_in bytes.now) }

@@ -129,7 +129,7 @@ fn push(containers: &mut Vec<Stored>, stored: Stored) -> Result<(), AllocError>
     Ok(())
 }
 
-// Takes in so many containers, whose ids go on from one, and answers the place behind them.
+// Takes in so many containers, whose ids go on from one, and answers the place after them.
 pub(crate) fn read_containers(
     alloc: Global,
     judge: &mut Judge,

@@ -16,7 +16,7 @@ use clfs_base::{
 use clfs_lsn::Lsn;
 use std::alloc::Global;
 
-// Where the slot stands behind an archive's first byte.
+// Where the slot stands after an archive's first byte.
 const SLOT_AT: usize = 7;
 
 // This number and no other.
@@ -44,7 +44,7 @@ pub(crate) fn first_demands() -> Demands
     }
 }
 
-// What is asked of the copy behind another one.
+// What is asked of the copy after another one.
 pub(crate) fn later_demands(before: &BaseImage) -> Demands
     requires { length before.now.streams < 2 ^ 16 }
     ensures { result ≡ later_demands before.now }

@@ -1,4 +1,4 @@
-// Putting an archive together, behind bytes that are there already. One that has more bytes than an archive may have is counted to its end, so that
+// Putting an archive together, after bytes that are there already. One that has more bytes than an archive may have is counted to its end, so that
 // its length can be told, and no more of it is kept.
 ghost use Rattle.std.specs.Prelude.{◌≡◌, ◌+◌, ◌^◌, ◌<◌, ◌≤◌, ◌++◌, [], length, IfOk, IfErr, OnOk};
 ghost use Rattle.byteorder.specs.Endian.{little_bytes};
@@ -79,7 +79,7 @@ pub fn archived(image: BaseImage) -> BaseImage
 }
 
 impl Draft {
-    /// Nothing of an archive yet, behind these bytes.
+    /// Nothing of an archive yet, after these bytes.
     pub fn new(alloc: Global, before: Bytes) -> Draft
         ensures before { result.before ≡ before }
         ensures empty { result.archive ≡ [] }
@@ -181,7 +181,7 @@ impl Draft {
         Bytes::from_vec(bytes)
     }
 
-    /// The bytes from before with the whole archive behind them, unless it has more bytes than it may have.
+    /// The bytes from before with the whole archive after them, unless it has more bytes than it may have.
     pub fn finish(self) -> Result<Bytes, TooLong>
         ensures whole { IfOk result (λ bytes. (bytes ≡ self.before ++ self.archive) × (length self.archive ≤ most_archive)) }
         ensures long { IfErr result (λ refused. (refused.before ≡ self.before) × (refused.length ≡ length self.archive)

@@ -103,7 +103,7 @@ impl Judge {
         )
     }
 
-    /// Judges all bytes as the blocks of a container, one behind the other; a closed gate is damage.
+    /// Judges all bytes as the blocks of a container, one after the other; a closed gate is damage.
     pub fn blocks(&mut self, alloc: Global, id: u32, bytes: &[u8]) -> Result<(), LoadRefusal>
         requires { length bytes.now < 2 ^ 31 }
         ensures exact { JudgesBlocks result (stored_in self.old.shape self.old.streams id 0 (blocks_in bytes.now)) }

@@ -1,7 +1,7 @@
 //! Archives of a log, as bytes: what an archive is, reading one or more of them, and what is restored of them.
 //!
 //! An archive is a base copy and the open blocks of containers, in a row of bytes that can be written and read without going back
-//! (specs/Form.antt). `read_archives` judges bytes that are to be one or more archives one behind the other, from the first byte on, and the first byte
+//! (specs/Form.antt). `read_archives` judges bytes that are to be one or more archives one after the other, from the first byte on, and the first byte
 //! that is wrong is told (specs/Archives.antt). The base copy is judged by the table of every base copy with narrower ranges, and a block as opening a
 //! log judges it, so nothing of the two is said twice. What is read are base copies and places of the input: no block is copied.
 //!

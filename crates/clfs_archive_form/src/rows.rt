@@ -24,7 +24,7 @@ pub fn archive_of_a_small_log()
     ensures high_tail { wanted_count (record small_copy { tail = second_lsn }) ≡ 0 }
 {}
 
-/// The letters that an archive begins with, and its copy: what is asked of the first one and of one behind it, by the byte of the slot that is told;
+/// The letters that an archive begins with, and its copy: what is asked of the first one and of one after it, by the byte of the slot that is told;
 /// and the byte of the input, which is the input's end where that cuts a field short.
 pub fn letters_and_copies_of_archives()
     ensures letters { magic_there magic 0 ≡ Ok 0 }

@@ -1,4 +1,4 @@
--- The command that the words behind FOLDER name: what clap finds in them, with numbers that a log can have.
+-- The command that the words after FOLDER name: what clap finds in them, with numbers that a log can have.
 use Rattle.std.specs.Prelude.{ℕ, Bool, ◌&&◌, ◌-◌, ◌*◌, ◌≤◌, nat_le, false, if◌then◌else◌, List, ◌++◌, length, replicate, codes, Option, Some, None}
 use Rattle.std.specs.Option.{option_map, option_and_then, option_map_or}
 use Rattle.std.specs.Str.{bytes_eq}

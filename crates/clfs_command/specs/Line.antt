@@ -1,4 +1,4 @@
--- The program's command line behind FOLDER, as clap reads it: one command whose subcommands have options, with a value or none, and words of their
+-- The program's command line after FOLDER, as clap reads it: one command whose subcommands have options, with a value or none, and words of their
 -- own. There is no help among the words that it takes.
 use Rattle.std.specs.Prelude.{true, [], ◌∷◌, codes, Some}
 use Rattle.clap.specs.Simple.{App, on_top, new_app, new_rule, with_rule, with_subcommand}
@@ -64,7 +64,7 @@ abbrev pub dump_line : App
 dump_line = with_rule (with_rule (with_rule (with_rule (command_named (codes "dump")) (option (codes "from"))) (option (codes "to")))
     (option (codes "stream"))) (with_default (codes "data") (codes "hex"))
 
--- the words behind FOLDER, of which the first names the subcommand
+-- the words after FOLDER, of which the first names the subcommand
 abbrev pub command_line : App
 command_line = with_subcommand (with_subcommand (with_subcommand (with_subcommand (with_subcommand (with_subcommand (with_subcommand (with_subcommand (on_top
     (λ s. record s { no_binary_name = true; disable_help_subcommand = true; subcommand_required = true }) (command_named (codes "clfs")))

@@ -1,4 +1,4 @@
-// How each command is asked for, as it is said of words that name none. The line is chosen by the command alone: which of the words behind it is wrong
+// How each command is asked for, as it is said of words that name none. The line is chosen by the command alone: which of the words after it is wrong
 // is for the reader to see, by the form and the ranges.
 use std::alloc::{AllocError, Global};
 
@@ -23,7 +23,7 @@ fn known_form(command: &str) -> Option<&'static str> {
     }
 }
 
-/// Which words are allowed, for words that are no command: behind FOLDER, or behind the command that the first of them names.
+/// Which words are allowed, for words that are no command: after FOLDER, or after the command that the first of them names.
 pub fn form_of(alloc: Global, words: &[String]) -> Result<String, AllocError> {
     let Some(first) = words.first() else {
         return String::from_str(

@@ -59,13 +59,13 @@ const NOTES: &str = "\
 Options may stand in any order, as --containers 4 or --containers=4; numbers are decimal, without a sign or a zero in front.
 Status 1: the words are no command, and standard error says which are.";
 
-// Adds a part of the help behind an empty line.
+// Adds a part of the help after an empty line.
 fn push_part(part: &str, text: &mut String) -> Result<(), AllocError> {
     text.push('\n')?;
     text.push_str(part)
 }
 
-// Adds the notes on a command behind its options.
+// Adds the notes on a command after its options.
 fn push_notes(notes: &str, text: &mut String) -> Result<(), AllocError> {
     push_part(notes, text)?;
     text.push('\n')

@@ -1,6 +1,6 @@
 //! The words of the program: which command they name.
 //!
-//! clap reads the words behind FOLDER as one command with one level of subcommands. What it finds in them, and when it finds a
+//! clap reads the words after FOLDER as one command with one level of subcommands. What it finds in them, and when it finds a
 //! fault, is what its own definitions say of a command line of this form (`specs/Line.antt`); which numbers the options may have
 //! is said here (`specs/Command.antt`). The texts of the help stand beside the options that they explain.
 #![tactic(auto)]

@@ -1,4 +1,4 @@
-// The command line behind FOLDER, as clap takes it.
+// The command line after FOLDER, as clap takes it.
 ghost use Rattle.std.specs.Prelude.{◌≡◌, IfOk, codes, false};
 ghost use Rattle.clap.specs.Words.{app_of, rule_of};
 ghost use Rattle.clfs_command.specs.Line.{option, needed, with_default, flag, word, command_named, format_line, serve_line, race_line, trial_line, crew_line, check_line, crowd_line, dump_line, command_line};

@@ -1,4 +1,4 @@
-// Which command the words behind FOLDER name.
+// Which command the words after FOLDER name.
 ghost use Rattle.std.specs.Prelude.{◌≡◌, take, map, Some, None, IfSome, IfOk, IfErr};
 ghost use Rattle.std.specs.Option.{option_and_then};
 ghost use Rattle.std.specs.String.{string_bytes};
@@ -36,7 +36,7 @@ pub enum DataWord {
 /// The name of a stream that is asked for, of 1 to 64 bytes.
 #[derive(Clone, Copy, Debug, PartialEq, Eq)]
 pub struct AskedName {
-    /// Its bytes, and zeros behind them.
+    /// Its bytes, and zeros after them.
     pub bytes: [u8; 64],
     /// How many they are.
     pub length: u32,

@@ -24,7 +24,7 @@ HasStopped limits Is InPart NoMemory left left_after written written_after sourc
 HasStopped limits Is InPart TooLong left left_after written written_after source source_after sink sink_after =
     Writes (IsAnswerBeforeLimit limits Is left left_after) written written_after
 
--- Why one line isn't answered whole: it is too long, and nothing has changed, or memory ran out, before it was answered or behind that.
+-- Why one line isn't answered whole: it is too long, and nothing has changed, or memory ran out, before it was answered or after that.
 abbrev pub StopsLine : Stop → List ℕ → Type 0 → Type 0 → Type 0
 StopsLine TooLong line Same Unwritten = (serve_limits.line < length line) × Same
 StopsLine NoMemory line Same Unwritten = (length line ≤ serve_limits.line) × (Same ⊎ Unwritten)

@@ -6,7 +6,7 @@ use Rattle.std.specs.List.{concat}
 abbrev pub Answered : Type 0 → Type 1
 Answered A = A → List ℕ → List ℕ → A → Type 0
 
--- one line was answered, and its reply stands behind the output
+-- one line was answered, and its reply stands after the output
 abbrev pub AnswersLine : {A : Type 0} → Answered A → A → List ℕ → List ℕ → List ℕ → A → Type 0
 AnswersLine answers a line before after b = (reply : List ℕ) × (answers a line reply b × (after ≡ before ++ reply))
 

@@ -18,7 +18,7 @@ pub trait Answering {
     /// It answered this line by this reply, and came from one state to another.
     ghost answers: { Self → List ℕ → List ℕ → Self → Type 0 };
 
-    /// Answers a line that comes without its line feed, and puts the reply behind the output. If memory runs out nothing has changed, or the
+    /// Answers a line that comes without its line feed, and puts the reply after the output. If memory runs out nothing has changed, or the
     /// line was answered and its reply is lost.
     fn answer(&mut self, alloc: Global, line: &[u8], out: &mut Bytes) -> Result<(), AllocError>
         requires { length line.now ≤ 4294967295 }

@@ -25,7 +25,7 @@ pub fn cleared(bytes: Bytes) -> Bytes
     Bytes::from_vec(bytes)
 }
 
-// Answers the lines of a script that have their line feed, and keeps what stands behind the last one.
+// Answers the lines of a script that have their line feed, and keeps what stands after the last one.
 fn answer_ended_lines<A: Answering, S: Source, K: Sink>(
     alloc: Global,
     answering: &mut A,

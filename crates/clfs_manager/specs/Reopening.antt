@@ -29,6 +29,7 @@ pub record TellsReason (refusal : Refusal) : Type 0 where
   pub told : TellsOpening reason
   pub is : refusal ≡ refused_as reason
 
+-- the same of damage alone; of other refusals nothing is said
 abbrev pub TellsPlace : Refusal → Type 0
 TellsPlace (refusals.Damaged container offset at) = TellsReason (refusals.Damaged container offset at)
 TellsPlace _ = Unit {0}
