@@ -150,6 +150,13 @@ read_there told s client number lsn mode happened cursor read t whole valid step
     ∙ ap (λ (l : ℕ). change_area (with_cursor (record { number = cursor; kind = Records mode; last = l })) area.client area.number s) at in
     (found.1 ∙ at, made_at s t client number cursor mode area lsn valid place.1 left)
 
+-- a client that read has the area
+pub area_read : (told : Bool) (s : State) (client number lsn : ℕ) (mode : Mode) (happened : Happened) (cursor : ℕ) (read : LogEntry) (t : State) → s.broken ≡ false
+    → Step told s client (calls.Read number lsn mode) happened (replies.Found cursor read) t → (area : Area) × (area_of s client number ≡ Some area)
+area_read told s client number lsn mode happened cursor read t whole step =
+    let parts = answered told s client (calls.Read number lsn mode) happened (replies.Found cursor read) t whole refl step in
+    let place = area_there (area_of s client number) (λ (area : Area). read_refusal s area lsn) parts.0 in (place.0, place.1)
+
 -- ---- reading on
 
 abbrev moved_if : ℕ → ℕ → Cursor → Cursor

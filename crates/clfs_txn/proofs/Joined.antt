@@ -42,7 +42,7 @@ later_from a b p = record {
 rises_before : (a b c : ℕ) → a ≤ b → Rises b c → Rises a c
 rises_before a b c le rises = omega (arith, le, rises)
 
-tells_on : (a b : DiskState) → b.nature ≡ a.nature → TellsContents a → TellsContents b
+pub tells_on : (a b : DiskState) → b.nature ≡ a.nature → TellsContents a → TellsContents b
 tells_on a b same tells = subst (λ (n : Nature). IsTrue n.tells_contents) (sym same) tells
 
 -- the first met no fault

@@ -9,9 +9,16 @@ mod Answered
 mod Cursors
 mod Appended
 mod Logged
+mod Leads
+mod LoadSteps
 mod Undone
 mod Ends
 mod Above
 mod Restarts
 mod Quiet
 mod Backs
+mod Ways
+mod NextRead
+mod Rounds
+mod LoadParts
+mod LoadWhole

@@ -20,32 +20,7 @@ use Rattle.clfs_cells.specs.Calls.{Answered, append_call, compensation, stops, u
 use Rattle.clfs_cells.specs.Stored.{Memory, Transaction, is_at, newest_standing, with_undone}
 use Rattle.clfs_txn.specs.Calls.{HasSameArea, Leads, or_ended, or_stopped}
 use Rattle.clfs_txn.specs.Reading.{IsAt, IsSetOf}
-use Rattle.clfs_txn.proofs.Carried.{one_call}
-
-pub leads_on : (told : Bool) (client : ℕ) (a b c : State) (p q r : Plan Answered) → Leads told client a p b q → Leads told client b q c r → Leads told client a p c r
-leads_on told client a b c p q r first second = record { carried = λ result t carries. first.carried result t (second.carried result t carries) }
-
-pub leads_nowhere : (told : Bool) (client : ℕ) (log : State) (plan : Plan Answered) → Leads told client log plan log plan
-leads_nowhere told client log plan = record { carried = λ result t carries. carries }
-
--- one call of the log
-pub leads_call : (told : Bool) (client : ℕ) (log : State) (call : Call) (rest : Reply → Plan Answered) (reply : Reply) (mid : State)
-    → Step told log client call (happened_of reply) reply mid → Leads told client log (calls call rest) mid (rest reply)
-leads_call told client log call rest reply mid step =
-    record { carried = λ result t carries. one_call told client log call rest reply mid result t step carries }
-
--- the same plan, by other names
-pub leads_from : (told : Bool) (client : ℕ) (a b : State) (p other q : Plan Answered) → other ≡ p → Leads told client a p b q → Leads told client a other b q
-leads_from told client a b p other q same leads = subst (λ (x : Plan Answered). Leads told client a x b q) (sym same) leads
-
-pub leads_to : (told : Bool) (client : ℕ) (a b : State) (p q other : Plan Answered) → q ≡ other → Leads told client a p b q → Leads told client a p b other
-leads_to told client a b p q other same leads = subst (λ (x : Plan Answered). Leads told client a p b x) same leads
-
-pub by_client : (told : Bool) (client same : ℕ) (a b : State) (p q : Plan Answered) → client ≡ same → Leads told client a p b q → Leads told same a p b q
-by_client told client same a b p q is leads = subst (λ (c : ℕ). Leads told c a p b q) is leads
-
-pub by_told : (told same : Bool) (client : ℕ) (a b : State) (p q : Plan Answered) → told ≡ same → Leads told client a p b q → Leads same client a p b q
-by_told told same client a b p q is leads = subst (λ (x : Bool). Leads x client a p b q) is leads
+use Rattle.clfs_txn.proofs.Leads.{leads_call, leads_from, leads_nowhere, leads_on, leads_to}
 
 -- ---- the same step and the same place, by other names
 

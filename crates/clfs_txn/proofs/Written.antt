@@ -85,6 +85,10 @@ pub where_not : (b : Bool) (A B : Type 0) → b ≡ false → MatchBool b A B �
 where_not true A B e x = absurd (cc e)
 where_not false A B e x = x
 
+pub where_so : (b : Bool) (A B : Type 0) → b ≡ true → MatchBool b A B → A
+where_so true A B e x = x
+where_so false A B e x = absurd (cc e)
+
 -- a call of the log that doesn't call the disk is answered no fault of it
 pub no_fault : {A : Type 0} (told : Bool) (s : State) (client : ℕ) (call : Call) (answer : A → Reply) (result : Result A Refusal) (t : State) → s.broken ≡ false
     → calls_disk s call ≡ false → Steps told s client call answer result t → IsErrOf result log_refusals.DiskFault → ⊥

@@ -73,10 +73,14 @@ abbrev pub checkpoint_of : Memory → Checkpoint
 checkpoint_of memory = record { cells = memory.cells; last = memory.last }
 
 -- Part of a plan was carried out, up to this rest: whoever carries the rest out has carried out the plan.
-pub record Leads (told : Bool) (client : ℕ) (log : State) (plan : Plan Answered) (mid : State) (rest : Plan Answered) : Type 0 where
-  pub carried : (result : Answered) (t : State) → CarriesOut told client mid rest result t → CarriesOut told client log plan result t
+pub record LeadsTo (A : Type 0) (told : Bool) (client : ℕ) (log : State) (plan : Plan A) (mid : State) (rest : Plan A) : Type 0 where
+  pub carried : (result : A) (t : State) → CarriesOut told client mid rest result t → CarriesOut told client log plan result t
 
--- how a plan goes on behind sets that were taken back, or behind the refusal that stopped it
+-- so with the plan of a store's call
+abbrev pub Leads : Bool → ℕ → State → Plan Answered → State → Plan Answered → Type 0
+Leads = LeadsTo Answered
+
+-- how a plan goes on after sets that were taken back, or after the refusal that stopped it
 abbrev pub or_stopped : {A : Type 0} → (Memory → Plan Answered) → Result A Refusal → Memory → Plan Answered
 or_stopped rest (Ok value) memory = rest memory
 or_stopped rest (Err refusal) memory = stops memory refusal

@@ -1,3 +1,4 @@
 pub mod Kept
 pub mod Calls
 pub mod Reading
+pub mod Loading

@@ -14,6 +14,10 @@ ghost use Rattle.clfs_lsn.specs.declared.cursor.Mode.{Mode as Way};
 ghost use Rattle.clfs_lsn.specs.declared.cursor.Mode.TheVariants.{UndoNext};
 ghost use Rattle.clfs_lsn.specs.declared.entry.LogEntry.{LogEntry as Record};
 ghost use Rattle.clfs_txn.specs.Calls.{Leads, is_break, breaks, draft_of};
+ghost use Rattle.clfs_disk.specs.State.{TellsContents};
+ghost use Rattle.clfs_model.specs.Happened.{happened_of};
+ghost use Rattle.clfs_model.specs.Step.{Step};
+ghost use Rattle.clfs_model.specs.declared.reply.Reply.{Reply};
 ghost use Rattle.clfs_txn.specs.Reading.{HasLink, IsAt, IsSet};
 
 use crate::store::TxnStore;
@@ -175,6 +179,7 @@ impl<D: Disk> TxnStore<D> {
         ensures whole { OnOk result (self.new.0.log.broken ≡ false) }
         ensures at { IfOk result (λ found. IsAt self.new.0.log self.old.0.memory.client self.old.0.memory.area found.0 mode lsn) }
         ensures there { IfOk result (λ found. found.1.lsn ≡ lsn) }
+        ensures damage { TellsContents (D.state self.old.1) → (container offset at : ℕ) → IsErrOf result (log_refusals.Damaged container offset at) → ⊥ }
     {
         faults_break();
         unbroken_stays();
@@ -200,6 +205,7 @@ impl<D: Disk> TxnStore<D> {
             → IsAt self.new.0.log self.old.0.memory.client self.old.0.memory.area cursor mode entry.lsn) }
         ensures set { IfOk result (λ entry. (number last : ℕ) → IsAt self.old.0.log self.old.0.memory.client self.old.0.memory.area cursor UndoNext last
             → IsSet self.old.0.memory number last → IsSet self.old.0.memory number entry.lsn) }
+        ensures damage { TellsContents (D.state self.old.1) → (container offset at : ℕ) → IsErrOf result (log_refusals.Damaged container offset at) → ⊥ }
     {
         faults_break();
         unbroken_stays();
@@ -216,6 +222,8 @@ impl<D: Disk> TxnStore<D> {
     pub(crate) fn end_read(&mut self, cursor: u16)
         ensures step { (told : Bool) (rest : Plan Answered) → Leads told self.old.0.memory.client self.old.0.log
             (with_read_ended self.old.0.memory cursor rest) self.new.0.log rest }
+        ensures ended { (told : Bool) → (reply : Reply) × Step told self.old.0.log self.old.0.memory.client (calls.EndRead self.old.0.memory.area cursor)
+            (happened_of reply) reply self.new.0.log }
         ensures same { self.new.0.log.broken ≡ self.old.0.log.broken }
         ensures disk { self.new.1 ≡ self.old.1 }
         ensures memory { self.new.0.memory ≡ self.old.0.memory }

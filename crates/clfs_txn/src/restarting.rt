@@ -35,7 +35,7 @@ fn bytes_of(alloc: Global, checkpoint: &Checkpoint) -> Result<Bytes, AllocError>
 
 impl<D: Disk> TxnStore<D> {
     // What the log and the stream are like.
-    fn info(&self) -> Result<LogInfo, Refusal>
+    pub(crate) fn info(&self) -> Result<LogInfo, Refusal>
         requires { self.now.0.log.broken ≡ false }
         ensures step { (told : Bool) → Steps told self.now.0.log self.now.0.memory.client (calls.Info self.now.0.memory.stream) log_replies.Info result self.now.0.log }
         ensures calm { IsErrOf result log_refusals.DiskFault → ⊥ }
@@ -47,7 +47,7 @@ impl<D: Disk> TxnStore<D> {
     }
 
     // Writes a restart area with all cells, and the base.
-    fn write_restart(&mut self, base: Lsn) -> Result<Lsn, Refusal>
+    pub(crate) fn write_restart(&mut self, base: Lsn) -> Result<Lsn, Refusal>
         requires { self.old.0.log.broken ≡ false }
         ensures step { (told : Bool) → Steps told self.old.0.log self.old.0.memory.client
             (calls.WriteRestart self.old.0.memory.area (checkpoint_bytes (checkpoint_of self.old.0.memory)) base false) log_replies.Placed result self.new.0.log }

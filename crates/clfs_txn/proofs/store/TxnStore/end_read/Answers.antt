@@ -4,7 +4,7 @@ use Rattle.clfs_manager.specs.Calls.{replied}
 use Rattle.clfs_txn.proofs.Asked.{same_step, end_read_is}
 use Rattle.clfs_txn.proofs.Breaking.{still_logged}
 use Rattle.clfs_txn.proofs.Quiet.{QuietLaws, still_broken}
-use Rattle.clfs_txn.proofs.Undone.{leads_call}
+use Rattle.clfs_txn.proofs.Leads.{leads_call}
 use Rattle.clfs_txn.proofs.store.TxnStore.end_read.Goals as goal
 
 pub invariant_of-self : goal.invariant_of-self
@@ -26,3 +26,10 @@ pub returns-clause-same : goal.returns-clause-same
 returns-clause-same g c =
     let laws : QuietLaws = record { unbroken = c.unbroken_stays.ensures.calls; broken = c.broken_stays.ensures.calls } in
     still_broken laws true _ _ _ _ _ (record { disk = refl; reads = refl; memory = refl }) (c.end_read.ensures.step true) ∙ ap (λ v. v.0.log.broken) c.self.view_is
+
+pub returns-clause-ended : goal.returns-clause-ended
+returns-clause-ended g c = λ told. (
+  replied (λ _. replies.Done) c.end_read.result,
+  same_step told _ _ _ _ _ _ _ _ _ (ap (λ v. v.0.log) c.self.view_is) (c.client.ensures ∙ ap (λ v. v.0.memory.client) c.self.view_is)
+      (end_read_is _ _ _ (c.area.ensures ∙ ap (λ v. v.0.memory.area) c.self.view_is)) (c.end_read.ensures.step told),
+)

@@ -6,7 +6,8 @@ use Rattle.clfs_cells.specs.Calls.{with_read_ended}
 use Rattle.clfs_cells.specs.Stored.{Memory}
 use Rattle.clfs_txn.specs.Reading.{IsSet}
 use Rattle.clfs_txn.proofs.Joined.{then_ok, writes_then}
-use Rattle.clfs_txn.proofs.Undone.{areas_then, at_by, behind_set, by_client, last_undone, not_undone, same_area, started, step_by, went_nowhere, went_on}
+use Rattle.clfs_txn.proofs.Leads.{by_client}
+use Rattle.clfs_txn.proofs.Undone.{areas_then, at_by, behind_set, last_undone, not_undone, same_area, started, step_by, went_nowhere, went_on}
 use Rattle.clfs_txn.proofs.Written.{nothing, of_same}
 use Rattle.clfs_txn.proofs.store.TxnStore.undo_from.Goals as goal
 

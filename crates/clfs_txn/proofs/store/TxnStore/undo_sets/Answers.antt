@@ -11,7 +11,8 @@ use Rattle.clfs_txn.specs.Reading.{IsSet}
 use Rattle.clfs_txn.proofs.Asked.{same_call}
 use Rattle.clfs_txn.proofs.Joined.{then_ok, writes_then}
 use Rattle.clfs_txn.proofs.Logged.{newest_is_set}
-use Rattle.clfs_txn.proofs.Undone.{by_client, by_told, leads_from, some_undone}
+use Rattle.clfs_txn.proofs.Leads.{by_client, by_told, leads_from}
+use Rattle.clfs_txn.proofs.Undone.{some_undone}
 use Rattle.clfs_txn.proofs.Written.{nothing, of_same}
 use Rattle.clfs_txn.proofs.store.TxnStore.undo_sets.Goals as goal
 
