@@ -21,10 +21,11 @@ use Rattle.clfs_archive_form.specs.declared.archive.Stored.{Stored}
 use Rattle.clfs_archive_form.specs.Form.{count_at}
 use Rattle.clfs_archive_form.specs.Copies.{with_tail}
 
--- the first byte of container 1 as an LSN, and of the second container
+-- the first byte of container 1 as an LSN
 abbrev pub first_lsn : ℕ
 first_lsn = 4294967296
 
+-- the first byte of container 2
 abbrev pub second_lsn : ℕ
 second_lsn = 8589934592
 
@@ -40,30 +41,35 @@ block_with start entries =
     let payload = used_payload 165 (length entries) content in
     payload ++ (replicate (sector_payload - length payload) 0 ++ little_bytes 8 start)
 
--- the two records of the small log, each in a block of its own
+-- the first record of the small log, which has two, each in a block of its own
 abbrev pub first_record : LogEntry
 first_record = small_record first_lsn 0 170
 
+-- the second one, whose links name the first
 abbrev pub second_record : LogEntry
 second_record = small_record (first_lsn + 512) first_lsn 187
 
+-- the block of the first record
 abbrev pub first_block : List ℕ
 first_block = block_with first_lsn (first_record ∷ [])
 
+-- the block of the second record
 abbrev pub second_block : List ℕ
 second_block = block_with (first_lsn + 512) (second_record ∷ [])
 
--- a block of three records
+-- three records
 abbrev pub three_records : List LogEntry
 three_records = small_record first_lsn 0 1 ∷ small_record (first_lsn + 1) first_lsn 2 ∷ small_record (first_lsn + 2) first_lsn 3 ∷ []
 
+-- their block
 abbrev pub three_block : List ℕ
 three_block = block_with first_lsn three_records
 
--- a record in container 2, and its block
+-- a record in container 2
 abbrev pub further_record : LogEntry
 further_record = small_record second_lsn first_lsn 204
 
+-- its block
 abbrev pub further_block : List ℕ
 further_block = block_with second_lsn (further_record ∷ [])
 
@@ -71,6 +77,7 @@ further_block = block_with second_lsn (further_record ∷ [])
 abbrev pub copy_with : ℕ → BaseImage
 copy_with base = record small_image { archiving = true; tail = first_lsn; streams = record { name = 115 ∷ []; base = base } ∷ [] }
 
+-- that copy with the base 0
 abbrev pub small_copy : BaseImage
 small_copy = copy_with 0
 

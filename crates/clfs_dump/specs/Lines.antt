@@ -11,10 +11,11 @@ use Rattle.clfs_base.specs.declared.image.Row.{Row}
 use Rattle.clfs_dump.specs.declared.selection.DataForm.{DataForm}
 use Rattle.clfs_dump.specs.declared.selection.DataForm.TheVariants.{Hex, Text, Nothing}
 
--- a text and then a number, or an LSN
+-- a text and then a number
 abbrev pub number_after : List ℕ → ℕ → List ℕ
 number_after text number = text ++ decimal number
 
+-- a text and then an LSN
 abbrev pub place_after : List ℕ → ℕ → List ℕ
 place_after text lsn = text ++ lsn_text lsn
 

@@ -48,6 +48,7 @@ followed_by text records (Ok value) next =
     record { text = text ++ (next value).text; records = records ++ (next value).records; found = (next value).found }
 followed_by text records (Err refusal) next = record { text = text; records = records; found = Err refusal }
 
+-- what is told first, and then what is told by what was found
 abbrev pub then_told : {S T : Type 0} → Told S → (S → Told T) → Told T
 then_told told next = followed_by told.text told.records told.found next
 

@@ -110,7 +110,8 @@ fn put_archive<D: Disk>(
 /// Appends an archive of a log that was just loaded to `out`: its newest base copy, and the open blocks of the containers from the archive tail's to
 /// the last that is listed. The archive tail stays where it is.
 ///
-/// Refused in this order: `Log(Ephemeral)`, `Log(DiskFault)` or `Log(Damaged)`, `TooLong`, `NoMemory`. `out` is as before then.
+/// Refused in this order: `Log(Ephemeral)`, `Log(DiskFault)` or `Log(Damaged)`, `TooLong`; `NoMemory` may come in place of any answer. `out` is as before
+/// then.
 pub fn write_archive<D: Disk>(
     alloc: Global,
     manager: &mut Manager<D>,
@@ -118,9 +119,10 @@ pub fn write_archive<D: Disk>(
 ) -> Result<(), ArchiveRefusal>
     requires loaded { IsJustLoaded (D.state manager.old.1) manager.old.0 }
 
-    // What is appended is exactly the archive of the log's files, which has no more bytes than it may have.
+    // What is appended is exactly the archive of the log's files. Whatever the disk, it has no more bytes than an archive may have.
     ensures archive { OnOk result (TellsContents (D.state manager.old.1)
         → (bytes : List ℕ) × IsArchiveOf (D.state manager.old.1).files bytes × (length bytes ≤ most_archive) × (out.new ≡ out.old ++ bytes)) }
+    ensures appended { OnOk result ((bytes : List ℕ) × (length bytes ≤ most_archive) × (out.new ≡ out.old ++ bytes)) }
     ensures unwritten { OnErr result (out.new ≡ out.old) }
 
     // Archiving is off just where that is told, unless memory is wanted. Each refusal has its cause, and no other comes.
