@@ -19,7 +19,7 @@ use Rattle.clfs_model.specs.Journals.{GoesOn, IsLegal, mine}
 use Rattle.clfs_model.specs.Step.{Step}
 use Rattle.clfs_model.specs.Valid.{IsValid}
 use Rattle.clfs_shared.specs.declared.opening.Opening.{Opening}
-use Rattle.clfs_shared.specs.Journal.{entry_of, has_fault, has_damage}
+use Rattle.clfs_shared.specs.Journal.{entry_of, has_fault, has_damage, is_out_of_memory}
 use Rattle.clfs_shared.specs.Reached.{is_calm as calm_of}
 use Rattle.clfs_shared.specs.Sessions.{SessionState, IsLegalFrom, IsOf, IsStepped, SharedState, own_entries}
 use Rattle.clfs_group.specs.Groups.{GroupParts, HasFlushed, HasGroupEntries, IsGroup, IsStable, is_flush_by, making, parts_of}
@@ -168,8 +168,16 @@ flushed_group fronts valid past first stream lsn answer g t begin same z is = re
   mark = flushed_by fronts valid past g.session t g.area lsn answer begin same z;
 }
 
+-- an answer is above the LSN
+pub above_by : StaysValid → GoesPast → (s t : SessionState) (area lsn answer : ℕ) → IsValid s.opening.state
+    → IsStepped s t (calls.FlushTo area lsn) (replies.Flushed answer) → lsn < answer
+above_by valid past s t area lsn answer begin z =
+    let told = s.opening.tells_contents in
+    let ok = valid told s.opening.state z.found z.before begin z.legal in
+    (past told z.found s.client area lsn (happened_of (replies.Flushed answer)) answer z.left ok z.step).0
+
 -- one whose flush was refused
-pub refused_group : FrontsAreLegal → NeverFalls → StaysValid → (first : SessionState) (stream lsn : ℕ) (reply : Reply) (g : GroupParts) (t : SessionState) → IsValid g.session.opening.state
+refused_group : FrontsAreLegal → NeverFalls → StaysValid → (first : SessionState) (stream lsn : ℕ) (reply : Reply) (g : GroupParts) (t : SessionState) → IsValid g.session.opening.state
     → IsSameSeat g.session t → IsStepped g.session t (calls.FlushTo g.area lsn) reply → IsGroup first stream g → IsGroup first stream (parts_of t g.area g.mark)
 refused_group fronts falls valid first stream lsn reply g t begin same z is =
     let more = seen_more g.session t (calls.FlushTo g.area lsn) reply z in record {
@@ -180,12 +188,27 @@ refused_group fronts falls valid first stream lsn reply g t begin same z is =
     }
 
 -- a session that has seen no more
-pub unseen : (s t : SessionState) → IsSameSeat s t → t.seen ≡ s.seen → own_entries t ≡ own_entries s
+unseen : (s t : SessionState) → IsSameSeat s t → t.seen ≡ s.seen → own_entries t ≡ own_entries s
 unseen s t same is = ap (λ (c : ℕ). mine t.seen c) same.client ∙ ap (λ (es : List Entry). mine es s.client) is
 
 -- a list begins with an equal one
-pub prefix_same : (xs ys : List Entry) → ys ≡ xs → IsPrefix xs ys
+prefix_same : (xs ys : List Entry) → ys ≡ xs → IsPrefix xs ys
 prefix_same xs ys is = ([], append-nil xs ∙ sym is)
+
+-- either memory ran out, or not
+pub by_memory : (b : Bool) (P : Type 0) → (b ≡ true → P) → (b ≡ false → P) → P
+by_memory true P out other = out refl
+by_memory false P out other = other refl
+
+-- a group whose flush gave another reply than an answer
+pub kept_group : FrontsAreLegal → NeverFalls → StaysValid → (first : SessionState) (stream lsn : ℕ) (reply : Reply) (g : GroupParts) (t : SessionState) → IsValid g.session.opening.state
+    → IsSameSeat g.session t → (is_out_of_memory reply ≡ true → t.seen ≡ g.session.seen)
+    → (is_out_of_memory reply ≡ false → IsStepped g.session t (calls.FlushTo g.area lsn) reply) → IsGroup first stream g → IsGroup first stream (parts_of t g.area g.mark)
+kept_group fronts falls valid first stream lsn reply g t begin same none step is =
+    by_memory (is_out_of_memory reply) (IsGroup first stream (parts_of t g.area g.mark))
+    (λ out. let seen = none out in
+    still_group fronts falls valid first stream g t begin same (prefix_same g.session.seen t.seen seen) (unseen g.session t same seen) is)
+    (λ off. refused_group fronts falls valid first stream lsn reply g t begin same (step off) is)
 
 -- ---- a call between two meetings
 

@@ -31,7 +31,7 @@ use Rattle.clfs_shared.specs.Journal.{entry_of, is_out_of_memory}
 use Rattle.clfs_shared.specs.Sessions.{SessionState, IsCalmReply, IsStepped, own_entries}
 use Rattle.clfs_group.specs.Answers.{StandsBehind, flush_reply, may_refuse_flush, placed_by, placed_lsns}
 use Rattle.clfs_group.specs.Groups.{GroupParts, HasGroupEntries, IsStable, is_flush_by, making}
-use Rattle.clfs_group.proofs.Growing.{StaysValid, prefix_on}
+use Rattle.clfs_group.proofs.Growing.{StaysValid, by_memory, prefix_on}
 use Rattle.clfs_group.proofs.Placed.{AreOfKind, OnlyAdds, StepsStayValid, placed_below}
 
 -- ---- what the laws say
@@ -110,11 +110,6 @@ nonexistent first s t number lsn at given z is =
     (first s.opening.tells_contents z.found s.client (calls.FlushTo number lsn) (happened_of (replies.Refused (refusals.RecordNonexistent at)))
     (refusals.RecordNonexistent at) z.left refl (subst F is z.step))
 
--- either memory ran out, or not
-pub by_memory : (b : Bool) (P : Type 0) → (b ≡ true → P) → (b ≡ false → P) → P
-by_memory true P out other = out refl
-by_memory false P out other = other refl
-
 memory_refused : (lsn : ℕ) (given : Refusal) → is_out_of_memory (replies.Refused given) ≡ true → may_refuse_flush lsn given ≡ true
 memory_refused lsn refusals.NoMemory out = refl
 memory_refused lsn _ out = absurd (cc out)
@@ -135,6 +130,11 @@ flush_refused made missing is_first kind first stream lsn g t given step has =
     (λ is. let none = missing told z.found s.client call (happened_of (replies.Refused refusals.NoSuchArea)) z.left (subst F is z.step) in
     let clash : Some there.0 ≡ None = sym there.1 ∙ none in cc clash)
     (λ at is. (nonexistent is_first s t g.area lsn at given z is).0))
+
+-- a reply to a flush is of its kind
+pub flush_kind : AreOfKind → (s t : SessionState) (area lsn : ℕ) (reply : Reply) → IsStepped s t (calls.FlushTo area lsn) reply → is_reply_of (calls.FlushTo area lsn) reply ≡ true
+flush_kind kind s t area lsn reply z =
+    kind s.opening.tells_contents z.found s.client (calls.FlushTo area lsn) (happened_of reply) reply z.left z.step
 
 placed_lsns-append : (es more : List Entry) → placed_lsns (es ++ more) ≡ placed_lsns es ++ placed_lsns more
 placed_lsns-append [] more = refl

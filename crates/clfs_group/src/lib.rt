@@ -15,6 +15,7 @@
 //! Not claimed: that two threads ever share a flush, that a call returns, or an order between sessions that never met.
 #![tactic(auto)]
 
+mod flushing;
 mod group;
 mod lasting;
 mod naming;

@@ -15,12 +15,12 @@ ghost use Rattle.clfs_shared.specs.Sessions.{IsCalmReply, IsOf, IsStepped, own_e
 ghost use Rattle.clfs_group.specs.Answers.{StandsBehind, flush_reply, may_refuse_flush, may_refuse_group, placed_lsns};
 ghost use Rattle.clfs_group.specs.Groups.{HasGroupEntries, IsGroup, IsSameGroup, IsStable, making, parts_of};
 
+use crate::flushing::flushes_keep_a_group;
 use crate::naming::GroupName;
 use clfs_disk::Disk;
 use clfs_laws::{
-    a_flush_goes_past_its_lsn, flushed_never_falls, fronts_are_legal, refusals_are_the_calls_own,
-    replies_are_of_their_calls, rows_are_by_own_entries, steps_keep_a_state_valid,
-    steps_only_add_records,
+    flushed_never_falls, fronts_are_legal, refusals_are_the_calls_own, replies_are_of_their_calls,
+    steps_keep_a_state_valid,
 };
 use clfs_lsn::Lsn;
 use clfs_model::{Call, Refusal, Reply};
@@ -141,14 +141,7 @@ impl<N: GroupName> GroupState<N> {
         ensures placed { Contains (placed_lsns self.old.session.seen) lsn → IfErr result (λ given. given ≢ refusals.RecordNonexistent lsn) }
         ensures calm { is_calm self.old.session.opening ≡ true → self.old.session.opening.state.broken ≡ false → IsCalmReply (flush_reply result) }
     {
-        a_flush_goes_past_its_lsn();
-        flushed_never_falls();
-        fronts_are_legal();
-        refusals_are_the_calls_own();
-        replies_are_of_their_calls();
-        rows_are_by_own_entries();
-        steps_keep_a_state_valid();
-        steps_only_add_records();
+        flushes_keep_a_group();
         log.opened();
         let call = Call::FlushTo {
             area: self.area,
