@@ -1,4 +1,5 @@
 pub mod Among
+pub mod Counting
 pub mod Extents
 pub mod Finding
 mod Found

@@ -1,5 +1,5 @@
 -- The ends of blocks against the heads of records.
-use Rattle.std.specs.Prelude.{◌≡◌, ℕ, ◌<◌, ◌≤◌, true, nat_le, List, [], ◌∷◌, ◌++◌, filter, All, AllPairs}
+use Rattle.std.specs.Prelude.{◌≡◌, ℕ, ◌*◌, ◌<◌, ◌≤◌, true, nat_le, List, [], ◌∷◌, ◌++◌, length, filter, All, AllPairs}
 use Rattle.std.specs.List.{Any}
 use Rattle.clfs_lsn.specs.Lsn.{sequence_of}
 use Rattle.clfs_lsn.specs.declared.entry.Head.{Head}
@@ -14,6 +14,10 @@ lsn_of_block block = block.last
 -- the blocks whose last record lies at or above an LSN
 abbrev pub blocks_from : ℕ → List BlockEnd → List BlockEnd
 blocks_from lsn blocks = filter (λ (block : BlockEnd). nat_le lsn block.last) blocks
+
+-- at most twice as many ends of blocks as lie from an LSN on
+abbrev pub AreFew : ℕ → List BlockEnd → Type 0
+AreFew lsn blocks = length blocks ≤ 2 * length (blocks_from lsn blocks)
 
 -- the end of a block of these records: its last one is there, no other of the block lies above it, and the block ends behind all of them
 pub record IsBlock (heads : List Head) (block : BlockEnd) : Type 0 where

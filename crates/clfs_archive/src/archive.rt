@@ -1,8 +1,9 @@
 // What archiving is set to, and the ends of the blocks.
-ghost use Rattle.std.specs.Prelude.{◌≡◌, true, ℕ, ◌+◌, ◌*◌, ◌<◌, ◌≤◌, All, List, [], ◌∷◌, ◌++◌, Some, length, drop, nat_le, find, OnOk, IfOk, IfSome};
+ghost use Rattle.std.specs.Prelude.{◌≡◌, true, ℕ, ◌+◌, ◌<◌, ◌≤◌, All, List, [], ◌∷◌, ◌++◌, Some, length, drop, nat_le, find, OnOk, IfOk, IfSome};
 ghost use Rattle.std.specs.Option.{option_map};
 ghost use Rattle.clfs_lsn.specs.Lsn.{sequence_of};
 ghost use Rattle.clfs_lsn.specs.declared.entry.Head.{Head};
+ghost use Rattle.clfs_lsn.specs.Heads.{heads_from};
 ghost use Rattle.clfs_model.specs.Archive.{is_in_block};
 ghost use Rattle.clfs_model.specs.declared.state.State.{State};
 ghost use Rattle.clfs_model.specs.Answers.{archiving};
@@ -11,7 +12,7 @@ ghost use Rattle.clfs_model.specs.Heads.{extents_of};
 ghost use Rattle.clfs_model.specs.Live.{hold};
 ghost use Rattle.clfs_model.specs.Refusals.{tail_refusal};
 ghost use Rattle.clfs_archive.specs.declared.block.BlockEnd.{BlockEnd};
-ghost use Rattle.clfs_archive.specs.Blocks.{IsBlock, AreBlocks, AreSealed, blocks_from};
+ghost use Rattle.clfs_archive.specs.Blocks.{IsBlock, AreBlocks, AreFew, AreSealed, blocks_from};
 
 use crate::block::{BlockEnd, extents_from};
 use clfs_lsn::{Lsn, forget_below, place_of};
@@ -51,6 +52,15 @@ impl Archive {
             tail,
             blocks: Vec::new(alloc),
         }
+    }
+
+    /// How many ends of blocks are kept.
+    pub fn len(&self) -> usize
+        ensures value { result ≡ length self.now.blocks }
+        ensures records { (lsn from stable : ℕ) (heads : List Head) → AreBlocks from stable self.now.blocks heads
+            → length (blocks_from lsn self.now.blocks) ≤ length (heads_from lsn heads) }
+    {
+        self.blocks.len()
     }
 
     /// The archive tail, where archiving is on.
@@ -119,6 +129,7 @@ impl Archive {
         ensures told { (from start next : ℕ) (heads : List Head) → AreSealed from start self.old.blocks heads → IsBlock heads block → start ≤ next
             → block.last < next → sequence_of next ≡ 0 → All (λ (head : Head). start ≤ head.lsn → is_in_block head.lsn block.last ≡ true) heads
             → AreSealed from next self.new.blocks heads }
+        ensures few { (lsn : ℕ) → lsn ≤ block.last → AreFew lsn self.old.blocks → AreFew lsn self.new.blocks }
         ensures room { self.new.room + 1 ≡ self.old.room }
     {
         self.blocks.push_reserved(block);
@@ -154,7 +165,7 @@ impl Archive {
         ensures tail { self.new.tail ≡ self.old.tail }
         ensures kept { blocks_from lsn self.new.blocks ≡ blocks_from lsn self.old.blocks }
         ensures end { (n : ℕ) × (self.new.blocks ≡ drop n self.old.blocks) }
-        ensures few { length self.new.blocks ≤ 2 * length (blocks_from lsn self.new.blocks) }
+        ensures few { AreFew lsn self.new.blocks }
         ensures told { (from stable : ℕ) (heads : List Head) → lsn ≤ from → AreBlocks from stable self.old.blocks heads → AreBlocks from stable self.new.blocks heads }
         ensures ended { (from next : ℕ) (heads : List Head) → lsn ≤ from → AreSealed from next self.old.blocks heads → AreSealed from next self.new.blocks heads }
         ensures room { self.old.room ≤ self.new.room }

@@ -54,6 +54,13 @@ impl StreamIndex {
         }
     }
 
+    /// How many heads are kept.
+    pub fn len(&self) -> usize
+        ensures { result ≡ length self.now.heads }
+    {
+        self.heads.len()
+    }
+
     /// Makes room for one more head.
     pub fn reserve(&mut self) -> Result<(), AllocError>
         ensures base { self.new.base ≡ self.old.base }

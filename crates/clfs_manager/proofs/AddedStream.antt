@@ -1,15 +1,19 @@
 -- A log with a stream more, in memory and on the disk.
-use Rattle.std.proofs.Common.{◌≡◌, ℕ, zero, suc, ◌+◌, ◌<◌, ◌≤◌, Bool, true, false, refl, sym, ap, subst, ◌∙◌, inl, inr, List, [], ◌∷◌, ◌++◌, length, map, arith}
-use Rattle.std.specs.Prelude.{Option, Some, None, Result, Ok, Err, IfOk, IfErr, if◌then◌else◌, ◌&&◌, ◌==◌, nat_le, nat_lt, not, is_none}
+use Rattle.std.proofs.Common.{◌≡◌, ℕ, zero, suc, ◌+◌, ◌-◌, ◌<◌, ◌≤◌, Bool, true, false, refl, sym, ap, subst, ◌∙◌, inl, inr, List, [], ◌∷◌, ◌++◌, length, map, arith}
+use Rattle.std.specs.Prelude.{Option, Some, None, Result, Ok, Err, IfOk, IfErr, filter, slice_get, if◌then◌else◌, ◌&&◌, ◌==◌, nat_le, nat_lt, not, is_none}
 use Rattle.std.specs.List.{list_all, position_or_len}
-use Rattle.std.specs.Option.{option_map_or}
+use Rattle.std.specs.Option.{option_map_or, option_to_list}
 use Rattle.std.specs.Str.{bytes_eq}
 use Rattle.std.proofs.lemmas.Bool.{cases_Bool}
 use Rattle.std.proofs.lemmas.Bool.Decides.{nat_tests}
 use Rattle.std.proofs.lemmas.Slice.Eq.{bytes_eq-Decides}
 use Rattle.clfs_lsn.specs.Limits.{longest_name, most_streams}
 use Rattle.clfs_lsn.specs.Lsn.{null_lsn, container_of}
+use Rattle.clfs_lsn.specs.Heads.{least_or}
 use Rattle.clfs_lsn.specs.Names.{is_name_byte}
+use Rattle.clfs_lsn.specs.Place.{frontier}
+use Rattle.clfs_lsn.specs.declared.entry.LogEntry.{LogEntry}
+use Rattle.clfs_lsn.specs.declared.stream.Stream.{Stream}
 use Rattle.clfs_disk.specs.State.{DiskState}
 use Rattle.clfs_base.specs.Spelling.{IsName, row_in}
 use Rattle.clfs_base.specs.declared.image.BaseImage.{BaseImage}
@@ -26,7 +30,8 @@ use Rattle.clfs_model.specs.Heads.{heads_of}
 use Rattle.clfs_archive.specs.Blocks.{AreSealed}
 use Rattle.clfs_tables.specs.Tables.{HasSame, Tabled}
 use Rattle.clfs_manager.specs.Memory.{Holds}
-use Rattle.clfs_model.specs.Live.{hold}
+use Rattle.clfs_model.specs.Live.{hold, is_live}
+use Rattle.clfs_model.specs.State.{base_of}
 use Rattle.clfs_model.specs.Refusals.{name_fault, open_refusal, refusal, refused_if, stream_number}
 use Rattle.clfs_lsn.specs.Streams.{stream_number_from}
 use Rattle.clfs_model.specs.Step.{Step}
@@ -155,6 +160,32 @@ stream_stored s slot image blocks name stored low log state = record {
   needed = low;
 }
 
+-- the bases of streams are as before
+base_added : (streams : List Stream) (name : List ℕ) (place : ℕ)
+    → option_map_or (λ (stream : Stream). stream.base) (slice_get (streams ++ record { name = name; base = null_lsn } ∷ []) place) null_lsn
+    ≡ option_map_or (λ (stream : Stream). stream.base) (slice_get streams place) null_lsn
+base_added [] name zero = refl
+base_added [] name (suc place) = refl
+base_added (stream ∷ streams) name zero = refl
+base_added (stream ∷ streams) name (suc place) = base_added streams name place
+
+base_stays : (s : State) (name : List ℕ) (number : ℕ) → base_of (with_stream name s) number ≡ base_of s number
+base_stays s name number = elim (cases_Bool (number == 0)) [
+  | inl none ↦ rw none refl
+  | inr some ↦ rw some (base_added s.streams name (number - 1))
+]
+
+live_stays : (s : State) (name : List ℕ) (records : List LogEntry) → filter (is_live (with_stream name s)) records ≡ filter (is_live s) records
+live_stays s name [] = refl
+live_stays s name (entry ∷ records) =
+    let same : is_live (with_stream name s) entry ≡ is_live s entry = ap (λ (base : ℕ). nat_le base entry.lsn) (base_stays s name entry.stream) in
+    rw same (ap (λ (rest : List LogEntry). if is_live s entry then entry ∷ rest else rest) (live_stays s name records))
+
+-- so the hold is
+pub hold_added : (s : State) (name : List ℕ) → hold (with_stream name s) ≡ hold s
+hold_added s name =
+    ap (λ (live : List LogEntry). least_or (frontier s.place) (option_to_list s.archive ++ map (λ (entry : LogEntry). entry.lsn) live)) (live_stays s name s.records)
+
 -- a log with room for a stream more is the same log
 pub intact_reserved : (disk : DiskState) (log : Log) (tables : Tabled) → HasSame log.tables tables → IsIntact disk log
     → IsIntact disk (record log { tables = tables })
@@ -193,6 +224,7 @@ intact_reserved disk log tables same intact =
         files = opened.files;
         kept = opened.kept;
         settled = opened.settled;
+        forgotten = record { low = omega (arith, same.low, opened.forgotten.low); ends = rw same.low opened.forgotten.ends };
       };
     }
 

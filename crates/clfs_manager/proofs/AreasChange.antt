@@ -18,7 +18,7 @@ use Rattle.clfs_queue.specs.Queued.{Queued}
 use Rattle.clfs_tables.specs.Tables.{Tabled}
 use Rattle.clfs_manager.specs.Calls.{Steps}
 use Rattle.clfs_manager.specs.declared.log.Log.{Log}
-use Rattle.clfs_manager.specs.Memory.{Holds, ChangesAreas}
+use Rattle.clfs_manager.specs.Memory.{ChangesAreas, HasForgotten, Holds}
 use Rattle.clfs_manager.specs.OnDisk.{IsStored, AreKept, IsOpen, IsManaged}
 
 -- the state with other areas
@@ -62,6 +62,10 @@ holds_still old new areas changes are holds = record {
   needed = rw changes.physical holds.needed;
 }
 
+-- as much is forgotten
+forgotten_still : (old new : Log) (areas : List Area) → ChangesAreas old new → HasForgotten old.state.value old → HasForgotten (record old.state.value { areas = areas }) new
+forgotten_still old new areas changes is = record { low = rw changes.tables is.low; ends = rw (changes.tables, changes.archive) is.ends }
+
 -- the log is open as before
 pub open_after : (disk : DiskState) (old new : Log) → ChangesAreas old new → IsOpen disk old.state.value old → IsOpen disk new.state.value new
 open_after disk old new changes opened =
@@ -73,6 +77,7 @@ open_after disk old new changes opened =
       files = rw changes.physical opened.files;
       kept = λ (tells : TellsContents disk). kept_still s new.state.value.areas new.buffers (rw changes.buffers (opened.kept tells));
       settled = opened.settled;
+      forgotten = forgotten_still old new new.state.value.areas changes opened.forgotten;
     })
 
 -- that each step leaves a valid state

@@ -4,7 +4,9 @@ use Rattle.std.specs.Prelude.{Result, Ok, Err, OnOk, OnErr}
 use Rattle.std.specs.Result.{is_err}
 use Rattle.clfs_disk.specs.State.{DiskState, IsSettled}
 use Rattle.clfs_model.specs.declared.state.State.{State}
+use Rattle.clfs_lsn.specs.Lsn.{container_of}
 use Rattle.clfs_model.specs.Flush.{flush, flushed}
+use Rattle.clfs_model.specs.Live.{hold}
 use Rattle.clfs_model.specs.declared.call.Call.{Call}
 use Rattle.clfs_model.specs.declared.refusal.Refusal.TheVariants as refusals
 use Rattle.clfs_model.specs.declared.reply.Happened.{Happened}
@@ -22,7 +24,7 @@ use Rattle.clfs_manager.specs.OnDisk.{IsOpen, IsManaged, AreKept}
 use Rattle.clfs_manager.specs.declared.log.Log.{Log}
 use Rattle.clfs_manager.proofs.AreasChange.{KeepsValid, KeepsStorable}
 use Rattle.clfs_manager.proofs.ClosedPlace.{flush_is, is_closed_of, is_start}
-use Rattle.clfs_manager.proofs.FlushedLog.{done}
+use Rattle.clfs_manager.proofs.FlushedLog.{done, hold_done}
 use Rattle.clfs_manager.proofs.ReadKeeps.{tells_before}
 use Rattle.clfs_manager.proofs.Settled.{stays_settled}
 
@@ -48,6 +50,10 @@ open_flushed old new s t before after valid is_open state holds keeps stored_aft
       files = λ told. let before = tells_before old new nature told in stored.1.1 before false (is_open.files before);
       kept = λ told. rw (keeps.buffers, state ∙ flush_is s) (kept_done s before.buffers valid (is_open.kept (tells_before old new nature told)));
       settled = stays_settled old new nature settled is_open.settled;
+      forgotten = record {
+        low = omega (arith, is_open.forgotten.low, hold_done s valid, ap (λ (u : State). container_of (hold u)) (state ∙ flush_is s), ap (λ t. t.low) keeps.tables);
+        ends = keeps.few is_open.forgotten.ends;
+      };
     }
 
 -- what holds of an answer that is no refusal

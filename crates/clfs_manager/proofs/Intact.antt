@@ -17,9 +17,9 @@ use Rattle.clfs_recover.specs.Files.{AreWholeFiles}
 use Rattle.clfs_told.specs.declared.told.Told.{Told}
 use Rattle.clfs_manager.specs.Base.{KeepsAllButTables}
 use Rattle.clfs_manager.specs.Flushing.{KeepsOthers, StoredAfter}
-use Rattle.clfs_manager.specs.Memory.{Holds, IsSound}
+use Rattle.clfs_manager.specs.Memory.{HasForgotten, Holds, IsSound}
 use Rattle.clfs_manager.specs.OnDisk.{IsOpen, IsManaged, IsStored, AreKept}
-use Rattle.clfs_manager.specs.Written.{IsIntact, WritesDisk}
+use Rattle.clfs_manager.specs.Written.{IsIntact, IsYetToForget, WritesDisk}
 use Rattle.clfs_manager.specs.declared.log.Log.{Log}
 use Rattle.clfs_manager.proofs.ClosedPlace.{flush_is}
 use Rattle.clfs_manager.proofs.FlushKeeps.{open_flushed}
@@ -172,6 +172,7 @@ intact_done old new before after t intact valid storable done =
         files = λ told. let earlier = tells_before old new done.nature told in stored.1.1 earlier false (intact.opened.files earlier);
         kept = λ told. done.kept (intact.opened.kept (tells_before old new done.nature told));
         settled = stays_settled old new done.nature done.settled intact.opened.settled;
+        forgotten = done.forgotten intact.opened.forgotten;
       };
     }
 
@@ -217,21 +218,23 @@ intact_managed disk log managed unbroken =
       opened = opened;
     }
 
--- a log that forgets what is asked for no more
-pub intact_forgot : (disk : DiskState) (before after : Log) → IsIntact disk before → IsSound after → KeepsAllButTables before after → IsIntact disk after
-intact_forgot disk before after intact sound keeps =
+-- A log that forgets what is needed no more.
+pub intact_forgot : (disk : DiskState) (before after : Log) → IsYetToForget disk before → IsSound after → KeepsAllButTables before after
+    → HasForgotten after.state.value after → IsIntact disk after
+intact_forgot disk before after is sound keeps forgotten =
     let s : State = before.state.value in
     let same : after.state.value ≡ s = ap (λ (told : Told State). told.value) keeps.state in
     record {
       sound = sound;
       opened = record {
         memory = sound.holds;
-        blocks = intact.opened.blocks;
-        stored = subst (λ (t : State). IsStored t after.physical intact.opened.blocks) (sym same)
-            (subst (λ (n : Newest). IsStored s n intact.opened.blocks) (sym keeps.physical) intact.opened.stored);
-        files = λ tells. subst (λ (n : Newest). Stores false n intact.opened.blocks disk.files) (sym keeps.physical) (intact.opened.files tells);
+        blocks = is.blocks;
+        stored = subst (λ (t : State). IsStored t after.physical is.blocks) (sym same)
+            (subst (λ (n : Newest). IsStored s n is.blocks) (sym keeps.physical) is.stored);
+        files = λ tells. subst (λ (n : Newest). Stores false n is.blocks disk.files) (sym keeps.physical) (is.files tells);
         kept = λ tells. subst (λ (t : State). AreKept t after.buffers) (sym same)
-            (subst (λ (kept : Buffered). AreKept s kept) (sym keeps.buffers) (intact.opened.kept tells));
-        settled = intact.opened.settled;
+            (subst (λ (kept : Buffered). AreKept s kept) (sym keeps.buffers) (is.kept tells));
+        settled = is.settled;
+        forgotten = forgotten;
       };
     }

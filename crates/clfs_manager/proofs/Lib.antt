@@ -1,4 +1,5 @@
 pub mod Joining
+pub mod KeptHeads
 pub mod Settled
 pub mod Copies
 pub mod Made

@@ -17,7 +17,7 @@ use Rattle.clfs_base.specs.Slots.{newest_of}
 use Rattle.clfs_recover.specs.Files.{Finds, state_of}
 use Rattle.clfs_recover.specs.Logs.{IsStoredIn, FitsUpTo, records_from_container}
 use Rattle.clfs_recover.specs.declared.parts.Parts.{Parts}
-use Rattle.clfs_manager.specs.Memory.{Holds}
+use Rattle.clfs_manager.specs.Memory.{HasForgotten, Holds}
 use Rattle.clfs_manager.specs.OnDisk.{IsStored, IsOpen, AreKept}
 use Rattle.clfs_manager.specs.declared.log.Log.{Log}
 use Rattle.clfs_manager.proofs.Holding.{hold_from}
@@ -85,14 +85,15 @@ none_kept s reads = record { stable = λ place records there. absurd (cc there);
 
 -- So a log that was opened is open.
 pub opened_open : (disk : DiskState) (log : Log) (parts : Parts) (buffers reads : ℕ) → log.state.value ≡ state_of parts buffers → Holds log.state.value log
-    → log.physical ≡ newest_in parts → log.buffers ≡ record { most = reads; blocks = [] } → AreListed parts → cut (state_of parts buffers) ≡ state_of parts buffers
+    → log.physical ≡ newest_in parts → log.buffers ≡ record { most = reads; blocks = [] } → HasForgotten log.state.value log → AreListed parts → cut (state_of parts buffers) ≡ state_of parts buffers
     → (files : Files) (blocks : Blocks) → IsStoredIn files parts blocks → (TellsContents disk → (file : ℕ) → disk.files file ≡ files file)
     → (IsHonest disk → IsSettled disk) → IsOpen disk log.state.value log
-opened_open disk log parts buffers reads state holds newest kept listed whole files blocks stored same settled = record {
+opened_open disk log parts buffers reads state holds newest kept forgotten listed whole files blocks stored same settled = record {
   memory = holds;
   blocks = blocks;
   stored = rw (state, newest) (opened_stored files parts blocks buffers stored listed whole);
   files = λ tells. rw newest (opened_files files disk.files parts blocks stored (same tells));
   kept = λ tells. rw kept (none_kept log.state.value reads);
   settled = settled;
+  forgotten = forgotten;
 }

@@ -1,13 +1,14 @@
 -- A record that was put into a log that is ready for it: what memory has of it, and that the disk has what it had.
 use Rattle.std.proofs.Common.{◌≡◌, ℕ, ◌+◌, ◌-◌, ◌*◌, ◌<◌, ◌≤◌, Bool, true, false, refl, sym, ap, subst, ◌∙◌, inl, inr, ⊎_elim, arith, List, [], ◌∷◌, ◌++◌, length}
-use Rattle.std.specs.Prelude.{All, Contains, Option, Some, None, Result, Ok, Err, OnOk, filter, nat_lt, nat_le, slice_get, ◌==◌}
-use Rattle.std.specs.Option.{option_map_or}
+use Rattle.std.specs.Prelude.{All, Contains, Option, Some, None, Result, Ok, Err, OnOk, filter, fold, map, min, nat_lt, nat_le, slice_get, ◌==◌}
+use Rattle.std.specs.Option.{option_map_or, option_to_list}
 use Rattle.std.proofs.lemmas.Bool.{cases_Bool, le-leb, le-ltb}
 use Rattle.std.proofs.lemmas.Bool.Decides.{nat_tests}
-use Rattle.std.proofs.lemmas.List.{map-append}
+use Rattle.std.proofs.lemmas.List.{append_assoc, map-append}
 use Rattle.std.proofs.lemmas.List.Elements.{All-get_or, All-map, All-weaker, Contains-push_cases, filter-append}
 use Rattle.std.proofs.lemmas.Option.{slice_get_within, get_or_from_slice_get}
 use Rattle.clfs_lsn.specs.Head.{head_of}
+use Rattle.clfs_lsn.specs.Heads.{least_or}
 use Rattle.clfs_lsn.specs.Lsn.{lsn_number, null_lsn, container_of}
 use Rattle.clfs_lsn.specs.Place.{IsClosed, IsWithin, block_end, frontier, joins, begins_here, place_after}
 use Rattle.clfs_lsn.specs.Size.{IsShape}
@@ -25,7 +26,7 @@ use Rattle.clfs_model.specs.declared.state.State.{State}
 use Rattle.clfs_lsn.specs.declared.stream.Stream.{Stream}
 use Rattle.clfs_model.specs.Flush.{block_start, first_or, seal, flushed, cut}
 use Rattle.clfs_model.specs.Heads.{heads_of}
-use Rattle.clfs_model.specs.Live.{hold}
+use Rattle.clfs_model.specs.Live.{hold, is_live, live_lsns}
 use Rattle.clfs_model.specs.Put.{made_ready, next_lsn, put}
 use Rattle.clfs_model.specs.State.{base_of}
 use Rattle.clfs_model.specs.Storable.{IsStorable}
@@ -257,6 +258,42 @@ kept_put s entry kept valid ready are =
     } in
     subst (λ (u : State). AreKept u kept) (sym same) is
 
+-- ---- the hold
+
+-- one more number makes the least no greater
+least_of_more : (n : ℕ) (ns more : List ℕ) → fold min n (ns ++ more) ≤ fold min n ns
+least_of_more n [] more = least_up_to n more
+  where
+    least_up_to : (n : ℕ) (ns : List ℕ) → fold min n ns ≤ n
+    least_up_to n [] = omega arith
+    least_up_to n (m ∷ ns) = omega (arith, least_up_to (min n m) ns)
+least_of_more n (m ∷ ns) more = least_of_more (min n m) ns more
+
+least_with : (end other n : ℕ) (tail ns : List ℕ) → container_of n ≤ container_of end
+    → container_of (least_or other (tail ++ (ns ++ n ∷ []))) ≤ container_of (least_or end (tail ++ ns))
+least_with end other n [] [] le = le
+least_with end other n [] (m ∷ ns) le = omega (arith, least_of_more m ns (n ∷ []))
+least_with end other n (m ∷ tail) ns le =
+    rw (← append_assoc tail ns (n ∷ [])) (omega (arith, least_of_more m (tail ++ ns) (n ∷ [])))
+
+-- The record leaves the hold in its container: it is live, and in the place's container.
+pub hold_put : (s : State) (entry : LogEntry) → IsValid s → IsReadyFor s (length entry.bytes) → frontier s.place ≤ next_lsn s (length entry.bytes)
+    → container_of (hold (put s entry)) ≤ container_of (hold s)
+hold_put s entry valid ready above =
+    let t : State = with_put s entry in
+    let goes = goes_on s (length entry.bytes) valid ready in
+    let placed : LogEntry = record entry { lsn = next_lsn s (length entry.bytes) } in
+    let live : is_live s placed ≡ true = le-leb (base_of s placed.stream) placed.lsn (omega (arith, base_below s placed.stream valid, flushed_below s valid, above)) in
+    let one : filter (is_live s) (placed ∷ []) ≡ placed ∷ [] = rw live refl in
+    let lsns : live_lsns t ≡ live_lsns s ++ placed.lsn ∷ [] =
+    ap (λ (es : List LogEntry). map (λ (e : LogEntry). e.lsn) es) (filter-append (is_live s) s.records (placed ∷ []))
+    ∙ map-append (λ (e : LogEntry). e.lsn) (filter (is_live s) s.records) (filter (is_live s) (placed ∷ []))
+    ∙ ap (λ (es : List LogEntry). live_lsns s ++ map (λ (e : LogEntry). e.lsn) es) one in
+    let held : container_of (least_or (frontier t.place) (option_to_list s.archive ++ (live_lsns s ++ placed.lsn ∷ []))) ≤ container_of (hold s) =
+    least_with (frontier s.place) (frontier t.place) placed.lsn (option_to_list s.archive) (live_lsns s) (omega (arith, goes.in_block, (small_place s.shape s.place valid.ranges.shape valid.ranges.place).low)) in
+    subst (λ (u : State). container_of (hold u) ≤ container_of (hold s)) (sym (put_is s entry ready))
+    (subst (λ (ns : List ℕ). container_of (least_or (frontier t.place) (option_to_list s.archive ++ ns)) ≤ container_of (hold s)) (sym lsns) held)
+
 -- So the log is open with the record.
 pub open_put : (disk : DiskState) (before after : Log) (fields : Fields) (bytes : List ℕ) → IsIntact disk before → IsReadyFor before.state.value (length bytes)
     → frontier before.state.value.place ≤ next_lsn before.state.value (length bytes)
@@ -273,6 +310,10 @@ open_put disk before after fields bytes intact ready above keeps same state hold
       files = λ tells. rw same.physical (opened.files tells);
       kept = λ tells. rw (state, same.buffers) (kept_put s e before.buffers intact.sound.valid ready (opened.kept tells));
       settled = opened.settled;
+      forgotten = record {
+        low = omega (arith, opened.forgotten.low, same.low, ap (λ (u : State). container_of (hold u)) state, hold_put s e intact.sound.valid ready above);
+        ends = rw (same.low, same.archive) opened.forgotten.ends;
+      };
     }
 
 seal_whole : (s : State) → (seal s).broken ≡ s.broken

@@ -116,6 +116,7 @@ open_buffers old new s log kept same time are is = record {
   files = λ tells. stores_same log.physical is.blocks old.files new.files same (is.files (tells_before old new time.nature tells));
   kept = λ tells. are (tells_before old new time.nature tells);
   settled = stays_settled old new time.nature (settled_by_reading old new same time) is.settled;
+  forgotten = record { low = is.forgotten.low; ends = is.forgotten.ends };
 }
 
 -- with other areas, which the state has too
@@ -128,6 +129,7 @@ open_areas disk s log areas told is = record {
   files = is.files;
   kept = λ tells. kept_areas s areas.areas log.buffers (is.kept tells);
   settled = is.settled;
+  forgotten = record { low = is.forgotten.low; ends = is.forgotten.ends };
 }
 
 -- ---- exits

@@ -29,7 +29,7 @@ use Rattle.clfs_manager.specs.Laid.{HasGroup, IsLaidLog, WrittenAfter}
 use Rattle.clfs_manager.specs.Memory.{Holds, unflushed}
 use Rattle.clfs_manager.specs.OnDisk.{IsStored, IsOpen, AreKept}
 use Rattle.clfs_manager.specs.Restarts.{EndsInRestart, rebased_streams}
-use Rattle.clfs_manager.specs.Written.{IsIntact}
+use Rattle.clfs_manager.specs.Written.{IsYetToForget}
 use Rattle.clfs_manager.specs.declared.log.Log.{Log}
 use Rattle.clfs_manager.proofs.ClosedPlace.{closed_place, flush_is, is_closed_of, starts_at}
 use Rattle.clfs_manager.proofs.FlushedLog.{done, hold_closed, stored_with}
@@ -196,15 +196,15 @@ holds_finished s stream base before moved laid laid_done number up holds first b
       needed = omega (arith, ap (λ (n : Newest). n.image.first) physical, first, held);
     }
 
--- It is intact, by what the disk has.
-pub intact_finished : (old new : DiskState) (before after : Log) (stream base : ℕ) → IsLaid before.state.value → before.broken ≡ false
+-- It is intact once memory forgets, by what the disk has.
+pub finished_to_forget : (old new : DiskState) (before after : Log) (stream base : ℕ) → IsLaid before.state.value → before.broken ≡ false
     → before.state.value.broken ≡ false → IsOpen old before.state.value before
     → IsValid (finished stream base before.state.value) → IsStorable (finished stream base before.state.value)
     → after.state.value ≡ finished stream base before.state.value → Holds (finished stream base before.state.value) after
     → after.broken ≡ before.broken → after.buffers ≡ before.buffers
     → StoredAfter old new before.state.value (finished stream base before.state.value) before.physical after.physical
-    → (IsSettled old → IsSettled new) → new.nature ≡ old.nature → IsIntact new after
-intact_finished old new before after stream base laid unbroken whole opened valid storable state holds broken buffers stored settled nature =
+    → (IsSettled old → IsSettled new) → new.nature ≡ old.nature → IsYetToForget new after
+finished_to_forget old new before after stream base laid unbroken whole opened valid storable state holds broken buffers stored settled nature =
     let s : State = before.state.value in
     let to = stored opened.blocks opened.stored in
     let held : Holds after.state.value after = subst (λ (u : State). Holds u after) (sym state) holds in
@@ -216,14 +216,11 @@ intact_finished old new before after stream base laid unbroken whole opened vali
         whole = ap (λ (u : State). u.broken) state ∙ whole;
         holds = held;
       };
-      opened = record {
-        memory = held;
-        blocks = to.0;
-        stored = subst (λ (u : State). IsStored u after.physical to.0) (sym state) to.1.0;
-        files = λ told. let earlier = tells_before old new nature told in to.1.1 earlier false (opened.files earlier);
-        kept = λ told. rw (buffers, state) (kept_finished s stream base before.buffers laid (opened.kept (tells_before old new nature told)));
-        settled = stays_settled old new nature settled opened.settled;
-      };
+      blocks = to.0;
+      stored = subst (λ (u : State). IsStored u after.physical to.0) (sym state) to.1.0;
+      files = λ told. let earlier = tells_before old new nature told in to.1.1 earlier false (opened.files earlier);
+      kept = λ told. rw (buffers, state) (kept_finished s stream base before.buffers laid (opened.kept (tells_before old new nature told)));
+      settled = stays_settled old new nature settled opened.settled;
     }
 
 -- What a log that ends in a restart area is given: that, and what its flush leaves.
@@ -252,13 +249,13 @@ stored_by_group old new before written stream base is =
     stored_finished old new s stream base before.physical written.physical is.laid.laid (laid_done s is.flushed) holds.listed is.some holds.rows is.laws is.last
     is.number is.up is.same.physical is.on_disk
 
--- Once the base has moved in memory it is intact.
-pub intact_moved : (old new : DiskState) (before written moved : Log) (stream base : ℕ) → IsFinished old new before written stream base
+-- Once the base has moved in memory it is so.
+pub moved_to_forget : (old new : DiskState) (before written moved : Log) (stream base : ℕ) → IsFinished old new before written stream base
     → IsValid (rebased stream base (flush before.state.value)) → IsStorable (rebased stream base (flush before.state.value))
     → moved.tables.streams ≡ rebased_streams stream base written.tables.streams → moved.tables.heads ≡ written.tables.heads
     → moved.tables.low ≡ written.tables.low → moved ≡ record written { tables = moved.tables; state = moved.state }
-    → moved.state.value ≡ rebased stream base written.state.value → (IsSettled old → IsSettled new) → new.nature ≡ old.nature → IsIntact new moved
-intact_moved old new before written moved stream base is valid storable streams heads low same told settled nature =
+    → moved.state.value ≡ rebased stream base written.state.value → (IsSettled old → IsSettled new) → new.nature ≡ old.nature → IsYetToForget new moved
+moved_to_forget old new before written moved stream base is valid storable streams heads low same told settled nature =
     let s : State = before.state.value in
     let holds = is.laid.holds in
     let fields = rebased_is stream base s in
@@ -273,6 +270,6 @@ intact_moved old new before written moved stream base is valid storable streams 
     (subst (λ (u : State). Holds u written) flushed_is is.holds)
     (omega (arith, ap (λ (n : Newest). n.image.first) is.same.physical, holds.needed))
     (omega (arith, ap (λ t. t.low) is.same.tables, holds.low)) streams heads low same in
-    intact_finished old new before moved stream base is.laid.laid is.laid.unbroken is.laid.whole is.opened (subst IsValid fields valid)
+    finished_to_forget old new before moved stream base is.laid.laid is.laid.unbroken is.laid.whole is.opened (subst IsValid fields valid)
     (subst IsStorable fields storable) state memory (ap (λ (l : Log). l.broken) same ∙ is.same.broken)
     (ap (λ (l : Log). l.buffers) same ∙ is.same.buffers) stored settled nature

@@ -1,6 +1,6 @@
 -- A log whose open block was sealed, and what stays of a log where what is on the disk stays.
 use Rattle.std.proofs.Common.{◌≡◌, ℕ, ◌+◌, ◌≤◌, true, false, refl, sym, ap, subst, ◌∙◌, arith, List, [], ◌∷◌, ◌++◌, length, length-append}
-use Rattle.std.specs.Prelude.{Result, Ok, Err, OnOk, OnErr, IsErr, filter, nat_lt, nat_le}
+use Rattle.std.specs.Prelude.{Result, Ok, Err, OnOk, OnErr, IsErr, filter, nat_lt, nat_le, slice_index}
 use Rattle.std.proofs.lemmas.Bool.{lt-ltb, le-ltb, leb-true}
 use Rattle.std.proofs.lemmas.Bool.Decides.{nat_tests}
 use Rattle.clfs_lsn.specs.Lsn.{container_of, offset_of}
@@ -99,8 +99,8 @@ queue_waits q open_block = let some : nat_lt 0 q.place.records ≡ true = lt-ltb
 -- The log whose open block has ended has the sealed state.
 pub intact_sealed : (disk : DiskState) (before after : Log) (told : Told State) → IsIntact disk before → fills_buffers before.state.value ≡ false
     → 1 ≤ before.state.value.place.records → IsWhole (seal before.state.value) → KeepsTables before.state.value (seal before.state.value)
-    → EndsBlock before after → told.value ≡ seal before.state.value → IsIntact disk (record after { state = told })
-intact_sealed disk before after told intact fills open_block whole keeps ended is =
+    → container_of (hold (seal before.state.value)) ≡ container_of (hold before.state.value) → EndsBlock before after → told.value ≡ seal before.state.value → IsIntact disk (record after { state = told })
+intact_sealed disk before after told intact fills open_block whole keeps stays ended is =
     let s : State = before.state.value in
     let sound = intact.sound in
     let holds = sound.holds in
@@ -150,6 +150,16 @@ intact_sealed disk before after told intact fills open_block whole keeps ended i
         files = λ tells. rw ended.physical (intact.opened.files tells);
         kept = λ tells. rw (to, ended.buffers) (kept_placed s (s.waiting ++ block_start s.place ∷ []) (sealed s.place) before.buffers stable (intact.opened.kept tells));
         settled = intact.opened.settled;
+        forgotten = rw to (record {
+          low = omega (
+            arith,
+            intact.opened.forgotten.low,
+            ap (λ t. t.low) ended.tables,
+            ap (λ (u : State). container_of (hold u)) same,
+            stays,
+          );
+          ends = rw (ap (λ t. t.low) ended.tables) (ended.few intact.opened.forgotten.ends);
+        });
       };
     }
 
@@ -163,7 +173,8 @@ flushed_intact (Ok value) old new before after intact whole state holds keeps st
 flushed_intact (Err error) old new before after intact whole state holds keeps stored settled nature = tt
 
 pub room_flushed : (before after : Log) → KeepsOthers before after → KeepsRoom 1 before after
-room_flushed before after keeps = record { tables = keeps.tables; areas = keeps.areas; ends = keeps.room }
+room_flushed before after keeps =
+    record { heads = λ place. omega (arith, ap (λ t. slice_index t.room place) keeps.tables); areas = keeps.areas; ends = keeps.room }
 
 pub on_ok_by : {V A B : Type 0} (result : Result V Failed) → (A → B) → OnOk result A → OnOk result B
 on_ok_by (Ok value) f is = f is

@@ -10,9 +10,9 @@ use Rattle.clfs_buffers.specs.Buffered.{Buffered}
 use Rattle.clfs_policy.specs.Ranges.{is_installed as has_policy}
 use Rattle.clfs_policy.specs.declared.policies.Policies.{Policies}
 use Rattle.clfs_manager.specs.Flushing.{StoredAfter}
-use Rattle.clfs_manager.specs.Memory.{Holds, policies_of}
+use Rattle.clfs_manager.specs.Memory.{HasForgotten, Holds, policies_of}
 use Rattle.clfs_manager.specs.OnDisk.{AreKept}
-use Rattle.clfs_manager.specs.Settings.{KeepsTables, with_archive, with_policies}
+use Rattle.clfs_manager.specs.Settings.{KeepsQueue, KeepsTables, with_archive, with_policies}
 use Rattle.clfs_manager.specs.declared.log.Log.{Log}
 use Rattle.clfs_manager.proofs.StoredKeeps.{IsDone}
 
@@ -33,6 +33,7 @@ settings_done old new before after policies t is state holds keeps stored settle
   kept = λ kept. rw (state, keeps.buffers) (kept_settled before.state.value policies before.buffers kept);
   settled = settled;
   nature = nature;
+  forgotten = λ is. rw (state, keeps.tables, keeps.ends) (record { low = is.low; ends = is.ends });
 }
 
 kept_archived : (s : State) (tail : Option ℕ) (kept : Buffered) → AreKept s kept → AreKept (with_archive tail s) kept
@@ -40,10 +41,10 @@ kept_archived s tail kept are = record { stable = are.stable; records = are.reco
 
 -- And one whose archiving was.
 pub archive_done : (old new : DiskState) (before after : Log) (tail : Option ℕ) (t : State) → with_archive tail before.state.value ≡ t
-    → after.state.value ≡ with_archive tail before.state.value → Holds after.state.value after → KeepsTables before after
+    → after.state.value ≡ with_archive tail before.state.value → Holds after.state.value after → HasForgotten after.state.value after → KeepsQueue before after
     → StoredAfter old new before.state.value after.state.value before.physical after.physical → (IsSettled old → IsSettled new) → new.nature ≡ old.nature
     → IsDone old new before after t
-archive_done old new before after tail t is state holds keeps stored settled nature = record {
+archive_done old new before after tail t is state holds forgotten keeps stored settled nature = record {
   state = state ∙ is;
   unbroken = ap (λ (u : State). u.broken) (sym is);
   broken = keeps.broken;
@@ -52,6 +53,7 @@ archive_done old new before after tail t is state holds keeps stored settled nat
   kept = λ kept. rw (state, keeps.buffers) (kept_archived before.state.value tail before.buffers kept);
   settled = settled;
   nature = nature;
+  forgotten = λ _. forgotten;
 }
 
 -- the kinds of policies that are installed are those of the state

@@ -106,5 +106,6 @@ intact_grown old new log intact nature settled stores = record {
     files = λ tells. stores intact.opened.blocks (intact.opened.files (tells_before old new nature tells));
     kept = λ tells. intact.opened.kept (tells_before old new nature tells);
     settled = stays_settled old new nature settled intact.opened.settled;
+    forgotten = intact.opened.forgotten;
   };
 }

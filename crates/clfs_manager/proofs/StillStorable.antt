@@ -1,6 +1,6 @@
--- States of other sizes, and of areas that hold more, are states that files can hold: none of that says more of them.
+-- States of other sizes, with another archiving, and of areas that hold more, are states that files can hold: none of that says more of them.
 use Rattle.std.proofs.Common.{◌≡◌, ℕ, Bool, true, false, refl, ap, inl, inr, List, [], ◌∷◌, length, filter, suc, arith}
-use Rattle.std.specs.Prelude.{◌⊎◌, All, ◌==◌}
+use Rattle.std.specs.Prelude.{◌⊎◌, All, Option, ◌==◌}
 use Rattle.std.proofs.lemmas.Bool.{cases_Bool}
 use Rattle.std.proofs.lemmas.List.Elements.{All-nil, All-cons, All-head, All-tail, All-weaker}
 use Rattle.clfs_model.specs.declared.state.State.{State}
@@ -10,6 +10,7 @@ use Rattle.clfs_model.specs.Put.{hold_sizes, with_more_held}
 use Rattle.clfs_model.specs.Space.{own_sum, with_containers}
 use Rattle.clfs_model.specs.State.{areas_of, change_area, change_first, is_area}
 use Rattle.clfs_model.specs.Storable.{HasMovedBase, IsAreaWithinLimits, IsCursor, IsStorable}
+use Rattle.clfs_manager.specs.Settings.{with_archive}
 
 -- the state with so many containers and these areas
 abbrev pub changed : State → ℕ → List Area → State
@@ -47,6 +48,40 @@ storable_changed s containers areas is few within = record {
     few_streams = is.limits.few_streams;
     few_areas = λ client. omega (arith, few client, is.limits.few_areas client);
     areas = All-weaker (IsAreaWithinLimits s) (IsAreaWithinLimits (changed s containers areas)) (area_still s containers areas) areas within;
+  };
+}
+
+archived_cursor : (s : State) (tail : Option ℕ) (area : Area) (cursor : Cursor) → IsCursor s area cursor → IsCursor (with_archive tail s) area cursor
+archived_cursor s tail area cursor is = record {
+  some_number = is.some_number;
+  number = is.number;
+  entry = is.entry;
+  there = is.there;
+  stream = is.stream;
+  kind = is.kind;
+}
+
+archived_area : (s : State) (tail : Option ℕ) (area : Area) → IsAreaWithinLimits s area → IsAreaWithinLimits (with_archive tail s) area
+archived_area s tail area is = record {
+  client = is.client;
+  some_number = is.some_number;
+  number = is.number;
+  some_reads = is.some_reads;
+  reads = is.reads;
+  few_cursors = is.few_cursors;
+  cursors = All-weaker (IsCursor s area) (IsCursor (with_archive tail s) area) (archived_cursor s tail area) area.cursors is.cursors;
+}
+
+-- a log whose archiving is another
+pub storable_archived : (s : State) (tail : Option ℕ) → IsStorable s → IsStorable (with_archive tail s)
+storable_archived s tail is = record {
+  bases = All-weaker (HasMovedBase s) (HasMovedBase (with_archive tail s)) (λ entry moved. record { own = moved.own; moved = moved.moved }) s.records is.bases;
+  blocks = record { laid = is.blocks.laid; place = is.blocks.place; container = is.blocks.container };
+  limits = record {
+    names = is.limits.names;
+    few_streams = is.limits.few_streams;
+    few_areas = is.limits.few_areas;
+    areas = All-weaker (IsAreaWithinLimits s) (IsAreaWithinLimits (with_archive tail s)) (archived_area s tail) s.areas is.limits.areas;
   };
 }
 

@@ -8,7 +8,7 @@ use Rattle.clfs_model.specs.declared.state.State.{State}
 use Rattle.clfs_model.specs.Conditions.{MeetsCondition}
 use Rattle.clfs_model.specs.Step.{Step}
 use Rattle.clfs_manager.specs.Flushing.{StoredAfter}
-use Rattle.clfs_manager.specs.Memory.{Holds}
+use Rattle.clfs_manager.specs.Memory.{HasForgotten, Holds}
 use Rattle.clfs_manager.specs.OnDisk.{IsManaged, AreKept}
 use Rattle.clfs_manager.specs.declared.log.Log.{Log}
 use Rattle.clfs_manager.proofs.AreasChange.{KeepsValid, KeepsStorable}
@@ -25,6 +25,7 @@ pub record IsDone (old new : DiskState) (before after : Log) (t : State) : Type 
   pub kept : AreKept before.state.value before.buffers → AreKept after.state.value after.buffers
   pub settled : IsSettled old → IsSettled new
   pub nature : new.nature ≡ old.nature
+  pub forgotten : HasForgotten before.state.value before → HasForgotten after.state.value after
 
 pub managed_done : (old new : DiskState) (before after : Log) (t : State) (client : ℕ) (call : Call) (reply : Reply) → KeepsValid → KeepsStorable
     → MeetsCondition client call → IsManaged old before → before.broken ≡ false → Step false before.state.value client call Fine reply t
@@ -44,5 +45,6 @@ managed_done old new before after t client call reply valid storable meets manag
         files = λ told. let earlier = tells_before old new done.nature told in stored.1.1 earlier false (opened.files earlier);
         kept = λ told. done.kept (opened.kept (tells_before old new done.nature told));
         settled = stays_settled old new done.nature done.settled opened.settled;
+        forgotten = done.forgotten opened.forgotten;
       };
     }

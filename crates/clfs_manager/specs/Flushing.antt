@@ -5,7 +5,7 @@ use Rattle.clfs_model.specs.declared.state.State.{State}
 use Rattle.clfs_model.specs.Flush.{block_start}
 use Rattle.clfs_model.specs.Heads.{heads_of}
 use Rattle.clfs_model.specs.Step.{with_broken}
-use Rattle.clfs_archive.specs.Blocks.{AreSealed}
+use Rattle.clfs_archive.specs.Blocks.{AreFew, AreSealed}
 use Rattle.clfs_physical.specs.Stored.{Newest, Blocks, Stores}
 use Rattle.clfs_queue.specs.Queued.{seal}
 use Rattle.clfs_manager.specs.OnDisk.{IsStored}
@@ -17,6 +17,7 @@ pub record EndsBlock (old new : Log) : Type 0 where
   pub queue : new.queue ≡ seal old.queue
   pub sealed : AreSealed old.tables.low (block_start new.queue.place) new.archive.blocks (heads_of old.state.value)
   pub tail : new.archive.tail ≡ old.archive.tail
+  pub few : AreFew old.tables.low old.archive.blocks → AreFew old.tables.low new.archive.blocks
   pub room : old.archive.room ≤ new.archive.room + 1
   pub tables : new.tables ≡ old.tables
   pub areas : new.areas ≡ old.areas
@@ -27,8 +28,9 @@ pub record EndsBlock (old new : Log) : Type 0 where
   pub broken : new.broken ≡ old.broken
 
 -- Of a log the tables, the areas, what is set, the newest copy and the blocks that were read are as they were, and so is whether it is broken. There is
--- room for as many ends of blocks, but for one.
+-- room for as many ends of blocks, but for one, and of these are few where they were.
 pub record KeepsOthers (old new : Log) : Type 0 where
+  pub few : AreFew old.tables.low old.archive.blocks → AreFew new.tables.low new.archive.blocks
   pub room : old.archive.room ≤ new.archive.room + 1
   pub tables : new.tables ≡ old.tables
   pub areas : new.areas ≡ old.areas

@@ -1,5 +1,5 @@
 -- What a manager has in memory of the state of its log.
-use Rattle.std.specs.Prelude.{◌≡◌, ◌+◌, ◌≤◌, false, nat_le, List, length, filter}
+use Rattle.std.specs.Prelude.{◌≡◌, ℕ, ◌+◌, ◌≤◌, false, nat_le, List, length, filter}
 use Rattle.clfs_lsn.specs.Lsn.{lsn_number, container_of}
 use Rattle.clfs_lsn.specs.declared.entry.LogEntry.{LogEntry}
 use Rattle.clfs_base.specs.declared.image.BaseImage.{BaseImage}
@@ -12,7 +12,7 @@ use Rattle.clfs_model.specs.Valid.{IsValid}
 use Rattle.clfs_policy.specs.declared.policies.Policies.{Policies}
 use Rattle.clfs_recover.specs.Files.{policy_of}
 use Rattle.clfs_recover.specs.Walk.{shape_of}
-use Rattle.clfs_archive.specs.Blocks.{AreSealed}
+use Rattle.clfs_archive.specs.Blocks.{AreFew, AreSealed}
 use Rattle.clfs_manager.specs.declared.log.Log.{Log}
 
 -- the policies that are installed
@@ -55,6 +55,16 @@ pub record Holds (s : State) (log : Log) : Type 0 where
   pub rows : length log.physical.image.streams ≡ length s.streams
   pub listed : log.physical.image.first + length log.physical.image.files ≡ s.place.container + 1
   pub needed : log.physical.image.first ≤ container_of (hold s)
+
+-- the LSN at which the hold's container begins
+abbrev pub hold_start : State → ℕ
+hold_start s = lsn_number (container_of (hold s)) 0 0
+
+-- In containers below the hold's nothing is kept in memory but what was left there: at most as many heads of records, and ends of blocks, as are kept
+-- from there on.
+pub record HasForgotten (s : State) (log : Log) : Type 0 where
+  pub low : hold_start s ≤ log.tables.low
+  pub ends : AreFew log.tables.low log.archive.blocks
 
 -- A log that isn't broken, as memory has it: its state is one that a log can be in and that files can hold.
 pub record IsSound (log : Log) : Type 0 where

@@ -13,7 +13,7 @@ use Rattle.clfs_buffers.specs.Reading.{block_place, first_lsn}
 use Rattle.clfs_buffers.specs.declared.place.BlockPlace.{BlockPlace}
 use Rattle.clfs_physical.specs.Stored.{Newest, Blocks, Stores}
 use Rattle.clfs_recover.specs.Logs.{IsLogWith, stored_state, records_from_container}
-use Rattle.clfs_manager.specs.Memory.{Holds}
+use Rattle.clfs_manager.specs.Memory.{HasForgotten, Holds}
 use Rattle.clfs_manager.specs.declared.log.Log.{Log}
 
 -- A base copy and the open blocks of the files that it lists are the flushed part of a state, but for records of containers that the copy
@@ -33,7 +33,7 @@ pub record AreKept (s : State) (kept : Buffered) : Type 0 where
       → block_place entry.lsn ≡ place → slice_get records (sequence_of entry.lsn) ≡ Some entry
 
 -- A log that isn't broken: memory has its state, and the disk its flushed part. Where the disk tells what it holds, so do its files and the blocks
--- that were read of them; where it keeps what it synced, nothing is pending.
+-- that were read of them; where it keeps what it synced, nothing is pending. Memory has forgotten what is needed no more.
 pub record IsOpen (disk : DiskState) (s : State) (log : Log) : Type 0 where
   pub memory : Holds s log
   pub blocks : Blocks
@@ -41,6 +41,7 @@ pub record IsOpen (disk : DiskState) (s : State) (log : Log) : Type 0 where
   pub files : TellsContents disk → Stores false log.physical blocks disk.files
   pub kept : TellsContents disk → AreKept s log.buffers
   pub settled : IsHonest disk → IsSettled disk
+  pub forgotten : HasForgotten s log
 
 -- What is true of a manager: its state is one that a log can be in and that files can hold, and it is open unless it is broken.
 pub record IsManaged (disk : DiskState) (log : Log) : Type 0 where

@@ -1,5 +1,5 @@
 -- What the small changes of which an append is made leave in memory.
-use Rattle.std.specs.Prelude.{◌≡◌, ℕ, ◌+◌, ◌<◌, ◌≤◌, ◌^◌, ◌&&◌, nat_lt, Bool, List, [], length}
+use Rattle.std.specs.Prelude.{◌≡◌, ℕ, ◌+◌, ◌<◌, ◌≤◌, ◌^◌, ◌&&◌, nat_lt, Bool, List, [], length, slice_index}
 use Rattle.clfs_lsn.specs.Lsn.{null_lsn, container_of}
 use Rattle.clfs_lsn.specs.Place.{IsClosed}
 use Rattle.clfs_lsn.specs.declared.entry.LogEntry.{LogEntry}
@@ -16,9 +16,9 @@ use Rattle.clfs_recover.specs.Walk.{shape_of}
 use Rattle.clfs_tables.specs.Tables.{HasSame}
 use Rattle.clfs_manager.specs.declared.log.Log.{Log}
 
--- Of a log the tables and the areas are as they were, and there is room for as many ends of blocks, but for so many.
+-- Of a log the areas are as they were, and there is room for as many records of each stream, and for as many ends of blocks, but for so many.
 pub record KeepsRoom (used : ℕ) (old new : Log) : Type 0 where
-  pub tables : new.tables ≡ old.tables
+  pub heads : (place : ℕ) → slice_index old.tables.room place ≤ slice_index new.tables.room place
   pub areas : new.areas ≡ old.areas
   pub ends : old.archive.room ≤ new.archive.room + used
 
@@ -42,6 +42,7 @@ pub record MayTurnTo (s : State) : Type 0 where
 
 -- Of a log the tables of records and the queue alone have changed, in memory.
 pub record IsPutInMemory (old new : Log) : Type 0 where
+  pub low : new.tables.low ≡ old.tables.low
   pub areas : new.areas ≡ old.areas
   pub archive : new.archive ≡ old.archive
   pub policies : new.policies ≡ old.policies

@@ -26,6 +26,13 @@ pub record KeepsTables (old new : Log) : Type 0 where
   pub buffers : new.buffers ≡ old.buffers
   pub broken : new.broken ≡ old.broken
 
+-- Of a log the areas, the queue and the blocks that were read are as they were.
+pub record KeepsQueue (old new : Log) : Type 0 where
+  pub areas : new.areas ≡ old.areas
+  pub queue : new.queue ≡ old.queue
+  pub buffers : new.buffers ≡ old.buffers
+  pub broken : new.broken ≡ old.broken
+
 -- the state with archiving off, or on with this tail
 abbrev pub with_archive : Option ℕ → State → State
 with_archive tail s = record s { archive = tail }

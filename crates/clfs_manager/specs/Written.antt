@@ -1,15 +1,25 @@
 -- How calls that write leave a log and its disk.
-use Rattle.std.specs.Prelude.{◌≡◌}
-use Rattle.clfs_disk.specs.State.{DiskState, TellsContents, IsSteady, Later, Rises}
+use Rattle.std.specs.Prelude.{◌≡◌, false}
+use Rattle.clfs_disk.specs.State.{DiskState, TellsContents, IsHonest, IsSettled, IsSteady, Later, Rises}
+use Rattle.clfs_physical.specs.Stored.{Blocks, Stores}
 use Rattle.clfs_recover.specs.Files.{AreWholeFiles}
 use Rattle.clfs_manager.specs.Memory.{IsSound}
-use Rattle.clfs_manager.specs.OnDisk.{IsOpen}
+use Rattle.clfs_manager.specs.OnDisk.{AreKept, IsOpen, IsStored}
 use Rattle.clfs_manager.specs.declared.log.Log.{Log}
 
 -- A log that isn't broken: memory has its state, and the disk the flushed part of it.
 pub record IsIntact (disk : DiskState) (log : Log) : Type 0 where
   pub sound : IsSound log
   pub opened : IsOpen disk log.state.value log
+
+-- A log that is intact once memory forgets what is needed no more.
+pub record IsYetToForget (disk : DiskState) (log : Log) : Type 0 where
+  pub sound : IsSound log
+  pub blocks : Blocks
+  pub stored : IsStored log.state.value log.physical blocks
+  pub files : TellsContents disk → Stores false log.physical blocks disk.files
+  pub kept : TellsContents disk → AreKept log.state.value log.buffers
+  pub settled : IsHonest disk → IsSettled disk
 
 -- How a call that may write leaves the disk, by what it is to answer a fault. It does so only where the disk failed in it, and never over a steady
 -- disk whose files are at full length. Files that are at full length stay so.

@@ -1,5 +1,5 @@
 // Archiving: whether it is on, and its tail. A change writes the base copy that follows the newest one, with the containers from the new state's hold
-// on, so that a crash leaves the old setting or the new one. No call here takes memory.
+// on, so that a crash leaves the old setting or the new one. Memory forgets what only the old tail held. No call here takes memory.
 ghost use Rattle.std.specs.Prelude.{◌≡◌, ◌≤◌, ℕ, Bool, true, false, not, Some, is_some, OnOk, OnErr, IsErrOf, IsOk, IfErr};
 ghost use Rattle.clfs_lsn.specs.Lsn.{container_of};
 ghost use Rattle.clfs_disk.specs.State.{IsSettled, IsSteady, Later, Rises};
@@ -16,8 +16,8 @@ ghost use Rattle.clfs_laws.specs.Refused.{is_of_call};
 ghost use Rattle.clfs_manager.specs.Calls.{Steps};
 ghost use Rattle.clfs_manager.specs.Crashes.{CrashSurvives, StoredMeanwhile};
 ghost use Rattle.clfs_manager.specs.Flushing.{IsBroken, StoredAfter};
-ghost use Rattle.clfs_manager.specs.Memory.{Holds, IsSound};
-ghost use Rattle.clfs_manager.specs.Settings.{KeepsTables, archive_change, with_archive};
+ghost use Rattle.clfs_manager.specs.Memory.{HasForgotten, Holds, IsSound};
+ghost use Rattle.clfs_manager.specs.Settings.{KeepsQueue, KeepsTables, archive_change, with_archive};
 ghost use Rattle.clfs_manager.specs.Written.{WritesDisk};
 
 use crate::flushing::broken;
@@ -83,7 +83,7 @@ impl Log {
     }
 
     // Archiving is off, or on with this tail, on the disk too. After a fault the log is broken.
-    pub fn store_archive<D: Disk>(&mut self, disk: &mut D, tail: Option<Lsn>) -> Result<(), Failed>
+    fn store_archive<D: Disk>(&mut self, disk: &mut D, tail: Option<Lsn>) -> Result<(), Failed>
         requires sound { IsSound self.old }
         requires valid { IsValid (with_archive tail self.old.state.value) }
         requires up { container_of (hold self.old.state.value) ≤ container_of (hold (with_archive tail self.old.state.value)) }
@@ -117,6 +117,29 @@ impl Log {
         self.state = with_archive(&self.state, &tail);
         Ok(())
     }
+
+    // The same, and nothing below the hold, which may have moved with the tail, is kept in memory.
+    fn change_archive<D: Disk>(&mut self, disk: &mut D, tail: Option<Lsn>) -> Result<(), Failed>
+        requires sound { IsSound self.old }
+        requires valid { IsValid (with_archive tail self.old.state.value) }
+        requires up { container_of (hold self.old.state.value) ≤ container_of (hold (with_archive tail self.old.state.value)) }
+        ensures state { OnOk result (self.new.state.value ≡ with_archive tail self.old.state.value) }
+        ensures holds { OnOk result (Holds self.new.state.value self.new) }
+        ensures forgotten { OnOk result (HasForgotten self.new.state.value self.new) }
+        ensures same { OnOk result (KeepsQueue self.old self.new) }
+        ensures stored { OnOk result (StoredAfter (D.state disk.old) (D.state disk.new) self.old.state.value self.new.state.value self.old.physical self.new.physical) }
+        ensures meanwhile { StoredMeanwhile (D.state disk.old) (D.state disk.new) self.old.state.value (with_archive tail self.old.state.value) self.old.physical }
+        ensures broken { OnErr result (IsBroken self.old self.new) }
+        ensures settled { OnOk result (IsSettled (D.state disk.old) → IsSettled (D.state disk.new)) }
+        ensures time { Later (D.state disk.old) (D.state disk.new) }
+        ensures cause { OnErr result (Rises (D.state disk.old).faults (D.state disk.new).faults) }
+        ensures steady { IsSteady (D.state disk.old) → AreMade self.old.physical.image (D.state disk.old).files
+            → IsOk result × ((D.state disk.new).faults ≡ (D.state disk.old).faults) }
+    {
+        self.store_archive(disk, tail)?;
+        self.forget_low();
+        Ok(())
+    }
 }
 
 impl<D: Disk> Manager<D> {
@@ -143,7 +166,7 @@ impl<D: Disk> Manager<D> {
             return Ok(());
         }
         let tail = self.log.archive_for(on);
-        if self.log.store_archive(&mut self.disk, tail).is_err() {
+        if self.log.change_archive(&mut self.disk, tail).is_err() {
             return Err(Refusal::DiskFault);
         }
         Ok(())
@@ -170,7 +193,7 @@ impl<D: Disk> Manager<D> {
         if let Some(refusal) = self.log.tail_refusal(lsn) {
             return Err(refusal);
         }
-        if self.log.store_archive(&mut self.disk, Some(lsn)).is_err() {
+        if self.log.change_archive(&mut self.disk, Some(lsn)).is_err() {
             return Err(Refusal::DiskFault);
         }
         Ok(lsn)

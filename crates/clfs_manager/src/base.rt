@@ -21,8 +21,9 @@ ghost use Rattle.clfs_manager.specs.Base.{KeepsAllButTables, with_base};
 ghost use Rattle.clfs_manager.specs.Calls.{Steps};
 ghost use Rattle.clfs_manager.specs.Crashes.{CrashLeavesSurvivor, CrashSurvives};
 ghost use Rattle.clfs_manager.specs.Flushing.{IsBroken};
-ghost use Rattle.clfs_manager.specs.Memory.{IsSound};
-ghost use Rattle.clfs_manager.specs.Written.{IsIntact, WritesDisk};
+ghost use Rattle.clfs_manager.specs.Memory.{HasForgotten, IsSound};
+ghost use Rattle.clfs_manager.specs.Putting.{KeepsRoom};
+ghost use Rattle.clfs_manager.specs.Written.{IsIntact, IsYetToForget, WritesDisk};
 
 use crate::flushing::broken;
 use crate::log::Log;
@@ -54,13 +55,16 @@ impl Log {
         requires sound { IsSound self.old }
         ensures sound { IsSound self.new }
         ensures same { KeepsAllButTables self.old self.new }
+        ensures forgotten { HasForgotten self.new.state.value self.new }
+        ensures room { KeepsRoom 0 self.old self.new }
     {
         let low = Lsn::from_parts(self.hold().container(), 0, 0);
         self.tables.forget_below(low);
         self.archive.forget_below(low);
     }
 
-    // The base of a stream moves up, on the disk too. After a fault the log is broken.
+    // The base of a stream moves up, on the disk too. What lies below the hold, which has moved with it, is yet to be forgotten. After a fault the log is
+    // broken.
     pub(crate) fn store_base<D: Disk>(
         &mut self,
         disk: &mut D,
@@ -74,7 +78,7 @@ impl Log {
         requires storable { IsStorable (with_base stream base self.old.state.value) }
         requires held { container_of (hold self.old.state.value) ≤ container_of (hold (with_base stream base self.old.state.value)) }
         ensures state { OnOk result (self.new.state.value ≡ with_base stream base self.old.state.value) }
-        ensures intact { OnOk result (IsIntact (D.state disk.new) self.new) }
+        ensures intact { OnOk result (IsYetToForget (D.state disk.new) self.new) }
         ensures broken { OnErr result (IsBroken self.old self.new) }
         ensures writes { WritesDisk (IsErr result) (D.state disk.old) (D.state disk.new) }
         ensures moments { (asked : Request) (s : State) → Survives asked s (cut self.old.state.value)

@@ -16,6 +16,9 @@
 //! `info` and `extents` tell what the log is like and what is to be archived, from memory alone. `read_raw` gives the bytes of the log's files as they
 //! are on the disk, for who copies them.
 //!
+//! `records_kept`, `restarts_kept` and `ends_kept` tell how much memory keeps of the log's records: no more than twice what lies in the container of the
+//! least LSN that is needed and behind it.
+//!
 //! `set_size` gives the log more containers or fewer, and `reserve` sectors to an area, for which the log may grow. A change of the size is on
 //! the disk when it is answered; what areas hold never is.
 //!
@@ -33,6 +36,7 @@ mod first_copy;
 mod flushing;
 mod format;
 mod info;
+mod kept;
 mod log;
 mod manager;
 mod measures;

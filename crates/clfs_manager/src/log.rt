@@ -8,7 +8,7 @@ ghost use Rattle.clfs_recover.specs.Files.{policy_of, state_of};
 ghost use Rattle.clfs_recover.specs.Walk.{shape_of};
 ghost use Rattle.clfs_recover.specs.KnownLogs.{IsLogOf};
 ghost use Rattle.clfs_recover.specs.Opening.{told_parts};
-ghost use Rattle.clfs_manager.specs.Memory.{Holds, policies_in};
+ghost use Rattle.clfs_manager.specs.Memory.{HasForgotten, Holds, policies_in};
 
 use clfs_archive::{Archive, open_archive};
 use clfs_areas::Areas;
@@ -100,6 +100,7 @@ fn start_of(place: &Place) -> Lsn
 }
 
 // A log that was opened, with so many write buffers, which keeps so many blocks that are read. All memory that its blocks and base copies will ever need is taken here.
+// The copy may list containers below the hold's; of these nothing is kept.
 pub(crate) fn open_log(
     alloc: Global,
     opened: HeadParts,
@@ -116,6 +117,7 @@ pub(crate) fn open_log(
     ensures newest { IfOk result (λ log. log.physical ≡ record { slot = opened.slot; image = opened.image }) }
     ensures kept { IfOk result (λ log. log.buffers ≡ record { most = read_buffers; blocks = [] }) }
     ensures whole { IfOk result (λ log. log.broken ≡ false) }
+    ensures forgotten { IfOk result (λ log. HasForgotten log.state.value log) }
 {
     copies_are_read_as_written();
     logs_are_found_in_files();
@@ -138,7 +140,7 @@ pub(crate) fn open_log(
     let buffers = Buffers::new(alloc, read_buffers)?;
     let HeadParts { slot, image, .. } = opened;
     let physical = Physical::new(alloc, slot, image)?;
-    Ok(Log {
+    let mut log = Log {
         alloc,
         tables,
         areas: Areas::new(alloc),
@@ -149,5 +151,7 @@ pub(crate) fn open_log(
         buffers,
         broken: false,
         state,
-    })
+    };
+    log.forget_low();
+    Ok(log)
 }

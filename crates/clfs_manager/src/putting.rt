@@ -25,7 +25,7 @@ ghost use Rattle.clfs_manager.specs.Crashes.{CrashLeavesSurvivor, ReadyingSurviv
 ghost use Rattle.clfs_manager.specs.Flushing.{IsBroken, StoredAfter};
 ghost use Rattle.clfs_manager.specs.Memory.{Holds, IsSound};
 ghost use Rattle.clfs_manager.specs.Putting.{IsPutInMemory, KeepsRoom, MayTurnTo, TakesContainer, sealing_writes, unplaced};
-ghost use Rattle.clfs_manager.specs.Written.{IsIntact, WritesDisk};
+ghost use Rattle.clfs_manager.specs.Written.{IsIntact, IsYetToForget, WritesDisk};
 
 use crate::log::Log;
 use clfs_archive::ends_of_blocks_go_on;
@@ -159,14 +159,15 @@ impl Log {
         self.physical.turn(disk, first, room)
     }
 
-    // Goes on in the next container, where all is on the disk: takes a file for it. After a fault the log is broken.
+    // Goes on in the next container, where all is on the disk: takes a file for it. Where nothing is needed that was there the hold goes on with the log,
+    // and what lies below it is yet to be forgotten. After a fault the log is broken.
     fn turn<D: Disk>(&mut self, disk: &mut D, room: Vec<u16>) -> Result<(), Failed>
         requires intact { IsIntact (D.state disk.old) self.old }
         requires may { MayTurnTo self.old.state.value }
         requires empty { room.items ≡ [] }
         requires capacity { most_containers ≤ vec_capacity room }
         ensures state { OnOk result (self.new.state.value ≡ turned self.old.state.value) }
-        ensures intact { OnOk result (IsIntact (D.state disk.new) self.new) }
+        ensures intact { OnOk result (IsYetToForget (D.state disk.new) self.new) }
         ensures room { OnOk result (KeepsRoom 0 self.old self.new) }
         ensures broken { OnErr result (IsBroken self.old self.new) }
         ensures writes { WritesDisk (IsErr result) (D.state disk.old) (D.state disk.new) }
@@ -185,7 +186,7 @@ impl Log {
         Ok(())
     }
 
-    // Writes all that waits and goes on in the next container. After a fault the log is broken.
+    // Writes all that waits and goes on in the next container. Where the hold goes on too memory forgets what lies below it. After a fault the log is broken.
     fn begin_container<D: Disk>(&mut self, disk: &mut D, room: Vec<u16>) -> Result<(), Failed>
         requires intact { IsIntact (D.state disk.old) self.old }
         requires may { MayTurnTo (flush self.old.state.value) }
@@ -201,7 +202,9 @@ impl Log {
             → CrashLeavesSurvivor asked s (D.state disk.old) (D.state disk.new) }
     {
         self.write_all(disk)?;
-        self.turn(disk, room)
+        self.turn(disk, room)?;
+        self.forget_low();
+        Ok(())
     }
 
     // Makes the log ready for a record of so many bytes of data: where that doesn't join the open block, this is sealed, and where it doesn't fit behind

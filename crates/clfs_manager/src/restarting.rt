@@ -34,7 +34,7 @@ ghost use Rattle.clfs_manager.specs.Memory.{IsSound};
 ghost use Rattle.clfs_manager.specs.OnDisk.{IsOpen};
 ghost use Rattle.clfs_manager.specs.Putting.{unplaced};
 ghost use Rattle.clfs_manager.specs.Restarts.{EndsInRestart, rebased_streams};
-ghost use Rattle.clfs_manager.specs.Written.{IsIntact, WritesDisk};
+ghost use Rattle.clfs_manager.specs.Written.{IsIntact, IsYetToForget, WritesDisk};
 
 use crate::appending::kept;
 use crate::arguments::need_of;
@@ -92,8 +92,8 @@ fn restart_fields(stream: u16, previous: Lsn, base: Lsn) -> Fields
 }
 
 impl Log {
-    // The log ends in a restart area, which isn't on the disk yet: all that waits is written, and then the base moves, where there is a new one. After
-    // a fault the log is broken.
+    // The log ends in a restart area, which isn't on the disk yet: all that waits is written, and then the base moves, where there is a new one. What
+    // lies below the hold is yet to be forgotten. After a fault the log is broken.
     fn store_restart<D: Disk>(&mut self, disk: &mut D, stream: u16, base: Lsn) -> Result<(), Failed>
         requires laid { IsLaidLog self.old }
         requires opened { IsOpen (D.state disk.old) self.old.state.value self.old }
@@ -103,7 +103,7 @@ impl Log {
         requires valid { IsValid (rebased stream base (flush self.old.state.value)) }
         requires storable { IsStorable (rebased stream base (flush self.old.state.value)) }
         ensures state { OnOk result (self.new.state.value ≡ rebased stream base (flush self.old.state.value)) }
-        ensures intact { OnOk result (IsIntact (D.state disk.new) self.new) }
+        ensures intact { OnOk result (IsYetToForget (D.state disk.new) self.new) }
         ensures broken { OnErr result (IsBroken self.old self.new) }
         ensures writes { WritesDisk (IsErr result) (D.state disk.old) (D.state disk.new) }
         ensures moments { (asked : Request) (s : State) → Survives asked s (cut self.old.state.value)

@@ -1,5 +1,5 @@
 -- Heads of which the lowest were forgotten, and what a search of them finds.
-use Rattle.std.proofs.Common.{◌≡◌, ℕ, ◌+◌, ◌<◌, ◌≤◌, Bool, false, refl, sym, ap, ◌∙◌, inl, inr, arith, List, [], ◌∷◌, ◌++◌, length, zero, suc, take, drop, reverse, Some, None, get_or}
+use Rattle.std.proofs.Common.{◌≡◌, ℕ, ◌+◌, ◌*◌, ◌<◌, ◌≤◌, Bool, false, refl, sym, ap, ◌∙◌, inl, inr, arith, List, [], ◌∷◌, ◌++◌, length, zero, suc, take, drop, reverse, Some, None, get_or}
 use Rattle.std.specs.Prelude.{filter, nat_le, ◌==◌, All}
 use Rattle.std.proofs.lemmas.Bool.{cases_Bool, cases_lt, eq-eqb, eqb-true, ne_eqb, le-leb, leb-true}
 use Rattle.std.proofs.lemmas.List.{append_cancel_right, take-append-drop, drop-drop, drop-append-le, take-append-le, length-drop, length-append, drop_all}
@@ -70,17 +70,53 @@ found_kept low lsn all kept is above =
     (All-weaker (λ (head : Head). head.lsn < low) (λ (head : Head). head.lsn < lsn) (λ head below. omega (arith, below, above)) (take is.count all) is.below))
     ∙ ap (head_at lsn) (take-append-drop is.count all))
 
--- nothing is forgotten at first
-pub all_kept : (low : ℕ) (all : List Head) → IsKept low all all
-all_kept low all = record { count = 0; within = omega arith; is = refl; below = λ k d inside. absurd (omega (arith, inside)) }
+-- no more heads lie from an LSN on than there are
+fewer_from : (low : ℕ) (heads : List Head) → length (heads_from low heads) ≤ length heads
+fewer_from low [] = omega arith
+fewer_from low (head ∷ heads) = elim (cases_Bool (nat_le low head.lsn)) [
+  | inl from ↦ rw from (omega (arith, fewer_from low heads))
+  | inr below ↦ rw below (omega (arith, fewer_from low heads))
+]
 
--- heads behind the others are kept
-pub kept_with : (low : ℕ) (all kept more : List Head) → IsKept low all kept → IsKept low (all ++ more) (kept ++ more)
-kept_with low all kept more is = record {
+-- all heads from the LSN on are kept
+pub all_kept : (low : ℕ) (all kept : List Head) → IsKept low all kept → length (heads_from low all) ≤ length kept
+all_kept low all kept is =
+    let same = ap length (live_kept low low all kept is (λ k d inside below. below)) in
+    omega (arith, same, fewer_from low kept)
+
+-- of no heads none is forgotten
+pub none_kept : (low : ℕ) → IsKept low [] []
+none_kept low = record { count = 0; within = omega arith; is = refl; below = λ k d inside. absurd (omega (arith, inside)); few = omega arith }
+
+-- as many heads of a whole lie from an LSN on as of its two parts
+from_parts : (low : ℕ) (front rest : List Head) → length (heads_from low (front ++ rest)) ≡ length (heads_from low front) + length (heads_from low rest)
+from_parts low front rest =
+    ap length (filter-append (λ (head : Head). nat_le low head.lsn) front rest) ∙ length-append (heads_from low front) (heads_from low rest)
+
+-- no more of the rest lie from an LSN on than of all
+from_rest : (low count : ℕ) (all : List Head) → length (heads_from low (drop count all)) ≤ length (heads_from low all)
+from_rest low count all =
+    let parts = from_parts low (take count all) (drop count all) in
+    let whole = ap (λ (hs : List Head). length (heads_from low hs)) (take-append-drop count all) in
+    omega (arith, parts, whole)
+
+-- heads that all lie from an LSN on
+all_from : (low : ℕ) (heads : List Head) → All (λ (head : Head). low ≤ head.lsn) heads → heads_from low heads ≡ heads
+all_from low [] above = refl
+all_from low (head ∷ heads) above =
+    rw (le-leb low head.lsn (above 0 head (omega arith))) (ap (λ rest. head ∷ rest) (all_from low heads (All-tail (λ (h : Head). low ≤ h.lsn) head heads above)))
+
+-- heads behind the others, from the LSN on, are kept
+pub kept_with : (low : ℕ) (all kept more : List Head) → All (λ (head : Head). low ≤ head.lsn) more → IsKept low all kept → IsKept low (all ++ more) (kept ++ more)
+kept_with low all kept more above is = record {
   count = is.count;
   within = omega (arith, is.within, length-append all more);
   is = rw (is.is, drop-append-le is.count all more is.within) refl;
   below = rw (take-append-le is.count all more is.within) is.below;
+  few =
+      let parts = from_parts low all more in
+      let own = ap length (all_from low more above) in
+      omega (arith, length-append kept more, is.few, parts, own);
 }
 
 -- more is forgotten, below a higher LSN
@@ -97,6 +133,10 @@ kept_further low lsn all kept less up first then = record {
       = All-weaker (λ (head : Head). head.lsn < low) (λ (head : Head). head.lsn < lsn) (λ head below. omega (arith, below, up)) (take first.count all) first.below in
       rw (take_both first.count then.count all) (All-append (λ (head : Head). head.lsn < lsn) (take first.count all) (take then.count (drop first.count all)) low_front
       (rw first.is at then.below));
+  few =
+      let rest = from_rest lsn first.count all in
+      let same = ap (λ (hs : List Head). length (heads_from lsn hs)) first.is in
+      omega (arith, then.few, rest, same);
 }
   where
     take_both : {X : Type 0} (n m : ℕ) (xs : List X) → take (n + m) xs ≡ take n xs ++ take m (drop n xs)
@@ -106,12 +146,13 @@ kept_further low lsn all kept less up first then = record {
     take_both (suc n) m (x ∷ xs) = let e : suc n + m ≡ suc (n + m) = omega arith in rw e (ap (λ rest. x ∷ rest) (take_both n m xs))
 
 -- a row of which the front was dropped and that has the same heads from an LSN on has lost such below it alone
-pub dropped : (lsn n : ℕ) (old new : List Head) → new ≡ drop n old → heads_from lsn new ≡ heads_from lsn old → IsKept lsn old new
-dropped lsn n old new is same = elim (cases_lt n (length old)) [
-  | inl inside ↦ dropped_within lsn n old new is same (omega (arith, inside))
+pub dropped : (lsn n : ℕ) (old new : List Head) → new ≡ drop n old → heads_from lsn new ≡ heads_from lsn old → length new ≤ 2 * length (heads_from lsn new)
+    → IsKept lsn old new
+dropped lsn n old new is same few = elim (cases_lt n (length old)) [
+  | inl inside ↦ dropped_within lsn n old new is same few (omega (arith, inside))
   | inr past ↦
       let none : drop n old ≡ [] = drop_all n old past in
-      dropped_within lsn (length old) old new (is ∙ none ∙ sym (drop_all (length old) old (omega arith))) same (omega arith)
+      dropped_within lsn (length old) old new (is ∙ none ∙ sym (drop_all (length old) old (omega arith))) same few (omega arith)
 ]
   where
     lower : (base : ℕ) (heads : List Head) → All (λ (head : Head). nat_le base head.lsn ≡ false) heads → All (λ (head : Head). head.lsn < base) heads
@@ -120,8 +161,9 @@ dropped lsn n old new is same = elim (cases_lt n (length old)) [
       | inr not_less ↦ absurd (let passes = le-leb base (get_or heads k d).lsn not_less in let fails = fail k d inside in let both = sym passes ∙ fails in cc both)
     ]
 
-    dropped_within : (lsn n : ℕ) (old new : List Head) → new ≡ drop n old → heads_from lsn new ≡ heads_from lsn old → n ≤ length old → IsKept lsn old new
-    dropped_within lsn n old new is same within = record {
+    dropped_within : (lsn n : ℕ) (old new : List Head) → new ≡ drop n old → heads_from lsn new ≡ heads_from lsn old → length new ≤ 2 * length (heads_from lsn new)
+        → n ≤ length old → IsKept lsn old new
+    dropped_within lsn n old new is same few within = record {
       count = n;
       within = within;
       is = is;
@@ -131,6 +173,7 @@ dropped lsn n old new is same = elim (cases_lt n (length old)) [
           let rest : heads_from lsn (take n old) ++ heads_from lsn (drop n old) ≡ [] ++ heads_from lsn (drop n old)
           = split ∙ sym same ∙ ap (heads_from lsn) is in
           lower lsn (take n old) (each_fails (λ (head : Head). nat_le lsn head.lsn) (take n old) (append_cancel_right _ [] _ rest));
+      few = (let as_many = ap length same in omega (arith, few, as_many));
     }
 
 -- the restart areas among live heads are the live ones of restart areas

@@ -4,7 +4,7 @@ use Rattle.std.specs.Prelude.{slice_index, ◌==◌, All, Result, Ok, Err, OnOk}
 use Rattle.std.specs.Option.{option_map, option_map_or}
 use Rattle.std.proofs.lemmas.Bool.{cases_Bool, cases_eq, cases_lt, eq-eqb, eqb-false, ne_eqb}
 use Rattle.std.proofs.lemmas.List.{append-nil, get_or_append_left, get_or_push, get_or-set_same, get_or-set_other, length_push, length-map, map-set, set-get_or}
-use Rattle.std.proofs.lemmas.List.Elements.{All-tail, All-drop, All-filter, All-weaker, filter-append}
+use Rattle.std.proofs.lemmas.List.Elements.{All-cons, All-tail, All-drop, All-filter, All-weaker, filter-append}
 use Rattle.std.proofs.lemmas.Option.{slice_get_past}
 use Rattle.clfs_lsn.specs.Lsn.{null_lsn}
 use Rattle.clfs_lsn.specs.declared.entry.Head.{Head}
@@ -14,7 +14,7 @@ use Rattle.clfs_lsn.specs.Heads.{heads_from, live_heads, stream_heads, is_restar
 use Rattle.clfs_tail.specs.Firsts.{first_live, AreFirsts}
 use Rattle.clfs_tables.specs.declared.tables.StreamRow.{StreamRow}
 use Rattle.clfs_tables.specs.Tables.{IsDeadBelow, IsHead, IsKept, IsNumber, IsRow, base_in, restarts_of, room_in}
-use Rattle.clfs_tables.proofs.Kept.{all_kept, kept_further, kept_with, live_kept}
+use Rattle.clfs_tables.proofs.Kept.{kept_further, kept_with, live_kept, none_kept}
 use Rattle.clfs_tables.proofs.StreamRows.{dead_in}
 
 -- the base in a stream that is or isn't there
@@ -81,8 +81,8 @@ row_added streams name low heads rows row firsts long firsts_long firsts_are are
           rw (get_or_push rows row d (stream - 1) (omega (arith, last, long)), no_base) (record {
             index_base = base;
             restarts_base = restarts_base;
-            index = rw (empty, none) (all_kept low []);
-            restarts = rw (empty, no_restarts) (all_kept low []);
+            index = rw (empty, none) (none_kept low);
+            restarts = rw (empty, no_restarts) (none_kept low);
           })
     ])
   where
@@ -113,18 +113,22 @@ restarts_below low stream lsn heads kept is above =
     (All-filter (λ (h : Head). h.stream == stream) (λ (other : Head). other.lsn < lsn) heads above)))
 
 -- the row of the record's stream, with the record behind its others
-pub row_with : (base low : ℕ) (heads : List Head) (head : Head) (old new : StreamRow) → IsRow base low head.stream heads old
+pub row_with : (base low : ℕ) (heads : List Head) (head : Head) (old new : StreamRow) → low ≤ head.lsn → IsRow base low head.stream heads old
     → new.index.base ≡ old.index.base → new.restarts.base ≡ old.restarts.base
     → new.index.heads ≡ old.index.heads ++ head ∷ [] → new.restarts.heads ≡ old.restarts.heads ++ restarts_of (head ∷ [])
     → IsRow base low head.stream (heads ++ head ∷ []) new
-row_with base low heads head old new is same restarts_same joined restarts = record {
+row_with base low heads head old new above is same restarts_same joined restarts = record {
   index_base = same ∙ is.index_base;
   restarts_base = restarts_same ∙ is.restarts_base;
-  index = rw (heads_of_own head.stream heads head refl, joined) (kept_with low (stream_heads head.stream heads) old.index.heads (head ∷ []) is.index);
+  index = rw (heads_of_own head.stream heads head refl, joined) (kept_with low (stream_heads head.stream heads) old.index.heads (head ∷ []) own is.index);
   restarts =
       rw (heads_of_own head.stream heads head refl, filter-append (λ (h : Head). is_restart h.kind) (stream_heads head.stream heads) (head ∷ []), restarts)
-      (kept_with low (restarts_of (stream_heads head.stream heads)) old.restarts.heads (restarts_of (head ∷ [])) is.restarts);
+      (kept_with low (restarts_of (stream_heads head.stream heads)) old.restarts.heads (restarts_of (head ∷ []))
+      (All-filter (λ (h : Head). is_restart h.kind) (λ (h : Head). low ≤ h.lsn) (head ∷ []) own) is.restarts);
 }
+  where
+    own : All (λ (h : Head). low ≤ h.lsn) (head ∷ [])
+    own = All-cons (λ (h : Head). low ≤ h.lsn) head [] above (λ k d inside. absurd (omega (arith, inside)))
 
 pub rows_with : (streams : List Stream) (low : ℕ) (heads : List Head) (head : Head) (rows : List StreamRow) (row : StreamRow) → length rows ≡ length streams → IsNumber streams head.stream
     → ((stream : ℕ) (d : StreamRow) → 1 ≤ stream → stream ≤ length streams → IsRow (base_in streams stream) low stream heads (get_or rows (stream - 1) d))
@@ -238,14 +242,7 @@ pub record Forgets (lsn : ℕ) (old new : StreamRow) : Type 0 where
   pub restarts_base : new.restarts.base ≡ old.restarts.base
   pub index : IsKept lsn old.index.heads new.index.heads
   pub restarts : IsKept lsn old.restarts.heads new.restarts.heads
-
-pub forgets_more : (lsn : ℕ) (old mid new : StreamRow) → Forgets lsn old mid → Forgets lsn mid new → Forgets lsn old new
-forgets_more lsn old mid new first more = record {
-  index_base = more.index_base ∙ first.index_base;
-  restarts_base = more.restarts_base ∙ first.restarts_base;
-  index = kept_further lsn lsn old.index.heads mid.index.heads new.index.heads (omega arith) first.index more.index;
-  restarts = kept_further lsn lsn old.restarts.heads mid.restarts.heads new.restarts.heads (omega arith) first.restarts more.restarts;
-}
+  pub room : min old.index.room old.restarts.room ≤ min new.index.room new.restarts.room
 
 -- a row of which more is forgotten
 pub row_less : (base low lsn stream : ℕ) (heads : List Head) (old new : StreamRow) → low ≤ lsn → IsRow base low stream heads old → Forgets lsn old new → IsRow base lsn stream heads new
@@ -275,6 +272,16 @@ room_there rows i row inside index restarts =
     let at : slice_index (room_in (set rows i row)) i ≡ row_room row
     = ap (λ ns. slice_index ns i) (map-set row_room rows i row) ∙ get_or-set_same (room_in rows) i (row_room row) 0 (omega (arith, inside, length-map rows row_room)) in
     rw at (omega (arith, index, restarts))
+
+-- no row has less room where each has as much as before
+pub rooms_kept : (old new : List StreamRow) → length new ≡ length old
+    → ((k : ℕ) (d : StreamRow) → k < length old → row_room (get_or old k d) ≤ row_room (get_or new k d))
+    → (i : ℕ) → slice_index (room_in old) i ≤ slice_index (room_in new) i
+rooms_kept [] new long each i = omega arith
+rooms_kept (row ∷ old) [] long each i = absurd (omega (arith, long))
+rooms_kept (row ∷ old) (other ∷ new) long each zero = each 0 row (omega arith)
+rooms_kept (row ∷ old) (other ∷ new) long each (suc i) =
+    rooms_kept old new (omega (arith, long)) (λ k d inside. each (suc k) d (omega (arith, inside))) i
 
 -- what follows where a call succeeded
 pub on_ok : {T E P Q : Type 0} (result : Result T E) → (P → Q) → OnOk result P → OnOk result Q

@@ -1,11 +1,11 @@
 -- The tables of the records: what contracts see of them, and what they keep.
-use Rattle.std.specs.Prelude.{◌≡◌, ℕ, ◌-◌, ◌<◌, ◌≤◌, ◌^◌, min, map, List, length, take, drop, filter, All, slice_index_or}
+use Rattle.std.specs.Prelude.{◌≡◌, ℕ, ◌-◌, ◌*◌, ◌<◌, ◌≤◌, ◌^◌, min, map, List, length, take, drop, filter, All, slice_index_or}
 use Rattle.std.specs.Option.{option_map_or}
 use Rattle.clfs_lsn.specs.Lsn.{null_lsn}
 use Rattle.clfs_lsn.specs.Streams.{stream_in}
 use Rattle.clfs_lsn.specs.declared.entry.Head.{Head}
 use Rattle.clfs_lsn.specs.declared.stream.Stream.{Stream}
-use Rattle.clfs_lsn.specs.Heads.{stream_heads, is_restart}
+use Rattle.clfs_lsn.specs.Heads.{heads_from, stream_heads, is_restart}
 use Rattle.clfs_tail.specs.Firsts.{AreFirsts}
 use Rattle.clfs_tables.specs.declared.tables.StreamRow.{StreamRow}
 use Rattle.clfs_tables.specs.declared.tables.Tables.TheInside.{Inside}
@@ -33,12 +33,13 @@ pub record HasSame (old new : Tabled) : Type 0 where
   pub heads : new.heads ≡ old.heads
   pub low : new.low ≡ old.low
 
--- Of these heads all are kept but the first ones, which lie below an LSN.
+-- Of these heads all are kept but the first ones, which lie below an LSN; at most twice as many are kept as lie from it on.
 pub record IsKept (low : ℕ) (all kept : List Head) : Type 0 where
   pub count : ℕ
   pub within : count ≤ length all
   pub is : kept ≡ drop count all
   pub below : All (λ (head : Head). head.lsn < low) (take count all)
+  pub few : length kept ≤ 2 * length (heads_from low all)
 
 -- the restart areas among heads
 abbrev pub restarts_of : List Head → List Head

@@ -1,7 +1,7 @@
 // The tables of the records of all streams, joined. What a search of the log asks for is answered here by searches of sorted rows, in terms of
 // the heads of all records. Heads are forgotten below an LSN below which nothing is live: a link that leads there leads nowhere, and
 // reading forward from there begins at the first live record, so no answer needs them. The list of all heads is told and not kept.
-ghost use Rattle.std.specs.Prelude.{◌≡◌, ◌+◌, ◌-◌, ◌^◌, ◌<◌, ◌≤◌, [], ◌∷◌, ◌++◌, length, All, Option, Some, None, OnOk, slice_get, slice_index};
+ghost use Rattle.std.specs.Prelude.{◌≡◌, ℕ, min, ◌+◌, ◌-◌, ◌*◌, ◌^◌, ◌<◌, ◌≤◌, [], ◌∷◌, ◌++◌, length, All, Option, Some, None, OnOk, slice_get, slice_index};
 ghost use Rattle.std.specs.Option.{option_map};
 ghost use Rattle.clfs_lsn.specs.Lsn.{null_lsn};
 ghost use Rattle.clfs_lsn.specs.Place.{IsSmall, frontier};
@@ -105,11 +105,30 @@ impl Tables {
     fn row(&self, stream: u16) -> &StreamRow
         requires there { IsNumber self.now.streams stream }
         ensures kept { IsKept self.now.low (stream_heads stream self.now.heads) result.now.index.heads }
+        ensures kept_restarts { IsKept self.now.low (restarts_of (stream_heads stream self.now.heads)) result.now.restarts.heads }
         ensures live { heads_from result.now.index.base result.now.index.heads ≡ live_heads (base_in self.now.streams stream) stream self.now.heads }
         ensures restarts { restarts_among (heads_from result.now.restarts.base result.now.restarts.heads)
             ≡ restart_heads (base_in self.now.streams stream) stream self.now.heads }
     {
         &self.rows[stream as usize - 1]
+    }
+
+    /// How many heads of a stream's records are kept, dead ones among them.
+    pub fn records_kept(&self, stream: u16) -> usize
+        requires there { IsNumber self.now.streams stream }
+        ensures all { length (heads_from self.now.low (stream_heads stream self.now.heads)) ≤ result }
+        ensures few { result ≤ 2 * length (heads_from self.now.low (stream_heads stream self.now.heads)) }
+    {
+        self.row(stream).index.len()
+    }
+
+    /// How many heads of a stream's restart areas are kept beside those of its records.
+    pub fn restarts_kept(&self, stream: u16) -> usize
+        requires there { IsNumber self.now.streams stream }
+        ensures all { length (heads_from self.now.low (restarts_of (stream_heads stream self.now.heads))) ≤ result }
+        ensures few { result ≤ 2 * length (heads_from self.now.low (restarts_of (stream_heads stream self.now.heads))) }
+    {
+        self.row(stream).restarts.len()
     }
 
     /// The live record of a stream at an LSN, by its head.
@@ -283,6 +302,7 @@ impl Tables {
         ensures streams { self.new.streams ≡ self.old.streams }
         ensures heads { self.new.heads ≡ self.old.heads }
         ensures low { self.new.low ≡ lsn }
+        ensures room { (place : ℕ) → slice_index self.old.room place ≤ slice_index self.new.room place }
         ensures more { self.new.more ≡ self.old.more }
     {
         for row in self.rows.iter_mut() {
@@ -341,6 +361,7 @@ fn forget_row(row: &mut StreamRow, lsn: Lsn)
     ensures index { IsKept lsn row.old.index.heads row.new.index.heads }
     ensures restarts_base { row.new.restarts.base ≡ row.old.restarts.base }
     ensures restarts { IsKept lsn row.old.restarts.heads row.new.restarts.heads }
+    ensures room { min row.old.index.room row.old.restarts.room ≤ min row.new.index.room row.new.restarts.room }
 {
     row.index.forget_below(lsn);
     row.restarts.forget_below(lsn);

@@ -1,4 +1,4 @@
-use Rattle.std.proofs.Common.{◌<◌, length, sym, ap, ◌∙◌, arith}
+use Rattle.std.proofs.Common.{◌<◌, length, refl, sym, ap, ◌∙◌, arith}
 use Rattle.clfs_model.specs.Flush.{block_start}
 use Rattle.clfs_physical.specs.Stored.{Newest}
 use Rattle.clfs_queue.specs.Queued.{Queued}
@@ -57,8 +57,20 @@ new-requires-clause-place c =
     let f = c.logs_are_found_in_files.ensures.found parts c.requires.log in
     rw c.shape_of-shape.ensures ((c.opened_copies_fit.ensures.within f.0 parts f.1).0)
 
-pub returns-clause-holds : goal.returns-clause-holds
-returns-clause-holds c =
+pub returns-clause-state : goal.returns-clause-state
+returns-clause-state c = ap (λ told. told.value) c.forget_low.ensures.same.state ∙ c.state_of-state.ensures
+
+pub returns-clause-newest : goal.returns-clause-newest
+returns-clause-newest c = c.forget_low.ensures.same.physical ∙ c.in_ok-physical.ensures
+
+pub returns-clause-kept : goal.returns-clause-kept
+returns-clause-kept c = c.forget_low.ensures.same.buffers ∙ c.in_ok-buffers.ensures
+
+pub returns-clause-whole : goal.returns-clause-whole
+returns-clause-whole c = c.forget_low.ensures.same.broken
+
+pub forget_low-requires : goal.forget_low-requires
+forget_low-requires c =
     let parts = told_parts c.args.opened in
     let f = c.logs_are_found_in_files.ensures.found parts c.requires.log in
     let closed = (c.opened_copies_fit.ensures.within f.0 parts f.1).1 in
@@ -66,34 +78,45 @@ returns-clause-holds c =
     let queue = c.in_ok-queue.ensures in
     let tables = c.in_ok-tables.ensures in
     let heads = c.as_slice-heads.ensures ∙ c.requires.heads in
-    rw c.state_of-state.ensures (record {
-      shape = ap (λ (q : Queued). q.shape) queue ∙ c.shape_of-shape.ensures;
-      buffers = ap (λ (q : Queued). q.buffers) queue;
-      place = ap (λ (q : Queued). q.place) queue;
-      waiting = ap (λ (q : Queued). q.waiting) queue;
-      records = ap (λ (q : Queued). q.records) queue ∙ sym (none_from (block_start parts.place) parts.entries below);
-      streams = rw (c.as_slice-rows.ensures, c.as_slice.ensures) at tables.streams;
-      heads = tables.heads ∙ heads;
-      low = omega (arith, tables.low);
-      areas = c.new-4.ensures;
-      archive = c.in_ok-archive.ensures.tail ∙ c.tail_in.ensures;
-      sealed = rw tables.low (rw (heads, c.start_of-next.ensures) at c.in_ok-archive.ensures.blocks);
-      room = λ some. absurd (omega (arith, some, closed.1));
-      policies = c.policies_in-policies.ensures;
-      containers = ap (λ (n : Newest). n.image.containers) c.in_ok-physical.ensures;
-      image_shape = ap (λ (n : Newest). shape_of n.image) c.in_ok-physical.ensures;
-      dedicated = ap (λ (n : Newest). n.image.dedicated) c.in_ok-physical.ensures;
-      rows = ap (λ (n : Newest). length n.image.streams) c.in_ok-physical.ensures
-          ∙ sym (streams_long parts.image.streams parts.bases (c.opened_bases_are_moved_by_records.ensures.all f.0 parts f.1));
-      listed = rw c.in_ok-physical.ensures (sym (c.opened_copies_fit.ensures.container f.0 parts f.1));
-      needed = omega (
-        arith,
-        ap (λ (n : Newest). n.image.first) c.in_ok-physical.ensures,
-        opened_needed parts c.args.write_buffers (record {
-          container = c.opened_copies_fit.ensures.container f.0 parts f.1;
-          some = (c.opened_copies_fit.ensures.image f.0 parts f.1).some_listed;
-          records = c.opened_records_lie_in_order.ensures.containers f.0 parts f.1;
-          fits = c.copies_without_fault_fit.ensures.fits parts.image _ (c.opened_copies_fit.ensures.right f.0 parts f.1);
-        }),
-      );
-    })
+    let s = state_of parts c.args.write_buffers in
+    let stands = c.logs_are_found_in_files.ensures.state parts c.args.write_buffers c.requires.log in
+    let told = c.state_of-state.ensures in
+    record {
+      sound = record {
+        valid = rw told (c.opened_states_are_valid.ensures.valid stands.0 s stands.1 c.requires.some c.requires.few);
+        storable = rw told (c.opened_states_are_valid.ensures.storable stands.0 s stands.1);
+        unbroken = refl;
+        whole = ap (λ u. u.broken) told;
+        holds = rw told (record {
+          shape = ap (λ (q : Queued). q.shape) queue ∙ c.shape_of-shape.ensures;
+          buffers = ap (λ (q : Queued). q.buffers) queue;
+          place = ap (λ (q : Queued). q.place) queue;
+          waiting = ap (λ (q : Queued). q.waiting) queue;
+          records = ap (λ (q : Queued). q.records) queue ∙ sym (none_from (block_start parts.place) parts.entries below);
+          streams = rw (c.as_slice-rows.ensures, c.as_slice.ensures) at tables.streams;
+          heads = tables.heads ∙ heads;
+          low = omega (arith, tables.low);
+          areas = c.new-4.ensures;
+          archive = c.in_ok-archive.ensures.tail ∙ c.tail_in.ensures;
+          sealed = rw tables.low (rw (heads, c.start_of-next.ensures) at c.in_ok-archive.ensures.blocks);
+          room = λ some. absurd (omega (arith, some, closed.1));
+          policies = c.policies_in-policies.ensures;
+          containers = ap (λ (n : Newest). n.image.containers) c.in_ok-physical.ensures;
+          image_shape = ap (λ (n : Newest). shape_of n.image) c.in_ok-physical.ensures;
+          dedicated = ap (λ (n : Newest). n.image.dedicated) c.in_ok-physical.ensures;
+          rows = ap (λ (n : Newest). length n.image.streams) c.in_ok-physical.ensures
+              ∙ sym (streams_long parts.image.streams parts.bases (c.opened_bases_are_moved_by_records.ensures.all f.0 parts f.1));
+          listed = rw c.in_ok-physical.ensures (sym (c.opened_copies_fit.ensures.container f.0 parts f.1));
+          needed = omega (
+            arith,
+            ap (λ (n : Newest). n.image.first) c.in_ok-physical.ensures,
+            opened_needed parts c.args.write_buffers (record {
+              container = c.opened_copies_fit.ensures.container f.0 parts f.1;
+              some = (c.opened_copies_fit.ensures.image f.0 parts f.1).some_listed;
+              records = c.opened_records_lie_in_order.ensures.containers f.0 parts f.1;
+              fits = c.copies_without_fault_fit.ensures.fits parts.image _ (c.opened_copies_fit.ensures.right f.0 parts f.1);
+            }),
+          );
+        });
+      };
+    }

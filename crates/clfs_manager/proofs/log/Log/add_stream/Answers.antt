@@ -24,7 +24,7 @@ use Rattle.clfs_manager.specs.OnDisk.{AreKept}
 use Rattle.clfs_manager.specs.Streams.{with_stream}
 use Rattle.clfs_manager.specs.Written.{IsIntact, WritesDisk}
 use Rattle.clfs_manager.specs.declared.log.Log.{Log}
-use Rattle.clfs_manager.proofs.AddedStream.{intact_reserved, is_name, kept_added, no_row, open_allowed}
+use Rattle.clfs_manager.proofs.AddedStream.{hold_added, intact_reserved, is_name, kept_added, no_row, open_allowed}
 use Rattle.clfs_manager.proofs.CopiedMeanwhile.{crash_copied, stream_copied}
 use Rattle.clfs_manager.proofs.Crashes.{crash_still}
 use Rattle.clfs_manager.proofs.Intact.{intact_done, writes_failed, writes_fine, writes_nothing}
@@ -171,6 +171,12 @@ returns-clause-intact g c =
       kept = λ kept. subst (λ (u : State). AreKept u old.buffers) (sym state) (kept_added s c.args.name.now old.buffers kept);
       settled = c.in-Ok.ensures.settled;
       nature = c.add_stream.ensures.time.nature;
+      forgotten = λ is.
+          let low : c.add_stream-2.new.self.low ≡ old.tables.low = c.add_stream-2.ensures.low ∙ c.reserve_stream.ensures.same.low in
+          rw state (record {
+            low = omega (arith, is.low, low, ap container_of (hold_added s c.args.name.now));
+            ends = rw low is.ends;
+          });
     })
 
 pub returns-clause-writes : goal.returns-clause-writes

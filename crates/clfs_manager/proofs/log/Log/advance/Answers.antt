@@ -37,7 +37,7 @@ returns-in-Err-clause-writes g c =
 
 pub returns-clause-intact : goal.returns-clause-intact
 returns-clause-intact g c = intact_forgot (g.D.Disk.state c.store_base.new.disk) c.store_base.new.self c.forget_low.new.self c.in_default.ensures.intact
-    c.forget_low.ensures.sound c.forget_low.ensures.same
+    c.forget_low.ensures.sound c.forget_low.ensures.same c.forget_low.ensures.forgotten
 
 pub returns-clause-writes : goal.returns-clause-writes
 returns-clause-writes g c =

@@ -7,6 +7,7 @@ use Rattle.clfs_model.specs.Flush.{block_start}
 use Rattle.clfs_model.specs.Heads.{heads_of}
 use Rattle.clfs_queue.specs.Queued.{Queued}
 use Rattle.clfs_manager.proofs.Ending.{Ends, ends, sealed_place}
+use Rattle.clfs_manager.proofs.Numbers.{hold_in_place, hold_up_to_end}
 use Rattle.clfs_manager.proofs.log.Log.end_block.Goals as goal
 
 pub returns-clause-ended : goal.returns-clause-ended
@@ -29,6 +30,14 @@ returns-clause-ended c =
       queue = c.seal.ensures.sealed;
       sealed = subst (λ (p : Place). AreSealed old.tables.low (block_start p) c.push.new.self.blocks (heads_of s)) (sym at) told;
       tail = c.push.ensures.tail;
+      few = c.push.ensures.few old.tables.low (omega (
+        arith,
+        holds.low,
+        hold_in_place s laid_log.laid.ranges (hold_up_to_end s laid_log.laid.records laid_log.laid.waiting laid_log.laid.tail),
+        c.end_of_open.ensures.last,
+        ap frontier place,
+        some,
+      ));
       room = omega (arith, c.push.ensures.room);
       tables = refl;
       areas = refl;

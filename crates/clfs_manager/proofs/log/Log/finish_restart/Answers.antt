@@ -11,7 +11,7 @@ returns-in_err-store_restart-clause-writes g c =
 pub returns-clause-intact : goal.returns-clause-intact
 returns-clause-intact g c =
     intact_forgot (g.D.Disk.state c.store_restart.new.disk) c.store_restart.new.self c.forget_low.new.self c.in_ok-store_restart.ensures.intact
-    c.forget_low.ensures.sound c.forget_low.ensures.same
+    c.forget_low.ensures.sound c.forget_low.ensures.same c.forget_low.ensures.forgotten
 
 pub returns-clause-writes : goal.returns-clause-writes
 returns-clause-writes g c =

@@ -1,6 +1,6 @@
-use Rattle.std.proofs.Common.{◌≡◌, ℕ, ◌≤◌, sym, ap, subst, ◌∙◌, arith}
+use Rattle.std.proofs.Common.{◌≡◌, ℕ, ◌≤◌, refl, sym, ap, subst, ◌∙◌, arith}
 use Rattle.clfs_lsn.specs.Lsn.{lsn_number, container_of}
-use Rattle.clfs_archive.specs.Blocks.{AreSealed}
+use Rattle.clfs_archive.specs.Blocks.{AreFew, AreSealed}
 use Rattle.clfs_model.specs.declared.state.State.{State}
 use Rattle.clfs_model.specs.Flush.{block_start}
 use Rattle.clfs_model.specs.Heads.{heads_of}
@@ -15,6 +15,19 @@ forget_below-requires-clause-dead c =
     let low : c.from_parts-low.result ≡ lsn_number (container_of (hold old.state.value)) 0 0 =
     c.from_parts-low.ensures ∙ ap (λ (n : ℕ). lsn_number n 0 0) (c.container.ensures.value ∙ ap container_of c.hold.ensures.value) in
     dead_in old.state.value old.tables.streams old.tables.heads c.from_parts-low.result holds.streams holds.heads low
+
+pub returns-clause-forgotten : goal.returns-clause-forgotten
+returns-clause-forgotten c =
+    let s : State = c.args.self.now.state.value in
+    let low : c.from_parts-low.result ≡ lsn_number (container_of (hold s)) 0 0 =
+    c.from_parts-low.ensures ∙ ap (λ (n : ℕ). lsn_number n 0 0) (c.container.ensures.value ∙ ap container_of c.hold.ensures.value) in
+    record {
+      low = omega (arith, c.forget_below.ensures.low, low);
+      ends = subst (λ (n : ℕ). AreFew n c.forget_below-2.new.self.blocks) (sym c.forget_below.ensures.low) c.forget_below-2.ensures.few;
+    }
+
+pub returns-clause-room : goal.returns-clause-room
+returns-clause-room c = record { heads = c.forget_below.ensures.room; areas = refl; ends = omega (arith, c.forget_below-2.ensures.room) }
 
 pub returns-clause-sound : goal.returns-clause-sound
 returns-clause-sound c =

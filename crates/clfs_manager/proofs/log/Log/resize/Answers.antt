@@ -65,6 +65,7 @@ returns-in-Ok-clause-intact g c =
       kept = λ kept. rw c.with_containers-self.ensures (kept_sized s n old.buffers kept);
       settled = c.in-Ok.ensures.settled (λ wrong. cc);
       nature = c.set_containers.ensures.time.nature;
+      forgotten = λ is. rw c.with_containers-self.ensures (record { low = is.low; ends = is.ends });
     })
 
 pub returns-in-Ok-clause-writes : goal.returns-in-Ok-clause-writes

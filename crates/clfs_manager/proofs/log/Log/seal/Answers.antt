@@ -30,7 +30,8 @@ returns-clause-intact g c =
     let fills : fills_buffers s ≡ false = rw (sym holds.buffers, sym holds.waiting) (sym c.fills_buffers.ensures ∙ c.if-fills_buffers.false) in
     let laws = c.seals_and_flushes_keep_a_log.ensures in
     intact_sealed (g.D.Disk.state c.args.disk.now) c.args.self.now c.end_block.new.self c.sealed-self.result c.requires.intact fills some
-    (laws.seal s sound.valid sound.storable) (laws.seal_tables s (laws.laid s sound.valid sound.storable)) c.end_block.ensures.ended
+    (laws.seal s sound.valid sound.storable) (laws.seal_tables s (laws.laid s sound.valid sound.storable))
+    (laws.seal_hold s (laws.laid s sound.valid sound.storable)) c.end_block.ensures.ended
     (c.sealed-self.ensures ∙ ap (λ (u : State). seal u) (ap (λ t. t.value) c.end_block.ensures.ended.state))
 
 pub returns-then-place-eq0-clause-moments : goal.returns-then-place-eq0-clause-moments

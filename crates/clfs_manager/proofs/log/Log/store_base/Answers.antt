@@ -1,4 +1,4 @@
-use Rattle.std.proofs.Common.{◌≡◌, ℕ, ◌+◌, ◌-◌, refl, sym, ap, subst, ◌∙◌, length, arith}
+use Rattle.std.proofs.Common.{◌≡◌, ℕ, ◌+◌, ◌-◌, false, refl, sym, ap, subst, ◌∙◌, length, arith}
 use Rattle.std.specs.Prelude.{IsOk}
 use Rattle.std.proofs.lemmas.List.{length-drop, length-set}
 use Rattle.clfs_lsn.specs.Lsn.{container_of}
@@ -10,6 +10,8 @@ use Rattle.clfs_model.specs.declared.state.State.{State}
 use Rattle.clfs_model.specs.Flush.{block_start, flushed}
 use Rattle.clfs_model.specs.Heads.{heads_of}
 use Rattle.clfs_model.specs.Live.{hold}
+use Rattle.clfs_model.specs.Storable.{IsStorable}
+use Rattle.clfs_model.specs.Valid.{IsValid}
 use Rattle.clfs_lsn.specs.Streams.{set_base}
 use Rattle.clfs_physical.specs.Changes.{next_copy}
 use Rattle.clfs_physical.specs.Stored.{Newest, Blocks}
@@ -22,10 +24,12 @@ use Rattle.clfs_manager.specs.OnDisk.{IsStored, AreKept}
 use Rattle.clfs_manager.specs.declared.log.Log.{Log}
 use Rattle.clfs_manager.proofs.CopiedMeanwhile.{base_copied, crash_copied}
 use Rattle.clfs_manager.proofs.Holds.{hold_is}
-use Rattle.clfs_manager.proofs.Intact.{intact_done, writes_failed, writes_fine}
+use Rattle.clfs_manager.proofs.Intact.{writes_failed, writes_fine}
 use Rattle.clfs_manager.proofs.MovedBase.{kept_moved, length_set_base, moved_below}
 use Rattle.clfs_manager.proofs.Numbers.{hold_within}
+use Rattle.clfs_manager.proofs.ReadKeeps.{tells_before}
 use Rattle.clfs_manager.proofs.Reached.{number_there}
+use Rattle.clfs_manager.proofs.Settled.{stays_settled}
 use Rattle.clfs_manager.proofs.log.Log.store_base.Goals as goal
 use Rattle.clfs_manager.proofs.log.Log.store_base.Given.{Over}
 
@@ -178,17 +182,24 @@ returns-clause-intact g c =
     let before = g.D.Disk.state c.args.disk.now in
     let after = g.D.Disk.state c.write_copy.new.disk in
     let state : c.with_base-self.result.value ≡ t = c.with_base-self.ensures in
-    intact_done before after old (record old { tables = c.set_base.new.self; physical = c.write_copy.new.self; state = c.with_base-self.result }) t
-    c.requires.intact c.requires.valid c.requires.storable (record {
-      state = state;
-      unbroken = refl;
-      broken = refl;
-      holds = subst (λ (u : State). Holds u (record old { tables = c.set_base.new.self; physical = c.write_copy.new.self; state = c.with_base-self.result })) (sym state) (holds_then g c);
-      stored = subst (λ (u : State). StoredAfter before after s u old.physical c.write_copy.new.self) (sym state) (stored_then g c);
-      kept = λ kept. subst (λ (u : State). AreKept u old.buffers) (sym state) (kept_moved s c.args.stream c.args.base old.buffers kept);
-      settled = c.in_default.ensures.settled;
-      nature = c.write_copy.ensures.time.nature;
-    })
+    let intact = c.requires.intact in
+    let is = stored_then g c intact.opened.blocks intact.opened.stored in
+    let nature = c.write_copy.ensures.time.nature in
+    record {
+      sound = record {
+        valid = subst IsValid (sym state) c.requires.valid;
+        storable = subst IsStorable (sym state) c.requires.storable;
+        unbroken = intact.sound.unbroken;
+        whole = ap (λ (u : State). u.broken) state ∙ intact.sound.whole;
+        holds = subst (λ (u : State). Holds u (record old { tables = c.set_base.new.self; physical = c.write_copy.new.self; state = c.with_base-self.result })) (sym state) (holds_then g c);
+      };
+      blocks = is.0;
+      stored = subst (λ (u : State). IsStored u c.write_copy.new.self is.0) (sym state) is.1.0;
+      files = λ tells. let earlier = tells_before before after nature tells in is.1.1 earlier false (intact.opened.files earlier);
+      kept = λ tells. subst (λ (u : State). AreKept u old.buffers) (sym state)
+          (kept_moved s c.args.stream c.args.base old.buffers (intact.opened.kept (tells_before before after nature tells)));
+      settled = stays_settled before after nature c.in_default.ensures.settled intact.opened.settled;
+    }
 
 pub returns-clause-writes : goal.returns-clause-writes
 returns-clause-writes g c =

@@ -3,9 +3,9 @@ use Rattle.std.proofs.Common.{refl, subst}
 use Rattle.std.specs.Prelude.{IsOk}
 use Rattle.clfs_model.specs.declared.state.State.{State}
 use Rattle.clfs_manager.specs.declared.log.Log.{Log}
-use Rattle.clfs_manager.specs.Written.{IsIntact}
+use Rattle.clfs_manager.specs.Written.{IsYetToForget}
 use Rattle.clfs_manager.proofs.Intact.{writes_failed, writes_fine}
-use Rattle.clfs_manager.proofs.Restarted.{finished, intact_moved, stored_by_group, GroupLaws, IsFinished}
+use Rattle.clfs_manager.proofs.Restarted.{finished, moved_to_forget, stored_by_group, GroupLaws, IsFinished}
 use Rattle.clfs_manager.proofs.log.Log.store_restart.Given.{Over}
 use Rattle.clfs_manager.proofs.log.Log.store_restart.Goals as goal
 
@@ -49,15 +49,15 @@ module _ (g : Over) (c : goal.After-self-1 g) where
         on_disk = c.in_ok-write_group.ensures.written;
       }
 
-  moved_is_intact : IsIntact (g.D.Disk.state c.write_group.new.disk) (record c.write_group.new.self { tables = c.move_base.new.tables; state = c.rebased-self.result })
-  moved_is_intact =
-      intact_moved (g.D.Disk.state c.args.disk.now) (g.D.Disk.state c.write_group.new.disk) old written
+  moved : IsYetToForget (g.D.Disk.state c.write_group.new.disk) (record c.write_group.new.self { tables = c.move_base.new.tables; state = c.rebased-self.result })
+  moved =
+      moved_to_forget (g.D.Disk.state c.args.disk.now) (g.D.Disk.state c.write_group.new.disk) old written
       (record written { tables = c.move_base.new.tables; state = c.rebased-self.result }) c.args.stream c.args.base is_finished c.requires.valid c.requires.storable
       c.move_base.ensures.streams c.move_base.ensures.heads c.move_base.ensures.low refl c.rebased-self.ensures c.in_ok-write_group.ensures.settled
       c.write_group.ensures.time.nature
 
 pub returns-clause-intact : goal.returns-clause-intact
-returns-clause-intact g c = moved_is_intact g c
+returns-clause-intact g c = moved g c
 
 pub returns-clause-writes : goal.returns-clause-writes
 returns-clause-writes g c =

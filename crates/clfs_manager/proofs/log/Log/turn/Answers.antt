@@ -1,4 +1,5 @@
-use Rattle.std.proofs.Common.{◌≡◌, ap, ◌∙◌, true, false}
+use Rattle.std.proofs.Common.{◌≡◌, ap, ◌∙◌, true, false, arith}
+use Rattle.std.specs.Prelude.{slice_index}
 use Rattle.clfs_laws.specs.Between.{turned}
 use Rattle.clfs_model.specs.declared.state.State.{State}
 use Rattle.clfs_queue.specs.Queued as queues
@@ -40,14 +41,20 @@ returns-clause-intact g c =
         whole = ap (λ (u : State). u.broken) to ∙ sound.whole;
         holds = memory;
       };
-      opened = record {
-        memory = memory;
-        blocks = is.0;
-        stored = rw to is.1.0;
-        files = λ tells. let earlier = tells_before before behind nature tells in is.1.1 earlier false (opened.files earlier);
-        kept = λ tells. rw (to, ap (λ (l : Log). l.buffers) same) (kept_turned s old.buffers sound.valid may (opened.kept (tells_before before behind nature tells)));
-        settled = stays_settled before behind nature c.in_default.ensures.settled opened.settled;
-      };
+      blocks = is.0;
+      stored = rw to is.1.0;
+      files = λ tells. let earlier = tells_before before behind nature tells in is.1.1 earlier false (opened.files earlier);
+      kept = λ tells. rw (to, ap (λ (l : Log). l.buffers) same) (kept_turned s old.buffers sound.valid may (opened.kept (tells_before before behind nature tells)));
+      settled = stays_settled before behind nature c.in_default.ensures.settled opened.settled;
+    }
+
+pub returns-clause-room : goal.returns-clause-room
+returns-clause-room g c =
+    let same = c.take_container.ensures.same in
+    record {
+      heads = λ place. omega (arith, ap (λ (l : Log). slice_index l.tables.room place) same);
+      areas = ap (λ (l : Log). l.areas) same;
+      ends = omega (arith, ap (λ (l : Log). l.archive.room) same);
     }
 
 pub returns-clause-writes : goal.returns-clause-writes

@@ -26,7 +26,7 @@ invariant_of-result g c =
       valid = rw log.state (c.opened_states_are_valid.ensures.valid stands.0 s stands.1 c.requires.some c.requires.few);
       storable = rw log.state (c.opened_states_are_valid.ensures.storable stands.0 s stands.1);
       broken = rw log.state (sym log.whole);
-      whole = λ _. opened_open (g.D.Disk.state c.load_heads.new.disk) c.in-Ok-open_log.log parts c.args.write_buffers c.args.read_buffers log.state log.holds log.newest log.kept listed
+      whole = λ _. opened_open (g.D.Disk.state c.load_heads.new.disk) c.in-Ok-open_log.log parts c.args.write_buffers c.args.read_buffers log.state log.holds log.newest log.kept log.forgotten listed
           (c.opened_states_are_cut.ensures.cut stands.0 s stands.1) found.0 stored.0 stored.1
           (λ tells file. c.load_heads.ensures.same file ∙ found.1.1 (rw c.load_heads.ensures.time.nature at tells) file)
           (λ honest. c.in-Ok.ensures.settled (honest_before old (g.D.Disk.state c.load_heads.new.disk) c.load_heads.ensures.time.nature honest));

@@ -29,7 +29,7 @@ invariant_of-self c =
     let above = rw (← c.self.view_is) at c.requires.above in
     let live = rw (← c.self.view_is) at c.requires.live in
     let low : i.low ≤ c.args.head.lsn = rw (← c.self.view_is) at c.requires.low in
-    let own = row_with (base_in i.streams.streams c.args.head.stream) i.low i.heads.value c.args.head c.index_mut.result.now c.put_row.new.row row
+    let own = row_with (base_in i.streams.streams c.args.head.stream) i.low i.heads.value c.args.head c.index_mut.result.now c.put_row.new.row low row
     c.put_row.ensures.index_base c.put_row.ensures.restarts_base c.put_row.ensures.index c.put_row.ensures.restarts in
     record {
       few = v.few;

@@ -1,0 +1,45 @@
+-- How much of a log is kept in memory, by what memory holds and has forgotten.
+use Rattle.std.proofs.Common.{◌≡◌, ℕ, ◌*◌, ◌≤◌, refl, sym, ap, subst, ◌∙◌, arith, List, length}
+use Rattle.std.specs.Prelude.{Option, Some, None, IsSome}
+use Rattle.std.specs.Option.{option_map}
+use Rattle.clfs_lsn.specs.Heads.{heads_from}
+use Rattle.clfs_lsn.specs.declared.entry.Head.{Head}
+use Rattle.clfs_lsn.specs.declared.stream.Stream.{Stream}
+use Rattle.clfs_model.specs.declared.state.State.{State}
+use Rattle.clfs_model.specs.Heads.{heads_of}
+use Rattle.clfs_model.specs.State.{stream_at}
+use Rattle.clfs_tables.specs.Tables.{IsNumber}
+use Rattle.clfs_manager.specs.Memory.{HasForgotten, Holds, hold_start}
+use Rattle.clfs_manager.specs.declared.log.Log.{Log}
+use Rattle.clfs_manager.proofs.Reached.{number_there}
+
+some_there : (found : Option Stream) (base : ℕ) → option_map (λ (stream : Stream). stream.base) found ≡ Some base → IsSome found
+some_there None base is = absurd (cc is)
+some_there (Some stream) base is = refl
+
+-- a stream that has a base is one of the tables
+pub is_number : (s : State) (log : Log) (stream base : ℕ) (result : Option ℕ) → Holds s log
+    → result ≡ option_map (λ (row : Stream). row.base) (stream_at s stream) → result ≡ Some base → IsNumber log.tables.streams stream
+is_number s log stream base result holds is some =
+    let number = number_there s.streams stream (some_there (stream_at s stream) base (sym is ∙ some)) in
+    (number.0, omega (arith, number.1, ap length holds.streams))
+
+-- What was few by the tables is few by the state: memory keeps from the hold's container on.
+pub few_by_state : (s : State) (log : Log) (count : ℕ) (of : List Head → List Head) → Holds s log → HasForgotten s log
+    → count ≤ 2 * length (heads_from log.tables.low (of log.tables.heads)) → count ≤ 2 * length (heads_from (hold_start s) (of (heads_of s)))
+few_by_state s log count of holds forgotten few =
+    let low : log.tables.low ≡ hold_start s = omega (arith, holds.low, forgotten.low) in
+    subst (λ (heads : List Head). count ≤ 2 * length (heads_from (hold_start s) (of heads))) holds.heads
+    (subst (λ (n : ℕ). count ≤ 2 * length (heads_from n (of log.tables.heads))) low few)
+
+-- and so all is kept from there on
+pub all_by_state : (s : State) (log : Log) (count : ℕ) (of : List Head → List Head) → Holds s log → HasForgotten s log
+    → length (heads_from log.tables.low (of log.tables.heads)) ≤ count → length (heads_from (hold_start s) (of (heads_of s))) ≤ count
+all_by_state s log count of holds forgotten all =
+    let low : log.tables.low ≡ hold_start s = omega (arith, holds.low, forgotten.low) in
+    subst (λ (heads : List Head). length (heads_from (hold_start s) (of heads)) ≤ count) holds.heads
+    (subst (λ (n : ℕ). length (heads_from n (of log.tables.heads)) ≤ count) low all)
+
+-- and so it is seen
+pub seen : {D : Type 0} (P : State → Type 0) (inside shown : State × D) → inside ≡ shown → P inside.0 → P shown.0
+seen {D} P inside shown same is = subst (λ (v : State × D). P v.0) same is

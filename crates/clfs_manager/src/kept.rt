@@ -1,0 +1,101 @@
+// How much of a log is kept in memory of its records. Memory forgets what lies in containers below the hold's wherever the hold comes to a further one:
+// at most as much is left there as is kept from there on.
+ghost use Rattle.std.specs.Prelude.{◌≡◌, ◌*◌, ◌≤◌, true, false, None, is_some, length, IfSome, IsSome};
+ghost use Rattle.clfs_lsn.specs.Heads.{heads_from, stream_heads};
+ghost use Rattle.clfs_model.specs.Heads.{heads_of};
+ghost use Rattle.clfs_model.specs.State.{stream_at};
+ghost use Rattle.clfs_tables.specs.Tables.{restarts_of};
+ghost use Rattle.clfs_manager.specs.Memory.{HasForgotten, IsSound, hold_start};
+
+use crate::log::Log;
+use crate::manager::Manager;
+use clfs_disk::Disk;
+
+impl Log {
+    // How many heads of a stream's records are kept, where there is such a stream.
+    fn records_kept(&self, stream: u16) -> Option<usize>
+        requires sound { IsSound self.now }
+        requires forgotten { HasForgotten self.now.state.value self.now }
+        ensures there { is_some result ≡ is_some (stream_at self.now.state.value stream) }
+        ensures all { let s = self.now.state.value in
+            IfSome result (λ count. length (heads_from (hold_start s) (stream_heads stream (heads_of s))) ≤ count) }
+        ensures few { let s = self.now.state.value in
+            IfSome result (λ count. count ≤ 2 * length (heads_from (hold_start s) (stream_heads stream (heads_of s)))) }
+    {
+        let Some(_) = self.base(stream) else {
+            return None;
+        };
+        Some(self.tables.records_kept(stream))
+    }
+
+    // How many heads of a stream's restart areas are kept beside those, where there is such a stream.
+    fn restarts_kept(&self, stream: u16) -> Option<usize>
+        requires sound { IsSound self.now }
+        requires forgotten { HasForgotten self.now.state.value self.now }
+        ensures there { is_some result ≡ is_some (stream_at self.now.state.value stream) }
+        ensures all { let s = self.now.state.value in
+            IfSome result (λ count. length (heads_from (hold_start s) (restarts_of (stream_heads stream (heads_of s)))) ≤ count) }
+        ensures few { let s = self.now.state.value in
+            IfSome result (λ count. count ≤ 2 * length (heads_from (hold_start s) (restarts_of (stream_heads stream (heads_of s))))) }
+    {
+        let Some(_) = self.base(stream) else {
+            return None;
+        };
+        Some(self.tables.restarts_kept(stream))
+    }
+
+    // How many ends of blocks are kept.
+    fn ends_kept(&self) -> usize
+        requires sound { IsSound self.now }
+        requires forgotten { HasForgotten self.now.state.value self.now }
+        ensures { let s = self.now.state.value in result ≤ 2 * length (heads_from (hold_start s) (heads_of s)) }
+    {
+        self.archive.len()
+    }
+}
+
+impl<D: Disk> Manager<D> {
+    /// How many heads of a stream's records are kept in memory, dead ones among them: those of all records in the container of the least LSN that the log
+    /// still needs and behind it, and at most as many more. `None` if no stream has the number, or the log is broken.
+    pub fn records_kept(&self, stream: u16) -> Option<usize>
+        ensures there { self.now.0.broken ≡ false → is_some result ≡ is_some (stream_at self.now.0 stream) }
+        ensures all { IfSome result (λ count.
+            length (heads_from (hold_start self.now.0) (stream_heads stream (heads_of self.now.0))) ≤ count) }
+        ensures few { IfSome result (λ count.
+            count ≤ 2 * length (heads_from (hold_start self.now.0) (stream_heads stream (heads_of self.now.0)))) }
+        ensures broken { self.now.0.broken ≡ true → result ≡ None }
+    {
+        if self.log.broken {
+            return None;
+        }
+        self.log.records_kept(stream)
+    }
+
+    /// How many heads of a stream's restart areas are kept in memory beside those of its records: those of all restart areas there, and at most as many
+    /// more. `None` if no stream has the number, or the log is broken.
+    pub fn restarts_kept(&self, stream: u16) -> Option<usize>
+        ensures there { self.now.0.broken ≡ false → is_some result ≡ is_some (stream_at self.now.0 stream) }
+        ensures all { IfSome result (λ count.
+            length (heads_from (hold_start self.now.0) (restarts_of (stream_heads stream (heads_of self.now.0)))) ≤ count) }
+        ensures few { IfSome result (λ count.
+            count ≤ 2 * length (heads_from (hold_start self.now.0) (restarts_of (stream_heads stream (heads_of self.now.0))))) }
+        ensures broken { self.now.0.broken ≡ true → result ≡ None }
+    {
+        if self.log.broken {
+            return None;
+        }
+        self.log.restarts_kept(stream)
+    }
+
+    /// How many ends of blocks are kept in memory: at most twice as many as all streams have records there. `None` if the log is broken.
+    pub fn ends_kept(&self) -> Option<usize>
+        ensures there { self.now.0.broken ≡ false → IsSome result }
+        ensures few { IfSome result (λ count. count ≤ 2 * length (heads_from (hold_start self.now.0) (heads_of self.now.0))) }
+        ensures broken { self.now.0.broken ≡ true → result ≡ None }
+    {
+        if self.log.broken {
+            return None;
+        }
+        Some(self.log.ends_kept())
+    }
+}
