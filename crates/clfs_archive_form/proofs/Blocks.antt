@@ -31,6 +31,14 @@ judges has rows bases before container offset (Err (Damaged c o at)) read g = g
 judges has rows bases before container offset (Err DiskFault) read g = tt
 judges has rows bases before container offset (Err NoMemory) read g = tt
 
+-- the records of a block that was gathered
+pub gathered : (has : List LogEntry → Type 0) (rows : List Row) (bases : List ℕ) (before : List LogEntry) (container offset sectors : ℕ)
+    (result : Result (Option ℕ) LoadRefusal) (read : Result (List LogEntry) BlockRefusal) → result ≡ Ok (Some sectors)
+    → GathersBlock has rows bases before container offset result read → (entries : List LogEntry) × (read ≡ Ok entries) × has (before ++ entries)
+gathered has rows bases before container offset sectors (Ok (Some n)) read is g = (g.0, g.1, g.2.records)
+gathered has rows bases before container offset sectors (Ok None) read is g = absurd (cc is)
+gathered has rows bases before container offset sectors (Err refusal) read is g = absurd (cc is)
+
 -- that records are read of their block alone
 abbrev pub ReadAlone : Type 0
 ReadAlone = (shape : Shape) (streams start : ℕ) (bytes : List ℕ) (count : ℕ) → IsEnough shape bytes count
@@ -53,13 +61,13 @@ behind_both a b (Ok entries) = ap read_right (sym (append_assoc a b entries))
 behind_both a b (Err refusal) = refl
 
 -- the first of some blocks, and the others
-takes_first : (n : ℕ) (rest : List ℕ) → 0 < length rest → length rest ≤ n
+pub takes_first : (n : ℕ) (rest : List ℕ) → 0 < length rest → length rest ≤ n
     → (m : ℕ) × (n ≡ m + 1) × (blocks_of n rest ≡ take (block_bytes rest) rest ∷ blocks_of m (drop (block_bytes rest) rest))
 takes_first n [] some few = absurd (omega (arith, some))
 takes_first zero (byte ∷ rest) some few = absurd (omega (arith, few))
 takes_first (suc m) (byte ∷ rest) some few = (m, omega arith, refl)
 
-none_of : (n : ℕ) → blocks_of n [] ≡ []
+pub none_of : (n : ℕ) → blocks_of n [] ≡ []
 none_of zero = refl
 none_of (suc n) = refl
 

@@ -1,6 +1,15 @@
 mod Bare
+mod BlockEnds
 mod Blocks
+mod Chosen
+mod CutBlocks
 mod Grammar
+mod KeptEnds
 mod OpenEnds
+mod OpenRows
+mod ReadRecords
+mod Readable
+mod RestoredCopies
+mod RestoredFiles
 mod Searches
 mod Slots

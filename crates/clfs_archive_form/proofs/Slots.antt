@@ -7,12 +7,13 @@ use Rattle.clfs_lsn.specs.Checks.{unless_wrong}
 use Rattle.clfs_base.specs.declared.demands.Demands.{Demands}
 use Rattle.clfs_base.specs.declared.image.BaseImage.{BaseImage}
 use Rattle.clfs_base.specs.Checks.{is_short, image_of}
-use Rattle.clfs_base.specs.Demands.{fault_within}
-use Rattle.clfs_base.specs.Layout.{layout_in}
+use Rattle.clfs_base.specs.Demands.{fault_within, Meets}
+use Rattle.clfs_base.specs.Layout.{layout_in, number_at}
 use Rattle.clfs_block.specs.Frame.{AreBytes}
 use Rattle.clfs_block.specs.Records.{told_as}
 use Rattle.clfs_archive_form.specs.Archives.{copy_there}
-use Rattle.clfs_archive_form.specs.Copies.{with_tail, slot_in, count_in, field_width, row_width, width_at, copy_told, copy_judged}
+use Rattle.clfs_archive_form.specs.Reading.{Suits}
+use Rattle.clfs_archive_form.specs.Copies.{first_listed, with_tail, slot_in, count_in, field_width, row_width, width_at, copy_told, copy_judged}
 
 module _ (bytes : List ℕ) (at wrong : ℕ) (slot : List ℕ) (width : ℕ) (here : slot ≡ slot_in bytes at) (wide : width ≡ width_at slot wrong) where
   test : (b : Bool) → is_short slot wrong width ≡ b → is_short (slot_in bytes at) wrong (width_at (slot_in bytes at) wrong) ≡ b
@@ -84,3 +85,17 @@ whole_slot bytes at slot body here is all =
     let of_body : length (take 16383 (drop 1 slot)) ≡ 16383 = ap length is ∙ all in
     let of_slot : length slot ≡ length (take 16384 (drop (at + 7) bytes)) = ap length here in
     omega (arith, of_body, of_slot, length-take 16383 (drop 1 slot), length-drop 1 slot, length-take 16384 (drop (at + 7) bytes), length-drop (at + 7) bytes)
+
+-- a copy that is as asked has no tail below its first listed container
+pub suits : (demands : Demands) (slot body : List ℕ) (image : BaseImage) → image ≡ image_of (layout_in slot) slot → take 16383 (drop 1 slot) ≡ body
+    → length body ≡ 16383 → Meets (with_tail slot demands) image → Suits demands image
+suits demands slot body image is there all meets =
+    let of_body : length (take 16383 (drop 1 slot)) ≡ 16383 = ap length there ∙ all in
+    let long : 20 ≤ length slot = omega (arith, of_body, length-take 16383 (drop 1 slot), length-drop 1 slot) in
+    let first : first_listed slot ≡ image.first =
+    ap (λ (b : Bool). cond b 0 (number_at 16 4 slot)) (le-ltb (length slot) 20 long) ∙ sym (ap (λ (x : BaseImage). x.first) is) in record {
+      block_sectors = meets.block_sectors;
+      container_sectors = meets.container_sectors;
+      streams = meets.streams;
+      tail = omega (arith, first, meets.tail.0);
+    }

@@ -6,4 +6,6 @@ pub mod Judging
 pub mod Drafting
 pub mod Reading
 pub mod Restoring
+pub mod Kept
+pub mod Written
 pub mod Worked

@@ -1,17 +1,24 @@
 -- What the calls answer, against the definitions.
-use Rattle.std.specs.Prelude.{◌≡◌, ℕ, ◌+◌, ◌≤◌, List, [], ◌∷◌, ◌++◌, Option, Some, None, Result, Ok, Err}
+use Rattle.std.specs.Prelude.{◌≡◌, ℕ, ◌+◌, ◌*◌, ◌≤◌, All, length, List, [], ◌∷◌, ◌++◌, Option, Some, None, Result, Ok, Err}
+use Rattle.clfs_lsn.specs.Format.{sector_bytes}
+use Rattle.clfs_lsn.specs.Lsn.{container_of}
 use Rattle.clfs_lsn.specs.declared.entry.LogEntry.{LogEntry}
 use Rattle.clfs_block.specs.declared.head.BlockRefusal.{BlockRefusal}
 use Rattle.clfs_block.specs.declared.head.BlockRefusal.TheVariants as blocks
 use Rattle.clfs_recover.specs.Gathering.{RefusesAs}
+use Rattle.clfs_recover.specs.Stored.{stored_in}
+use Rattle.clfs_recover.specs.Walk.{shape_of}
 use Rattle.clfs_recover.specs.declared.refusal.LoadRefusal.{LoadRefusal}
 use Rattle.clfs_recover.specs.declared.refusal.LoadRefusal.TheVariants as loading
+use Rattle.clfs_base.specs.declared.demands.Demands.{Demands}
 use Rattle.clfs_base.specs.declared.image.BaseImage.{BaseImage}
+use Rattle.clfs_base.specs.Demands.{IsAsked}
 use Rattle.clfs_archive_form.specs.declared.archive.Archive.{Archive}
 use Rattle.clfs_archive_form.specs.declared.archive.Stored.{Stored}
 use Rattle.clfs_archive_form.specs.declared.refusal.InputRefusal.{InputRefusal}
 use Rattle.clfs_archive_form.specs.declared.refusal.InputRefusal.TheVariants.{NotAnArchive, Gap, UpToInvalid, NoMemory}
 use Rattle.clfs_archive_form.specs.Archives.{joined}
+use Rattle.clfs_archive_form.specs.Containers.{blocks_in, part_of}
 
 -- A refusal names the first wrong byte. Want of memory may come in place of any answer.
 abbrev pub RefusesAt : {Y : Type 0} → InputRefusal → Result Y ℕ → Type 0
@@ -66,3 +73,26 @@ JudgesBlock container offset (Err loading.NoMemory) read = Unit {0}
 abbrev pub JudgesBlocks : {T : Type 0} → Result T LoadRefusal → Result (List LogEntry) LoadRefusal → Type 0
 JudgesBlocks (Ok value) read = (entries : List LogEntry) × (read ≡ Ok entries)
 JudgesBlocks (Err refusal) read = RefusesAs refusal read
+
+-- What is asked of an archive's copy, and what is known of its tail: it doesn't lie in a container below the first listed one.
+pub record Suits (demands : Demands) (image : BaseImage) : Type 0 where
+  pub block_sectors : IsAsked demands.block_sectors image.block_sectors
+  pub container_sectors : IsAsked demands.container_sectors image.container_sectors
+  pub streams : IsAsked demands.streams (length image.streams)
+  pub tail : image.first ≤ container_of image.tail
+
+-- The blocks of a container lie in some bytes, are no more than a container of a log with this copy has, and can be read in that log.
+pub record IsReadableAs (bytes : List ℕ) (image : BaseImage) (stored : Stored) : Type 0 where
+  pub there : stored.at + stored.len ≤ length bytes
+  pub within : stored.len ≤ sector_bytes * image.container_sectors
+  pub entries : List LogEntry
+  pub read : stored_in (shape_of image) (length image.streams) stored.container 0 (blocks_in (part_of bytes stored.at stored.len)) ≡ Ok entries
+
+-- All containers of some can be read so.
+abbrev pub AreReadable : List ℕ → BaseImage → List Stored → Type 0
+AreReadable bytes image containers = All (IsReadableAs bytes image) containers
+
+-- What is known of archives that were read and taken together.
+pub record CanBeRead (bytes : List ℕ) (archive : Archive) : Type 0 where
+  pub tail : archive.image.first ≤ container_of archive.image.tail
+  pub containers : AreReadable bytes archive.image archive.containers

@@ -4,7 +4,7 @@ ghost use Rattle.clfs_base.specs.Spelling.{IsImage};
 ghost use Rattle.clfs_block.specs.Checks.{first_failing};
 ghost use Rattle.clfs_archive_form.specs.Form.{magic, containers_at};
 ghost use Rattle.clfs_archive_form.specs.Archives.{has_letter, magic_there, wanted_count, rest_there, archive_there, archives_in};
-ghost use Rattle.clfs_archive_form.specs.Reading.{Gives, GivesJoined, LieWithin, TakesContainers, TakesArchive};
+ghost use Rattle.clfs_archive_form.specs.Reading.{Gives, GivesJoined, LieWithin, TakesContainers, TakesArchive, Suits, AreReadable, CanBeRead};
 ghost use Rattle.clfs_archive_form.specs.Containers.{containers_len};
 
 use crate::archive::{Archive, Containers, Stored};
@@ -13,6 +13,7 @@ use crate::copies::{first_demands, later_demands, read_copy};
 use crate::judge::Judge;
 use crate::refusal::{InputRefusal, wrong_at};
 use clfs_base::{BaseImage, Demands};
+use clfs_block::records_are_read_of_their_block;
 use clfs_lsn::Shape;
 use std::alloc::Global;
 
@@ -84,6 +85,7 @@ fn read_rest(
         (rest_there image.now bytes.now at) }
     ensures end { IfOk result (λ end. (at + containers_at ≤ end) × (end ≤ length bytes.now)) }
     ensures within { OnOk result (LieWithin (length bytes.now) containers.old.items → LieWithin (length bytes.now) containers.new.items) }
+    ensures readable { OnOk result (AreReadable bytes.now image.now containers.old.items → AreReadable bytes.now image.now containers.new.items) }
 {
     let count = just_there(bytes, at + COUNT_AT, wanted_count(image))?;
     let shape = Shape {
@@ -116,6 +118,8 @@ fn read_archive(
     ensures end { IfOk result (λ x. (at + containers_at ≤ x.1) × (x.1 ≤ length bytes.now)) }
     ensures within { OnOk result (LieWithin (length bytes.now) containers.old.items → LieWithin (length bytes.now) containers.new.items) }
     ensures image { IfOk result (λ x. IsImage x.0) }
+    ensures suits { IfOk result (λ x. Suits asked.now x.0) }
+    ensures readable { IfOk result (λ x. AreReadable bytes.now x.0 containers.old.items → AreReadable bytes.now x.0 containers.new.items) }
 {
     magic_there(bytes, at)?;
     let image = read_copy(alloc, asked, bytes, at)?;
@@ -129,7 +133,9 @@ pub fn read_archives(alloc: Global, bytes: &[u8]) -> Result<Archive, InputRefusa
     ensures exact { GivesJoined result (archives_in bytes.now) }
     ensures image { IfOk result (λ archive. IsImage archive.image) }
     ensures within { IfOk result (λ archive. LieWithin (length bytes.now) archive.containers) }
+    ensures readable { IfOk result (λ archive. CanBeRead bytes.now archive) }
 {
+    records_are_read_of_their_block();
     let mut containers = Vec::new(alloc);
     let first = read_archive(alloc, &first_demands(), bytes, 0, &mut containers)?;
     let mut image = first.0;

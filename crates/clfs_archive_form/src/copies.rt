@@ -4,7 +4,7 @@ ghost use Rattle.std.specs.Prelude.{◌≡◌, ◌+◌, ◌^◌, ◌<◌, ◌≤
 ghost use Rattle.clfs_base.specs.Spelling.{IsImage};
 ghost use Rattle.clfs_archive_form.specs.Copies.{first_demands, later_demands, first_listed, with_tail, slot_in, count_in, field_width, row_width, width_at, copy_told};
 ghost use Rattle.clfs_archive_form.specs.Archives.{copy_there};
-ghost use Rattle.clfs_archive_form.specs.Reading.{Gives};
+ghost use Rattle.clfs_archive_form.specs.Reading.{Gives, Suits};
 
 use crate::containers::part_of;
 use crate::refusal::{InputRefusal, wrong_at};
@@ -167,6 +167,7 @@ pub(crate) fn read_copy(
     requires { at + 8 ≤ length bytes.now }
     ensures exact { Gives result (copy_there asked.now bytes.now at) }
     ensures image { IfOk result (λ image. IsImage image) }
+    ensures suits { IfOk result (λ image. Suits asked.now image) }
     ensures whole { IfOk result (λ image. at + 16391 ≤ length bytes.now) }
 {
     copies_are_read_as_written();

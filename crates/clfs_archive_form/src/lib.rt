@@ -18,16 +18,24 @@ mod archives;
 mod choosing;
 mod containers;
 mod copies;
+mod copy;
 mod draft;
 mod judge;
+mod kept;
+mod laws;
 mod refusal;
 mod rows;
 
 pub use archive::{Archive, Containers, Stored};
 pub use archives::read_archives;
 pub use choosing::{bounds, choose_up_to, missing_container};
+pub use copy::restored_copy;
 pub use draft::{Draft, MOST_BYTES, TooLong, archived};
 pub use judge::Judge;
+pub use kept::put_blocks_below;
+pub use laws::{
+    archives_can_be_restored, blocks_in_a_row_are_open, restored_files_stand_for_the_log,
+};
 pub use refusal::InputRefusal;
 pub use rows::{
     archive_of_a_small_log, bounds_of_small_archives, containers_of_an_archive,

@@ -1,5 +1,5 @@
 -- Parts of archiving one after the other, by how they leave the log and its disk.
-use Rattle.std.proofs.Common.{◌≡◌, ℕ, ◌≤◌, Bool, Option, Some, None, Result, Ok, Err, List, IsTrue, refl, sym, ◌∙◌, ap, subst, arith}
+use Rattle.std.proofs.Common.{◌≡◌, ℕ, ◌≤◌, Option, Some, None, Err, List, IsTrue, refl, sym, ◌∙◌, ap, subst, arith}
 use Rattle.clfs_disk.specs.Files.{Unchanged}
 use Rattle.clfs_disk.specs.State.{DiskState, Nature, TellsContents, IsSteady, Passes, Rises}
 use Rattle.clfs_model.specs.Step.{with_broken}

@@ -2,5 +2,8 @@ mod Pieces
 mod Fronts
 mod Found
 mod Joining
+mod Kept
 mod Listing
+mod Made
+mod Moments
 mod Archived

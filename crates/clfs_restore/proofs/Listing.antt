@@ -1,6 +1,6 @@
 -- What asking for the parts that are to be archived says of a log: archiving is off just where it is refused for that.
 use Rattle.std.specs.Prelude.{MatchBool, MatchOption, IsTrue}
-use Rattle.std.proofs.Common.{inl, inr, ⊎_elim, ◌≡◌, ◌⊎◌, ℕ, Bool, true, false, Option, Some, None, refl, sym, ◌∙◌, ap, subst, List}
+use Rattle.std.proofs.Common.{inl, inr, ⊎_elim, ◌≡◌, ◌⊎◌, ℕ, Bool, true, false, Option, Some, None, refl, ap, subst, List}
 use Rattle.std.specs.Prelude.{is_none}
 use Rattle.clfs_model.specs.declared.call.Call.TheVariants as calls
 use Rattle.clfs_model.specs.declared.refusal.Refusal.{Refusal}
@@ -15,7 +15,7 @@ use Rattle.clfs_model.specs.Answers.{answer}
 use Rattle.clfs_model.specs.Flush.{flushed}
 use Rattle.clfs_model.specs.Happened.{happened_of_refusal}
 use Rattle.clfs_model.specs.Refusals.{refused_if}
-use Rattle.clfs_model.specs.Step.{Step, Goes, Comes, IsBroken, IsOutOfMemory, takes_memory}
+use Rattle.clfs_model.specs.Step.{Step, Goes, Comes, IsBroken, IsOutOfMemory}
 use Rattle.clfs_restore.specs.Archiving.{of_log}
 use Rattle.clfs_restore.specs.declared.refusal.ArchiveRefusal.TheVariants.{Log, NoMemory}
 

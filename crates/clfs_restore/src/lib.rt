@@ -1,4 +1,4 @@
-//! Archives of a log that is open.
+//! Archives of a log that is open, and logs that are restored of archives.
 //!
 //! `write_archive` takes the bytes of a log out, as `clfs_archive_form` defines an archive: the newest base copy, and the open blocks of the containers
 //! from the archive tail's to the last that is listed. It reads the files through the log's manager, each of them once and in its order, and judges what
@@ -6,12 +6,20 @@
 //!
 //! So a crash in it leaves the files as they were. What it reads of a file is kept only as long as its blocks are judged and added to the archive, so
 //! its memory is the archive's and that for one container.
+//!
+//! `restore` makes a log of one or more archives on a disk on which none is. It judges the archives whole before it writes anything. Then it makes the
+//! files, writes into each what is left of a container with a closed gate after it, and at last the base copy, whose gate is opened once all else is on
+//! the disk: so a crash leaves no log or the whole one.
 #![tactic(auto)]
 
 mod archiving;
 mod containers;
 mod copy;
+mod filling;
+mod piece;
 mod refusal;
+mod restoring;
 
 pub use archiving::write_archive;
-pub use refusal::ArchiveRefusal;
+pub use refusal::{ArchiveRefusal, RestoreRefusal};
+pub use restoring::{RestoreRefused, restore};

@@ -1,10 +1,12 @@
 use Rattle.std.proofs.Common.{List, ◌++◌, length, sym, ◌∙◌, ap, subst, arith}
+use Rattle.std.proofs.lemmas.List.Elements.{All-nil}
 use Rattle.std.proofs.lemmas.Result.{err_from_is_err_and}
 use Rattle.clfs_base.specs.declared.demands.Demands.{Demands}
 use Rattle.clfs_archive_form.specs.declared.archive.Stored.{Stored}
 use Rattle.clfs_archive_form.specs.Archives.{archive_there}
-use Rattle.clfs_archive_form.specs.Reading.{RefusesAt, LieWithin}
+use Rattle.clfs_archive_form.specs.Reading.{RefusesAt, LieWithin, Suits, IsReadableAs, AreReadable}
 use Rattle.clfs_archive_form.proofs.Grammar.{ReadTo, first_refused, first_read, next_refused, next_read, all_read}
+use Rattle.clfs_archive_form.proofs.Readable.{readable_later}
 use Rattle.clfs_archive_form.proofs.archives.read_archives.Goals as goal
 
 pub returns-in_err-first-clause-exact : goal.returns-in_err-first-clause-exact
@@ -25,6 +27,9 @@ loop-at-init c =
           (first_read bytes first.0 x.0 first.1 (ap (λ (d : Demands). archive_there d bytes 0) (sym c.first_demands.ensures) ∙ x.1)
           (omega (arith, c.in_ok-first.ensures.end.0)));
       lie = c.in_ok-first.ensures.within (subst (λ (l : List Stored). LieWithin (length bytes) l) (sym c.new-containers.ensures.items) tt);
+      tail = c.in_ok-first.ensures.suits.tail;
+      readable = c.in_ok-first.ensures.readable (subst (λ (l : List Stored). AreReadable bytes first.0 l) (sym c.new-containers.ensures.items)
+          (All-nil (IsReadableAs bytes first.0)));
     }
 
 pub returns-in_err-next-clause-exact : goal.returns-in_err-next-clause-exact
@@ -46,6 +51,9 @@ loop-at-preserved c =
       read = next_read bytes L.image L.containers.items L.at L.invariant.read next.0 x.0 c.read_archive-in-loop-at.new.containers.items next.1 c.loop-at-test.true
           (ap (λ (d : Demands). archive_there d bytes L.at) (sym c.later_demands-demands.ensures) ∙ x.1) x.2 c.in_ok-next.ensures.end.0;
       lie = c.in_ok-next.ensures.within L.invariant.lie;
+      tail = c.in_ok-next.ensures.suits.tail;
+      readable = c.in_ok-next.ensures.readable (readable_later c.records_are_read_of_their_block.ensures.more bytes L.image next.0 L.containers.items
+          (subst (λ (d : Demands). Suits d next.0) c.later_demands-demands.ensures c.in_ok-next.ensures.suits) L.invariant.readable);
     }
 
 pub returns-clause-exact : goal.returns-clause-exact
@@ -55,3 +63,6 @@ returns-clause-exact c =
 
 pub returns-clause-within : goal.returns-clause-within
 returns-clause-within c = rw c.from_vec.ensures c.loop-at.invariant.lie
+
+pub returns-clause-readable : goal.returns-clause-readable
+returns-clause-readable c = rw c.from_vec.ensures (record { tail = c.loop-at.invariant.tail; containers = c.loop-at.invariant.readable })

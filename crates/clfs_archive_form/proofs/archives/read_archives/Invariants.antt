@@ -1,6 +1,7 @@
 use Rattle.std.proofs.Common.{◌-◌, ◌≤◌, length}
+use Rattle.clfs_lsn.specs.Lsn.{container_of}
 use Rattle.clfs_base.specs.Spelling.{IsImage}
-use Rattle.clfs_archive_form.specs.Reading.{LieWithin}
+use Rattle.clfs_archive_form.specs.Reading.{LieWithin, AreReadable}
 use Rattle.clfs_archive_form.proofs.Grammar.{ReadTo}
 use Rattle.clfs_archive_form.proofs.archives.read_archives.Given as goal
 
@@ -10,6 +11,8 @@ invariant-loop-at l = record {
   copy : IsImage l.image;
   read : ReadTo l.bytes l.image l.containers.items l.at;
   lie : LieWithin (length l.bytes) l.containers.items;
+  tail : l.image.first ≤ container_of l.image.tail;
+  readable : AreReadable l.bytes l.image l.containers.items;
 }
 
 abbrev pub decreases-loop-at : goal.decreases-loop-at

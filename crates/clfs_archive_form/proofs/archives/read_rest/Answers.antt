@@ -4,6 +4,7 @@ use Rattle.clfs_base.specs.declared.image.Row.{Row}
 use Rattle.clfs_archive_form.specs.Containers.{just_there}
 use Rattle.clfs_archive_form.specs.Reading.{RefusesAt}
 use Rattle.clfs_archive_form.proofs.Grammar.{no_count, judging, takes_rest}
+use Rattle.clfs_archive_form.proofs.Readable.{readable_more}
 use Rattle.clfs_archive_form.proofs.archives.read_rest.Goals as goal
 
 pub returns-in_err-count-clause-exact : goal.returns-in_err-count-clause-exact
@@ -18,3 +19,7 @@ returns-clause-exact c =
     c.read_containers.new.containers.items c.read_containers.result
     (ap (λ (n : ℕ). just_there c.args.bytes.now (c.args.at + 16391) n) (sym c.wanted_count.ensures) ∙ c.in_ok-count.ensures.exact)
     (c.in_ok-judge.ensures ∙ ap (λ (l : List Row). judging c.args.image.now l) c.as_slice.ensures) c.container-first.ensures.value c.read_containers.ensures.exact
+
+pub returns-clause-readable : goal.returns-clause-readable
+returns-clause-readable c =
+    readable_more c.args.bytes.now c.args.image.now c.args.at c.args.containers.now.items c.read_containers.new.containers.items c.read_containers.result (returns-clause-exact c)

@@ -1,8 +1,7 @@
-use Rattle.std.proofs.Common.{◌≡◌, ℕ, ◌+◌, ◌<◌, List, [], ◌++◌, length, map, drop, get_or, sym, ◌∙◌, ap, subst, arith}
+use Rattle.std.proofs.Common.{◌≡◌, ℕ, ◌+◌, ◌<◌, List, ◌++◌, length, map, get_or, sym, ◌∙◌, ap, subst, arith}
 use Rattle.std.proofs.lemmas.Result.{err_from_is_err_and}
 use Rattle.std.proofs.lemmas.List.{get_or-drop, length-drop}
 use Rattle.std.specs.List.{flat_map}
-use Rattle.clfs_disk.specs.Files.{Files}
 use Rattle.clfs_recover.specs.Walk.{shape_of}
 use Rattle.clfs_archive_form.specs.Form.{piece_bytes}
 use Rattle.clfs_archive_form.specs.Drafting.{front_bytes}

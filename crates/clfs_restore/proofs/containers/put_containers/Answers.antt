@@ -1,4 +1,4 @@
-use Rattle.std.proofs.Common.{◌≡◌, ℕ, ◌+◌, ◌<◌, List, ◌++◌, length, map, take, get_or, Some, None, sym, ◌∙◌, ap, subst, append_assoc, arith}
+use Rattle.std.proofs.Common.{ℕ, ◌+◌, List, ◌++◌, map, take, get_or, Some, None, sym, ◌∙◌, ap, subst, append_assoc, arith}
 use Rattle.std.proofs.lemmas.Result.{err_from_is_err_and}
 use Rattle.std.proofs.lemmas.List.{take_all}
 use Rattle.std.specs.List.{flat_map}
@@ -6,7 +6,6 @@ use Rattle.clfs_container.specs.OpenBlocks.{AreWhole}
 use Rattle.clfs_recover.specs.Stored.{stored_in}
 use Rattle.clfs_archive_form.specs.Form.{piece_bytes}
 use Rattle.clfs_archive_form.specs.Judging.{Judging}
-use Rattle.clfs_lsn.specs.declared.entry.LogEntry.{LogEntry}
 use Rattle.clfs_restore.specs.Archiving.{pieces_from}
 use Rattle.clfs_restore.proofs.Joining.{tells_still, joined, goes_refused}
 use Rattle.clfs_restore.proofs.Pieces.{one_more}

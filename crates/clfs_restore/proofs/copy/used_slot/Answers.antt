@@ -1,4 +1,4 @@
-use Rattle.std.proofs.Common.{◌≡◌, ℕ, ◌≤◌, List, Result, Ok, Err, sym, ◌∙◌, ap, arith}
+use Rattle.std.proofs.Common.{sym, ◌∙◌, ap, arith}
 use Rattle.clfs_base.specs.declared.newest.Front.{Front}
 use Rattle.clfs_base.specs.Slots.{front_of, slot_by}
 use Rattle.clfs_restore.proofs.copy.used_slot.Goals as goal

@@ -1,9 +1,8 @@
-use Rattle.std.proofs.Common.{◌≡◌, ℕ, ◌+◌, List, ◌++◌, length, sym, ◌∙◌, ap, append_assoc, arith}
+use Rattle.std.proofs.Common.{◌≡◌, ℕ, List, ◌++◌, ◌∙◌, ap, append_assoc}
 use Rattle.byteorder.specs.Endian.{little_bytes}
 use Rattle.clfs_base.specs.declared.image.BaseImage.{BaseImage}
 use Rattle.clfs_base.specs.Spelling.{current, spelled}
 use Rattle.clfs_archive_form.specs.Form.{magic, archived_image}
-use Rattle.clfs_archive_form.specs.Drafting.{front_bytes}
 use Rattle.clfs_archive_form.proofs.draft.Draft.put_front.Goals as goal
 
 pub returns-clause-added : goal.returns-clause-added

@@ -1,4 +1,4 @@
-use Rattle.std.proofs.Common.{◌≡◌, ℕ, ◌+◌, ◌*◌, ◌<◌, Option, Result, Ok, Err, List, drop, refl, sym, ◌∙◌, ap, subst, arith}
+use Rattle.std.proofs.Common.{◌≡◌, ℕ, ◌+◌, ◌*◌, Option, Result, Ok, Err, List, drop, refl, sym, ◌∙◌, ap, subst, arith}
 use Rattle.std.proofs.lemmas.Result.{err_from_is_err_and}
 use Rattle.clfs_lsn.specs.Lsn.{lsn_number}
 use Rattle.clfs_container.specs.OpenBlocks.{total}
@@ -6,7 +6,6 @@ use Rattle.clfs_block.specs.Checks.{frame_at}
 use Rattle.clfs_block.specs.Records.{block_records}
 use Rattle.clfs_recover.specs.declared.refusal.LoadRefusal.{LoadRefusal}
 use Rattle.clfs_recover.specs.declared.refusal.LoadRefusal.TheVariants.{DiskFault}
-use Rattle.clfs_archive_form.specs.Drafting.{EndsAt}
 use Rattle.clfs_archive_form.specs.Judging.{Judging}
 use Rattle.clfs_archive_form.specs.Reading.{JudgesBlock}
 use Rattle.clfs_archive_form.proofs.OpenEnds.{AreLeft, begin_left, left_none, on_closed, on_wrong, on_block, ends_within, refused_end}

@@ -1,0 +1,20 @@
+use Rattle.std.proofs.Common.{◌≡◌, ℕ, ◌-◌, ◌*◌, ◌<◌, ◌≤◌, length}
+use Rattle.clfs_disk.specs.State.{TellsContents, IsSteady, Passes}
+use Rattle.clfs_manager.specs.Formatting.{SameLengths}
+use Rattle.clfs_archive_form.specs.Written.{HoldsKept}
+use Rattle.clfs_restore.specs.Restoring.{BaseStays}
+use Rattle.clfs_restore.proofs.filling.write_containers.Given as goal
+
+abbrev pub invariant-loop-i : goal.invariant-loop-i
+invariant-loop-i g l = record {
+  fronts : TellsContents (g.D.Disk.state l.initial.disk) → (j : ℕ) → j < l.i
+      → (size : ℕ) × HoldsKept l.archives l.archive l.up_to (g.D.Disk.state l.disk).files j size;
+  last : TellsContents (g.D.Disk.state l.initial.disk) → 1 ≤ l.i → HoldsKept l.archives l.archive l.up_to (g.D.Disk.state l.disk).files (l.i - 1) l.end;
+  base : BaseStays (g.D.Disk.state l.initial.disk).files (g.D.Disk.state l.disk).files;
+  lengths : SameLengths (g.D.Disk.state l.initial.disk).files (g.D.Disk.state l.disk).files;
+  time : Passes BaseStays (g.D.Disk.state l.initial.disk) (g.D.Disk.state l.disk);
+  steady : IsSteady (g.D.Disk.state l.initial.disk)
+      → ((file : ℕ) → 1 ≤ file → file ≤ l.archive.image.containers
+      → 512 * l.archive.image.container_sectors ≤ length ((g.D.Disk.state l.initial.disk).files file))
+      → (g.D.Disk.state l.disk).faults ≡ (g.D.Disk.state l.initial.disk).faults;
+}
