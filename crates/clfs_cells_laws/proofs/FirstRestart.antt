@@ -17,9 +17,10 @@ use Rattle.clfs_model.specs.Put.{made_ready, need_of, next_lsn, put}
 use Rattle.clfs_model.specs.Refusals.{stream_number}
 use Rattle.clfs_model.specs.Space.{grown, grown_if}
 use Rattle.clfs_model.specs.State.{log_of}
+use Rattle.clfs_cells.specs.declared.row.TxnRecord.{TxnRecord}
 use Rattle.clfs_cells.specs.Layout.{blank_cells, blank_checkpoint, checkpoint_bytes}
-use Rattle.clfs_cells.specs.Table.{table, table_in, table_name}
-use Rattle.clfs_cells_laws.proofs.Ground.{cells_in}
+use Rattle.clfs_cells.specs.Table.{records_after, table, table_in, table_name}
+use Rattle.clfs_cells_laws.proofs.Ground.{after_in, cells_in, spelled}
 
 -- ---- a table is read of the records and the streams alone
 
@@ -39,10 +40,10 @@ pub record KeepsLists (s t : State) : Type 0 where
   pub areas : t.areas ≡ s.areas
   pub broken : t.broken ≡ s.broken
 
-keeps_same : (s : State) → KeepsLists s s
+pub keeps_same : (s : State) → KeepsLists s s
 keeps_same s = record { records = refl; streams = refl; areas = refl; broken = refl }
 
-keeps_then : (a b c : State) → KeepsLists a b → KeepsLists b c → KeepsLists a c
+pub keeps_then : (a b c : State) → KeepsLists a b → KeepsLists b c → KeepsLists a c
 keeps_then a b c first next = record {
   records = next.records ∙ first.records;
   streams = next.streams ∙ first.streams;
@@ -56,11 +57,11 @@ keeps_seal s = elim (cases_Bool (nat_lt 0 s.place.records)) [
   | inr empty ↦ rw empty (keeps_same s)
 ]
 
-keeps_flush : (s : State) → KeepsLists s (flush s)
+pub keeps_flush : (s : State) → KeepsLists s (flush s)
 keeps_flush s = let sealed = keeps_seal s in
     record { records = sealed.records; streams = sealed.streams; areas = sealed.areas; broken = sealed.broken }
 
-keeps_ready : (s : State) (n : ℕ) → KeepsLists s (made_ready s n)
+pub keeps_ready : (s : State) (n : ℕ) → KeepsLists s (made_ready s n)
 keeps_ready s n = elim (cases_Bool (joins s.shape s.place n)) [
   | inl joining ↦ rw joining (keeps_same s)
   | inr begins ↦ rw begins (elim (cases_Bool (begins_here s.shape s.place n)) [
@@ -73,7 +74,7 @@ keeps_grown_if : (grows : Bool) (s : State) (wanted : ℕ) → KeepsLists s (gro
 keeps_grown_if true s wanted = record { records = refl; streams = refl; areas = refl; broken = refl }
 keeps_grown_if false s wanted = keeps_same s
 
-keeps_grown : (s : State) (need : ℕ) → KeepsLists s (grown s need)
+pub keeps_grown : (s : State) (need : ℕ) → KeepsLists s (grown s need)
 unfolding grown
 keeps_grown s need = keeps_grown_if _ s _
 
@@ -103,6 +104,9 @@ restarts s area bytes =
       broken = last.broken ∙ ready.broken ∙ grew.broken;
     }
 
+abbrev rows_in : List LogEntry → List TxnRecord
+rows_in xs = spelled (after_in xs)
+
 -- ---- a table of zeros
 
 one_restart : (entry : LogEntry) (area : Area) (s : State) → entry ≡ put_record s area (checkpoint_bytes blank_checkpoint) → cells_in (entry ∷ []) ≡ blank_cells
@@ -123,5 +127,23 @@ zeros s t area stream numbered none made =
     ∙ ap cells_in lives
     ∙ elim (cases_Bool (p entry)) [
       | inl is ↦ rw is (one_restart entry area s refl)
+      | inr other ↦ rw other refl
+    ]
+
+-- and no records above it
+pub no_rows : (s t : State) (area : Area) (stream : ℕ) → live s stream ≡ [] → Restarted s area (checkpoint_bytes blank_checkpoint) t → records_after t stream ≡ []
+unfolding over
+no_rows s t area stream none made =
+    let entry : LogEntry = put_record s area (checkpoint_bytes blank_checkpoint) in
+    let u : State = record s { records = s.records ++ entry ∷ [] } in
+    let p : LogEntry → Bool = λ e. (e.stream == stream) && is_live s e in
+    let lives : live u stream ≡ filter p (entry ∷ []) = filter-append p s.records (entry ∷ []) ∙ ap (λ (l : List LogEntry). l ++ filter p (entry ∷ [])) none in
+    let lsn : ℕ = next_lsn (grown s (need_of false 260 [])) 260 in
+    let nothing : rows_in (entry ∷ []) ≡ [] = rw (le-ltb lsn lsn (omega arith)) refl in
+    ap (λ (records : List LogEntry). records_after (over t.streams records) stream) made.records
+    ∙ ap (λ (streams : List Stream). records_after (over streams u.records) stream) made.streams
+    ∙ ap rows_in lives
+    ∙ elim (cases_Bool (p entry)) [
+      | inl is ↦ rw is nothing
       | inr other ↦ rw other refl
     ]

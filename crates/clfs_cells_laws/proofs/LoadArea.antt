@@ -1,7 +1,7 @@
 -- Loading, once the client has its area: the stream is asked for, and its table is read or begun.
-use Rattle.std.proofs.Common.{◌≡◌, ◌⊎◌, ℕ, Bool, true, false, refl, sym, subst, ap, ◌∙◌, inl, inr, List, [], ◌∷◌, Option, Some, None, Ok}
+use Rattle.std.proofs.Common.{◌≤◌, ◌≡◌, ◌⊎◌, ℕ, Bool, true, false, refl, sym, subst, ap, ◌∙◌, inl, inr, List, [], ◌∷◌, length, drop, Option, Some, None, Ok}
 use Rattle.std.specs.Prelude.{◌==◌, if◌then◌else◌, find, is_none}
-use Rattle.std.specs.List.{last_or}
+use Rattle.std.specs.List.{AllByRecursion, last_or}
 use Rattle.std.specs.Option.{option_map, option_map_or}
 use Rattle.std.proofs.lemmas.Bool.{cases_Bool}
 use Rattle.clfs_lsn.specs.Cursors.{unused_cursor}
@@ -30,14 +30,16 @@ use Rattle.clfs_model.specs.Refusals.{read_refusal, refusal, refused_if, stream_
 use Rattle.clfs_model.specs.State.{area_of}
 use Rattle.clfs_model.specs.Step.{Comes, IsReply}
 use Rattle.clfs_cells.specs.declared.checkpoint.Checkpoint.{Checkpoint}
+use Rattle.clfs_cells.specs.declared.row.TxnRecord.{TxnRecord}
 use Rattle.clfs_cells.specs.declared.told.TxnLoadRefusal.TheVariants.{Log, NotATable}
-use Rattle.clfs_cells.specs.Layout.{blank_cells, blank_checkpoint, checkpoint_bytes, checkpoint_of}
+use Rattle.byteorder.specs.Endian.{little_number}
+use Rattle.clfs_cells.specs.Layout.{blank_cells, blank_checkpoint, cell_count, checkpoint_bytes, checkpoint_of, numbers_in}
 use Rattle.clfs_cells.specs.Loaded.{first_restart, load_refusal}
 use Rattle.clfs_cells.specs.Loading.{Loaded, gives_up, load_above, load_area, load_new, load_stream, load_table, memory_of, read_records, stopped}
 use Rattle.clfs_cells.specs.Plans.{Plan, calls as asks, ends, CarriesOut, on_found, on_info, on_placed}
 use Rattle.clfs_cells_laws.specs.Loads.{IsLoadCause}
 use Rattle.clfs_cells_laws.proofs.Above.{above}
-use Rattle.clfs_cells_laws.proofs.FirstRestart.{Restarted, restarts, zeros}
+use Rattle.clfs_cells_laws.proofs.FirstRestart.{Restarted, no_rows, restarts, zeros}
 use Rattle.clfs_cells_laws.proofs.Ground.{Ground, End, Met, at, cells_in, denied, done, end_by, gave, given_up, last_in, met, newest_in, no_table_in, own_area, spelled, strange, stranger_in}
 use Rattle.clfs_cells_laws.proofs.Newest.{IsThere, each_there, last_has, lsn_found, newest_has, none_last, none_of, some_of}
 use Rattle.clfs_cells_laws.proofs.OwnArea.{change_own}
@@ -148,6 +150,16 @@ read_as : (o : Option Checkpoint) → (o ≡ None) ⊎ ((c : Checkpoint) × (o �
 read_as None = inl refl
 read_as (Some c) = inr (c, refl)
 
+-- a restart area has all cells
+checkpoint_long : (bytes : List ℕ) (c : Checkpoint) → checkpoint_of bytes ≡ Some c → length c.cells ≡ cell_count
+checkpoint_long bytes c is = elim (cases_Bool (length bytes == 260)) [
+  | inl fits ↦
+      let found : Some (record { cells = numbers_in cell_count bytes; last = little_number 4 (drop 256 bytes) }) ≡ Some c = rw fits at is in
+      let same : record { cells = numbers_in cell_count bytes; last = little_number 4 (drop 256 bytes) } ≡ c = cc found in
+      ap (λ (x : Checkpoint). length x.cells) (sym same)
+  | inr not ↦ let none : None ≡ Some c = rw not at is in absurd (cc none)
+]
+
 table_there : (most : ℕ) (g : Ground) (restart : LogEntry) (r : Loaded) (t : State) → (lsn_or_null (last_or None (its g)) == null_lsn) ≡ false
     → newest_in (its g) ≡ Some restart → CarriesOut g.told g.client (at g []) (load_table most g.client g.number g.stream) r t → End g r t
 table_there most g restart r t some newest carries =
@@ -167,7 +179,7 @@ table_there most g restart r t some newest carries =
           (subst (λ (o : Option Checkpoint). CarriesOut g.told g.client (at g []) (by_checkpoint read o) r t) none behind)
       | inr says ↦
           let from : From g restart says.0
-          = record { some = some; newest = newest; says = λ told. ap (λ (e : LogEntry). checkpoint_of e.bytes) (sym (is.exact told)) ∙ says.1 } in
+          = record { some = some; newest = newest; says = λ told. ap (λ (e : LogEntry). checkpoint_of e.bytes) (sym (is.exact told)) ∙ says.1; long = checkpoint_long read.bytes says.0 says.1 } in
           above_it most g restart says.0 r t from
           (subst (λ (lsn : ℕ). CarriesOut g.told g.client (at g []) (load_above most g.client g.number g.stream says.0 lsn) r t) is.lsn
           (subst (λ (o : Option Checkpoint). CarriesOut g.told g.client (at g []) (by_checkpoint read o) r t) says.1 behind))
@@ -212,6 +224,8 @@ begun g mid empty null passes made =
           ∙ there g [] ∙ ap (λ (a : Area). Some (record a { number = g.number; stream = g.stream })) (sym g.first_area);
       none = refl;
       whole = made.broken ∙ g.whole;
+      long = refl;
+      below = λ _. subst (AllByRecursion (λ (r : TxnRecord). r.txn ≤ 0)) (sym (no_rows (at g []) mid (own_area g.client g.number g.stream []) g.stream empty made)) tt;
       cells = λ _. sym zero_table;
       last = λ _. sym (g.last_is ∙ ap last_in empty);
       fine = λ _. refusal_new g null ∙ ap (option_map Log) passes;

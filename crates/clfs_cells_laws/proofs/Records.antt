@@ -1,9 +1,9 @@
 -- Reading the records above a restart area, to the end of the stream.
-use Rattle.std.proofs.Common.{◌≡◌, ◌⊎◌, ℕ, zero, suc, Bool, true, false, refl, sym, subst, ap, ◌∙◌, inl, inr, List, [], ◌∷◌, ◌++◌, Option, Some, None, Ok}
-use Rattle.std.specs.Prelude.{IsSome, MatchBool, ◌==◌, if◌then◌else◌, find, is_none, is_some, nat_lt}
+use Rattle.std.proofs.Common.{◌≤◌, arith, ◌≡◌, ◌⊎◌, ℕ, zero, suc, Bool, true, false, refl, sym, subst, ap, ◌∙◌, inl, inr, List, [], ◌∷◌, ◌++◌, length, Option, Some, None, Ok}
+use Rattle.std.specs.Prelude.{max, IsSome, MatchBool, ◌==◌, if◌then◌else◌, find, is_none, is_some, nat_lt}
 use Rattle.std.specs.Option.{option_and_then, option_map, option_map_or}
 use Rattle.std.proofs.lemmas.Bool.{cases_Bool, eq-eqb}
-use Rattle.std.proofs.lemmas.List.{append-nil, append_assoc}
+use Rattle.std.proofs.lemmas.List.{append-nil, append_assoc, length-set}
 use Rattle.clfs_lsn.specs.Lsn.{null_lsn}
 use Rattle.clfs_lsn.specs.declared.cursor.Cursor.{Cursor}
 use Rattle.clfs_lsn.specs.declared.entry.LogEntry.{LogEntry}
@@ -22,13 +22,15 @@ use Rattle.clfs_model.specs.Step.{Comes}
 use Rattle.clfs_cells.specs.declared.checkpoint.Checkpoint.{Checkpoint}
 use Rattle.clfs_cells.specs.declared.row.TxnRecord.{TxnRecord}
 use Rattle.clfs_cells.specs.declared.told.TxnLoadRefusal.TheVariants.{Log, NotATable}
-use Rattle.clfs_cells.specs.Layout.{blank_cells, checkpoint_of, txn_record_of}
+use Rattle.clfs_cells.specs.declared.row.Action.{Action}
+use Rattle.clfs_cells.specs.declared.row.Action.TheVariants.{Set, Compensation, Commit, RolledBack}
+use Rattle.clfs_cells.specs.Layout.{blank_cells, cell_count, checkpoint_of, txn_record_of}
 use Rattle.clfs_cells.specs.Loaded.{first_restart, load_refusal, table_stream}
 use Rattle.clfs_cells.specs.Loading.{Loaded, gives_up, last_number, memory_of, on_more, read_records}
 use Rattle.clfs_cells.specs.Plans.{Plan, calls, ends, CarriesOut}
 use Rattle.clfs_cells.specs.Stored.{Memory}
-use Rattle.clfs_cells.specs.Table.{changed, committed}
-use Rattle.std.specs.List.{last_or}
+use Rattle.clfs_cells.specs.Table.{after_action, changed, committed}
+use Rattle.std.specs.List.{AllByRecursion, last_or}
 use Rattle.clfs_cells_laws.specs.Loads.{IsLoadCause}
 use Rattle.clfs_cells_laws.proofs.Above.{above, next_above, none_above}
 use Rattle.clfs_cells_laws.proofs.Ground.{Ground, End, Met, Stops, after_in, at, cells_in, done, denied, end_by, gave, given_up, last_in, met, newest_in, no_table_in, restart_in, spelled, strange, stranger_in}
@@ -48,6 +50,7 @@ pub record From (g : Ground) (restart : LogEntry) (c : Checkpoint) : Type 0 wher
   pub some : (lsn_or_null (last_or None (its g)) == null_lsn) ≡ false
   pub newest : newest_in (its g) ≡ Some restart
   pub says : g.told ≡ true → checkpoint_of restart.bytes ≡ Some c
+  pub long : length c.cells ≡ cell_count
 
 -- These records were read, up to this LSN.
 pub record Sofar (g : Ground) (acc : List TxnRecord) (last : ℕ) : Type 0 where
@@ -80,6 +83,26 @@ says_last g restart c acc from told is =
     ap (λ (l : List TxnRecord). last_number c.last l) (sym is)
     ∙ ap (λ (o : Option Checkpoint). last_number (option_map_or (λ (x : Checkpoint). x.last) o 0) (spelled (after_in (its g)))) (sym read)
 
+-- a change of a cell leaves the cells as many
+acted_long : (cells : List ℕ) (action : Action) → length (after_action cells action) ≡ length cells
+acted_long cells (Set change) = length-set cells change.cell change.new
+acted_long cells (Compensation change) = length-set cells change.cell change.new
+acted_long cells Commit = refl
+acted_long cells RolledBack = refl
+
+pub changed_long : (records : List TxnRecord) (cells : List ℕ) → length (changed cells records) ≡ length cells
+changed_long [] cells = refl
+changed_long (r ∷ records) cells = changed_long records (after_action cells r.action) ∙ acted_long cells r.action
+
+-- the last number isn't below any
+last_grows : (last : ℕ) (records : List TxnRecord) → last ≤ last_number last records
+last_grows last [] = omega arith
+last_grows last (r ∷ records) = let rest = last_grows (max last r.txn) records in omega (arith, rest)
+
+pub not_above : (last : ℕ) (records : List TxnRecord) → AllByRecursion (λ (r : TxnRecord). r.txn ≤ last_number last records) records
+not_above last [] = tt
+not_above last (r ∷ records) = let rest = last_grows (max last r.txn) records in (omega (arith, rest), not_above (max last r.txn) records)
+
 finished : (g : Ground) (restart : LogEntry) (c : Checkpoint) (acc : List TxnRecord) (last : ℕ) → From g restart c → Sofar g acc last → next_in g last ≡ None
     → End g (Ok (memory_of g.client g.number g.stream c acc)) (at g [])
 finished g restart c acc last from sofar none =
@@ -92,6 +115,8 @@ finished g restart c acc last from sofar none =
       area = there g [] ∙ ap (λ (a : Area). Some (record a { number = g.number; stream = g.stream })) (sym g.first_area);
       none = refl;
       whole = g.whole;
+      long = changed_long (committed acc) c.cells ∙ from.long;
+      below = λ told. subst (AllByRecursion (λ (r : TxnRecord). r.txn ≤ last_number c.last acc)) (sym (all told)) (not_above c.last acc);
       cells = λ told. says_cells g restart c acc from told (all told) ∙ sym g.table_is;
       last = λ told. says_last g restart c acc from told (all told) ∙ sym g.last_is;
       fine = λ told. refused_by g restart c from told

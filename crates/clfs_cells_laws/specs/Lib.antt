@@ -1,1 +1,6 @@
 pub mod Loads
+pub mod Breaking
+pub mod Sets
+pub mod Tables
+pub mod Stores
+pub mod Steps

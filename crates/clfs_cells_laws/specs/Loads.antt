@@ -1,5 +1,6 @@
 -- What loading comes to, as facts of the store and of the log that it leaves.
-use Rattle.std.specs.Prelude.{◌≡◌, ◌⊎◌, ℕ, Bool, true, false, [], Some, None, IsSome, MatchBool}
+use Rattle.std.specs.Prelude.{◌≤◌, ◌≡◌, ◌⊎◌, ℕ, Bool, true, false, [], length, Some, None, IsSome, MatchBool}
+use Rattle.std.specs.List.{AllByRecursion}
 use Rattle.clfs_model.specs.declared.refusal.Refusal.TheVariants as log_refusals
 use Rattle.clfs_model.specs.declared.state.State.{State}
 use Rattle.clfs_model.specs.Live.{live_at}
@@ -7,9 +8,11 @@ use Rattle.clfs_model.specs.Refusals.{stream_number}
 use Rattle.clfs_model.specs.State.{area_of, areas_of}
 use Rattle.clfs_cells.specs.declared.told.TxnLoadRefusal.{TxnLoadRefusal}
 use Rattle.clfs_cells.specs.declared.told.TxnLoadRefusal.TheVariants.{Log, NotATable}
+use Rattle.clfs_cells.specs.Layout.{cell_count}
 use Rattle.clfs_cells.specs.Loaded.{last_of, load_refusal, table_area, table_stream}
 use Rattle.clfs_cells.specs.Stored.{Memory}
-use Rattle.clfs_cells.specs.Table.{table, table_name}
+use Rattle.clfs_cells.specs.declared.row.TxnRecord.{TxnRecord}
+use Rattle.clfs_cells.specs.Table.{records_after, table, table_name}
 
 -- A store that was loaded from a log, and the log that it has. Over a disk that tells what it holds its cells are the table, and the next transaction gets
 -- the number above the last one.
@@ -19,6 +22,8 @@ pub record IsLoaded (told : Bool) (log : State) (client : ℕ) (memory : Memory)
   pub area : area_of t client memory.area ≡ Some (record (table_area log client) { number = memory.area; stream = memory.stream })
   pub none : memory.transactions ≡ []
   pub whole : t.broken ≡ false
+  pub long : length memory.cells ≡ cell_count
+  pub below : told ≡ true → AllByRecursion (λ (r : TxnRecord). r.txn ≤ memory.last) (records_after t memory.stream)
   pub cells : told ≡ true → memory.cells ≡ table log
   pub last : told ≡ true → memory.last ≡ last_of log
   pub fine : told ≡ true → load_refusal log client ≡ None

@@ -528,9 +528,12 @@ fn words_of_dumps(rt: HostRuntime) -> Result<(), AllocError> {
     Ok(())
 }
 
-const CHECKS: [(&str, Option<Command>); 12] = [
+const CHECKS: [(&str, Option<Command>); 15] = [
     ("check", Some(Command::Check)),
     ("check --", Some(Command::Check)),
+    ("txn", Some(Command::Txn)),
+    ("txn --", Some(Command::Txn)),
+    ("txn 1", None),
     ("check x", None),
     ("check --dedicated", None),
     ("check check", None),
@@ -567,6 +570,7 @@ Commands:
   check   Judges the log in FOLDER and tells what is in it, or where it is broken
   crowd   Appends in threads that share their flushes, over a log in memory
   dump    Prints the log in FOLDER as text, or up to where it is broken
+  txn     Answers the lines of a script by a table of cells with transactions, which the log in FOLDER keeps
 
 Options may stand in any order, as --containers 4 or --containers=4; numbers are decimal, without a sign or a zero in front.
 Status 1: the words are no command, and standard error says which are.
@@ -660,6 +664,14 @@ Options:
 Writes nothing to the log. It is printed up to its end, or up to the first wrong byte, which is then named; all of it is judged, whatever is printed.
 Without an option all records are printed, dead ones too. If no stream has the name, none is.
 Status 0: a log is there. 3: standard output can't be written. 4: disk fault. 5: out of memory. 6: not a log.
+
+Answers the lines of a script by a table of cells with transactions, which the log in FOLDER keeps
+
+Usage: clfs FOLDER txn
+
+Opens the log, loads the table of its stream txn, which it makes if there is none, and answers each line as soon as it is whole: begin N, set T C V,
+back T K, commit T, rollback T, get C and checkpoint. There are 32 cells of 64 bits. A script and a line are limited as of serve.
+Status 0 to 7: as of serve. 9: not a table. 10: the log refused.
 ";
 
 #[test]
@@ -677,7 +689,7 @@ const FORMS: [(&str, &str); 4] = [
     ),
     (
         "forma",
-        "clfs: forma is no command: after FOLDER comes format, serve, race, trial, crew, check, crowd or dump",
+        "clfs: forma is no command: after FOLDER comes format, serve, race, trial, crew, check, crowd, dump or txn",
     ),
     (
         "trial 1 0",

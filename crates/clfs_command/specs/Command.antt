@@ -16,7 +16,7 @@ use Rattle.clfs_command.specs.declared.words.DataWord.{DataWord}
 use Rattle.clfs_command.specs.declared.words.DataWord.TheVariants.{Hex, Nothing}
 use Rattle.clfs_command.specs.declared.words.DataWord.TheVariants as words
 use Rattle.clfs_command.specs.declared.words.Command.{Command}
-use Rattle.clfs_command.specs.declared.words.Command.TheVariants.{Format, Serve, Race, Trial, Crew, Check, Crowd, Dump}
+use Rattle.clfs_command.specs.declared.words.Command.TheVariants.{Format, Serve, Race, Trial, Crew, Check, Crowd, Dump, Txn}
 
 -- the decimal number of 32 bits that an option has, without a sign or a leading zero
 abbrev pub number_of : Text → List Row → Option ℕ
@@ -138,7 +138,8 @@ with_options (name, options) =
     else if bytes_eq name (codes "check") then Some Check
     else if bytes_eq name (codes "crowd") then crowd_of (number_of (codes "THREADS") options) (number_of (codes "COUNT") options)
     else if bytes_eq name (codes "dump") then dump_of (lsn_of (codes "from") options) (lsn_of (codes "to") options) (name_of (codes "stream") options)
-    (data_of (codes "data") options) else None
+    (data_of (codes "data") options)
+    else if bytes_eq name (codes "txn") then Some Txn else None
 
 -- The command that words name. They name none where clap finds a fault in them, or a number isn't one that a log can have.
 abbrev pub command_of : List Text → Option Command
@@ -153,4 +154,5 @@ HasItsRanges (Trial number count) = (1 ≤ count) × (count ≤ most_trial_lines
 HasItsRanges (Crew threads count) = (1 ≤ threads) × ((threads ≤ most_crew_threads) × ((1 ≤ count) × (count ≤ most_crew_records)))
 HasItsRanges Check = Unit {0}
 HasItsRanges (Dump options) = Unit {0}
+HasItsRanges Txn = Unit {0}
 HasItsRanges (Crowd threads count) = (1 ≤ threads) × ((threads ≤ most_crew_threads) × ((1 ≤ count) × (count ≤ most_crew_records)))

@@ -19,6 +19,7 @@ fn known_form(command: &str) -> Option<&'static str> {
         "dump" => Some(
             "--from LSN, as 1:200:0, or not; --to LSN or not; --stream NAME, 1 to 64 bytes, or not; and --data hex, text or none, or not",
         ),
+        "txn" => Some("no more words"),
         _ => None,
     }
 }
@@ -36,7 +37,7 @@ pub fn form_of(alloc: Global, words: &[String]) -> Result<String, AllocError> {
             "clfs: {first} takes {form}; each is given once, and numbers are decimal, without a sign or a zero in front"
         ),
         None => format!(in alloc;
-            "clfs: {first} is no command: after FOLDER comes format, serve, race, trial, crew, check, crowd or dump"
+            "clfs: {first} is no command: after FOLDER comes format, serve, race, trial, crew, check, crowd, dump or txn"
         ),
     }
 }

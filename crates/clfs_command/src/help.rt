@@ -1,7 +1,7 @@
 // What `clfs --help` prints: the commands, and the options of each.
 use crate::line::{
     check_line, command_line, crew_line, crowd_line, dump_line, format_line, race_line, serve_line,
-    trial_line,
+    trial_line, txn_line,
 };
 use clap::Command;
 use std::alloc::{AllocError, Global};
@@ -47,6 +47,12 @@ Status 0: a log is there. 3: standard output can't be written. 4: disk fault. 5:
 const CROWD_NOTES: &str = "\
 Looks at no folder, and reads nothing. What isn't counted lacked memory.
 Status 0: the line is printed. 3: standard output can't be written. 5: out of memory.";
+
+// What `txn` does, and how it ends.
+const TXN_NOTES: &str = "\
+Opens the log, loads the table of its stream txn, which it makes if there is none, and answers each line as soon as it is whole: begin N, set T C V,
+back T K, commit T, rollback T, get C and checkpoint. There are 32 cells of 64 bits. A script and a line are limited as of serve.
+Status 0 to 7: as of serve. 9: not a table. 10: the log refused.";
 
 // What `dump` does, and how it ends.
 const DUMP_NOTES: &str = "\
@@ -121,5 +127,6 @@ pub fn help_text(alloc: Global) -> Result<String, AllocError> {
         &mut text,
     )?;
     push_command(dump_line(alloc)?, "clfs FOLDER dump", DUMP_NOTES, &mut text)?;
+    push_command(txn_line(alloc), "clfs FOLDER txn", TXN_NOTES, &mut text)?;
     Ok(text)
 }

@@ -1,7 +1,7 @@
 // The command line after FOLDER, as clap takes it.
 ghost use Rattle.std.specs.Prelude.{◌≡◌, IfOk, codes, false};
 ghost use Rattle.clap.specs.Words.{app_of, rule_of};
-ghost use Rattle.clfs_command.specs.Line.{option, needed, with_default, flag, word, command_named, format_line, serve_line, race_line, trial_line, crew_line, check_line, crowd_line, dump_line, command_line};
+ghost use Rattle.clfs_command.specs.Line.{option, needed, with_default, flag, word, command_named, format_line, serve_line, race_line, trial_line, crew_line, check_line, crowd_line, dump_line, txn_line, command_line};
 
 use clap::{Arg, ArgAction, Command};
 use std::alloc::{AllocError, Global};
@@ -139,6 +139,15 @@ pub fn check_line<'a>(alloc: Global) -> Command<'a>
     command_named(alloc, "check", about)
 }
 
+/// The line of `txn`.
+pub fn txn_line<'a>(alloc: Global) -> Command<'a>
+    ensures { app_of result ≡ txn_line }
+{
+    let about =
+        "Answers the lines of a script by a table of cells with transactions, which the log in FOLDER keeps";
+    command_named(alloc, "txn", about)
+}
+
 /// The line of `crowd`.
 pub fn crowd_line<'a>(alloc: Global) -> Result<Command<'a>, AllocError>
     ensures { IfOk result (λ r. app_of r ≡ crowd_line) }
@@ -192,5 +201,6 @@ pub fn command_line<'a>(alloc: Global) -> Result<Command<'a>, AllocError>
         .subcommand(crew_line(alloc)?)?
         .subcommand(check_line(alloc))?
         .subcommand(crowd_line(alloc)?)?
-        .subcommand(dump_line(alloc)?)
+        .subcommand(dump_line(alloc)?)?
+        .subcommand(txn_line(alloc))
 }

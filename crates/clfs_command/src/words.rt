@@ -131,6 +131,8 @@ pub enum Command {
     },
     /// To print a log as text.
     Dump(DumpOptions),
+    /// To serve a table of cells.
+    Txn,
 }
 
 /// Why no command was read.
@@ -395,6 +397,7 @@ fn with_options(name: &str, options: &ArgMatches) -> Option<Command>
             name_of("stream", options),
             data_of("data", options),
         ),
+        "txn" => Some(Command::Txn),
         _ => None,
     }
 }

@@ -6,11 +6,14 @@ pub mod Lines
 pub mod OnlyRead
 pub mod Loaded
 pub mod ServingEnds
+pub mod TxnLines
+pub mod TxnEnds
 pub mod Refusals
 pub mod Crashing
 pub mod Trials
 pub mod Fronts
 pub mod Through
+pub mod TxnThrough
 pub mod CheckEnds
 pub mod DumpEnds
 pub mod Clients

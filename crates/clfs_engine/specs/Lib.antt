@@ -15,6 +15,7 @@ pub mod Crashed
 pub mod Trial
 pub mod Check
 pub mod Dump
+pub mod Txn
 pub mod Complete
 pub mod Crew
 pub mod Work

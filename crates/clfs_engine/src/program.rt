@@ -3,15 +3,16 @@ ghost use Rattle.std.specs.Prelude.{◌≡◌, ◌≢◌, ℕ, Bool, map, Some, 
 ghost use Rattle.std.specs.String.{string_bytes};
 ghost use Rattle.clfs_lsn.specs.declared.shape.Shape.{Shape};
 ghost use Rattle.clfs_command.specs.Command.{command_of};
-ghost use Rattle.clfs_command.specs.declared.words.Command.TheVariants.{Format, Serve, Race, Trial, Crew, Check, Crowd, Dump};
+ghost use Rattle.clfs_command.specs.declared.words.Command.TheVariants.{Format, Serve, Race, Trial, Crew, Check, Crowd, Dump, Txn};
 ghost use Rattle.clfs_command.specs.declared.words.DumpOptions.{DumpOptions};
 ghost use Rattle.clfs_command.specs.declared.words.ScriptLength.{ScriptLength};
 ghost use Rattle.clfs_ports.specs.Cause.{Rises};
 ghost use Rattle.clfs_engine.specs.Check.{EndsCheck};
-ghost use Rattle.clfs_engine.specs.Complete.{IsDone, NothingFailsAnswering, NothingFailsRacing, NothingFailsMaking, NothingFailsChecking, ComesThrough, RaceComesThrough};
+ghost use Rattle.clfs_engine.specs.Complete.{IsDone, NothingFailsAnswering, NothingFailsServing, NothingFailsRacing, NothingFailsMaking, NothingFailsChecking, ComesThrough, RaceComesThrough};
 ghost use Rattle.clfs_engine.specs.Crew.{EndsCrew};
 ghost use Rattle.clfs_engine.specs.Crowd.{EndsCrowd};
 ghost use Rattle.clfs_engine.specs.Dump.{EndsDump, selection_of};
+ghost use Rattle.clfs_engine.specs.Txn.{EndsTxn, TableComesThrough};
 ghost use Rattle.clfs_engine.specs.Format.{EndsFormat};
 ghost use Rattle.clfs_engine.specs.Race.{EndsRacing};
 ghost use Rattle.clfs_engine.specs.Serve.{EndsServing, EndsByUsage};
@@ -26,6 +27,7 @@ use crate::formatting::format;
 use crate::racing::race;
 use crate::serving::{LONGEST_SCRIPT, serve_within};
 use crate::status::{Outcome, USAGE};
+use crate::tabling::txn;
 use crate::trying::trial;
 use clfs_command::{Command, ScriptLength, WordsRefusal, read_command};
 use clfs_disk::Disk;
@@ -48,7 +50,7 @@ fn longest_script(length: ScriptLength) -> u64
 
 /// Runs the command that the words name: `serve` with its write buffers, its read buffers and the length that the script may have, `race` with its write buffers,
 /// `format` with the sizes of the log and whether it is dedicated, `trial` with its number and its count, `crew` and `crowd`
-/// with their threads and their count, `dump` with its options, or `check`. The words are those after the folder. Only a race, a crew and a crowd
+/// with their threads and their count, `dump` with its options, `txn`, or `check`. The words are those after the folder. Only a race, a crew and a crowd
 /// start threads, and wait for them.
 pub fn run<R: Threads + Wait + Sync, S: Source, K: Sink, D: Disk + Send + Drop>(
     rt: &R,
@@ -78,6 +80,9 @@ pub fn run<R: Threads + Wait + Sync, S: Source, K: Sink, D: Disk + Send + Drop>(
     ensures dumps { (options : DumpOptions) → command_of (map string_bytes words.now) ≡ Some (Dump options)
         → EndsDump (selection_of options) result.status (D.state disk) (D.state result.disk) (K.written sink.old) (K.written sink.new)
         (K.faults sink.old) (K.faults sink.new) }
+    ensures tables { command_of (map string_bytes words.now) ≡ Some Txn
+        → EndsTxn result.status (D.state disk) (D.state result.disk) (S.left source.old) (S.left source.new)
+        (K.written sink.old) (K.written sink.new) (S.faults source.old) (S.faults source.new) (K.faults sink.old) (K.faults sink.new) }
     // If nothing outside fails, a command is done, unless memory runs out.
     ensures serving_comes_through { (buffers reads : ℕ) (length : ScriptLength) → command_of (map string_bytes words.now) ≡ Some (Serve buffers reads length)
         → NothingFailsAnswering (limits_of length) (D.state disk) (D.state result.disk) (S.left source.old) (S.faults source.old) (S.faults source.new) (K.faults sink.old) (K.faults sink.new)
@@ -97,16 +102,21 @@ pub fn run<R: Threads + Wait + Sync, S: Source, K: Sink, D: Disk + Send + Drop>(
         → NothingFailsChecking (D.state disk) (D.state result.disk) (K.faults sink.old) (K.faults sink.new) → IsDone result.status }
     ensures dumping_is_done { (options : DumpOptions) → command_of (map string_bytes words.now) ≡ Some (Dump options)
         → NothingFailsChecking (D.state disk) (D.state result.disk) (K.faults sink.old) (K.faults sink.new) → IsDone result.status }
+    ensures table_comes_through { command_of (map string_bytes words.now) ≡ Some Txn
+        → NothingFailsServing (D.state disk) (D.state result.disk) (S.left source.old) (S.faults source.old) (S.faults source.new) (K.faults sink.old) (K.faults sink.new)
+        → TableComesThrough result.status (D.state disk) (D.state result.disk) (S.left source.old) (S.left source.new) (K.written sink.old) (K.written sink.new) }
     ensures usage { command_of (map string_bytes words.now) ≡ None → EndsByUsage result.status (K.written sink.old) (K.written sink.new)
         (K.faults sink.old) (K.faults sink.new) }
-    // Only a script is read from the source, and only serving, racing, making, judging and dumping a log call the disk.
+    // Only a script is read from the source, and only serving a log or a table, racing, making, judging and dumping a log call the disk.
     ensures unread { ((buffers reads : ℕ) (length : ScriptLength) → command_of (map string_bytes words.now) ≢ Some (Serve buffers reads length))
-        → ((buffers : ℕ) → command_of (map string_bytes words.now) ≢ Some (Race buffers)) → source.new ≡ source.old }
+        → ((buffers : ℕ) → command_of (map string_bytes words.now) ≢ Some (Race buffers)) → command_of (map string_bytes words.now) ≢ Some Txn
+        → source.new ≡ source.old }
     ensures untouched { ((buffers reads : ℕ) (length : ScriptLength) → command_of (map string_bytes words.now) ≢ Some (Serve buffers reads length))
         → ((buffers : ℕ) → command_of (map string_bytes words.now) ≢ Some (Race buffers))
         → ((shape : Shape) (containers : ℕ) (dedicated : Bool) → command_of (map string_bytes words.now) ≢ Some (Format shape containers dedicated))
         → command_of (map string_bytes words.now) ≢ Some Check
-        → ((options : DumpOptions) → command_of (map string_bytes words.now) ≢ Some (Dump options)) → result.disk ≡ disk }
+        → ((options : DumpOptions) → command_of (map string_bytes words.now) ≢ Some (Dump options))
+        → command_of (map string_bytes words.now) ≢ Some Txn → result.disk ≡ disk }
 {
     match read_command(alloc, words) {
         Ok(
@@ -139,12 +149,14 @@ pub fn run<R: Threads + Wait + Sync, S: Source, K: Sink, D: Disk + Send + Drop>(
         },
         Ok(Command::Check) => check(alloc, sink, disk),
         Ok(Command::Dump(options)) => dump(alloc, &options, sink, disk),
+        Ok(Command::Txn) => txn(alloc, source, sink, disk),
         Ok(Command::Crowd { threads, count }) => Outcome {
             status: crowd(rt, alloc, threads, count, sink),
             disk,
         },
         Err(WordsRefusal::Usage) => {
-            let line = b"usage: clfs FOLDER format, serve, race, trial, crew, check or crowd\n";
+            let line =
+                b"usage: clfs FOLDER format, serve, race, trial, crew, check, txn or crowd\n";
             Outcome {
                 status: printed(sink, line, USAGE),
                 disk,

@@ -12,6 +12,12 @@ pub const NOT_A_LOG: u8 = 6;
 /// A log is there.
 pub const EXISTS: u8 = 8;
 
+/// The stream of a table is none.
+pub const NOT_A_TABLE: u8 = 9;
+
+/// The log refused to load a table.
+pub const REFUSED: u8 = 10;
+
 /// How a command ended.
 #[derive(Debug, Drop)]
 pub struct Outcome<D: Drop> {

@@ -15,7 +15,8 @@ use std::process::Abort;
 use std::sync::Wait;
 use std::thread::Threads;
 
-const USAGE_LINE: &[u8] = b"usage: clfs FOLDER format, serve, race, trial, crew, check or crowd\n";
+const USAGE_LINE: &[u8] =
+    b"usage: clfs FOLDER format, serve, race, trial, crew, check, txn or crowd\n";
 
 // Each row stands behind a stream and an area of client 1, in a log that has just been made.
 const ROWS: [(&str, &str); 16] = [

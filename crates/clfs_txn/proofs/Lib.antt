@@ -22,3 +22,5 @@ mod NextRead
 mod Rounds
 mod LoadParts
 mod LoadWhole
+mod Damage
+mod Between

@@ -20,7 +20,7 @@ ghost use Rattle.clfs_model.specs.Step.{Step};
 ghost use Rattle.clfs_model.specs.declared.reply.Reply.{Reply};
 ghost use Rattle.clfs_txn.specs.Reading.{HasLink, IsAt, IsSet};
 
-use crate::store::TxnStore;
+use crate::table::TableLog;
 use clfs_cells::{Action, RECORD_BYTES, Transaction, TxnRecord, records_are_read_as_written};
 use clfs_disk::Disk;
 use clfs_laws::{
@@ -83,7 +83,7 @@ fn draft_of(
     })
 }
 
-impl<D: Disk> TxnStore<D> {
+impl<D: Disk> TableLog<D> {
     // Appends a transaction's record, of what the area holds.
     pub(crate) fn append(
         &mut self,
@@ -97,6 +97,7 @@ impl<D: Disk> TxnStore<D> {
             (append_call self.old.0.memory (transaction_of t.now) action undo_next flush) replies.Placed result self.new.0.log }
         ensures writes { WritesDisk (IsErrOf result log_refusals.DiskFault) (D.state self.old.1) (D.state self.new.1) }
         ensures kept { IfErr result (λ refusal. is_break refusal ≡ false → self.new.0.log ≡ self.old.0.log) }
+        ensures no_damage { (container offset at : ℕ) → IsErrOf result (log_refusals.Damaged container offset at) → ⊥ }
         ensures memory { self.new.0.memory ≡ self.old.0.memory }
         ensures whole { OnOk result (self.new.0.log.broken ≡ false) }
         ensures linked { IfOk result (λ lsn. HasLink self.new.0.log lsn undo_next) }
@@ -130,6 +131,7 @@ impl<D: Disk> TxnStore<D> {
             (calls.Release self.old.0.memory.area sectors) replies.Held result self.new.0.log }
         ensures calm { IsErrOf result log_refusals.DiskFault → ⊥ }
         ensures fed { IsErrOf result log_refusals.NoMemory → ⊥ }
+        ensures no_damage { (container offset at : ℕ) → IsErrOf result (log_refusals.Damaged container offset at) → ⊥ }
         ensures disk { self.new.1 ≡ self.old.1 }
         ensures memory { self.new.0.memory ≡ self.old.0.memory }
     {

@@ -7,17 +7,14 @@ ghost use Rattle.clfs_cells.specs.declared.asked.TxnCall.TheVariants as asked;
 ghost use Rattle.clfs_cells.specs.declared.told.TxnReply.TheVariants as replies;
 ghost use Rattle.clfs_txn.specs.Calls.{TxnSteps, is_fault};
 
-use crate::store::TxnStore;
+use crate::table::TableLog;
 use clfs_cells::{MOST_TRANSACTIONS, TxnRefusal};
 use clfs_disk::Disk;
 use clfs_model::Refusal;
 
-impl<D: Disk> TxnStore<D> {
-    /// A transaction begins that makes so many sets at most, and this is its number, one above the last. The log holds room for all its records from then on.
-    ///
-    /// Refused in this order: `Log(Broken)`, `TxnLimit`, `IdsSpent`, and what the log refuses: `NotEnoughContainers`, `Full`, and want of memory and of
-    /// the disk. After any refusal but a fault of the disk nothing has changed.
-    pub fn begin(&mut self, changes: u16) -> Result<u32, TxnRefusal>
+impl<D: Disk> TableLog<D> {
+    // A transaction begins that makes so many sets at most.
+    pub(crate) fn begin(&mut self, changes: u16) -> Result<u32, TxnRefusal>
         requires some { 1 ≤ changes }
         requires few { changes ≤ 7 }
         ensures step { (told : Bool) → TxnSteps told self.old.0 (asked.Begin changes) replies.Begun result self.new.0 }

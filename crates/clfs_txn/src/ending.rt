@@ -1,5 +1,5 @@
 // The end of a transaction: its last record, and the room that it holds besides.
-ghost use Rattle.std.specs.Prelude.{◌≡◌, Bool, IfErr, IsErrOf, false, true};
+ghost use Rattle.std.specs.Prelude.{◌≡◌, ℕ, Bool, IfErr, IsErrOf, false, true};
 ghost use Rattle.clfs_cells.specs.declared.told.TxnRefusal.TheVariants as refusals;
 ghost use Rattle.clfs_model.specs.declared.refusal.Refusal.TheVariants as log_refusals;
 ghost use Rattle.clfs_manager.specs.Written.{WritesDisk};
@@ -10,12 +10,12 @@ ghost use Rattle.clfs_cells.specs.Calls.{end_plan};
 ghost use Rattle.clfs_cells.specs.Kept.{transaction_of};
 ghost use Rattle.clfs_txn.specs.Calls.{Carries, TxnSteps, is_of_log};
 
-use crate::store::TxnStore;
+use crate::table::TableLog;
 use clfs_cells::{Action, Transaction, TxnRefusal};
 use clfs_disk::Disk;
 use clfs_lsn::Lsn;
 
-impl<D: Disk> TxnStore<D> {
+impl<D: Disk> TableLog<D> {
     // An open transaction ends so.
     pub(crate) fn end(
         &mut self,
@@ -26,6 +26,7 @@ impl<D: Disk> TxnStore<D> {
         requires { self.old.0.log.broken ≡ false }
         ensures kept { IsErrOf result (refusals.Log log_refusals.NoMemory) → self.new.0 ≡ self.old.0 }
         ensures log { IfErr result (λ refusal. is_of_log refusal ≡ true) }
+        ensures no_damage { (container offset at : ℕ) → IsErrOf result (refusals.Log (log_refusals.Damaged container offset at)) → ⊥ }
         ensures writes { WritesDisk (IsErrOf result (refusals.Log log_refusals.DiskFault)) (D.state self.old.1) (D.state self.new.1) }
         ensures step { (told : Bool) → Carries told self.old.0 (end_plan self.old.0.memory (transaction_of t.now) action flush) (λ _. replies.Done) result self.new.0 }
     {
@@ -40,10 +41,8 @@ impl<D: Disk> TxnStore<D> {
         }
     }
 
-    /// What a transaction did stays: the record of its commit is on the disk when the call answers. Then the transaction isn't open any more.
-    ///
-    /// Refused in this order: `Log(Broken)`, `NoSuchTxn`, and want of memory and of the disk. After want of memory nothing has changed.
-    pub fn commit(&mut self, txn: u32) -> Result<(), TxnRefusal>
+    // What a transaction did stays.
+    pub(crate) fn commit(&mut self, txn: u32) -> Result<(), TxnRefusal>
         ensures step { (told : Bool) → TxnSteps told self.old.0 (asked.Commit txn) (λ _. replies.Done) result self.new.0 }
         ensures kept { IsErrOf result (refusals.Log log_refusals.NoMemory) → self.new.0 ≡ self.old.0 }
         ensures writes { WritesDisk (IsErrOf result (refusals.Log log_refusals.DiskFault)) (D.state self.old.1) (D.state self.new.1) }

@@ -15,6 +15,7 @@ mod loading;
 mod restarting;
 mod setting;
 mod store;
+mod table;
 mod undoing;
 
 pub use loading::TxnLoadRefused;

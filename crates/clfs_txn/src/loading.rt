@@ -26,7 +26,7 @@ ghost use Rattle.clfs_txn.specs.Loading.{GoesForward, IsJoined, IsNotTaken, Take
 ghost use Rattle.clfs_txn.specs.Reading.{IsAt};
 
 use crate::asking::breaks;
-use crate::store::TxnStore;
+use crate::table::TableLog;
 use clfs_cells::{CHECKPOINT_BYTES, Checkpoint, Memory, Replay, TxnLoadRefusal, TxnRecord};
 use clfs_cells_laws::loading_comes_to_the_table;
 use clfs_disk::Disk;
@@ -172,7 +172,7 @@ fn join(reply: Result<LogEntry, Refusal>, replay: &mut Replay) -> Result<bool, T
     }
 }
 
-impl<D: Disk> TxnStore<D> {
+impl<D: Disk> TableLog<D> {
     // The newest restart area of the stream, with a cursor at it.
     fn read_restart(&mut self) -> Result<(u16, LogEntry), Refusal>
         requires { self.old.0.log.broken ≡ false }
@@ -362,7 +362,7 @@ impl<D: Disk> TxnStore<D> {
     }
 
     // A store whose table isn't read yet.
-    fn over(alloc: Global, manager: Manager<D>, memory: Memory) -> TxnStore<D>
+    fn over(alloc: Global, manager: Manager<D>, memory: Memory) -> TableLog<D>
         requires whole { manager.0.broken ≡ false }
         requires client { IsClient memory.client }
         requires none { memory.transactions ≡ [] }
@@ -370,7 +370,7 @@ impl<D: Disk> TxnStore<D> {
         ensures memory { result.0.memory ≡ memory }
         ensures disk { result.1 ≡ manager.1 }
     {
-        TxnStore {
+        TableLog {
             alloc,
             manager,
             memory,
@@ -379,7 +379,7 @@ impl<D: Disk> TxnStore<D> {
     }
 
     // The store with its table, or its log if that can't be read.
-    fn loaded(self) -> Result<TxnStore<D>, TxnLoadRefused<D>>
+    fn loaded(self) -> Result<TableLog<D>, TxnLoadRefused<D>>
         requires whole { self.0.log.broken ≡ false }
         requires unread { self.0.memory ≡ unread self.0.memory.client self.0.memory.area self.0.memory.stream }
         ensures step { LeadsTo Loaded (D.state self.1).nature.tells_contents self.0.memory.client self.0.log
@@ -401,17 +401,12 @@ impl<D: Disk> TxnStore<D> {
         }
     }
 
-    /// The table that a log's stream `txn` keeps, for a client, which gets an area on the stream. If the log has no such stream it gets one, and a stream that
-    /// has no live record gets a restart area of zeros. No transaction is open: what wasn't committed when the log was closed is gone, and what was is there.
-    ///
-    /// Refused in this order: `Broken`; where the stream is to be made, `Dedicated` and `StreamLimit`; where it has no live record, `NotEnoughContainers` and
-    /// `Full`; and `NotATable` where its records are none of a table. Want of memory and of the disk, and damage, may come at any call of the log. After a
-    /// refusal the stream may be there.
-    pub fn load(
+    // The table that a log's stream `txn` keeps, for a client.
+    pub(crate) fn load(
         alloc: Global,
         manager: Manager<D>,
         client: u16,
-    ) -> Result<TxnStore<D>, TxnLoadRefused<D>>
+    ) -> Result<TableLog<D>, TxnLoadRefused<D>>
         requires client { IsClient client }
         requires area { areas_of manager.0 client ≡ [] }
         ensures step { LoadStep (D.state manager.1).nature.tells_contents manager.0 client
@@ -428,7 +423,7 @@ impl<D: Disk> TxnStore<D> {
         manager.stored();
         let mut manager = manager;
         match make_area(alloc, &mut manager, client) {
-            Ok(memory) => TxnStore::over(alloc, manager, memory).loaded(),
+            Ok(memory) => TableLog::over(alloc, manager, memory).loaded(),
             Err(refusal) => {
                 let cause = TxnLoadRefusal::Log(refusal);
                 Err(TxnLoadRefused { manager, cause })

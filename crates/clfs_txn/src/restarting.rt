@@ -12,7 +12,7 @@ ghost use Rattle.clfs_cells.specs.Layout.{checkpoint_bytes};
 ghost use Rattle.clfs_txn.specs.Calls.{TxnSteps, checkpoint_of, is_break, is_fault};
 
 use crate::asking::breaks;
-use crate::store::TxnStore;
+use crate::table::TableLog;
 use clfs_cells::{Checkpoint, TxnRefusal};
 use clfs_disk::Disk;
 use clfs_laws::{
@@ -33,7 +33,7 @@ fn bytes_of(alloc: Global, checkpoint: &Checkpoint) -> Result<Bytes, AllocError>
     Ok(Bytes::from_vec(bytes))
 }
 
-impl<D: Disk> TxnStore<D> {
+impl<D: Disk> TableLog<D> {
     // What the log and the stream are like.
     pub(crate) fn info(&self) -> Result<LogInfo, Refusal>
         requires { self.now.0.log.broken ≡ false }
@@ -92,12 +92,8 @@ impl<D: Disk> TxnStore<D> {
         }
     }
 
-    /// Writes a restart area with all cells, which is on the disk when the call answers. The stream's base is one above the last record before it then,
-    /// so all records below the restart area are given up.
-    ///
-    /// Refused in this order: `Log(Broken)`, `TxnsOpen`, and what the log refuses: `Full`, and want of memory and of the disk. After any refusal but a
-    /// fault of the disk nothing has changed.
-    pub fn checkpoint(&mut self) -> Result<(), TxnRefusal>
+    // Writes a restart area with all cells.
+    pub(crate) fn checkpoint(&mut self) -> Result<(), TxnRefusal>
         ensures step { (told : Bool) → TxnSteps told self.old.0 asked.Checkpoint (λ _. replies.Done) result self.new.0 }
         ensures writes { WritesDisk (IsErrOf result (refusals.Log log_refusals.DiskFault)) (D.state self.old.1) (D.state self.new.1) }
         ensures kept { IfErr result (λ refusal. is_fault refusal ≡ false → self.new.0 ≡ self.old.0) }

@@ -10,12 +10,12 @@ ghost use Rattle.clfs_cells.specs.Kept.{transaction_of};
 ghost use Rattle.clfs_cells.specs.Stored.{transaction};
 ghost use Rattle.clfs_txn.specs.Calls.{IsFound, IsNotFound, TxnSteps, is_fault};
 
-use crate::store::TxnStore;
+use crate::table::TableLog;
 use clfs_cells::{Action, Change, Transaction, TxnRefusal};
 use clfs_disk::Disk;
 use clfs_model::Refusal;
 
-impl<D: Disk> TxnStore<D> {
+impl<D: Disk> TableLog<D> {
     // The open transaction of a number, unless the log is broken.
     pub(crate) fn open_transaction(&self, txn: u32) -> Result<Transaction, TxnRefusal>
         ensures { MatchResult result (λ t. IsFound self.now.0 txn (transaction_of t)) (λ refusal. IsNotFound self.now.0 txn refusal) }
@@ -73,11 +73,8 @@ impl<D: Disk> TxnStore<D> {
         }
     }
 
-    /// A transaction sets a cell, which has the value from then on.
-    ///
-    /// Refused in this order: `Log(Broken)`, `NoSuchTxn`, `CellHeld`, `ChangesSpent`, and want of memory and of the disk. After any refusal but a fault of
-    /// the disk nothing has changed.
-    pub fn set(&mut self, txn: u32, cell: u16, value: u64) -> Result<(), TxnRefusal>
+    // A transaction sets a cell.
+    pub(crate) fn set(&mut self, txn: u32, cell: u16, value: u64) -> Result<(), TxnRefusal>
         requires { cell < 32 }
         ensures step { (told : Bool) → TxnSteps told self.old.0 (asked.Set txn cell value) (λ _. replies.Done) result self.new.0 }
         ensures writes { WritesDisk (IsErrOf result (refusals.Log log_refusals.DiskFault)) (D.state self.old.1) (D.state self.new.1) }

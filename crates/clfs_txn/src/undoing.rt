@@ -4,6 +4,7 @@ ghost use Rattle.std.specs.Prelude.{◌≡◌, ◌<◌, ◌≤◌, ℕ, Bool, If
 ghost use Rattle.clfs_cells.specs.declared.told.TxnRefusal.TheVariants as refusals;
 ghost use Rattle.clfs_model.specs.declared.refusal.Refusal.TheVariants as log_refusals;
 ghost use Rattle.clfs_lsn.specs.declared.cursor.Mode.TheVariants.{UndoNext};
+ghost use Rattle.clfs_disk.specs.State.{TellsContents};
 ghost use Rattle.clfs_manager.specs.Written.{WritesDisk};
 ghost use Rattle.clfs_cells.specs.declared.asked.TxnCall.TheVariants as asked;
 ghost use Rattle.clfs_cells.specs.declared.told.TxnReply.TheVariants as replies;
@@ -14,7 +15,7 @@ ghost use Rattle.clfs_cells.specs.Stored.{Memory, standing, transaction};
 ghost use Rattle.clfs_txn.specs.Calls.{HasSameArea, IsFound, Leads, TxnSteps, is_of_log, or_ended, or_stopped};
 ghost use Rattle.clfs_txn.specs.Reading.{IsAt, IsSet, IsSetOf};
 
-use crate::store::TxnStore;
+use crate::table::TableLog;
 use clfs_cells::{Action, Change, Made, Transaction, TxnRefusal};
 use clfs_disk::Disk;
 use clfs_lsn::Lsn;
@@ -31,7 +32,7 @@ fn compensation(made: &Made) -> Action
     })
 }
 
-impl<D: Disk> TxnStore<D> {
+impl<D: Disk> TableLog<D> {
     // The open transaction of a number, and its set of an LSN.
     fn set_at(&self, number: u32, lsn: Lsn) -> (Transaction, Made)
         requires { IsSet self.now.0.memory number lsn }
@@ -49,6 +50,7 @@ impl<D: Disk> TxnStore<D> {
         ensures step { (told : Bool) (cursor : ℕ) (rest : Memory → Plan Answered) → Leads told self.old.0.memory.client self.old.0.log
             (undo_set self.old.0.memory number cursor lsn rest) self.new.0.log (or_ended cursor rest result self.new.0.memory) }
         ensures writes { WritesDisk (IsErrOf result log_refusals.DiskFault) (D.state self.old.1) (D.state self.new.1) }
+        ensures no_damage { (container offset at : ℕ) → IsErrOf result (log_refusals.Damaged container offset at) → ⊥ }
         ensures whole { OnOk result (self.new.0.log.broken ≡ false) }
         ensures area { HasSameArea self.old.0.memory self.new.0.memory }
         ensures set { OnOk result (IsSet self.new.0.memory number lsn) }
@@ -80,6 +82,7 @@ impl<D: Disk> TxnStore<D> {
             (undo_from more self.old.0.memory number cursor first rest) self.new.0.log
             (with_read_ended self.new.0.memory cursor (or_stopped rest result self.new.0.memory)) }
         ensures writes { WritesDisk (IsErrOf result log_refusals.DiskFault) (D.state self.old.1) (D.state self.new.1) }
+        ensures damage { TellsContents (D.state self.old.1) → (container offset at : ℕ) → IsErrOf result (log_refusals.Damaged container offset at) → ⊥ }
         ensures whole { OnOk result (self.new.0.log.broken ≡ false) }
         ensures area { HasSameArea self.old.0.memory self.new.0.memory }
         ensures still { OnOk result (IsSome (transaction self.new.0.memory number)) }
@@ -100,6 +103,7 @@ impl<D: Disk> TxnStore<D> {
         ensures step { (rest : Memory → Plan Answered) → Leads (D.state self.old.1).nature.tells_contents self.old.0.memory.client self.old.0.log
             (undo_sets count self.old.0.memory (transaction_of t.now) rest) self.new.0.log (or_stopped rest result self.new.0.memory) }
         ensures writes { WritesDisk (IsErrOf result log_refusals.DiskFault) (D.state self.old.1) (D.state self.new.1) }
+        ensures damage { TellsContents (D.state self.old.1) → (container offset at : ℕ) → IsErrOf result (log_refusals.Damaged container offset at) → ⊥ }
         ensures whole { OnOk result (self.new.0.log.broken ≡ false) }
         ensures area { HasSameArea self.old.0.memory self.new.0.memory }
         ensures still { OnOk result (IsSome (transaction self.new.0.memory (transaction_of t.now).number)) }
@@ -118,6 +122,7 @@ impl<D: Disk> TxnStore<D> {
         requires { IsFound self.old.0 txn (transaction_of t.now) }
         ensures step { TxnSteps (D.state self.old.1).nature.tells_contents self.old.0 (asked.Back txn kept) (λ _. replies.Done) result self.new.0 }
         ensures writes { WritesDisk (IsErrOf result (refusals.Log log_refusals.DiskFault)) (D.state self.old.1) (D.state self.new.1) }
+        ensures damage { TellsContents (D.state self.old.1) → (container offset at : ℕ) → IsErrOf result (refusals.Log (log_refusals.Damaged container offset at)) → ⊥ }
         ensures kept { IfErr result (λ refusal. is_of_log refusal ≡ false → self.new.0 ≡ self.old.0) }
     {
         let have = t.standing();
@@ -130,14 +135,11 @@ impl<D: Disk> TxnStore<D> {
         }
     }
 
-    /// A transaction's sets are taken back, the newest first, until so many stand. Each cell has the value then that it had before the sets of it
-    /// that were taken back.
-    ///
-    /// Refused in this order: `Log(Broken)`, `NoSuchTxn`, `KeptTooMany`, and want of memory and of the disk. After want of memory some sets may be
-    /// taken back, and the call may be made again; after the others but a fault of the disk nothing has changed.
-    pub fn back(&mut self, txn: u32, kept: u16) -> Result<(), TxnRefusal>
+    // A transaction's sets are taken back, the newest first, until so many stand.
+    pub(crate) fn back(&mut self, txn: u32, kept: u16) -> Result<(), TxnRefusal>
         ensures step { TxnSteps (D.state self.old.1).nature.tells_contents self.old.0 (asked.Back txn kept) (λ _. replies.Done) result self.new.0 }
         ensures writes { WritesDisk (IsErrOf result (refusals.Log log_refusals.DiskFault)) (D.state self.old.1) (D.state self.new.1) }
+        ensures damage { TellsContents (D.state self.old.1) → (container offset at : ℕ) → IsErrOf result (refusals.Log (log_refusals.Damaged container offset at)) → ⊥ }
         ensures kept { IfErr result (λ refusal. is_of_log refusal ≡ false → self.new.0 ≡ self.old.0) }
         ensures stopped { self.old.0.log.broken ≡ true → self.new.1 ≡ self.old.1 }
     {
@@ -152,6 +154,7 @@ impl<D: Disk> TxnStore<D> {
         requires { IsFound self.old.0 txn (transaction_of t.now) }
         ensures step { TxnSteps (D.state self.old.1).nature.tells_contents self.old.0 (asked.Rollback txn) (λ _. replies.Done) result self.new.0 }
         ensures writes { WritesDisk (IsErrOf result (refusals.Log log_refusals.DiskFault)) (D.state self.old.1) (D.state self.new.1) }
+        ensures damage { TellsContents (D.state self.old.1) → (container offset at : ℕ) → IsErrOf result (refusals.Log (log_refusals.Damaged container offset at)) → ⊥ }
         ensures kept { IfErr result (λ refusal. is_of_log refusal ≡ true) }
     {
         if let Err(refusal) = self.undo_sets(t, t.standing()) {
@@ -163,13 +166,11 @@ impl<D: Disk> TxnStore<D> {
         }
     }
 
-    /// All that a transaction did is taken back, and it isn't open any more. Each cell that it set has the value then that it had before.
-    ///
-    /// Refused in this order: `Log(Broken)`, `NoSuchTxn`, and want of memory and of the disk. After want of memory some sets may be taken back, and
-    /// the call may be made again.
-    pub fn rollback(&mut self, txn: u32) -> Result<(), TxnRefusal>
+    // All that a transaction did is taken back, and it ends.
+    pub(crate) fn rollback(&mut self, txn: u32) -> Result<(), TxnRefusal>
         ensures step { TxnSteps (D.state self.old.1).nature.tells_contents self.old.0 (asked.Rollback txn) (λ _. replies.Done) result self.new.0 }
         ensures writes { WritesDisk (IsErrOf result (refusals.Log log_refusals.DiskFault)) (D.state self.old.1) (D.state self.new.1) }
+        ensures damage { TellsContents (D.state self.old.1) → (container offset at : ℕ) → IsErrOf result (refusals.Log (log_refusals.Damaged container offset at)) → ⊥ }
         ensures kept { IfErr result (λ refusal. is_of_log refusal ≡ false → self.new.0 ≡ self.old.0) }
         ensures stopped { self.old.0.log.broken ≡ true → self.new.1 ≡ self.old.1 }
     {

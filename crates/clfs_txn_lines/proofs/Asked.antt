@@ -1,7 +1,7 @@
 -- What a call of a store answered, as the answer to what a line asks for.
-use Rattle.std.proofs.Common.{◌≡◌, ◌∙◌, Result, Ok, Err, true, ap, sym, subst}
+use Rattle.std.proofs.Common.{◌≡◌, ◌∙◌, ℕ, Bool, Result, Ok, Err, true, false, ap, refl, sym, subst}
 use Rattle.std.specs.Prelude.{IsErrOf, OnErr}
-use Rattle.clfs_disk.specs.State.{DiskState}
+use Rattle.clfs_disk.specs.State.{DiskState, TellsContents}
 use Rattle.clfs_model.specs.declared.refusal.Refusal.TheVariants as log_refusals
 use Rattle.clfs_manager.specs.Written.{WritesDisk}
 use Rattle.clfs_cells.specs.declared.asked.TxnCall.{TxnCall}
@@ -11,6 +11,7 @@ use Rattle.clfs_cells.specs.declared.told.TxnReply.{TxnReply}
 use Rattle.clfs_cells.specs.declared.told.TxnReply.TheVariants.{Refused}
 use Rattle.clfs_cells.specs.Calls.{TxnStep}
 use Rattle.clfs_cells.specs.Stored.{Store}
+use Rattle.clfs_cells_laws.specs.Breaking.{reads_back, tells_table_damage}
 use Rattle.clfs_txn.specs.Calls.{TxnSteps, replied}
 use Rattle.clfs_txn_lines.specs.Answered.{AnswersAsked, fault_reply}
 
@@ -36,16 +37,34 @@ writes_as old new P Q to from writes = record {
 pub answered_as : {A : Type 0} (D : Type 0) (state : D → DiskState) (old new : D) (s t : Store) (call : TxnCall) (answer : A → TxnReply) (result : Result A TxnRefusal) (reply : TxnReply)
     → ((value : A) → answer value ≡ fault_reply → ⊥) → reply ≡ replied answer result → TxnSteps (state old).nature.tells_contents s call answer result t
     → WritesDisk (IsErrOf result (Log log_refusals.DiskFault)) (state old) (state new) → (s.log.broken ≡ true → new ≡ old)
-    → AnswersAsked s (state old) (Ok call) reply t (state new)
-answered_as D state old new s t call answer result reply never is step writes stopped = record {
+    → (TellsContents (state old) → tells_table_damage reply ≡ false) → AnswersAsked s (state old) (Ok call) reply t (state new)
+answered_as D state old new s t call answer result reply never is step writes stopped damage = record {
   step = subst (λ (r : TxnReply). TxnStep (state old).nature.tells_contents s call r t) (sym is) step;
   writes = writes_as (state old) (state new) (IsErrOf result (Log log_refusals.DiskFault)) (reply ≡ fault_reply)
       (fault_reply_of _ answer result reply is) (fault_of_reply answer result reply never is) writes;
+  damage = damage;
   stopped = λ broken. record {
     clock = ap (λ (d : D). (state d).clock) (stopped broken);
     images = λ moment image at. subst (λ (d : D). (state d).image_at moment image) (stopped broken) at;
   };
 }
+
+-- a call that doesn't read tells no damage
+pub quiet_reply : {A : Type 0} → ((told : Bool) (s : Store) (call : TxnCall) (reply : TxnReply) (t : Store) → reads_back call ≡ false → TxnStep told s call reply t
+    → tells_table_damage reply ≡ false) → (told : Bool) (s t : Store) (call : TxnCall) (answer : A → TxnReply) (result : Result A TxnRefusal) (reply : TxnReply)
+    → reads_back call ≡ false → reply ≡ replied answer result → TxnSteps told s call answer result t → tells_table_damage reply ≡ false
+quiet_reply quiet told s t call answer result reply unread is step = ap tells_table_damage is ∙ quiet told s call (replied answer result) t unread step
+
+-- a call that reads tells none where its refusal isn't one
+pub no_damage_reply : {A : Type 0} (answer : A → TxnReply) (result : Result A TxnRefusal) (reply : TxnReply) → ((value : A) → tells_table_damage (answer value) ≡ false)
+    → reply ≡ replied answer result → ((container offset at : ℕ) → IsErrOf result (Log (log_refusals.Damaged container offset at)) → ⊥) → tells_table_damage reply ≡ false
+no_damage_reply answer (Ok value) reply fine is none = ap tells_table_damage is ∙ fine value
+no_damage_reply answer (Err refusal) reply fine is none = ap tells_table_damage is ∙ by_refusal refusal none
+  where
+    by_refusal : {B : Type 0} (given : TxnRefusal) → ((container offset at : ℕ) → IsErrOf {T = B} (Err given) (Log (log_refusals.Damaged container offset at)) → ⊥)
+        → tells_table_damage (Refused given) ≡ false
+    by_refusal (Log (log_refusals.Damaged container offset at)) never = absurd (never container offset at refl)
+    by_refusal _ never = refl
 
 -- what is so holds also if there is an error
 pub if_refused : {T E P : Type 0} (result : Result T E) → P → OnErr result P

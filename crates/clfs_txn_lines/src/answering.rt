@@ -7,6 +7,7 @@ ghost use Rattle.clfs_txn_script.specs.Asked.{IsInRange};
 ghost use Rattle.clfs_txn_lines.specs.Answered.{AnswersAsked};
 
 use clfs_cells::{TxnCall, TxnRefusal, TxnReply};
+use clfs_cells_laws::only_faults_break_a_store;
 use clfs_disk::Disk;
 use clfs_lines::Answering;
 use clfs_lsn::Bytes;
@@ -41,6 +42,7 @@ fn reply_to<D: Disk>(store: &mut TxnStore<D>, call: TxnCall) -> TxnReply
     requires { IsInRange call }
     ensures { AnswersAsked store.old.0 (D.state store.old.1) (Ok call) result store.new.0 (D.state store.new.1) }
 {
+    only_faults_break_a_store();
     match call {
         TxnCall::Begin { changes } => begun(store.begin(changes)),
         TxnCall::Set { txn, cell, value } => done(store.set(txn, cell, value)),

@@ -4,7 +4,7 @@ use Rattle.clap.specs.Words.{App, app_of, shape_of, with_subcommand}
 use Rattle.clap.specs.Simple.{app_of_fields, on_top}
 use Rattle.clap.specs.declared.builder.command.Command.{Command}
 use Rattle.clap.specs.declared.builder.command.Command.TheViews.{out-Command}
-use Rattle.clfs_command.specs.Line.{format_line, serve_line, race_line, trial_line, crew_line, check_line, crowd_line, dump_line}
+use Rattle.clfs_command.specs.Line.{format_line, serve_line, race_line, trial_line, crew_line, check_line, crowd_line, dump_line, txn_line}
 use Rattle.clfs_command.proofs.line.command_line.Goals as goal
 
 -- a command that uses none of the settings that change how words are read has no option for all levels
@@ -36,5 +36,7 @@ returns c =
     let sixth = c.in_ok-subcommand-6.ensures.shape (joined _ _ check refl) ∙ ap₂ with_subcommand fifth (ap (λ (x : App). x.top) check) in
     let seventh = c.in_ok-subcommand-7.ensures.shape (joined _ _ crowd refl) ∙ ap₂ with_subcommand sixth (ap (λ (x : App). x.top) crowd) in
     let dump : app_of c.in_ok-dump_line.field-0 ≡ dump_line = c.in_ok-dump_line.ensures in
-    IfOk-weaker c.subcommand-8.result _ _
-    (λ r added. added.shape (joined _ _ dump refl) ∙ ap₂ with_subcommand seventh (ap (λ (x : App). x.top) dump)) c.subcommand-8.ensures
+    let eighth = c.in_ok-subcommand-8.ensures.shape (joined _ _ dump refl) ∙ ap₂ with_subcommand seventh (ap (λ (x : App). x.top) dump) in
+    let txn : app_of c.txn_line.result ≡ txn_line = c.txn_line.ensures in
+    IfOk-weaker c.subcommand-9.result _ _
+    (λ r added. added.shape (joined _ _ txn refl) ∙ ap₂ with_subcommand eighth (ap (λ (x : App). x.top) txn)) c.subcommand-9.ensures

@@ -2,6 +2,7 @@ use Rattle.std.proofs.Common.{[], arith}
 use Rattle.std.proofs.KnownBytes.{Consumes-nil}
 use Rattle.clfs_engine.proofs.RaceEnds.{race_without_memory}
 use Rattle.clfs_engine.proofs.RaceThrough.{race_ran_out}
+use Rattle.clfs_engine.proofs.TxnThrough.{table_ran_out}
 use Rattle.clfs_engine.proofs.program.run.Goals as goal
 
 pub returns-in-Err-NoMemory-clause-races : goal.returns-in-Err-NoMemory-clause-races
@@ -14,3 +15,7 @@ pub returns-in-Err-NoMemory-clause-racing_comes_through : goal.returns-in-Err-No
 returns-in-Err-NoMemory-clause-racing_comes_through g c = λ buffers is calm.
     race_ran_out buffers (g.D.Disk.state c.args.disk) (g.S.Source.left c.args.source.now) (g.S.Source.left c.args.source.now)
     (g.K.Sink.written c.args.sink.now) (g.K.Sink.written c.args.sink.now)
+
+pub returns-in-Err-NoMemory-clause-table_comes_through : goal.returns-in-Err-NoMemory-clause-table_comes_through
+returns-in-Err-NoMemory-clause-table_comes_through g c = λ is calm.
+    table_ran_out (g.D.Disk.state c.args.disk) (g.S.Source.left c.args.source.now) (g.K.Sink.written c.args.sink.now)

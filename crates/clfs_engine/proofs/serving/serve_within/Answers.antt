@@ -1,4 +1,3 @@
-use Rattle.clfs_lines.specs.Through.{AnswersThrough, AnswersInPart}
 use Rattle.clfs_lines.specs.Taken.{script_limits}
 use Rattle.clfs_engine.proofs.Lines.{answered_lines, answered_in_part}
 use Rattle.clfs_engine.proofs.Loaded.{IsLoaded, IsKeptOn, is_answered, is_answered_in_part}

@@ -1,60 +1,24 @@
-use Rattle.std.proofs.Common.{◌≡◌, ap, ◌+◌, ◌∙◌, sym, refl, false, length}
-use Rattle.clfs_txn.proofs.Breaking.{same_store}
-use Rattle.clfs_txn.proofs.Begun.{broken, limit_of, spent, refused, done, some_room, is_last, is_not_last}
-use Rattle.clfs_cells.specs.Stored.{with_begun}
-use Rattle.clfs_txn.specs.Kept.{store_of}
-use Rattle.clfs_txn.proofs.Written.{at_once, of_log, of_ok}
+use Rattle.std.proofs.Common.{false, ◌≡◌, true}
+use Rattle.clfs_model.specs.declared.refusal.Refusal.{Refusal}
+use Rattle.clfs_cells.specs.declared.asked.TxnCall.TheVariants as asked
+use Rattle.clfs_cells.specs.declared.told.TxnReply.TheVariants as replies
+use Rattle.clfs_cells_laws.specs.Steps.{for_room_or_outside}
+use Rattle.clfs_txn.proofs.Between.{if_done, if_refused, went}
 use Rattle.clfs_txn.proofs.store.TxnStore.begin.Goals as goal
 
-pub returns-then-self : goal.returns-then-self
-returns-then-self g c = record {
-  step = λ told. broken told c.args.self.now.0 c.args.changes (sym (ap (λ v. v.0.log.broken) c.self.view_is) ∙ (sym c.self.invariant.knows ∙ c.if-self.true));
-  writes = at_once _ _ refl;
-  kept = λ _. refl;
-  stopped = λ _. refl;
-}
+pub invariant_of-self : goal.invariant_of-self
+invariant_of-self g c =
+    let so = went true c.self.inside.table c.args.self.now (asked.Begin c.args.changes) replies.Begun c.begin.result c.begin.new.self.0 c.self.view_is c.self.invariant (c.begin.ensures.step true) in
+    c.calls_keep_a_store.ensures.kept false true c.args.self.now.0 c.begin.new.self.0 (asked.Begin c.args.changes) _ tt so.kept so.step
 
-pub returns-then-open_now-eq-MOST_TRANSACTIONS : goal.returns-then-open_now-eq-MOST_TRANSACTIONS
-returns-then-open_now-eq-MOST_TRANSACTIONS g c =
-    let whole : c.args.self.now.0.log.broken ≡ false = sym (ap (λ v. v.0.log.broken) c.self.view_is) ∙ (sym c.self.invariant.knows ∙ c.if-self.false) in
-    let count = c.open_now-open_now.ensures.count ∙ ap (λ v. length v.0.memory.transactions) c.self.view_is in
-    record { step = λ told. limit_of told c.args.self.now.0 c.args.changes c.open_now-open_now.result whole count c.if-open_now-eq-MOST_TRANSACTIONS.true; writes = at_once _ _ refl; kept = λ _. refl; stopped = λ e. absurd (cc (e, whole)) }
+pub returns-clause-begun : goal.returns-clause-begun
+returns-clause-begun g c =
+    let so = went true c.self.inside.table c.args.self.now (asked.Begin c.args.changes) replies.Begun c.begin.result c.begin.new.self.0 c.self.view_is c.self.invariant (c.begin.ensures.step true) in
+    if_done true c.args.self.now.0 c.begin.new.self.0 (asked.Begin c.args.changes) replies.Begun c.begin.result
+    (λ value step. c.calls_leave_the_cells_so.ensures.begin false true c.args.self.now.0 c.begin.new.self.0 c.args.changes value so.kept step) so.step
 
-pub returns-then-last : goal.returns-then-last
-returns-then-last g c =
-    let whole : c.args.self.now.0.log.broken ≡ false = sym (ap (λ v. v.0.log.broken) c.self.view_is) ∙ (sym c.self.invariant.knows ∙ c.if-self.false) in
-    let count = c.open_now-open_now.ensures.count ∙ ap (λ v. length v.0.memory.transactions) c.self.view_is in
-    let room = some_room c.open_now-open_now.result _ count c.open_now-open_now.ensures.few c.if-open_now-eq-MOST_TRANSACTIONS.false in
-    let last = is_last c.last.result _ (c.last.ensures ∙ ap (λ v. v.0.memory.last) c.self.view_is) c.if-last.true in
-    record { step = λ told. spent told c.args.self.now.0 c.args.changes whole room last; writes = at_once _ _ refl; kept = λ _. refl; stopped = λ e. absurd (cc (e, whole)) }
-
-pub returns-in-Ok : goal.returns-in-Ok
-returns-in-Ok g c =
-    let whole : c.args.self.now.0.log.broken ≡ false = sym (ap (λ v. v.0.log.broken) c.self.view_is) ∙ (sym c.self.invariant.knows ∙ c.if-self.false) in
-    let count = c.open_now-open_now.ensures.count ∙ ap (λ v. length v.0.memory.transactions) c.self.view_is in
-    let room = some_room c.open_now-open_now.result _ count c.open_now-open_now.ensures.few c.if-open_now-eq-MOST_TRANSACTIONS.false in
-    let last = is_not_last c.last.result _ (c.last.ensures ∙ ap (λ v. v.0.memory.last) c.self.view_is) c.if-last.false in
-    let same = ap (λ v. v.0.memory) c.self-2.view_is ∙ c.in-Ok.ensures.memory in
-    let log = ap (λ v. v.0.log) c.self-2.view_is in
-    record {
-      step = λ told.
-          done told c.args.self.now.0 c.args.changes c.in-Ok.field-0 c.begin.result (store_of c.self-2.inside.manager.0 c.begin.new.self) whole room last
-          (rw log (c.in-Ok.ensures.step told)) (c.begin.ensures.number ∙ ap (λ m. m.last + 1) same) (c.begin.ensures.begun ∙ ap (with_begun c.args.changes) same);
-      writes = of_ok _ _ _ c.in-Ok.field-0 (λ f. absurd (cc f)) (rw (ap (λ v. v.1) c.self-2.view_is) c.in-Ok.ensures.writes);
-      kept = tt;
-      stopped = λ e. absurd (cc (e, whole));
-    }
-
-pub returns-in-Err : goal.returns-in-Err
-returns-in-Err g c =
-    let whole : c.args.self.now.0.log.broken ≡ false = sym (ap (λ v. v.0.log.broken) c.self.view_is) ∙ (sym c.self.invariant.knows ∙ c.if-self.false) in
-    let count = c.open_now-open_now.ensures.count ∙ ap (λ v. length v.0.memory.transactions) c.self.view_is in
-    let room = some_room c.open_now-open_now.result _ count c.open_now-open_now.ensures.few c.if-open_now-eq-MOST_TRANSACTIONS.false in
-    let last = is_not_last c.last.result _ (c.last.ensures ∙ ap (λ v. v.0.memory.last) c.self.view_is) c.if-last.false in
-    record {
-      step = λ told.
-          refused told c.args.self.now.0 c.args.changes c.in-Err.refusal c.reserve.new.self.0 whole room last (c.in-Err.ensures.step told) c.in-Err.ensures.memory;
-      writes = of_log _ _ c.in-Err.refusal c.in-Err.ensures.writes;
-      kept = λ fine. same_store _ _ (c.in-Err.ensures.kept fine) c.in-Err.ensures.memory;
-      stopped = λ e. absurd (cc (e, whole));
-    }
+pub returns-clause-refused : goal.returns-clause-refused
+returns-clause-refused g c =
+    let so = went true c.self.inside.table c.args.self.now (asked.Begin c.args.changes) replies.Begun c.begin.result c.begin.new.self.0 c.self.view_is c.self.invariant (c.begin.ensures.step true) in
+    if_refused (λ (given : Refusal). for_room_or_outside given ≡ true) true c.args.self.now.0 c.begin.new.self.0 (asked.Begin c.args.changes) replies.Begun c.begin.result
+    (λ given step. c.a_transaction_has_its_room.ensures.begin false true c.args.self.now.0 c.begin.new.self.0 c.args.changes given so.kept step) so.step

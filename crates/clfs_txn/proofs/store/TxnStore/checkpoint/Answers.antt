@@ -1,17 +1,16 @@
-use Rattle.std.proofs.Common.{ap, ◌∙◌, sym, refl, length}
-use Rattle.clfs_txn.proofs.Restarts.{broken, some_open}
-use Rattle.clfs_txn.proofs.Written.{at_once}
+use Rattle.std.proofs.Common.{false, true}
+use Rattle.clfs_cells.specs.declared.asked.TxnCall.TheVariants as asked
+use Rattle.clfs_cells.specs.declared.told.TxnReply.TheVariants as replies
+use Rattle.clfs_txn.proofs.Between.{if_done, went}
 use Rattle.clfs_txn.proofs.store.TxnStore.checkpoint.Goals as goal
 
-pub returns-then-self : goal.returns-then-self
-returns-then-self g c = record {
-  step = λ told. broken told c.args.self.now.0 (sym (ap (λ v. v.0.log.broken) c.self.view_is) ∙ (sym c.self.invariant.knows ∙ c.if-self.true));
-  writes = at_once _ _ refl;
-  kept = λ _. refl;
-  stopped = λ _. refl;
-}
+pub invariant_of-self : goal.invariant_of-self
+invariant_of-self g c =
+    let so = went true c.self.inside.table c.args.self.now (asked.Checkpoint) (λ _. replies.Done) c.checkpoint.result c.checkpoint.new.self.0 c.self.view_is c.self.invariant (c.checkpoint.ensures.step true) in
+    c.calls_keep_a_store.ensures.kept false true c.args.self.now.0 c.checkpoint.new.self.0 (asked.Checkpoint) _ tt so.kept so.step
 
-pub returns-then-open_now-gt0-clause-step : goal.returns-then-open_now-gt0-clause-step
-returns-then-open_now-gt0-clause-step g c = λ told.
-    some_open told c.args.self.now.0 c.open_now-open_now.result (sym (ap (λ v. v.0.log.broken) c.self.view_is) ∙ (sym c.self.invariant.knows ∙ c.if-self.false))
-    (c.open_now-open_now.ensures.count ∙ ap (λ v. length v.0.memory.transactions) c.self.view_is) c.if-open_now-gt0.true
+pub returns-clause-cells : goal.returns-clause-cells
+returns-clause-cells g c =
+    let so = went true c.self.inside.table c.args.self.now (asked.Checkpoint) (λ _. replies.Done) c.checkpoint.result c.checkpoint.new.self.0 c.self.view_is c.self.invariant (c.checkpoint.ensures.step true) in
+    if_done true c.args.self.now.0 c.checkpoint.new.self.0 (asked.Checkpoint) (λ _. replies.Done) c.checkpoint.result
+    (λ _ step. c.calls_leave_the_cells_so.ensures.checkpoint false true c.args.self.now.0 c.checkpoint.new.self.0 so.kept step) so.step

@@ -1,25 +1,24 @@
-use Rattle.std.proofs.Common.{refl}
+use Rattle.std.proofs.Common.{false, ◌≡◌, true, refl}
+use Rattle.clfs_model.specs.declared.refusal.Refusal.{Refusal}
 use Rattle.clfs_cells.specs.declared.asked.TxnCall.TheVariants as asked
-use Rattle.clfs_cells.specs.Kept.{transaction_of}
-use Rattle.clfs_txn.proofs.Carried.{step_is}
-use Rattle.clfs_txn.proofs.Sets.{goes_on, not_found}
-use Rattle.clfs_txn.proofs.Written as written
+use Rattle.clfs_cells.specs.declared.told.TxnReply.TheVariants as replies
+use Rattle.clfs_cells_laws.specs.Steps.{from_outside}
+use Rattle.clfs_txn.proofs.Between.{if_done, if_refused, went}
 use Rattle.clfs_txn.proofs.store.TxnStore.commit.Goals as goal
 
-pub returns-in-Ok : goal.returns-in-Ok
-returns-in-Ok g c = record {
-  step = λ told.
-      step_is told c.args.self.now.0 (asked.Commit c.args.txn) _ c.end.new.self.0 _
-      (goes_on c.args.self.now.0 (asked.Commit c.args.txn) c.args.txn (transaction_of c.in-Ok.t) _ refl c.in-Ok.ensures) (c.end.ensures.step told);
-  kept = c.end.ensures.kept;
-  writes = c.end.ensures.writes;
-  stopped = λ e. let whole = c.in-Ok.ensures.whole in absurd (cc (e, whole));
-}
+pub invariant_of-self : goal.invariant_of-self
+invariant_of-self g c =
+    let so = went true c.self.inside.table c.args.self.now (asked.Commit c.args.txn) (λ _. replies.Done) c.commit.result c.commit.new.self.0 c.self.view_is c.self.invariant (c.commit.ensures.step true) in
+    c.calls_keep_a_store.ensures.kept false true c.args.self.now.0 c.commit.new.self.0 (asked.Commit c.args.txn) _ tt so.kept so.step
 
-pub returns-in-Err : goal.returns-in-Err
-returns-in-Err g c = record {
-  step = λ told. not_found told c.args.self.now.0 (asked.Commit c.args.txn) c.args.txn c.in-Err.refusal _ refl c.in-Err.ensures;
-  kept = λ _. refl;
-  writes = written.at_once _ _ (written.not_found c.args.self.now.0 c.args.txn c.in-Err.refusal c.in-Err.ensures);
-  stopped = λ _. refl;
-}
+pub returns-clause-ended : goal.returns-clause-ended
+returns-clause-ended g c =
+    let so = went true c.self.inside.table c.args.self.now (asked.Commit c.args.txn) (λ _. replies.Done) c.commit.result c.commit.new.self.0 c.self.view_is c.self.invariant (c.commit.ensures.step true) in
+    if_done true c.args.self.now.0 c.commit.new.self.0 (asked.Commit c.args.txn) (λ _. replies.Done) c.commit.result
+    (λ _ step. c.calls_leave_the_cells_so.ensures.commit false true c.args.self.now.0 c.commit.new.self.0 c.args.txn so.kept step) so.step
+
+pub returns-clause-room : goal.returns-clause-room
+returns-clause-room g c =
+    let so = went true c.self.inside.table c.args.self.now (asked.Commit c.args.txn) (λ _. replies.Done) c.commit.result c.commit.new.self.0 c.self.view_is c.self.invariant (c.commit.ensures.step true) in
+    if_refused (λ (given : Refusal). from_outside given ≡ true) true c.args.self.now.0 c.commit.new.self.0 (asked.Commit c.args.txn) (λ _. replies.Done) c.commit.result
+    (λ given step. c.a_transaction_has_its_room.ensures.within false true c.args.self.now.0 c.commit.new.self.0 (asked.Commit c.args.txn) given tt refl so.kept step) so.step

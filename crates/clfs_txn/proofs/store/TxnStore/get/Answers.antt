@@ -1,8 +1,0 @@
-use Rattle.std.proofs.Common.{ap, ◌∙◌}
-use Rattle.std.specs.Prelude.{slice_index}
-use Rattle.clfs_txn.proofs.Begun.{told_value}
-use Rattle.clfs_txn.proofs.store.TxnStore.get.Goals as goal
-
-pub returns-clause-step : goal.returns-clause-step
-returns-clause-step g c = λ told.
-    told_value told c.args.self.now.0 c.args.cell c.cell.result (c.cell.ensures ∙ ap (λ v. slice_index v.0.memory.cells c.args.cell) c.self.view_is)

@@ -1,0 +1,27 @@
+use Rattle.clfs_cells.specs.Calls.{answers}
+use Rattle.clfs_cells.specs.declared.told.TxnReply.TheVariants as replies
+use Rattle.clfs_cells.specs.Kept.{transaction_of}
+use Rattle.clfs_txn.proofs.Backs.{backs_done, backs_refused, too_many}
+use Rattle.clfs_txn.proofs.Written.{of_log}
+use Rattle.clfs_txn.proofs.Damage.{of_the_log}
+use Rattle.clfs_txn.proofs.table.TableLog.back_open.Goals as goal
+
+pub returns-then-have-kept-clause-step : goal.returns-then-have-kept-clause-step
+returns-then-have-kept-clause-step g c =
+    too_many _ c.args.self.now.0 c.args.txn c.args.kept c.standing-have.result (transaction_of c.args.t.now) c.requires c.standing-have.ensures.standing c.if-have-kept.true
+
+pub returns-in-Ok-clause-step : goal.returns-in-Ok-clause-step
+returns-in-Ok-clause-step g c =
+    backs_done _ c.args.self.now.0 c.undo_sets.new.self.0 c.args.txn c.args.kept c.standing-have.result (transaction_of c.args.t.now) c.requires c.standing-have.ensures.standing
+    c.if-have-kept.false (c.in-Ok.ensures.step (λ now. answers replies.Done now))
+
+pub returns-in-Err-clause-step : goal.returns-in-Err-clause-step
+returns-in-Err-clause-step g c =
+    backs_refused _ c.args.self.now.0 c.undo_sets.new.self.0 c.args.txn c.args.kept c.standing-have.result (transaction_of c.args.t.now) c.in-Err.refusal c.requires
+    c.standing-have.ensures.standing c.if-have-kept.false (c.in-Err.ensures.step (λ now. answers replies.Done now))
+
+pub returns-in-Err-clause-writes : goal.returns-in-Err-clause-writes
+returns-in-Err-clause-writes g c = of_log _ _ c.in-Err.refusal c.in-Err.ensures.writes
+
+pub returns-in-Err-clause-damage : goal.returns-in-Err-clause-damage
+returns-in-Err-clause-damage g c = λ tells container offset at is. c.in-Err.ensures.damage tells container offset at (of_the_log _ _ is)

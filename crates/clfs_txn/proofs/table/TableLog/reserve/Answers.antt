@@ -1,0 +1,16 @@
+use Rattle.std.proofs.Common.{◌≡◌, ap, ◌∙◌, refl, false, true}
+use Rattle.clfs_model.specs.declared.reply.Reply.TheVariants as replies
+use Rattle.clfs_txn.proofs.Breaking.{Laws, kept_after, unchanged}
+use Rattle.clfs_txn.proofs.table.TableLog.reserve.Goals as goal
+
+pub invariant_of-self : goal.invariant_of-self
+invariant_of-self g c =
+    let laws : Laws = record { fault = c.faults_break.ensures.fault; damage = c.faults_break.ensures.damage; unbroken = c.unbroken_stays.ensures.calls; adds = c.steps_only_add_records.ensures } in
+    let whole : c.self.inside.manager.0.broken ≡ false = ap (λ v. v.0.log.broken) c.self.view_is ∙ c.requires.whole in
+    kept_after laws _ _ _ replies.Held c.reserve-reply.result _ c.self.inside.memory c.self.inside.broken _ c.stored.ensures.valid c.self.invariant
+    (λ _. refl) whole (c.reserve-reply.ensures.step true) c.breaks-self-inside.ensures
+
+pub returns-clause-kept : goal.returns-clause-kept
+returns-clause-kept g c =
+    unchanged c.refusals_change_nothing.ensures.calls true _ _ _ _ replies.Held c.reserve-reply.result _ (ap (λ v. v.0.log) c.self.view_is)
+    (c.reserve-reply.ensures.step true)

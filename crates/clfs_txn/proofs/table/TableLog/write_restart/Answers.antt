@@ -1,0 +1,27 @@
+use Rattle.std.proofs.Common.{◌≡◌, ap, ◌∙◌, refl, false, true}
+use Rattle.clfs_model.specs.declared.reply.Reply.TheVariants as replies
+use Rattle.clfs_cells.specs.Layout.{checkpoint_bytes}
+use Rattle.clfs_txn.specs.Calls.{checkpoint_of}
+use Rattle.clfs_txn.proofs.Asked.{same_steps, restart_is}
+use Rattle.clfs_txn.proofs.Breaking.{Laws, kept_after, unchanged}
+use Rattle.clfs_txn.proofs.table.TableLog.write_restart.Goals as goal
+
+pub invariant_of-self : goal.invariant_of-self
+invariant_of-self g c =
+    let laws : Laws = record { fault = c.faults_break.ensures.fault; damage = c.faults_break.ensures.damage; unbroken = c.unbroken_stays.ensures.calls; adds = c.steps_only_add_records.ensures } in
+    let whole : c.self.inside.manager.0.broken ≡ false = ap (λ v. v.0.log.broken) c.self.view_is ∙ c.requires in
+    kept_after laws _ _ _ replies.Placed c.write_restart-reply.result _ c.self.inside.memory c.self.inside.broken _ c.stored.ensures.valid c.self.invariant
+    (λ _. refl) whole (c.write_restart-reply.ensures.step true) c.breaks-self-inside.ensures
+
+pub returns-clause-step : goal.returns-clause-step
+returns-clause-step g c = λ told.
+    same_steps told _ _ _ _ _ _ replies.Placed c.write_restart-reply.result _ (ap (λ v. v.0.log) c.self.view_is)
+    (c.client.ensures ∙ ap (λ v. v.0.memory.client) c.self.view_is)
+    (restart_is _ _ _ _ _ (c.area.ensures ∙ ap (λ v. v.0.memory.area) c.self.view_is)
+    (c.in_ok-bytes.ensures.held ∙ ap checkpoint_bytes (c.checkpoint-checkpoint.ensures ∙ ap (λ v. checkpoint_of v.0.memory) c.self.view_is)))
+    (c.write_restart-reply.ensures.step told)
+
+pub returns-clause-kept : goal.returns-clause-kept
+returns-clause-kept g c =
+    unchanged c.refusals_change_nothing.ensures.calls true _ _ _ _ replies.Placed c.write_restart-reply.result _ (ap (λ v. v.0.log) c.self.view_is)
+    (c.write_restart-reply.ensures.step true)
