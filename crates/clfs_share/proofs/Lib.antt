@@ -1,0 +1,4 @@
+pub mod Naming
+pub mod Making
+pub mod Deleting
+pub mod Answering

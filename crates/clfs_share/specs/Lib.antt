@@ -1,0 +1,6 @@
+pub mod Lines
+pub mod Asked
+pub mod Answered
+pub mod Made
+pub mod Left
+pub mod Served
