@@ -55,7 +55,7 @@ base_bytes = 2 * slot_bytes
 abbrev pub GrowsBase : DiskState → DiskState → Type 0
 GrowsBase old new = Passes (GrownIn 0 base_bytes) old new
 
--- Something comes to be there at once. Up to a moment, the end of the call's first sync, nothing is done but growing the base file; at it no slot is open;
+-- Something comes to be there at once. Up to a moment nothing is done but growing the base file; at it no slot is open;
 -- and from it on a crash leaves no open slot, or files of that kind.
 pub record ComesAtOnce (P : Files → Type 0) (old new : DiskState) : Type 0 where
   pub since : ℕ
@@ -114,7 +114,7 @@ IsFreeCause bytes up_to DiskFault = AreChosen bytes up_to
 IsFreeCause bytes up_to NoMemory = Unit {0}
 
 -- Why restoring is refused. Where a slot is open, that one is told; then what the archives are, also where the disk failed before; and a fault of the disk
--- only where they can be restored. For want of memory any other answer may be missing.
+-- only where they can be restored. If memory runs out any other answer may be missing.
 abbrev pub IsRestoreCause : DiskState → List ℕ → Option ℕ → RestoreRefusal → Type 0
 IsRestoreCause disk bytes up_to (Exists slot) = TellsContents disk → open_slot_of (disk.files 0) ≡ Some slot
 IsRestoreCause disk bytes up_to (NotAnArchive at) = IsFreeCause bytes up_to (NotAnArchive at)

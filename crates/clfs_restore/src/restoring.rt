@@ -300,8 +300,8 @@ pub fn restore<D: Disk>(
     ensures free { IfOk result (λ new. TellsContents (D.state disk) → open_slot_of ((D.state disk).files 0) ≡ None) }
     ensures chosen { IfOk result (λ new. AreChosen archives.now up_to) }
 
-    // The log comes to be there at once: from the end of the first sync on a crash leaves none or all of it. After a refusal that is so where that sync
-    // was reached, and else nothing was done but growing the base file.
+    // The log comes to be there at once: up to a moment nothing is done but growing the base file, and from it on a crash leaves none or all of the log. After
+    // a refusal that is so if the moment was reached, and else nothing was done but growing the base file.
     ensures moments { IfOk result (λ new. IsHonest (D.state disk) → RestoresAtOnce archives.now up_to (D.state disk) (D.state new)) }
     ensures moments_refused { IfErr result (λ refused. IsHonest (D.state disk) → open_slot_of ((D.state disk).files 0) ≡ None
         → GrowsBase (D.state disk) (D.state refused.disk) ⊎ RestoresAtOnce archives.now up_to (D.state disk) (D.state refused.disk)) }

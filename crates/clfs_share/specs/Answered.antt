@@ -12,7 +12,7 @@ use Rattle.clfs_shared.specs.Journal.{is_out_of_memory}
 use Rattle.clfs_shared.specs.Sessions.{SessionState, IsStepped}
 use Rattle.clfs_share.specs.Lines.{own_request}
 
--- A call was answered. If memory ran out nothing has changed. Else the call stands behind all that the session had seen, at the end of a journal that
+-- A call was answered. If memory ran out nothing has changed. Else the call stands after all that the session had seen, at the end of a journal that
 -- leads to a state from which it is a step of the log machine, and the session has seen all of that.
 pub record AnswersCall (s : SessionState) (call : Call) (reply : Reply) (t : SessionState) : Type 0 where
   pub same : IsSameSeat s t

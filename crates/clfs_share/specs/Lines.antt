@@ -19,7 +19,7 @@ abbrev pub names : ℕ → List ℕ → Bool
 names client line = option_map_or (λ named. named == client) (client_named line) false
 
 -- What a client's line asks for, without a carriage return at its end: a call of the client, or nothing. A line that doesn't name the client goes
--- wrong at its first byte. No client may open the log anew.
+-- wrong at its first byte. No client may open the log again.
 abbrev pub own_request : ℕ → List ℕ → Request
 own_request client line = if names client line then request_in calls_alone line else bad_line 0
 

@@ -13,7 +13,7 @@ use Rattle.clfs_share.specs.Left.{HasLeft}
 abbrev pub client_limits : Limits
 client_limits = script_limits 18446744073709551615
 
--- A client was served. Its lines were answered one after the other, each reply written before the next line was looked at, up to the end that the
+-- A client was served. Its lines were answered one after the other, and their replies were written in this order, up to the end that the
 -- status tells; then its areas were deleted.
 pub record IsServed (s t : SessionState) (status : ℕ) (left left_after written written_after : Option (List ℕ)) (source source_after sink sink_after : ℕ) : Type 0 where
   pub between : SessionState

@@ -1,8 +1,8 @@
 //! A client of a shared log is served as if it were alone: its lines are answered as they come, and when it leaves its areas are deleted.
 //!
 //! Each client has a session of the log, a source that gives its lines, and a sink that takes its replies. A line is in the language of a race, so none may
-//! open the log anew, and it begins with the client's own number. The loop over the lines is that of `clfs_lines`: a line is answered when its line feed is
-//! there, and its reply is written before the next one is looked at. So line ends, the limit of a line, and faults of the source and of the sink are those of
+//! open the log again, and it begins with the client's own number. The loop over the lines is that of `clfs_lines`, which answers a line when its line feed is
+//! there; in which order it reads and writes isn't part of a clause. So line ends, the limit of a line, and faults of the source and of the sink are those of
 //! a script that is served.
 //!
 //! What a client is answered is told by its session: each call of its lines is the session's own next entry, at the end of a legal journal that begins with
