@@ -26,7 +26,7 @@ pub end_at_place : (blocks : List BlockEnd) (lsn place : ℕ) (d : BlockEnd) →
 end_at_place blocks lsn place d is within =
     ap (option_map (λ (block : BlockEnd). block.end)) (found_at_place blocks lsn place is ∙ slice_get-get_or blocks place d within)
 
--- or none, where the place is behind them all
+-- or none, where the place is after them all
 pub none_at_place : (blocks : List BlockEnd) (lsn place : ℕ) → IsPlaceOf lsn_of_block blocks lsn place → place ≡ length blocks
     → option_map (λ (block : BlockEnd). block.end) (find (λ (block : BlockEnd). nat_le lsn block.last) blocks) ≡ None
 none_at_place blocks lsn place is past =

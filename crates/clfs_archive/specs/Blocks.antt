@@ -19,7 +19,7 @@ blocks_from lsn blocks = filter (λ (block : BlockEnd). nat_le lsn block.last) b
 abbrev pub AreFew : ℕ → List BlockEnd → Type 0
 AreFew lsn blocks = length blocks ≤ 2 * length (blocks_from lsn blocks)
 
--- the end of a block of these records: its last one is there, no other of the block lies above it, and the block ends behind all of them
+-- the end of a block of these records: its last one is there, no other of the block lies above it, and the block ends after all of them
 pub record IsBlock (heads : List Head) (block : BlockEnd) : Type 0 where
   pub last : Any (λ (head : Head). head.lsn ≡ block.last) heads
   pub others : All (λ (head : Head). is_in_block head.lsn block.last ≡ true → head.lsn ≤ block.last) heads

@@ -120,7 +120,7 @@ impl Archive {
         self.blocks.reserve(count)
     }
 
-    /// The end of a block that takes no more records, behind the others. It takes no memory.
+    /// The end of a block that takes no more records, after the others. It takes no memory.
     pub fn push(&mut self, block: BlockEnd)
         requires above { All (λ (other : BlockEnd). other.last < block.last) self.old.blocks }
         requires room { 1 ≤ self.old.room }
@@ -147,7 +147,7 @@ impl Archive {
         Ok(Extents::from_vec(extents))
     }
 
-    /// Where the block of a record ends, by the record's LSN: the offset behind the first block whose last record lies at or above the LSN. None
+    /// Where the block of a record ends, by the record's LSN: the offset after the first block whose last record lies at or above the LSN. None
     /// if there is no such block.
     pub fn end_from(&self, lsn: Lsn) -> Option<u32>
         ensures { result ≡ option_map (λ (block : BlockEnd). block.end) (find (λ (block : BlockEnd). nat_le lsn block.last) self.now.blocks) }

@@ -15,7 +15,7 @@ use std::alloc::{AllocError, Global};
 pub struct BlockEnd {
     /// The LSN of the block's last record.
     pub last: Lsn,
-    /// The offset behind the block in its container, in bytes.
+    /// The offset after the block in its container, in bytes.
     pub end: u32,
 }
 
@@ -66,7 +66,7 @@ fn extent_in(blocks: &[BlockEnd], tail: Lsn, stable: Lsn, container: u32) -> Opt
     })
 }
 
-// The first LSN at or above the tail in a container and those behind it.
+// The first LSN at or above the tail in a container and those after it.
 fn start_in(container: u32, tail: Lsn) -> Lsn
     ensures { (n : ℕ) → (result ≤ n) ↔ ((tail ≤ n) × (container ≤ container_of n)) }
 {

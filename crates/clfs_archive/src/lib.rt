@@ -3,7 +3,7 @@
 //! An archive tail holds the log back until what lies below it has been copied elsewhere. What is still to be copied are the blocks
 //! on the disk that have a record at or above the tail, in each container from the first one's offset to the end of the last one. The
 //! definitions go through all records for that. Here the end of each sealed block is kept: the LSN of its last record, and the
-//! offset behind it. Both rise with the blocks, so the ends of a container's blocks stand together in one sorted row, and its
+//! offset after it. Both rise with the blocks, so the ends of a container's blocks stand together in one sorted row, and its
 //! extent is two searches by halves. A tail inside a block counts it from its start, since the block's last record lies at or above
 //! the tail.
 //!

@@ -44,7 +44,7 @@ abbrev pub ReadAlone : Type 0
 ReadAlone = (shape : Shape) (streams start : ℕ) (bytes : List ℕ) (count : ℕ) → IsEnough shape bytes count
     → block_records shape streams start (take count bytes) ≡ block_records shape streams start bytes
 
--- more records behind some
+-- more records after some
 abbrev pub behind : List LogEntry → Result (List LogEntry) LoadRefusal → Result (List LogEntry) LoadRefusal
 behind entries read = read >>= (λ (others : List LogEntry). Ok (entries ++ others))
 
@@ -82,7 +82,7 @@ module _ (alone : ReadAlone) (written : AreReadAsWritten) (shape : Shape) (strea
   enough : (rest : List ℕ) → IsEnough shape rest (block_bytes rest)
   enough rest = record { first = omega arith; all = inl (omega arith) }
 
-  -- the records of blocks are those of the first of them, and of the others behind it
+  -- the records of blocks are those of the first of them, and of the others after it
   first_then : (offset n : ℕ) (rest : List ℕ) → 0 < length rest → length rest ≤ n → (m : ℕ) × (n ≡ m + 1)
       × (stored_in shape streams id offset (blocks_of n rest)
       ≡ (told_as (damage_at id offset) (block_records shape streams (lsn_number id offset 0) rest)
@@ -154,7 +154,7 @@ module _ (alone : ReadAlone) (written : AreReadAsWritten) (shape : Shape) (strea
               ∙ ap (λ (l : List ℕ). behind (right.entries ++ entries) (stored_in shape streams id (offset + sector_bytes * head.sectors) (blocks_of t.0 l))) next;
         }
 
--- what is left behind a block
+-- what is left after a block
 pub goes_within : (written : AreReadAsWritten) (shape : Shape) (start : ℕ) (bytes : List ℕ) (offset : ℕ) (head : BlockHead)
     → frame_at shape start (drop offset bytes) ≡ Ok head → offset < length bytes → (1 ≤ head.sectors) × (offset + sector_bytes * head.sectors ≤ length bytes)
 goes_within written shape start bytes offset head framed more =

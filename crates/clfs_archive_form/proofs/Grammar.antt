@@ -31,7 +31,7 @@ refused_first (Gap container) read next is = is
 refused_first (UpToInvalid low high) read next is = is
 refused_first NoMemory read next is = tt
 
--- and so is what is refused behind what was read
+-- and so is what is refused after what was read
 pub refused_next : {A B : Type 0} (refusal : InputRefusal) (read : Result A ℕ) (next : A → Result B ℕ) (value : A) → read ≡ Ok value
     → RefusesAt refusal (next value) → RefusesAt refusal (read >>= next)
 refused_next {A} {B} refusal read next value is refused = subst (λ (r : Result A ℕ). RefusesAt {Y = B} refusal (r >>= next)) (sym is) refused
@@ -87,9 +87,9 @@ module _ (shape : Shape) (streams : ℕ) (bytes : List ℕ) (id at : ℕ) where
             let whole : at + 8 + len ≤ length bytes = omega (arith, within, long, length-take len (drop (at + 8) bytes), length-drop (at + 8) bytes) in
             (rw (has_id, has_length, records, le-ltb (length bytes) (at + 8 + len) whole) refl, whole)
 
--- ---- containers one behind the other
+-- ---- containers one after the other
 
--- more containers behind some
+-- more containers after some
 abbrev pub after : List Stored → Result (List Stored) ℕ → Result (List Stored) ℕ
 after more read = read >>= (λ (others : List Stored). Ok (more ++ others))
 
@@ -223,9 +223,9 @@ takes_rest image bytes at count first judge old new result has by from takes =
     ∙ ap (λ (n : ℕ). containers_there judge.shape judge.streams bytes count n (at + 16395)) (sym from) in
     subst (λ (r : Result (List Stored) ℕ). TakesContainers result old new (λ more. at + 16395 + containers_len more) r) (sym same) takes
 
--- ---- archives one behind the other
+-- ---- archives one after the other
 
--- more archives behind some
+-- more archives after some
 abbrev pub archives_after : List Archive → Result (List Archive) ℕ → Result (List Archive) ℕ
 archives_after archives read = read >>= (λ (others : List Archive). Ok (archives ++ others))
 

@@ -129,7 +129,7 @@ module _ (shape : Shape) (streams id : ℕ) (bytes : List ℕ) where
           let same = same_block block follow.0 in
           absurd (cc (first.0.1, same, is))
 
-      -- a closed gate stands behind the last of them
+      -- a closed gate stands after the last of them
       pub on_closed : block_records shape streams (lsn_number id offset 0) (drop offset bytes) ≡ Err blocks.Closed → offset ≡ end
       on_closed is = closes left.rest left.entries left.follow left.read left.ends is
 
@@ -174,7 +174,7 @@ module _ (shape : Shape) (streams id : ℕ) (bytes : List ℕ) where
               ends = omega (arith, ends, len, said);
             }
 
-        -- the blocks behind one that is right are left
+        -- the blocks after one that is right are left
         pub on_block : AreLeft shape streams id bytes (offset + 512 * head.sectors) end
         on_block = goes_on left.rest left.entries left.follow left.read left.ends
 
@@ -185,7 +185,7 @@ ends_within written shape start bytes offset head framed =
     let holds = written.holds shape start (drop offset bytes) head framed in
     (holds.some, omega (arith, holds.whole, holds.some, length-drop offset bytes))
 
--- a refusal of a block that is right is want of memory
+-- a refusal of a block that is right is out of memory
 pub refused_end : (container offset end : ℕ) (refusal : LoadRefusal) (read : Result (List LogEntry) BlockRefusal)
     → JudgesBlock container offset (Err refusal) read → (refusal ≡ DiskFault → ⊥) → ((at : ℕ) → read ≡ Err (blocks.BadByte at) → ⊥)
     → EndsAt (Err refusal) end

@@ -63,7 +63,7 @@ module _ (slot : List ℕ) (at : ℕ) (behind : 64 ≤ at) where
         of_tests false false false true (row_width slot at ((at - 576) % 80)) (le-ltb at 64 behind) (le-ltb at (64 + 2 * count_in slot 20) past) (le-ltb at 576 rows)
         (lt-ltb at (576 + 80 * count_in slot 22) lt) refl
 
-    -- and behind the rows each byte stands alone
+    -- and after the rows each byte stands alone
     pub of_end : 576 + 80 * count_in slot 22 ≤ at → width_at slot at ≡ 1
     of_end le =
         of_tests false false false false 1 (le-ltb at 64 behind) (le-ltb at (64 + 2 * count_in slot 20) past) (le-ltb at 576 rows)

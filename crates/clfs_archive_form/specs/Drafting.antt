@@ -30,7 +30,7 @@ pub record IsDraft (bytes : List ℕ) (start count : ℕ) (archive : List ℕ) :
   pub counted : count ≡ length archive
   pub kept : length archive ≤ most_archive → bytes ≡ take start bytes ++ archive
 
--- The open blocks end at this byte. Want of memory may come in place of that, and nothing else.
+-- The open blocks end at this byte. Out of memory may come in place of that, and nothing else.
 abbrev pub EndsAt : Result ℕ LoadRefusal → ℕ → Type 0
 EndsAt (Ok end) bytes = end ≡ bytes
 EndsAt (Err NoBase) bytes = ⊥

@@ -20,7 +20,7 @@ use Rattle.clfs_archive_form.specs.declared.refusal.InputRefusal.TheVariants.{No
 use Rattle.clfs_archive_form.specs.Archives.{joined}
 use Rattle.clfs_archive_form.specs.Containers.{blocks_in, part_of}
 
--- A refusal names the first wrong byte. Want of memory may come in place of any answer.
+-- A refusal names the first wrong byte. Out of memory may come in place of any answer.
 abbrev pub RefusesAt : {Y : Type 0} → InputRefusal → Result Y ℕ → Type 0
 RefusesAt (NotAnArchive at) read = read ≡ Err at
 RefusesAt (Gap container) read = ⊥

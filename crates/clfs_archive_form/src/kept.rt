@@ -1,4 +1,4 @@
-// The blocks of a container that are left of an archive below an LSN. They stay as they are but for the last one, which is written anew where some of
+// The blocks of a container that are left of an archive below an LSN. They stay as they are but for the last one, which is written again where some of
 // its records are cut off.
 ghost use Rattle.std.specs.Prelude.{◌≡◌, ◌+◌, ◌-◌, ◌*◌, ◌/◌, ◌^◌, ◌<◌, ◌≤◌, ◌++◌, min, ℕ, List, length, take, drop, Ok, All, IfOk, OnOk, vec_len};
 ghost use Rattle.std.specs.List.{flat_map};

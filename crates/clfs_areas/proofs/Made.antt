@@ -130,7 +130,7 @@ module _ (inside : Inside) (table : AreaTable) (view_is : table_of inside ≡ ta
               ∙ sym (map-append reservation_of table.areas (made ∷ []));
         }
 
-        -- it stands behind the others
+        -- it stands after the others
         pub told_now : inside_areas now ≡ table.areas ++ made ∷ []
         told_now = parts_tell (table.areas ++ made ∷ []) now.rows.items now.cursors.areas now.reservations parts_now
 

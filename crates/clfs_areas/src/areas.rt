@@ -107,7 +107,7 @@ impl Areas {
         self.reservations.total()
     }
 
-    /// A new area of a client, behind the others. It holds nothing and has no cursors.
+    /// A new area of a client, after the others. It holds nothing and has no cursors.
     pub fn create(
         &mut self,
         client: u16,
@@ -140,7 +140,7 @@ impl Areas {
         Ok(number)
     }
 
-    /// The client's area of a number goes, where there is one, with its cursors and what it holds; those behind it move down by one place. It
+    /// The client's area of a number goes, where there is one, with its cursors and what it holds; those after it move down by one place. It
     /// takes no memory.
     pub fn delete(&mut self, client: u16, number: u16)
         ensures areas { self.new.areas ≡ filter (λ (area : Area). not (is_area client number area)) self.old.areas }

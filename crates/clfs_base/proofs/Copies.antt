@@ -47,7 +47,7 @@ layout_fits version = fits (eqb version 1)
     fits true = record { version = omega arith; streams = omega arith; name = omega arith; rows = omega arith }
     fits false = record { version = omega arith; streams = omega arith; name = omega arith; rows = omega arith }
 
--- an image that is spelled behind a gate is read
+-- an image that is spelled after a gate is read
 pub written : (image : BaseImage) (gate : ℕ) (rest bytes : List ℕ) → IsImage image → bytes ≡ gate ∷ (spelled image ++ rest) → image_at bytes ≡ Ok image
 written image gate rest bytes fits is =
     let layout = layout_of image.version in
@@ -128,7 +128,7 @@ module _ (base : List ℕ) (slot : ℕ) where
   turn_is : turn_of base slot ≡ get_or (slot_of base slot) 2 0
   turn_is = sym (get_or-take 16384 (drop (slot_place slot) base) 2 0 (omega arith) ∙ get_or-drop (slot_place slot) base 2 0)
 
-  -- a slot whose bytes behind the gate are all there
+  -- a slot whose bytes after the gate are all there
   slot_is : length (body_of base slot) ≡ 16383 → slot_of base slot ≡ get_or base (slot_place slot) 0 ∷ body_of base slot
   slot_is whole =
       let p = slot_place slot in
@@ -289,7 +289,7 @@ module _ (slot used : ℕ) (image : BaseImage) (old : Files) (older : IsOlder sl
   pub closing : (new : Files) → is_open_slot (old 0) slot ≡ true → TornIn 0 (16384 * slot) 1 old new → HasNewest used image old new
   closing new was torn = kept_torn (16384 * slot) 1 new (omega arith) (omega arith) torn (inr (was, torn.here.above (16384 * slot + 2) (omega arith)))
 
-  -- the bytes behind its closed gate are torn
+  -- the bytes after its closed gate are torn
   pub filling : (new : Files) → is_open_slot (old 0) slot ≡ false → TornIn 0 (16384 * slot + 1) 16383 old new → HasNewest used image old new
   filling new was torn = kept_torn (16384 * slot + 1) 16383 new (omega arith) (omega arith) torn
       (inl (ap (λ (k : ℕ). eqb k 165) (torn.here.below (16384 * slot) (omega arith)) ∙ was))
@@ -387,7 +387,7 @@ gate_written stands at old new room is =
     ∙ ap (λ (k : ℕ). get_or (165 ∷ []) k 0) none in
     ap (λ (k : ℕ). eqb k 165) gate
 
--- A whole copy that stands behind a gate is read where only the gate is torn.
+-- A whole copy that stands after a gate is read where only the gate is torn.
 opened_is_read : (slot : ℕ) (next : BaseImage) (old new : Files) → IsImage next → body_of (old 0) slot ≡ spelled next
     → TornIn 0 (16384 * slot) 1 old new → image_at (slot_of (new 0) slot) ≡ Ok next
 opened_is_read slot next old new fits whole torn =
@@ -489,7 +489,7 @@ first_opening slot next old new le first torn = either (is_open_slot (new 0) slo
     either true gate = inr (first_with slot next old new le first torn gate)
     either false gate = inl (none gate)
 
--- the bytes behind a gate are written
+-- the bytes after a gate are written
 pub body_written : StandsInPlace → (slot : ℕ) (body : List ℕ) (old new : Files) → length body ≡ 16383 → 16384 * slot + 1 + length body ≤ length (old 0)
     → WrittenIn 0 (16384 * slot + 1) body old new → body_of (new 0) slot ≡ body
 body_written stands slot body old new size room written =

@@ -41,7 +41,7 @@ used_by answer first second a b is = record {
   used = subst (λ (r : Slot). GivesNewest answer r) (is ∙ (λ i. slot_by (a.2 i) (b.2 i))) (gives_itself answer);
 }
 
--- a fault, or want of memory, is told by no bytes
+-- a fault, or out of memory, is told by no bytes
 pub used_outside : (refusal : NewestRefusal) → IsOutside refusal → IsUsedSlot (Err refusal)
 used_outside refusal outside = record {
   first = [];

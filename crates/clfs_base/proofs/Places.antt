@@ -10,7 +10,7 @@ use Rattle.std.specs.List.{flat_map, range_with_len, list_any}
 use Rattle.clfs_base.specs.Checks.{told, is_other, other_byte}
 use Rattle.clfs_base.proofs.Searches.{none_found, each_none}
 
--- behind a part of what stands at a place
+-- after a part of what stands at a place
 pub behind_part : (bytes p q : List ℕ) (at n : ℕ) → drop at bytes ≡ p ++ q → length p ≡ n → drop (at + n) bytes ≡ q
 behind_part bytes p q at n is size = sym (drop-drop n at bytes) ∙ ap (λ (l : List ℕ). drop n l) is ∙ drop_at p q n size
 
@@ -84,7 +84,7 @@ piece_at f w d bytes q (x ∷ xs) at (suc i) each lt is =
     ap (λ (n : ℕ). drop n bytes) place ∙ rest
     ∙ ap (λ (n : ℕ). f (get_or xs i d) ++ (flat_map f (drop n (x ∷ xs)) ++ q)) (sym more)
 
--- pieces that stand one behind the other
+-- pieces that stand one after the other
 pub pieces_are : {X : Type 0} (f : X → List ℕ) (g : ℕ → X) (w at : ℕ) (bytes : List ℕ) (n : ℕ)
     → ((i : ℕ) → i < n → drop (at + w * i) bytes ≡ f (g i) ++ drop (at + w * (i + 1)) bytes)
     → drop at bytes ≡ flat_map f (map g (range_with_len 0 n)) ++ drop (at + w * n) bytes

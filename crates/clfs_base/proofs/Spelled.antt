@@ -256,7 +256,7 @@ flag_read : (on : Bool) → eqb (flag on) 1 ≡ on
 flag_read true = refl
 flag_read false = refl
 
--- a slot with some gate that an image is spelled behind
+-- a slot with some gate that an image is spelled after
 pub record Reads (layout : Layout) (bytes : List ℕ) (image : BaseImage) : Type 0 where
   pub version : number_at 1 1 bytes ≡ image.version
   pub none_wrong : slot_fault layout bytes ≡ None

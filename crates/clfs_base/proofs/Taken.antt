@@ -124,7 +124,7 @@ module _ (bytes : List ℕ) (fits : IsBytes bytes) where
       (le_bytes_8 (take 8 xs) (little_number 8 xs) (length-take-le 8 xs long) (IsBytes-take 8 xs (IsBytes-drop at bytes fits)) same) ∙ take-append-drop 8 xs)
       ∙ ap (λ (l : List ℕ). little_bytes 8 (little_number 8 xs) ++ l) (drop-drop 8 at bytes)
 
-  -- what stands at a place, and then what stands behind it
+  -- what stands at a place, and then what stands after it
   and_then : (at w : ℕ) (x : List ℕ) → drop at bytes ≡ little_bytes w (number_at at w bytes) ++ drop (at + w) bytes → drop (at + w) bytes ≡ x
       → drop at bytes ≡ little_bytes w (number_at at w bytes) ++ x
   and_then at w x here next = here ∙ ap (λ (l : List ℕ). little_bytes w (number_at at w bytes) ++ l) next

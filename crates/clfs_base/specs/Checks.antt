@@ -56,7 +56,7 @@ files_in bytes count = map (file_in bytes) (range_with_len 0 count)
 abbrev pub is_no_file : ℕ → List ℕ → ℕ → Bool
 is_no_file made earlier file = not (nat_le 1 file && nat_le file made) || list_any (λ other. other == file) earlier
 
--- a file number isn't there, or none that its container can have behind the earlier ones
+-- a file number isn't there, or none that its container can have after the earlier ones
 abbrev pub is_wrong_file : List ℕ → ℕ → ℕ → Bool
 is_wrong_file bytes made i = is_short bytes (file_place i) 2 || is_no_file made (files_in bytes i) (file_in bytes i)
 
@@ -94,12 +94,12 @@ is_wrong_length layout bytes at =
 abbrev pub is_no_name : List Row → List ℕ → Bool
 is_no_name earlier name = not (list_all is_name_byte name) || is_taken name earlier
 
--- a name isn't there whole, or none that its stream can have behind the earlier ones
+-- a name isn't there whole, or none that its stream can have after the earlier ones
 abbrev pub is_wrong_name : List ℕ → ℕ → List Row → Bool
 is_wrong_name bytes at earlier = is_short bytes (at + 16) (name_len bytes at) || is_no_name earlier (name_in bytes at)
 
--- The first wrong byte of a row at a place, behind these rows: the length of the name, the seven zeros, the base, which only has
--- to be there, the name, and the zeros behind it.
+-- The first wrong byte of a row at a place, after these rows: the length of the name, the seven zeros, the base, which only has
+-- to be there, the name, and the zeros after it.
 abbrev pub row_fault : Layout → List ℕ → ℕ → List Row → Option ℕ
 row_fault layout bytes at earlier =
     option_or (told (is_wrong_length layout bytes at) at)
@@ -112,7 +112,7 @@ row_fault layout bytes at earlier =
 abbrev pub wrong_row : Layout → List ℕ → ℕ → Option ℕ
 wrong_row layout bytes count = first_some (λ i. row_fault layout bytes (row_place layout i) (rows_of layout bytes i)) 0 count
 
--- The first wrong byte behind the fields of a slot with these numbers: the zeros behind them, the file numbers, the zeros behind those,
+-- The first wrong byte after the fields of a slot with these numbers: the zeros after them, the file numbers, the zeros after those,
 -- the rows, and the zeros up to the slot's end.
 abbrev pub behind_fields : Layout → List ℕ → Numbers → Option ℕ
 behind_fields layout bytes n =
@@ -122,7 +122,7 @@ behind_fields layout bytes n =
     (option_or (wrong_row layout bytes n.streams)
     (other_byte bytes (row_place layout n.streams) slot_bytes))))
 
--- The first wrong byte of a slot, its gate apart: the fields in their order, and then what is behind them.
+-- The first wrong byte of a slot, its gate apart: the fields in their order, and then what is after them.
 unfoldable pub slot_fault : Layout → List ℕ → Option ℕ
 slot_fault layout bytes =
     let n = numbers_of bytes in option_or (wrong_field bytes (fields layout n)) (behind_fields layout bytes n)

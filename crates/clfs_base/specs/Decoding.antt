@@ -5,7 +5,7 @@ use Rattle.clfs_base.specs.declared.refusal.BaseRefusal.TheVariants as refusals
 use Rattle.clfs_base.specs.declared.refusal.NewestRefusal.{NewestRefusal}
 use Rattle.clfs_base.specs.declared.refusal.NewestRefusal.TheVariants as newest
 
--- A refusal for a byte names the first wrong byte. Want of memory may come in place of any answer.
+-- A refusal for a byte names the first wrong byte. Out of memory may come in place of any answer.
 abbrev pub RefusesAt : BaseRefusal → Option ℕ → Type 0
 RefusesAt refusals.NoMemory fault = Unit {0}
 RefusesAt (refusals.BadByte at) fault = fault ≡ Some at
@@ -15,7 +15,7 @@ abbrev pub Gives : {Y : Type 0} → Result Y BaseRefusal → Option ℕ → Y �
 Gives (Ok value) fault read = (fault ≡ None) × (value ≡ read)
 Gives (Err refusal) fault read = RefusesAt refusal fault
 
--- The answer of a reading of the newest copy is this one. Want of memory or a fault of the disk may come in its place.
+-- The answer of a reading of the newest copy is this one. Out of memory or a fault of the disk may come in its place.
 abbrev pub GivesNewest : {Y : Type 0} → Result Y NewestRefusal → Result Y NewestRefusal → Type 0
 GivesNewest (Ok value) read = read ≡ Ok value
 GivesNewest (Err newest.NoMemory) read = Unit {0}

@@ -23,7 +23,7 @@ layout_of version = if version == 1 then version_one else version_two
 abbrev pub slot_bytes : ℕ
 slot_bytes = 16384
 
--- the first byte behind the fields
+-- the first byte after the fields
 abbrev pub fields_end : ℕ
 fields_end = 41
 

@@ -11,7 +11,7 @@ use Rattle.clfs_base.specs.Slots.{slot_place, is_open_slot, newest_of}
 abbrev pub older_of : ℕ → ℕ
 older_of slot = 1 - slot
 
--- the bytes of a slot behind its gate, as many as are there
+-- the bytes of a slot after its gate, as many as are there
 abbrev pub body_of : List ℕ → ℕ → List ℕ
 body_of base slot = take (slot_bytes - 1) (drop (slot_place slot + 1) base)
 
@@ -26,14 +26,14 @@ pub record IsOlder (slot used : ℕ) (image : BaseImage) (files : Files) : Type 
   pub newest : newest_of (files 0) ≡ Ok (used, image)
   pub beside : slot ≡ older_of used
 
--- Behind its closed gate the older slot has all of a copy whose turn is the newest one's plus 1 modulo 3.
+-- After its closed gate the older slot has all of a copy whose turn is the newest one's plus 1 modulo 3.
 pub record IsFilled (slot : ℕ) (image next : BaseImage) (files : Files) : Type 0 where
   pub next_image : IsImage next
   pub turn : next.turn ≡ (image.turn + 1) % 3
   pub closed : is_open_slot (files 0) slot ≡ false
   pub body : body_of (files 0) slot ≡ spelled next
 
--- No slot is open, and behind the gate of this one stands all of a copy: the first one of a new log.
+-- No slot is open, and after the gate of this one stands all of a copy: the first one of a new log.
 pub record IsFirst (slot : ℕ) (next : BaseImage) (files : Files) : Type 0 where
   pub next_image : IsImage next
   pub closed : (other : ℕ) → other ≤ 1 → is_open_slot (files 0) other ≡ false

@@ -22,7 +22,7 @@ pub fn decode(alloc: Global, bytes: &[u8]) -> Result<BaseImage, BaseRefusal>
     ensures found { IfOk result (λ image. IsImage image
         × (take (slot_bytes - 1) (drop 1 bytes.now) ≡ spelled image)) }
 
-    // What is spelled so behind any gate is read, whatever follows it.
+    // What is spelled so after any gate is read, whatever follows it.
     ensures only { (image : BaseImage) (gate : ℕ) (rest : List ℕ) → IsImage image
         → bytes.now ≡ gate ∷ (spelled image ++ rest) → Gives result None image }
 

@@ -9,7 +9,7 @@ use crate::image::{BaseImage, Row};
 use crate::layout::{FILES_AT, Layout, Numbers, ROWS_AT, VERSION_TWO, fields, row_bytes};
 use byteorder::{ByteOrder, LittleEndian};
 
-/// Writes what stands in a slot behind its gate, bytes 1 to 16,383, in the second version, whatever the image's version.
+/// Writes what stands in a slot after its gate, bytes 1 to 16,383, in the second version, whatever the image's version.
 pub fn encode(image: &BaseImage, out: &mut [u8])
     requires length { length out.old ≡ slot_bytes - 1 }
     requires image { IsImage image.now }
@@ -66,7 +66,7 @@ fn flag(on: bool) -> u8
     if on { 1 } else { 0 }
 }
 
-// The fields, and zeros behind them.
+// The fields, and zeros after them.
 fn put_fields(layout: &Layout, n: &Numbers, out: &mut [u8])
     requires { length out.old ≡ files_at - 1 }
     ensures { out.new ≡ filled (files_at - 1) (flat_map field_bytes (fields layout.now n.now)) }
@@ -83,7 +83,7 @@ fn put_fields(layout: &Layout, n: &Numbers, out: &mut [u8])
     }
 }
 
-// The file numbers, and zeros behind them.
+// The file numbers, and zeros after them.
 fn put_files(files: &[u16], out: &mut [u8])
     requires length { length out.old ≡ rows_at - files_at }
     requires few { 2 * length files.now ≤ rows_at - files_at }
@@ -95,7 +95,7 @@ fn put_files(files: &[u16], out: &mut [u8])
     }
 }
 
-// The rows, and zeros behind them.
+// The rows, and zeros after them.
 fn put_rows(layout: &Layout, rows: &[Row], out: &mut [u8])
     requires length { length out.old ≡ slot_bytes - rows_at }
     requires few { row_bytes layout.now * length rows.now ≤ slot_bytes - rows_at }

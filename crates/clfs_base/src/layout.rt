@@ -12,7 +12,7 @@ pub const SLOT: u32 = 16384;
 /// The byte of a slot at which the archive tail stands.
 pub const TAIL_AT: u32 = 32;
 
-/// The first byte behind the fields.
+/// The first byte after the fields.
 pub const FIELDS_END: u32 = 41;
 
 /// The first byte of the listed containers' file numbers.

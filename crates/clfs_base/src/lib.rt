@@ -6,7 +6,7 @@
 //! spelled so, and any other bytes are refused at the first one that is wrong. Copies of two versions are read, and a copy is always
 //! written in the second one, which has room for all that the first one has: so a log of the first version becomes one of the second by
 //! the next copy that is written. Each slot has a version of its own, and their turns alone tell which of two copies is newer. A newer copy is written into the slot that doesn't
-//! count, in three parts: `close_older` closes its gate, `write_body` writes the bytes behind it, `open_slot` opens it. A crash at
+//! count, in three parts: `close_older` closes its gate, `write_body` writes the bytes after it, `open_slot` opens it. A crash at
 //! any moment leaves the newest copy of before, or once the gate is being opened the new one whole. `read_newest` reads which slot
 //! counts, and that slot alone. `check_newest` judges the bytes of a base file where they lie, without memory, and `row_at` and `file_at`
 //! tell what a slot says of a stream and of a listed container.

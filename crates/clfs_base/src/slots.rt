@@ -68,7 +68,7 @@ pub fn close_older<D: Disk>(disk: &mut D, slot: u32) -> Result<(), Failed>
     Ok(())
 }
 
-/// Writes the bytes of a slot behind its gate and syncs them, by two calls of the disk. The gate stays as it is.
+/// Writes the bytes of a slot after its gate and syncs them, by two calls of the disk. The gate stays as it is.
 pub fn write_body<D: Disk>(disk: &mut D, slot: u32, body: &[u8]) -> Result<(), Failed>
     requires slot { slot ≤ 1 }
     requires length { length body.now ≡ slot_bytes - 1 }
@@ -80,7 +80,7 @@ pub fn write_body<D: Disk>(disk: &mut D, slot: u32, body: &[u8]) -> Result<(), F
     ensures gate { is_open_slot ((D.state disk.new).files 0) slot ≡ is_open_slot ((D.state disk.old).files 0) slot }
     ensures settled { OnOk result (IsHonest (D.state disk.old) → IsSettled (D.state disk.new)) }
 
-    // Behind a closed gate, whatever the answer, the newest copy is that of before, as the files read and in each crash at any
+    // After a closed gate, whatever the answer, the newest copy is that of before, as the files read and in each crash at any
     // moment of the call.
     ensures moments { IsSettled (D.state disk.old) → is_open_slot ((D.state disk.old).files 0) slot ≡ false
         → KeepsNewest slot (D.state disk.old) (D.state disk.new) }

@@ -48,7 +48,7 @@ payload_more first count part block few room =
     ∙ get_or-drop place block (p - count) 0 ∙ ap (λ (k : ℕ). get_or block k 0) index)
     (cases_lt p count) ∙ sym (get_or-payload_from first (count + part) block p within))
 
--- bytes that are put behind a payload, in the sector of its end, go on with it
+-- bytes that are put after a payload, in the sector of its end, go on with it
 pub payload_pushed : (used : ℕ) (buffer part now : List ℕ) → length buffer ≡ place_of used → used % 504 + length part ≤ 504
     → ((k : ℕ) → k < length buffer + length part → get_or now k 0 ≡ get_or (buffer ++ part) k 0)
     → payload_of (used + length part) now ≡ payload_of used buffer ++ part
@@ -69,7 +69,7 @@ payload_pushed used buffer part now place few agree =
     (λ (k : ℕ). get_or part k 0) index))
     (cases_lt p used)))
 
--- the places of a payload and of what stands behind it
+-- the places of a payload and of what stands after it
 pub place_below : (p used : ℕ) → p < used → place_of p < place_of used
 place_below p used lt = omega (arith, lt)
 

@@ -375,7 +375,7 @@ unless_bad : (wrong : Option ℕ) (head : BlockHead) (at : ℕ) → unless_wrong
 unless_bad None head at e = absurd (cc e)
 unless_bad (Some k) head at e = cc e
 
--- a byte that is wrong behind the checks up to the addresses is one behind the used ones
+-- a byte that is wrong after the checks up to the addresses is one after the used ones
 pub wrong_is_behind : (shape : Shape) (start : ℕ) (bytes payload : List ℕ) (head : BlockHead) (answer : Result BlockHead BlockRefusal) (at : ℕ)
     → AreBytes bytes → frame_at shape start bytes ≡ Ok head → answer ≡ rest_at bytes head → payload ≡ payload_of head.used bytes
     → answer ≡ Err (BadByte at) → IsWrongBehind shape start bytes payload at

@@ -36,7 +36,7 @@ one_answer x y e = cc e
 stream_more : (stream streams more : ℕ) → streams ≤ more → (eqb stream 0 || ltb streams stream) ≡ false → (eqb stream 0 || ltb more stream) ≡ false
 stream_more stream streams more le e = grind (arith, nat_tests)
 
--- what a record's checks say behind a header's, which alone look at the streams
+-- what a record's checks say after a header's, which alone look at the streams
 abbrev behind_header : ℕ → List ℕ → Result (LogEntry × ℕ) ℕ
 behind_header lsn bytes = let len = (header_of bytes).len in unless_wrong (λ at. at) (filling_fault len bytes) (Ok (entry_of lsn bytes, size len))
 
@@ -68,7 +68,7 @@ right_record lsn bytes fault x is =
     let d = unless_ok (λ at. at) (filling_fault len bytes) (answer (entry_of lsn bytes, size len)) x c.1 in
     record { right = c.0; is = one_answer (entry_of lsn bytes, size len) x d.1; whole = ltb-false (length bytes) (size len) b.0 }
 
--- a header's checks behind that of the stream
+-- a header's checks after that of the stream
 abbrev behind_stream : ℕ → Header → Option ℕ
 behind_stream lsn h =
     if not (eqb h.kind 1 || eqb h.kind 2) then Some 6
@@ -99,9 +99,9 @@ record_within lsn streams bytes x is =
     let long : length (take len (drop 32 bytes)) ≤ len = omega (arith, length-take len (drop 32 bytes)) in
     subst (λ (y : LogEntry × ℕ). (y.0.lsn ≡ lsn) × (32 + length y.0.bytes ≤ length bytes)) right.is (refl, omega (arith, whole, long))
 
--- ---- records one behind the other
+-- ---- records one after the other
 
--- the first of some records, and those behind it
+-- the first of some records, and those after it
 record IsSplit (streams : ℕ) (payload : List ℕ) (n lsn p : ℕ) (entries : List LogEntry) : Type 0 where
   entry : LogEntry
   size : ℕ
@@ -150,7 +150,7 @@ module _ (streams : ℕ) (payload : List ℕ) where
       let others = records_count n (lsn + 1) (p + first.size) first.others first.rest in
       ap length first.is ∙ ap suc others
 
-  -- the one at a position has its LSN, and its data lie in the payload behind the header
+  -- the one at a position has its LSN, and its data lie in the payload after the header
   records_each : (n lsn p : ℕ) (entries : List LogEntry) → records_from streams payload n lsn p ≡ Ok entries
       → (i : ℕ) (entry : LogEntry) → slice_get entries i ≡ Some entry → (entry.lsn ≡ lsn + i) × (p + 32 + length entry.bytes ≤ length payload)
   records_each zero lsn p entries is i entry found =

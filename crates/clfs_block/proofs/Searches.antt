@@ -18,7 +18,7 @@ module _ (test : ℕ → Bool) (i end : ℕ) where
   one_more : i < end → first_failing test i (end - i) ≡ cond (test i) (first_failing test (i + 1) (end - (i + 1))) (Some i)
   one_more lt = let e : end - i ≡ suc (end - (i + 1)) = omega (arith, lt) in ap (λ (n : ℕ). first_failing test i n) e
 
-  -- the number passes, and the search goes on behind it
+  -- the number passes, and the search goes on after it
   pub passes_on : i < end → test i ≡ true → first_failing test (i + 1) (end - (i + 1)) ≡ first_failing test i (end - i)
   passes_on lt pass = sym (one_more lt ∙ ap (λ b. cond b (first_failing test (i + 1) (end - (i + 1))) (Some i)) pass)
 

@@ -5,8 +5,8 @@ use Rattle.clfs_lsn.specs.Limits.{most_block_sectors, most_block_records}
 use Rattle.clfs_lsn.specs.Size.{size, sectors}
 use Rattle.clfs_block.specs.Frame.{place_of, used_bytes, SpellsBlock}
 
--- The sectors of the largest block, the records pushed and their bytes one behind the other, and once it is sealed the
--- block's bytes with the one behind them.
+-- The sectors of the largest block, the records pushed and their bytes one after the other, and once it is sealed the
+-- block's bytes with the one after them.
 pub record Building : Type 0 where
   pub room : ℕ
   pub records : ℕ
@@ -21,7 +21,7 @@ fits building len left =
     && (nat_le (sectors (used_bytes building.content + size len)) building.room
     && nat_le (sectors (used_bytes building.content + size len)) left)
 
--- The sealed bytes are a block at this place behind a closed gate, and then a closed gate. With the gate opened they are an
+-- The sealed bytes are a block at this place after a closed gate, and then a closed gate. With the gate opened they are an
 -- open block.
 pub record SealsAt (start : ℕ) (old new : Building) : Type 0 where
   pub bytes : List ℕ

@@ -43,7 +43,7 @@ head_for records content = record { sectors = sectors (used_bytes content); reco
 abbrev pub is_wrong_records : ℕ → Bool
 is_wrong_records records = (records == 0) || nat_lt most_block_records records
 
--- The first byte at which a header is wrong, behind an open gate and with a first sector that is there whole: version 1, the
+-- The first byte at which a header is wrong, after an open gate and with a first sector that is there whole: version 1, the
 -- sectors, the records, zeros at 6 and 7, sectors that are just those of the used bytes, zeros from 12 to 15.
 abbrev pub head_fault : Shape → ℕ → List ℕ → Option ℕ
 head_fault shape start bytes =
@@ -92,11 +92,11 @@ frame_at shape start bytes =
     else if nat_lt (length bytes) sector_bytes then Err (BadByte (length bytes))
     else unless_wrong BadByte (head_fault shape start bytes) (sectors_at start bytes (head_of bytes))
 
--- Behind these the payload past the used bytes is zero; else its first other byte.
+-- After these the payload past the used bytes is zero; else its first other byte.
 abbrev pub rest_at : List ℕ → BlockHead → Result BlockHead BlockRefusal
 rest_at bytes head = unless_wrong BadByte (payload_place (other_byte bytes head.used head.sectors)) (Ok head)
 
--- Where all up to the addresses is right, the payload behind the used bytes is judged too.
+-- Where all up to the addresses is right, the payload after the used bytes is judged too.
 abbrev pub and_rest : List ℕ → Result BlockHead BlockRefusal → Result BlockHead BlockRefusal
 and_rest bytes (Ok head) = rest_at bytes head
 and_rest bytes (Err refusal) = Err refusal
@@ -120,7 +120,7 @@ pub record IsFramed (shape : Shape) (start : ℕ) (bytes : List ℕ) (head : Blo
   pub long : length payload ≡ head.used
   pub header : block_header ≤ head.used → take block_header payload ≡ head_bytes open_gate head.sectors head.records head.used
 
--- A head whose checks up to the addresses hold has its payload here, and this is the first other byte behind it.
+-- A head whose checks up to the addresses hold has its payload here, and this is the first other byte after it.
 pub record IsWrongBehind (shape : Shape) (start : ℕ) (bytes payload : List ℕ) (at : ℕ) : Type 0 where
   pub head : BlockHead
   pub framed : IsFramed shape start bytes head payload

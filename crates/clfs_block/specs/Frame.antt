@@ -1,4 +1,4 @@
--- How a block's payload stands in its sectors: 504 bytes of payload in each sector of 512, and behind them the sector's
+-- How a block's payload stands in its sectors: 504 bytes of payload in each sector of 512, and after them the sector's
 -- address. The payload is a header of 16 bytes, the records, and zeros. All numbers are little-endian.
 use Rattle.std.specs.Prelude.{◌≡◌, ℕ, ◌+◌, ◌*◌, ◌/◌, ◌%◌, ◌<◌, List, [], ◌∷◌, ◌++◌, map, length, drop, slice_index}
 use Rattle.std.specs.List.{range_with_len}
@@ -46,7 +46,7 @@ abbrev pub used_payload : ℕ → ℕ → List ℕ → List ℕ
 used_payload gate records content = head_bytes gate (sectors (used_bytes content)) records (used_bytes content) ++ content
 
 -- These bytes spell a block at this place with this gate and so many records, whose bytes are the content: as many whole
--- sectors as the used payload takes, zeros behind it, and in each sector its address.
+-- sectors as the used payload takes, zeros after it, and in each sector its address.
 pub record SpellsBlock (start gate records : ℕ) (content block : List ℕ) : Type 0 where
   pub whole : length block ≡ sector_bytes * sectors (used_bytes content)
   pub used : payload_of (used_bytes content) block ≡ used_payload gate records content

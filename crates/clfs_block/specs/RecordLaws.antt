@@ -18,7 +18,7 @@ use Rattle.clfs_block.specs.declared.head.BlockRefusal.TheVariants.{BadByte}
 
 -- ---- by the answers of a block's checks
 
--- the records of a block whose frame is right, by its payload and what is found behind the used bytes
+-- the records of a block whose frame is right, by its payload and what is found after the used bytes
 abbrev pub framed_records : ℕ → ℕ → BlockHead → List ℕ → Result BlockHead BlockRefusal → Result (List LogEntry) BlockRefusal
 framed_records streams start head payload rest =
     told_as BadByte (records_from streams payload head.records start block_header)
@@ -43,12 +43,12 @@ module _ (shape : Shape) (streams start : ℕ) (bytes : List ℕ) where
         told_as BadByte r >>= λ (entries : List LogEntry). (rest_at bytes head >>= λ (clean : BlockHead). Ok entries)) wrong
 
     module _ (entries : List LogEntry) (right : records_from streams (payload_of head.used bytes) head.records start block_header ≡ Ok entries) where
-      -- behind right records all is as what is found there
+      -- after right records all is as what is found there
       judged_behind : block_records shape streams start bytes ≡ (rest_at bytes head >>= λ (clean : BlockHead). Ok entries)
       judged_behind = block_framed ∙ ap (λ (r : Result (List LogEntry) ℕ).
           told_as BadByte r >>= λ (es : List LogEntry). (rest_at bytes head >>= λ (clean : BlockHead). Ok es)) right
 
-      -- a byte behind the records that is wrong
+      -- a byte after the records that is wrong
       pub rest_refused : (refusal : BlockRefusal) → rest_at bytes head ≡ Err refusal → block_records shape streams start bytes ≡ Err refusal
       rest_refused refusal wrong = judged_behind ∙ ap (λ (r : Result BlockHead BlockRefusal). r >>= λ (clean : BlockHead). Ok entries) wrong
 
@@ -79,7 +79,7 @@ consed e (Ok es) = refl
 consed e (Err x) = refl
 
 module _ (streams : ℕ) (payload : List ℕ) (n lsn p : ℕ) where
-  -- a record that is right is taken, and reading goes on behind it
+  -- a record that is right is taken, and reading goes on after it
   pub record_taken : (e : LogEntry) (size : ℕ) → record_at lsn streams (drop p payload) ≡ Ok (e, size)
       → records_from streams payload (suc n) lsn p ≡ behind (e ∷ []) (records_from streams payload n (lsn + 1) (p + size))
   record_taken e size is =
@@ -144,7 +144,7 @@ module _ (streams : ℕ) (payload : List ℕ) (count start : ℕ) where
   at_end sequence p le =
       let e : count - sequence ≡ 0 = omega (arith, le) in ap (λ (n : ℕ). records_from streams payload n (start + sequence) p) e
 
-  -- all were taken, and the payload ends behind them
+  -- all were taken, and the payload ends after them
   pub records_done : (sequence p : ℕ) (entries : List LogEntry) (all : Result (List LogEntry) ℕ) → count ≤ sequence
       → behind entries (from_here sequence p) ≡ all → p ≡ length payload → all ≡ Ok entries
   records_done sequence p entries all le so_far is =

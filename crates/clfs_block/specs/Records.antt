@@ -10,7 +10,7 @@ use Rattle.clfs_block.specs.declared.head.BlockRefusal.{BlockRefusal}
 use Rattle.clfs_block.specs.declared.head.BlockRefusal.TheVariants.{BadByte}
 
 infixl 10 ◌>>=◌
--- what comes behind an answer that is a value; a refusal stands
+-- what comes after an answer that is a value; a refusal stands
 abbrev pub ◌>>=◌ : {A B E : Type 0} → Result A E → (A → Result B E) → Result B E
 (Ok a) >>= next = next a
 (Err e) >>= next = Err e
@@ -20,7 +20,7 @@ abbrev pub told_as : {A E F : Type 0} → (E → F) → Result A E → Result A 
 told_as told (Ok a) = Ok a
 told_as told (Err e) = Err (told e)
 
--- So many records from a byte of a block's used payload on, one behind the other, the first of them at this LSN; or the byte of the block at
+-- So many records from a byte of a block's used payload on, one after the other, the first of them at this LSN; or the byte of the block at
 -- which the first that is wrong is told. They end where the used payload ends, or else the field of its length is wrong, byte 8 of the block.
 abbrev pub records_from : ℕ → List ℕ → ℕ → ℕ → ℕ → Result (List LogEntry) ℕ
 records_from streams payload zero lsn p = if p == length payload then Ok [] else Err 8
@@ -30,7 +30,7 @@ records_from streams payload (suc count) lsn p = do
   Ok (record_there.0 ∷ entries)
 
 -- The records of the block that begins bytes, at this LSN in a log of so many streams: the checks up to the sectors' addresses, each
--- record in turn, the end of the records, and the zeros behind them.
+-- record in turn, the end of the records, and the zeros after them.
 unfoldable pub block_records : Shape → ℕ → ℕ → List ℕ → Result (List LogEntry) BlockRefusal
 block_records shape streams start bytes = do
   head ← frame_at shape start bytes

@@ -1,5 +1,5 @@
 // Building a block in memory that is taken once: a buffer with one block, from its first byte on. The gate of a sealed block is closed:
-// who writes the block opens it last, on the disk. The byte behind the block is a closed gate as well. The log makes its blocks in place and
+// who writes the block opens it last, on the disk. The byte after the block is a closed gate as well. The log makes its blocks in place and
 // calls nothing here: it is for other programs that write blocks.
 ghost use Rattle.std.specs.Prelude.{◌≡◌, ◌+◌, ◌-◌, ◌*◌, ◌/◌, ◌<◌, ◌≤◌, ◌++◌, ◌∷◌, [], nat_le, ◌&&◌, nat_lt, ℕ, List, length, drop, replicate, Some, None, IsSome, IfOk, vec_capacity};
 ghost use Rattle.clfs_lsn.specs.Format.{sector_bytes, sector_payload, block_header};
@@ -82,7 +82,7 @@ impl BlockBuilder {
         self.records += 1;
     }
 
-    /// Ends the block at its place in the log, behind a closed gate, and answers its sectors.
+    /// Ends the block at its place in the log, after a closed gate, and answers its sectors.
     pub fn seal(&mut self, start: Lsn) -> u32
         requires sealed { self.old.sealed ≡ None }
         requires records { 1 ≤ self.old.records }
@@ -97,7 +97,7 @@ impl BlockBuilder {
         count
     }
 
-    /// The sealed block, and behind it one byte 0, a closed gate.
+    /// The sealed block, and after it one byte 0, a closed gate.
     pub fn bytes(&self) -> &[u8]
         requires { IsSome self.now.sealed }
         ensures { self.now.sealed ≡ Some result.now }
@@ -137,7 +137,7 @@ fn begin(buffer: &mut Vec<u8>)
     buffer.resize(HEADER, 0).unwrap();
 }
 
-// Ends the block behind a closed gate, and puts a closed gate behind it.
+// Ends the block after a closed gate, and puts a closed gate after it.
 fn seal_buffer(buffer: &mut Vec<u8>, start: Lsn, records: u32, used: usize)
     requires place { length buffer.old.items ≡ place_of used }
     requires used { block_header ≤ used }

@@ -18,7 +18,7 @@ use std::alloc::{AllocError, Global};
 use std::mem;
 
 /// The block at the front of bytes that are to hold one at this place, all checked but its records. Its used payload, of
-/// which the first 16 bytes are the header, takes the place of what `payload` held, before the bytes behind it are checked. The log makes
+/// which the first 16 bytes are the header, takes the place of what `payload` held, before the bytes after it are checked. The log makes
 /// its parts one by one and doesn't call it: it is for other programs that read blocks.
 pub fn decode_block(
     alloc: Global,
@@ -44,7 +44,7 @@ pub fn decode_block(
     ensures framed { IfOk result (λ head. IsFramed shape.now start bytes.now head payload.new) }
 
     // The payload is filled where all up to the addresses is right, and else as it was. So where it isn't as it was, what is
-    // wrong is a byte behind the used ones, and its records can be judged.
+    // wrong is a byte after the used ones, and its records can be judged.
     ensures filled { (head : BlockHead) → frame_at shape.now start bytes.now ≡ Ok head → (result ≡ Err NoMemory → ⊥)
         → IsFramed shape.now start bytes.now head payload.new }
     ensures wrong { (at : ℕ) → result ≡ Err (BadByte at) → (payload.new ≡ payload.old)
@@ -58,7 +58,7 @@ pub fn decode_block(
     check_rest(bytes, head)
 }
 
-/// The checks of a block up to its sectors' addresses, for who judges the records before the bytes behind them. What is known of a head
+/// The checks of a block up to its sectors' addresses, for who judges the records before the bytes after them. What is known of a head
 /// that passes is what `fill_payload` and `check_rest` ask of it.
 pub fn check_frame(shape: &Shape, start: Lsn, bytes: &[u8]) -> Result<BlockHead, BlockRefusal>
     ensures exact { result ≡ frame_at shape.now start bytes.now }
@@ -229,7 +229,7 @@ pub fn byte_of(p: u32) -> u32
     SECTOR as u32 * (p / PAYLOAD as u32) + p % PAYLOAD as u32
 }
 
-/// The last check of a block: the payload behind its used bytes is zero.
+/// The last check of a block: the payload after its used bytes is zero.
 pub fn check_rest(bytes: &[u8], head: BlockHead) -> Result<BlockHead, BlockRefusal>
     requires whole { sector_bytes * head.sectors ≤ length bytes.now }
     requires used { sectors head.used ≡ head.sectors }

@@ -1,6 +1,6 @@
-// A block in a buffer whose memory was taken before. It begins at a byte of the buffer, behind blocks that may stand there already, and
+// A block in a buffer whose memory was taken before. It begins at a byte of the buffer, after blocks that may stand there already, and
 // takes its payload piece by piece: each byte is put at its place in the sectors, so that ending the block only writes the header, the
-// zeros behind the records and the addresses. What stands before the block stays as it is.
+// zeros after the records and the addresses. What stands before the block stays as it is.
 ghost use Rattle.std.specs.Prelude.{◌≡◌, ◌+◌, ◌-◌, ◌*◌, ◌/◌, ◌%◌, ◌^◌, ◌<◌, ◌≤◌, ◌++◌, ℕ, List, length, take, drop, slice_index, vec_len, vec_capacity};
 ghost use Rattle.byteorder.specs.Endian.{little_bytes};
 ghost use Rattle.clfs_lsn.specs.Format.{sector_bytes, sector_payload, block_header};
@@ -16,7 +16,7 @@ use clfs_lsn::{Lsn, push_reserved, push_zeros, sectors_of};
 // The bytes of a sector's address.
 const ADDRESS: usize = SECTOR - PAYLOAD;
 
-/// Puts bytes at their places behind so many bytes of payload of the block that begins at byte `from` of the buffer. Behind a full sector
+/// Puts bytes at their places after so many bytes of payload of the block that begins at byte `from` of the buffer. After a full sector
 /// comes the room of its address.
 pub fn push_payload(buffer: &mut Vec<u8>, from: usize, used: usize, more: &[u8])
     requires place { length buffer.old.items ≡ from + place_of used }
@@ -37,7 +37,7 @@ pub fn push_payload(buffer: &mut Vec<u8>, from: usize, used: usize, more: &[u8])
     }
 }
 
-// Puts bytes behind so many bytes of payload in their sector. Behind a full sector comes the room of its address.
+// Puts bytes after so many bytes of payload in their sector. After a full sector comes the room of its address.
 fn push_part(buffer: &mut Vec<u8>, from: usize, used: usize, part: &[u8])
     requires place { length buffer.old.items ≡ from + place_of used }
     requires sector { used % sector_payload + length part.now ≤ sector_payload }
@@ -53,7 +53,7 @@ fn push_part(buffer: &mut Vec<u8>, from: usize, used: usize, part: &[u8])
     }
 }
 
-/// Ends the block that begins at byte `from` of the buffer, at its place in the log: writes the header with this gate, the zeros behind
+/// Ends the block that begins at byte `from` of the buffer, at its place in the log: writes the header with this gate, the zeros after
 /// so many bytes of payload, and the addresses.
 pub fn seal_block(
     buffer: &mut Vec<u8>,

@@ -1,4 +1,4 @@
-// Gathering a block's payload in bytes that the caller has, so that no memory is taken. The payload is copied sector by sector, behind
+// Gathering a block's payload in bytes that the caller has, so that no memory is taken. The payload is copied sector by sector, after
 // what was copied already.
 ghost use Rattle.std.specs.Prelude.{◌≡◌, ◌+◌, ◌≤◌, ◌++◌, length, take, drop};
 ghost use Rattle.clfs_block.specs.Frame.{place_of, payload_of};

@@ -15,7 +15,7 @@ use Rattle.clfs_record.specs.declared.refusal.HeadRefusal.TheVariants.{BadByte}
 use Rattle.clfs_buffers.specs.Kept.{records_at, IsStart, AreStarts, HaveLsns, wrong_in}
 
 module _ (payload : List ℕ) where
-  -- one record more stands behind the others
+  -- one record more stands after the others
   pub records_at-append : (lsn : ℕ) (starts : List ℕ) (at : ℕ)
       → records_at payload lsn (starts ++ at ∷ []) ≡ records_at payload lsn starts ++ entry_of (lsn + length starts) (drop at payload) ∷ []
   records_at-append lsn [] at =

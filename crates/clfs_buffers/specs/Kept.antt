@@ -16,7 +16,7 @@ abbrev pub records_at : List ℕ → ℕ → List ℕ → List LogEntry
 records_at payload lsn [] = []
 records_at payload lsn (at ∷ starts) = entry_of lsn (drop at payload) ∷ records_at payload (lsn + 1) starts
 
--- a record begins at this byte behind the header, in a log of so many streams
+-- a record begins at this byte after the header, in a log of so many streams
 pub record IsStart (streams : ℕ) (payload : List ℕ) (lsn at : ℕ) : Type 0 where
   pub size : ℕ
   pub is : record_at lsn streams (drop at payload) ≡ Ok (entry_of lsn (drop at payload), size)
@@ -35,7 +35,7 @@ pub record IsKept (place : BlockPlace) (streams : ℕ) (payload starts : List �
   pub low : place.offset + most_block_records < 2 ^ 32
   pub long : length payload ≤ sector_payload * most_block_sectors
 
--- these records lie one behind the other from an LSN on
+-- these records lie one after the other from an LSN on
 abbrev pub HaveLsns : ℕ → List LogEntry → Type 0
 HaveLsns lsn records = (i : ℕ) (entry : LogEntry) → slice_get records i ≡ Some entry → entry.lsn ≡ lsn + i
 
@@ -43,7 +43,7 @@ HaveLsns lsn records = (i : ℕ) (entry : LogEntry) → slice_get records i ≡ 
 abbrev pub wrong_in : HeadRefusal → ℕ
 wrong_in (heads.BadByte at) = at
 
--- A refusal is the one that reading tells. Want of memory may come in place of any answer.
+-- A refusal is the one that reading tells. Out of memory may come in place of any answer.
 abbrev pub RefusesAs : {A : Type 0} → BlockRefusal → Result A BlockRefusal → Type 0
 RefusesAs Closed read = read ≡ Err Closed
 RefusesAs (BadByte at) read = read ≡ Err (BadByte at)

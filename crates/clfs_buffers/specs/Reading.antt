@@ -42,7 +42,7 @@ record_by shape streams lsn bytes = do
   records ← told_as refused_at (block_records shape streams (first_lsn (block_place lsn)) bytes)
   record_in lsn records
 
--- The answer is what reading gives. A fault of the disk, or want of memory, may come in place of any answer.
+-- The answer is what reading gives. A fault of the disk, or out of memory, may come in place of any answer.
 abbrev pub Gives : {A : Type 0} → Result A ReadRefusal → Result A ℕ → Type 0
 Gives (Ok value) read = read ≡ Ok value
 Gives (Err (Damaged at)) read = read ≡ Err at

@@ -26,7 +26,7 @@ use std::num::NonZeroUsize;
 
 /// The blocks that were read and are kept. A contract sees where each lies and its records, the one used last first, and how many are
 /// kept at most. Besides them it has the memory of one more block, and that of a largest block's bytes, which are taken when a block is first read and serve the
-/// reads after it; a read that is refused for want of memory leaves them to be taken anew.
+/// reads after it; a read that is refused because memory ran out leaves them to be taken again.
 #[derive(Drop)]
 pub struct Buffers {
     alloc: Global,

@@ -1,4 +1,4 @@
-//! Blocks that were read, as many as the caller says at most, for records that are read again or one behind the other.
+//! Blocks that were read, as many as the caller says at most, for records that are read again or one after the other.
 //!
 //! A log that is open keeps the heads of its records and no data of those that are on the disk. A record is read by its whole block: a
 //! read by one call of the disk, the checks of a block in their order, and then the record at its position. The caller says how long it takes

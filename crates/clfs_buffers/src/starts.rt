@@ -25,7 +25,7 @@ fn wrong_byte(refusal: HeadRefusal) -> u32
     }
 }
 
-// Finds so many records, which stand one behind the other and end where the payload ends. Memory is taken only where there isn't enough.
+// Finds so many records, which stand one after the other and end where the payload ends. Memory is taken only where there isn't enough.
 pub(crate) fn find_starts(
     payload: &[u8],
     count: u32,

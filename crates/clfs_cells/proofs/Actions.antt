@@ -82,7 +82,7 @@ record IsSpelled (bytes : List ℕ) (r : TxnRecord) : Type 0 where
   txn : r.txn ≡ little_number 4 (drop 4 bytes)
   action : action_of (get_or bytes 0 0) (change_at bytes) ≡ Some r.action
 
--- an answer behind a test
+-- an answer after a test
 pub guarded : {A : Type 0} (b : Bool) (answer : Option A) (x : A) → (if b then answer else None) ≡ Some x → (b ≡ true) × (answer ≡ Some x)
 guarded true answer x e = (refl, e)
 guarded false answer x e = absurd (cc e)

@@ -2,7 +2,7 @@
 --
 -- A transaction's beginning reserves room for all its records: its sets, their taking back, and its end. Each of them takes of it. Taking back
 -- reads along the undo-next links of the log, from the newest set that stands: the log says which set comes next, and the store remembers that
--- set's cell and values. A commit answers behind its flush. A checkpoint moves the stream's base above all records before it.
+-- set's cell and values. A commit answers after its flush. A checkpoint moves the stream's base above all records before it.
 use Rattle.std.specs.Prelude.{ℕ, zero, suc, ◌+◌, ◌-◌, Bool, true, false, ◌==◌, nat_lt, nat_le, if◌then◌else◌, [], length, find, replicate, slice_index}
 use Rattle.std.specs.Option.{option_map_or}
 use Rattle.clfs_lsn.specs.Lsn.{null_lsn}

@@ -58,7 +58,7 @@ action_of tag change =
 abbrev pub txn_record : ℕ → Action → TxnRecord
 txn_record txn action = record { txn = txn; action = action }
 
--- The record that data spell. There is none where they have another length, a byte other than 0 behind the tag, or the transaction 0, or
+-- The record that data spell. There is none where they have another length, a byte other than 0 after the tag, or the transaction 0, or
 -- spell no action.
 abbrev pub txn_record_of : List ℕ → Option TxnRecord
 txn_record_of bytes =

@@ -76,7 +76,7 @@ back_line rest = do
   kept ← word kept_word txn.rest
   ends (asked.Back txn.value kept.value) kept.rest
 
--- what stands behind a verb
+-- what stands after a verb
 abbrev pub behind_verb : TxnVerb → Rest → Result TxnCall ℕ
 behind_verb begin_verb rest = one_word changes_word (λ changes. asked.Begin changes) rest
 behind_verb set_verb rest = set_line rest
@@ -86,7 +86,7 @@ behind_verb rollback_verb rest = one_word txn_word (λ txn. asked.Rollback txn) 
 behind_verb get_verb rest = one_word cell_word (λ cell. asked.Get cell) rest
 behind_verb checkpoint_verb rest = ends asked.Checkpoint rest
 
--- a line without its carriage return: a verb, and what stands behind it
+-- a line without its carriage return: a verb, and what stands after it
 abbrev pub verb_line : Rest → Result TxnCall ℕ
 verb_line rest = do
   verb ← word txn_verb rest

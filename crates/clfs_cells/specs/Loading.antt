@@ -68,7 +68,7 @@ on_more area go done (replies.Refused log_refusals.EndOfLog) = done
 on_more area go done (replies.Refused refusal) = stopped area refusal
 on_more area go done _ = never
 
--- The records that come next, so many at most, are read behind these. One of another layout ends the loading.
+-- The records that come next, so many at most, are read after these. One of another layout ends the loading.
 abbrev pub read_records : ℕ → ℕ → ℕ → List TxnRecord → (List TxnRecord → Memory) → Plan Loaded
 read_records zero area cursor records whole = never
 read_records (suc more) area cursor records whole = calls (log_calls.ReadNext area cursor) (on_more area

@@ -48,43 +48,43 @@ end_without_memory before client log never = None
 
 -- ---- how plans go on by a reply: a refusal stops them
 
--- behind a record that was appended or a restart area that was written: by its LSN
+-- after a record that was appended or a restart area that was written: by its LSN
 abbrev pub on_placed : {A : Type 0} → (Refusal → Plan A) → (ℕ → Plan A) → Reply → Plan A
 on_placed stop go (replies.Placed lsn) = go lsn
 on_placed stop go (replies.Refused refusal) = stop refusal
 on_placed stop go _ = never
 
--- behind sectors that an area got or gave back: whatever it holds now
+-- after sectors that an area got or gave back: whatever it holds now
 abbrev pub on_held : {A : Type 0} → (Refusal → Plan A) → Plan A → Reply → Plan A
 on_held stop go (replies.Held sectors) = go
 on_held stop go (replies.Refused refusal) = stop refusal
 on_held stop go _ = never
 
--- behind a read that began: by its cursor and the record at which it stands
+-- after a read that began: by its cursor and the record at which it stands
 abbrev pub on_found : {A : Type 0} → (Refusal → Plan A) → (ℕ → LogEntry → Plan A) → Reply → Plan A
 on_found stop go (replies.Found cursor entry) = go cursor entry
 on_found stop go (replies.Refused refusal) = stop refusal
 on_found stop go _ = never
 
--- behind a read that went on: by the record to which it came
+-- after a read that went on: by the record to which it came
 abbrev pub on_next : {A : Type 0} → (Refusal → Plan A) → (LogEntry → Plan A) → Reply → Plan A
 on_next stop go (replies.Next entry) = go entry
 on_next stop go (replies.Refused refusal) = stop refusal
 on_next stop go _ = never
 
--- behind a question what a stream is like: by the answer
+-- after a question what a stream is like: by the answer
 abbrev pub on_info : {A : Type 0} → (Refusal → Plan A) → (LogInfo → Plan A) → Reply → Plan A
 on_info stop go (replies.Info info) = go info
 on_info stop go (replies.Refused refusal) = stop refusal
 on_info stop go _ = never
 
--- behind a stream that was opened: by its number
+-- after a stream that was opened: by its number
 abbrev pub on_stream : {A : Type 0} → (Refusal → Plan A) → (ℕ → Plan A) → Reply → Plan A
 on_stream stop go (replies.Stream number) = go number
 on_stream stop go (replies.Refused refusal) = stop refusal
 on_stream stop go _ = never
 
--- behind an area that was made: by its number
+-- after an area that was made: by its number
 abbrev pub on_area : {A : Type 0} → (Refusal → Plan A) → (ℕ → Plan A) → Reply → Plan A
 on_area stop go (replies.Area number) = go number
 on_area stop go (replies.Refused refusal) = stop refusal

@@ -185,7 +185,7 @@ abbrev pub IsSeen : State → List Exchange → Type 0
 IsSeen log exchanges =
     output_of (script_requests (script_of exchanges)) (replies_of log (script_requests (script_of exchanges))) ≡ replies_text exchanges
 
--- an append of data to the first stream, with or without a flush behind it
+-- an append of data to the first stream, with or without a flush after it
 abbrev pub append_line : List ℕ → List ℕ → List ℕ
 append_line bytes options = codes "2 append 1 " ++ (data_text bytes ++ (codes " 0:0:0 0:0:0" ++ (options ++ 10 ∷ [])))
 

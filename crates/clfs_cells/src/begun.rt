@@ -1,4 +1,4 @@
-// An open transaction, and the sets that it made. It has room for as many as any transaction can make, so none is refused for want of memory.
+// An open transaction, and the sets that it made. It has room for as many as any transaction can make, so none is refused because memory ran out.
 ghost use Rattle.std.specs.Prelude.{◌≤◌};
 
 use crate::row::Change;

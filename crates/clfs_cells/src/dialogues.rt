@@ -85,7 +85,7 @@ pub fn sets_that_were_taken_back()
         ∷ []) }
 {}
 
-/// Want of memory while sets are taken back leaves those taken back that were so far, and the call may be made again.
+/// Out of memory while sets are taken back leaves those taken back that were so far, and the call may be made again.
 pub fn want_of_memory()
     ensures refused { reply_without_memory 3 (store_after worked_log three_sets) (asked.Back 1 0) ≡ Some (Refused (Log NoMemory)) }
     ensures half_way { Answers (store_without_memory 3 (store_after worked_log three_sets) (asked.Back 1 0)) (

@@ -231,7 +231,7 @@ impl Memory {
     }
 }
 
-// Takes out the transaction at a place: those behind it move down, and it goes behind them.
+// Takes out the transaction at a place: those after it move down, and it goes after them.
 fn close_up(transactions: &mut [Transaction], place: usize)
     requires { place < length transactions.old }
     ensures { (d : Code) → transactions.new ≡ remove transactions.old place ++ slice_index_or transactions.old place d ∷ [] }

@@ -6,7 +6,7 @@ use Rattle.std.specs.List.Sorted.{IsStrictlyIncreasing}
 use Rattle.std.proofs.lemmas.Bool.{cases_Bool, lt-ltb, le-ltb, ltb-true}
 use Rattle.clfs_lsn.specs.declared.entry.LogEntry.{LogEntry}
 
--- each record lies below all behind it
+-- each record lies below all after it
 abbrev pub Rises : List LogEntry → Type 0
 Rises [] = Unit {0}
 Rises (entry ∷ entries) = AllByRecursion (λ (other : LogEntry). entry.lsn < other.lsn) entries × Rises entries

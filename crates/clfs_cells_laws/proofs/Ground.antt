@@ -154,7 +154,7 @@ damage_of : (reply : Reply) → IsDamaged reply → (container : ℕ) × (offset
 damage_of (replies.Refused (refusals.Damaged container offset byte)) is = (container, offset, byte, refl)
 damage_of _ is = absurd is
 
--- want of memory, a fault and damage stop it
+-- out of memory, a fault and damage stop it
 pub record Stops (g : Ground) (rest : Reply → Plan Loaded) : Type 0 where
   pub memory : rest (replies.Refused refusals.NoMemory) ≡ stopped g.number refusals.NoMemory
   pub fault : rest (replies.Refused refusals.DiskFault) ≡ stopped g.number refusals.DiskFault

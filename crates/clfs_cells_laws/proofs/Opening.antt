@@ -65,7 +65,7 @@ last_number_from first name (other ∷ streams) stream named none = elim (cases_
       rw further (last_number_from (first + 1) name streams stream named rest ∙ ap (λ (k : ℕ). Some k) more)
 ]
 
--- no record is of a stream behind the last
+-- no record is of a stream after the last
 no_stream : (streams : List Stream) (number : ℕ) → length streams < number → IsSome (stream_in streams number) → ⊥
 no_stream streams number behind some =
     elim (cases_Bool (number == 0)) [

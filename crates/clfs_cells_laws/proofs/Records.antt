@@ -215,7 +215,7 @@ next_none : (o : Option LogEntry) (first : Refusal) → refused_if (is_none o) r
 next_none None first is = (refl, let same : Some refusals.EndOfLog ≡ Some first = is in sym (cc same))
 next_none (Some entry) first is = absurd (cc is)
 
--- how reading goes on behind a record that was read
+-- how reading goes on after a record that was read
 abbrev go_on : ℕ → ℕ → ℕ → List TxnRecord → (List TxnRecord → Memory) → LogEntry → Plan Loaded
 go_on more number k acc whole entry = option_map_or (λ (r : TxnRecord). read_records more number k (acc ++ r ∷ []) whole) (txn_record_of entry.bytes)
     (gives_up number (NotATable entry.lsn))

@@ -63,7 +63,7 @@ halted_broken {tabled = tabled} allowed told client s memory given result t may 
   left = inl (ap (λ (x : State). x.broken) ended.1 ∙ broken);
 }
 
--- a plan behind a reply that is known
+-- a plan after a reply that is known
 pub behind_reply : (told : Bool) (client : ℕ) (mid : State) (rest : Reply → Plan Answered) (reply other : Reply) (result : Answered) (t : State) → reply ≡ other
     → CarriesOut told client mid (rest reply) result t → CarriesOut told client mid (rest other) result t
 behind_reply told client mid rest reply other result t same carries = subst (λ (r : Reply). CarriesOut told client mid (rest r) result t) same carries

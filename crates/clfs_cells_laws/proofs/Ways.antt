@@ -16,7 +16,7 @@ use Rattle.clfs_model.specs.Step.{Step, Goes, Comes, IsBroken, IsDamaged, calls_
 use Rattle.clfs_cells.specs.Plans.{Plan, calls, CarriesOut}
 use Rattle.clfs_cells_laws.proofs.Written.{where_not, where_so}
 
--- how a call of a log that isn't broken went: the refusal that came, with the state behind it, or the answer
+-- how a call of a log that isn't broken went: the refusal that came, with the state after it, or the answer
 pub data Way (told : Bool) (s : State) (client : ℕ) (call : Call) (reply : Reply) (t : State) : Type 0 where
   lacked : takes_memory call ≡ true → reply ≡ replies.Refused refusals.NoMemory → t ≡ s → Way told s client call reply t
   came : refusal s client call ≡ None → Comes told (flushed s) (answer s client call) reply t → Way told s client call reply t
@@ -50,7 +50,7 @@ pub broken_way : (told : Bool) (s : State) (client : ℕ) (call : Call) (happene
 unfolding Step
 broken_way told s client call happened reply t broken step = where_so s.broken _ _ broken step
 
--- a call that was carried out, and what comes behind it
+-- a call that was carried out, and what comes after it
 pub record Called {A : Type 0} (told : Bool) (client : ℕ) (s : State) (call : Call) (rest : Reply → Plan A) (result : A) (t : State) : Type 0 where
   pub reply : Reply
   pub mid : State

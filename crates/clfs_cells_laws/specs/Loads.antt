@@ -29,7 +29,7 @@ pub record IsLoaded (told : Bool) (log : State) (client : ℕ) (memory : Memory)
   pub fine : told ≡ true → load_refusal log client ≡ None
   pub table : table t ≡ table log
 
--- Why loading may be refused: for want of memory, by a fault of the disk or by damage, which the log tells; else for what is refused first. What a record says is
+-- Why loading may be refused: memory ran out, or the log tells a fault of the disk or damage; else for what is refused first. What a record says is
 -- known only of a disk that tells what it holds.
 abbrev pub IsLoadCause : Bool → State → ℕ → TxnLoadRefusal → Type 0
 IsLoadCause told log client (Log log_refusals.NoMemory) = log.broken ≡ false

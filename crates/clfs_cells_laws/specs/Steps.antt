@@ -10,7 +10,7 @@ use Rattle.clfs_cells.specs.Layout.{cell_count}
 use Rattle.clfs_cells.specs.Stored.{Memory, Transaction, holds, is_numbered, standing, transaction, without_first}
 use Rattle.clfs_cells_laws.specs.Stores.{value_before, value_by}
 
--- refusals of a log that come from outside it: for want of memory, of the disk, and of a log that has met a fault of the disk or damage
+-- refusals of a log that come from outside it: memory ran out, the disk failed, or the log had met a fault of the disk or damage before
 abbrev pub from_outside : Refusal → Bool
 from_outside log_refusals.NoMemory = true
 from_outside log_refusals.DiskFault = true

@@ -58,8 +58,8 @@ pub fn calls_leave_the_cells_so()
     steps_only_add_records();
 }
 
-/// Within a transaction no call is refused for room, nor for anything else that the log could tell: the log refuses only for want of memory, of the disk, and if it
-/// is broken. A transaction that begins may be refused for room besides.
+/// Within a transaction no call is refused for room, nor for anything else that the log could tell: the log refuses only if memory
+/// runs out, if the disk fails, and if it is broken. A transaction that begins may be refused for room besides.
 pub fn a_transaction_has_its_room()
     ensures within { (tabled told : Bool) (s t : Store) (call : TxnCall) (given : Refusal) → HasArguments call → is_within call ≡ true → IsKeptStore tabled s.log s.memory
         → TxnStep told s call (replies.Refused (Log given)) t → from_outside given ≡ true }

@@ -71,7 +71,7 @@ one_failed state join r first now new was same time rises never = record {
   steady = λ s. absurd (never (steady_still (state first) (state now) was.time s));
 }
 
--- more reads behind these
+-- more reads after these
 pub reads_then : {D A : Type 0} (state : D → DiskState) → CallsJoin state → (r : Result A Failed) (first now new : D) → WasRead (state first) (state now)
     → OnlyReads r (state now) (state new) → OnlyReads r (state first) (state new)
 reads_then state join r first now new was reads = record {

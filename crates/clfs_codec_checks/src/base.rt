@@ -385,7 +385,7 @@ fn told_of_widest(alloc: Global, at: usize, value: u8) -> Option<u32> {
 fn rows_go_up_to_their_end(rt: HostRuntime) {
     let alloc = rt.alloc();
     assert!(rt; is_widest(alloc) == Some(true));
-    // the last byte of the last name, the byte behind it, and one row more
+    // the last byte of the last name, the byte after it, and one row more
     for (at, value, want) in [(15935, b'/', 15872), (15936, 1, 15936), (22, 193, 22)] {
         assert!(rt; told_of_widest(alloc, at, value) == Some(want), "byte {at}");
     }

@@ -148,7 +148,7 @@ fn is_closed(alloc: Global, bytes: &[u8]) -> bool {
     head == Err(BlockRefusal::Closed)
 }
 
-// It's refused where it ends behind so many bytes.
+// It's refused where it ends after so many bytes.
 fn is_refused_short(alloc: Global, bytes: &[u8], short: u32) -> bool {
     match bytes.get(..short as usize) {
         Some(front) => is_refused(alloc, front, short),

@@ -50,7 +50,7 @@ const SMALL: Place = Place {
     records: 1,
 };
 
-// One sector is left behind it.
+// One sector is left after it.
 const FULL: Place = Place {
     container: 1,
     offset: 2560,

@@ -30,7 +30,7 @@ fn entry(alloc: Global) -> Result<LogEntry, AllocError>
     })
 }
 
-// The record is written behind what is there.
+// The record is written after what is there.
 fn is_written(alloc: Global, entry: &LogEntry) -> Result<bool, AllocError>
     requires { FitsAt entry.now.lsn entry.now.stream entry.now }
 {
@@ -94,7 +94,7 @@ fn told(alloc: Global, bytes: &[u8; 48]) -> (Option<u32>, Option<u32>) {
     (at, head.err().map(|HeadRefusal::BadByte { at }| at))
 }
 
-// A record that ends behind so many bytes is refused at its first one.
+// A record that ends after so many bytes is refused at its first one.
 fn is_refused_short(alloc: Global, short: usize) -> bool
     requires { short ≤ 48 }
 {

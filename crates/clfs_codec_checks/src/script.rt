@@ -16,7 +16,7 @@ fn bad_place(alloc: Global, language: Language, line: &[u8]) -> Option<u32>
     }
 }
 
-// The front of a line up to a place, and more behind it.
+// The front of a line up to a place, and more after it.
 fn joined(alloc: Global, front: &[u8], more: &[u8]) -> Result<Vec<u8>, AllocError> {
     let mut line = front.to_vec(alloc)?;
     line.extend_from_slice(more)?;
@@ -214,7 +214,7 @@ fn an_append_with_all_options(rt: HostRuntime) {
     assert!(rt; parsed.is_ok_and(|line| is_line_of_append(&line)));
 }
 
-// The line of a reply stands behind what was there.
+// The line of a reply stands after what was there.
 fn is_written(alloc: Global, reply: &Reply, want: &[u8]) -> Result<bool, AllocError> {
     let mut out = Bytes::from_vec(b"before\n".to_vec(alloc)?);
     write_reply(9, reply, &mut out)?;

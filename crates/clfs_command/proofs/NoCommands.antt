@@ -11,7 +11,7 @@ use Rattle.clap.specs.declared.error.kind.ErrorKind.TheVariants.{OutOfMemory}
 use Rattle.clfs_command.specs.Command.{command_of, with_options}
 use Rattle.clfs_command.specs.Line.{command_line}
 
--- an error that isn't want of memory is a fault
+-- an error that isn't out of memory is a fault
 pub some_fault : (kinds : Kinds) (e : Error) → HasKind kinds e → (kind_of e ≡ OutOfMemory → ⊥) → is_empty kinds ≡ false
 some_fault [] e (inl memory) other = absurd (other memory)
 some_fault [] e (inr among) other = absurd among

@@ -1,4 +1,4 @@
--- The open blocks while blocks are written behind them.
+-- The open blocks while blocks are written after them.
 use Rattle.std.proofs.Common.{◌≡◌, ◌≢◌, ◌⊎◌, inl, inr, ⊎_elim, ℕ, zero, suc, ◌+◌, ◌-◌, ◌*◌, ◌<◌, ◌≤◌, List, [], ◌∷◌, ◌++◌, length, get_or, take, drop}
 use Rattle.std.proofs.Common.{refl, sym, ◌∙◌, ap, subst, arith, length-drop}
 use Rattle.std.proofs.lemmas.List.{length-take, length-take-le, get_or-take, get_or-drop, ext_get_or, drop-drop}
@@ -63,7 +63,7 @@ opens_within left bytes (block ∷ blocks) rest opens =
     let size : length block ≡ 512 * n = ap length opens.0.is ∙ length-take-le (512 * n) bytes opens.0.whole in
     omega (arith, size, opens.0.whole, opens_within (left - n) (drop (512 * n) bytes) blocks rest opens.1, length-drop (512 * n) bytes)
 
--- more of them behind them
+-- more of them after them
 pub opens_append : (left : ℕ) (bytes : List ℕ) (blocks more : List (List ℕ)) (rest last : ℕ) → Opens left bytes blocks rest
     → Opens rest (drop (total blocks) bytes) more last → Opens left bytes (blocks ++ more) last
 opens_append left bytes [] more rest last opens behind = subst (λ (k : ℕ). Opens k bytes more last) (sym opens) behind
@@ -81,7 +81,7 @@ total-append (b ∷ blocks) more = omega (arith, total-append blocks more)
 gate_at : (bytes : List ℕ) (at : ℕ) → get_or (drop at bytes) 0 0 ≡ get_or bytes at 0
 gate_at bytes at = get_or-drop at bytes 0 0 ∙ ap (λ (k : ℕ). get_or bytes k 0) (omega arith)
 
--- a byte of the body behind a gate
+-- a byte of the body after a gate
 body_byte : (file at : ℕ) (body : List ℕ) (files : Files) → HasBody file at body files → (i : ℕ) → at + 1 ≤ i → i < at + 1 + length body
     → get_or (files file) i 0 ≡ get_or body (i - (at + 1)) 0
 body_byte file at body files has i from until =
@@ -90,7 +90,7 @@ body_byte file at body files has i from until =
     sym (ap (λ (l : List ℕ). get_or l (i - (at + 1)) 0) (sym has.is) ∙ get_or-take (length body) (drop (at + 1) (files file)) (i - (at + 1)) 0 near
     ∙ get_or-drop (at + 1) (files file) (i - (at + 1)) 0 ∙ ap (λ (k : ℕ). get_or (files file) k 0) place)
 
--- bytes that were written behind a gate
+-- bytes that were written after a gate
 pub body_written : StandsInPlace → (file at : ℕ) (body : List ℕ) (old new : Files) → at + 1 + length body ≤ length (old file) → WrittenIn file (at + 1) body old new
     → HasBody file at body new
 body_written stands file at body old new room written = record {
@@ -118,7 +118,7 @@ module _ (sectors file : ℕ) (blocks : List (List ℕ)) (rest at : ℕ) (old : 
     closed = closed;
   }
 
-  -- the bytes behind the closed gate are torn
+  -- the bytes after the closed gate are torn
   pub body_torn : (n : ℕ) (new : Files) → TornIn file (at + 1) n old new → IsBehind sectors file blocks rest at new × OthersStay file old new
   body_torn n new torn = (
     still new torn.here.same_length (λ i lt. torn.here.below i (omega (arith, lt))) (λ is. behind.closed (sym (torn.here.below at (omega arith)) ∙ is)),

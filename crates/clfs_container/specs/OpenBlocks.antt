@@ -14,7 +14,7 @@ pub record BeginsWith (left : ℕ) (bytes block : List ℕ) : Type 0 where
   pub whole : sector_bytes * block_sectors bytes ≤ length bytes
   pub is : block ≡ take (sector_bytes * block_sectors bytes) bytes
 
--- The bytes begin with these open blocks, one behind the other, behind which so many of the sectors that are left remain.
+-- The bytes begin with these open blocks, one after the other, after which so many of the sectors that are left remain.
 abbrev pub Opens : ℕ → List ℕ → List (List ℕ) → ℕ → Type 0
 Opens left bytes [] rest = left ≡ rest
 Opens left bytes (block ∷ blocks) rest =
@@ -40,6 +40,6 @@ AreOpen sectors bytes blocks = (rest : ℕ) × Opens sectors bytes blocks rest �
 abbrev pub EndsCleanly : ℕ → List ℕ → Type 0
 EndsCleanly left bytes = (left ≡ 0) ⊎ ((0 < length bytes) × (slice_index bytes 0 ≢ open_gate))
 
--- These are the open blocks of a container of so many sectors, and the list ends cleanly: nothing behind them is damage.
+-- These are the open blocks of a container of so many sectors, and the list ends cleanly: nothing after them is damage.
 abbrev pub AreWhole : ℕ → List ℕ → List (List ℕ) → Type 0
 AreWhole sectors bytes blocks = (rest : ℕ) × Opens sectors bytes blocks rest × EndsCleanly rest (drop (total blocks) bytes)

@@ -1,9 +1,9 @@
 //! Writing blocks into the file of a container, so that each crash leaves all of them or none.
 //!
 //! A block counts only where its first byte, the gate, is open. Blocks are written in two steps. `write_body` writes the
-//! bytes that it is given, which are all but the first gate, with a closed gate behind them, and syncs: whatever a crash
-//! leaves of them stands behind a gate that is closed on the disk, so nobody reads it. `open_gate` then writes that one byte
-//! and syncs: a crash leaves it as it was or open over a body that is on the disk whole. The closed gate behind stops a
+//! bytes that it is given, which are all but the first gate, with a closed gate after them, and syncs: whatever a crash
+//! leaves of them stands after a gate that is closed on the disk, so nobody reads it. `open_gate` then writes that one byte
+//! and syncs: a crash leaves it as it was or open over a body that is on the disk whole. The closed gate after stops a
 //! reader at bytes of an earlier use of the file. The contracts speak of the bytes that are handed in, be they one block or
 //! several in a row.
 #![tactic(auto)]
@@ -22,7 +22,7 @@ use clfs_lsn::OPEN_GATE;
 // One of the values of a closed gate.
 const CLOSED: u8 = 0;
 
-/// Writes what stands behind the gate at byte `at`, and syncs it, by two calls of the disk. The gate itself stays as it is.
+/// Writes what stands after the gate at byte `at`, and syncs it, by two calls of the disk. The gate itself stays as it is.
 pub fn write_body<D: Disk>(disk: &mut D, file: u16, at: u32, bytes: &[u8]) -> Result<(), Failed>
     requires { file ≤ 256 }
     ensures call { WritesSynced file (at + 1) bytes.now result (D.state disk.old) (D.state disk.new) }
@@ -32,7 +32,7 @@ pub fn write_body<D: Disk>(disk: &mut D, file: u16, at: u32, bytes: &[u8]) -> Re
     ensures images { OnOk result (IsHonest (D.state disk.old) → (image : Files) → MayLeave (D.state disk.new) image
         → HasBody file at bytes.now image × (slice_index (image file) at ≡ slice_index ((D.state disk.old).files file) at)) }
 
-    // Behind a closed gate no block comes or goes, at any moment of the call.
+    // After a closed gate no block comes or goes, at any moment of the call.
     ensures moments { IsSettled (D.state disk.old) → KeepsBlocks file at (D.state disk.old) (D.state disk.new) }
     ensures behind { StaysBehind file at (D.state disk.old).files (D.state disk.new).files }
 {
@@ -77,7 +77,7 @@ pub fn read_block<D: Disk>(
     disk.read(file, at as u64, out)
 }
 
-/// Bytes have at most one list of open blocks, and the blocks that are written behind closed gates are those of it. A list that
+/// Bytes have at most one list of open blocks, and the blocks that are written after closed gates are those of it. A list that
 /// ends cleanly is one of these, and what is written keeps the list so. A file without bytes has none for a container that has
 /// sectors: the gate of its first block isn't there.
 pub fn open_blocks_are_one_list()

@@ -1,4 +1,4 @@
--- A cursor that was started: a new key of the slab, behind the keys of its area.
+-- A cursor that was started: a new key of the slab, after the keys of its area.
 use Rattle.std.proofs.Common.{◌≡◌, ◌≢◌, ℕ, ◌+◌, ◌<◌, ◌≤◌, Bool, true, false, cond, refl, sym, ap, ap₂, ◌∙◌, subst, arith, List, [], ◌∷◌, ◌++◌, length, map, get_or, length-append, Option, Some, None, is_some}
 use Rattle.std.specs.Prelude.{slice_set}
 use Rattle.std.proofs.lemmas.Bool.Decides.{nat_tests}

@@ -41,7 +41,7 @@ impl Cursors {
         }
     }
 
-    /// One more area, behind the others, which may have so many cursors and has none. Memory is taken for their keys.
+    /// One more area, after the others, which may have so many cursors and has none. Memory is taken for their keys.
     pub fn add_area(&mut self, reads: u16) -> Result<(), AllocError>
         ensures areas { OnOk result (self.new.areas ≡ self.old.areas ++ record { cursors = []; reads = reads } ∷ []) }
         ensures err { OnErr result (self.new.areas ≡ self.old.areas) }
@@ -52,7 +52,7 @@ impl Cursors {
         Ok(())
     }
 
-    /// An area goes with its cursors, and those behind it move down by one place. It takes no memory.
+    /// An area goes with its cursors, and those after it move down by one place. It takes no memory.
     pub fn remove_area(&mut self, place: usize)
         requires { place < length self.old.areas }
         ensures areas { self.new.areas ≡ remove self.old.areas place }

@@ -77,7 +77,7 @@ pub record Syncs (result : Result (Unit {0}) Failed) (old new : DiskState) : Typ
   -- and never on a steady disk
   pub steady : IsSteady old → IsOk result × (new.faults ≡ old.faults)
 
--- A write and a sync behind it, the step of which every change of a log's files is made.
+-- A write and a sync after it, the step of which every change of a log's files is made.
 pub record WritesSynced (file at : ℕ) (bytes : List ℕ) (result : Result (Unit {0}) Failed) (old new : DiskState) : Type 0 where
   -- after an Ok, where contents are told, the file has the range and the bytes stand in it
   pub written : OnOk result (TellsContents old → (at + length bytes ≤ length (old.files file)) × WrittenIn file at bytes old.files new.files)

@@ -16,7 +16,7 @@ const FRONT: [u8; 16] = [0xA5, 1, 1, 0, 3, 0, 0, 0, 136, 0, 0, 0, 0, 0, 0, 0];
 // The header of a record of stream 1 with one byte of data and null links.
 const HEADER: [u8; 8] = [1, 0, 0, 0, 1, 0, 1, 0];
 
-// The block so many sectors behind its container's first byte. The data of its records are one byte each, all different in a container.
+// The block so many sectors after its container's first byte. The data of its records are one byte each, all different in a container.
 fn block(container: u16, sector: u8) -> [u8; 512]
     requires container { container < 3 }
     requires sector { sector < 60 }
@@ -33,7 +33,7 @@ fn block(container: u16, sector: u8) -> [u8; 512]
     bytes
 }
 
-// Writes so many blocks into a file, one behind the other.
+// Writes so many blocks into a file, one after the other.
 fn write_blocks(disk: &mut Steady, file: u16, blocks: u8) -> bool
     requires file { file < 3 }
     requires blocks { blocks < 60 }
@@ -119,7 +119,7 @@ fn has_byte<D: Disk>(
     read(buffers, disk, 1, sector, sequence) == Ok(byte)
 }
 
-// One call of the disk gives the records of a block in any order, and none behind them. A block that is read later needs another call.
+// One call of the disk gives the records of a block in any order, and none after them. A block that is read later needs another call.
 fn are_read_by_one_call(alloc: Global, order: [u32; 3]) -> Option<bool> {
     let (mut buffers, mut disk) = start(alloc, 2, 1)?;
     for sequence in order {
@@ -148,7 +148,7 @@ fn records_of_a_block_are_read_by_one_call(rt: HostRuntime) {
     }
 }
 
-// A block of two sectors behind its container's first byte, with one record of 500 bytes.
+// A block of two sectors after its container's first byte, with one record of 500 bytes.
 fn long_block() -> [u8; 1024] {
     let mut bytes = [0; 1024];
     bytes[..16].copy_from_slice(&[0xA5, 1, 2, 0, 1, 0, 0, 0, 40, 2, 0, 0, 0, 0, 0, 0]);
@@ -183,7 +183,7 @@ fn a_block_longer_than_expected_is_read_by_two_calls(rt: HostRuntime) {
     }
 }
 
-// Of forty blocks that are read one behind the other just the last ones are kept, as many as are to be.
+// Of forty blocks that are read one after the other just the last ones are kept, as many as are to be.
 fn keeps_the_last(alloc: Global, most: u32) -> Option<bool>
     requires { 1 ≤ most }
 {
@@ -337,7 +337,7 @@ fn damage_is_told_where_the_first_check_fails(rt: HostRuntime) -> Result<(), All
     Ok(())
 }
 
-// What is told of a block in a file that ends behind so many bytes, of which the first opens its gate.
+// What is told of a block in a file that ends after so many bytes, of which the first opens its gate.
 fn answer_of_short(alloc: Global, len: u64) -> Option<ReadRefusal> {
     let mut buffers = Buffers::new(alloc, 32).ok()?;
     let mut disk = Steady::new(alloc).ok()?;

@@ -4,14 +4,14 @@ use clfs_container::{close_first, open_gate, read_block, write_body};
 use clfs_disk::{Disk, Fuse, Memory};
 use std::alloc::Global;
 
-// One block of one sector, all of its bytes but the gate 7, and the closed gate behind it.
+// One block of one sector, all of its bytes but the gate 7, and the closed gate after it.
 fn body() -> [u8; 512] {
     let mut bytes = [7; 512];
     bytes[511] = 0;
     bytes
 }
 
-// The first sector and the byte behind it, as a crash leaves them of a file of zeros into which a block was written on a
+// The first sector and the byte after it, as a crash leaves them of a file of zeros into which a block was written on a
 // disk that passes so many calls.
 fn left_by(alloc: Global, passes: u64, pick: u8) -> Option<[u8; 513]>
     requires { pick ≤ 2 }

@@ -27,7 +27,7 @@ fn crash_leaves_what_was_synced_or_read(rt: HostRuntime) {
     assert!(rt; left_by(rt.alloc(), 2) == Some([1, 1, 2, 1, 3, 0]));
 }
 
-// Which of five calls are answered Ok: a growth, two writes of four bytes one behind the other, a sync, and a read that finds
+// Which of five calls are answered Ok: a growth, two writes of four bytes one after the other, a sync, and a read that finds
 // the second byte written.
 fn answers<D: Disk>(disk: &mut D, len: u64) -> [bool; 5] {
     let grown = disk.grow(0, len).is_ok();

@@ -13,7 +13,7 @@ fn own_path(rt: &HostRuntime, name: &str) -> io::Result<String> {
     Ok(path)
 }
 
-// A folder behind a path, of which this many bytes more are taken as its name.
+// A folder after a path, of which this many bytes more are taken as its name.
 fn folder(rt: &HostRuntime, path: &str, more: &str) -> io::Result<Folder> {
     Ok(Folder::new(*rt, format!(in rt.alloc(); "{path}{more}")?))
 }
@@ -113,7 +113,7 @@ const ALL_FAIL: &[Step] = &[
     Step::Fails(Done::Sync),
 ];
 
-// Each step goes in a folder behind a path, of which these bytes more are taken as its name.
+// Each step goes in a folder after a path, of which these bytes more are taken as its name.
 fn run(rt: &HostRuntime, path: &str, more: &str, steps: &[Step]) -> io::Result<bool> {
     let mut disk = folder(rt, path, more)?;
     is_send(&disk);

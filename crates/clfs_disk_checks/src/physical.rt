@@ -34,7 +34,7 @@ fn disk_of_a_log(alloc: Global) -> Option<Memory> {
     Some(disk)
 }
 
-// Three blocks of one sector, all but the gate of the first, and a closed gate behind them.
+// Three blocks of one sector, all but the gate of the first, and a closed gate after them.
 fn group() -> [u8; 1536] {
     let mut body = [0; 1536];
     body[1] = 1;

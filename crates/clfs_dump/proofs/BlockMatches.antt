@@ -96,7 +96,7 @@ past_gate : (b : Bool) (r : Result BlockHead BlockRefusal) → b ≡ false → c
 past_gate true r p e = absurd (cc p)
 past_gate false r p e = e
 
--- a block behind an open gate isn't refused for a closed one
+-- a block after an open gate isn't refused for a closed one
 pub closed_gate : (shape : Shape) (start : ℕ) (bytes : List ℕ) → get_or bytes 0 0 ≡ 165 → frame_at shape start bytes ≡ Err blocks.Closed → ⊥
 unfolding frame_at sectors_at
 closed_gate shape start bytes gate e =
@@ -114,7 +114,7 @@ closed_gate shape start bytes gate e =
     let h = past_check (address_place (wrong_sector start bytes sum)) (answered (head_of bytes)) f in
     cc h
 
--- nor is one for what is behind its records
+-- nor is one for what is after its records
 rest_has_no_gate : (bytes : List ℕ) (head : BlockHead) → rest_at bytes head ≡ Err blocks.Closed → ⊥
 rest_has_no_gate bytes head is = by_place (payload_place (other_byte bytes head.used head.sectors)) is
   where
@@ -140,7 +140,7 @@ module _ (written : AreReadAsWritten) (selection : Selection) (rows : List Row) 
   abbrev told : Told (Option ℕ)
   told = block_told selection rows shape container offset bytes
 
-  -- what is told of a block behind an open gate, by what reading it gives
+  -- what is told of a block after an open gate, by what reading it gives
   abbrev pub MatchesBlock : Result (List LogEntry) BlockRefusal → Type 0
   MatchesBlock (Ok entries) = (told.found ≡ Ok (Some (block_sectors bytes))) × (told.records ≡ entries)
   MatchesBlock (Err refusal) = told.found ≡ Err (damage_at container offset refusal)

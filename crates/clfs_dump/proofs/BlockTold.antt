@@ -65,7 +65,7 @@ module _ (selection : Selection) (rows : List Row) (shape : Shape) (container of
     found_wrong at wrong = found_by ∙ ap (λ (r : Result (List LogEntry) BlockRefusal). ends r) (records_refused shape (length rows) start bytes head is at wrong)
 
     module _ (entries : List LogEntry) (right : records_from (length rows) (payload_of head.used bytes) head.records start 16 ≡ Ok entries) where
-      -- a byte behind the records is wrong
+      -- a byte after the records is wrong
       pub found_rest : (refusal : BlockRefusal) → rest_at bytes head ≡ Err refusal → told.found ≡ block_end container offset head.sectors (Err refusal)
       found_rest refusal wrong =
           found_by ∙ ap (λ (r : Result (List LogEntry) BlockRefusal). ends r)
@@ -76,7 +76,7 @@ module _ (selection : Selection) (rows : List Row) (shape : Shape) (container of
       found_whole other clean =
           found_by ∙ ap (λ (r : Result (List LogEntry) BlockRefusal). ends r) (block_read shape (length rows) start bytes head is entries right other clean)
 
-  -- a block that ends behind sectors has a frame that says them
+  -- a block that ends after sectors has a frame that says them
   pub sectors_of_frame : (sectors : ℕ) → told.found ≡ Ok (Some sectors)
       → (head : BlockHead) × (frame_at shape start bytes ≡ Ok head) × (head.sectors ≡ sectors)
   sectors_of_frame sectors is = by_frame (frame_at shape start bytes) refl is

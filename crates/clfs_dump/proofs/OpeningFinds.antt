@@ -36,7 +36,7 @@ use Rattle.clfs_dump.proofs.Walks.{ended, begun}
 abbrev Records : Type 0
 Records = Result (List LogEntry) LoadRefusal
 
--- records with others behind them, or the first refusal
+-- records with others after them, or the first refusal
 abbrev joined : Records → Records → Records
 joined r s = r >>= λ (entries : List LogEntry). (s >>= λ (others : List LogEntry). Ok (entries ++ others))
 
@@ -128,7 +128,7 @@ module _ (judged : AreJudgedAlone) (written : AreReadAsWritten) (selection : Sel
                 ap (λ (t : Told (Option ℕ)). (then_told t (behind_here m offset)).found)
                 (told_refused selection rows shape id offset (drop offset file) blocks.NoMemory e)
 
-    -- open blocks one behind the other, and what stands behind them
+    -- open blocks one after the other, and what stands after them
     blocks_match : (open_blocks : List (List ℕ)) (n left offset rest : ℕ) → 512 * shape.container_sectors ≡ 512 * left + offset → left ≤ n
         → Opens left (drop offset file) open_blocks rest → Ends rest (drop (offset + total open_blocks) file)
         → Matches (here n offset) (blocks_records shape (length rows) id (drop (offset + total open_blocks) file) offset open_blocks) (offset + total open_blocks)
@@ -209,7 +209,7 @@ module _ (judged : AreJudgedAlone) (written : AreReadAsWritten) (selection : Sel
 
   -- ---- the containers of a log
 
-  -- where they end, behind one that ends at an offset
+  -- where they end, after one that ends at an offset
   abbrev end_behind : ℕ → List Container → ℕ
   end_behind end [] = end
   end_behind end (container ∷ containers) = last_end (container ∷ containers)

@@ -1,4 +1,4 @@
--- Parts of a log that are printed, one behind the other.
+-- Parts of a log that are printed, one after the other.
 use Rattle.std.proofs.Common.{◌≡◌, ℕ, List, [], ◌++◌, Option, Result, Ok, Err, refl, ap, subst}
 use Rattle.std.specs.Io.KnownBytes.{Appends}
 use Rattle.clfs_lsn.specs.declared.entry.LogEntry.{LogEntry}
@@ -18,7 +18,7 @@ prints_refusal a b text found (logs.Damaged container offset at) all is = (all, 
 prints_refusal a b text found logs.DiskFault all is = front_of_all a b text all
 prints_refusal a b text found logs.NoMemory all is = front_of_all a b text all
 
--- a part behind lines that were written
+-- a part after lines that were written
 pub prints_behind : {T : Type 0} (a b c : Option (List ℕ)) (lines text : List ℕ) (found : Result T LoadRefusal) (r : Result T DumpRefusal)
     → Appends a b lines → Prints b c text found r → Prints a c (lines ++ text) found r
 prints_behind a b c lines text found (Ok value) first printed = (appends_more a b c lines text (lines ++ text) refl first printed.0, printed.1)
@@ -71,7 +71,7 @@ module _ {S T : Type 0} (a b : Option (List ℕ)) (told : Told S) (next : S → 
       → Prints {T = T} a b (then_told told next).text (then_told told next).found (Err e)
   prints_first e printed = first_by a b told.text told.records next told.found e printed
 
-  -- a part, and what comes behind it
+  -- a part, and what comes after it
   pub prints_next : (value : S) (c : Option (List ℕ)) (r : Result T DumpRefusal) → Prints a b told.text told.found (Ok value)
       → Prints b c (next value).text (next value).found r → Prints a c (then_told told next).text (then_told told next).found r
   prints_next value c r first printed = next_by a b told.text told.records next told.found value c r first.0 first.1 printed

@@ -16,7 +16,7 @@ module _ (streams : ℕ) (payload : List ℕ) (count start : ℕ) where
       let e : count - sequence ≡ suc (count - (sequence + 1)) = omega (arith, lt) in
       ap (λ (n : ℕ). records_met streams payload n (start + sequence) p) e
 
-  -- a record that is right is met, and those behind it
+  -- a record that is right is met, and those after it
   pub met_taken : (sequence p size : ℕ) (entry : LogEntry) → sequence < count → record_at (start + sequence) streams (drop p payload) ≡ Ok (entry, size)
       → met_here sequence p ≡ entry ∷ met_here (sequence + 1) (p + size)
   met_taken sequence p size entry lt is =
@@ -33,7 +33,7 @@ module _ (streams : ℕ) (payload : List ℕ) (count start : ℕ) where
       one_more sequence p lt
       ∙ ap (λ (r : Result (LogEntry × ℕ) ℕ). met_with (λ size. records_met streams payload n (start + sequence + 1) (p + size)) r) is
 
-  -- and behind the last
+  -- and after the last
   pub met_end : (sequence p : ℕ) → count ≤ sequence → met_here sequence p ≡ []
   met_end sequence p le =
       let e : count - sequence ≡ 0 = omega (arith, le) in ap (λ (n : ℕ). records_met streams payload n (start + sequence) p) e

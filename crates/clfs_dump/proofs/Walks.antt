@@ -86,7 +86,7 @@ module _ (selection : Selection) (rows : List Row) (shape : Shape) (container : 
           (prints_next now new (block_here offset) (behind_block (λ behind. from_here one.0 behind) offset) None new (Ok offset) printed
           (prints_only new offset)))
 
-      -- it is behind, with its sectors
+      -- it is after, with its sectors
       pub at_next : (sectors : ℕ) → 1 ≤ sectors → PrintsTold now new (block_here offset) (Ok (Some sectors))
           → IsThrough before new (offset + 512 * sectors)
       at_next sectors some printed =

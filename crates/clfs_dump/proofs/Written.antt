@@ -42,7 +42,7 @@ front_of_all a b text all = record {
 pub front_of_none : (a : Option (List ℕ)) (text : List ℕ) → AppendsFront a a text
 front_of_none a text = record { count = 0; front = appends_none a }
 
--- a front of what comes behind a text that was written
+-- a front of what comes after a text that was written
 pub front_behind : (a b c : Option (List ℕ)) (lines text : List ℕ) → Appends a b lines → AppendsFront b c text → AppendsFront a c (lines ++ text)
 front_behind a b c lines text first front = record {
   count = length lines + front.count;

@@ -85,7 +85,7 @@ record_front entry = place_after (codes "record ") entry.lsn ++ (number_after (c
 abbrev pub record_links : LogEntry → List ℕ
 record_links entry = place_after (codes " ") entry.previous ++ (place_after (codes " ") entry.undo_next ++ place_after (codes " ") entry.new_base)
 
--- the line of a record: that of a script's reply, with the number of the stream behind the LSN
+-- the line of a record: that of a script's reply, with the number of the stream after the LSN
 abbrev pub record_line : DataForm → LogEntry → List ℕ
 record_line form entry = record_front entry ++ (record_links entry ++ (data_part form entry.bytes ++ codes "\n"))
 

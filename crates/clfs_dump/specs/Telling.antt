@@ -38,11 +38,11 @@ pub record Told (T : Type 0) : Type 0 where
 abbrev pub only : {T : Type 0} → Result T LoadRefusal → Told T
 only found = record { text = []; records = []; found = found }
 
--- a part behind lines
+-- a part after lines
 abbrev pub behind_lines : {T : Type 0} → List ℕ → Told T → Told T
 behind_lines lines told = record { text = lines ++ told.text; records = told.records; found = told.found }
 
--- a part, and behind it what comes there if its end was found; a refusal ends it all
+-- a part, and after it what comes there if its end was found; a refusal ends it all
 abbrev pub followed_by : {S T : Type 0} → List ℕ → List LogEntry → Result S LoadRefusal → (S → Told T) → Told T
 followed_by text records (Ok value) next =
     record { text = text ++ (next value).text; records = records ++ (next value).records; found = (next value).found }
@@ -54,7 +54,7 @@ then_told told next = followed_by told.text told.records told.found next
 
 -- ---- a block
 
--- a record, and those behind it, if it is right
+-- a record, and those after it, if it is right
 abbrev pub met_with : (ℕ → List LogEntry) → Result (LogEntry × ℕ) ℕ → List LogEntry
 met_with next (Ok (entry, size)) = entry ∷ next size
 met_with next (Err at) = []
@@ -73,7 +73,7 @@ record_text selection rows entry = if is_chosen selection rows entry.lsn entry.s
 abbrev pub block_text : Selection → ℕ → BlockHead → List ℕ
 block_text selection start head = if meets_range selection start head.records then block_line start head else []
 
--- How a block at its place ends: behind its sectors, without one at a closed gate, or at its first wrong byte.
+-- How a block at its place ends: after its sectors, without one at a closed gate, or at its first wrong byte.
 abbrev pub block_end : ℕ → ℕ → ℕ → Result (List LogEntry) BlockRefusal → Result (Option ℕ) LoadRefusal
 block_end container offset sectors (Ok entries) = Ok (Some sectors)
 block_end container offset sectors (Err blocks.Closed) = Ok None
@@ -98,7 +98,7 @@ block_told selection rows shape container offset bytes =
 
 -- ---- a container
 
--- what comes behind the place of a block: the next block, or the end of the blocks at a closed gate
+-- what comes after the place of a block: the next block, or the end of the blocks at a closed gate
 abbrev pub behind_block : (ℕ → Told ℕ) → ℕ → Option ℕ → Told ℕ
 behind_block next offset (Some sectors) = next (offset + sector_bytes * sectors)
 behind_block next offset None = only (Ok offset)
@@ -119,7 +119,7 @@ container_told selection rows shape files id number =
 
 -- ---- a log
 
--- containers with ids from one on in the files with these numbers, behind one that ends at this offset
+-- containers with ids from one on in the files with these numbers, after one that ends at this offset
 abbrev pub listed_told : Selection → List Row → Shape → Files → ℕ → ℕ → List ℕ → Told ℕ
 listed_told selection rows shape files id end [] = only (Ok end)
 listed_told selection rows shape files id end (number ∷ numbers) =

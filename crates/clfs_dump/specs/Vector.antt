@@ -24,6 +24,6 @@ up_to lsn = record all { to = Some lsn }
 abbrev pub named : List ℕ → Selection
 named name = record all { stream = Some name }
 
--- files in which the first container's begins with this block, behind which the gate is closed
+-- files in which the first container's begins with this block, after which the gate is closed
 abbrev pub one_file : List ℕ → Files
 one_file block file = if file == 1 then block ++ replicate 512 0 else []

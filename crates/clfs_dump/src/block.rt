@@ -1,4 +1,4 @@
-// One block: the checks of its frame, its records, and the zeros behind them, in the order of opening, with its text.
+// One block: the checks of its frame, its records, and the zeros after them, in the order of opening, with its text.
 ghost use Rattle.std.specs.Prelude.{◌≡◌, ◌^◌, ◌+◌, ◌<◌, ◌++◌, ℕ, length, Err, OnOk, IfOk, IfSome, IsErrOf};
 ghost use Rattle.clfs_dump.specs.Telling.{block_text, block_told, block_end};
 ghost use Rattle.clfs_dump.specs.Printing.{Prints, HasSinkCause};

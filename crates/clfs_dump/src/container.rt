@@ -1,4 +1,4 @@
-// The blocks of one container, one behind the other, from its first byte up to a closed gate or its end.
+// The blocks of one container, one after the other, from its first byte up to a closed gate or its end.
 ghost use Rattle.std.specs.Prelude.{◌≡◌, ◌*◌, ◌^◌, ◌<◌, ◌≤◌, length, IfOk};
 ghost use Rattle.clfs_lsn.specs.Format.{sector_bytes};
 ghost use Rattle.clfs_lsn.specs.Size.{IsShape};
@@ -38,7 +38,7 @@ fn container_text(alloc: Global, listed: &Listed) -> Result<Bytes, AllocError>
     Ok(text)
 }
 
-// Prints the blocks of a container from its first byte on, and answers the byte behind the last. `payload` is memory that serves all blocks.
+// Prints the blocks of a container from its first byte on, and answers the byte after the last. `payload` is memory that serves all blocks.
 fn print_blocks<D: Disk, K: Sink>(
     alloc: Global,
     selection: &Selection,
@@ -85,7 +85,7 @@ fn print_blocks<D: Disk, K: Sink>(
     Ok(offset)
 }
 
-/// Prints a container, and answers the byte behind its last block.
+/// Prints a container, and answers the byte after its last block.
 pub(crate) fn print_container<D: Disk, K: Sink>(
     alloc: Global,
     selection: &Selection,

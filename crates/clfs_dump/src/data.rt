@@ -38,7 +38,7 @@ fn push_quoted(bytes: &[u8], out: &mut Bytes) -> Result<(), AllocError>
     out.extend_from_slice(b"\"")
 }
 
-/// Adds data as they are asked for, behind a space.
+/// Adds data as they are asked for, after a space.
 pub(crate) fn push_part(form: DataForm, bytes: &[u8], out: &mut Bytes) -> Result<(), AllocError>
     ensures { OnOk result (out.new ≡ out.old ++ data_part form bytes.now) }
 {

@@ -1,4 +1,4 @@
-// What stands behind the last record: whether the base copy fits where the records end, and the last line.
+// What stands after the last record: whether the base copy fits where the records end, and the last line.
 ghost use Rattle.std.specs.Prelude.{◌≡◌, ◌+◌, ◌-◌, ◌^◌, ◌<◌, nat_lt, length, position};
 ghost use Rattle.clfs_lsn.specs.Place.{frontier};
 ghost use Rattle.clfs_base.specs.declared.image.Row.{Row};
@@ -40,7 +40,7 @@ fn wrong_image(image: &BaseImage, frontier: Lsn) -> Option<u32>
     None
 }
 
-// The place behind the last block of the last listed container.
+// The place after the last block of the last listed container.
 fn place_at(image: &BaseImage, end: u32) -> Place
     requires { IsImage image.now }
     ensures { result ≡ place_at image.now end }

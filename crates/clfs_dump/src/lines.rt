@@ -1,4 +1,4 @@
-// The lines of a dump, each added behind the text that is there.
+// The lines of a dump, each added after the text that is there.
 ghost use Rattle.std.specs.Prelude.{◌≡◌, ◌++◌, ◌^◌, ◌<◌, ◌≤◌, ℕ, List, OnOk, codes, length, decimal};
 ghost use Rattle.clfs_lsn.specs.Words.{lsn_text};
 ghost use Rattle.clfs_model.specs.Text.{kind_text};

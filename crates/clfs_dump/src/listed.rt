@@ -17,7 +17,7 @@ use clfs_lsn::{Bytes, Shape};
 use clfs_ports::Sink;
 use std::alloc::Global;
 
-/// Prints the containers in the files with these numbers, whose ids go on from the first one, and answers the byte behind the last block of the last.
+/// Prints the containers in the files with these numbers, whose ids go on from the first one, and answers the byte after the last block of the last.
 pub(crate) fn print_listed<D: Disk, K: Sink>(
     alloc: Global,
     selection: &Selection,

@@ -1,4 +1,4 @@
-// Reading ahead: a piece of a file is read by one call of the disk, and serves for many blocks. It is read anew from a place where it hasn't all of a
+// Reading ahead: a piece of a file is read by one call of the disk, and serves for many blocks. It is read again from a place where it hasn't all of a
 // block that may begin there. Its memory is taken once.
 ghost use Rattle.std.specs.Prelude.{◌≡◌, ◌+◌, ◌-◌, ◌^◌, ◌≤◌, ◌<◌, IsTrue, length, drop, IsOk, IfOk, OnOk, OnErr};
 ghost use Rattle.clfs_disk.specs.Files.{Unchanged};

@@ -1,4 +1,4 @@
-// The records of one block's payload, one behind the other, up to the first that is wrong.
+// The records of one block's payload, one after the other, up to the first that is wrong.
 ghost use Rattle.std.specs.Prelude.{◌≡◌, ◌+◌, ◌^◌, ◌<◌, ◌≤◌, ◌++◌, List, length, drop, IfOk};
 ghost use Rattle.std.specs.List.{flat_map};
 ghost use Rattle.clfs_lsn.specs.Format.{block_header};

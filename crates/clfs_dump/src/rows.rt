@@ -15,7 +15,7 @@ pub fn lines_of_a_small_log()
 {}
 
 /// What is told of a log with blocks of 2 sectors and containers of 8, of which container 1 is listed and has one block with that record: all of it;
-/// by where the records begin, end and are from; and where a byte is wrong, in the block's header, in the record and behind it.
+/// by where the records begin, end and are from; and where a byte is wrong, in the block's header, in the record and after it.
 pub fn dumps_of_a_small_log()
     ensures all { (image_told all (one_file one_block) 0 (with_stream 0)).text
         ≡ codes "log block 2 container 8 containers 2 files 2 listed 1 streams 1 archive off version 2 slot 0 turn 0\nstream 1 base 0:0:0 a\ncontainer 1 file 1\nblock 1:0:0 sectors 1 records 1 used 64\nrecord 1:0:0 1 data 0:0:0 0:0:0 0:0:0 00010203040506070809\n" }

@@ -59,7 +59,7 @@ same_clients (s ∷ ss) (t ∷ ts) [] made = absurd made
 same_clients (s ∷ ss) (t ∷ ts) (script ∷ scripts) made =
     ap (λ (c : ℕ). c ∷ clients_in ts) made.0.made.same.client ∙ ap (λ (cs : List ℕ). s.client ∷ cs) (same_clients ss ts scripts made.1)
 
--- a client at the front, and one behind it
+-- a client at the front, and one after it
 first_in : (c : ℕ) (cs : List ℕ) → is_in c (c ∷ cs) ≡ true
 first_in c cs = let t : (c == c) ≡ true = eq-eqb c c refl in rw t refl
 

@@ -97,7 +97,7 @@ works_on log a b call reply works same step fine records = record {
   largest = same.largest ∙ works.largest;
 }
 
--- after want of memory
+-- after out of memory
 pub works_still : (log : SharedState) (a b : AreaBooks) → IsAtWork log a → IsSameArea a b → HasSameBooks a b → b.session.seen ≡ a.session.seen → IsAtWork log b
 works_still log a b works same books is = record {
   of = still_of log a.session b.session works.of same.session;

@@ -57,7 +57,7 @@ answer_faulted : (result : Result ℕ Refusal) → replied replies.Flushed resul
 answer_faulted (Ok lsn) e = absurd (cc e)
 answer_faulted (Err refusal) e = cc e
 
--- a log that was opened anew
+-- a log that was opened again
 pub reopened_one : (s : State) (old : DiskState) (client : ℕ) (result : Result ℕ Refusal) (reply : Reply) (t : State) (new : DiskState) → reply ≡ replied replies.Flushed result
     → ReopenStep old.nature.tells_contents s (happened_of (replied replies.Flushed result)) (replied replies.Flushed result) t → OnlyReads result old new
     → CrashSurvives (reopens client) s old new → (s.broken ≡ true → StandsStill old new) → OpeningBreaks → OpeningStaysBroken

@@ -97,7 +97,7 @@ serve_status status (inr (inl e)) = inr (inr e)
 serve_status status (inr (inr (inl e))) = inl (inr (inr (inl e)))
 serve_status status (inr (inr (inr e))) = inl (inr (inr (inr (inl e))))
 
--- no status of answering but for a sink fault and want of memory
+-- no status of answering but for a sink fault and out of memory
 pub not_answered : (status k : ℕ) → (status ≡ 4) ⊎ ((status ≡ 6) ⊎ ((status ≡ 3) ⊎ (status ≡ 5))) → status ≡ k → (k ≡ 0) ⊎ ((k ≡ 2) ⊎ (k ≡ 7)) → ⊥
 not_answered status k statuses is others = by_status statuses
   where

@@ -24,7 +24,7 @@ use Rattle.clfs_engine.proofs.SoFar.{later_then, stands_still}
 
 -- ---- the replies as texts
 
--- they stand one behind the other
+-- they stand one after the other
 texts_joined : (answers : List TxnReply) → table_text answers ≡ concat (map txn_reply_line answers)
 texts_joined [] = refl
 texts_joined (reply ∷ answers) = ap (λ (text : List ℕ). txn_reply_line reply ++ text) (texts_joined answers)

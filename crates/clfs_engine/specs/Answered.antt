@@ -24,7 +24,7 @@ use Rattle.clfs_engine.specs.Told.{has_fault, has_damage, has_broken}
 abbrev pub requests_of : List (List ℕ) → List Request
 requests_of lines = requests_of_lines calls_and_reopening lines
 
--- Where the log isn't broken behind a step it wasn't before, and no fault was told.
+-- Where the log isn't broken after a step it wasn't before, and no fault was told.
 abbrev pub IsFaultless : State → Reply → State → Type 0
 IsFaultless s reply t = t.broken ≡ false → (s.broken ≡ false) × (reply ≡ replies.Refused refusals.DiskFault → ⊥)
 
@@ -39,7 +39,7 @@ pub record AnswersOne (s : State) (old : DiskState) (request : Request) (reply :
   pub stopped : s.broken ≡ true → StandsStill old new
   pub faultless : IsFaultless s reply t
 
--- one line was answered, and its reply stands behind the output
+-- one line was answered, and its reply stands after the output
 pub record AnswersLine (s : State) (old : DiskState) (line before after : List ℕ) (t : State) (new : DiskState) : Type 0 where
   pub reply : Reply
   pub answered : AnswersOne s old (line_request (without_return line)) reply t new
@@ -51,7 +51,7 @@ pub record AnswersText (s : State) (old : DiskState) (line text : List ℕ) (t :
   pub answered : AnswersOne s old (line_request (without_return line)) reply t new
   pub is : text ≡ reply_line (client_of (line_request (without_return line))) reply
 
--- one line was answered, and memory ran out behind that
+-- one line was answered, and memory ran out after that
 pub record AnswersUnwritten (s : State) (old : DiskState) (line : List ℕ) (t : State) (new : DiskState) : Type 0 where
   pub reply : Reply
   pub answered : AnswersOne s old (line_request (without_return line)) reply t new

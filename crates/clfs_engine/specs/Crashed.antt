@@ -32,7 +32,7 @@ abbrev pub IsLeftBetween : Bool → Images → ℕ → ℕ → Asking → Type 0
 IsLeftBetween whole images from to asked = (moment : ℕ) (image : Files) → from ≤ moment → moment ≤ to → images moment image
     → HoldSurvivor whole asked.request asked.state image
 
--- Requests are answered one after the other by steps of the log machine, with a moment behind each, and while one is answered a crash leaves a
+-- Requests are answered one after the other by steps of the log machine, with a moment after each, and while one is answered a crash leaves a
 -- survivor of what is under way.
 abbrev pub IsLeftByRun : Bool → Bool → Images → ℕ → ℕ → Asking → State → List Request → List Reply → State → Type 0
 IsLeftByRun told whole images from to before s [] [] t = (t ≡ s) × (from ≡ to)

@@ -48,7 +48,7 @@ crowd_text threads count records stable =
     codes "crowd " ++ (decimal threads ++ (codes " " ++ (decimal count ++ (codes " records " ++ (decimal records
     ++ (codes " stable " ++ (decimal stable ++ codes "\n")))))))
 
--- A crowd's log took the calls of a journal, and this text tells what came of them. Want of memory is no entry of a journal, and no append was refused
+-- A crowd's log took the calls of a journal, and this text tells what came of them. Out of memory is no entry of a journal, and no append was refused
 -- otherwise; so each append that isn't counted was answered so.
 pub record IsCrowdText (threads count : ℕ) (text : List ℕ) : Type 0 where
   pub journal : List Entry

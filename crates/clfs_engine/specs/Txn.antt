@@ -163,7 +163,7 @@ pub record IsTableRefusalText (status : ℕ) (old new : DiskState) (text : List 
   pub refuses : RefusesTable cause old new
   pub line : text ≡ table_refusal_line cause
 
--- The table wasn't loaded, for another cause than want of memory, and this is the line that says why.
+-- The table wasn't loaded, for another cause than out of memory, and this is the line that says why.
 pub record IsAnyTableRefusalText (old new : DiskState) (text : List ℕ) : Type 0 where
   pub cause : TxnLoadRefusal
   pub other : cause ≢ Log log_refusals.NoMemory

@@ -20,7 +20,7 @@ use clfs_race::without_return;
 use clfs_script::write_reply;
 use std::alloc::{AllocError, Global};
 
-// What opening the log anew answered, as a reply.
+// What opening the log again answered, as a reply.
 fn flushed(answer: Result<Lsn, Refusal>) -> Reply
     ensures { result ≡ replied replies.Flushed answer }
 {
@@ -30,7 +30,7 @@ fn flushed(answer: Result<Lsn, Refusal>) -> Reply
     }
 }
 
-// The reply to a client that asks to open the log anew.
+// The reply to a client that asks to open the log again.
 fn reopened<D: Disk>(manager: &mut Manager<D>, client: u16) -> Reply
     ensures { AnswersOne manager.old.0 (D.state manager.old.1) (reopens client) result manager.new.0 (D.state manager.new.1) }
 {

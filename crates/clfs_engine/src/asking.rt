@@ -21,7 +21,7 @@ pub enum Asked {
         /// The call.
         call: Call,
     },
-    /// A client's opening of the log anew.
+    /// A client's opening of the log again.
     Reopen {
         /// The client.
         client: u16,

@@ -3,7 +3,7 @@
 //! `serve` opens the log on a disk, takes a script from the source, answers each of its lines by the log as soon as it is whole, and writes the
 //! reply before it looks at the next. What it promises is a clause of its contract: the bytes that it wrote are the replies of a run of the log
 //! machine over the lines of the bytes that it took, over a disk that tells what its files hold from the state for which they stood; and where
-//! no line is answered a fault, such files stand behind it for the flushed part of the state that the run leaves, up to records that no reply can
+//! no line is answered a fault, such files stand after it for the flushed part of the state that the run leaves, up to records that no reply can
 //! show. `serve_within` is the same for a script of another length, also one that is endless for whoever sends it.
 //!
 //! `race` reads the whole script, opens the log, and lets each client make its calls in a thread of its own over a log that all share

@@ -48,7 +48,7 @@ fn copied(draft: &Draft) -> Result<Draft, AllocError>
 }
 
 impl Member {
-    /// A member that has appended nothing yet, with an area of its session's client. A refusal is taken as want of memory: a log that was just made has
+    /// A member that has appended nothing yet, with an area of its session's client. A refusal is taken as out of memory: a log that was just made has
     /// room for the areas of a crowd, which isn't proved.
     pub fn new<D: Disk, W: Wait>(
         rt: &W,

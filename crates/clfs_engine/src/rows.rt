@@ -32,7 +32,7 @@ pub fn areas()
     ensures area { replies_to (codes "1 read 2 1:0:0 forward\n1 append 16 - 0:0:0 0:0:0\n") ≡ codes "1 refused 10 NoSuchArea\n1 refused 10 NoSuchArea\n" }
 {}
 
-/// Words that are an LSN or data, and words that are none; options, links and modes, another stream, and opening the log anew.
+/// Words that are an LSN or data, and words that are none; options, links and modes, another stream, and opening the log again.
 pub fn words_of_lines()
     ensures no_record { replies_to (codes "1 read 1 ffffffff:fffffe00:1ff forward\n") ≡ codes "1 refused 17 RecordNonexistent ffffffff:fffffe00:1ff\n" }
     ensures offset { replies_to (codes "1 read 1 1:100:0 forward\n") ≡ codes "0 refused 28 BadLine 9\n" }

@@ -29,7 +29,7 @@ const SHAPE: Shape = Shape {
     container_sectors: 1024,
 };
 
-// Answers the lines of the trial of a number, with so many behind those that open the streams.
+// Answers the lines of the trial of a number, with so many after those that open the streams.
 fn answer_lines<D: Disk>(
     alloc: Global,
     manager: &mut Manager<D>,

@@ -2,7 +2,7 @@
 //
 // It is for standard error, and there only if that is a terminal, so that nothing that reads it by program finds a line more. It is written over by
 // the next one, or by whatever else comes, and it is taken away when the reading is over: by the disk, which sees a call that no reading of a whole log
-// makes (`watched.rt`), or by the first call of a source or a sink behind the first call of the disk, since a script is answered and a report written
+// makes (`watched.rt`), or by the first call of a source or a sink after the first call of the disk, since a script is answered and a report written
 // only then.
 ghost use Rattle.std.specs.Prelude.{◌≡◌};
 
@@ -11,7 +11,7 @@ use std::io::{Eprint, IsTerminal};
 use std::sync::atomic::{AtomicBool, Ordering};
 use std::time::Clock;
 
-// Takes away what stands behind the cursor in its line.
+// Takes away what stands after the cursor in its line.
 const REST_OF_LINE: &str = "\x1b[K";
 
 /// The line, and whether it is there now.
@@ -84,7 +84,7 @@ pub struct EndsProgress<'a, T: Drop, R: Clock + Eprint + Drop> {
 }
 
 impl<'a, T: Drop, R: Clock + Eprint + Drop> EndsProgress<'a, T, R> {
-    /// The source or the sink behind it.
+    /// The source or the sink after it.
     pub fn new(inner: T, progress: &'a Progress<R>) -> EndsProgress<'a, T, R>
         ensures { result.inner ≡ inner }
     {

@@ -25,7 +25,7 @@ const PAUSE: u64 = 100;
 // How far the files were read.
 #[derive(Clone, Copy)]
 struct Reading {
-    // The file that was read last, and the byte behind what was read of it.
+    // The file that was read last, and the byte after what was read of it.
     file: u16,
     end: u64,
     judged: u64,

@@ -183,7 +183,7 @@ pub answer_stable : (w : SessionState) (result : Result ℕ Refusal) (mark old :
 answer_stable w (Ok answer) mark old is stable = subst (IsStable w) is stable
 answer_stable w (Err given) mark old is stable = tt
 
--- a refusal stands behind what was seen
+-- a refusal stands after what was seen
 pub stands_behind : (seen all : List Entry) (m t : SessionState) (client number area lsn : ℕ) (result : Result ℕ Refusal) → IsPrefix seen m.seen → m.client ≡ client → number ≡ area
     → (is_out_of_memory (flush_reply result) ≡ false → IsStepped m t (calls.FlushTo number lsn) (flush_reply result))
     → (is_out_of_memory (flush_reply result) ≡ false → all ≡ t.seen)

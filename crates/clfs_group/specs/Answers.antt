@@ -14,7 +14,7 @@ abbrev pub flush_reply : Result ℕ Refusal → Reply
 flush_reply (Ok lsn) = replies.Flushed lsn
 flush_reply (Err given) = replies.Refused given
 
--- The reply to a call of a client stands in a list of entries, behind all of these that were seen.
+-- The reply to a call of a client stands in a list of entries, after all of these that were seen.
 pub record StandsBehind (seen : List Entry) (client : ℕ) (call : Call) (reply : Reply) (all : List Entry) : Type 0 where
   pub before : List Entry
   pub rest : List Entry

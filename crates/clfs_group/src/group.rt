@@ -37,7 +37,7 @@ impl<N: GroupName> Group<N> {
         requires log { IsOf log.now session }
         requires name { (session ≡ N.session) × (stream ≡ N.stream) }
 
-        // A refusal is the log's, to the call that was to make the area, for one of these causes. After want of memory the session is as it was.
+        // A refusal is the log's, to the call that was to make the area, for one of these causes. After out of memory the session is as it was.
         ensures same { IfErr result (λ refused. IsSameSeat session refused.session) }
         ensures none { IfErr result (λ refused. refused.cause ≡ refusals.NoMemory → refused.session.seen ≡ session.seen) }
         ensures asked { IfErr result (λ refused. refused.cause ≢ refusals.NoMemory
@@ -73,7 +73,7 @@ impl<N: GroupName> Group<N> {
         ensures above { IfOk result (λ answer. lsn < answer) }
         ensures stable { IfOk result (λ answer. IsStable session.new answer) }
 
-        // A refusal other than for memory stands in the caller's entries, behind all that it had seen, as the log's reply to a flush of the group's client
+        // A refusal other than for memory stands in the caller's entries, after all that it had seen, as the log's reply to a flush of the group's client
         // up to this LSN. It comes for one of these causes.
         ensures behind { IfErr result (λ given. given ≢ refusals.NoMemory
             → (area : ℕ) × StandsBehind session.old.seen N.session.client (calls.FlushTo area lsn) (replies.Refused given) session.new.seen) }

@@ -3,7 +3,7 @@
 //! A commit waits until its record is on the disk, which takes two syncs. Eight threads that each flush the log wait for sixteen of them; if one flushes
 //! and the others' records lie below what it flushed, all of them can answer.
 //!
-//! What is shared lies behind one lock: a session of the group's own, an area of it, and the mark. The mark is an LSN below which all records are on the
+//! What is shared lies after one lock: a session of the group's own, an area of it, and the mark. The mark is an LSN below which all records are on the
 //! disk, in each state to which the entries lead that the group's session has seen. `stable` answers it at once if it is above the caller's LSN. Else it
 //! makes one flush up to that LSN, and the log's answer is the new mark.
 //!

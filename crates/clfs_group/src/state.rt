@@ -1,4 +1,4 @@
-// What lies behind a group's lock: its session, its area, and how far the log is known to be on the disk.
+// What lies after a group's lock: its session, its area, and how far the log is known to be on the disk.
 //
 // A crash at any point costs nothing here: the mark lives in memory alone, and it never says more than the log does.
 ghost use Rattle.std.specs.Prelude.{◌≡◌, ◌≢◌, ◌<◌, ◌≤◌, Ok, true, false, Contains, IfOk, IfErr, MatchResult};
@@ -72,7 +72,7 @@ impl<N: GroupName> GroupState<N> {
         ensures same { IfOk result (λ group. IsSameSeat session group.session) }
         ensures mark { IfOk result (λ group. group.mark ≡ null_lsn) }
 
-        // Or it refused it, for one of these causes. After want of memory the session is as it was.
+        // Or it refused it, for one of these causes. After out of memory the session is as it was.
         ensures same_refused { IfErr result (λ refused. IsSameSeat session refused.session) }
         ensures none { IfErr result (λ refused. refused.cause ≡ refusals.NoMemory → refused.session.seen ≡ session.seen) }
         ensures asked { IfErr result (λ refused. refused.cause ≢ refusals.NoMemory
@@ -187,7 +187,7 @@ impl<N: GroupName> GroupState<N> {
             → IsStepped self.old.session self.new.session (calls.FlushTo self.old.area lsn) (flush_reply result) }
         ensures none { is_out_of_memory (flush_reply result) ≡ true → own_entries self.new.session ≡ own_entries self.old.session }
 
-        // A refusal other than for memory stands in the caller's entries, behind all that the caller had seen. It comes for one of these causes.
+        // A refusal other than for memory stands in the caller's entries, after all that the caller had seen. It comes for one of these causes.
         ensures behind { IfErr result (λ given. given ≢ refusals.NoMemory
             → StandsBehind session.old.seen N.session.client (calls.FlushTo self.old.area lsn) (replies.Refused given) session.new.seen) }
         ensures refused { IfErr result (λ given. may_refuse_flush lsn given ≡ true) }

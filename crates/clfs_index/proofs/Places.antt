@@ -100,7 +100,7 @@ at_from_base base lsn (head ∷ heads) up = elim (cases_Bool (nat_le base head.l
       rw (fails, other) (at_from_base base lsn heads up)
 ]
 
--- the first live head above an LSN stands at the place of the base or at the one behind the LSN
+-- the first live head above an LSN stands at the place of the base or at the one after the LSN
 pub above_place : (base lsn place : ℕ) (heads : List Head) → IsPlaceOf lsn_of_head heads (max (lsn + 1) base) place
     → head_above lsn (heads_from base heads) ≡ slice_get heads place
 above_place base lsn place [] is = refl
@@ -147,7 +147,7 @@ none_live base (head ∷ heads) below =
     let dead : leb base head.lsn ≡ false = lt-leb _ _ (below 0 head (omega arith)) in
     rw dead (none_live base heads (λ k d inside. below (suc k) d (omega arith)))
 
--- the last one is behind the others
+-- the last one is after the others
 ends_in : (heads : List Head) (last : Head) → slice_get heads (length heads - 1) ≡ Some last → heads ≡ take (length heads - 1) heads ++ last ∷ []
 ends_in [] last is = absurd (cc)
 ends_in (head ∷ []) last is = let same : head ≡ last = cc in ap (λ (h : Head). h ∷ []) same

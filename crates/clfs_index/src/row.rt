@@ -71,7 +71,7 @@ impl StreamIndex {
         self.heads.reserve(1)
     }
 
-    /// The head of a new record, behind the others. It takes no memory.
+    /// The head of a new record, after the others. It takes no memory.
     pub fn push(&mut self, head: Head)
         requires above { All (λ (other : Head). other.lsn < head.lsn) self.old.heads }
         requires room { 1 ≤ self.old.room }
@@ -106,7 +106,7 @@ impl StreamIndex {
         }
     }
 
-    /// The first live head above an LSN. `near` is where it is likely to be: the place behind the head that was read last.
+    /// The first live head above an LSN. `near` is where it is likely to be: the place after the head that was read last.
     pub fn above(&self, lsn: Lsn, near: usize) -> Option<Found>
         ensures head { option_map (λ (found : Found). found.head) result ≡ head_above lsn (heads_from self.now.base self.now.heads) }
         ensures place { IfSome result (λ found. slice_get self.now.heads found.place ≡ Some found.head) }

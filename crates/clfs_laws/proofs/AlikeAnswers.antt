@@ -107,7 +107,7 @@ put_with s records entry =
     let n = length entry.bytes in
     ap (λ (m : State). record m { records = records ++ placed_record s entry ∷ []; place = (place_after s.shape s.place n).1 }) (ready_with s records n)
 
--- a record that is put behind growth
+-- a record that is put after growth
 joined_with : (s : State) (records : List LogEntry) (need : ℕ) (entry : LogEntry) → LooksAlike s (with_records records s)
     → put (grown (with_records records s) need) entry ≡ with_records (records ++ placed_record s entry ∷ []) (put (grown s need) entry)
 joined_with s records need entry alike =

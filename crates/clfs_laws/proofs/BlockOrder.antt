@@ -1,4 +1,4 @@
--- Blocks that lie one behind the other: their front, one record more, and where the next record lies.
+-- Blocks that lie one after the other: their front, one record more, and where the next record lies.
 use Rattle.std.proofs.Common.{◌≡◌, ℕ, ◌+◌, ◌*◌, ◌/◌, ◌%◌, ◌≤◌, Bool, true, false, refl, ap, ◌∙◌, subst, inl, inr, arith, List, [], ◌∷◌, ◌++◌, length}
 use Rattle.std.proofs.lemmas.Bool.{ne_eqb, eq-eqb}
 use Rattle.std.proofs.lemmas.Bool.Decides.{nat_tests}
@@ -12,7 +12,7 @@ use Rattle.clfs_model.specs.Storable.{behind, behind_all, LiesBehind, LieInBlock
 use Rattle.clfs_laws.proofs.LsnOrder.{small_end}
 use Rattle.clfs_laws.proofs.ValidPuts.{after_by}
 
--- the place behind the records of two lists
+-- the place after the records of two lists
 pub behind_more : (place : Place) (entries more : List LogEntry) → behind_all place (entries ++ more) ≡ behind_all (behind_all place entries) more
 behind_more place [] more = refl
 behind_more place (entry ∷ entries) more = behind_more (behind place entry) entries more
@@ -23,13 +23,13 @@ pub laid_front : (shape : Shape) (place : Place) (entries more : List LogEntry) 
 laid_front shape place [] more laid = tt
 laid_front shape place (entry ∷ entries) more laid = (laid.0, (laid.1.0, laid_front shape (behind place entry) entries more laid.1.1))
 
--- and those behind it
+-- and those after it
 pub laid_rest : (shape : Shape) (place : Place) (entries more : List LogEntry) → LieInBlocks shape place (entries ++ more)
     → LieInBlocks shape (behind_all place entries) more
 laid_rest shape place [] more laid = laid
 laid_rest shape place (entry ∷ entries) more laid = laid_rest shape (behind place entry) entries more laid.1.1
 
--- one record more behind them
+-- one record more after them
 pub laid_push : (shape : Shape) (place : Place) (entries : List LogEntry) (entry : LogEntry) → LieInBlocks shape place entries
     → LiesBehind (behind_all place entries) entry → IsWithin shape (behind (behind_all place entries) entry)
     → LieInBlocks shape place (entries ++ entry ∷ [])
@@ -37,12 +37,12 @@ laid_push shape place [] entry laid lies within = (lies, (within, tt))
 laid_push shape place (first ∷ entries) entry laid lies within =
     (laid.0, (laid.1.0, laid_push shape (behind place first) entries entry laid.1.1 lies within))
 
--- a record that lies behind the last one, and the place behind it
+-- a record that lies after the last one, and the place after it
 pub record GoesOnWith (last : Place) (entry : LogEntry) (after : Place) : Type 0 where
   pub lies : LiesBehind last entry
   pub is : behind last entry ≡ after
 
--- the place behind a record that begins a block
+-- the place after a record that begins a block
 pub behind_begun : (last : Place) (entry : LogEntry) (container sector : ℕ) → entry.lsn ≡ lsn_number container (512 * sector) 0
     → 512 * sector ≤ 8388608
     → behind last entry ≡ begun container sector (length entry.bytes)
@@ -53,7 +53,7 @@ behind_begun last entry container sector at low =
     rw (eq-eqb (sequence_of entry.lsn) 0 first)
     (ap (λ (c : ℕ). begun c (offset_of entry.lsn / 512) (length entry.bytes)) of_container ∙ ap (λ (k : ℕ). begun container k (length entry.bytes)) of_sector)
 
--- behind one that joins the open block
+-- after one that joins the open block
 pub behind_joined : (last : Place) (entry : LogEntry) → last.offset % 512 ≡ 0 → 1 ≤ last.records → last.records ≤ 511 → entry.lsn ≡ frontier last
     → behind last entry ≡ record last { used = last.used + size (length entry.bytes); records = last.records + 1 }
 behind_joined last entry whole some few at =
@@ -71,7 +71,7 @@ joined_next shape last place entry whole some few (inr (inl same)) at =
 joined_next shape last place entry whole some few (inr (inr further)) at =
     absurd (let none : place.records ≡ 0 = ap (λ (p : Place). p.records) further.1 in omega (arith, none, some))
 
--- a record that begins a block behind the open one
+-- a record that begins a block after the open one
 begun_lies : (last place : Place) (entry : LogEntry) → 512 * block_end place ≤ 8388608 → GoesOnAt last place
     → entry.lsn ≡ lsn_number place.container (512 * block_end place) 0
     → LiesBehind last entry
@@ -110,7 +110,7 @@ next_by shape last place entry false false fits is within goes at =
       is = behind_begun last entry (place.container + 1) 0 at (omega arith);
     }
 
--- the next record of a log lies behind the last one, and the place after it is the place behind it
+-- the next record of a log lies after the last one, and the place after it is the place after it
 pub next_goes_on : (shape : Shape) (last place : Place) (entry : LogEntry) → IsShape shape → IsWithin shape place → GoesOnAt last place
     → entry.lsn ≡ (after_by (joins shape place (length entry.bytes)) (begins_here shape place (length entry.bytes)) place (length entry.bytes)).0
     → GoesOnWith last entry (after_by (joins shape place (length entry.bytes)) (begins_here shape place (length entry.bytes)) place (length entry.bytes)).1

@@ -1,4 +1,4 @@
--- What the records of blocks that lie one behind the other come to: each block is as long as its records make it, and ends within its
+-- What the records of blocks that lie one after the other come to: each block is as long as its records make it, and ends within its
 -- container.
 use Rattle.std.proofs.Common.{◌≡◌, ℕ, ◌+◌, ◌*◌, ◌%◌, ◌<◌, ◌≤◌, true, false, refl, sym, ap, ◌∙◌, subst, append_assoc, inl, inr, ◌⊎◌, arith, List, [], ◌∷◌, ◌++◌, length}
 use Rattle.std.specs.Prelude.{filter, sum_by, ◌==◌}
@@ -102,7 +102,7 @@ end_of_one most place before entry other whole end used of_container of_offset w
         let here : F place.container place.offset = subst U pays (omega (arith, whole, end)) in
         subst H same_offset (subst G same_container here)
 
--- what the place behind one record more tells
+-- what the place after one record more tells
 record IsPushed (shape : Shape) (place : Place) (before : List LogEntry) (entry : LogEntry) : Type 0 where
   pub within : IsWithin shape place
   pub some : 1 ≤ place.records
@@ -123,7 +123,7 @@ opened : (shape : Shape) (place : Place) → IsClosed place ⊎ IsOpen shape pla
 opened shape place (inl closed) some = absurd (omega (arith, closed.1, some))
 opened shape place (inr is) some = is
 
--- what is known of the records behind one more
+-- what is known of the records after one more
 pushed : (shape : Shape) (place : Place) (before : List LogEntry) (entry : LogEntry) → IsPushed shape place before entry
     → AllByRecursion (λ (other : LogEntry). length other.bytes ≤ longest shape) before
     → AllByRecursion (EndsWithin shape.container_sectors before) before
@@ -224,7 +224,7 @@ sealed_above shape place before has = elim (cases_Bool (place.records == 0)) [
       omega (arith, used, has.offset, has.few)
 ]
 
--- one record more that lies behind the others
+-- one record more that lies after the others
 pub paid_push : (shape : Shape) (place : Place) (before : List LogEntry) (entry : LogEntry) → IsShape shape → IsPaid shape place before
     → LiesBehind place entry
     → IsWithin shape (behind place entry) → IsPaid shape (behind place entry) (before ++ entry ∷ [])
@@ -237,7 +237,7 @@ paid_push shape place before entry is has (inr (inr further)) within =
     push_begun shape place before entry (container_of entry.lsn) 0 has further.1 (omega arith)
     (omega (arith, further.0, further.1, has.few, has.offset, has.end, is.largest_container)) within
 
--- all records that lie behind the others
+-- all records that lie after the others
 pub paid_all : (shape : Shape) (place : Place) (before entries : List LogEntry) → IsShape shape → IsPaid shape place before
     → LieInBlocks shape place entries
     → IsPaid shape (behind_all place entries) (before ++ entries)

@@ -104,7 +104,7 @@ full_by t need false needs is = (needs, (is, (refl, refl)))
 told_full : (t : Terms) (need : ℕ) → t.need ≡ Some need → Told t (full t.state need)
 told_full t need needs = full_by t need (has_room t.state need) needs refl
 
--- a test with no other behind it, of a call that needs no room
+-- a test with no other after it, of a call that needs no room
 told_last : (s : State) (held taken : ℕ) (test : Bool) (given : Refusal) → Tells (record { state = s; held = held; taken = taken; need = None }) given
     → Told (record { state = s; held = held; taken = taken; need = None }) (refused_if test given None)
 told_last s held taken test given tells = told_if (record { state = s; held = held; taken = taken; need = None }) test given None (λ _. tells) tt

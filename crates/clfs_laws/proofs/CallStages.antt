@@ -86,7 +86,7 @@ after_survives space s client call valid storable =
     survives_after space true s (fine_outcome s (asks client call)).state client call (fine_outcome s (asks client call)).reply valid storable
     (step_fine s client call)
 
--- opening anew, and a bad line
+-- opening again, and a bad line
 pub reopens_survives : (s : State) (client : ℕ) → IsValid s → s.broken ≡ false → Survives (reopens client) s (cut s)
 unfolding fine_outcome
 reopens_survives s client valid whole =
@@ -173,7 +173,7 @@ begun_by s need is_reserved area n valid blocks =
       flushed = flushed_spend is_reserved area n (grown s need) ∙ flushed_grown s need;
     }
 
--- the flushed part of the log before its area has spent is that behind
+-- the flushed part of the log before its area has spent is that after
 grown_survives : (asked : Request) (s t : State) (need : ℕ) (is_reserved : Bool) (area : Area) (n : ℕ)
     → IsSurvivor asked s t (cut (spend_if is_reserved area n (grown s need))) → IsSurvivor asked s t (cut (grown s need))
 grown_survives asked s t need is_reserved area n survives =

@@ -1,4 +1,4 @@
--- A chain ends by itself: in a valid state each record that reading comes to lies behind the one before, so more of the bound
+-- A chain ends by itself: in a valid state each record that reading comes to lies after the one before, so more of the bound
 -- on its length gives no more records.
 use Rattle.std.proofs.Common.{◌≡◌, ℕ, zero, suc, ◌≤◌, ◌<◌, Bool, true, false, refl, sym, ap, subst, inl, inr, ◌⊎◌, arith, List, [], ◌∷◌, length}
 use Rattle.std.specs.Prelude.{Option, Some, None, find, nat_lt, ◌==◌, ◌&&◌, if◌then◌else◌}
@@ -13,13 +13,13 @@ use Rattle.clfs_model.specs.Reading.{entry_at, next, chain_from}
 use Rattle.clfs_model.specs.Valid.{IsValid, IsRecord}
 use Rattle.clfs_laws.proofs.Among.{IsAmong, IsFound, found, among_all, at_each}
 
--- whether a record lies behind another one in the direction of a mode: links go down, and forward goes up
+-- whether a record lies after another one in the direction of a mode: links go down, and forward goes up
 abbrev pub lies_behind : Mode → ℕ → ℕ → Bool
 lies_behind Previous last lsn = nat_lt lsn last
 lies_behind UndoNext last lsn = nat_lt lsn last
 lies_behind Forward last lsn = nat_lt last lsn
 
--- how many records lie behind an LSN
+-- how many records lie after an LSN
 abbrev pub count_behind : Mode → ℕ → List LogEntry → ℕ
 count_behind mode last [] = 0
 count_behind mode last (entry ∷ entries) =
@@ -35,7 +35,7 @@ behind_both Previous a b c first second = lt-ltb c a (omega (arith, ltb-true b a
 behind_both UndoNext a b c first second = lt-ltb c a (omega (arith, ltb-true b a first, ltb-true c b second))
 behind_both Forward a b c first second = lt-ltb a c (omega (arith, ltb-true a b first, ltb-true b c second))
 
--- no more lie behind one that lies behind another, and fewer where it is there itself
+-- no more lie after one that lies after another, and fewer where it is there itself
 no_more : (mode : Mode) (a b : ℕ) (entries : List LogEntry) → lies_behind mode a b ≡ true → count_behind mode b entries ≤ count_behind mode a entries
 no_more mode a b [] is = omega arith
 no_more mode a b (entry ∷ entries) is = let rest = no_more mode a b entries is in elim (cases_Bool (lies_behind mode b entry.lsn)) [
@@ -61,7 +61,7 @@ fewer mode a entry (first ∷ entries) (inr among) is =
       ])
     ]
 
--- fewer lie behind a record than there are
+-- fewer lie after a record than there are
 at_most_all : (mode : Mode) (a : ℕ) (entries : List LogEntry) → count_behind mode a entries ≤ length entries
 at_most_all mode a [] = omega arith
 at_most_all mode a (entry ∷ entries) = let rest = at_most_all mode a entries in elim (cases_Bool (lies_behind mode a entry.lsn)) [
@@ -120,7 +120,7 @@ undo_down s stream last (Some holder) entry valid at leads =
     let record_is : IsRecord s holder = at_each (IsRecord s) s.records holder valid.records.records f.among in
     link_down s stream last holder.undo_next holder entry valid (eqb-true holder.lsn last f.passes) record_is.undo_next leads
 
--- where reading comes to a record, it lies behind
+-- where reading comes to a record, it lies after
 pub comes_behind : (s : State) (stream : ℕ) (mode : Mode) (last : ℕ) (entry : LogEntry) → IsValid s → next s stream mode last ≡ Some entry
     → ComesTo s mode last entry
 comes_behind s stream Previous last entry valid is =

@@ -38,7 +38,7 @@ to_come_same s areas stream (Records mode) last =
     ∙ ap (λ (found : Option LogEntry). chain_from s stream mode (length s.records) found) (next_same s areas stream mode last)
 to_come_same s areas stream RestartAreas last = refl
 
--- a new cursor gives what comes behind its record
+-- a new cursor gives what comes after its record
 pub made_gives : (s : State) (client number : ℕ) (area : Area) (kind : CursorKind) (last : ℕ) (rest : List LogEntry) → area_of s client number ≡ Some area
     → still_to_come s area.stream kind last ≡ rest
     → StillGives (change_area (with_cursor (new_cursor area kind last)) area.client area.number s) client number (unused_cursor area.cursors) kind rest
@@ -54,7 +54,7 @@ made_gives s client number area kind last rest is gives =
       gives = to_come_same s t.areas area.stream kind last ∙ gives;
     }
 
--- a cursor that has moved gives what comes behind the record that it moved to
+-- a cursor that has moved gives what comes after the record that it moved to
 pub moved_gives : (s : State) (client number cursor : ℕ) (area : Area) (at : Cursor) (kind : CursorKind) (last : ℕ) (rest : List LogEntry)
     → area_of s client number ≡ Some area → cursor_of_kind area cursor kind ≡ Some at → at.kind ≡ kind → still_to_come s area.stream kind last ≡ rest
     → StillGives (change_area (with_cursor_at cursor last) area.client area.number s) client number cursor kind rest

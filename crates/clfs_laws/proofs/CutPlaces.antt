@@ -1,4 +1,4 @@
--- Where the flushed part of a log lies: at the end of a block or the start of the container behind one, unless it is where it was.
+-- Where the flushed part of a log lies: at the end of a block or the start of the container after one, unless it is where it was.
 use Rattle.std.proofs.Common.{◌≡◌, ℕ, suc, ◌+◌, ◌*◌, ◌%◌, ◌<◌, ◌≤◌, ◌^◌, true, refl, sym, ap, ◌∙◌, subst, inl, inr, ◌⊎◌, arith, List, [], ◌∷◌, ◌++◌, length}
 use Rattle.std.specs.Prelude.{Any, filter, sum_by, nat_lt, slice_index_or, ◌==◌}
 use Rattle.std.specs.List.{AllByRecursion}
@@ -105,7 +105,7 @@ no_container s place entries valid none of_last of_place =
     let zero_container : (behind_all before_all entries).container ≡ 0 = ap (λ (es : List LogEntry). (behind_all before_all es).container) none in
     omega (arith, zero_container, of_last, of_place, valid.ranges.place.container)
 
--- where it lies behind a block, it ends that block
+-- where it lies after a block, it ends that block
 sealed_ends : (s : State) (last : Place) → IsValid s → IsPaid s.shape last (cut s).records → (1 ≤ last.records) → (cut s).place ≡ sealed last
     → Any (EndsBlockOf s.records (cut s).place) s.records
 sealed_ends s last valid has some same =

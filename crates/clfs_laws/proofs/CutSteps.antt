@@ -1,4 +1,4 @@
--- Opening a log anew may come to its flushed part, so what is computed where nothing happens is a run.
+-- Opening a log again may come to its flushed part, so what is computed where nothing happens is a run.
 use Rattle.std.proofs.Common.{◌≡◌, ℕ, Bool, true, false, refl, sym, ap, subst, inr, List, [], ◌∷◌}
 use Rattle.std.specs.Prelude.{All, MatchBool, if◌then◌else◌}
 use Rattle.std.specs.List.{AllByRecursion, list_all}
@@ -19,7 +19,7 @@ use Rattle.clfs_laws.proofs.StorableCuts.{storable_cut}
 use Rattle.clfs_laws.proofs.StorableRuns.{IsKept, request_keeps}
 use Rattle.clfs_laws.proofs.ValidCuts.{valid_cut, flushed_cut}
 
--- what reading the files anew comes to may be the flushed part
+-- what reading the files again comes to may be the flushed part
 cut_read : (told : Bool) (s : State) → IsValid s → MatchBool told ((flushed (cut s) ≡ flushed s) × IsSame (cut s) (cut s)) (IsOpenedAnew s (cut s))
 cut_read true s valid = (flushed_cut s valid, record { hold = refl; records = refl; others = refl })
 cut_read false s valid = (refl, (refl, (refl, refl)))
@@ -40,7 +40,7 @@ by_broken : (P Q : Type 0) (broken : Bool) → broken ≡ true → P → MatchBo
 by_broken P Q true is p = p
 by_broken P Q false is p = absurd (cc)
 
--- so opening anew comes to it
+-- so opening again comes to it
 pub cut_step : (told : Bool) (s : State) → IsValid s → IsStorable s → s.broken ≡ false → ReopenStep told s Fine (replies.Flushed (flushed s)) (cut s)
 unfolding ReopenStep
 cut_step told s valid storable whole = by_whole _ _ s.broken whole (inr (cut_reopens told s valid storable))
@@ -49,7 +49,7 @@ broken_reopens : (told : Bool) (s : State) → s.broken ≡ true → ReopenStep 
 unfolding ReopenStep
 broken_reopens told s broken = by_broken _ _ s.broken broken (refl, refl)
 
--- what comes of opening anew where nothing happens and memory suffices
+-- what comes of opening again where nothing happens and memory suffices
 reopened_by : Bool → State → Outcome
 reopened_by broken s = if broken then outcome (replies.Refused refusals.Broken) s else outcome (replies.Flushed (flushed s)) (cut s)
 
@@ -64,7 +64,7 @@ opened_anew : (s : State) (client : ℕ) → IsValid s → IsStorable s
 unfolding fine_outcome reopened_by
 opened_anew s client valid storable = fine_reopening s client s.broken refl valid storable
 
--- the replies to lines that don't open the log anew are those of a run
+-- the replies to lines that don't open the log again are those of a run
 abbrev pub AreCalm : Type 0
 AreCalm = (s : State) (requests : List Request) → list_all is_no_reopening requests ≡ true
     → Run true s requests (all_fine requests) (replies_of s requests) (state_after s requests)

@@ -100,7 +100,7 @@ survives_as asked s t valid rises records bases =
 below_twice : (lsn : ℕ) (entries : List LogEntry) → below_lsn lsn (below_lsn lsn entries) ≡ below_lsn lsn entries
 below_twice lsn entries = all_below lsn (below_lsn lsn entries) (kept_below lsn entries)
 
--- of opening anew
+-- of opening again
 pub reopening_survives : (s : State) (client : ℕ) → IsValid s → IsSurvivor (reopens client) s (cut s) (cut s)
 reopening_survives s client valid = survives_as (reopens client) s (cut s) valid (omega (arith, frontier_cut s valid)) (below_twice (flushed s) s.records) tt
 
@@ -112,7 +112,7 @@ bad_line_survives s at valid = survives_as (bad_line at) s s valid (omega arith)
 cut_leaves : (s : State) → IsValid s → LeavesStable s (cut s)
 cut_leaves s valid = record { flushed = frontier_cut s valid; settings = settings_of s; bases = λ stream. refl }
 
--- nothing else survives opening anew
+-- nothing else survives opening again
 pub reopening_only : (s x : State) (client : ℕ) → IsValid s → IsStorable s → IsSurvivor (reopens client) s (cut s) x
     → record x { buffers = s.buffers } ≡ cut s
 reopening_only s x client valid storable survives =

@@ -1,4 +1,4 @@
--- The restart areas of a stream fall, newest first; below one of them are those behind it.
+-- The restart areas of a stream fall, newest first; below one of them are those after it.
 use Rattle.std.proofs.Common.{◌≡◌, ℕ, suc, ◌+◌, ◌<◌, Bool, refl, sym, ap, ◌∙◌, subst, inl, inr, arith, List, [], ◌∷◌, ◌++◌}
 use Rattle.std.specs.Prelude.{Some, None, find, filter, map, reverse, nat_lt, slice_index}
 use Rattle.std.specs.List.{AllByRecursion}
@@ -9,7 +9,7 @@ use Rattle.std.proofs.lemmas.List.Elements.{All-from_recursion, recursion_from_A
 use Rattle.std.proofs.lemmas.List.Sorted.{All-permutation, IsPermutation-reverse}
 use Rattle.clfs_lsn.specs.declared.entry.LogEntry.{LogEntry}
 
--- each record lies below all behind it, or above them
+-- each record lies below all after it, or above them
 abbrev pub Rises : List LogEntry → Type 0
 Rises [] = Unit {0}
 Rises (entry ∷ entries) = AllByRecursion (λ (other : LogEntry). entry.lsn < other.lsn) entries × Rises entries
@@ -67,7 +67,7 @@ filter_rises p (entry ∷ entries) rising = elim (cases_Bool (p entry)) [
   | inr fails ↦ rw fails (filter_rises p entries rising.1)
 ]
 
--- a record below all others falls behind them
+-- a record below all others falls after them
 last_below : (P : LogEntry → Type 0) (entries : List LogEntry) (entry : LogEntry) → AllByRecursion P entries → P entry
     → AllByRecursion P (entries ++ entry ∷ [])
 last_below P [] entry all is = (is, tt)

@@ -37,7 +37,7 @@ find_other change keeps client number of_client of_number (area ∷ areas) diffe
   ])
 ]
 
--- an area behind the others is found where none of them is
+-- an area after the others is found where none of them is
 pub find_behind : (p : Area → Bool) (areas : List Area) (area : Area) → find p areas ≡ None → find p (areas ++ area ∷ []) ≡ (if p area then Some area else None)
 find_behind p [] area none = refl
 find_behind p (first ∷ areas) area none = elim (cases_Bool (p first)) [
@@ -45,7 +45,7 @@ find_behind p (first ∷ areas) area none = elim (cases_Bool (p first)) [
   | inr there ↦ rw there (find_behind p areas area (rw there at none))
 ]
 
--- an area behind the others that doesn't pass changes nothing
+-- an area after the others that doesn't pass changes nothing
 pub find_not_behind : (p : Area → Bool) (areas : List Area) (area : Area) → p area ≡ false → find p (areas ++ area ∷ []) ≡ find p areas
 find_not_behind p [] area fails = rw fails refl
 find_not_behind p (first ∷ areas) area fails = elim (cases_Bool (p first)) [

@@ -45,7 +45,7 @@ full_comes : HasSpaceLaws → (s : State) (need : ℕ) → has_room s need ≡ f
 full_comes space s need lacks =
     refused_full s need (has_room s need) lacks ∙ ap (λ (z : State). Some (refusals.Full (free z) (reserved z) need)) (as_it_is space s need lacks)
 
--- behind the tests that all three calls begin with
+-- after the tests that all three calls begin with
 in_the_area : (s : State) (client number : ℕ) (area : Area) (rest : Area → Option Refusal) → nat_lt s.containers 2 ≡ false → area_of s client number ≡ Some area
     → unless_two_containers s (in_area s client number rest) ≡ rest area
 in_the_area s client number area rest two there =

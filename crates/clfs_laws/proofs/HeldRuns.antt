@@ -215,7 +215,7 @@ step_by_rule told s client call happened reply t false is step = elim (whole_ste
   | inr goes ↦ goes_by_rule told s client call happened reply t goes
 ]
 
--- what an area holds through entries that go on behind others
+-- what an area holds through entries that go on after others
 held_through_entries : (told : Bool) (before : List Entry) (s t : State) (entries : List Entry) (client number : ℕ) → GoesOn told before s entries t
     → held_row (row_in t client number) ≡ held_through number (held_row (row_in s client number)) (mine entries client)
 held_through_entries told before s t [] client number goes = ap (λ (x : State). held_row (row_in x client number)) goes

@@ -1,4 +1,4 @@
--- The hold's container never falls, in a step, where the log is opened anew, and along a journal.
+-- The hold's container never falls, in a step, where the log is opened again, and along a journal.
 use Rattle.std.proofs.Common.{◌≡◌, ℕ, ◌≤◌, Bool, true, false, ap, inl, inr, ◌⊎◌, arith, List, [], ◌∷◌, ◌++◌}
 use Rattle.std.specs.Prelude.{MatchBool}
 use Rattle.clfs_lsn.specs.Lsn.{container_of}
@@ -45,7 +45,7 @@ reopened_by s happened reply t true valid is = same_container s t (ap hold is.1)
 reopened_by s happened reply t false valid (inl want) = same_container s t (ap hold want.1)
 reopened_by s happened reply t false valid (inr reopens) = reopens_rises s happened reply t valid reopens
 
--- where the log is opened anew over a disk that tells
+-- where the log is opened again over a disk that tells
 pub reopening_rises : (s : State) (happened : Happened) (reply : Reply) (t : State) → IsValid s → ReopenStep true s happened reply t
     → container_of (hold s) ≤ container_of (hold t)
 unfolding ReopenStep

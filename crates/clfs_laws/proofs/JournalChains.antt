@@ -10,7 +10,7 @@ use Rattle.clfs_model.specs.declared.state.State.{State}
 use Rattle.clfs_model.specs.Journals.{GoesOn, IsLegal, mine}
 use Rattle.clfs_laws.specs.Chains.{AreSteps}
 
--- entries that go on behind others, cut in two
+-- entries that go on after others, cut in two
 pub cut_in_two : (told : Bool) (before : List Entry) (s t : State) (front rest : List Entry) → GoesOn told before s (front ++ rest) t
     → (mid : State) × (GoesOn told before s front mid × GoesOn told (before ++ front) mid rest t)
 cut_in_two told before s t [] rest goes = (s, (refl, let F : List Entry → Type 0 = λ b. GoesOn told b s rest t in subst F (sym (append-nil before)) goes))
@@ -19,7 +19,7 @@ cut_in_two told before s t (entry ∷ front) rest goes =
     let behind : (before ++ entry ∷ []) ++ front ≡ before ++ (entry ∷ front) = append_assoc before (entry ∷ []) front in
     (cut.0, ((goes.0, (goes.1.0, cut.1.0)), let F : List Entry → Type 0 = λ b. GoesOn told b cut.0 rest t in subst F behind cut.1.1))
 
--- entries that go on behind others, joined
+-- entries that go on after others, joined
 pub joined : (told : Bool) (before : List Entry) (s mid t : State) (front rest : List Entry) → GoesOn told before s front mid
     → GoesOn told (before ++ front) mid rest t → GoesOn told before s (front ++ rest) t
 joined told before s mid t [] rest goes on =
@@ -54,7 +54,7 @@ pub own_same : (before : List Entry) (entry : Entry) (client : ℕ) → (entry.c
 own_same before entry client other =
     filter-append (λ (e : Entry). e.client == client) before (entry ∷ []) ∙ rw other (append-nil (mine before client))
 
--- the numbers of the entries of a client that go on behind others
+-- the numbers of the entries of a client that go on after others
 numbers_from : (told : Bool) (before : List Entry) (s t : State) (client : ℕ) (entries : List Entry) → GoesOn told before s entries t
     → map (λ (entry : Entry). entry.number) (mine entries client) ≡ range_with_len (length (mine before client) + 1) (length (mine entries client))
 numbers_from told before s t client [] goes = refl

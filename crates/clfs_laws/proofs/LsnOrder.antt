@@ -45,7 +45,7 @@ few_records shape place within = by_block shape place within.block
     by_block shape place (inl closed) = omega (arith, closed.1)
     by_block shape place (inr opened) = opened.few_records
 
--- the next block begins behind all records of the open one
+-- the next block begins after all records of the open one
 pub frontier_sealed : (shape : Shape) (place : Place) → IsWithin shape place → frontier place ≤ block_start (sealed place)
 frontier_sealed shape place within = by_block shape place within.offset within.block
   where

@@ -7,7 +7,7 @@ use Rattle.clfs_model.specs.declared.refusal.Refusal.TheVariants as refusals
 use Rattle.clfs_model.specs.declared.state.Area.{Area}
 use Rattle.clfs_model.specs.Refusals.{refused_if, too_long}
 
--- a test of a call that isn't refused fails, and no test behind it refuses
+-- a test of a call that isn't refused fails, and no test after it refuses
 pub passed : (test : Bool) (given : Refusal) (others : Option Refusal) → refused_if test given others ≡ None → (test ≡ false) × (others ≡ None)
 passed true given others none = absurd (cc)
 passed false given others none = (refl, none)
@@ -17,7 +17,7 @@ pub second_false : (a b : Bool) → a ≡ true → (a && b) ≡ false → b ≡ 
 second_false true b passes fails = fails
 second_false false b passes fails = absurd (cc)
 
--- what stands behind an option that refuses doesn't refuse
+-- what stands after an option that refuses doesn't refuse
 pub passed_option : {A : Type 0} (found : Option A) (given : A → Refusal) (others : Option Refusal)
     → option_map_or (λ x. Some (given x)) found others ≡ None → others ≡ None
 passed_option None given others none = none

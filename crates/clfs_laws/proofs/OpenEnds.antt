@@ -12,7 +12,7 @@ use Rattle.clfs_model.specs.Storable.{HasBlocks, GoesOnAt, before_all, behind_al
 use Rattle.clfs_laws.proofs.BlockSums.{paid, IsPaid, paid_last}
 use Rattle.clfs_laws.proofs.CutPlaces.{any_among}
 
--- where a block is open, the log's place is right behind its records
+-- where a block is open, the log's place is right after its records
 paid_here : (s : State) → IsShape s.shape → HasBlocks s → 1 ≤ s.place.records → IsPaid s.shape s.place s.records
 paid_here s is blocks some = by_place blocks.place
   where

@@ -59,7 +59,7 @@ ungrown space s need fails =
     let same : (grown s need).containers ≡ s.containers = omega (arith, no_more, no_fewer) in
     grown_is s need ∙ ap (λ n. with_containers n s) same
 
--- what waits behind a block that is sealed and doesn't fill the buffers
+-- what waits after a block that is sealed and doesn't fill the buffers
 first_behind : (other start : ℕ) (waiting : List ℕ) → first_or other (waiting ++ start ∷ []) ≡ first_or start waiting
 first_behind other start [] = refl
 first_behind other start (n ∷ waiting) = refl
@@ -173,7 +173,7 @@ both : (a b : Bool) → b ≡ false → (a && b) ≡ false
 both true b fails = fails
 both false b fails = refl
 
--- a block that is sealed behind the record, where that fills no buffers
+-- a block that is sealed after the record, where that fills no buffers
 quiet_seal_if : (asked : Bool) (s : State) → (asked && fills_buffers s) ≡ false → cut (seal_if asked s) ≡ cut s
 quiet_seal_if false s quiet = refl
 quiet_seal_if true s quiet = (quiet_seal s (both (nat_lt 0 s.place.records) (fills_buffers s) quiet)).1

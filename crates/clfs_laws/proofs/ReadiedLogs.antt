@@ -38,7 +38,7 @@ use Rattle.clfs_laws.proofs.ValidAreas.{held_sum}
 use Rattle.clfs_laws.proofs.ValidPlaces.{IsSound, IsReady, sound_of, valid_of, sound_moved, stable_still, restarts_still, none_waits, ready_seal, active_by, free_by}
 use Rattle.clfs_laws.proofs.ValidPuts.{TakesRecord, after_by, put_by, next_used, has_room_for, free_readied, readied_flush}
 
--- the log made ready, by whether the record joins the open block and whether it begins one behind it
+-- the log made ready, by whether the record joins the open block and whether it begins one after it
 abbrev readied_by : Bool → Bool → State → State
 readied_by joining beginning s = if joining then s else if beginning then seal s else turned (flush s)
 
@@ -123,7 +123,7 @@ closed_seal s sound = elim (cases_Bool (nat_lt 0 s.place.records)) [
         by_block (inl closed) = closed
         by_block (inr opened) = absurd (omega (arith, empty, opened.some_records))
 
--- where a record begins a block behind the open one, that is sealed
+-- where a record begins a block after the open one, that is sealed
 ready_here : (s : State) (entry : LogEntry) → IsValid s → IsStorable s → MayPut s entry → joins s.shape s.place (length entry.bytes) ≡ false
     → begins_here s.shape s.place (length entry.bytes) ≡ true → IsReadiedFor s (seal s) entry
 ready_here s entry valid storable may apart here =
@@ -257,7 +257,7 @@ turned_log space s n valid storable takes apart beyond =
       free = omega (arith, room_s, room_m, room_r);
     }
 
--- where a record fits neither into the open block nor behind it, the log goes on in the next container
+-- where a record fits neither into the open block nor after it, the log goes on in the next container
 ready_next : HasSpaceLaws → (s : State) (entry : LogEntry) → IsValid s → IsStorable s → MayPut s entry → joins s.shape s.place (length entry.bytes) ≡ false
     → begins_here s.shape s.place (length entry.bytes) ≡ false → IsReadiedFor s (turned (flush s)) entry
 ready_next space s entry valid storable may apart beyond =

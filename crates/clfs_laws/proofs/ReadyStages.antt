@@ -33,7 +33,7 @@ use Rattle.clfs_laws.proofs.ValidBases.{flush_streams}
 use Rattle.clfs_laws.proofs.ValidPlaces.{sound_of, valid_seal, valid_flush, flushed_below, flushed_seal, flushed_flush}
 use Rattle.clfs_laws.proofs.ValidPuts.{after_by}
 
--- a state that a log comes to within a call: the records that it had, and maybe more behind them
+-- a state that a log comes to within a call: the records that it had, and maybe more after them
 pub record IsStage (u v : State) : Type 0 where
   pub valid : IsValid v
   pub blocks : HasBlocks v
@@ -133,7 +133,7 @@ turned_stage space u entry valid storable may apart beyond =
       rises = omega (arith, flush_rises, turn_rises);
     }
 
--- the log made ready, and the states on the way there, by whether the record joins the open block and whether it begins one behind it
+-- the log made ready, and the states on the way there, by whether the record joins the open block and whether it begins one after it
 abbrev readied_by : Bool → Bool → State → State
 readied_by joining beginning s = if joining then s else if beginning then seal s else turned (flush s)
 

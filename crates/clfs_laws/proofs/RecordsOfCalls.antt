@@ -1,4 +1,4 @@
--- A call adds records only behind all others, at the LSN that is next.
+-- A call adds records only after all others, at the LSN that is next.
 use Rattle.std.proofs.Common.{◌≡◌, ℕ, Bool, true, false, refl, sym, ap, ◌∙◌, inl, inr, List, [], ◌∷◌, ◌++◌, length}
 use Rattle.std.specs.Prelude.{Option, nat_lt, ◌==◌}
 use Rattle.std.specs.List.{AllByRecursion}

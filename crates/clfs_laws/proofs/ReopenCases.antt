@@ -1,4 +1,4 @@
--- What opening anew leaves, case by case.
+-- What opening again leaves, case by case.
 use Rattle.std.proofs.Common.{◌≡◌, Bool, true, false, sym, ap, ◌∙◌, ◌⊎◌, inl, inr, ℕ, []}
 use Rattle.std.specs.Prelude.{MatchBool}
 use Rattle.clfs_model.specs.declared.refusal.Refusal.{Refusal}
@@ -60,7 +60,7 @@ broken_by : (P Q : Type 0) (broken : Bool) → broken ≡ true → MatchBool bro
 broken_by P Q true is step = step
 broken_by P Q false is step = absurd (cc)
 
--- a broken log isn't opened anew
+-- a broken log isn't opened again
 pub reopening_broken : (told : Bool) (s : State) (happened : Happened) (reply : Reply) (t : State) → s.broken ≡ true → ReopenStep told s happened reply t
     → IsBroken s reply t
 unfolding ReopenStep
@@ -82,7 +82,7 @@ ends_by told s happened lsn t true is = absurd (let wrong : replies.Flushed lsn 
 ends_by told s happened lsn t false (inl want) = absurd (let wrong : replies.Flushed lsn ≡ replies.Refused refusals.NoMemory = want.0 in cc)
 ends_by told s happened lsn t false (inr reopens) = ends told s happened lsn t reopens
 
--- a log that was opened anew has no areas
+-- a log that was opened again has no areas
 pub reopening_ends : (told : Bool) (s : State) (happened : Happened) (lsn : ℕ) (t : State) → ReopenStep told s happened (replies.Flushed lsn) t → t.areas ≡ []
 unfolding ReopenStep
 reopening_ends told s happened lsn t step = ends_by told s happened lsn t s.broken step

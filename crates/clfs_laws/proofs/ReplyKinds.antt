@@ -68,7 +68,7 @@ lists_option : {A : Type 0} (p : Refusal → Bool) (sought : Option A) (f : A �
 lists_option p None f other each none = none
 lists_option p (Some x) f other each none = each x
 
--- a test with no other behind it
+-- a test with no other after it
 lists_last : (p : Refusal → Bool) (test : Bool) (given : Refusal) → p given ≡ true → Lists p (refused_if test given None)
 lists_last p test given is = lists_if p test given None is tt
 

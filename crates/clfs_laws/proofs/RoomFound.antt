@@ -190,7 +190,7 @@ whole_hold s area sizes valid storable there two room = record {
         let name = area_named area.client area.number s.areas other is in
         subst IsValid (hold_named other area sizes s name.0 name.1) (valid_sizes s area.client area.number sizes other is room two valid)
 
--- so it does behind a record that was put through it
+-- so it does after a record that was put through it
 pub whole_behind : HasSpaceLaws → (s : State) (area : Area) (entry : LogEntry) (sizes : List ℕ) → TakesThrough s area entry (own_sum sizes) → entry.kind ≡ Plain
     → IsWhole (hold_sizes area sizes (put s entry))
 whole_behind space s area entry sizes takes plain =

@@ -134,7 +134,7 @@ pub step_rows : (told : Bool) (s : State) (client : ℕ) (call : Call) (happened
     → Step told s client call happened reply t → StepsRows s client call reply t
 step_rows told s client call happened reply t step = rows_by told s client call happened reply t s.broken refl step
 
--- the rows of a client through entries that go on behind others
+-- the rows of a client through entries that go on after others
 pub rows_through : (told : Bool) (before : List Entry) (s t : State) (entries : List Entry) (client number : ℕ) → GoesOn told before s entries t
     → row_in t client number ≡ row_through number (row_in s client number) (mine entries client)
 rows_through told before s t [] client number goes = ap (λ (areas : List Area). row_among areas client number) (areas_same s t goes)

@@ -128,7 +128,7 @@ change_nothing p (area ∷ areas) = elim (cases_Bool (p area)) [
   | inr there ↦ rw there (ap (λ (others : List Area). area ∷ others) (change_nothing p areas))
 ]
 
--- one change behind another
+-- one change after another
 change_twice : (p : Area → Bool) (first second : Area → Area) → ((area : Area) → p (first area) ≡ p area) → (areas : List Area)
     → change_first p second (change_first p first areas) ≡ change_first p (λ area. second (first area)) areas
 change_twice p first second same [] = refl

@@ -66,7 +66,7 @@ not_of_other area client other number of_client differ =
     let fails : (area.client == other) ≡ false = ne_eqb area.client other (λ e. differs (sym e ∙ of_client)) in
     rw fails refl
 
--- the rows of the client with a new area behind the others
+-- the rows of the client with a new area after the others
 row_behind : (areas : List Area) (area : Area) (client number : ℕ) → area.client ≡ client → find (is_area client area.number) areas ≡ None
     → row_among (areas ++ area ∷ []) client number ≡ (if area.number == number then Some (row_of area) else row_among areas client number)
 row_behind areas area client number of_client unused =
@@ -153,7 +153,7 @@ held_told s client given now fewer more area other is tells = elim (cases_Bool (
   | inr differ ↦ rw differ refl
 ]
 
--- areas that spend and hold more, behind a log that has grown
+-- areas that spend and hold more, after a log that has grown
 grown_spent : (s t : State) (client given : ℕ) (area : Area) (is_reserved : Bool) (n : ℕ) (sizes : List ℕ) → area_of s client given ≡ Some area → t.areas ≡ s.areas
     → (hold_sizes area sizes (spend_if is_reserved area n t)).areas ≡ change_first (is_area client given) (with_spent is_reserved n sizes) s.areas
 grown_spent s t client given area is_reserved n sizes is same =
@@ -175,7 +175,7 @@ less_changes sectors = record {
     less_and_none : (held sectors : ℕ) → held - sectors ≡ held - sectors + 0
     less_and_none held sectors = omega arith
 
--- the areas behind an append
+-- the areas after an append
 appended_areas : (s : State) (client given : ℕ) (area : Area) (draft : Draft) (is_reserved : Bool) (sizes : List ℕ) → area_of s client given ≡ Some area
     → (appended s area draft is_reserved sizes).areas ≡ change_first (is_area client given) (with_spent is_reserved (length draft.bytes) sizes) s.areas
 appended_areas s client given area draft is_reserved sizes is =
@@ -185,7 +185,7 @@ appended_areas s client given area draft is_reserved sizes is =
     flush_if_areas draft.flush (seal_if draft.seal held) ∙ seal_if_areas draft.seal held
     ∙ grown_spent s joined client given area is_reserved n sizes is (joined_areas s (need_of is_reserved n sizes) (plain_record area draft))
 
--- the areas behind a restart area
+-- the areas after a restart area
 restarted_areas : (s : State) (client given : ℕ) (area : Area) (bytes : List ℕ) (base : ℕ) (is_reserved : Bool) → area_of s client given ≡ Some area
     → (restarted s area bytes base is_reserved).areas ≡ change_first (is_area client given) (with_spent is_reserved (length bytes) []) s.areas
 restarted_areas s client given area bytes base is_reserved is =

@@ -1,4 +1,4 @@
--- Logs that are the same open anew alike, and requests come to the same from both.
+-- Logs that are the same open again alike, and requests come to the same from both.
 use Rattle.std.proofs.Common.{◌≡◌, Bool, true, false, refl, sym, ap, ◌∙◌, subst, inl, inr, ◌⊎◌, List, [], ◌∷◌}
 use Rattle.std.specs.Prelude.{MatchBool}
 use Rattle.clfs_model.specs.declared.reply.Happened.{Happened}
@@ -15,7 +15,7 @@ use Rattle.clfs_laws.proofs.SameSteps.{broken_same, steps_alike}
 use Rattle.clfs_laws.proofs.ValidRuns.{valid_reopened}
 use Rattle.clfs_laws.proofs.ValidSteps.{valid_step}
 
--- what opening anew comes to, by the case of the log
+-- what opening again comes to, by the case of the log
 abbrev ReopensBy : Bool → Bool → State → Happened → Reply → State → Type 0
 ReopensBy broken told s happened reply t = MatchBool broken (IsBroken s reply t) (IsOutOfMemory s reply t ⊎ Reopens told s happened reply t)
 
@@ -61,7 +61,7 @@ reopening_by told s u happened reply t false valid valid_u same (inr opens) =
     let other = reopens_alike told s u happened reply t valid valid_u same opens in
     (other.0, (inr other.1.0, other.1.1))
 
--- opening anew
+-- opening again
 pub reopening_alike : (told : Bool) (s u : State) (happened : Happened) (reply : Reply) (t : State)
     → IsValid s → IsValid u → IsSame s u → ReopenStep told s happened reply t → (v : State) × (ReopenStep told u happened reply v × IsSame t v)
 unfolding ReopenStep

@@ -143,7 +143,7 @@ fine_alike space told s u client call reply t (Some first) valid valid_u same wh
     stays told s u client call Fine reply t same comes.1
     (to_whole told u client call Fine reply u whole (inr (to_option (refusal u client call) (Some first) _ _ refused (comes.0, refl))))
 
--- a step that isn't stopped by want of memory
+-- a step that isn't stopped because memory ran out
 goes_alike : HasSpaceLaws → (told : Bool) (s u : State) (client : ℕ) (call : Call) (happened : Happened) (reply : Reply) (t : State) → IsValid s → IsValid u
     → IsSame s u
     → u.broken ≡ false → Step told s client call happened reply t → Goes told s client call happened reply t

@@ -1,4 +1,4 @@
--- The three ways in which a record joins: into the open block, into a new block behind it, into the next container.
+-- The three ways in which a record joins: into the open block, into a new block after it, into the next container.
 use Rattle.std.proofs.Common.{◌≡◌, ℕ, suc, ◌+◌, ◌*◌, ◌<◌, ◌≤◌, true, refl, sym, ap, ◌∙◌, subst, inl, inr, ◌⊎◌, arith, List, [], ◌∷◌, ◌++◌}
 use Rattle.std.specs.Prelude.{filter, map, All, IsSome, ◌==◌}
 use Rattle.std.specs.List.{range_with_len}
@@ -114,7 +114,7 @@ sound_joined m entry used sound joining some few at has =
       room = has.room;
     })
 
--- into a block of its own, behind a log without an open block
+-- into a block of its own, after a log without an open block
 pub sound_begun : (m : State) (entry : LogEntry) (container sector n : ℕ) → IsSound m → IsJoining m entry → m.place.records ≡ 0
     → entry.lsn ≡ lsn_number container (512 * sector) 0 → block_start m.place ≤ entry.lsn
     → ((m.waiting ≡ []) ⊎ (m.place.container ≡ container)) → HasPlace m (begun container sector n)

@@ -19,11 +19,11 @@ use Rattle.clfs_model.specs.Valid.{IsRecord, HasWaiting, open_sequences}
 use Rattle.clfs_laws.proofs.ValidPlaces.{moved, IsSound, sound_moved, stable_still, increasing_push}
 use Rattle.clfs_laws.proofs.HoldOrder.{hold_later, hold_below_archive, hold_below_live, hold_below_frontier, active_later, free_later}
 
--- the log with one more record, and the place behind it
+-- the log with one more record, and the place after it
 abbrev pub with_record : State → LogEntry → Place → State
 with_record m entry place = moved m (m.records ++ entry ∷ []) place m.waiting
 
--- a record and a place behind it that fit a log
+-- a record and a place after it that fit a log
 pub record IsNext (m : State) (entry : LogEntry) (place : Place) : Type 0 where
   pub within : IsWithin m.shape place
   pub behind : frontier m.place ≤ entry.lsn

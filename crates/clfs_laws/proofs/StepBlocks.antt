@@ -1,4 +1,4 @@
--- Every step keeps the blocks of a log one behind the other, whatever the call's arguments.
+-- Every step keeps the blocks of a log one after the other, whatever the call's arguments.
 use Rattle.std.proofs.Common.{◌≡◌, ℕ, Bool, true, false, refl, length}
 use Rattle.std.specs.Prelude.{Option, Some, None}
 use Rattle.clfs_lsn.specs.declared.entry.LogEntry.{LogEntry}

@@ -65,7 +65,7 @@ opened_by s name None is none limits =
 pub limits_opened : (s : State) (name : List ℕ) → open_refusal s name ≡ None → IsWithinLimits s → IsWithinLimits (opened s name).state
 limits_opened s name none limits = opened_by s name (stream_number s name) refl none limits
 
--- a new number is one of the first, or the one behind them
+-- a new number is one of the first, or the one after them
 in_range : (p : ℕ → Bool) (start count number : ℕ) → find p (range_with_len start count) ≡ Some number → (start ≤ number) × (number < start + count)
 in_range p start zero number is = absurd (cc)
 in_range p start (suc count) number is = elim (cases_Bool (p start)) [

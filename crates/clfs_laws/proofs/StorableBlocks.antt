@@ -1,4 +1,4 @@
--- The blocks of a log lie one behind the other after each change of its records and its place.
+-- The blocks of a log lie one after the other after each change of its records and its place.
 use Rattle.std.proofs.Common.{◌≡◌, ℕ, ◌+◌, ◌-◌, ◌<◌, ◌≤◌, ◌^◌, Bool, true, false, refl, sym, ap, ◌∙◌, subst, inl, inr, arith, List, [], ◌∷◌, ◌++◌, length}
 use Rattle.std.specs.Prelude.{Some, None, nat_lt, ◌==◌}
 use Rattle.std.proofs.lemmas.Bool.{cases_Bool, ltb-true}
@@ -55,7 +55,7 @@ next_id s n sound takes beyond =
         → s.place.container + 1 < 2 ^ 32
     next_one s n none room = grind (arith, none, room)
 
--- the container of the place behind a record has an id
+-- the container of the place after a record has an id
 id_by : (s : State) (n : ℕ) (joining beginning : Bool) → begins_here s.shape s.place n ≡ beginning → IsSound s → TakesRecord s n
     → s.place.container < 2 ^ 32
     → (after_by joining beginning s.place n).1.container < 2 ^ 32
@@ -87,7 +87,7 @@ put_by_dedicated false false s entry = seal_dedicated s
 pub put_dedicated : (s : State) (entry : LogEntry) → (put s entry).dedicated ≡ s.dedicated
 put_dedicated s entry = put_by_dedicated (joins s.shape s.place (length entry.bytes)) (begins_here s.shape s.place (length entry.bytes)) s entry
 
--- a record that is put lies behind the others
+-- a record that is put lies after the others
 pub blocks_put : HasSpaceLaws → (s : State) (entry : LogEntry) → IsSound s → TakesRecord s (length entry.bytes)
     → IsJoining s (placed entry (next_lsn s (length entry.bytes)))
     → HasBlocks s → HasBlocks (put s entry)

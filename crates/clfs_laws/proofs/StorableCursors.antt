@@ -138,7 +138,7 @@ pub cursor_at_read : (s : State) (area : Area) (number : ℕ) (kind : CursorKind
 cursor_at_read s area number kind entry valid some few is =
     record { some_number = some; number = few; entry = entry; there = entry_itself s entry valid is.among; stream = is.stream; kind = is.kind }
 
--- with more records behind, and in an area of the same stream and as many cursors, a cursor stays what it is
+-- with more records after, and in an area of the same stream and as many cursors, a cursor stays what it is
 pub cursor_kept : (s t : State) (a b : Area) (more : List LogEntry) → t.records ≡ s.records ++ more → b.reads ≡ a.reads → b.stream ≡ a.stream
     → (cursor : Cursor) → IsCursor s a cursor → IsCursor t b cursor
 cursor_kept s t a b more records reads stream cursor is = record {

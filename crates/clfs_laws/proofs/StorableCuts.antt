@@ -82,7 +82,7 @@ parted lsn (first ∷ entries) entry rising (inr among) at =
       at = rest.at;
     }
 
--- the numbers of a place behind some records
+-- the numbers of a place after some records
 pub record IsLow (place : Place) : Type 0 where
   pub offset : place.offset % 512 ≡ 0
   pub end : block_end place ≤ 16384
@@ -93,7 +93,7 @@ low_within : (shape : Shape) (place : Place) → IsShape shape → IsWithin shap
 low_within shape place is within =
     record { offset = within.offset; end = omega (arith, within.end, is.largest_container); few = few_records shape place within }
 
--- and so has the place behind records that lie in blocks
+-- and so has the place after records that lie in blocks
 pub low_all : (shape : Shape) (place : Place) (entries : List LogEntry) → IsShape shape → IsLow place → LieInBlocks shape place entries
     → IsLow (behind_all place entries)
 low_all shape place [] is low laid = low
@@ -179,7 +179,7 @@ cut_goes_by s (start ∷ rest) some valid blocks =
     let G : ℕ → Type 0 = λ n. IsSome (entry_at s n) in
     cut_begins s valid blocks.laid begins (subst G (sym is) waits.first)
 
--- the flushed part goes on behind its last record
+-- the flushed part goes on after its last record
 pub cut_goes_on : (s : State) → IsValid s → HasBlocks s → GoesOnAt (behind_all before_all (cut s).records) (cut s).place
 cut_goes_on s valid blocks = cut_goes_by s s.waiting refl valid blocks
 

@@ -24,7 +24,7 @@ use Rattle.clfs_laws.proofs.ValidSteps.{valid_step}
 storable_as : (s t : State) → t ≡ s → IsStorable s → IsStorable t
 storable_as s t same storable = subst IsStorable (sym same) storable
 
--- opening anew, by what happened
+-- opening again, by what happened
 reopens_storable : (told : Bool) (s : State) (happened : Happened) (reply : Reply) (t : State) → Reopens told s happened reply t → IsStorable s
     → IsStorable t
 reopens_storable told s Fine reply t is storable = is.storable
@@ -38,7 +38,7 @@ reopened_by told s happened reply t true is storable = storable_as s t is.1 stor
 reopened_by told s happened reply t false (inl want) storable = storable_as s t want.1 storable
 reopened_by told s happened reply t false (inr reopens_so) storable = reopens_storable told s happened reply t reopens_so storable
 
--- opening anew leaves a state that files can hold
+-- opening again leaves a state that files can hold
 pub storable_reopened : (told : Bool) (s : State) (happened : Happened) (reply : Reply) (t : State) → ReopenStep told s happened reply t
     → IsStorable s → IsStorable t
 unfolding ReopenStep

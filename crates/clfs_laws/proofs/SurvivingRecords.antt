@@ -1,4 +1,4 @@
--- A survivor begins with the records that were on the disk, and what it has behind them lies at or above the flushed LSN.
+-- A survivor begins with the records that were on the disk, and what it has after them lies at or above the flushed LSN.
 use Rattle.std.proofs.Common.{◌≡◌, ℕ, ◌<◌, ◌≤◌, Bool, refl, sym, ap, ◌∙◌, subst, append_assoc, inl, inr, arith, List, [], ◌∷◌, ◌++◌}
 use Rattle.std.specs.Prelude.{filter, nat_lt, All, Contains, slice_index_or}
 use Rattle.std.specs.List.{AllByRecursion}

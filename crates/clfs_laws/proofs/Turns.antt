@@ -53,7 +53,7 @@ pub record IsTurn (s t : State) : Type 0 where
 pub stays : (s t : State) → t.shape ≡ s.shape → t.dedicated ≡ s.dedicated → t.place.container ≡ s.place.container → IsTurn s t
 stays s t shape dedicated container = record { shape = shape; dedicated = dedicated; container = inl container }
 
--- before and behind changes that leave the place, or its container
+-- before and after changes that leave the place, or its container
 turn_before : (s g t : State) → g.shape ≡ s.shape → g.dedicated ≡ s.dedicated → g.place ≡ s.place → IsTurn g t → IsTurn s t
 turn_before s g t shape dedicated place turn =
     let F : Place → Type 0 = λ p. (t.place.container ≡ p.container) ⊎ ((t.place.container ≡ p.container + 1) × (1 ≤ block_end p)) in
@@ -114,7 +114,7 @@ turn_put s entry is short = record {
   container = turn_by s (length entry.bytes) (joins s.shape s.place (length entry.bytes)) (begins_here s.shape s.place (length entry.bytes)) refl is short;
 }
 
--- the same behind growth
+-- the same after growth
 turn_joined : (s : State) (need : ℕ) (entry : LogEntry) → IsShape s.shape → length entry.bytes ≤ longest s.shape → IsTurn s (put (grown s need) entry)
 turn_joined s need entry is short =
     let F : State → Type 0 = λ x. IsShape x.shape in

@@ -85,7 +85,7 @@ not_fails : (b : Bool) → not b ≡ false → b ≡ true
 not_fails true is = refl
 not_fails false is = absurd (cc)
 
--- what holds of each number up to one, and of the one behind it
+-- what holds of each number up to one, and of the one after it
 one_of : (has : ℕ → Bool) (number count : ℕ) → 1 ≤ number → number < 1 + (count + 1)
     → ((n : ℕ) → 1 ≤ n → n < 1 + count → has n ≡ true) → has (count + 1) ≡ true → has number ≡ true
 one_of has number count low high below last = elim (cases_Bool (nat_lt number (1 + count))) [

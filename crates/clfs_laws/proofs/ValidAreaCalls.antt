@@ -1,4 +1,4 @@
--- Calls that change areas alone, or areas behind growth, keep a state valid.
+-- Calls that change areas alone, or areas after growth, keep a state valid.
 use Rattle.std.proofs.Common.{◌≡◌, ◌≢◌, ℕ, zero, suc, ◌+◌, ◌<◌, ◌≤◌, Bool, true, false, refl, sym, ap, ◌∙◌, subst, inl, inr, ◌⊎◌, arith, List, [], ◌∷◌, ◌++◌, length}
 use Rattle.std.specs.Prelude.{Option, Some, None, filter, map, All, IsSome, is_none, slice_index_or, ◌==◌, not, find, nat_le, nat_lt, if◌then◌else◌}
 use Rattle.std.specs.List.{AllByRecursion}
@@ -244,7 +244,7 @@ pub room_is : (s : State) (need : ℕ) → has_room s need ≡ true → reserved
 unfolding has_room
 room_is s need room = leb-true (reserved s + need) (free (grown s need)) room
 
--- a reservation, behind growth
+-- a reservation, after growth
 pub valid_reserved : HasSpaceLaws → (s : State) (client number : ℕ) (sizes : List ℕ) (area : Area) → area_of s client number ≡ Some area → has_room s (own_sum sizes) ≡ true → 2 ≤ s.containers → IsValid s
     → IsValid (hold_sizes area sizes (grown s (own_sum sizes)))
 valid_reserved space s client number sizes area is room two valid =

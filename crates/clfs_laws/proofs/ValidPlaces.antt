@@ -115,7 +115,7 @@ sound_moved s records place waiting sound has = record {
   space = record { active = has.active; room = has.room; two = sound.space.two };
 }
 
--- the element behind the first one
+-- the element after the first one
 behind_first : (n : ℕ) (ns : List ℕ) (k : ℕ) → slice_index (n ∷ ns) (k + 1) ≡ slice_index ns k
 behind_first n ns k = let e : k + 1 ≡ suc k = omega arith in ap (slice_index (n ∷ ns)) e
 
@@ -129,7 +129,7 @@ increasing_cons n m ns below rising (suc k) within =
     let e : suc k + 1 ≡ suc (k + 1) = omega arith in ap (slice_index (n ∷ m ∷ ns)) e in
     omega (arith, step, first, second)
 
--- numbers that all lie below another one, which is put behind them
+-- numbers that all lie below another one, which is put after them
 pub increasing_push : (ns : List ℕ) (n : ℕ) → IsStrictlyIncreasing ns → AllByRecursion (λ m. m < n) ns → IsStrictlyIncreasing (ns ++ n ∷ [])
 increasing_push [] n rising below = λ k within. absurd (omega (arith, within))
 increasing_push (m ∷ []) n rising below = increasing_cons m n [] below.0 (λ k within. absurd (omega (arith, within)))
@@ -259,7 +259,7 @@ sound_written s sound = let t : State = record s { waiting = [] } in sound_moved
   room = sound.space.room;
 })
 
--- the first of some numbers and another one behind them
+-- the first of some numbers and another one after them
 first_of_more : (ns : List ℕ) (n m : ℕ) → first_or m (ns ++ n ∷ []) ≡ first_or n ns
 first_of_more [] n m = refl
 first_of_more (o ∷ ns) n m = refl

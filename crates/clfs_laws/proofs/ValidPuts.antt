@@ -25,7 +25,7 @@ use Rattle.clfs_laws.proofs.ValidPlaces.{IsSound, IsReady, sealed_hold, sealed_w
 use Rattle.clfs_laws.proofs.SoundPuts.{with_record}
 use Rattle.clfs_laws.proofs.SoundJoins.{IsJoining, HasPlace, sound_joined, sound_begun}
 
--- the place behind a record that joins the open block
+-- the place after a record that joins the open block
 within_joined : (shape : Shape) (place : Place) (n : ℕ) → IsShape shape → IsWithin shape place → joins shape place n ≡ true
     → IsWithin shape (record place { used = place.used + size n; records = place.records + 1 })
 within_joined shape place n is within fits = record {
@@ -232,7 +232,7 @@ put_next space s entry sound takes apart beyond joining =
     (omega (arith, long, sound.ranges.shape.two_blocks)) (omega (arith, is.ready.container, is.ready.offset, sound.ranges.place.end, sound.ranges.shape.largest_container))
     (inl refl) (next_used s n sound takes beyond) after
 
--- the place after a record, by whether it joins the open block and whether it begins one behind it
+-- the place after a record, by whether it joins the open block and whether it begins one after it
 abbrev pub after_by : Bool → Bool → Place → ℕ → ℕ × Place
 after_by joining beginning place n =
     if joining

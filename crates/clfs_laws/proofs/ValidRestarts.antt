@@ -54,7 +54,7 @@ newest_by : (bound : ℕ) (found : Option LogEntry) → IfSome found (λ (entry 
 newest_by bound None below = inl refl
 newest_by bound (Some entry) below = inr below
 
--- the place behind a record has a later frontier
+-- the place after a record has a later frontier
 after_above : (shape : Shape) (place : Place) (n : ℕ) (joining beginning : Bool) → IsShape shape → IsWithin shape place → frontier place ≤ frontier (after_by joining beginning place n).1
 after_above shape place n true beginning is within = omega arith
 after_above shape place n false true is within = omega (arith, frontier_sealed shape place within)
@@ -109,7 +109,7 @@ pub record IsAllowed (s : State) (area : Area) (bytes : List ℕ) (base : ℕ) (
   pub held : spent_of is_reserved (length bytes) ≤ area.held
   pub room : has_room s (need_of is_reserved (length bytes) []) ≡ true
 
--- the other tests, behind the one of the new base
+-- the other tests, after the one of the new base
 record PassesBase (s : State) (stream base : ℕ) (others : Option Refusal) : Type 0 where
   pub based : (base == null_lsn) ≡ false → is_base s stream base ≡ true
   pub rest : others ≡ None

@@ -32,7 +32,7 @@ reopened_by told s happened reply t true is valid = valid_as s t is.1 valid
 reopened_by told s happened reply t false (inl want) valid = valid_as s t want.1 valid
 reopened_by told s happened reply t false (inr reopens) valid = reopens_valid told s happened reply t reopens valid
 
--- opening anew leaves a valid state
+-- opening again leaves a valid state
 pub valid_reopened : (told : Bool) (s : State) (happened : Happened) (reply : Reply) (t : State) → ReopenStep told s happened reply t → IsValid s → IsValid t
 unfolding ReopenStep
 valid_reopened told s happened reply t step valid = reopened_by told s happened reply t s.broken step valid

@@ -166,7 +166,7 @@ tail_by s lsn (Some tail) on none valid =
 pub valid_tail : (s : State) (lsn : ℕ) → tail_refusal s lsn ≡ None → IsValid s → IsValid (record s { archive = Some lsn })
 valid_tail s lsn none valid = tail_by s lsn s.archive refl none valid
 
--- a base that a call moves, behind a flush
+-- a base that a call moves, after a flush
 pub valid_rebased : (s t : State) (stream lsn : ℕ) → IsSound s → is_base s stream lsn ≡ true → IsSome (stream_at s stream)
     → IsValid t → t.streams ≡ s.streams → frontier s.place ≤ flushed t → IsValid (record t { streams = set_base stream lsn t.streams })
 valid_rebased s t stream lsn sound allowed there valid same above =

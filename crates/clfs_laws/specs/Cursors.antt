@@ -21,7 +21,7 @@ abbrev pub cursor_of_kind : Area → ℕ → CursorKind → Option Cursor
 cursor_of_kind area number (Records mode) = record_cursor area number
 cursor_of_kind area number RestartAreas = restart_cursor area number
 
--- what is still to come behind the record that was given last: the chain from its next on, or the older restart areas
+-- what is still to come after the record that was given last: the chain from its next on, or the older restart areas
 abbrev pub still_to_come : State → ℕ → CursorKind → ℕ → List LogEntry
 still_to_come s stream (Records mode) last = chain_from s stream mode (length s.records) (next s stream mode last)
 still_to_come s stream RestartAreas last = filter (λ (entry : LogEntry). nat_lt entry.lsn last) (restart_areas s stream)

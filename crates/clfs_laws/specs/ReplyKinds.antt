@@ -191,7 +191,7 @@ may_call_disk calls.ListExtents = false
 may_call_disk (calls.Info stream) = false
 may_call_disk _ = true
 
--- A refusal that the call may be answered: one of its own list; that the log is broken; want of memory where it takes any, a fault where
+-- A refusal that the call may be answered: one of its own list; that the log is broken; out of memory where it takes any, a fault where
 -- it may call the disk, and damage where it reads. No call is answered that its line is bad.
 abbrev pub may_refuse : Call → Refusal → Bool
 may_refuse call refusals.NoMemory = takes_memory call

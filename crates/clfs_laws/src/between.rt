@@ -1,6 +1,6 @@
 // The states between the small changes that make up an append, a restart area or a reservation: the log grows, its area spends, the log is
 // made ready, the record is put, the area holds more, the block is sealed and the log flushed. Each of these states is one that a log can
-// be in and that files can hold; so is the one behind a restart area but for that record, until it is on the disk.
+// be in and that files can hold; so is the one after a restart area but for that record, until it is on the disk.
 ghost use Rattle.std.specs.Prelude.{◌≡◌, ◌+◌, ◌≤◌, ℕ, Bool, true, false, List, [], length, All, IsSome, None, Some};
 ghost use Rattle.clfs_lsn.specs.Limits.{most_containers};
 ghost use Rattle.clfs_lsn.specs.Lsn.{container_of};
@@ -80,7 +80,7 @@ pub fn seals_and_flushes_keep_a_log()
 {}
 
 /// A log with room for a record is whole once it is made ready for it, and the record goes where it would have gone. Where it fits neither
-/// into the open block nor behind it, there is a further container to go on to.
+/// into the open block nor after it, there is a further container to go on to.
 pub fn logs_are_made_ready()
     ensures ready { (s : State) (entry : LogEntry) → IsValid s → IsStorable s → MayPut s entry
         → IsReadiedFor s (readied s (length entry.bytes)) entry }
@@ -110,7 +110,7 @@ pub fn records_are_put()
     space_laws();
 }
 
-/// An area that is there may hold the sectors for records to come, where they are free and the log has two containers; so it may behind a
+/// An area that is there may hold the sectors for records to come, where they are free and the log has two containers; so it may after a
 /// record that was put through it.
 pub fn areas_hold_sectors()
     ensures held { (s : State) (area : Area) (sizes : List ℕ) → IsValid s → IsStorable s → IsSome (area_of s area.client area.number)

@@ -47,7 +47,7 @@ pub fn reading_gives_the_chain()
         → (reply ≡ replies.Refused refusals.StartOfLog) × (t ≡ s) }
 {}
 
-/// So with restart areas: the newest comes first, then the older ones one by one, and exactly behind the last the answer that there
+/// So with restart areas: the newest comes first, then the older ones one by one, and exactly after the last the answer that there
 /// is none.
 pub fn restart_areas_come_newest_first()
     ensures first { (told : Bool) (s t : State) (client number : ℕ) (area : Area) (cursor : ℕ) (read : LogEntry)

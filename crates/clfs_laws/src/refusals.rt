@@ -20,7 +20,7 @@ pub fn refusals_change_nothing()
         → ReopenStep told s happened (replies.Refused refusal) t → happened_of_refusal refusal ≡ Happened.Fine → t ≡ s }
 {}
 
-/// A call that met a disk fault or damage leaves the log broken, and so does opening anew.
+/// A call that met a disk fault or damage leaves the log broken, and so does opening again.
 pub fn faults_break()
     ensures fault { (told : Bool) (s : State) (client : ℕ) (call : Call) (happened : Happened) (reply : Reply) (t : State)
         → Step told s client call happened reply t → happened_of reply ≡ Happened.Fault → t.broken ≡ true }
@@ -30,7 +30,7 @@ pub fn faults_break()
         → ReopenStep told s happened reply t → (happened_of reply ≡ Happened.Fine → ⊥) → t.broken ≡ true }
 {}
 
-/// A broken log answers each call that it is broken, and opening anew too, and stays as it is.
+/// A broken log answers each call that it is broken, and opening again too, and stays as it is.
 pub fn broken_stays()
     ensures calls { (told : Bool) (s : State) (client : ℕ) (call : Call) (happened : Happened) (reply : Reply) (t : State)
         → s.broken ≡ true → Step told s client call happened reply t → IsBroken s reply t }
@@ -38,13 +38,13 @@ pub fn broken_stays()
         → s.broken ≡ true → ReopenStep told s happened reply t → IsBroken s reply t }
 {}
 
-/// A log that was opened anew has no areas, so it holds no sectors and no cursors.
+/// A log that was opened again has no areas, so it holds no sectors and no cursors.
 pub fn opening_anew_ends_areas()
     ensures { (told : Bool) (s : State) (happened : Happened) (lsn : ℕ) (t : State)
         → ReopenStep told s happened (replies.Flushed lsn) t → t.areas ≡ [] }
 {}
 
-/// A log that isn't broken stays so in every step that tells neither a fault nor damage, and where it is opened anew without them, and
+/// A log that isn't broken stays so in every step that tells neither a fault nor damage, and where it is opened again without them, and
 /// the reply doesn't say that it is broken. A step in which nothing happened tells neither. So along any part of a legal journal in
 /// which nothing happened the log stays so, and no entry says that it is broken.
 pub fn unbroken_stays()

@@ -16,7 +16,7 @@ ghost use Rattle.clfs_laws.specs.Meets.{RequestMeets};
 use clfs_model::calm_replies_are_a_run;
 use clfs_space::space_laws;
 
-/// Two runs join where the second begins at the state that the first reached, and a run over two lists of requests, one behind the
+/// Two runs join where the second begins at the state that the first reached, and a run over two lists of requests, one after the
 /// other, is two runs.
 pub fn runs_join()
     ensures joined { (told : Bool) (s mid t : State) (front rest : List Request) (of_front of_rest : List Happened) (replies more : List Reply)
@@ -26,8 +26,8 @@ pub fn runs_join()
         → Run told s (front ++ rest) happened replies t → RunsBy told s front rest happened replies t }
 {}
 
-/// A log that isn't broken may be opened anew as its flushed part, over every disk. So over a disk that tells what it holds the replies
-/// that are computed where nothing happens and memory suffices are those of a run, also where the log is opened anew.
+/// A log that isn't broken may be opened again as its flushed part, over every disk. So over a disk that tells what it holds the replies
+/// that are computed where nothing happens and memory suffices are those of a run, also where the log is opened again.
 pub fn opening_anew_comes_to_the_cut()
     ensures step { (told : Bool) (s : State) → IsValid s → IsStorable s → s.broken ≡ false
         → ReopenStep told s Fine (replies.Flushed (flushed s)) (cut s) }

@@ -20,7 +20,7 @@ use clfs_space::space_laws;
 
 /// Two valid states that are the same meet the same first refusal in each call, and call the disk in the same calls. Each step of one
 /// is a step of the other, with the same reply, whatever happens and whether or not the disk tells what it holds, and the states that
-/// the two come to are the same again. So it is where both are opened anew, and over lists of requests.
+/// the two come to are the same again. So it is where both are opened again, and over lists of requests.
 pub fn the_same_answer_alike()
     ensures refusal { (s u : State) (client : ℕ) (call : Call) → IsValid s → IsValid u → IsSame s u → refusal s client call ≡ refusal u client call }
     ensures disk { (s u : State) (call : Call) → IsValid s → IsValid u → IsSame s u → calls_disk s call ≡ calls_disk u call }
@@ -50,7 +50,7 @@ pub fn sameness()
     ensures restarts { (s u : State) (stream : ℕ) → IsSame s u → restart_areas s stream ≡ restart_areas u stream }
 {}
 
-/// The container of the hold never falls: in a step from a valid state, where a valid log is opened anew over a disk that tells what
+/// The container of the hold never falls: in a step from a valid state, where a valid log is opened again over a disk that tells what
 /// it holds, and along a legal journal. So a record in a container below the hold's stays below it.
 pub fn the_holds_container_never_falls()
     ensures step { (told : Bool) (s : State) (client : ℕ) (call : Call) (happened : Happened) (reply : Reply) (t : State)

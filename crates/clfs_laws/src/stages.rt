@@ -18,7 +18,7 @@ use clfs_space::space_laws;
 
 /// The flushed part of each state that a call goes through is a survivor of the call. An append, a restart area, a reservation and an
 /// advance go through the states between their small changes; of each call, also one that is refused, the state before it and the one that
-/// it leaves are such states. Opening anew and a bad line have the log's flushed part as a survivor.
+/// it leaves are such states. Opening again and a bad line have the log's flushed part as a survivor.
 pub fn states_between_survive()
     ensures append { (s : State) (client number : ℕ) (area : Area) (draft : Draft) (reserved : Bool) (sizes : List ℕ)
         → IsValid s → IsStorable s → s.broken ≡ false → refusal s client (calls.Append number draft reserved sizes) ≡ None

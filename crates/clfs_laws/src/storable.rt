@@ -38,7 +38,7 @@ pub fn first_states_are_storable()
 {}
 
 /// Every step of a call that meets its condition leaves a state that files can hold, whatever happens, where it began in one; so do
-/// opening the log anew, a legal journal of such calls, any part of one, and a run of such requests.
+/// opening the log again, a legal journal of such calls, any part of one, and a run of such requests.
 pub fn steps_keep_a_state_storable()
     ensures step { (told : Bool) (s : State) (client : ℕ) (call : Call) (happened : Happened) (reply : Reply) (t : State)
         → IsValid s → IsStorable s → MeetsCondition client call → Step told s client call happened reply t → IsStorable t }

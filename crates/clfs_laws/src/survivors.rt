@@ -16,7 +16,7 @@ ghost use Rattle.clfs_laws.specs.Stable.{LeavesStable};
 
 use clfs_space::space_laws;
 
-/// A survivor of a call begins with all records that were on the disk before it, in their order, and what it has behind them lies at
+/// A survivor of a call begins with all records that were on the disk before it, in their order, and what it has after them lies at
 /// or above the LSN up to which the log was flushed. So it has every restart area.
 pub fn survivors_keep_what_was_flushed()
     ensures records { (told : Bool) (s t x : State) (client : ℕ) (call : Call) (reply : Reply)
@@ -41,7 +41,7 @@ pub fn quiet_calls_survive_as_the_cut()
     space_laws();
 }
 
-/// Nothing survives opening the log anew but the flushed part of the log, up to the number of write buffers, and that does.
+/// Nothing survives opening the log again but the flushed part of the log, up to the number of write buffers, and that does.
 pub fn opening_anew_survives_as_the_cut()
     ensures only { (s x : State) (client : ℕ) → IsValid s → IsStorable s → IsSurvivor (reopens client) s (cut s) x
         → record x { buffers = s.buffers } ≡ cut s }

@@ -33,7 +33,7 @@ pub fn extents_are_few()
         → IsValid s → Step told s client call happened (replies.Extents found) t → length found ≤ most_containers }
 {}
 
-/// Every step from a valid state leaves a valid state, whatever is called and whatever happens; so do opening the log anew, a legal
+/// Every step from a valid state leaves a valid state, whatever is called and whatever happens; so do opening the log again, a legal
 /// journal and any part of one.
 pub fn steps_keep_a_state_valid()
     ensures step { (told : Bool) (s : State) (client : ℕ) (call : Call) (happened : Happened) (reply : Reply) (t : State)

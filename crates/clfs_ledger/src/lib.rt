@@ -3,7 +3,7 @@
 //! A client that must be able to append later, as when it undoes its work, reserves the space first.
 //! The log then refuses to everyone else what is held, so two numbers have to be exact at any moment:
 //! what one area holds, and the sum over all areas. The sum is kept beside the rows and never added up
-//! anew. Nothing of this is stored on the disk: reservations end with a crash.
+//! again. Nothing of this is stored on the disk: reservations end with a crash.
 #![tactic(auto)]
 
 mod reservations;

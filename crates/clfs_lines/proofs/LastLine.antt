@@ -1,4 +1,4 @@
--- How the answering of a script ends behind the lines that have their line feed: by the last line, where there is one.
+-- How the answering of a script ends after the lines that have their line feed: by the last line, where there is one.
 use Rattle.std.proofs.Common.{◌≡◌, ℕ, ◌<◌, Bool, true, false, List, [], ◌∷◌, ◌++◌, length, take, drop, refl, sym, ap, ◌∙◌, subst, inl, inr, arith}
 use Rattle.std.specs.Prelude.{◌==◌, Option}
 use Rattle.std.proofs.lemmas.Bool.{eqb-true}
@@ -91,7 +91,7 @@ module _ (most : ℕ) (A : Type 0) (answers : Answered A) (a : A) (left left_aft
         ),
       )
 
-  -- memory ran out behind the answer to it
+  -- memory ran out after the answer to it
   pub last_unwritten : (line : List ℕ) (mid : A) (b : A) (w : Option (List ℕ))
       → HasAnsweredEnded answers most a left left_after written line mid w → 0 < length line → AnswersUnwritten answers mid line b
       → StopsShort (script_limits most) (AnswersInPart answers a b false) left left_after written w

@@ -234,7 +234,7 @@ module _ (most : ℕ) (A : Type 0) (answers : Answered A) (a : A) (left written 
         ),
       )
 
-  -- the next line comes behind those that were answered
+  -- the next line comes after those that were answered
   next_is_front : (bytes line after : List ℕ) (b : A) (w : Option (List ℕ))
       → (so_far : HasAnswered answers a written (take most bytes) (line ++ 10 ∷ after) b w) → HasNoFeed line → length line ≤ serve_limits.line
       → IsFrontOf (accepted (script_limits most) bytes) (so_far.lines ++ line ∷ [])
@@ -242,7 +242,7 @@ module _ (most : ℕ) (A : Type 0) (answers : Answered A) (a : A) (left written 
       known_are_front most bytes (so_far.lines ++ line ∷ []) after (All-push HasNoFeed so_far.lines line so_far.whole one) (all_short_more so_far.lines line so_far.short few)
       (with_feeds_more so_far.lines line after ∙ so_far.split)
 
-  -- memory ran out behind the answer to it
+  -- memory ran out after the answer to it
   pub unwritten_stops : (left_now : Option (List ℕ)) (line after : List ℕ) (given : ℕ) (mid : A) (b : A) (w : Option (List ℕ))
       → IsReading answers most a left left_now written (line ++ 10 ∷ after) given mid w → HasNoFeed line → length line ≤ serve_limits.line
       → AnswersUnwritten answers mid line b → StopsShort (script_limits most) (AnswersInPart answers a b false) left left_now written w

@@ -35,7 +35,7 @@ part_behind : (lines parts : List (List ℕ)) → HasPart parts → HasPart (lin
 part_behind [] parts h = h
 part_behind (line ∷ lines) parts h = (line, lines ++ parts, refl)
 
--- lines with their line feeds, and what stands behind them
+-- lines with their line feeds, and what stands after them
 parts_behind : (lines : List (List ℕ)) (rest : List ℕ) → All HasNoFeed lines → slice_split is_feed (with_feeds lines ++ rest) ≡ lines ++ slice_split is_feed rest
 parts_behind [] rest none = refl
 parts_behind (line ∷ lines) rest none =
@@ -145,7 +145,7 @@ pub known_are_front : (most : ℕ) (bytes : List ℕ) (lines : List (List ℕ)) 
 known_are_front most bytes lines rest none short split =
     record { rest = take_while is_short (without_last (slice_split is_feed rest)); front = sym (accepted_behind most bytes lines rest none short split) }
 
--- where no line ends behind them they are all
+-- where no line ends after them they are all
 pub known_are_all : (most : ℕ) (bytes : List ℕ) (lines : List (List ℕ)) (rest : List ℕ) → All HasNoFeed lines → list_all is_short lines ≡ true
     → with_feeds lines ++ rest ≡ take most bytes → HasNoFeed rest → accepted (script_limits most) bytes ≡ lines
 known_are_all most bytes lines rest none short split one =
@@ -163,11 +163,11 @@ long_lines part [] long =
     let t : is_short part ≡ false = lt-leb (length part) serve_limits.line long in rw (some, t) refl
 long_lines part (next ∷ others) long = let t : is_short part ≡ false = lt-leb (length part) serve_limits.line long in rw t refl
 
--- what stands behind them is too long
+-- what stands after them is too long
 longer : (line rest part : List ℕ) → serve_limits.line < length line → serve_limits.line < length (line ++ part)
 longer line rest part long = omega (arith, long, length-append line part)
 
--- so do they where a line behind them is too long
+-- so do they where a line after them is too long
 pub known_are_before_long : (most : ℕ) (bytes : List ℕ) (lines : List (List ℕ)) (line rest : List ℕ) → All HasNoFeed lines → list_all is_short lines ≡ true
     → with_feeds lines ++ (line ++ rest) ≡ take most bytes → HasNoFeed line → serve_limits.line < length line → accepted (script_limits most) bytes ≡ lines
 known_are_before_long most bytes lines line rest none short split one long =

@@ -1,6 +1,6 @@
 //! The lines of a script, answered as its bytes come: each line when its line feed is there, and its reply is written before the next one is looked at.
 //!
-//! What answers a line is whatever implements `Answering`, so limits, line ends, faults of the source and of the sink and want of memory are
+//! What answers a line is whatever implements `Answering`, so limits, line ends, faults of the source and of the sink and out of memory are
 //! treated in one place, by one proof. A line that is too long, and bytes past the most that a script may have, end the script; the lines that came whole
 //! before are answered. After a fault of the sink no further line is answered.
 //!

@@ -1,4 +1,4 @@
-// What a log has that is opened behind a crash, on a disk that stopped at each call of one line of a script in turn.
+// What a log has that is opened after a crash, on a disk that stopped at each call of one line of a script in turn.
 ghost use Rattle.std.specs.Prelude.{◌≤◌};
 
 use crate::runs::{Ran, SMALL, formatted, joined, lines_of, served, written_out};
@@ -10,7 +10,7 @@ use std::process::Abort;
 use std::sync::Wait;
 use std::thread::Threads;
 
-// Two clients fill a log of two containers, and move their bases, so that its first container is free again. The record behind begins container 3 in
+// Two clients fill a log of two containers, and move their bases, so that its first container is free again. The record after begins container 3 in
 // the file of container 1.
 const REUSE: &str =
     "1 open a\n1 area 1 960 4\n2 open b\n2 area 2 960 4\n1 append 1 Z960 _\n2 append 1 Z960 _\n1 append 1 Z960 _\n1 append 1 Z960 _\n1 append 1 Z960 _\n1 append 1 Z960 _\n1 append 1 Z960 _\n1 advance 1 2:800:0\n2 advance 1 1:400:1\n1 append 1 Z960 _\n";
@@ -45,7 +45,7 @@ fn left_by(
     Ok(ran.disk.into_inner().crash(pick))
 }
 
-// What is read of a log that is opened behind a crash.
+// What is read of a log that is opened after a crash.
 fn answers_behind(
     rt: &(impl Abort + Threads + Wait + Sync),
     alloc: Global,
@@ -62,7 +62,7 @@ fn answers_behind(
     Ok(ran)
 }
 
-// The word behind a name in a line.
+// The word after a name in a line.
 fn word_behind<'a>(line: &'a [u8], name: &[u8]) -> Option<&'a [u8]> {
     let mut is_next = false;
     for word in line.split(|byte| *byte == b' ') {
@@ -145,7 +145,7 @@ fn a_turn_to_a_file_that_was_used(rt: HostRuntime) -> Result<(), AllocError> {
     Ok(())
 }
 
-// What is left of an advance behind so many calls, of which the disk passes so many: the old base, the new one, or either.
+// What is left of an advance after so many calls, of which the disk passes so many: the old base, the new one, or either.
 fn check_advance(
     rt: &(impl Abort + Threads + Wait + Sync),
     alloc: Global,
@@ -164,7 +164,7 @@ fn check_advance(
     Ok(())
 }
 
-// The disk stops at each call of an advance behind a flush. The first one reads the gate of the older slot; the sixth writes the gate of the new copy.
+// The disk stops at each call of an advance after a flush. The first one reads the gate of the older slot; the sixth writes the gate of the new copy.
 #[test]
 fn an_advance_that_stops(rt: HostRuntime) -> Result<(), AllocError> {
     let alloc = rt.alloc();

@@ -167,7 +167,7 @@ fn logs_that_are_whole(rt: HostRuntime) -> Result<(), AllocError> {
     Ok(())
 }
 
-// Files whose ends are gone behind all that the log has in them.
+// Files whose ends are gone after all that the log has in them.
 #[test]
 fn logs_whose_files_are_short(rt: HostRuntime) -> Result<(), AllocError> {
     let alloc = rt.alloc();

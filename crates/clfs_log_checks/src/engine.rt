@@ -18,7 +18,7 @@ use std::thread::Threads;
 const USAGE_LINE: &[u8] =
     b"usage: clfs FOLDER format, serve, race, trial, crew, check, txn or crowd\n";
 
-// Each row stands behind a stream and an area of client 1, in a log that has just been made.
+// Each row stands after a stream and an area of client 1, in a log that has just been made.
 const ROWS: [(&str, &str); 16] = [
     // a record, what the log is like, and a second record in the block
     (
@@ -70,7 +70,7 @@ const ROWS: [(&str, &str); 16] = [
         "1 append 1 a0 _\n1 append 1 a1 1:0:0 1:0:0\n1 append 1 a2 1:0:1 1:0:1\n1 read 1 1:0:2 undo\n1 read 1 1:0:0 forward\n1 advance 1 1:0:2\n1 next 1 1\n1 next 1 2\n1 append 1 cc 1:0:0 1:0:2\n2 open b\n2 area 2 960 4\n2 append 1 bb 1:0:2 0:0:0\n",
         "1 lsn 1:0:0\n1 lsn 1:0:1\n1 lsn 1:0:2\n1 cursor 1 record 1:0:2 data 1:0:1 1:0:1 0:0:0 a2\n1 cursor 2 record 1:0:0 data 0:0:0 0:0:0 0:0:0 a0\n1 base 1:0:2\n1 refused 19 StartOfLog\n1 record 1:0:2 data 1:0:1 1:0:1 0:0:0 a2\n1 lsn 1:200:0\n2 stream 2\n2 area 1\n2 refused 8 LinkInvalid 1:0:2\n",
     ),
-    // opening anew
+    // opening again
     (
         "1 append 1 aa _\n1 reserve 1 960\n1 reopen\n1 area 1 960 4\n1 read 1 1:0:0 forward\n1 append 1 bb _ flush\n1 flushto 1 1:0:0\n1 reopen\n1 area 1 960 4\n1 read 1 1:0:0 forward\n",
         "1 lsn 1:0:0\n1 held 2\n1 flushed 1:0:0\n1 area 1\n1 refused 17 RecordNonexistent 1:0:0\n1 lsn 1:0:0\n1 flushed 1:200:0\n1 flushed 1:200:0\n1 area 1\n1 cursor 1 record 1:0:0 data 0:0:0 0:0:0 0:0:0 bb\n",
@@ -170,7 +170,7 @@ fn no_log(rt: HostRuntime) -> Result<(), AllocError> {
 }
 
 // Words, the call of the source and that of the sink which fail, the status, and what is written. The lines that came whole are answered also where the
-// source fails behind them.
+// source fails after them.
 const STATUSES: [(&[&str], u64, u64, u8, &[u8]); 10] = [
     (&["serve"], 9, 99, DONE, b"1 stream 1\n1 stream 2\n"),
     (&["serve"], 1, 99, SOURCE_FAULT, b""),
@@ -261,7 +261,7 @@ fn push_run(script: &mut Vec<u8>, count: usize) -> Result<(), AllocError> {
     Ok(())
 }
 
-// A good line, and a run of bytes with an ending behind it.
+// A good line, and a run of bytes with an ending after it.
 fn long_line(alloc: Global, count: usize, ending: &[u8]) -> Result<Vec<u8>, AllocError> {
     let mut script = b"1 open a\n".to_vec(alloc)?;
     push_run(&mut script, count)?;
@@ -287,7 +287,7 @@ fn serve_on(
     Ok(came(status, sink, disk))
 }
 
-// The length of a line, its ending, the status, and what is written behind the first reply: at the limit of a line and above it. A carriage return counts.
+// The length of a line, its ending, the status, and what is written after the first reply: at the limit of a line and above it. A carriage return counts.
 const LONG_LINES: [(usize, &[u8], u8, &[u8]); 5] = [
     (131072, b"\n", DONE, b"0 refused 28 BadLine 0\n"),
     (131073, b"\n", INPUT_TOO_LONG, b"input too long\n"),
@@ -338,7 +338,7 @@ fn serve_long_script(
     Ok(run_on(rt, alloc, given, formatted(rt, alloc, SMALL)?))
 }
 
-// The words, the bytes behind the lines, the status, and how many bytes are written. Such a script is at its limit, unless it is endless.
+// The words, the bytes after the lines, the status, and how many bytes are written. Such a script is at its limit, unless it is endless.
 const LONG_SCRIPTS: [(&[&str], usize, u8, usize); 3] = [
     (&["serve"], 0, DONE, 512 * 23),
     (&["serve"], 1, INPUT_TOO_LONG, 512 * 23 + 15),

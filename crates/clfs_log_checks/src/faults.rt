@@ -182,7 +182,7 @@ fn each_call_of_the_sink(rt: HostRuntime) -> Result<(), AllocError> {
 
 const LINE: &[u8] = b"log containers 2 listed 1 blocks 0 records 0 streams 0 end 1:0:0 whole yes\n";
 
-// The call of a number that `check` makes behind making the log.
+// The call of a number that `check` makes after making the log.
 fn meets_check(
     rt: &(impl Abort + Threads + Wait + Sync),
     alloc: Global,

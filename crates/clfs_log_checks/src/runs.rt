@@ -211,7 +211,7 @@ fn push_lines(script: &mut Vec<u8>, row: &str) -> Result<(), AllocError> {
     Ok(())
 }
 
-// The script of a row, its words written out in full, behind another text.
+// The script of a row, its words written out in full, after another text.
 pub(crate) fn written_behind(
     alloc: Global,
     front: &[u8],
@@ -227,14 +227,14 @@ pub(crate) fn written_out(alloc: Global, row: &str) -> Result<Vec<u8>, AllocErro
     written_behind(alloc, b"", row)
 }
 
-// Two texts, one behind the other.
+// Two texts, one after the other.
 pub(crate) fn joined(alloc: Global, front: &[u8], more: &[u8]) -> Result<Vec<u8>, AllocError> {
     let mut text = front.to_vec(alloc)?;
     text.extend_from_slice(more)?;
     Ok(text)
 }
 
-// The lines of a text, and what stands behind the last line feed.
+// The lines of a text, and what stands after the last line feed.
 pub(crate) fn lines_of(alloc: Global, text: &[u8]) -> Result<Vec<&[u8]>, AllocError> {
     let mut lines = Vec::new(alloc);
     for line in text.split(|byte| *byte == b'\n') {

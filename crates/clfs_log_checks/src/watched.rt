@@ -18,7 +18,7 @@ pub(crate) enum Late {
     Byte { place: u64, byte: u8 },
 }
 
-// A disk that tells nothing of what it holds. It counts its calls, and each read behind the first `early` ones comes late.
+// A disk that tells nothing of what it holds. It counts its calls, and each read after the first `early` ones comes late.
 #[derive(Drop)]
 pub(crate) struct Watched {
     inner: Memory,

@@ -14,7 +14,7 @@ use std::process::Abort;
 use std::sync::Wait;
 use std::thread::Threads;
 
-// The first line that isn't the wanted one, and which it is. Each line behind it has to say that the log is broken.
+// The first line that isn't the wanted one, and which it is. Each line after it has to say that the log is broken.
 fn first_other<'a>(
     rt: &(impl Abort + Threads + Wait + Sync),
     alloc: Global,
@@ -342,7 +342,7 @@ fn line_of_stop(
     }
 }
 
-// The disk stops at each call in turn. What is answered then, and what a log that is opened behind the last line's stop has.
+// The disk stops at each call in turn. What is answered then, and what a log that is opened after the last line's stop has.
 #[test]
 fn a_disk_that_stops(rt: HostRuntime) -> Result<(), AllocError> {
     let mut stops_of_last = 0u64;
@@ -654,7 +654,7 @@ fn a_block_that_was_changed(rt: HostRuntime) -> Result<(), AllocError> {
     check_no_log(&rt, rt.alloc(), disk, cause)
 }
 
-// All bytes of a file behind others.
+// All bytes of a file after others.
 fn push_file(
     disk: &mut Memory,
     bytes: &mut Vec<u8>,
@@ -677,7 +677,7 @@ fn bytes_of(alloc: Global, disk: &mut Memory) -> Result<Vec<u8>, AllocError> {
     Ok(bytes)
 }
 
-// A log that is there isn't made anew, and no byte of its files changes.
+// A log that is there isn't made again, and no byte of its files changes.
 #[test]
 fn a_log_is_made_once(rt: HostRuntime) -> Result<(), AllocError> {
     let alloc = rt.alloc();

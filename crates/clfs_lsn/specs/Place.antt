@@ -7,7 +7,7 @@ use Rattle.clfs_lsn.specs.Size.{size, sectors, own}
 use Rattle.clfs_lsn.specs.declared.place.Place.{Place}
 use Rattle.clfs_lsn.specs.declared.shape.Shape.{Shape}
 
--- the sector behind the open block; where none is open, the sector at which the next block begins
+-- the sector after the open block; where none is open, the sector at which the next block begins
 abbrev pub block_end : Place → ℕ
 block_end place = place.offset / sector_bytes + sectors place.used
 
@@ -37,7 +37,7 @@ joins shape place n =
     && nat_le (sectors (place.used + size n)) shape.block_sectors
     && nat_le (sectors (place.used + size n)) (shape.container_sectors - place.offset / sector_bytes)
 
--- Else it begins a block behind the open one, where the container has that many sectors left.
+-- Else it begins a block after the open one, where the container has that many sectors left.
 abbrev pub begins_here : Shape → Place → ℕ → Bool
 begins_here shape place n = nat_le (own n) (shape.container_sectors - block_end place)
 
@@ -54,7 +54,7 @@ place_after shape place n =
     then (lsn_number place.container (sector_bytes * block_end place) 0, begun place.container (block_end place) n)
     else (lsn_number (place.container + 1) 0 0, begun (place.container + 1) 0 n)
 
--- the place once its block takes no more records: the next block begins behind it
+-- the place once its block takes no more records: the next block begins after it
 abbrev pub sealed : Place → Place
 sealed place = record place { offset = sector_bytes * block_end place; used = 0; records = 0 }
 

@@ -12,7 +12,7 @@ use Rattle.clfs_lsn.specs.declared.shape.Shape.{Shape}
 abbrev pub active_containers : Place → ℕ → ℕ
 active_containers place hold = place.container - container_of hold + 1
 
--- the sectors that the place's container has behind the open block
+-- the sectors that the place's container has after the open block
 abbrev pub left_sectors : Shape → Place → ℕ
 left_sectors shape place = shape.container_sectors - block_end place
 

@@ -15,7 +15,7 @@ abbrev pub kind_byte : Kind → ℕ
 kind_byte Plain = 1
 kind_byte Restart = 2
 
--- the zeros behind n bytes of data
+-- the zeros after n bytes of data
 abbrev pub filling : ℕ → ℕ
 filling n = size n - (record_header + n)
 
@@ -70,7 +70,7 @@ header_of bytes = record {
 abbrev pub is_wrong_base : ℕ → ℕ → ℕ → Bool
 is_wrong_base kind lsn base = if kind == 1 then not (base == 0) else nat_lt lsn base
 
--- The first byte at which a header is wrong: the stream is one of the log's, the kind is 1 or 2, the byte behind it is 0,
+-- The first byte at which a header is wrong: the stream is one of the log's, the kind is 1 or 2, the byte after it is 0,
 -- both links are below the record's own LSN, and the new base is one that its kind may have.
 abbrev pub header_fault : ℕ → ℕ → Header → Option ℕ
 header_fault lsn streams h =
@@ -82,11 +82,11 @@ header_fault lsn streams h =
     else if is_wrong_base h.kind lsn h.new_base then Some 24
     else None
 
--- the first byte behind the data that isn't 0, counted from the record's first byte
+-- the first byte after the data that isn't 0, counted from the record's first byte
 abbrev pub filling_fault : ℕ → List ℕ → Option ℕ
 filling_fault len bytes = option_map (λ at. record_header + len + at) (position (λ b. not (b == 0)) (take (filling len) (drop (record_header + len) bytes)))
 
--- the record that a header and the bytes behind it stand for
+-- the record that a header and the bytes after it stand for
 abbrev pub entry_of : ℕ → List ℕ → LogEntry
 entry_of lsn bytes = let h = header_of bytes in record {
   lsn = lsn;

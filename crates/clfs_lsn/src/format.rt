@@ -6,7 +6,7 @@ ghost use Rattle.clfs_lsn.specs.Size.{size, sectors};
 /// The bytes of a sector.
 pub const SECTOR: u32 = 512;
 
-/// The bytes of payload of a sector; the eight behind them are its address.
+/// The bytes of payload of a sector; the eight after them are its address.
 pub const SECTOR_PAYLOAD: u32 = 504;
 
 /// The bytes of a block's header, in its payload.

@@ -1,4 +1,4 @@
-// Where the next record goes. A record joins the open block while that has room; else it begins a block behind it, or at the
+// Where the next record goes. A record joins the open block while that has room; else it begins a block after it, or at the
 // start of the next container. So a block's records have the sequences 0, 1, 2 .. at one offset, and no block spans containers.
 ghost use Rattle.std.specs.Prelude.{◌≡◌, ◌+◌, ◌-◌, ◌*◌, ◌^◌, ◌<◌, ◌≤◌, false};
 ghost use Rattle.clfs_lsn.specs.Format.{sector_bytes, sector_payload};

@@ -98,7 +98,7 @@ open_allowed s name allowed none = by_fault (name_fault name) refl
     single : Bool
     single = s.dedicated && nat_le 1 (length s.streams)
 
-    -- what is refused behind the name
+    -- what is refused after the name
     rest : Option ℕ → Option Refusal
     rest found = refused_if (is_none found && single) refusals.Dedicated (refused_if (is_none found && nat_le most_streams (length s.streams)) full None)
 

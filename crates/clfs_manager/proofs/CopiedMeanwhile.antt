@@ -114,7 +114,7 @@ pub record RowsMove : Type 0 where
       → stored_state (with_row_base stream base image) blocks entries buffers
       ≡ record (stored_state image blocks entries buffers) { streams = set_base stream base (stored_state image blocks entries buffers).streams }
 
--- a row may be added behind the others
+-- a row may be added after the others
 pub record StreamsComeLast : Type 0 where
   pub log : (image : BaseImage) (blocks : List (List (List ℕ))) (entries : List LogEntry) (row : Row) → row.base ≤ frontier (stored_place image blocks)
       → IsLogWith image blocks entries → IsLogWith (record image { streams = image.streams ++ row ∷ [] }) blocks entries
@@ -230,7 +230,7 @@ archive_copied low settings s tail change first before blocks valid after few up
     (archived_image image tail turn is_image (omega arith) (tail_few s tail few after)) is_first set in
     subst (λ (ch : Change). let n : Newest = record { slot = slot; image = next_copy first ch image } in IsStored t n blocks) (sym is_change) is
 
--- another base of a stream: the containers are listed from the hold's behind it on
+-- another base of a stream: the containers are listed from the hold's after it on
 pub base_copied : LeaveOutLow → SettingsLeave → RowsMove → (s : State) (stream base first : ℕ) (before : Newest) (blocks : Blocks)
     → IsValid s → IsValid (with_base stream base s) → flushed s < 2 ^ 64 → IsSome (stream_at s stream) → base_of s stream ≤ base
     → container_of (hold s) ≤ container_of (hold (with_base stream base s)) → length before.image.streams ≡ length s.streams

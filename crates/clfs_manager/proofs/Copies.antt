@@ -1,4 +1,4 @@
--- The first copy of a log, written behind closed gates.
+-- The first copy of a log, written after closed gates.
 use Rattle.std.proofs.Common.{◌≡◌, inl, inr, ⊎_elim, ℕ, zero, suc, List, eqb, ◌∙◌, ap, arith}
 use Rattle.clfs_disk.specs.Files.{Files, TornIn}
 use Rattle.clfs_base.specs.declared.image.BaseImage.{BaseImage}
@@ -12,13 +12,13 @@ none_open files none zero le = none.first_slot
 none_open files none (suc zero) le = none.second_slot
 none_open files none (suc (suc n)) le = absurd (omega (arith, le))
 
--- bytes behind the gate of slot 0 leave both gates
+-- bytes after the gate of slot 0 leave both gates
 gates_stay : (old new : Files) → HasNoGates old → TornIn 0 1 16383 old new → HasNoCopy new
 gates_stay old new none torn zero le = ap (λ (k : ℕ). eqb k 165) (torn.here.below 0 (omega arith)) ∙ none.first_slot
 gates_stay old new none torn (suc zero) le = ap (λ (k : ℕ). eqb k 165) (torn.here.above 16384 (omega arith)) ∙ none.second_slot
 gates_stay old new none torn (suc (suc n)) le = absurd (omega (arith, le))
 
--- behind the closed gates the copy stands whole
+-- after the closed gates the copy stands whole
 pub first_is : (image : BaseImage) (body : List ℕ) (old mid : Files) → IsImage image → body ≡ spelled image
     → HasNoGates old → TornIn 0 1 16383 old mid → body_of (mid 0) 0 ≡ body → IsFirst 0 image mid
 first_is image body old mid fits is none torn stands = record {

@@ -31,7 +31,7 @@ use Rattle.clfs_manager.proofs.FilesHold.{StandByBlocks, HaveByFile}
 
 -- ---- the laws
 
--- what files stand for, and that the flushed parts of the states before and behind a call survive it
+-- what files stand for, and that the flushed parts of the states before and after a call survive it
 pub record CallLaws : Type 0 where
   pub stands : StandByBlocks
   pub by_file : HaveByFile

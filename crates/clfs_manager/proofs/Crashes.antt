@@ -1,4 +1,4 @@
--- What a crash leaves of calls that write, one behind the other: files that hold a survivor of what was asked.
+-- What a crash leaves of calls that write, one after the other: files that hold a survivor of what was asked.
 use Rattle.std.proofs.Common.{◌≡◌, ◌⊎◌, ℕ, ◌*◌, ◌<◌, ◌≤◌, ◌∙◌, Bool, true, false, refl, sym, ap, subst, inl, inr, ⊎_elim, List, [], ◌++◌, map, length, arith, ◌+◌}
 use Rattle.std.specs.Option.{option_map_or}
 use Rattle.std.specs.Result.{is_err}
@@ -117,7 +117,7 @@ meanwhile_of old new a b before after blocks more whole stored_a stored_b leaves
     either)
     leaves
 
--- one call behind another
+-- one call after another
 pub crash_then : (fault : Type 0) (asked : Request) (s : State) (a b d : DiskState) → (fault → ⊥) → WritesDisk fault a b
     → CrashLeavesSurvivor asked s a b → CrashLeavesSurvivor asked s b d → CrashLeavesSurvivor asked s a d
 crash_then fault asked s a b d fine writes first second = λ honest whole full.
@@ -174,7 +174,7 @@ pub crash_still : StandByBlocks → HaveByFile → (disk : DiskState) (log : Log
 crash_still stands by_file disk log intact asked s survives =
     crash_nothing stands by_file disk log.state.value log intact.opened (valid_holds log.state.value intact.sound.valid) asked s survives
 
--- behind one that was done
+-- after one that was done
 pub crash_after : {A : Type 0} (result : Result A Failed) (value : A) (asked : Request) (s : State) (a b d : DiskState) → result ≡ Ok value → WritesDisk (IsErr result) a b
     → CrashLeavesSurvivor asked s a b → CrashLeavesSurvivor asked s b d → CrashLeavesSurvivor asked s a d
 crash_after {A} result value asked s a b d was writes first second =

@@ -40,11 +40,11 @@ HaveByFile = (slot : ℕ) (image : BaseImage) (blocks : ℕ → List (List ℕ))
     → ((i : ℕ) → i < length image.files → AreWhole image.container_sectors (files (slice_index image.files i)) (blocks (slice_index image.files i)))
     → HasLog slot image (map blocks image.files) files
 
--- opening anew may come to the flushed part
+-- opening again may come to the flushed part
 abbrev pub ComesToCut : Type 0
 ComesToCut = (told : Bool) (s : State) → IsValid s → IsStorable s → s.broken ≡ false → ReopenStep told s Fine (replies.Flushed (flushed s)) (cut s)
 
--- where the log is opened anew the hold's container doesn't fall
+-- where the log is opened again the hold's container doesn't fall
 abbrev pub HoldStays : Type 0
 HoldStays = (s : State) (happened : Happened) (reply : Reply) (t : State) → IsValid s → ReopenStep true s happened reply t → container_of (hold s) ≤ container_of (hold t)
 
@@ -73,7 +73,7 @@ pub files_hold : StandByBlocks → HaveByFile → ComesToCut → HoldStays → (
 files_hold stands by_file comes stays s newest blocks files valid storable whole stored stores =
     files_have stands by_file s newest blocks files (stays s Fine (replies.Flushed (flushed s)) (cut s) valid (comes true s valid storable whole)) stored stores
 
--- ---- opening anew
+-- ---- opening again
 
 -- the case of a log that isn't broken
 unbroken_case : (broken : Bool) (P Q : Type 0) → broken ≡ false → MatchBool broken P Q → Q
@@ -84,7 +84,7 @@ pub to_unbroken : (broken : Bool) (P Q : Type 0) → broken ≡ false → Q → 
 to_unbroken true P Q e is = absurd (cc e)
 to_unbroken false P Q e is = is
 
--- opening anew where the log isn't broken
+-- opening again where the log isn't broken
 pub reopens : (told : Bool) (s : State) (happened : Happened) (reply : Reply) (t : State) → s.broken ≡ false
     → (IsOutOfMemory s reply t ⊎ Reopens told s happened reply t) → ReopenStep told s happened reply t
 unfolding ReopenStep

@@ -65,12 +65,12 @@ pub on_err : {A E P : Type 0} (result : Result A E) → is_err result ≡ true �
 on_err (Ok value) err is = absurd (cc err)
 on_err (Err error) err is = is
 
--- A log that meets a fault of the disk, as in opening it anew.
+-- A log that meets a fault of the disk, as in opening it again.
 pub meets_fault : (s : State) → s.broken ≡ false → ReopenStep false s Fault (replies.Refused refusals.DiskFault) (with_broken s)
 unfolding ReopenStep
 meets_fault s whole = rw whole (inr (refl, refl))
 
--- that opening anew leaves a valid state
+-- that opening again leaves a valid state
 abbrev pub ReopensValid : Type 0
 ReopensValid = (told : Bool) (s : State) (happened : Happened) (reply : Reply) (t : State) → IsValid s → ReopenStep told s happened reply t → IsValid t
 

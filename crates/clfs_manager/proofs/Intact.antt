@@ -1,4 +1,4 @@
--- How functions that write are chained: each of them leaves the log intact, and what two of them do to the disk, one behind the other, is what one
+-- How functions that write are chained: each of them leaves the log intact, and what two of them do to the disk, one after the other, is what one
 -- may do. All is said of logs and disks as plain values, so that it serves every call.
 use Rattle.std.proofs.Common.{◌≡◌, ℕ, ◌+◌, ◌-◌, ◌*◌, ◌^◌, ◌≤◌, true, false, refl, sym, ap, subst, ◌∙◌, length, arith}
 use Rattle.std.specs.Prelude.{Result, Ok, Err, OnOk, OnErr, IsOk, IsErr, min}
@@ -137,7 +137,7 @@ writes_seen {D} state inside seen same fault new is = subst (λ (v : State × D)
 rises_before : (a b now top : ℕ) → a ≤ b → min (b + 1) top ≤ now → min (a + 1) top ≤ now
 rises_before a b now top le rises = omega (arith, le, rises)
 
--- one function behind another that met no fault
+-- one function after another that met no fault
 pub writes_then : (fault other : Type 0) (a b d : DiskState) → (fault → ⊥) → WritesDisk fault a b → WritesDisk other b d → WritesDisk other a d
 writes_then fault other a b d fine first second = record {
   time = later_then a b d first.time second.time;

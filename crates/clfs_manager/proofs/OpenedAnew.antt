@@ -1,4 +1,4 @@
--- A log that was opened anew, or that wasn't.
+-- A log that was opened again, or that wasn't.
 use Rattle.std.proofs.Common.{◌≡◌, ℕ, Bool, true, false, [], refl, sym, subst, ◌∙◌, inl, inr, Ok, Err, arith}
 use Rattle.std.specs.Prelude.{IsErrOf}
 use Rattle.clfs_disk.specs.Files.{Files, Unchanged}
@@ -115,7 +115,7 @@ refused_place (Damaged container offset at) told = record { reason = Damaged con
 refused_place DiskFault told = tt
 refused_place NoMemory told = tt
 
--- Want of memory is told by no bytes.
+-- Out of memory is told by no bytes.
 pub memory_told : TellsOpening NoMemory
 memory_told = record {
   newest = Err newest.NoMemory;

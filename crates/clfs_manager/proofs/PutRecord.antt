@@ -68,7 +68,7 @@ put_is s entry ready =
       place = (place_after s.shape s.place (length entry.bytes)).1;
     } in t) (ready_stays s (length entry.bytes) ready)
 
--- The place behind it: the block that is open then begins where the one before did, or where the next one was to begin.
+-- The place after it: the block that is open then begins where the one before did, or where the next one was to begin.
 pub record GoesOn (shape : Shape) (place : Place) (n : ℕ) : Type 0 where
   pub container : (place_after shape place n).1.container ≡ place.container
   pub start : block_start (place_after shape place n).1 ≡ block_start place

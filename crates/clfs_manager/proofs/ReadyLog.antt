@@ -16,7 +16,7 @@ use Rattle.clfs_queue.specs.Queued.{placing}
 use Rattle.clfs_queue.specs.declared.placing.Placing.TheVariants.{Joins, BeginsBlock, BeginsContainer}
 use Rattle.clfs_manager.specs.Putting.{MayTurnTo}
 
--- the place behind a flush has no open block
+-- the place after a flush has no open block
 pub flushed_closed : (s : State) → IsWithin s.shape s.place → IsClosed (flush s).place
 flushed_closed s within = elim (cases_lt 0 s.place.records) [
   | inl some ↦ let t : nat_lt 0 s.place.records ≡ true = lt-ltb 0 s.place.records some in rw t (refl, refl)

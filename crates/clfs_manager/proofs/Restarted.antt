@@ -38,7 +38,7 @@ use Rattle.clfs_manager.proofs.MovedBase.{length_set_base}
 use Rattle.clfs_manager.proofs.ReadKeeps.{tells_before}
 use Rattle.clfs_manager.proofs.Settled.{stays_settled}
 
--- the state behind a restart area, by its fields
+-- the state after a restart area, by its fields
 abbrev pub finished : ℕ → ℕ → State → State
 finished stream base s = record (done s) { streams = rebased_streams stream base s.streams }
 

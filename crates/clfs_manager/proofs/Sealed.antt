@@ -188,7 +188,7 @@ pub on_err_by : {V A B : Type 0} (result : Result V Failed) → (A → B) → On
 on_err_by (Ok value) f is = tt
 on_err_by (Err error) f is = f is
 
--- What a function does to the disk behind one that was done.
+-- What a function does to the disk after one that was done.
 pub writes_after : {A : Type 0} (result : Result A Failed) (value : A) (other : Type 0) (a b d : DiskState) → result ≡ Ok value → WritesDisk (IsErr result) a b
     → WritesDisk other b d → WritesDisk other a d
 writes_after {A} result value other a b d was first second =

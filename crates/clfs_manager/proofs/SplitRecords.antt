@@ -1,4 +1,4 @@
--- Records whose LSNs rise are those below an LSN and behind them those from it on.
+-- Records whose LSNs rise are those below an LSN and after them those from it on.
 use Rattle.std.proofs.Common.{◌≡◌, ℕ, suc, ◌+◌, ◌<◌, ◌≤◌, true, false, refl, ap, subst, inl, inr, List, [], ◌∷◌, ◌++◌, map, arith, slice_index}
 use Rattle.std.specs.Prelude.{All, filter, nat_le, nat_lt}
 use Rattle.std.specs.List.Sorted.{IsStrictlyIncreasing}

@@ -19,7 +19,7 @@ pub record WhileReadied (P : State → Type 0) (u : State) (n : ℕ) : Type 0 wh
   pub flushed : joins u.shape u.place n ≡ false → begins_here u.shape u.place n ≡ false → P (flush u)
   pub ready : P (readied u n)
 
--- those of making a log ready, and others behind them
+-- those of making a log ready, and others after them
 readied_apart : (P : State → Type 0) (u : State) (n : ℕ) (rest : List State) → All P (ready_stages u n ++ rest) → WhileReadied P u n × All P rest
 readied_apart P u n rest = by_case (joins u.shape u.place n) (begins_here u.shape u.place n) refl refl
   where

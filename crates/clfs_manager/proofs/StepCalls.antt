@@ -15,7 +15,7 @@ use Rattle.clfs_manager.specs.Calls.{IsRefused, replied, Steps}
 use Rattle.clfs_manager.specs.Written.{WritesDisk}
 use Rattle.clfs_manager.proofs.Intact.{writes_as, writes_nothing}
 
--- a reply that is neither that the log is broken nor want of memory comes of a step that goes on
+-- a reply that is neither that the log is broken nor out of memory comes of a step that goes on
 goes_on : (broken : Bool) (P : Type 0) (s : State) (reply : Reply) (t : State) (Q : Type 0) → reply ≢ replies.Refused refusals.Broken → reply ≢ replies.Refused refusals.NoMemory
     → MatchBool broken (IsBroken s reply t) ((P × IsOutOfMemory s reply t) ⊎ Q) → Q
 goes_on true P s reply t Q unbroken memory is = absurd (unbroken is.0)

@@ -179,7 +179,7 @@ cut_turned s valid may =
     offset : offset_of (lsn_number (s.place.container + 1) 0 0) ≡ 0
     offset = omega arith
 
--- a further container, listed behind the others, has the turned state
+-- a further container, listed after the others, has the turned state
 pub taken_stored : (s : State) (slot turn file : ℕ) (low : BaseImage) (blocks : Blocks) → IsValid s → MayTurnTo s → HasLow s low
     → (entries : List LogEntry) → entries ≡ records_from_container low.first (cut s).records
     → stored_state low (map blocks low.files) entries s.buffers ≡ record (cut s) { records = entries }

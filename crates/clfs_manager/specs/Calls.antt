@@ -25,7 +25,7 @@ IsSmall (replies.Found cursor entry) = length entry.bytes ≤ most_data
 IsSmall (replies.Next entry) = length entry.bytes ≤ most_data
 IsSmall _ = Unit {0}
 
--- The call was refused for what was asked: not for want of memory, nor by a fault, by damage or because the log is broken.
+-- The call was refused for what was asked: not because memory ran out, nor by a fault, by damage or because the log is broken.
 abbrev pub IsRefused : Reply → Type 0
 IsRefused (replies.Refused refusal) = is_of_call refusal ≡ true
 IsRefused _ = ⊥

@@ -41,7 +41,7 @@ refused_as lsn reads.DiskFault = refusals.DiskFault
 refused_as lsn (reads.Damaged at) = refusals.Damaged (container_of lsn) (offset_of lsn) at
 refused_as lsn reads.NoMemory = refusals.NoMemory
 
--- How a refusal to get a record leaves the state: a fault and damage break the log, want of memory changes nothing. No other comes.
+-- How a refusal to get a record leaves the state: a fault and damage break the log, out of memory changes nothing. No other comes.
 abbrev pub LeavesState : Refusal → State → State → Type 0
 LeavesState refusals.NoMemory s t = t ≡ s
 LeavesState refusals.DiskFault s t = t ≡ with_broken s

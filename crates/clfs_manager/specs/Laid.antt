@@ -29,7 +29,7 @@ pub record BeginsAt (s : State) (at : ℕ) : Type 0 where
   pub container : container_of (flushed s) ≡ s.place.container
   pub offset : offset_of (flushed s) ≡ at
 
--- Behind the blocks of before, in the last container that the copy lists, there are blocks with the records that waited: from where what was on the
+-- After the blocks of before, in the last container that the copy lists, there are blocks with the records that waited: from where what was on the
 -- disk ended up to where the log goes on.
 pub record HasGroup (s : State) (image : BaseImage) (before after : Blocks) (entries : List LogEntry) : Type 0 where
   pub more : List (List ℕ)
@@ -38,7 +38,7 @@ pub record HasGroup (s : State) (image : BaseImage) (before after : Blocks) (ent
   pub begins : BeginsAt s (total (before (file_at_end image)))
   pub end : total (before (file_at_end image)) + total more ≡ (flush s).place.offset
 
--- What was on the disk of a state is there with all that waited behind it; where the disk tells what it holds, so do its files, and these are at full
+-- What was on the disk of a state is there with all that waited after it; where the disk tells what it holds, so do its files, and these are at full
 -- length where they were.
 abbrev pub WrittenAfter : DiskState → DiskState → State → Newest → Newest → Type 0
 WrittenAfter old new s before after = (blocks : Blocks) → (stored : IsStored s before blocks)
@@ -52,8 +52,8 @@ pub record IsEndedLog (log : Log) : Type 0 where
   pub ended : EndsBlock before log
   pub closed : IsClosed log.queue.place
 
--- A group of what waits goes to the disk. Once it is written it stands behind what was on the disk; a crash at any moment leaves what was there, or
--- all of the group behind it.
+-- A group of what waits goes to the disk. Once it is written it stands after what was on the disk; a crash at any moment leaves what was there, or
+-- all of the group after it.
 abbrev pub SendsGroup : Type 0 → DiskState → DiskState → State → Newest → Type 0
 SendsGroup written old new s newest = (blocks : Blocks) → (stored : IsStored s newest blocks)
     → (all : Blocks) × (HasGroup s newest.image blocks all stored.entries

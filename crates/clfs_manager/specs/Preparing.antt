@@ -5,7 +5,7 @@ use Rattle.clfs_model.specs.declared.refusal.Refusal.TheVariants as refusals
 use Rattle.clfs_model.specs.declared.state.State.{State}
 use Rattle.clfs_model.specs.Step.{with_broken}
 
--- Want of memory changes nothing, and a fault breaks the log. No other refusal comes.
+-- Out of memory changes nothing, and a fault breaks the log. No other refusal comes.
 abbrev pub LeavesOf : Refusal → State → State → Type 0
 LeavesOf refusals.NoMemory s t = t ≡ s
 LeavesOf refusals.DiskFault s t = t ≡ with_broken s

@@ -1,4 +1,4 @@
--- Opening a log anew: why it is refused, and what files hold of a log.
+-- Opening a log again: why it is refused, and what files hold of a log.
 use Rattle.std.specs.Prelude.{◌≡◌}
 use Rattle.clfs_disk.specs.Files.{Files}
 use Rattle.clfs_model.specs.declared.refusal.Refusal.{Refusal}
@@ -10,7 +10,7 @@ use Rattle.clfs_recover.specs.Telling.{TellsOpening}
 use Rattle.clfs_recover.specs.declared.refusal.LoadRefusal.{LoadRefusal}
 use Rattle.clfs_recover.specs.declared.refusal.LoadRefusal.TheVariants.{NoBase, Damaged, DiskFault, NoMemory}
 
--- why a log wasn't opened, as opening it anew tells it: a base file without an open slot is damage at its first byte
+-- why a log wasn't opened, as opening it again tells it: a base file without an open slot is damage at its first byte
 abbrev pub refused_as : LoadRefusal → Refusal
 refused_as NoBase = refusals.Damaged 0 0 0
 refused_as (Damaged container offset at) = refusals.Damaged container offset at

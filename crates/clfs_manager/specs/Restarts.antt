@@ -1,4 +1,4 @@
--- A restart area that was put last, and the bases of streams behind it.
+-- A restart area that was put last, and the bases of streams after it.
 use Rattle.std.specs.Prelude.{◌≡◌, ℕ, ◌==◌, ◌++◌, if◌then◌else◌, All, List, [], ◌∷◌}
 use Rattle.clfs_lsn.specs.Lsn.{null_lsn}
 use Rattle.clfs_lsn.specs.declared.entry.LogEntry.{LogEntry}

@@ -9,11 +9,11 @@ use Rattle.clfs_manager.specs.Flushing.{IsBroken}
 use Rattle.clfs_manager.specs.Written.{IsIntact}
 use Rattle.clfs_manager.specs.declared.log.Log.{Log}
 
--- the state with a stream of this name behind the others, which has no base
+-- the state with a stream of this name after the others, which has no base
 abbrev pub with_stream : List ℕ → State → State
 with_stream name s = record s { streams = s.streams ++ record { name = name; base = null_lsn } ∷ [] }
 
--- Want of memory for a stream leaves the log intact, with the state of before; a fault breaks it. Nothing else refuses one.
+-- Out of memory for a stream leaves the log intact, with the state of before; a fault breaks it. Nothing else refuses one.
 abbrev pub IsNotAdded : Refusal → DiskState → Log → Log → Type 0
 IsNotAdded refusals.NoMemory disk old new = (new.state.value ≡ old.state.value) × IsIntact disk new
 IsNotAdded refusals.DiskFault disk old new = IsBroken old new

@@ -376,7 +376,7 @@ fn plain_fields(stream: u16, draft: &Draft) -> Fields
 
 impl<D: Disk> Manager<D> {
     /// Appends a record to the stream of the client's area of a number, and gives its LSN. A reserved record takes its sectors from those that the area
-    /// holds; the area holds the sectors for records of these lengths to come. The draft says whether the block is sealed behind the record, and
+    /// holds; the area holds the sectors for records of these lengths to come. The draft says whether the block is sealed after the record, and
     /// whether the log is flushed; without that the record is in memory alone, and a crash loses it.
     ///
     /// Refused in this order: `Broken`, `NotEnoughContainers`, `NoSuchArea`, `RecordTooLong` for the data and then the lengths, `LinkInvalid` for the

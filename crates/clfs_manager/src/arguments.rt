@@ -8,7 +8,7 @@ ghost use Rattle.clfs_model.specs.Space.{own_sum};
 
 use clfs_lsn::{LONGEST_NAME, own};
 
-// The first byte of a name that is wrong, by its place: one that no name may have, or the one behind the longest name. An empty name is
+// The first byte of a name that is wrong, by its place: one that no name may have, or the one after the longest name. An empty name is
 // wrong at 0.
 pub(crate) fn name_fault(name: &[u8]) -> Option<u32>
     ensures { result ≡ name_fault name.now }

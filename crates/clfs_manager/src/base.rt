@@ -1,5 +1,5 @@
 // Moving the base of a stream: the records below it are needed no more. The log is flushed first, so that the base lies at or below what is on the
-// disk, and then the base copy that follows is written, which lists the containers from the hold's on as it is behind the new base. So a crash leaves
+// disk, and then the base copy that follows is written, which lists the containers from the hold's on as it is after the new base. So a crash leaves
 // the old base or the new one. Where the hold came to a further container nothing below that is asked for any more, and memory forgets it.
 ghost use Rattle.std.specs.Prelude.{◌≡◌, ◌≤◌, Bool, true, None, Some, IsErr, IsErrOf, IsSome, IfOk, IfErr, OnOk, OnErr};
 ghost use Rattle.clfs_lsn.specs.Lsn.{container_of};
@@ -104,7 +104,7 @@ impl Log {
         Ok(())
     }
 
-    // All is on the disk, and then the base of a stream moves to an LSN of a live record or behind the last one. After a fault the log is broken.
+    // All is on the disk, and then the base of a stream moves to an LSN of a live record or after the last one. After a fault the log is broken.
     fn advance<D: Disk>(&mut self, disk: &mut D, stream: u16, base: Lsn) -> Result<(), Failed>
         requires intact { IsIntact (D.state disk.old) self.old }
         requires there { IsSome (stream_at self.old.state.value stream) }
@@ -152,7 +152,7 @@ impl<D: Disk> Manager<D> {
     /// Moves the base of the area's stream to an LSN, on the disk too, after all of the log is flushed: the records of the stream below it are
     /// needed no more, and the containers below all that is needed are free again. Answers the base.
     ///
-    /// Refused where the client has no area of the number, and where the LSN is neither that of a live record of the stream nor the one behind
+    /// Refused where the client has no area of the number, and where the LSN is neither that of a live record of the stream nor the one after
     /// the last; the base and the last live record are told then.
     pub fn advance(&mut self, client: u16, area: u16, lsn: Lsn) -> Result<Lsn, Refusal>
         requires client { IsClient client }

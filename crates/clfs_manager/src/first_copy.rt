@@ -40,7 +40,7 @@ fn first_image(
     })
 }
 
-/// The bytes of the first copy behind its gate.
+/// The bytes of the first copy after its gate.
 pub fn first_copy(
     alloc: Global,
     shape: &Shape,

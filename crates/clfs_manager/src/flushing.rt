@@ -1,4 +1,4 @@
-// Writing what waits. The open block ends, so that all records stand in blocks that wait, and these are written as one group behind the blocks that
+// Writing what waits. The open block ends, so that all records stand in blocks that wait, and these are written as one group after the blocks that
 // are on the disk: a crash leaves all of the group or none of it. No memory is taken: the group's bytes stand in the queue's buffer, and there is
 // room for the end of the open block since its first record was appended.
 ghost use Rattle.std.specs.Prelude.{◌≡◌, [], Bool, IsOk, IsErrOf, ◌+◌, ◌*◌, ◌<◌, ◌≤◌, false, true, OnOk, OnErr, IfErr};
@@ -36,7 +36,7 @@ use clfs_recover::{
 };
 use clfs_told::Told;
 
-// The end of the block that is open at a place: its last record, and the byte behind it.
+// The end of the block that is open at a place: its last record, and the byte after it.
 fn end_of_open(place: &Place) -> BlockEnd
     requires small { IsSmall place.now }
     requires some { 1 ≤ place.now.records }

@@ -97,7 +97,7 @@ fn close_gates<D: Disk>(disk: &mut D) -> Result<(), Failed>
     close_first(disk, 1)
 }
 
-// Writes the first copy behind the closed gate of slot 0, syncs it, and opens the gate.
+// Writes the first copy after the closed gate of slot 0, syncs it, and opens the gate.
 fn write_copy<D: Disk>(disk: &mut D, body: &[u8]) -> Result<(), Failed>
     requires { length body.now ≡ slot_bytes - 1 }
     ensures written { OnOk result (TellsContents (D.state disk.old) → (image : BaseImage) → IsImage image

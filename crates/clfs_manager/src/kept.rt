@@ -56,7 +56,7 @@ impl Log {
 
 impl<D: Disk> Manager<D> {
     /// How many heads of a stream's records are kept in memory, dead ones among them: those of all records in the container of the least LSN that the log
-    /// still needs and behind it, and at most as many more. `None` if no stream has the number, or the log is broken.
+    /// still needs and after it, and at most as many more. `None` if no stream has the number, or the log is broken.
     pub fn records_kept(&self, stream: u16) -> Option<usize>
         ensures there { self.now.0.broken ≡ false → is_some result ≡ is_some (stream_at self.now.0 stream) }
         ensures all { IfSome result (λ count.

@@ -1,6 +1,6 @@
 //! The log manager over a disk.
 //!
-//! It makes a log, opens one and closes it: `Manager::format`, `load`, `close`; `reopen` opens it anew. What files stand for is said by
+//! It makes a log, opens one and closes it: `Manager::format`, `load`, `close`; `reopen` opens it again. What files stand for is said by
 //! `clfs_recover`, and how a base copy and a closed gate come to be there by `clfs_base` and `clfs_disk`. A manager stands for a state of the
 //! log machine, which opening finds: it keeps the heads of the records, and their data stay on the disk. Neither opening nor closing writes
 //! anything, so a crash in them leaves what it would have left before. `step` makes any call, by its value; `stored` says of a log between two
@@ -17,12 +17,12 @@
 //! are on the disk, for who copies them.
 //!
 //! `records_kept`, `restarts_kept` and `ends_kept` tell how much memory keeps of the log's records: no more than twice what lies in the container of the
-//! least LSN that is needed and behind it.
+//! least LSN that is needed and after it.
 //!
 //! `set_size` gives the log more containers or fewer, and `reserve` sectors to an area, for which the log may grow. A change of the size is on
 //! the disk when it is answered; what areas hold never is.
 //!
-//! `append` puts a record behind the others, in memory; it is on the disk once it was flushed. `write_restart` writes a restart area and
+//! `append` puts a record after the others, in memory; it is on the disk once it was flushed. `write_restart` writes a restart area and
 //! flushes the log; with it, in one step, the base of its stream moves.
 #![tactic(auto)]
 

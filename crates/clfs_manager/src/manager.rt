@@ -70,7 +70,7 @@ impl<D: Disk> Manager<D> {
     /// Makes a log on a disk, with containers of this shape, if none is there: a dedicated one, which has one stream, or one for several. The
     /// disk is given back with it.
     ///
-    /// Where no log was, nothing is promised of what is read of the files after a fault, after want of memory and after a crash in the call; they
+    /// Where no log was, nothing is promised of what is read of the files after a fault, after out of memory and after a crash in the call; they
     /// are to be thrown away then. Where one was, no file changes, whatever is answered.
     pub fn format(
         alloc: Global,

@@ -1,4 +1,4 @@
-// Opening a stream by its name: the one of that name, or a new one behind the others. A new stream is in the base copy that follows the newest one, so
+// Opening a stream by its name: the one of that name, or a new one after the others. A new stream is in the base copy that follows the newest one, so
 // that a crash leaves it or not. Its memory is taken first, and it joins the tables once it is on the disk, which takes none.
 ghost use Rattle.std.specs.Prelude.{◌≡◌, ◌+◌, ◌<◌, ◌≤◌, ◌^◌, Bool, true, false, None, IsErrOf, IfOk, IfErr, length};
 ghost use Rattle.clfs_lsn.specs.Lsn.{container_of, null_lsn};
@@ -39,7 +39,7 @@ use clfs_recover::{
 use clfs_told::Told;
 use std::alloc::AllocError;
 
-// The state with a stream of this name behind the others.
+// The state with a stream of this name after the others.
 fn with_stream(state: &Told<State>, name: &Name) -> Told<State>
     ensures { result.value ≡ with_stream name.now state.now.value }
 {

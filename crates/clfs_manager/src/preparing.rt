@@ -24,7 +24,7 @@ use clfs_recover::logs_are_copies_and_blocks;
 
 impl Log {
     // Takes all memory for a record of so many bytes of data of the stream of this number, and then grows the log for a call that needs so many sectors.
-    // Want of memory changes nothing; after a fault the log is broken.
+    // Out of memory changes nothing; after a fault the log is broken.
     pub fn prepare<D: Disk>(
         &mut self,
         disk: &mut D,

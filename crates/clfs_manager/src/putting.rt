@@ -207,7 +207,7 @@ impl Log {
         Ok(())
     }
 
-    // Makes the log ready for a record of so many bytes of data: where that doesn't join the open block, this is sealed, and where it doesn't fit behind
+    // Makes the log ready for a record of so many bytes of data: where that doesn't join the open block, this is sealed, and where it doesn't fit after
     // it either, all is written and the log goes on in the next container, with room that was taken for it. After a fault the log is broken.
     pub fn make_ready<D: Disk>(
         &mut self,

@@ -1,6 +1,6 @@
 // Bytes of a log's files as the disk has them, for who copies the files while the log is open. Nothing is judged, and nothing is kept.
 //
-// A fault breaks the log, as in each other call; so what a broken log's files hold is asked of the disk alone, behind `close`.
+// A fault breaks the log, as in each other call; so what a broken log's files hold is asked of the disk alone, after `close`.
 ghost use Rattle.std.specs.Prelude.{◌≡◌, ◌≤◌, ℕ, true, false, length, take, drop, Err, IfOk, IfErr, IsErrOf};
 ghost use Rattle.clfs_disk.specs.Files.{Unchanged, found_count};
 ghost use Rattle.clfs_disk.specs.State.{TellsContents, IsSteady, Passes, Rises};
@@ -43,7 +43,7 @@ impl<D: Disk> Manager<D> {
         ensures steady { IsSteady (D.state self.old.1) → (IsErrOf result refusals.DiskFault → ⊥)
             × ((D.state self.new.1).faults ≡ (D.state self.old.1).faults) }
 
-        // A crash in it leaves what one leaves while the log is opened anew: the flushed part of its state.
+        // A crash in it leaves what one leaves while the log is opened again: the flushed part of its state.
         ensures moments { (client : ℕ) → CrashSurvives (reopens client) self.old.0 (D.state self.old.1) (D.state self.new.1) }
     {
         self.stored();

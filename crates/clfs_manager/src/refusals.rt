@@ -84,7 +84,7 @@ impl Log {
         self.is_live_at(stream, link)
     }
 
-    // Whether a new base is one: the LSN of a live record of the stream, or the one behind the last.
+    // Whether a new base is one: the LSN of a live record of the stream, or the one after the last.
     fn is_base(&self, stream: u16, lsn: Lsn) -> bool
         requires sound { IsSound self.now }
         requires there { IsSome (stream_at self.now.state.value stream) }

@@ -1,4 +1,4 @@
-// Reading the files of a log: what opening makes of them, for a log that is loaded and for one that is opened anew. What isn't flushed is thrown away
+// Reading the files of a log: what opening makes of them, for a log that is loaded and for one that is opened again. What isn't flushed is thrown away
 // then, and so are all areas and their cursors; nothing is written.
 ghost use Rattle.std.specs.Prelude.{◌≡◌, ◌≤◌, ℕ, false, true, Err, IfOk, IfErr, IsErrOf};
 ghost use Rattle.clfs_disk.specs.Files.{Unchanged};
@@ -70,7 +70,7 @@ pub(crate) fn read_log<D: Disk>(
     Ok(log)
 }
 
-// Tells why the log wasn't opened anew. But for want of memory, the log is broken.
+// Tells why the log wasn't opened again. Unless memory ran out, the log is broken.
 fn refuse(log: &mut Log, refusal: LoadRefusal) -> Refusal
     ensures refusal { result ≡ refused_as refusal }
     ensures state { LeavesState result log.old.state.value log.new.state.value }
@@ -107,7 +107,7 @@ fn refuse(log: &mut Log, refusal: LoadRefusal) -> Refusal
 }
 
 impl<D: Disk> Manager<D> {
-    /// Opens the log anew, as a program that begins does: what isn't flushed is thrown away, and so are all areas and their cursors. Answers the LSN
+    /// Opens the log again, as a program that begins does: what isn't flushed is thrown away, and so are all areas and their cursors. Answers the LSN
     /// below which all records are on the disk.
     ///
     /// Refused by `Broken` first of all, and by `NoMemory`, which changes nothing. A fault of the disk, and files that aren't a log's, break the

@@ -14,7 +14,7 @@ fn flag_of(disk: &mut Memory, slot: u64) -> Option<u8>
     Some(flag)
 }
 
-// The disk behind four calls that open streams, where each is answered as it should be. What is wrong with a name is told first.
+// The disk after four calls that open streams, where each is answered as it should be. What is wrong with a name is told first.
 fn opened(alloc: Global, disk: Memory) -> Option<Memory> {
     let disk = answers_to_name(alloc, disk, 64, Ok(1))?;
     let disk = answers_to_name(alloc, disk, 1, Err(Refusal::Dedicated))?;

@@ -49,7 +49,7 @@ pub(crate) fn open_stream(
     Some((answer, manager.close()))
 }
 
-// The disk behind that call for a name of so many letters, if this is the answer.
+// The disk after that call for a name of so many letters, if this is the answer.
 pub(crate) fn answers_to_name(
     alloc: Global,
     disk: Memory,

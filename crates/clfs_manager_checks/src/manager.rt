@@ -107,7 +107,7 @@ fn a_log_is_made_where_none_is(rt: HostRuntime) {
     assert!(rt; made_twice(alloc, disk) == refused);
 }
 
-// The disk behind making a log on one that passes so many calls, and whether it was answered that it was made.
+// The disk after making a log on one that passes so many calls, and whether it was answered that it was made.
 fn stopped(alloc: Global, passes: u64) -> Option<(Fuse<Memory>, bool)> {
     let fuse = Fuse::new(used_disk(alloc)?, passes);
     Some(match Manager::format(alloc, fuse, SHAPE, 2, false) {

@@ -9,7 +9,7 @@ use clfs_lsn::Name;
 use clfs_manager::Manager;
 use std::alloc::Global;
 
-// The first three bytes of both copies behind opening a stream in a log of the first version. The stream is there when it is opened again.
+// The first three bytes of both copies after opening a stream in a log of the first version. The stream is there when it is opened again.
 fn copies(alloc: Global) -> Option<([u8; 3], [u8; 3])> {
     let mut disk = answers_to_name(alloc, old_log(alloc)?, 40, Ok(1))?;
     let old = base_bytes(&mut disk, 0)?;

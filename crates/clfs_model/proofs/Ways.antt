@@ -62,7 +62,7 @@ pub is_broken : (told : Bool) (s : State) (client : ℕ) (call : Call) (happened
 unfolding Step
 is_broken told s client call happened broken = at_true s.broken _ _ broken (refl, refl)
 
--- want of memory may stand in place of any other answer
+-- out of memory may stand in place of any other answer
 pub no_memory : (told : Bool) (s : State) (client : ℕ) (call : Call) (happened : Happened) → s.broken ≡ false → takes_memory call ≡ true
     → Step told s client call happened (replies.Refused refusals.NoMemory) s
 unfolding Step

@@ -19,7 +19,7 @@ abbrev pub block_payload : List LogEntry → ℕ → ℕ
 block_payload records lsn =
     block_header + sum_by (λ (entry : LogEntry). size (length entry.bytes)) (filter (λ (entry : LogEntry). is_in_block entry.lsn lsn) records)
 
--- the offset behind a record's block
+-- the offset after a record's block
 abbrev pub end_of_block : List LogEntry → ℕ → ℕ
 end_of_block records lsn = offset_of lsn + sector_bytes * sectors (block_payload records lsn)
 

@@ -35,7 +35,7 @@ seal s = if nat_lt 0 s.place.records
 abbrev pub flush : State → State
 flush s = record (seal s) { waiting = [] }
 
--- What is left of the state where all that isn't stable is lost: the stable records, and the place behind them; no areas.
+-- What is left of the state where all that isn't stable is lost: the stable records, and the place after them; no areas.
 abbrev pub cut : State → State
 cut s = record s {
   records = filter (λ (entry : LogEntry). nat_lt entry.lsn (flushed s)) s.records;

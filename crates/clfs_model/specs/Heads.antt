@@ -16,7 +16,7 @@ use Rattle.clfs_model.specs.Archive.{is_in_block}
 abbrev pub heads_of : State → List Head
 heads_of s = map head_of s.records
 
--- the offset behind the block of a record
+-- the offset after the block of a record
 abbrev pub block_end : List Head → ℕ → ℕ
 block_end heads lsn = offset_of lsn + sector_bytes
     * sectors (block_header + sum_by (λ (head : Head). size head.len) (filter (λ (head : Head). is_in_block head.lsn lsn) heads))

@@ -18,13 +18,13 @@ use Rattle.std.specs.Option.{option_map_or}
 abbrev pub mine : List Entry → ℕ → List Entry
 mine journal client = filter (λ (entry : Entry). entry.client == client) journal
 
--- One entry behind others is a step of the machine. Want of memory is no entry, and the number counts the client's entries from 1.
+-- One entry after others is a step of the machine. Out of memory is no entry, and the number counts the client's entries from 1.
 pub record IsNext (told : Bool) (before : List Entry) (s : State) (entry : Entry) (t : State) : Type 0 where
   pub step : Step told s entry.client entry.call entry.happened entry.reply t
   pub no_want : entry.reply ≢ replies.Refused refusals.NoMemory
   pub number : entry.number ≡ length (mine before entry.client) + 1
 
--- entries that go on behind others, from a state to another
+-- entries that go on after others, from a state to another
 abbrev pub GoesOn : Bool → List Entry → State → List Entry → State → Type 0
 GoesOn told before s [] t = t ≡ s
 GoesOn told before s (entry ∷ entries) t =

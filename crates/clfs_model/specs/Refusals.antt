@@ -61,7 +61,7 @@ short area need others = refused_if (nat_lt area.held need) (refusals.Reservatio
 abbrev pub full : State → ℕ → Option Refusal
 full s need = refused_if (not (has_room s need)) (refusals.Full (free (grown s need)) (reserved (grown s need)) need) None
 
--- The first wrong byte of a name, which has 1 to 64 bytes: a byte that none may have, or the one behind the longest name. An
+-- The first wrong byte of a name, which has 1 to 64 bytes: a byte that none may have, or the one after the longest name. An
 -- empty name is wrong at 0.
 abbrev pub name_fault : List ℕ → Option ℕ
 name_fault name =

@@ -13,7 +13,7 @@ use Rattle.clfs_model.specs.Refusals.{refusal}
 use Rattle.clfs_model.specs.Answers.{Outcome, outcome, answer}
 use Rattle.clfs_model.specs.Step.{Step, ReopenStep}
 
--- what a line asks for: a client's call, a client's opening of the log anew, or nothing, with the place where it goes wrong
+-- what a line asks for: a client's call, a client's opening of the log again, or nothing, with the place where it goes wrong
 pub data Request : Type 0 where
   asks : ℕ → Call → Request
   reopens : ℕ → Request

@@ -32,13 +32,13 @@ pub record Rest : Type 0 where
   pub words : List Word
   pub end : ℕ
 
--- a value and the words behind it
+-- a value and the words after it
 pub record Read (A : Type 0) : Type 0 where
   pub value : A
   pub rest : Rest
 
 infixl 10 ◌>>=◌
--- the second reading behind the first, unless the first has gone wrong at a place
+-- the second reading after the first, unless the first has gone wrong at a place
 abbrev pub ◌>>=◌ : {A B : Type 0} → Result A ℕ → (A → Result B ℕ) → Result B ℕ
 (Ok x) >>= f = f x
 (Err at) >>= f = Err at
@@ -59,12 +59,12 @@ word_at read (word ∷ words) end = do
 abbrev pub word : {A : Type 0} → (List ℕ → Option A) → Rest → Result (Read A) ℕ
 word read rest = word_at read rest.words rest.end
 
--- a value behind which the line ends
+-- a value after which the line ends
 abbrev pub last_of : {A : Type 0} → A → List Word → Result A ℕ
 last_of x [] = Ok x
 last_of x (word ∷ words) = Err word.at
 
--- a request behind which the line ends
+-- a request after which the line ends
 abbrev pub ends : {A : Type 0} → A → Rest → Result A ℕ
 ends x rest = last_of x rest.words
 
@@ -286,7 +286,7 @@ verb_words =
 abbrev pub verb_word : List ℕ → Option Verb
 verb_word bytes = option_map (λ row. row.1) (find (λ (row : List ℕ × Verb). bytes_eq row.0 bytes) verb_words)
 
--- what stands behind a verb
+-- what stands after a verb
 abbrev pub call_line : Verb → Rest → Result Call ℕ
 call_line open_verb rest = one_word_line name_word (λ name. calls.OpenStream name) rest
 call_line area_verb rest = area_line rest
@@ -312,8 +312,8 @@ call_line unpolicy_verb rest = one_word_line kind_word (λ kind. calls.RemovePol
 call_line size_verb rest = one_word_line short_word (λ containers. calls.SetSize containers) rest
 call_line info_verb rest = one_word_line stream_word (λ stream. calls.Info stream) rest
 
--- Which verbs a script may have: those of clients' calls, and `reopen`, which asks to open the log anew, or the former alone. Where
--- several clients run at once none of them may open the log anew, so no form allows that word.
+-- Which verbs a script may have: those of clients' calls, and `reopen`, which asks to open the log again, or the former alone. Where
+-- several clients run at once none of them may open the log again, so no form allows that word.
 pub data Language : Type 0 where
   calls_and_reopening : Language
   calls_alone : Language
@@ -322,19 +322,19 @@ pub data Language : Type 0 where
 abbrev pub call_verb : List ℕ → Option (Option Verb)
 call_verb bytes = option_map (λ verb. Some verb) (verb_word bytes)
 
--- a word that a language allows behind the client: a verb, or none for `reopen`, which is no client's call
+-- a word that a language allows after the client: a verb, or none for `reopen`, which is no client's call
 abbrev pub allowed_verb : Language → List ℕ → Option (Option Verb)
 allowed_verb calls_and_reopening bytes = if bytes_eq bytes (codes "reopen") then Some None else call_verb bytes
 allowed_verb calls_alone bytes = call_verb bytes
 
--- what a client's line asks for behind its verb
+-- what a client's line asks for after its verb
 abbrev pub request_behind : ℕ → Option Verb → Rest → Result Request ℕ
 request_behind client None rest = ends (reopens client) rest
 request_behind client (Some verb) rest = do
   call ← call_line verb rest
   Ok (asks client call)
 
--- a line without its carriage return: a client, a verb, and what stands behind it
+-- a line without its carriage return: a client, a verb, and what stands after it
 abbrev pub client_line : Language → Rest → Result Request ℕ
 client_line language rest = do
   client ← word client_word rest
@@ -355,10 +355,10 @@ request_in language line = request_or_bad (client_line language (record { words 
 abbrev pub requests_of_lines : Language → List (List ℕ) → List Request
 requests_of_lines language lines = map (λ line. request_in language (without_return line)) lines
 
--- what a line asks for where the log may be opened anew
+-- what a line asks for where the log may be opened again
 abbrev pub line_request : List ℕ → Request
 line_request line = request_in calls_and_reopening line
 
--- what the lines of a script ask for where the log may be opened anew
+-- what the lines of a script ask for where the log may be opened again
 abbrev pub script_requests : List ℕ → List Request
 script_requests bytes = requests_of_lines calls_and_reopening (lines_of bytes)

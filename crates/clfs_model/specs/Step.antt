@@ -19,7 +19,7 @@ use Rattle.clfs_model.specs.Answers.{Outcome, answer}
 use Rattle.clfs_model.specs.Valid.{IsValid}
 use Rattle.clfs_model.specs.Storable.{IsStorable}
 
--- the calls that want of memory may refuse
+-- the calls that out of memory may refuse
 abbrev pub takes_memory : Call → Bool
 takes_memory (calls.OpenStream name) = true
 takes_memory (calls.CreateArea stream largest reads) = true
@@ -115,7 +115,7 @@ IsReply told stable answered reply = MatchBool told (reply ≡ answered) (IsRepl
 abbrev pub Comes : Bool → ℕ → Outcome → Reply → State → Type 0
 Comes told stable outcome reply t = IsReply told stable outcome.reply reply × (t ≡ outcome.state)
 
--- A step that isn't stopped by want of memory, from a state that isn't broken. Where nothing happened, the first refusal comes,
+-- A step that isn't stopped because memory ran out, from a state that isn't broken. Where nothing happened, the first refusal comes,
 -- or else the answer. A fault comes only in a call that isn't refused and that calls the disk, damage only in one that reads.
 abbrev pub Goes : Bool → State → ℕ → Call → Happened → Reply → State → Type 0
 Goes told s client call Fine reply t = MatchOption (refusal s client call)
@@ -126,7 +126,7 @@ Goes told s client call Fault reply t = (refusal s client call ≡ None) × (IsT
 Goes told s client call Damage reply t = (refusal s client call ≡ None) × (IsTrue (reads_disk call)
     × (IsDamaged reply × (t ≡ with_broken s)))
 
--- want of memory changes nothing
+-- out of memory changes nothing
 abbrev pub IsOutOfMemory : State → Reply → State → Type 0
 IsOutOfMemory s reply t = (reply ≡ replies.Refused refusals.NoMemory) × (t ≡ s)
 
@@ -134,19 +134,19 @@ IsOutOfMemory s reply t = (reply ≡ replies.Refused refusals.NoMemory) × (t �
 abbrev pub IsBroken : State → Reply → State → Type 0
 IsBroken s reply t = (reply ≡ replies.Refused refusals.Broken) × (t ≡ s)
 
--- One call of a client. Being broken is told first of all; want of memory may stand in place of any other answer of a call
+-- One call of a client. Being broken is told first of all; out of memory may stand in place of any other answer of a call
 -- that takes memory.
 unfoldable pub Step : Bool → State → ℕ → Call → Happened → Reply → State → Type 0
 Step told s client call happened reply t = MatchBool s.broken
     (IsBroken s reply t)
     ((IsTrue (takes_memory call) × IsOutOfMemory s reply t) ⊎ Goes told s client call happened reply t)
 
--- what opening anew leaves, whatever is read: no area, nothing that isn't on the disk yet, as many write buffers as before, and a
+-- what opening again leaves, whatever is read: no area, nothing that isn't on the disk yet, as many write buffers as before, and a
 -- log that isn't broken
 abbrev pub IsOpenedAnew : State → State → Type 0
 IsOpenedAnew s t = (t.areas ≡ []) × ((is_pending t ≡ false) × ((t.buffers ≡ s.buffers) × (t.broken ≡ false)))
 
--- What reading the files anew comes to. The new state is one that files can stand for, whatever was read. Over a disk that tells what
+-- What reading the files again comes to. The new state is one that files can stand for, whatever was read. Over a disk that tells what
 -- it holds it is the flushed part of the old one, up to records that no reply can show; over another one it is some such state that
 -- has just been opened.
 pub record IsReopened (told : Bool) (s : State) (reply : Reply) (t : State) : Type 0 where
@@ -155,13 +155,13 @@ pub record IsReopened (told : Bool) (s : State) (reply : Reply) (t : State) : Ty
   pub storable : IsStorable t
   pub read : MatchBool told ((flushed t ≡ flushed s) × IsSame (cut s) t) (IsOpenedAnew s t)
 
--- opening anew, from a state that isn't broken
+-- opening again, from a state that isn't broken
 abbrev pub Reopens : Bool → State → Happened → Reply → State → Type 0
 Reopens told s Fine reply t = IsReopened told s reply t
 Reopens told s Fault reply t = (reply ≡ replies.Refused refusals.DiskFault) × (t ≡ with_broken s)
 Reopens told s Damage reply t = IsDamaged reply × (t ≡ with_broken s)
 
--- opening anew, which is no client's call: it syncs and reads the disk, and takes memory
+-- opening again, which is no client's call: it syncs and reads the disk, and takes memory
 unfoldable pub ReopenStep : Bool → State → Happened → Reply → State → Type 0
 ReopenStep told s happened reply t = MatchBool s.broken
     (IsBroken s reply t)

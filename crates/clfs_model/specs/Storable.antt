@@ -32,40 +32,40 @@ pub record HasMovedBase (s : State) (entry : LogEntry) : Type 0 where
 abbrev pub before_all : Place
 before_all = record { container = 0; offset = 0; used = 0; records = 0 }
 
--- the place behind a record, given the one before it: a record of sequence 0 begins a block, each other one joins the open one
+-- the place after a record, given the one before it: a record of sequence 0 begins a block, each other one joins the open one
 abbrev pub behind : Place → LogEntry → Place
 behind place entry =
     if sequence_of entry.lsn == 0
     then begun (container_of entry.lsn) (offset_of entry.lsn / sector_bytes) (length entry.bytes)
     else record place { used = place.used + size (length entry.bytes); records = place.records + 1 }
 
--- the place behind all these records
+-- the place after all these records
 abbrev pub behind_all : Place → List LogEntry → Place
 behind_all place [] = place
 behind_all place (entry ∷ entries) = behind_all (behind place entry) entries
 
--- A record joins the open block, begins a block right behind it, or begins a further container at its first byte.
+-- A record joins the open block, begins a block right after it, or begins a further container at its first byte.
 abbrev pub LiesBehind : Place → LogEntry → Type 0
 LiesBehind place entry =
     ((1 ≤ place.records) × (entry.lsn ≡ frontier place))
     ⊎ ((entry.lsn ≡ lsn_number place.container (sector_bytes * block_end place) 0)
     ⊎ ((place.container < container_of entry.lsn) × (entry.lsn ≡ lsn_number (container_of entry.lsn) 0 0)))
 
--- The records lie one behind the other, and each block is within its container, no longer than a block may be and as long as its
+-- The records lie one after the other, and each block is within its container, no longer than a block may be and as long as its
 -- records make it.
 abbrev pub LieInBlocks : Shape → Place → List LogEntry → Type 0
 LieInBlocks shape place [] = Unit {0}
 LieInBlocks shape place (entry ∷ entries) =
     LiesBehind place entry × (IsWithin shape (behind place entry) × LieInBlocks shape (behind place entry) entries)
 
--- The log goes on behind the last record: in its block, or behind that, or at the first byte of a further container, where no record
+-- The log goes on after the last record: in its block, or after that, or at the first byte of a further container, where no record
 -- is yet.
 abbrev pub GoesOnAt : Place → Place → Type 0
 GoesOnAt last place =
     (place ≡ last) ⊎ ((place ≡ sealed last)
     ⊎ ((last.container < place.container) × (place ≡ record { container = place.container; offset = 0; used = 0; records = 0 })))
 
--- The blocks of each container lie one behind the other from its first byte on, without gaps, and the log's place is behind the last.
+-- The blocks of each container lie one after the other from its first byte on, without gaps, and the log's place is after the last.
 pub record HasBlocks (s : State) : Type 0 where
   pub laid : LieInBlocks s.shape before_all s.records
   pub place : GoesOnAt (behind_all before_all s.records) s.place

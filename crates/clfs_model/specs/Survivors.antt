@@ -30,7 +30,7 @@ pub record HasSettings (s x : State) : Type 0 where
 abbrev pub HasBases : State → State → Type 0
 HasBases s x = (stream : ℕ) → base_of x stream ≡ base_of s stream
 
--- the end of a record's block, or the start of the container behind it
+-- the end of a record's block, or the start of the container after it
 abbrev pub EndsBlockOf : List LogEntry → Place → LogEntry → Type 0
 EndsBlockOf records place entry =
     ((place.container ≡ container_of entry.lsn) × (place.offset ≡ end_of_block records entry.lsn))
@@ -49,8 +49,8 @@ SplitsNoBlock records place = All (λ (entry : LogEntry). entry.lsn < frontier p
 abbrev pub HasMore : List LogEntry → State → Type 0
 HasMore records s = Any (λ (entry : LogEntry). All (λ (other : LogEntry). other.lsn ≡ entry.lsn → ⊥) s.records) records
 
--- The place that a crash leaves: no block is open, it lies from the flushed LSN before the call to the one behind it, and it is
--- the first of these, or the end of a block, or the start of the container behind one.
+-- The place that a crash leaves: no block is open, it lies from the flushed LSN before the call to the one after it, and it is
+-- the first of these, or the end of a block, or the start of the container after one.
 pub record IsSurvivingPlace (s s2 x : State) : Type 0 where
   pub closed : IsClosed x.place
   pub from : flushed s ≤ frontier x.place
@@ -64,14 +64,14 @@ pub record HasBasesOfRestart (s s2 x : State) : Type 0 where
   pub there : (HasMore s2.records x → ⊥) → HasBases s2 x
   pub lost : HasMore s2.records x → HasBases s x
 
--- The bases that a crash leaves, by what was asked. A base that is advanced comes behind all that is flushed before it.
+-- The bases that a crash leaves, by what was asked. A base that is advanced comes after all that is flushed before it.
 abbrev pub HasBasesOfRequest : Request → State → State → State → Type 0
 HasBasesOfRequest (asks client (calls.WriteRestart area bytes base reserved)) s s2 x = HasBasesOfRestart s s2 x
 HasBasesOfRequest (asks client (calls.Advance area lsn)) s s2 x = HasMore (cut s2).records x → HasBases s x
 HasBasesOfRequest request s s2 x = Unit {0}
 
 -- The state x is left by a crash while a request is under way from s, s2 being the state that the request gives where nothing happens.
--- A bad line asks for nothing, so s2 is s there; for opening anew s2 is the flushed part of s, and nothing else survives.
+-- A bad line asks for nothing, so s2 is s there; for opening again s2 is the flushed part of s, and nothing else survives.
 pub record IsSurvivor (asked : Request) (s s2 x : State) : Type 0 where
   pub shape : x.shape ≡ s.shape
   pub dedicated : x.dedicated ≡ s.dedicated

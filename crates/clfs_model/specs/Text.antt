@@ -115,7 +115,7 @@ client_of (asks client call) = client
 client_of (reopens client) = client
 client_of (bad_line at) = 0
 
--- the lines of the replies to these requests, one behind the other
+-- the lines of the replies to these requests, one after the other
 abbrev pub output_of : List Request → List Reply → List ℕ
 output_of [] replies = []
 output_of (request ∷ requests) [] = []

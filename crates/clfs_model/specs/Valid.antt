@@ -64,7 +64,7 @@ abbrev pub open_sequences : State → List ℕ
 open_sequences s = map (λ (entry : LogEntry). sequence_of entry.lsn)
     (filter (λ (entry : LogEntry). (container_of entry.lsn == s.place.container) && (offset_of entry.lsn == s.place.offset)) s.records)
 
--- LSNs rise, and the open block has as many records as the place says, one behind the other.
+-- LSNs rise, and the open block has as many records as the place says, one after the other.
 pub record HasRecords (s : State) : Type 0 where
   pub rising : IsStrictlyIncreasing (map (λ (entry : LogEntry). entry.lsn) s.records)
   pub records : All (IsRecord s) s.records

@@ -12,7 +12,7 @@ use Rattle.clfs_model.specs.Refusals.{refusal}
 use Rattle.clfs_model.specs.Answers.{answer}
 use Rattle.clfs_model.specs.Step.{Step, IsDamaged, takes_memory, reads_disk, calls_disk, with_broken}
 
--- A broken log says so; want of memory may stand in place of any other answer of a call that takes memory; the first refusal comes,
+-- A broken log says so; out of memory may stand in place of any other answer of a call that takes memory; the first refusal comes,
 -- and a call that meets none is answered; one that isn't refused may meet a fault of the disk where it calls the disk, and damage
 -- where it reads.
 pub record GoesTheseWays : Type 0 where

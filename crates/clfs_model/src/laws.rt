@@ -16,7 +16,7 @@ ghost use Rattle.clfs_lsn.specs.Heads.{live_heads, head_at, head_or_null, live_h
 ghost use Rattle.clfs_model.specs.Ways.{GoesTheseWays};
 ghost use Rattle.clfs_model.specs.Run.{Request, Run, all_fine, replies_of, state_after, is_no_reopening};
 
-/// The replies where nothing happens and memory suffices are those of a run, for lines that don't open the log anew.
+/// The replies where nothing happens and memory suffices are those of a run, for lines that don't open the log again.
 pub fn calm_replies_are_a_run()
     ensures { (s : State) (requests : List Request) → IsTrue (list_all is_no_reopening requests) → Run true s requests (all_fine requests) (replies_of s requests) (state_after s requests) }
 {}

@@ -115,7 +115,7 @@ pub enum Refusal {
     /// There is no restart area, or none before the cursor's.
     #[error("no restart area")]
     NoRestart,
-    /// A base is neither a live record nor just behind the last one.
+    /// A base is neither a live record nor just after the last one.
     #[error("the base can't be {lsn}")]
     TailInvalid {
         /// The base that was asked for.

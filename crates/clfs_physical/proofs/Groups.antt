@@ -1,4 +1,4 @@
--- A group that is written behind the open blocks of a file.
+-- A group that is written after the open blocks of a file.
 use Rattle.std.proofs.Common.{◌⊎◌, inl, inr, ⊎_elim, ℕ, ◌+◌, List, ◌++◌, ◌∙◌}
 use Rattle.clfs_disk.specs.Files.{Files, TornIn}
 use Rattle.clfs_disk.specs.State.{DiskState, Leaves}

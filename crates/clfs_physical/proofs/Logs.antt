@@ -121,7 +121,7 @@ log_by_either whole image next blocks used slot old new is next_is holds next_ho
 
 -- ---- a group
 
--- how many sectors are left behind open blocks
+-- how many sectors are left after open blocks
 opens_left : (left : ℕ) (bytes : List ℕ) (blocks : List (List ℕ)) (rest : ℕ) → Opens left bytes blocks rest
     → total blocks + 512 * rest ≡ 512 * left
 opens_left left bytes [] rest opens = omega (arith, opens)
@@ -135,7 +135,7 @@ group_room : (rest : ℕ) (body : List ℕ) (more : List (List ℕ)) (left : ℕ
 group_room rest body [] left group = omega (arith, group.some)
 group_room rest body (block ∷ more) left group = omega (arith, group.opens.0.some, group.opens.0.fits)
 
--- and bytes behind its gate
+-- and bytes after its gate
 group_bytes : (rest : ℕ) (more : List (List ℕ)) (left : ℕ) → IsGroup rest [] more left → ⊥
 group_bytes rest [] left group = absurd (omega (arith, group.some))
 group_bytes rest (block ∷ more) left group = absurd (omega (arith, group.opens.0.some, group.opens.0.whole))

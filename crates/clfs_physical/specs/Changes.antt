@@ -16,7 +16,7 @@ with_next_turn image = record (current image) { turn = (image.turn + 1) % 3 }
 abbrev pub listed_from : ℕ → BaseImage → BaseImage
 listed_from first image = record image { first = first; files = drop (first - image.first) image.files }
 
--- The same copy with another file behind the listed ones.
+-- The same copy with another file after the listed ones.
 abbrev pub with_file : ℕ → BaseImage → BaseImage
 with_file file image = record image { files = image.files ++ file ∷ [] }
 

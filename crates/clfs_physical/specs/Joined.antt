@@ -15,13 +15,13 @@ pub record GrownAbove (made : ℕ) (old new : Files) : Type 0 where
   pub same : (file : ℕ) → file ≤ made → new file ≡ old file
   pub longer : (file : ℕ) → length (old file) ≤ length (new file)
 
--- Of the old files one alone was changed, not in its length: it has the blocks of before and those of a group behind them.
+-- Of the old files one alone was changed, not in its length: it has the blocks of before and those of a group after them.
 pub record HasGroup (sectors file : ℕ) (blocks more : List (List ℕ)) (left : ℕ) (old new : Files) : Type 0 where
   pub blocks_are : HasBlocks sectors file (blocks ++ more) left new
   pub others : OthersStay file old new
   pub lengths : SameLengths old new
 
--- Of the old files one alone was changed, not in its length: it has the blocks of before, and the closed gate behind them.
+-- Of the old files one alone was changed, not in its length: it has the blocks of before, and the closed gate after them.
 pub record HasNone (sectors file : ℕ) (blocks : List (List ℕ)) (rest at : ℕ) (old new : Files) : Type 0 where
   pub behind : IsBehind sectors file blocks rest at new
   pub others : OthersStay file old new

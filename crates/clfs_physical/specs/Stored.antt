@@ -9,7 +9,7 @@ use Rattle.clfs_base.specs.Layout.{slot_bytes}
 use Rattle.clfs_base.specs.Spelling.{IsImage}
 use Rattle.clfs_base.specs.Slots.{newest_of}
 
--- The open blocks of each file by its number, one behind the other.
+-- The open blocks of each file by its number, one after the other.
 abbrev pub Blocks : Type 0
 Blocks = ℕ → List (List ℕ)
 
@@ -58,7 +58,7 @@ Stores whole newest blocks files = IsLog whole newest.slot newest.image blocks f
 abbrev pub last_file : BaseImage → ℕ
 last_file image = slice_index image.files (length image.files - 1)
 
--- Behind the open blocks of the last container, which end at this place, these bytes begin with the blocks of a group: all of them but
+-- After the open blocks of the last container, which end at this place, these bytes begin with the blocks of a group: all of them but
 -- the gate of the first.
 pub record IsPlaced (image : BaseImage) (blocks : Blocks) (at : ℕ) (body : List ℕ) (more : List (List ℕ)) : Type 0 where
   pub place : total (blocks (last_file image)) ≡ at
@@ -69,7 +69,7 @@ pub record IsPlaced (image : BaseImage) (blocks : Blocks) (at : ℕ) (body : Lis
 abbrev pub Waits : BaseImage → Blocks → ℕ → List ℕ → List (List ℕ) → Type 0
 Waits image blocks at body more = ((body ≡ []) × (more ≡ [])) ⊎ IsPlaced image blocks at body more
 
--- The open blocks with a group behind those of the last container.
+-- The open blocks with a group after those of the last container.
 abbrev pub with_group : BaseImage → List (List ℕ) → Blocks → Blocks
 with_group image more blocks = with_blocks (last_file image) (blocks (last_file image) ++ more) blocks
 

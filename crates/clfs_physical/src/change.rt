@@ -49,7 +49,7 @@ pub fn apply(alloc: Global, image: &mut BaseImage, first: u32, change: &Change)
     change_fields(alloc, image, change);
 }
 
-/// Makes a copy the one that follows it, with a free file behind the listed ones. `files` are all of these.
+/// Makes a copy the one that follows it, with a free file after the listed ones. `files` are all of these.
 pub fn apply_file(image: &mut BaseImage, file: u16, files: Vec<u16>)
     requires free { IsNextFile image.old file }
     requires files { files.items ≡ image.old.files ++ file ∷ [] }
@@ -178,7 +178,7 @@ pub fn apply_containers(alloc: Global, image: &mut BaseImage, first: u32, contai
     image.files_made = image.files_made.max(containers);
 }
 
-// Adds a stream behind the others. Where memory is wanted, nothing has changed.
+// Adds a stream after the others. Where memory is wanted, nothing has changed.
 fn push_stream(alloc: Global, image: &mut BaseImage, row: Row) -> Result<(), AllocError>
     ensures ok { OnOk result (image.new ≡ with_stream row image.old) }
     ensures err { OnErr result (image.new ≡ image.old) }

@@ -12,7 +12,7 @@ ghost use Rattle.clfs_physical.specs.Stored.{Blocks, Holds, IsLog};
 use clfs_base::{BaseImage, VERSION, encode};
 use clfs_disk::{Disk, Failed};
 
-/// Closes the gate of the older slot where it is open, writes a copy behind it, and opens it, each part synced: by seven calls of
+/// Closes the gate of the older slot where it is open, writes a copy after it, and opens it, each part synced: by seven calls of
 /// the disk, or by five where the gate was closed.
 pub fn write_copy<D: Disk>(disk: &mut D, slot: u32, body: &[u8]) -> Result<(), Failed>
     requires slot { slot ≤ 1 }

@@ -23,7 +23,7 @@ pub fn free_file(made: u16, files: &[u16]) -> u16
     file
 }
 
-/// These files and another one behind them, in memory that was taken before.
+/// These files and another one after them, in memory that was taken before.
 pub fn with_one_more(room: Vec<u16>, files: &[u16], file: u16) -> Vec<u16>
     requires empty { room.items ≡ [] }
     requires capacity { length files.now + 1 ≤ vec_capacity room }

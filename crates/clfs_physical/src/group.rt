@@ -1,4 +1,4 @@
-// A group of blocks, written behind the open blocks of a file.
+// A group of blocks, written after the open blocks of a file.
 ghost use Rattle.std.specs.Prelude.{◌≡◌, ◌⊎◌, ◌+◌, ◌≤◌, ◌++◌, ℕ, List, length, OnOk, OnErr, IsOk};
 ghost use Rattle.clfs_disk.specs.State.{TellsContents, IsHonest, IsSettled, IsSteady, Later, Leaves, Rises, raised};
 ghost use Rattle.clfs_container.specs.Writing.{IsBehind, IsGroup};
@@ -6,7 +6,7 @@ ghost use Rattle.clfs_physical.specs.Joined.{SameLengths, HasGroup, HasNone};
 
 use clfs_disk::{Disk, Failed};
 
-/// Writes a group behind the gate at byte `at` and syncs it, and then opens the gate and syncs that, by four calls of the disk.
+/// Writes a group after the gate at byte `at` and syncs it, and then opens the gate and syncs that, by four calls of the disk.
 pub fn write_group<D: Disk>(disk: &mut D, file: u16, at: u32, body: &[u8]) -> Result<(), Failed>
     requires { file ≤ 256 }
     ensures written { OnOk result (TellsContents (D.state disk.old) → (sectors : ℕ) (blocks : List (List ℕ)) (rest : ℕ) (more : List (List ℕ)) (left : ℕ)

@@ -8,7 +8,7 @@ ghost use Rattle.clfs_physical.specs.Joined.{GrownAbove};
 use crate::refusal::PhysicalRefusal;
 use clfs_disk::{Disk, GrowRefusal};
 
-/// Makes the files behind number `made`, up to number `wanted`, at least so long, and syncs them: by one call of the disk for each
+/// Makes the files after number `made`, up to number `wanted`, at least so long, and syncs them: by one call of the disk for each
 /// and one more, or by none where there are no such files.
 pub fn make_files<D: Disk>(
     disk: &mut D,
@@ -41,7 +41,7 @@ pub fn make_files<D: Disk>(
     finish(disk, made < done, grown)
 }
 
-// Makes the files behind number `made` so long, one after the other. `done` is the last one that was made.
+// Makes the files after number `made` so long, one after the other. `done` is the last one that was made.
 fn grow_each<D: Disk>(
     disk: &mut D,
     made: u16,

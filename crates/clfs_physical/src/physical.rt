@@ -23,7 +23,7 @@ use clfs_disk::{Disk, Failed};
 use std::alloc::{AllocError, Global};
 use std::marker::Model;
 
-// The bytes of a copy behind its gate.
+// The bytes of a copy after its gate.
 const COPY: usize = SLOT_BYTES as usize - 1;
 
 /// The newest base copy, the slot that it is in, and the memory in which the next one is spelled.
@@ -75,8 +75,8 @@ impl Physical {
         &self.image
     }
 
-    /// Writes the blocks that wait as one group behind the open blocks of the last container, at byte `at` of its file. `body` is
-    /// the group but for its first byte, and a closed gate behind it where the container has a sector there; it is empty where nothing
+    /// Writes the blocks that wait as one group after the open blocks of the last container, at byte `at` of its file. `body` is
+    /// the group but for its first byte, and a closed gate after it where the container has a sector there; it is empty where nothing
     /// waits, and then nothing is written.
     pub fn flush<D: Disk>(&self, disk: &mut D, at: u32, body: &[u8]) -> Result<(), Failed>
         ensures written { OnOk result (TellsContents (D.state disk.old) → (whole : Bool) (blocks : Blocks) (more : List (List ℕ))
@@ -224,7 +224,7 @@ impl Physical {
         Ok(())
     }
 
-    /// Opens a stream: writes the copy that has it behind the others, with the containers from `first` on.
+    /// Opens a stream: writes the copy that has it after the others, with the containers from `first` on.
     pub fn add_stream<D: Disk>(
         &mut self,
         disk: &mut D,

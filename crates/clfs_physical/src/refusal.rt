@@ -8,7 +8,7 @@ use thiserror::Error;
 /// Why a call that takes memory didn't do what it was to do.
 #[derive(Clone, Copy, Debug, PartialEq, Eq, Error)]
 pub enum PhysicalRefusal {
-    /// The disk failed. What the call was to change may be changed in part: the log is to be read anew.
+    /// The disk failed. What the call was to change may be changed in part: the log is to be read again.
     #[error("the disk failed")]
     DiskFault,
     /// No memory was left. The log is as before.

@@ -1,4 +1,4 @@
--- Blocks that wait, one behind the other.
+-- Blocks that wait, one after the other.
 use Rattle.std.proofs.Common.{◌≡◌, ℕ, ◌+◌, ◌*◌, ◌%◌, ◌≤◌, List, [], ◌∷◌, ◌++◌, length}
 use Rattle.std.proofs.Common.{refl, sym, ◌∙◌, ap, arith, append_assoc, length-append}
 use Rattle.std.specs.List.{concat}
@@ -24,7 +24,7 @@ pub total_push : (blocks : List (List ℕ)) (block : List ℕ) → total (blocks
 total_push [] block = omega arith
 total_push (first ∷ blocks) block = omega (arith, total_push blocks block)
 
--- behind blocks that wait one more can wait
+-- after blocks that wait one more can wait
 pub blocks_push : (shape : Shape) (id offset : ℕ) (starts : List ℕ) (done : List LogEntry) (blocks : List (List ℕ)) (start : ℕ) (own : List LogEntry) (block : List ℕ)
     → AreBlocks shape id offset starts done blocks → start ≡ lsn_number id (offset + total blocks) 0 → IsBlock shape start own block
     → AreBlocks shape id offset (starts ++ start ∷ []) (done ++ own) (blocks ++ block ∷ [])

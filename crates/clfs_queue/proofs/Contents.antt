@@ -14,7 +14,7 @@ use Rattle.clfs_block.specs.Frame.{place_of, payload_of, payload_from}
 pub length-payload : (count : ℕ) (block : List ℕ) → length (payload_of count block) ≡ count
 length-payload count block = length-map-range_with_len (λ p. get_or block (place_of p) 0) 0 count
 
--- a part of the payload behind the header is a part of the records' bytes
+-- a part of the payload after the header is a part of the records' bytes
 pub part_of_content : (used n k : ℕ) (block content : List ℕ) → drop 16 (payload_of used block) ≡ content → 16 + n + k ≤ used
     → payload_from (16 + n) k block ≡ take k (drop n content)
 part_of_content used n k block content is within =
@@ -30,14 +30,14 @@ part_of_content used n k block content is within =
     ∙ ap (λ (l : List ℕ). get_or l (n + p) 0) (sym is) ∙ get_or-drop 16 (payload_of used block) (n + p) 0
     ∙ get_or-map-range_with_len read 0 used (16 + (n + p)) (16 + n + p) 0 (omega (arith, within, near)) (omega arith)))
 
--- behind the bytes of some records come those of the next
+-- after the bytes of some records come those of the next
 pub content_behind : (before behind : List LogEntry) (entry : LogEntry)
     → drop (length (flat_map record_bytes before)) (flat_map record_bytes (before ++ entry ∷ behind)) ≡ record_bytes entry ++ flat_map record_bytes behind
 content_behind before behind entry =
     ap (λ (l : List ℕ). drop (length (flat_map record_bytes before)) l) (flat_map-append record_bytes before (entry ∷ behind))
     ∙ drop_at (flat_map record_bytes before) (record_bytes entry ++ flat_map record_bytes behind) (length (flat_map record_bytes before)) refl
 
--- a place of the payload lies no further on than the places behind it
+-- a place of the payload lies no further on than the places after it
 pub place_grows : (p q : ℕ) → p ≤ q → place_of p ≤ place_of q
 place_grows p q le = omega (arith, le)
 

@@ -49,7 +49,7 @@ module _ (gate_said : (start gate records : ℕ) (content block : List ℕ) → 
         },
       )
 
-  -- blocks one behind the other are the open blocks of their bytes
+  -- blocks one after the other are the open blocks of their bytes
   pub opens_all : (shape : Shape) (id offset : ℕ) (starts : List ℕ) (done : List LogEntry) (blocks : List (List ℕ)) (tail : List ℕ)
       → AreBlocks shape id offset starts done blocks → offset % 512 ≡ 0 → offset + total blocks ≤ 512 * shape.container_sectors
       → Opens (shape.container_sectors - offset / 512) (concat blocks ++ tail) blocks (shape.container_sectors - (offset + total blocks) / 512)
@@ -115,7 +115,7 @@ module _ (gate_said : (start gate records : ℕ) (content block : List ℕ) → 
       );
     }
 
-    -- the length of what is kept, and its bytes behind the first gate
+    -- the length of what is kept, and its bytes after the first gate
     pub closed_length : length bytes ≡ sealed_bytes + 1
     closed_length = omega (
       arith,
@@ -128,11 +128,11 @@ module _ (gate_said : (start gate records : ℕ) (content block : List ℕ) → 
       first_is : concat kept.blocks ≡ 165 ∷ drop 1 (concat kept.blocks)
       first_is = first_gate q.shape q.place.container (q.place.offset - sealed_bytes) q.waiting q.records kept.blocks all_blocks (omega (arith, some, kept.sealed_is))
 
-      -- the bytes behind it
+      -- the bytes after it
       rest_length : length (drop 1 (concat kept.blocks)) ≡ sealed_bytes - 1
       rest_length = omega (arith, length-drop 1 (concat kept.blocks), length-concat kept.blocks, kept.sealed_is)
 
-      -- with the closed gate behind the blocks
+      -- with the closed gate after the blocks
       bytes_behind : drop 1 bytes ≡ drop 1 (concat kept.blocks) ++ 0 ∷ []
       bytes_behind = ap (λ (l : List ℕ). drop 1 l) (kept.bytes_are
           ∙ ap (λ (l : List ℕ). concat kept.blocks ++ l) (closed_end q.place kept.opened kept.part kept.end closed.1).2
@@ -174,7 +174,7 @@ module _ (gate_said : (start gate records : ℕ) (content block : List ℕ) → 
             }));
           }
 
-      -- the group with a closed gate behind it
+      -- the group with a closed gate after it
       pub shut_group : q.place.offset ≢ 512 * q.shape.container_sectors → (n : ℕ) → n ≡ sealed_bytes → IsGroupOf q (q.place.offset - sealed_bytes) (take n (drop 1 bytes))
       shut_group before n n_is =
           let long : length (drop 1 (concat kept.blocks) ++ 0 ∷ []) ≡ sealed_bytes = omega (arith, rest_length, some, length-append (drop 1 (concat kept.blocks)) (0 ∷ [])) in

@@ -51,7 +51,7 @@ module _ (sized : (entry : LogEntry) → length (record_bytes entry) ≡ size (l
   pub held_bytes : (k : ℕ) → k ≤ size (length entry.bytes) → payload_from (payload_before held) k bytes ≡ take k (record_bytes entry)
   held_bytes k few = record_in_payload sized held.used bytes held.before held.behind entry held.content k few
 
-  -- its data stand behind its header
+  -- its data stand after its header
   pub held_data : payload_from (payload_before held + 32) (length entry.bytes) bytes ≡ entry.bytes
   held_data =
       let n = length (flat_map record_bytes held.before) in

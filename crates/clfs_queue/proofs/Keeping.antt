@@ -50,11 +50,11 @@ closed_end place opened part (inl closed) none = closed
 closed_end place opened part (inr here) none = absurd (omega (arith, none, here.some))
 
 module _ (q : Queued) (bytes : List ℕ) (sealed memory starts_memory : ℕ) (kept : IsKept q bytes sealed memory starts_memory) where
-  -- the bytes are those of the waiting blocks and what stands behind them
+  -- the bytes are those of the waiting blocks and what stands after them
   pub kept_length : length bytes ≡ sealed + length kept.part
   kept_length = ap (λ (l : List ℕ). length l) kept.bytes_are ∙ omega (arith, length-append (concat kept.blocks) kept.part, length-concat kept.blocks, kept.sealed_is)
 
-  -- what stands behind the waiting blocks
+  -- what stands after the waiting blocks
   pub kept_part : drop sealed bytes ≡ kept.part
   kept_part = ap (λ (l : List ℕ). drop sealed l) kept.bytes_are
       ∙ drop_at (concat kept.blocks) kept.part sealed (length-concat kept.blocks ∙ sym kept.sealed_is)
@@ -64,7 +64,7 @@ module _ (q : Queued) (bytes : List ℕ) (sealed memory starts_memory : ℕ) (ke
   kept_front = ap (λ (l : List ℕ). take sealed l) kept.bytes_are
       ∙ take_at (concat kept.blocks) kept.part sealed (length-concat kept.blocks ∙ sym kept.sealed_is)
 
-  -- while no more blocks wait than there are write buffers, a largest block and a gate have room behind them
+  -- while no more blocks wait than there are write buffers, a largest block and a gate have room after them
   pub room_left : length q.waiting ≤ q.buffers → sealed + 512 * q.shape.block_sectors + 1 ≤ memory
   room_left few =
       let x = 512 * q.shape.block_sectors in

@@ -32,7 +32,7 @@ pub record IsAmong (lsn : ℕ) (records : List LogEntry) : Type 0 where
   pub lsn_is : entry.lsn ≡ lsn
   pub found : data_at lsn records ≡ Some entry.bytes
 
--- The data that are found by an LSN are those of a record that bytes hold, from its block on, which begins so far behind an offset.
+-- The data that are found by an LSN are those of a record that bytes hold, from its block on, which begins so far after an offset.
 pub record IsFound (first : ℕ) (bytes : List ℕ) (lsn : ℕ) (records : List LogEntry) : Type 0 where
   pub entry : LogEntry
   pub data_is : data_at lsn records ≡ Some entry.bytes
@@ -89,7 +89,7 @@ parts_of : (id offset lsn n : ℕ) → offset % 512 ≡ 0 → offset ≤ 512 * 1
     → (offset_of lsn ≡ offset) × (sequence_of lsn ≡ n)
 parts_of id offset lsn n whole low few is = (omega (arith, is, whole, low, few), omega (arith, is, whole, low, few))
 
--- where there is a record behind the waiting blocks, a block is open
+-- where there is a record after the waiting blocks, a block is open
 some_open : (place : Place) (opened : List LogEntry) (part : List ℕ) (before behind : List LogEntry) (entry : LogEntry) → EndsWith place opened part
     → opened ≡ before ++ entry ∷ behind → IsOpenPart place opened part
 some_open place opened part before behind entry (inl closed) is = absurd (no_split before behind entry (sym closed.1 ∙ is))

@@ -34,7 +34,7 @@ used_is place opened part here = omega (
   length-payload place.used part,
 )
 
--- the place behind a sealed block is within its container
+-- the place after a sealed block is within its container
 pub sealed_within : (shape : Shape) (place : Place) → IsWithin shape place → IsWithin shape (sealed place)
 sealed_within shape place within = record {
   container = within.container;
@@ -49,11 +49,11 @@ module _ (q : Queued) (bytes : List ℕ) (sealed_bytes memory starts_memory : �
   here : IsOpenPart q.place kept.opened kept.part
   here = open_end q.place kept.opened kept.part kept.end some
 
-  -- the open block's bytes come right behind the sealed ones
+  -- the open block's bytes come right after the sealed ones
   pub open_length : length bytes ≡ sealed_bytes + place_of q.place.used
   open_length = omega (arith, kept_length q bytes sealed_bytes memory starts_memory kept, here.length_is)
 
-  -- there is room for its whole sectors and a gate behind them
+  -- there is room for its whole sectors and a gate after them
   pub sealed_room : sealed_bytes + 512 * sectors q.place.used + 1 ≤ memory
   sealed_room = omega (
     arith,

@@ -1,4 +1,4 @@
--- A record that there is room for is put behind the open block's payload.
+-- A record that there is room for is put after the open block's payload.
 use Rattle.std.proofs.Common.{◌≡◌, inr, ⊎_elim, ℕ, ◌+◌, ◌*◌, ◌%◌, ◌≤◌, true, false, List, [], ◌∷◌, ◌++◌, length, take, drop, replicate}
 use Rattle.std.proofs.Common.{refl, sym, ◌∙◌, ap, subst, arith, append_assoc, length-append, length-drop, take-append-drop}
 use Rattle.std.proofs.lemmas.Bool.{cases_lt}
@@ -21,7 +21,7 @@ use Rattle.clfs_queue.proofs.InRow.{row_push}
 use Rattle.clfs_queue.proofs.Contents.{length-payload}
 use Rattle.clfs_queue.proofs.Keeping.{open_end, closed_end, kept_front, kept_part, kept_length, room_left}
 
--- the place behind a record that joins, or that begins a block where none is open
+-- the place after a record that joins, or that begins a block where none is open
 abbrev pub next_place : Place → ℕ → ℕ → ℕ × Place
 next_place place used n =
     (lsn_number place.container place.offset place.records, record place { used = used + size n; records = place.records + 1 })
@@ -49,7 +49,7 @@ joins_some : (shape : Shape) (place : Place) (n : ℕ) → joins shape place n �
     → (1 ≤ place.records) × (sectors (place.used + size n) ≤ shape.block_sectors)
 joins_some shape place n is = grind (arith, nat_tests)
 
--- What a record is put behind: the open block, or one that begins. It has so many used bytes and these records, stands behind the
+-- What a record is put after: the open block, or one that begins. It has so many used bytes and these records, stands after the
 -- sealed blocks, and has room for a record of n bytes.
 pub record IsTaking (q : Queued) (sealed_bytes memory n used : ℕ) (done opened : List LogEntry) (front now : List ℕ) : Type 0 where
   pub records : q.records ≡ done ++ opened
@@ -86,7 +86,7 @@ module _ (q : Queued) (bytes : List ℕ) (sealed_bytes memory starts_memory n : 
         kept.shape.some_sectors,
       )
 
-  -- what it is put behind where a block begins
+  -- what it is put after where a block begins
   taking_begun : (now : List ℕ) (used more : ℕ) → q.place.records ≡ 0 → used ≡ 16 → now ≡ bytes ++ replicate 15 0 → memory ≤ more
       → IsTaking q sealed_bytes more n used kept.done [] (concat kept.blocks) now
   taking_begun now used more none used_is is le =

@@ -14,7 +14,7 @@ pub record EndsAt (shape : Shape) (place : Place) (at : ℕ) (body : List ℕ) (
   pub within : at + 1 + length body ≤ sector_bytes * shape.container_sectors
 
 -- One block for each start that waits, from a byte of the container on up to the log's place, and the bytes of these blocks as a group:
--- all but the gate of the first, and behind the last one a closed gate, where the container has a sector there. Where nothing waits, no
+-- all but the gate of the first, and after the last one a closed gate, where the container has a sector there. Where nothing waits, no
 -- bytes.
 pub record IsGroupOf (q : Queued) (at : ℕ) (body : List ℕ) : Type 0 where
   pub blocks : List (List ℕ)

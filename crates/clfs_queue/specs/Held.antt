@@ -7,7 +7,7 @@ use Rattle.clfs_lsn.specs.declared.entry.LogEntry.{LogEntry}
 use Rattle.clfs_block.specs.Frame.{place_of, payload_of}
 use Rattle.clfs_queue.specs.Rows.{AreInRow}
 
--- The bytes begin with a block's records, of which this one is at a position, behind others and before others.
+-- The bytes begin with a block's records, of which this one is at a position, after others and before others.
 pub record IsHeld (bytes : List ℕ) (position : ℕ) (entry : LogEntry) : Type 0 where
   pub before : List LogEntry
   pub behind : List LogEntry

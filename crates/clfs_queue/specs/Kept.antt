@@ -1,4 +1,4 @@
--- What a queue keeps: one buffer, taken when it is made, with the waiting blocks one behind the other and then what there is of the open one.
+-- What a queue keeps: one buffer, taken when it is made, with the waiting blocks one after the other and then what there is of the open one.
 use Rattle.std.specs.Prelude.{◌≡◌, ◌⊎◌, ℕ, ◌+◌, ◌-◌, ◌*◌, ◌≤◌, List, [], ◌∷◌, ◌++◌, length, drop}
 use Rattle.std.specs.List.{flat_map, concat}
 use Rattle.clfs_lsn.specs.Format.{sector_bytes, block_header}
@@ -14,7 +14,7 @@ use Rattle.clfs_container.specs.OpenBlocks.{total}
 use Rattle.clfs_queue.specs.Queued.{Queued}
 use Rattle.clfs_queue.specs.Rows.{AreInRow, AreBlocks}
 
--- the bytes of an open block: its records' stand at their places, behind the room of its header, and are all that the place counts
+-- the bytes of an open block: its records' stand at their places, after the room of its header, and are all that the place counts
 pub record IsOpenPart (place : Place) (opened : List LogEntry) (part : List ℕ) : Type 0 where
   pub some : 1 ≤ place.records
   pub header : block_header ≤ place.used
@@ -23,7 +23,7 @@ pub record IsOpenPart (place : Place) (opened : List LogEntry) (part : List ℕ)
   pub count : place.records ≡ length opened
   pub row : AreInRow (lsn_number place.container place.offset 0) opened
 
--- Behind the waiting blocks stands an open one, or where none is open a closed gate.
+-- After the waiting blocks stands an open one, or where none is open a closed gate.
 abbrev pub EndsWith : Place → List LogEntry → List ℕ → Type 0
 EndsWith place opened part = (IsClosed place × (opened ≡ []) × (part ≡ 0 ∷ [])) ⊎ IsOpenPart place opened part
 
@@ -34,7 +34,7 @@ pub record IsKept (q : Queued) (bytes : List ℕ) (sealed_bytes memory starts_me
   pub some_buffers : 1 ≤ q.buffers
   pub few_buffers : q.buffers ≤ most_write_buffers
   pub place : IsWithin q.shape q.place
-  -- the largest blocks, one more than there are write buffers, have room, and a gate behind them: else an append could want memory
+  -- the largest blocks, one more than there are write buffers, have room, and a gate after them: else an append could want memory
   pub memory_is : sector_bytes * q.shape.block_sectors * (q.buffers + 1) + 1 ≤ memory
   pub starts_memory_is : q.buffers + 1 ≤ starts_memory
   -- no more blocks are there, the open one among them
@@ -47,7 +47,7 @@ pub record IsKept (q : Queued) (bytes : List ℕ) (sealed_bytes memory starts_me
   pub part : List ℕ
   pub records : q.records ≡ done ++ opened
   pub bytes_are : bytes ≡ concat blocks ++ part
-  -- the blocks lie in the container one behind the other up to the place, as they do in the bytes: else a group would be written elsewhere
+  -- the blocks lie in the container one after the other up to the place, as they do in the bytes: else a group would be written elsewhere
   pub sealed_is : sealed_bytes ≡ total blocks
   pub behind : sealed_bytes ≤ q.place.offset
   pub waiting : AreBlocks q.shape q.place.container (q.place.offset - sealed_bytes) q.waiting done blocks

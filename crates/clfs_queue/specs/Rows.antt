@@ -16,7 +16,7 @@ abbrev pub AreInRow : ℕ → List LogEntry → Type 0
 AreInRow lsn [] = Unit {0}
 AreInRow lsn (entry ∷ entries) = FitsAt lsn entry.stream entry × AreInRow (lsn + 1) entries
 
--- a block at this LSN that has these records, behind an open gate: no more than a block may have, and no more sectors than its place allows
+-- a block at this LSN that has these records, after an open gate: no more than a block may have, and no more sectors than its place allows
 pub record IsBlock (shape : Shape) (start : ℕ) (entries : List LogEntry) (block : List ℕ) : Type 0 where
   pub some : 1 ≤ length entries
   pub few : length entries ≤ most_block_records
@@ -24,7 +24,7 @@ pub record IsBlock (shape : Shape) (start : ℕ) (entries : List LogEntry) (bloc
   pub count : IsCount shape start (sectors (used_bytes (flat_map record_bytes entries)))
   pub spelled : SpellsBlock start open_gate (length entries) (flat_map record_bytes entries) block
 
--- one block for each start, one behind the other from an offset of a container on, each with its own records; in order these are all
+-- one block for each start, one after the other from an offset of a container on, each with its own records; in order these are all
 abbrev pub AreBlocks : Shape → ℕ → ℕ → List ℕ → List LogEntry → List (List ℕ) → Type 0
 AreBlocks shape id offset [] entries [] = entries ≡ []
 AreBlocks shape id offset [] entries (block ∷ blocks) = ⊥

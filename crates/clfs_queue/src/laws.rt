@@ -8,7 +8,7 @@ ghost use Rattle.clfs_lsn.specs.declared.shape.Shape.{Shape};
 ghost use Rattle.clfs_queue.specs.Queued.{turned};
 
 /// A record goes where it would have gone: sealing the block before the one that it begins changes nothing of its LSN and of the place
-/// behind it, and neither does turning to the container that it begins. There it begins a block.
+/// after it, and neither does turning to the container that it begins. There it begins a block.
 pub fn a_record_goes_where_it_went()
     ensures sealed { (shape : Shape) (place : Place) (n : ℕ) → joins shape place n ≡ false → begins_here shape place n ≡ true
         → place_after shape (sealed place) n ≡ place_after shape place n }

@@ -4,7 +4,7 @@
 pub enum Placing {
     /// It joins the open block.
     Joins,
-    /// It begins a block behind the open one, which has to be sealed first.
+    /// It begins a block after the open one, which has to be sealed first.
     BeginsBlock,
     /// It begins the next container: all is to be written first, and the log turns to that container.
     BeginsContainer,

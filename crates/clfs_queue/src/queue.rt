@@ -1,5 +1,5 @@
-// The queue: one buffer with the sealed blocks one behind the other, and behind them the open block, or where none is open a closed
-// gate. So the buffer is the group that is written next, with all its gates open and the closed one behind it: who writes it leaves the
+// The queue: one buffer with the sealed blocks one after the other, and after them the open block, or where none is open a closed
+// gate. So the buffer is the group that is written next, with all its gates open and the closed one after it: who writes it leaves the
 // first gate out, and a crash leaves the whole group or none of it. Which records the queue has is a value that clauses alone read: the
 // bytes tell it, and no code needs a list of them.
 ghost use Rattle.std.specs.Prelude.{◌≡◌, ◌+◌, ◌-◌, ◌*◌, ◌^◌, ◌<◌, ◌≤◌, ◌∷◌, [], ℕ, List, false, length, nat_le, Some, IfOk, IsSome};
@@ -31,7 +31,7 @@ pub struct Queue {
     shape: Shape,
     buffers: u32,
     place: Place,
-    // The sealed blocks, which end at the place's offset or where the open block begins; behind them that block, or a closed gate.
+    // The sealed blocks, which end at the place's offset or where the open block begins; after them that block, or a closed gate.
     buffer: Vec<u8>,
     // How many of its bytes are those of the sealed blocks.
     sealed_len: usize,
@@ -201,7 +201,7 @@ impl Queue {
     }
 
     /// The bytes of the blocks that wait, to be written as one group, and the byte of their container at which the group begins. The bytes
-    /// are all but its first one, the gate of its first block, and behind them a closed gate where the container has a sector there. Where
+    /// are all but its first one, the gate of its first block, and after them a closed gate where the container has a sector there. Where
     /// nothing waits there are none.
     pub fn group(&self) -> (u32, &[u8])
         requires { IsClosed self.now.place }
@@ -257,7 +257,7 @@ impl Queue {
     }
 }
 
-// The bytes of the largest blocks, one more than there are write buffers, and a gate behind them.
+// The bytes of the largest blocks, one more than there are write buffers, and a gate after them.
 fn room_of(shape: &Shape, write_buffers: u32) -> usize
     requires shape { IsShape shape.now }
     requires buffers { write_buffers ≤ most_write_buffers }

@@ -1,4 +1,4 @@
-// Putting a record into the open block, in place: its header, its data and the zeros behind them are each copied once, to where they are
+// Putting a record into the open block, in place: its header, its data and the zeros after them are each copied once, to where they are
 // to lie in the block's sectors.
 ghost use Rattle.std.specs.Prelude.{◌≡◌, ◌+◌, ◌-◌, ◌<◌, ◌≤◌, ◌++◌, ◌^◌, ℕ, length, take, drop, replicate, vec_capacity};
 ghost use Rattle.clfs_lsn.specs.Format.{block_header};
@@ -11,7 +11,7 @@ use clfs_block::push_payload;
 use clfs_lsn::{BLOCK_HEADER, Place, RECORD_HEADER, push_zeros, size_of_record};
 use clfs_record::{Fields, spell_header};
 
-/// Begins a block behind the bytes where none is open: makes room for its header, of which the closed gate that stands there is the first
+/// Begins a block after the bytes where none is open: makes room for its header, of which the closed gate that stands there is the first
 /// byte. Answers the used bytes of the open block's payload.
 pub(crate) fn open_block(bytes: &mut Vec<u8>, place: &Place) -> usize
     requires { place.now.records ≡ 0 → length bytes.old.items + (block_header - 1) ≤ vec_capacity bytes.old }
@@ -26,7 +26,7 @@ pub(crate) fn open_block(bytes: &mut Vec<u8>, place: &Place) -> usize
     BLOCK_HEADER as usize
 }
 
-/// Puts a record behind so many bytes of payload of the block that begins at byte `from` of the buffer.
+/// Puts a record after so many bytes of payload of the block that begins at byte `from` of the buffer.
 pub(crate) fn push_record(
     buffer: &mut Vec<u8>,
     from: usize,
@@ -51,7 +51,7 @@ pub(crate) fn push_record(
     push_filling(buffer, from, data + bytes.len(), len);
 }
 
-// Puts the zeros behind the data of a record, up to a multiple of 8 bytes.
+// Puts the zeros after the data of a record, up to a multiple of 8 bytes.
 fn push_filling(buffer: &mut Vec<u8>, from: usize, used: usize, len: u32)
     requires place { length buffer.old.items ≡ from + place_of used }
     requires room { from + place_of (used + filling len) ≤ vec_capacity buffer.old }

@@ -1,4 +1,4 @@
--- In the language of calls alone no line asks to open the log anew: after a client stands the verb of a call.
+-- In the language of calls alone no line asks to open the log again: after a client stands the verb of a call.
 use Rattle.std.proofs.Common.{◌≡◌, ℕ, List, [], ◌∷◌, length, true, refl, Some, None, Ok, Err}
 use Rattle.std.specs.Prelude.{Option, Result, IfSome}
 use Rattle.std.specs.Option.{option_map}

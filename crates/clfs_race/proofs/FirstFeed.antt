@@ -22,7 +22,7 @@ none_before bytes k first =
     All-from_get_or (λ (byte : ℕ). is_feed byte ≡ false) (take k bytes) 0
     (λ i h. ap is_feed (get_or-take k bytes i 0 (omega (arith, h, many))) ∙ not_true _ (first.before i (omega arith) (omega (arith, h, many))))
 
--- the bytes are the line, its line feed, and what stands behind it
+-- the bytes are the line, its line feed, and what stands after it
 pub split_there : (bytes : List ℕ) (k : ℕ) → NoneBefore (Passes (is_byte 10) bytes) 0 (length bytes) k → Passes (is_byte 10) bytes k
     → bytes ≡ take k bytes ++ 10 ∷ drop (length (take k bytes) + 1) bytes
 split_there bytes k first here =

@@ -37,7 +37,7 @@ goes_on P Q (Err at) f is next = tt
 abbrev AreShort : ℕ → List Word → Type 0
 AreShort n words = AllByRecursion (λ (word : Word). length word.bytes ≤ n) words
 
--- a value was read, and the words behind it are no longer than n
+-- a value was read, and the words after it are no longer than n
 record HasRead {A : Type 0} (P : A → Type 0) (n : ℕ) (read : Read A) : Type 0 where
   value : P read.value
   rest : AreShort n read.rest.words

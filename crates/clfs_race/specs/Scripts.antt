@@ -11,7 +11,7 @@ use Rattle.clfs_model.specs.Run.{Request, asks, reopens, bad_line}
 use Rattle.clfs_model.specs.Script.{calls_alone, requests_of_lines}
 use Rattle.clfs_model.specs.Text.{reply_line}
 
--- what the lines of a race ask for: no client may open the log anew
+-- what the lines of a race ask for: no client may open the log again
 abbrev pub race_requests : List (List ℕ) → List Request
 race_requests lines = requests_of_lines calls_alone lines
 

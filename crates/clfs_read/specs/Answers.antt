@@ -45,7 +45,7 @@ ended = 3
 abbrev pub unfit : ℕ
 unfit = 4
 
--- what stands behind an answer that is yes, and nothing behind one that is no
+-- what stands after an answer that is yes, and nothing after one that is no
 abbrev pub if_told : {X : Type 0} → Bool → X → Option X
 if_told true x = Some x
 if_told false x = None
@@ -77,7 +77,7 @@ fits_in block len =
     nat_le 1 block.sectors && (nat_lt block.sectors (2 ^ 16)
     && (nat_le (sector_bytes * block.sectors) len && (sectors block.used == block.sectors)))
 
--- what reading the bytes behind a block's used payload answers
+-- what reading the bytes after a block's used payload answers
 abbrev pub rest_told : Result BlockHead BlockRefusal → ℕ × ℕ
 rest_told (Ok head) = (right, 0)
 rest_told (Err (blocks.BadByte at)) = (wrong, at)

@@ -34,7 +34,7 @@ pub struct Block {
 }
 
 /// Judges the block that is to begin at an LSN in a log of this shape, at the front of bytes: its gate, its header and its sectors'
-/// addresses, in the order of the log. `clfs_record_next` judges its records, and `clfs_block_rest` what is behind them.
+/// addresses, in the order of the log. `clfs_record_next` judges its records, and `clfs_block_rest` what is after them.
 #[unsafe(no_mangle)]
 pub extern "C" fn clfs_block_check(
     measures: &Measures,
@@ -82,7 +82,7 @@ fn refuse(code: u32, at: u32, out: &mut Block) -> u32
     code
 }
 
-/// Judges what is behind the used payload of a block that `clfs_block_check` found right in these bytes: zeros. The log judges it after
+/// Judges what is after the used payload of a block that `clfs_block_check` found right in these bytes: zeros. The log judges it after
 /// the records. Numbers of a block that can't stand in the bytes are no block's.
 #[unsafe(no_mangle)]
 pub extern "C" fn clfs_block_rest(block: &Block, bytes: &[u8], bad_at: &mut u32) -> u32

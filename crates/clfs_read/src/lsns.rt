@@ -49,7 +49,7 @@ pub extern "C" fn clfs_lsn_create(parts: &Parts, number: &mut u64) -> bool
     }
 }
 
-/// Writes an LSN as text, as the log prints it, and answers the bytes of the text, at most 26. No byte 0 is put behind it. Where there
+/// Writes an LSN as text, as the log prints it, and answers the bytes of the text, at most 26. No byte 0 is put after it. Where there
 /// isn't room for all of it nothing is written.
 #[unsafe(no_mangle)]
 pub extern "C" fn clfs_lsn_text(number: u64, out: &mut [u8]) -> usize

@@ -1,4 +1,4 @@
--- The zeros behind a record's data: the high bytes of the word that ends with them.
+-- The zeros after a record's data: the high bytes of the word that ends with them.
 use Rattle.std.proofs.Common.{◌≡◌, refl, sym, ◌∙◌, ap, ℕ, zero, suc, ◌+◌, ◌-◌, ◌*◌, ◌/◌, ◌^◌, ◌<◌, ◌≤◌, true, ◌&&◌, eqb, leb, List, length, take, drop, get_or, arith}
 use Rattle.std.proofs.Common.{inl, inr, not, cond, Option, Some, None, length-drop}
 use Rattle.std.proofs.lemmas.Bool.{ne_eqb, eq-eqb, le-ltb}

@@ -59,7 +59,7 @@ eight bytes long fits =
 one : (bytes : List ℕ) (n : ℕ) → n < length bytes → drop n bytes ≡ get_or bytes n 0 ∷ drop (n + 1) bytes
 one bytes n lt = drop_more bytes n 0 lt
 
--- the bytes of a header, and those behind it
+-- the bytes of a header, and those after it
 unfoldable pub header_spelled : Header → List ℕ → List ℕ
 header_spelled h rest = little_bytes 4 h.len ++ (little_bytes 2 h.stream
     ++ (h.kind ∷ h.zero ∷ (little_bytes 8 h.previous ++ (little_bytes 8 h.undo_next ++ (little_bytes 8 h.new_base ++ rest)))))

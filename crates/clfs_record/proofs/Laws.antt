@@ -72,7 +72,7 @@ joined lsn h bytes rest e size_is kind_is zero_is is =
     ∙ sym (ap (λ (x : LogEntry). header_spelled (header_for x) (x.bytes ++ (replicate (filling (length x.bytes)) 0 ++ rest))) is)
     ∙ sym (spelled e rest)
 
--- what stands behind a header is its data, its filling and what follows
+-- what stands after a header is its data, its filling and what follows
 body_splits : (len : ℕ) (body : List ℕ) → take (filling len) (drop len body) ≡ replicate (filling len) 0
     → body ≡ take len body ++ (replicate (filling len) 0 ++ drop (filling len) (drop len body))
 body_splits len body zeros =

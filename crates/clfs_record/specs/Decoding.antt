@@ -11,7 +11,7 @@ use Rattle.clfs_record.specs.declared.refusal.HeadRefusal.TheVariants as heads
 use Rattle.clfs_record.specs.declared.refusal.RecordRefusal.{RecordRefusal}
 use Rattle.clfs_record.specs.declared.refusal.RecordRefusal.TheVariants as refusals
 
--- A refusal for a byte names the first wrong byte. Want of memory may come in place of any answer.
+-- A refusal for a byte names the first wrong byte. Out of memory may come in place of any answer.
 abbrev pub RefusesAt : {Y : Type 0} → RecordRefusal → Result Y ℕ → Type 0
 RefusesAt refusals.NoMemory read = Unit {0}
 RefusesAt (refusals.BadByte at) read = read ≡ Err at
@@ -47,7 +47,7 @@ entry_with head bytes = record {
   bytes = bytes;
 }
 
--- The bytes spell the record with this head, whose data stand behind its header, in so many bytes.
+-- The bytes spell the record with this head, whose data stand after its header, in so many bytes.
 pub record IsHeadIn (lsn streams : ℕ) (bytes : List ℕ) (head : Head) (count : ℕ) : Type 0 where
   pub entry : LogEntry
   pub is : entry ≡ entry_with head (take head.len (drop record_header bytes))

@@ -88,7 +88,7 @@ pub fn decode_head(
     // It refuses a byte exactly where `decode` does.
     ensures refused { (at : ℕ) → (result ≡ Err (BadByte at)) ↔ (record_at lsn streams bytes.now ≡ Err at) }
 
-    // What is read is the head of a record that the log can have there, whose data stand behind its header.
+    // What is read is the head of a record that the log can have there, whose data stand after its header.
     ensures found { IfOk result (λ x. IsHeadIn lsn streams bytes.now x.0 x.1) }
     ensures near { IfErr result (λ refusal. IsNear bytes.now refusal) }
 {
@@ -206,7 +206,7 @@ fn has_wrong_base(kind: u8, lsn: u64, base: u64) -> bool
     if kind == 1 { base != 0 } else { lsn < base }
 }
 
-// The first byte behind the data that isn't 0.
+// The first byte after the data that isn't 0.
 fn wrong_filling(bytes: &[u8], len: u32) -> Option<u32>
     requires whole { size len ≤ length bytes.now }
     requires length { length bytes.now < 2 ^ 32 }

@@ -63,7 +63,7 @@ fn header_of(entry: &LogEntry, len: u32) -> [u8; HEADER]
     spell_header(&fields, len)
 }
 
-/// The header of a record with these fields and so many bytes of data, wherever it lies: a record's LSN isn't spelled. Behind it come the
+/// The header of a record with these fields and so many bytes of data, wherever it lies: a record's LSN isn't spelled. After it come the
 /// data, and zeros up to the record's size.
 pub fn spell_header(fields: &Fields, len: u32) -> [u8; HEADER]
     ensures { (lsn : ℕ) (bytes : List ℕ) → length bytes ≡ len → result ≡ header_bytes (placed_record lsn fields.now bytes) }

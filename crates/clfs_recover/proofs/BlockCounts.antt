@@ -29,7 +29,7 @@ use Rattle.clfs_recover.proofs.ReadBlocks.{ReadsFit, block_read}
 abbrev begins : LogEntry → ℕ
 begins entry = cond (eqb (sequence_of entry.lsn) 0) 1 0
 
--- the records behind the first one begin none
+-- the records after the first one begin none
 none_begin : (streams start k : ℕ) (entries : List LogEntry) → start % 512 ≡ 0 → 1 ≤ k → k + length entries ≤ 512 → FitFrom (start + k) streams entries
     → blocks_begun entries ≡ 0
 none_begin streams start k [] whole some few fit = refl
@@ -50,7 +50,7 @@ one_begins streams start (entry ∷ entries) whole some few fit =
     let rest = none_begin streams start 1 entries whole (omega arith) (omega (arith, few)) fit.1 in
     sum_by-cons begins entry entries ∙ ap (λ (b : Bool). cond b 1 0 + blocks_begun entries) first ∙ omega (arith, rest)
 
--- ---- blocks one behind the other
+-- ---- blocks one after the other
 
 -- each has whole sectors
 abbrev HaveSectors : List (List ℕ) → Type 0

@@ -16,7 +16,7 @@ use Rattle.clfs_recover.specs.Gathering.{GivesFrame, GathersBlock, RefusesAs}
 use Rattle.clfs_recover.specs.declared.refusal.LoadRefusal.{LoadRefusal}
 use Rattle.clfs_recover.specs.declared.refusal.LoadRefusal.TheVariants.{NoBase, Damaged, DiskFault, NoMemory}
 
--- the zeros behind the records are no gate
+-- the zeros after the records are no gate
 pub rest_has_no_gate : (bytes : List ℕ) (head : BlockHead) → rest_at bytes head ≡ Err blocks.Closed → ⊥
 rest_has_no_gate bytes head is = by_place (payload_place (other_byte bytes head.used head.sectors)) is
   where

@@ -33,7 +33,7 @@ no_gate shape start bytes none is =
     absurd (cc (sym first ∙ is))
 
 module _ (written : AreReadAsWritten) (shape : Shape) (good : IsShape shape) where
-  -- where the walk ends behind the open blocks of a container without damage, their list ends cleanly
+  -- where the walk ends after the open blocks of a container without damage, their list ends cleanly
   clean_end : (id rest size : ℕ) (behind : List ℕ) (entries : List LogEntry) → 512 * shape.container_sectors ≡ 512 * rest + size → Ends rest behind
       → blocks_end shape id behind size ≡ Ok entries → EndsCleanly rest behind
   clean_end id rest size behind entries sum ends is = elim (cases_lt (size / 512) shape.container_sectors) [

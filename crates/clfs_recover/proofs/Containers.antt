@@ -57,7 +57,7 @@ sectors_said bytes =
     plus : (a b c : ℕ) → a + b ≡ c → a + b ≡ c
     plus a b c e = e
 
--- a block behind an open gate isn't refused for a closed one
+-- a block after an open gate isn't refused for a closed one
 past_test : (b : Bool) (at : ℕ) (r : Result BlockHead BlockRefusal) → cond b (Err (blocks.BadByte at)) r ≡ Err blocks.Closed → r ≡ Err blocks.Closed
 past_test true at r e = absurd (cc e)
 past_test false at r e = e

@@ -1,4 +1,4 @@
--- What the walk finds behind a base copy, and that every file has one list of open blocks.
+-- What the walk finds after a base copy, and that every file has one list of open blocks.
 use Rattle.std.proofs.Common.{◌≡◌, ◌≢◌, inl, inr, ⊎_elim, ℕ, zero, suc, ◌+◌, ◌-◌, ◌*◌, ◌<◌, ◌≤◌, List, [], ◌∷◌, length, get_or, take, drop, Result, Ok, Err}
 use Rattle.std.proofs.Common.{refl, sym, ◌∙◌, ap, subst, arith}
 use Rattle.std.specs.Prelude.{IfOk, IfErr}
@@ -23,7 +23,7 @@ use Rattle.clfs_recover.specs.declared.opening.Walked.{Walked}
 use Rattle.clfs_recover.specs.declared.refusal.LoadRefusal.{LoadRefusal}
 use Rattle.clfs_recover.specs.declared.refusal.LoadRefusal.TheVariants.{NoBase, Damaged, DiskFault, NoMemory}
 
--- ---- behind a base copy
+-- ---- after a base copy
 
 -- what the records of the listed containers are refused for
 pub walk_refused : (slot : ℕ) (image : BaseImage) (listed : List Container) (refusal : LoadRefusal)
@@ -106,7 +106,7 @@ no_copy files (newest.BadByte slot at) is = refused_by files (newest.BadByte slo
 no_copy files newest.DiskFault is = tt
 no_copy files newest.NoMemory is = tt
 
--- a copy, and the walk behind it
+-- a copy, and the walk after it
 pub by_copy : (has : List LogEntry → Type 0) (files : Files) (slot : ℕ) (image : BaseImage) (result : Result Walked LoadRefusal)
     → newest_of (files 0) ≡ Ok (slot, image)
     → IfOk result (λ walked. (entries : List LogEntry) × has entries × Finds files (Ok (parts_of walked entries)))

@@ -62,7 +62,7 @@ none_of_block container offset (entry ∷ entries) whole low all = elim (cases_B
 
 -- ---- sequences
 
--- behind a record the next one of its block has the LSN next to its own
+-- after a record the next one of its block has the LSN next to its own
 next_lsn : (place : Place) (entry : LogEntry) → LiesBehind place entry → frontier (behind place entry) ≡ entry.lsn + 1
 next_lsn place entry lies = elim (cases_Bool (eqb (sequence_of entry.lsn) 0)) [
   | inl first ↦ rw first (let none = eqb-true (sequence_of entry.lsn) 0 first in omega (arith, none))

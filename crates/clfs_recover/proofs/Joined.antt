@@ -1,4 +1,4 @@
--- Records of some blocks with those of others behind them.
+-- Records of some blocks with those of others after them.
 use Rattle.std.proofs.Common.{◌≡◌, List, [], ◌++◌, Result, Ok, Err, refl, sym, ap, append_assoc}
 use Rattle.clfs_lsn.specs.declared.entry.LogEntry.{LogEntry}
 use Rattle.clfs_block.specs.Records.{◌>>=◌}
@@ -7,7 +7,7 @@ use Rattle.clfs_recover.specs.declared.refusal.LoadRefusal.{LoadRefusal}
 abbrev pub Records : Type 0
 Records = Result (List LogEntry) LoadRefusal
 
--- records with others behind them, or the first refusal
+-- records with others after them, or the first refusal
 abbrev pub joined : Records → Records → Records
 joined r s = r >>= λ (entries : List LogEntry). (s >>= λ (others : List LogEntry). Ok (entries ++ others))
 

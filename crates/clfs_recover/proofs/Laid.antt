@@ -1,4 +1,4 @@
--- Files in which opening finds a log: its base copy alone, in its slot, and the blocks of each container with a closed gate behind them.
+-- Files in which opening finds a log: its base copy alone, in its slot, and the blocks of each container with a closed gate after them.
 use Rattle.std.proofs.Common.{◌≡◌, ◌≢◌, inr, ℕ, zero, suc, ◌-◌, ◌*◌, ◌<◌, ◌≤◌, Bool, true, false, cond, eqb, List, [], ◌∷◌, ◌++◌, length, get_or, take, drop}
 use Rattle.std.proofs.Common.{replicate, Result, Ok, refl, sym, ◌∙◌, ap, subst, arith, length-append}
 use Rattle.std.proofs.lemmas.List.{append-nil, length-replicate, get_or-replicate, get_or_append_left, get_or_at, get_or_past, take_at, take_all, drop_at, drop-drop, length-take-le}
@@ -21,12 +21,12 @@ use Rattle.clfs_recover.proofs.Meanings.{WholeAreOpen, stored_found}
 
 -- ---- the blocks of a container
 
--- blocks one behind the other, and what stands behind them
+-- blocks one after the other, and what stands after them
 laid : List (List ℕ) → List ℕ → List ℕ
 laid [] rest = rest
 laid (block ∷ blocks) rest = block ++ laid blocks rest
 
--- a block is one whatever stands behind it
+-- a block is one whatever stands after it
 begins_laid : (left : ℕ) (block more : List ℕ) → BeginsWith left block block
     → BeginsWith left (block ++ more) block × (block_sectors (block ++ more) ≡ block_sectors block) × (length block ≡ 512 * block_sectors block)
 begins_laid left block more first =
@@ -184,7 +184,7 @@ abbrev pub ReadsCopies : Type 0
 ReadsCopies = (image : BaseImage) (gate : ℕ) (rest : List ℕ) → IsImage image
     → image_at (gate ∷ (spelled image ++ rest)) ≡ Ok image
 
--- a copy has as many bytes as a slot has behind its gate
+-- a copy has as many bytes as a slot has after its gate
 abbrev pub FillSlots : Type 0
 FillSlots = (image : BaseImage) → IsImage image → length (spelled image) ≡ 16383
 

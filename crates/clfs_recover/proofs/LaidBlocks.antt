@@ -1,4 +1,4 @@
--- Records that were read from blocks lie in blocks one behind the other, as those of a state that files hold.
+-- Records that were read from blocks lie in blocks one after the other, as those of a state that files hold.
 use Rattle.std.proofs.Common.{◌≡◌, ◌⊎◌, inl, inr, ℕ, ◌+◌, ◌*◌, ◌/◌, ◌%◌, ◌<◌, ◌≤◌, List, [], ◌∷◌, ◌++◌, length, refl, sym, ◌∙◌, ap, subst, arith}
 use Rattle.std.specs.List.{AllByRecursion}
 use Rattle.std.proofs.lemmas.Bool.{eq-eqb, ne_eqb}
@@ -32,15 +32,15 @@ rise_higher : (low high higher : ℕ) (entries : List LogEntry) → high ≤ hig
 rise_higher low high higher [] le rise = omega (arith, le, rise)
 rise_higher low high higher (entry ∷ entries) le rise = (rise.0, rise_higher (entry.lsn + 1) high higher entries le rise.1)
 
--- and those behind rise on
+-- and those after rise on
 pub rise_both : (low mid next high : ℕ) (front rest : List LogEntry) → RiseWithin low mid front → mid ≤ next → RiseWithin next high rest
     → RiseWithin low high (front ++ rest)
 rise_both low mid next high [] rest rise le more = rise_lower low next high rest (omega (arith, rise, le)) more
 rise_both low mid next high (entry ∷ entries) rest rise le more = (rise.0, rise_both (entry.lsn + 1) mid next high entries rest rise.1 le more)
 
--- ---- records that lie behind a place
+-- ---- records that lie after a place
 
--- The next block begins at this byte of this container: right behind the last one, or at the first byte of a further container.
+-- The next block begins at this byte of this container: right after the last one, or at the first byte of a further container.
 abbrev pub BeginsAt : Place → ℕ → ℕ → Type 0
 BeginsAt place id offset = ((place.container ≡ id) × (offset ≡ 512 * block_end place)) ⊎ ((place.container < id) × (offset ≡ 0))
 
@@ -48,7 +48,7 @@ BeginsAt place id offset = ((place.container ≡ id) × (offset ≡ 512 * block_
 abbrev pub FitTheirs : ℕ → List LogEntry → Type 0
 FitTheirs streams = AllByRecursion (λ (entry : LogEntry). FitsAt entry.lsn streams entry)
 
--- Records lie in blocks behind a place, their LSNs rising from one on, and the next block begins at this byte of this container.
+-- Records lie in blocks after a place, their LSNs rising from one on, and the next block begins at this byte of this container.
 pub record AreLaid (shape : Shape) (streams : ℕ) (place : Place) (low id end : ℕ) (entries : List LogEntry) : Type 0 where
   pub laid : LieInBlocks shape place entries
   pub next : BeginsAt (behind_all place entries) id end
@@ -57,7 +57,7 @@ pub record AreLaid (shape : Shape) (streams : ℕ) (place : Place) (low id end :
   pub whole : end % 512 ≡ 0
   pub within : end ≤ 512 * shape.container_sectors
 
--- the place behind the records of two lists
+-- the place after the records of two lists
 pub behind_both : (place : Place) (front rest : List LogEntry) → behind_all place (front ++ rest) ≡ behind_all (behind_all place front) rest
 behind_both place [] rest = refl
 behind_both place (entry ∷ entries) rest = behind_both (behind place entry) entries rest
@@ -71,7 +71,7 @@ pub fit_both : (streams : ℕ) (front rest : List LogEntry) → FitTheirs stream
 fit_both streams [] rest fit more = more
 fit_both streams (entry ∷ entries) rest fit more = (fit.0, fit_both streams entries rest fit.1 more)
 
--- what lies behind what lies behind a place
+-- what lies after what lies after a place
 pub laid_on : (shape : Shape) (streams : ℕ) (place : Place) (low id mid next further end : ℕ) (front rest : List LogEntry)
     → AreLaid shape streams place low id mid front → lsn_number id mid 0 ≤ next → AreLaid shape streams (behind_all place front) next further end rest
     → AreLaid shape streams place low further end (front ++ rest)
@@ -105,7 +105,7 @@ module _ (shape : Shape) (streams id sector all : ℕ) (some_id : 1 ≤ id) (lar
   abbrev start : ℕ
   start = lsn_number id (512 * sector) 0
 
-  -- the records behind so many of a block
+  -- the records after so many of a block
   record AreJoined (used records : ℕ) (entries : List LogEntry) : Type 0 where
     laid : LieInBlocks shape (in_block id sector used records) entries
     last : behind_all (in_block id sector used records) entries ≡ in_block id sector all (records + length entries)
@@ -148,7 +148,7 @@ module _ (shape : Shape) (streams id sector all : ℕ) (some_id : 1 ≤ id) (lar
         fit = (subst (λ (l : ℕ). FitsAt l streams entry) (sym at) fits.0, rest.fit);
       }
 
-  -- the first record of a block begins it, behind a place
+  -- the first record of a block begins it, after a place
   module _ (place : Place) (low : 512 * sector ≤ 8388608) (begins : BeginsAt place id (512 * sector)) where
     begun_behind : (entry : LogEntry) → entry.lsn ≡ start → behind place entry ≡ in_block id sector (16 + size (length entry.bytes)) 1
     begun_behind entry at =
@@ -193,7 +193,7 @@ module _ (shape : Shape) (streams id sector all : ℕ) (some_id : 1 ≤ id) (lar
           within = omega (arith, left);
         }
 
--- the records of a block that begins at an offset of its container, behind a place
+-- the records of a block that begins at an offset of its container, after a place
 pub block_laid : (shape : Shape) (streams id offset : ℕ) (place : Place) (entries : List LogEntry) (block : List ℕ) → IsShape shape → 1 ≤ id
     → offset % 512 ≡ 0 → offset ≤ 512 * shape.container_sectors → BeginsAt place id offset → HasRead shape streams (lsn_number id offset 0) entries block
     → AreLaid shape streams place (lsn_number id offset 0) id (offset + 512 * block_sectors block) entries

@@ -1,4 +1,4 @@
--- The records that the walk meets in containers lie in blocks one behind the other.
+-- The records that the walk meets in containers lie in blocks one after the other.
 use Rattle.std.proofs.Common.{◌≡◌, inl, inr, ℕ, ◌+◌, ◌-◌, ◌*◌, ◌/◌, ◌%◌, ◌<◌, ◌≤◌, Bool, true, false, cond, leb, List, [], ◌∷◌, ◌++◌, length, take, drop, Result, Ok, Err}
 use Rattle.std.proofs.Common.{refl, sym, ◌∙◌, ap, subst, arith, append_assoc}
 use Rattle.std.proofs.lemmas.List.{append-nil, length-take-le, get_or-take}
@@ -23,7 +23,7 @@ use Rattle.clfs_recover.proofs.Listing.{end_behind, ends_on}
 use Rattle.clfs_recover.proofs.ReadBlocks.{ReadsFit, block_read}
 use Rattle.clfs_recover.proofs.LaidBlocks.{BeginsAt, AreLaid, laid_on, block_laid}
 
--- behind the last block nothing is read
+-- after the last block nothing is read
 nothing_at : (id offset : ℕ) (r : Result BlockHead BlockRefusal) (entries : List LogEntry) → end_at id offset r ≡ Ok entries → entries ≡ []
 nothing_at id offset (Ok head) entries is = one_value (read []) entries [] is refl
 nothing_at id offset (Err blocks.Closed) entries is = one_value (read []) entries [] is refl
@@ -100,7 +100,7 @@ module _ (written : AreReadAsWritten) (reads : ReadsFit) (shape : Shape) (good :
       (blocks_laid id 0 shape.container_sectors rest container.bytes (drop (total container.blocks) container.bytes) container.blocks place entries some_id
       refl (omega arith) (inr (before, refl)) opens is)
 
-  -- a container and those behind it, whose records come behind these
+  -- a container and those after it, whose records come after these
   containers_laid : (files : Files) (low : ℕ) (numbers : List ℕ) (others : List Container) (id end : ℕ) (place : Place) (front rest : List LogEntry)
       → AreLaid shape streams place low id end front → AreListed shape.container_sectors files numbers others
       → listed_records shape streams (id + 1) others ≡ Ok rest

@@ -26,7 +26,7 @@ pub ends_on : (container : Container) (others : List Container) → last_end (co
 ends_on container [] = refl
 ends_on container (other ∷ others) = refl
 
--- ---- records of containers, and those of more containers behind them
+-- ---- records of containers, and those of more containers after them
 
 module _ (shape : Shape) (streams : ℕ) where
   containers_append : (id : ℕ) (some more : List (List (List ℕ)))
@@ -137,7 +137,7 @@ refused_otherwise refusal shape id streams others bytes same p q refuses =
     (subst (λ (n : ℕ). (blocks : List (List ℕ)) → AreOpen shape.container_sectors bytes blocks
     → RefusesAs refusal (container_records shape n id (record { bytes = bytes; blocks = blocks }))) p refuses)
 
--- a refusal stands, whatever comes behind it, and behind records that were taken in
+-- a refusal stands, whatever comes after it, and after records that were taken in
 refused_first : (refusal : LoadRefusal) (r s : Records) → RefusesAs refusal r → RefusesAs refusal (joined r s)
 refused_first NoBase r s refuses = refuses
 refused_first (Damaged container offset at) r s refuses = ap (λ (read : Records). joined read s) refuses
@@ -151,7 +151,7 @@ refused_behind DiskFault own r s is refuses = tt
 refused_behind NoMemory own r s is refuses = tt
 
 module _ (one : OneList) (open_too : WholeAreOpen) (shape : Shape) (streams : ℕ) (files : Files) (refusal : LoadRefusal) where
-  -- Behind containers that were taken in, what the next is refused for, all are.
+  -- After containers that were taken in, what the next is refused for, all are.
   pub listed_refused : (numbers : List ℕ) (i first : ℕ) (some : List (List (List ℕ))) (entries : List LogEntry) (listed : List Container)
       → HaveBlocks shape.container_sectors files (take i numbers) some → stored_records shape streams first some ≡ Ok entries → i < length numbers
       → AreListed shape.container_sectors files numbers listed

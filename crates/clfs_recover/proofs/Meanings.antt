@@ -187,7 +187,7 @@ module _ (slot : ℕ) (image : BaseImage) (stored : List (List (List ℕ))) wher
   abbrev all : Records
   all = stored_records (shape_of image) (length image.streams) image.first stored
 
-  -- the walk over these blocks, whatever stands behind them
+  -- the walk over these blocks, whatever stands after them
   module _ (open_too : WholeAreOpen) (files : Files) (have : HaveBlocks image.container_sectors files image.files stored) where
     here : IsStored (shape_of image) (length image.streams) files image.files stored
     here = is_stored (shape_of image) (length image.streams) open_too files image.files stored have

@@ -1,4 +1,4 @@
--- A log that was walked behind a base copy, whatever the disk told, and that it is the one that opening finds where the disk tells.
+-- A log that was walked after a base copy, whatever the disk told, and that it is the one that opening finds where the disk tells.
 use Rattle.std.proofs.Common.{◌≡◌, ℕ, ◌+◌, ◌-◌, ◌≤◌, List, [], length, Some, None, Result, Ok, Err, refl, sym, ◌∙◌, ap, subst}
 use Rattle.std.specs.Prelude.{IfOk}
 use Rattle.clfs_lsn.specs.Place.{frontier}
@@ -73,7 +73,7 @@ module _ (has : List LogEntry → Type 0) (told : Type 0) (files : Files) (slot 
         stand = taken.stand;
       }
 
--- What was walked behind the newest base copy of a disk was opened from it.
+-- What was walked after the newest base copy of a disk was opened from it.
 pub walked_is_opened : WholeAreOpen → (has : List LogEntry → Type 0) (disk : DiskState) (told : Type 0) (files : Files) (slot : ℕ) (image : BaseImage)
     (result : Result Walked LoadRefusal) → (TellsContents disk → told) → Unchanged disk.files files
     → (TellsContents disk → newest_of (disk.files 0) ≡ Ok (slot, image)) → IfOk result (IsWalkedLog has told files slot image)

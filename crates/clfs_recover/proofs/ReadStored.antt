@@ -30,7 +30,7 @@ total-append (block ∷ others) more = let rest = total-append others more in om
 
 -- ---- blocks
 
--- blocks one behind the other, and those behind them, have their records
+-- blocks one after the other, and those after them, have their records
 pub records_both : (shape : Shape) (streams id offset : ℕ) (groups : List (List LogEntry)) (front : List (List ℕ)) (others : List (List LogEntry))
     (more : List (List ℕ)) → HaveRecords shape streams id offset groups front → HaveRecords shape streams id (offset + total front) others more
     → HaveRecords shape streams id offset (groups ++ others) (front ++ more)
@@ -60,7 +60,7 @@ written_read written reads sized shape streams id good few_streams small offset 
     λ i. told_as (damage_at id offset) (one i) >>= λ (es : List LogEntry). (rest i >>= λ (others : List LogEntry). Ok (es ++ others))
 
 module _ (shape : Shape) (streams : ℕ) where
-  -- what is read of blocks, and of those behind them
+  -- what is read of blocks, and of those after them
   pub read_behind : (id offset : ℕ) (front more : List (List ℕ)) (entries others : List LogEntry) → stored_in shape streams id offset front ≡ Ok entries
       → stored_in shape streams id (offset + total front) more ≡ Ok others → stored_in shape streams id offset (front ++ more) ≡ Ok (entries ++ others)
   read_behind id offset [] more entries others is behind =
@@ -82,7 +82,7 @@ module _ (shape : Shape) (streams : ℕ) where
 
   -- ---- containers
 
-  -- what is read of containers, and of those behind them
+  -- what is read of containers, and of those after them
   pub containers_both : (id : ℕ) (front more : List (List (List ℕ))) (entries others : List LogEntry) → stored_records shape streams id front ≡ Ok entries
       → stored_records shape streams (id + length front) more ≡ Ok others → stored_records shape streams id (front ++ more) ≡ Ok (entries ++ others)
   containers_both id [] more entries others is behind =
@@ -134,7 +134,7 @@ module _ (shape : Shape) (streams : ℕ) where
             ∙ one_value (read (first.first ++ next.first)) (first.first ++ next.first) all refl next.then;
       }
 
-  -- more blocks behind those of the last container
+  -- more blocks after those of the last container
   pub read_in_last : (id : ℕ) (front : List (List (List ℕ))) (here more : List (List ℕ)) (entries others : List LogEntry)
       → stored_records shape streams id (front ++ here ∷ []) ≡ Ok entries
       → stored_in shape streams (id + length front) (total here) more ≡ Ok others

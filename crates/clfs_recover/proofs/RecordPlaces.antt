@@ -83,7 +83,7 @@ module _ (shape : Shape) (streams : ℕ) where
           };
         }
 
-    -- of blocks one behind the other
+    -- of blocks one after the other
     in_blocks : (id offset left rest : ℕ) (bytes : List ℕ) (here : List (List ℕ)) (entries : List LogEntry) → offset % 512 ≡ 0
         → offset + 512 * left < 2 ^ 32 → Opens left (drop offset bytes) here rest → stored_in shape streams id offset here ≡ Ok entries
         → All (LiesIn id bytes) entries

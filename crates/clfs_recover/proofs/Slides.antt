@@ -1,4 +1,4 @@
--- A piece that slides on shows its file still: what it keeps is the front of what is there, and what is read goes on behind it.
+-- A piece that slides on shows its file still: what it keeps is the front of what is there, and what is read goes on after it.
 use Rattle.std.specs.Prelude.{nat_le, if◌then◌else◌}
 use Rattle.std.proofs.Common.{◌≡◌, inl, inr, ⊎_elim, ℕ, true, false, zero, suc, ◌+◌, ◌-◌, ◌<◌, ◌≤◌, List, [], ◌∷◌, ◌++◌, length, take, drop, refl, sym, ◌∙◌, ap, subst, arith, length-drop}
 use Rattle.std.proofs.lemmas.List.{drop-drop, drop-take, drop_all, take_at, take-take, take-append-le, length-take, length-append}
@@ -19,7 +19,7 @@ take_none : (n : ℕ) → take {A = ℕ} n [] ≡ []
 take_none zero = refl
 take_none (suc n) = refl
 
--- the first ones, and those behind them
+-- the first ones, and those after them
 take_on : (k c : ℕ) (l : List ℕ) → take k l ++ take c (drop k l) ≡ take (k + c) l
 take_on zero c l = let e : c ≡ 0 + c = omega arith in ap (λ (n : ℕ). take n l) e
 take_on (suc k) c [] = take_none c ∙ sym (take_none (suc k + c))
@@ -61,7 +61,7 @@ module _ (file kept out post : List ℕ) (at next k count room : ℕ) where
       counted : length on ≡ k + count
       counted = omega (arith, ap length there ∙ length-take (k + count) (drop at file), length-drop at file, found, place, in_file)
 
-  -- so it is with bytes behind it that are cut off
+  -- so it is with bytes after it that are cut off
   pub slid_within : (from : ℕ) (rest : List ℕ) → from ≡ at → length kept ≡ k → k ≤ room → length out ≡ room - k → next ≡ at + k → kept ≡ take k (drop at file)
       → count ≡ found_count file next (room - k) → take count out ≡ take count (drop next file)
       → Shows file (record { from = from; bytes = take (k + count) (take room ((kept ++ (out ++ post)) ++ rest)); room = room })

@@ -39,7 +39,7 @@ rise_in_row streams lsn high (entry ∷ entries) fits le =
     }
 
 module _ (written : AreReadAsWritten) (reads : ReadsFit) (shape : Shape) (good : IsShape shape) (streams : ℕ) where
-  -- of blocks one behind the other
+  -- of blocks one after the other
   blocks_rise : (id offset : ℕ) (here : List (List ℕ)) (entries : List LogEntry) → stored_in shape streams id offset here ≡ Ok entries
       → Rise streams (lsn_number id offset 0) (lsn_number id (offset + total here) 0) entries
   blocks_rise id offset [] entries is =
@@ -61,7 +61,7 @@ module _ (written : AreReadAsWritten) (reads : ReadsFit) (shape : Shape) (good :
       (rise_on streams (lsn_number id offset 0) (lsn_number id (offset + length block) 0) (lsn_number id (offset + length block) 0)
       (lsn_number id (offset + length block + total here) 0) first.first next.first one (omega arith) rest))
 
-  -- of containers: up to the one behind the last
+  -- of containers: up to the one after the last
   pub containers_rise : (id : ℕ) (containers : List (List (List ℕ))) (entries : List LogEntry)
       → AllByRecursion (λ (here : List (List ℕ)). total here ≤ 512 * shape.container_sectors) containers
       → stored_records shape streams id containers ≡ Ok entries → Rise streams (lsn_number id 0 0) (lsn_number (id + length containers) 0 0) entries

@@ -1,4 +1,4 @@
--- Blocks that the walk has taken in, one behind the other, whatever the disk told.
+-- Blocks that the walk has taken in, one after the other, whatever the disk told.
 use Rattle.std.proofs.Common.{◌≡◌, inl, inr, ⊎_elim, ℕ, ◌+◌, ◌-◌, ◌*◌, ◌/◌, ◌%◌, ◌<◌, ◌≤◌, cond, List, [], ◌∷◌, ◌++◌, length, take, drop}
 use Rattle.std.proofs.Common.{Some, None, Result, Ok, Err, refl, sym, ◌∙◌, ap, subst, arith, append_assoc}
 use Rattle.std.proofs.lemmas.List.{append-nil, length-take-le, take-take, get_or-take, get_or_past, drop-drop}
@@ -36,7 +36,7 @@ damage container offset at = Err (Damaged container offset at)
 abbrev refused : BlockRefusal → Result BlockHead BlockRefusal
 refused refusal = Err refusal
 
--- ---- records of blocks, and those of more blocks behind them
+-- ---- records of blocks, and those of more blocks after them
 
 module _ (shape : Shape) (streams : ℕ) where
   stored_append : (id offset : ℕ) (some more : List (List ℕ))
@@ -52,7 +52,7 @@ module _ (shape : Shape) (streams : ℕ) where
       ∙ joined_assoc own (stored_in shape streams id (offset + length block) others) (stored_in shape streams id (offset + length block + total others) more)
       ∙ ap (λ (n : ℕ). joined (joined own (stored_in shape streams id (offset + length block) others)) (stored_in shape streams id n more)) e
 
-  -- what the walk gives of some blocks and of those behind them
+  -- what the walk gives of some blocks and of those after them
   walked_append : (id : ℕ) (past : List ℕ) (offset : ℕ) (some more : List (List ℕ))
       → blocks_records shape streams id past offset (some ++ more)
       ≡ joined (stored_in shape streams id offset some) (blocks_records shape streams id past (offset + total some) more)
@@ -96,7 +96,7 @@ opens_more left bytes (own ∷ others) block rest opens first =
           (opens_more (left - block_sectors bytes) (drop n bytes) others block rest opens.1 (subst (λ (l : List ℕ). BeginsWith rest l block) (sym place) first)),
     )
 
--- All open blocks are those that were met, and more behind them.
+-- All open blocks are those that were met, and more after them.
 record GoOn (left : ℕ) (bytes : List ℕ) (some all : List (List ℕ)) (here rest : ℕ) : Type 0 where
   more : List (List ℕ)
   is : all ≡ some ++ more
@@ -136,7 +136,7 @@ lie_more left (own ∷ others) block lie bytes first =
 -- ---- the walk through a container
 
 module _ (shape : Shape) (streams id : ℕ) (told : Type 0) (bytes : List ℕ) where
-  -- The walk stands behind these blocks, whose records were taken in.
+  -- The walk stands after these blocks, whose records were taken in.
   pub record IsBehind (has : List LogEntry → Type 0) (rows : List Row) (bases : List ℕ) (before : List LogEntry) (offset : ℕ) : Type 0 where
     pub blocks : List (List ℕ)
     pub entries : List LogEntry
@@ -146,7 +146,7 @@ module _ (shape : Shape) (streams id : ℕ) (told : Type 0) (bytes : List ℕ) w
     pub opens : told → Opens shape.container_sectors bytes blocks (shape.container_sectors - offset / 512)
     pub taken : HasTaken has rows bases (before ++ entries)
 
-  -- it begins behind none
+  -- it begins after none
   pub starts : (has : List LogEntry → Type 0) (rows : List Row) (bases : List ℕ) (before : List LogEntry) → HasTaken has rows bases before
       → IsBehind has rows bases before 0
   starts has rows bases before taken = record {

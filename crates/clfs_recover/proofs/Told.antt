@@ -62,7 +62,7 @@ fault_told = record {
 pub reason_told : (reason : NewestRefusal) → IsReadCopy (Err reason) → TellsOpening (without_copy reason)
 reason_told reason copy = record { newest = Err reason; copy = copy; told = refl }
 
--- what is told behind a base copy is told by it
+-- what is told after a base copy is told by it
 pub behind_told : (slot : ℕ) (image : BaseImage) (refusal : LoadRefusal) → IsReadCopy (Ok (slot, image)) → TellsBehind slot image refusal
     → TellsOpening refusal
 behind_told slot image refusal copy told = record { newest = Ok (slot, image); copy = copy; told = told }

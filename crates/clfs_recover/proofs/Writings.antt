@@ -27,7 +27,7 @@ abbrev ended : Bool → Result (List LogEntry) ℕ
 ended b = cond b (Ok []) (Err 8)
 
 module _ (reads : ReadsRecords) (sized : HaveSizes) (streams : ℕ) (few_streams : streams < 2 ^ 16) (payload : List ℕ) where
-  -- records one behind the other, from a byte of a payload on
+  -- records one after the other, from a byte of a payload on
   pub written_records : (entries : List LogEntry) (lsn p : ℕ) → drop p payload ≡ flat_map record_bytes entries → p ≤ length payload
       → FitFrom lsn streams entries → lsn + length entries < 2 ^ 64 → records_from streams payload (length entries) lsn p ≡ Ok entries
   written_records [] lsn p is le fit small =

@@ -32,7 +32,7 @@ without_copy (newest.BadByte slot at) = Damaged 0 (slot_offset slot) at
 without_copy newest.DiskFault = DiskFault
 without_copy newest.NoMemory = NoMemory
 
--- what opening finds behind this newest base copy
+-- what opening finds after this newest base copy
 abbrev pub FindsBehind : Files → Result Parts LoadRefusal → Result (ℕ × BaseImage) NewestRefusal → Type 0
 FindsBehind files found (Err refusal) = found ≡ Err (without_copy refusal)
 FindsBehind files found (Ok (slot, image)) =

@@ -22,14 +22,14 @@ pub record HasTaken (has : List LogEntry → Type 0) (rows : List Row) (bases : 
   pub records : has entries
   pub moved : bases ≡ bases_with rows entries
 
--- A refusal is the one that reading tells. What is behind a base copy is never refused for want of one. A fault of the disk, or want of memory, may come in place of any answer.
+-- A refusal is the one that reading tells. What is after a base copy is never refused for want of one. A fault of the disk, or out of memory, may come in place of any answer.
 abbrev pub RefusesAs : {A : Type 0} → LoadRefusal → Result A LoadRefusal → Type 0
 RefusesAs NoBase read = ⊥
 RefusesAs (Damaged container offset at) read = read ≡ Err (Damaged container offset at)
 RefusesAs DiskFault read = Unit {0}
 RefusesAs NoMemory read = Unit {0}
 
--- A part of the walk takes in the records that reading gives, behind those of before, or refuses as reading does.
+-- A part of the walk takes in the records that reading gives, after those of before, or refuses as reading does.
 abbrev pub Gathers : {T : Type 0} → (List LogEntry → Type 0) → List Row → List ℕ → List LogEntry → Result T LoadRefusal
     → Result (List LogEntry) LoadRefusal → Type 0
 Gathers has rows bases before (Ok value) read = (entries : List LogEntry) × (read ≡ Ok entries) × HasTaken has rows bases (before ++ entries)

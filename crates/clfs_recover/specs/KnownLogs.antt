@@ -11,7 +11,7 @@ use Rattle.clfs_recover.specs.Files.{Finds}
 use Rattle.clfs_recover.specs.Stored.{stored_records, stored_place, stored_parts}
 use Rattle.clfs_recover.specs.declared.parts.Parts.{Parts}
 
--- Blocks that lie one behind the other in so many sectors: each is bytes, begins with an open gate, and has just the sectors that it says.
+-- Blocks that lie one after the other in so many sectors: each is bytes, begins with an open gate, and has just the sectors that it says.
 abbrev pub LieIn : ℕ → List (List ℕ) → Type 0
 LieIn left [] = Unit {0}
 LieIn left (block ∷ blocks) = AreBytes block × BeginsWith left block block × LieIn (left - block_sectors block) blocks

@@ -42,7 +42,7 @@ pub record FitsUpTo (image : BaseImage) (lsn : ℕ) : Type 0 where
   pub rows : (i : ℕ) → i < length image.streams → (row_in image.streams i).base ≤ lsn
   pub tail : image.archiving ≡ true → (image.tail ≤ lsn) × (image.first ≤ container_of image.tail)
 
--- Blocks one behind the other, from an offset of their container on, have these groups of records, one each.
+-- Blocks one after the other, from an offset of their container on, have these groups of records, one each.
 abbrev pub HaveRecords : Shape → ℕ → ℕ → ℕ → List (List LogEntry) → List (List ℕ) → Type 0
 HaveRecords shape streams id offset [] [] = Unit {0}
 HaveRecords shape streams id offset [] (block ∷ blocks) = ⊥
@@ -54,7 +54,7 @@ HaveRecords shape streams id offset (entries ∷ groups) (block ∷ blocks) =
 abbrev pub file_at_end : BaseImage → ℕ
 file_at_end image = slice_index image.files (length image.files - 1)
 
--- Files have the blocks of before, and more behind those of the last listed container.
+-- Files have the blocks of before, and more after those of the last listed container.
 pub record HaveMore (image : BaseImage) (more : List (List ℕ)) (old new : ℕ → List (List ℕ)) : Type 0 where
   pub last : new (file_at_end image) ≡ old (file_at_end image) ++ more
   pub others : (file : ℕ) → file ≢ file_at_end image → new file ≡ old file
@@ -65,7 +65,7 @@ pub record HaveEmpty (image : BaseImage) (file : ℕ) (old new : ℕ → List (L
   pub empty : new file ≡ []
   pub others : (other : ℕ) → other ≢ file → new other ≡ old other
 
--- the records of groups, one behind the other
+-- the records of groups, one after the other
 abbrev pub all_records : List (List LogEntry) → List LogEntry
 all_records groups = flat_map (λ (entries : List LogEntry). entries) groups
 

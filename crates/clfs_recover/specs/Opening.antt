@@ -23,14 +23,14 @@ abbrev pub told_parts : HeadParts → Parts
 told_parts opened =
     record { slot = opened.slot; image = opened.image; entries = opened.entries.value; bases = opened.bases; place = opened.place }
 
--- A refusal is the one that opening finds in files. A fault of the disk, or want of memory, may come in place of any answer.
+-- A refusal is the one that opening finds in files. A fault of the disk, or out of memory, may come in place of any answer.
 abbrev pub IsRefused : Files → LoadRefusal → Type 0
 IsRefused files NoBase = HasNoBase files
 IsRefused files (Damaged container offset at) = IsDamaged files container offset at
 IsRefused files DiskFault = Unit {0}
 IsRefused files NoMemory = Unit {0}
 
--- The walk behind a base copy left a log whose records the gatherer has. Where the contents of the files are told, its blocks are their open ones.
+-- The walk after a base copy left a log whose records the gatherer has. Where the contents of the files are told, its blocks are their open ones.
 pub record IsWalkedLog (has : List LogEntry → Type 0) (told : Type 0) (files : Files) (slot : ℕ) (image : BaseImage) (walked : Walked) : Type 0 where
   pub entries : List LogEntry
   pub taken : has entries

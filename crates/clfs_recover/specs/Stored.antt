@@ -33,7 +33,7 @@ pub record HasLog (slot : ℕ) (image : BaseImage) (blocks : List (List (List �
   pub newest : newest_of (files 0) ≡ Ok (slot, image)
   pub containers : HaveBlocks image.container_sectors files image.files blocks
 
--- the records of blocks one behind the other, from an offset of their container on
+-- the records of blocks one after the other, from an offset of their container on
 abbrev pub stored_in : Shape → ℕ → ℕ → ℕ → List (List ℕ) → Result (List LogEntry) LoadRefusal
 stored_in shape streams id offset [] = Ok []
 stored_in shape streams id offset (block ∷ blocks) = do

@@ -40,7 +40,7 @@ pub record IsWrongCopy (slot : ℕ) (image : BaseImage) (refusal : LoadRefusal) 
   pub wrong : image_fault image (frontier place) ≡ Some at
   pub told : refusal ≡ Damaged 0 (slot_offset slot) at
 
--- Damage behind a base copy is told of a block of a container that it lists, or of the copy.
+-- Damage after a base copy is told of a block of a container that it lists, or of the copy.
 abbrev pub TellsBehind : ℕ → BaseImage → LoadRefusal → Type 0
 TellsBehind slot image refusal =
     TellsBlock (shape_of image) (length image.streams) image.first (length image.files) refusal ⊎ IsWrongCopy slot image refusal

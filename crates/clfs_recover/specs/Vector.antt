@@ -29,7 +29,7 @@ with_stream base = record small_image { streams = record { name = 97 ∷ []; bas
 abbrev pub no_blocks : List Container
 no_blocks = record { bytes = replicate 512 0; blocks = [] } ∷ []
 
--- container 1 with this block, and a closed gate behind it
+-- container 1 with this block, and a closed gate after it
 abbrev pub with_block : List ℕ → List Container
 with_block block = record { bytes = block ++ replicate 512 0; blocks = block ∷ [] } ∷ []
 

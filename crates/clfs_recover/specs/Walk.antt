@@ -35,7 +35,7 @@ damage_at container offset (blocks.BadByte at) = Damaged container offset at
 damage_at container offset blocks.Closed = Damaged container offset 0
 damage_at container offset blocks.NoMemory = NoMemory
 
--- A block that was to begin behind the open ones: a closed gate ends them, and what else is refused there is damage.
+-- A block that was to begin after the open ones: a closed gate ends them, and what else is refused there is damage.
 abbrev pub end_at : ℕ → ℕ → Result BlockHead BlockRefusal → Result (List LogEntry) LoadRefusal
 end_at container offset (Ok head) = Ok []
 end_at container offset (Err blocks.Closed) = Ok []
@@ -47,7 +47,7 @@ abbrev pub blocks_end : Shape → ℕ → List ℕ → ℕ → Result (List LogE
 blocks_end shape container behind offset =
     if nat_le shape.container_sectors (offset / sector_bytes) then Ok [] else end_at container offset (frame_at shape (lsn_number container offset 0) behind)
 
--- the records of open blocks one behind the other, from an offset of their container on, up to what stands behind them all
+-- the records of open blocks one after the other, from an offset of their container on, up to what stands after them all
 abbrev pub blocks_records : Shape → ℕ → ℕ → List ℕ → ℕ → List (List ℕ) → Result (List LogEntry) LoadRefusal
 blocks_records shape streams container behind offset [] = blocks_end shape container behind offset
 blocks_records shape streams container behind offset (block ∷ blocks) = do
@@ -77,7 +77,7 @@ last_end [] = 0
 last_end (container ∷ []) = total container.blocks
 last_end (container ∷ other ∷ containers) = last_end (other ∷ containers)
 
--- The log goes on behind the last open block of the last listed container. Nothing is open there.
+-- The log goes on after the last open block of the last listed container. Nothing is open there.
 abbrev pub place_behind : BaseImage → List Container → Place
 place_behind image listed =
     record { container = image.first + length image.files - 1; offset = last_end listed; used = 0; records = 0 }

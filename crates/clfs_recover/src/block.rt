@@ -1,4 +1,4 @@
-// One block: the checks of its frame, its records, and the zeros behind them, in this order, so that the first byte that is told is the first
+// One block: the checks of its frame, its records, and the zeros after them, in this order, so that the first byte that is told is the first
 // that is wrong. The payload stands in sectors with addresses between, so it is put together in memory that serves all blocks.
 ghost use Rattle.std.specs.Prelude.{◌≡◌, ◌^◌, ◌<◌, ℕ, List, Ok, Some, IfOk, IfSome, IsErrOf, vec_len};
 ghost use Rattle.clfs_lsn.specs.Lsn.{lsn_number};

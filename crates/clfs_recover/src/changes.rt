@@ -21,7 +21,7 @@ ghost use Rattle.clfs_recover.specs.Walk.{shape_of};
 use clfs_block::blocks_are_read_as_written;
 use clfs_record::records_are_read_as_written;
 
-/// A group of blocks that was written behind the last one: its records come behind those of before, and the log goes on behind it. Where the
+/// A group of blocks that was written after the last one: its records come after those of before, and the log goes on after it. Where the
 /// last of them is a restart area whose new base isn't below its stream's, this has moved there.
 pub fn groups_come_behind_the_last_block()
     ensures by_file { (image : BaseImage) (more : List (List ℕ)) (old : ℕ → List (List ℕ))
@@ -54,7 +54,7 @@ pub fn groups_come_behind_the_last_block()
         } }
 {}
 
-/// A further container that is listed behind the others, and has no blocks: the records are those of before, and the log goes on at its first
+/// A further container that is listed after the others, and has no blocks: the records are those of before, and the log goes on at its first
 /// byte.
 pub fn further_containers_begin_empty()
     ensures by_file { (image : BaseImage) (file : ℕ) (old : ℕ → List (List ℕ))
@@ -85,7 +85,7 @@ pub fn bases_of_rows_move()
         ≡ record (stored_state image blocks entries buffers) { streams = set_base stream base (stored_state image blocks entries buffers).streams } }
 {}
 
-/// A row that is added behind the others: the records are those of before, and the log has one stream more, with the row's base.
+/// A row that is added after the others: the records are those of before, and the log has one stream more, with the row's base.
 pub fn streams_come_last()
     ensures log { (image : BaseImage) (blocks : List (List (List ℕ))) (entries : List LogEntry) (row : Row) → row.base ≤ frontier (stored_place image blocks)
         → IsLogWith image blocks entries → IsLogWith (record image { streams = image.streams ++ row ∷ [] }) blocks entries }

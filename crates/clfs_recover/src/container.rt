@@ -1,4 +1,4 @@
-// The blocks of one container, one behind the other, from its first byte up to a closed gate or its end.
+// The blocks of one container, one after the other, from its first byte up to a closed gate or its end.
 ghost use Rattle.std.specs.Prelude.{◌≡◌, ◌*◌, ◌^◌, ◌<◌, ◌≤◌, ℕ, List, IsOk, IfOk, IfErr, OnOk, OnErr, IsErrOf, vec_len};
 ghost use Rattle.clfs_lsn.specs.Format.{sector_bytes};
 ghost use Rattle.clfs_lsn.specs.Size.{IsShape};
@@ -54,7 +54,7 @@ fn cover<D: Disk>(
     piece.slide(disk, file, at)
 }
 
-// Hands on the records of a container's open blocks, and answers the byte behind the last.
+// Hands on the records of a container's open blocks, and answers the byte after the last.
 pub(crate) fn gather_container<D: Disk, G: Gatherer>(
     alloc: Global,
     disk: &mut D,

@@ -12,7 +12,7 @@ pub trait Gatherer {
     /// It has taken in these records, in this order.
     ghost has: { Self → List LogEntry → Type 0 };
 
-    /// Takes in a record, by its head and its data. After want of memory nothing is said of what it has.
+    /// Takes in a record, by its head and its data. After out of memory nothing is said of what it has.
     fn gather(&mut self, alloc: Global, head: &Head, bytes: &[u8]) -> Result<(), AllocError>
         requires { length bytes.now ≡ head.now.len }
         ensures { OnOk result ((before : List LogEntry) → has self.old before → has self.new (before ++ entry_with head.now bytes.now ∷ [])) };

@@ -3,15 +3,15 @@
 //! Opening takes any bytes. It syncs, so that what it reads outlasts a crash; it reads the newest base copy; and it walks the blocks of the
 //! containers that this one lists, each from its first byte up to a closed gate or its end. What is found is defined over whole files, in
 //! specs/Files.antt: a state, or the first place at which a check fails, or that no slot is open. It hangs on the newest base copy and on the
-//! open blocks alone, so whoever writes blocks behind closed gates, and copies into the slot that doesn't count, changes nothing of it before
+//! open blocks alone, so whoever writes blocks after closed gates, and copies into the slot that doesn't count, changes nothing of it before
 //! a gate is opened.
 //!
 //! What is found is always a state that a log can be in, with all of it stable (`opened.rt`). For whoever writes, laws say what each step
-//! makes of the log in these terms, copies and open blocks (specs/Logs.antt, `stored.rt`, `changes.rt`): a group of blocks behind the last
+//! makes of the log in these terms, copies and open blocks (specs/Logs.antt, `stored.rt`, `changes.rt`): a group of blocks after the last
 //! one, a further container, and each change of a copy. For whoever reads, a law says that each record is read at its LSN, in the file of its
 //! container (specs/Reading.antt, `reading.rt`).
 //!
-//! There is one walk. It judges a block's frame, its records in turn, and what stands behind them, and hands each record on to a
+//! There is one walk. It judges a block's frame, its records in turn, and what stands after them, and hands each record on to a
 //! `Gatherer` by its head and where its data stand: `load` keeps records, `load_heads` their heads, which is what a log that is open keeps,
 //! and `Counts` only counts them. Each block is judged in memory before it counts, so what is opened is a log over any disk, also one that
 //! doesn't tell what its files hold (specs/KnownLogs.antt); where it tells, this log is the one that its files have.

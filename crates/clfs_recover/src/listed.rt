@@ -22,7 +22,7 @@ use clfs_lsn::{Bytes, Lsn, Shape};
 use std::alloc::Global;
 
 // Hands on the records of all listed containers, which lie in the files with these numbers and have the ids from the first one on, and
-// answers the byte behind the last block of the last.
+// answers the byte after the last block of the last.
 pub(crate) fn gather_listed<D: Disk, G: Gatherer>(
     alloc: Global,
     disk: &mut D,

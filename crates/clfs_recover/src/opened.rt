@@ -64,7 +64,7 @@ pub fn opened_copies_fit()
 
 /// The LSNs of the records that opening finds rise, below the frontier and in the listed containers. Each record fits its LSN in a log of
 /// the copy's streams: its stream is one of them, its links lie below it, and so does its new base unless that is its own LSN. They lie in
-/// blocks one behind the other up to the place; in a block their sequences are 0, 1 and so on.
+/// blocks one after the other up to the place; in a block their sequences are 0, 1 and so on.
 pub fn opened_records_lie_in_order()
     ensures rising { (files : Files) (parts : Parts) → Finds files (Ok parts)
         → IsStrictlyIncreasing (map (λ (entry : LogEntry). entry.lsn) parts.entries) }

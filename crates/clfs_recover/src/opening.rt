@@ -88,7 +88,7 @@ fn piece_bytes(shape: &Shape) -> usize
     (SECTOR * shape.container_sectors).min(PIECE) as usize
 }
 
-// The place behind the last block of the last listed container.
+// The place after the last block of the last listed container.
 fn place_behind(image: &BaseImage, end: u32) -> Place
     requires { IsImage image.now }
     ensures { result ≡ record { container = image.now.first + length image.now.files - 1; offset = end; used = 0; records = 0 } }

@@ -133,7 +133,7 @@ fn no_entries() -> Told<LinkedList<LogEntry>>
     Told::pick(&())
 }
 
-// The records with one more behind them, by its head and its data.
+// The records with one more after them, by its head and its data.
 fn with_entry(
     entries: &Told<LinkedList<LogEntry>>,
     head: &Head,

@@ -1,5 +1,5 @@
 // Reading ahead: a piece of a file is read by one call of the disk, and serves for many blocks. If it hasn't all of a block that may begin at a
-// place, it slides: the bytes that it has from there on are kept, and those behind them are read by one call. Its memory is taken once.
+// place, it slides: the bytes that it has from there on are kept, and those after them are read by one call. Its memory is taken once.
 ghost use Rattle.std.specs.Prelude.{◌≡◌, ◌+◌, ◌-◌, ◌^◌, ◌++◌, ◌≤◌, ◌<◌, nat_le, if◌then◌else◌, [], IsTrue, length, drop, IsOk, IfOk, IfSome, OnOk, OnErr};
 ghost use Rattle.clfs_disk.specs.Files.{Unchanged};
 ghost use Rattle.clfs_disk.specs.State.{TellsContents, IsSteady, Passes, Rises};
@@ -28,7 +28,7 @@ fn put_first(out: &mut [u8], bytes: &[u8])
     out[..bytes.len()].copy_from_slice(bytes);
 }
 
-// The place behind so many bytes from another one on, if a file can have it.
+// The place after so many bytes from another one on, if a file can have it.
 fn place_behind(at: u32, count: usize) -> Option<u32>
     ensures { IfSome result (λ place. place ≡ at + count) }
 {
@@ -116,7 +116,7 @@ impl Ahead {
         kept
     }
 
-    // Reads on from a place: what the piece has from there on is kept, and as much as there is room for is read behind it, by one call of the disk.
+    // Reads on from a place: what the piece has from there on is kept, and as much as there is room for is read after it, by one call of the disk.
     pub fn slide<D: Disk>(&mut self, disk: &mut D, file: u16, at: u32) -> Result<(), Failed>
         requires { file ≤ 256 }
         ensures place { OnOk result (self.new.from ≡ at) }

@@ -88,7 +88,7 @@ fn gather_record<G: Gatherer>(
     Ok(size)
 }
 
-// Hands on so many records of a block's used payload, which stand one behind the other and end where it ends.
+// Hands on so many records of a block's used payload, which stand one after the other and end where it ends.
 pub(crate) fn gather_records<G: Gatherer>(
     alloc: Global,
     payload: &[u8],

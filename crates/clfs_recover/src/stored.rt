@@ -45,8 +45,8 @@ pub fn copies_without_fault_fit()
     ensures right { (image : BaseImage) (lsn : ℕ) → FitsUpTo image lsn → image_fault image lsn ≡ None }
 {}
 
-/// What is read of blocks is what they were written with, one behind the other; what is read of more blocks, or of more containers, comes
-/// behind what was read before; and what fits a log of some streams fits one of more, and is read in it as before. The records at the front of
+/// What is read of blocks is what they were written with, one after the other; what is read of more blocks, or of more containers, comes
+/// after what was read before; and what fits a log of some streams fits one of more, and is read in it as before. The records at the front of
 /// a block's make a block too.
 pub fn blocks_are_read_in_order()
     ensures written { (shape : Shape) (streams id offset : ℕ) (groups : List (List LogEntry)) (blocks : List (List ℕ))

@@ -60,7 +60,7 @@ first_on : (heads : List Head) (last : Head) → slice_get (heads ++ last ∷ []
 first_on [] last = refl
 first_on (head ∷ heads) last = refl
 
--- behind a live head all are live
+-- after a live head all are live
 live_behind : (base place : ℕ) (head : Head) (heads : List Head) → AreRising lsn_of_head (head ∷ heads) → place < length heads → base ≤ head.lsn
     → live_or_none base (slice_get heads place) ≡ Some (get_or heads place head)
 live_behind base place head heads rising inside up =

@@ -4,7 +4,7 @@
 //! many records, so they have a row of their own: the heads of the stream's restart areas, sorted by LSN, and the stream's base. The
 //! newest live one is the last of the row, where that is live at all; the one below an LSN is found by a search by halves.
 //!
-//! As with other records, a base that moves changes a number alone, and what lies behind it goes only when the caller says below
+//! As with other records, a base that moves changes a number alone, and what lies after it goes only when the caller says below
 //! which LSN nothing is read any more, in whole pieces. No call but `reserve` takes memory.
 #![tactic(auto)]
 

@@ -59,7 +59,7 @@ impl RestartAreas {
         self.heads.reserve(1)
     }
 
-    /// The head of a new restart area, behind the others. It takes no memory.
+    /// The head of a new restart area, after the others. It takes no memory.
     pub fn push(&mut self, head: Head)
         requires kind { head.kind ≡ Restart }
         requires above { All (λ (other : Head). other.lsn < head.lsn) self.old.heads }

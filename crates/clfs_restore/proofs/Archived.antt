@@ -29,7 +29,7 @@ nothing = []
 by_count : (n m : ℕ) (l : List ℕ) → n ≡ m → drop n l ≡ drop m l
 by_count n m l e = ap (λ (i : ℕ). drop i l) e
 
--- those behind as many as there are at most
+-- those after as many as there are at most
 pub drop_few : (k : ℕ) (l : List ℕ) → drop (min (length l) k) l ≡ drop k l
 drop_few zero l = by_count (min (length l) 0) 0 l (omega arith)
 drop_few (suc k) [] = by_count (min (length nothing) (suc k)) 0 [] (omega arith)

@@ -50,7 +50,7 @@ opens left bytes (block ∷ others) rest o =
 block_len : (left : ℕ) (bytes block : List ℕ) → BeginsWith left bytes block → length block ≡ 512 * block_sectors bytes
 block_len left bytes block b = ap length b.is ∙ length-take-le (512 * block_sectors bytes) bytes b.whole
 
--- how many sectors are left behind open blocks
+-- how many sectors are left after open blocks
 sectors_left : (left : ℕ) (bytes : List ℕ) (here : List (List ℕ)) (rest : ℕ) → Opens left bytes here rest → 512 * left ≡ total here + 512 * rest
 sectors_left left bytes [] rest o = omega (arith, o)
 sectors_left left bytes (block ∷ others) rest o =

@@ -23,13 +23,13 @@ use Rattle.clfs_restore.proofs.Kept.{filled_still}
 
 -- ---- the base copy
 
--- bytes behind the gate of slot 0 leave both gates
+-- bytes after the gate of slot 0 leave both gates
 pub gates_stay : (old new : Files) → HasNoCopy old → TornIn 0 1 16383 old new → HasNoCopy new
 gates_stay old new none torn zero le = ap (λ (k : ℕ). eqb k 165) (torn.here.below 0 (omega arith)) ∙ none 0 (omega arith)
 gates_stay old new none torn (suc zero) le = ap (λ (k : ℕ). eqb k 165) (torn.here.above 16384 (omega arith)) ∙ none 1 (omega arith)
 gates_stay old new none torn (suc (suc n)) le = absurd (omega (arith, le))
 
--- behind the closed gates the copy stands whole
+-- after the closed gates the copy stands whole
 pub first_is : (image : BaseImage) (body : List ℕ) (old mid : Files) → IsImage image → body ≡ spelled image
     → HasNoCopy old → TornIn 0 1 16383 old mid → body_of (mid 0) 0 ≡ body → IsFirst 0 image mid
 first_is image body old mid fits is none torn stands = record {

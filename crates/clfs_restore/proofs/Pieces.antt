@@ -28,7 +28,7 @@ pub length-pieces : (id : ℕ) (bs : List Blocks) → length (pieces_from id bs)
 length-pieces id [] = refl
 length-pieces id (b ∷ bs) = ap suc (length-pieces (id + 1) bs)
 
--- those behind the first
+-- those after the first
 pub drop-pieces : (n id : ℕ) (bs : List Blocks) → drop n (pieces_from id bs) ≡ pieces_from (id + n) (drop n bs)
 drop-pieces zero id bs = ap (λ (k : ℕ). pieces_from k bs) (omega arith)
 drop-pieces (suc n) id [] = refl

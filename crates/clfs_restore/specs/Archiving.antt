@@ -61,7 +61,7 @@ IsOfReading (TooLong bytes) = ⊥
 IsOfReading NoMemory = Unit {0}
 
 -- Why archiving is refused: archiving is off; a file isn't read; what is read is damaged, which it never is over a disk that tells what its files hold;
--- or the archive has more bytes than it may have. For want of memory any other answer may be missing.
+-- or the archive has more bytes than it may have. Because memory ran out any other answer may be missing.
 abbrev pub IsCause : DiskState → State → ArchiveRefusal → Type 0
 IsCause disk s (Log refusals.Ephemeral) = s.archive ≡ None
 IsCause disk s (Log refusals.DiskFault) = Unit {0}
@@ -76,7 +76,7 @@ abbrev pub GivesSlot : Result ℕ ArchiveRefusal → Result ℕ NewestRefusal �
 GivesSlot (Ok slot) read = read ≡ Ok slot
 GivesSlot (Err refusal) read = (cause : NewestRefusal) × (read ≡ Err cause)
 
--- The newest base copy was read. A fault of the disk, or want of memory, may come in its place; any other refusal says that there is none.
+-- The newest base copy was read. A fault of the disk, or out of memory, may come in its place; any other refusal says that there is none.
 abbrev pub GivesCopy : Result BaseImage ArchiveRefusal → Result (ℕ × BaseImage) NewestRefusal → Type 0
 GivesCopy (Ok image) read = (slot : ℕ) × (read ≡ Ok (slot, image))
 GivesCopy (Err (Log refusals.DiskFault)) read = Unit {0}

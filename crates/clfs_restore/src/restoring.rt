@@ -128,7 +128,7 @@ fn prepare<D: Disk>(
     fill_files(alloc, disk, archives, archive, up_to)
 }
 
-// The bytes of the base copy behind its gate.
+// The bytes of the base copy after its gate.
 fn copy_bytes(alloc: Global, image: BaseImage, up_to: Lsn, end: u32) -> Result<Vec<u8>, AllocError>
     requires image { IsImage image }
     requires listed { (image.first ≤ container_of up_to) × (container_of up_to < image.first + length image.files) }
@@ -143,7 +143,7 @@ fn copy_bytes(alloc: Global, image: BaseImage, up_to: Lsn, end: u32) -> Result<V
     Ok(body)
 }
 
-// Writes the base copy behind the closed gate of slot 0, syncs it, and opens the gate.
+// Writes the base copy after the closed gate of slot 0, syncs it, and opens the gate.
 fn write_copy<D: Disk>(disk: &mut D, body: &[u8]) -> Result<(), Failed>
     requires { length body.now ≡ slot_bytes - 1 }
     ensures written { OnOk result (TellsContents (D.state disk.old) → (image : BaseImage) → IsImage image

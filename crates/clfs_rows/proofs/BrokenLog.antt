@@ -26,7 +26,7 @@ pub broken_answers_broken : (told : Bool) (s : State) (client : ℕ) (call : Cal
 unfolding Step
 broken_answers_broken told s client call happened reply t broken step = first_where_true s.broken _ _ broken step
 
--- a step that is answered with a fault is no want of memory
+-- a step that is answered with a fault is no out of memory
 of_fault : (told : Bool) (s : State) (client : ℕ) (call : Call) (t : State)
     → (IsTrue (takes_memory call) × IsOutOfMemory s (replies.Refused refusals.DiskFault) t) ⊎ Goes told s client call Fault
     (replies.Refused refusals.DiskFault) t
@@ -66,39 +66,39 @@ pub no_fault_where_refused : (told : Bool) (s : State) (client : ℕ) (call : Ca
 no_fault_where_refused told s client call first t whole refused step =
     let allowed = (fault_has_causes told s client call t whole step).0 in absurd (cc)
 
--- opening anew leaves a broken log as it is
+-- opening again leaves a broken log as it is
 pub broken_is_not_opened : (told : Bool) (s : State) (happened : Happened) (reply : Reply) (t : State) → s.broken ≡ true
     → ReopenStep told s happened reply t → (reply ≡ replies.Refused refusals.Broken) × (t ≡ s)
 unfolding ReopenStep
 broken_is_not_opened told s happened reply t broken step = first_where_true s.broken _ _ broken step
 
--- what a fault in opening anew leaves
+-- what a fault in opening again leaves
 of_opening_fault : (told : Bool) (s t : State)
     → IsOutOfMemory s (replies.Refused refusals.DiskFault) t ⊎ Reopens told s Fault (replies.Refused refusals.DiskFault) t → t ≡ with_broken s
 of_opening_fault told s t (inl (wants, same)) = absurd (cc)
 of_opening_fault told s t (inr (answered, broken)) = broken
 
--- a fault in opening anew leaves the log broken
+-- a fault in opening again leaves the log broken
 pub opening_fault_breaks : (told : Bool) (s t : State) → s.broken ≡ false → ReopenStep told s Fault (replies.Refused refusals.DiskFault) t → t
     ≡ with_broken s
 unfolding ReopenStep
 opening_fault_breaks told s t whole step = of_opening_fault told s t (second_where_false s.broken _ _ whole step)
 
--- what damage in opening anew leaves
+-- what damage in opening again leaves
 of_opening_damage : (told : Bool) (s : State) (container offset at : ℕ) (t : State)
     → IsOutOfMemory s (replies.Refused (refusals.Damaged container offset at)) t
     ⊎ Reopens told s Damage (replies.Refused (refusals.Damaged container offset at)) t → t ≡ with_broken s
 of_opening_damage told s container offset at t (inl (wants, same)) = absurd (cc)
 of_opening_damage told s container offset at t (inr (told_so, broken)) = broken
 
--- damage in opening anew leaves the log broken
+-- damage in opening again leaves the log broken
 pub opening_damage_breaks : (told : Bool) (s : State) (container offset at : ℕ) (t : State) → s.broken ≡ false
     → ReopenStep told s Damage (replies.Refused (refusals.Damaged container offset at)) t → t ≡ with_broken s
 unfolding ReopenStep
 opening_damage_breaks told s container offset at t whole step =
     of_opening_damage told s container offset at t (second_where_false s.broken _ _ whole step)
 
--- what want of memory in opening anew leaves
+-- what out of memory in opening again leaves
 of_opening_want : (told : Bool) (s : State) (happened : Happened) (t : State)
     → IsOutOfMemory s (replies.Refused refusals.NoMemory) t ⊎ Reopens told s happened (replies.Refused refusals.NoMemory) t → t ≡ s
 of_opening_want told s happened t (inl (wants, same)) = same
@@ -106,7 +106,7 @@ of_opening_want told s Fine t (inr opened) = let e = opened.flushed_part in absu
 of_opening_want told s Fault t (inr (answered, broken)) = absurd (cc)
 of_opening_want told s Damage t (inr (told_so, broken)) = absurd told_so
 
--- want of memory in opening anew changes nothing
+-- out of memory in opening again changes nothing
 pub opening_want_changes_nothing : (told : Bool) (s : State) (happened : Happened) (t : State) → s.broken ≡ false
     → ReopenStep told s happened (replies.Refused refusals.NoMemory) t → t ≡ s
 unfolding ReopenStep

@@ -1,4 +1,4 @@
--- Tests that decide whether two states are the same but for what no reply can show, and what opening anew comes to.
+-- Tests that decide whether two states are the same but for what no reply can show, and what opening again comes to.
 use Rattle.std.proofs.Common.{◌≡◌, ◌⊎◌, ℕ, Bool, true, false, ap, []}
 use Rattle.std.specs.Prelude.{MatchBool}
 use Rattle.clfs_lsn.specs.Lsn.{container_of}
@@ -86,7 +86,7 @@ pub cases_of_step : (told : Bool) (s : State) (lsn : ℕ) (t : State) → Reopen
 unfolding ReopenStep
 cases_of_step told s lsn t step = step
 
--- opening anew that is answered with an LSN, where nothing else happens
+-- opening again that is answered with an LSN, where nothing else happens
 abbrev pub reopens_up_to : (told : Bool) (s : State) (lsn : ℕ) (t : State) → Decision (ReopenStep told s Fine (replies.Flushed lsn) t)
 reopens_up_to told s lsn t = like (step_of_cases told s lsn t) (cases_of_step told s lsn t)
     (matches s.broken (no_refusal lsn s t) (either (no_want lsn s t) (is_reopened told s lsn t)))

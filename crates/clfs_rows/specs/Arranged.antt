@@ -15,7 +15,7 @@ use Rattle.clfs_rows.specs.Worked.{worked, opened_log}
 use Rattle.clfs_rows.specs.Filled.{empty_record, many_records}
 use Rattle.clfs_rows.specs.Compared.{two_containers}
 
--- Behind the records of the log of two containers a restart area is at 2:200:0, with the base that holds already, and a record in the open
+-- After the records of the log of two containers a restart area is at 2:200:0, with the base that holds already, and a record in the open
 -- block at 2:400:0. Cursors of client 1 stand at 2:0:2 and at the restart area, and client 2 has an area too.
 abbrev pub arranged_log : State
 arranged_log = state_after two_containers (script_requests

@@ -33,7 +33,7 @@ abbrev pub with_one_changed : (LogEntry → LogEntry) → ℕ → State → Stat
 with_one_changed change before s =
     record s { records = take before s.records ++ (map change (take 1 (drop before s.records)) ++ drop (before + 1) s.records) }
 
--- Opening the log anew is answered with this LSN, and leaves this state.
+-- Opening the log again is answered with this LSN, and leaves this state.
 abbrev pub OpensTo : Bool → State → ℕ → State → Type 0
 OpensTo told s lsn t = ReopenStep told s Fine (replies.Flushed lsn) t
 

@@ -38,7 +38,7 @@ state_behind s line = (fine_outcome s (line_request line)).state
 abbrev pub SurvivesLine : State → List ℕ → State → Type 0
 SurvivesLine s line x = Survives (line_request line) s x
 
--- Two blocks are flushed, of a record each, at 1:0:0 and 1:200:0. Behind them a block of two records waits, at 1:400:0 and 1:400:1.
+-- Two blocks are flushed, of a record each, at 1:0:0 and 1:200:0. After them a block of two records waits, at 1:400:0 and 1:400:1.
 abbrev pub waiting_log : State
 waiting_log = state_after opened_log (script_requests (codes "1 append 1 a0 0:0:0 0:0:0 flush\n1 append 1 a1 0:0:0 0:0:0 flush\n"
     ++ codes "1 append 1 a2 0:0:0 0:0:0\n1 append 1 a3 0:0:0 0:0:0 seal\n"))
@@ -47,12 +47,12 @@ waiting_log = state_after opened_log (script_requests (codes "1 append 1 a0 0:0:
 abbrev pub long_append : List ℕ
 long_append = append_of_zeros 960 (codes " flush")
 
--- the log behind it: the record is at 1:600:0, and flushed is 1:a00:0
+-- the log after it: the record is at 1:600:0, and flushed is 1:a00:0
 abbrev pub long_log : State
 long_log = state_behind waiting_log long_append
 
 -- A block of one sector and two of two sectors are flushed, and the next one of two sectors, at 1:a00:0, is open. One sector is left
--- behind it.
+-- after it.
 abbrev pub turning_log : State
 turning_log = state_after opened_log (script_requests (codes "1 append 1 aa 0:0:0 0:0:0 seal\n" ++ (append_of_zeros 960 (codes "\n")
     ++ (append_of_zeros 960 (codes " flush\n") ++ append_of_zeros 960 (codes "\n")))))
@@ -85,7 +85,7 @@ two_streams_log = state_after rebasing_log (script_requests (codes "1 advance 1 
 abbrev pub restart : List ℕ
 restart = codes "1 restart 1 bb 1:200:0"
 
--- the log behind it: the restart area is at 1:400:0, and flushed is 1:600:0
+-- the log after it: the restart area is at 1:400:0, and flushed is 1:600:0
 abbrev pub restarted_log : State
 restarted_log = state_behind rebasing_log restart
 
@@ -93,6 +93,6 @@ restarted_log = state_behind rebasing_log restart
 abbrev pub advance : List ℕ
 advance = codes "1 advance 1 1:200:0"
 
--- the log behind it: flushed is 1:400:0
+-- the log after it: flushed is 1:400:0
 abbrev pub advanced_log : State
 advanced_log = state_behind rebasing_log advance

@@ -44,15 +44,15 @@ second_entry = entry_of 2 1 (codes "2 open b") (replies.Stream 2)
 abbrev pub third_entry : Entry
 third_entry = entry_of 1 2 (codes "1 flush 1") (replies.Flushed (lsn_number 1 512 0))
 
--- the state behind the first of these entries
+-- the state after the first of these entries
 abbrev pub behind_first : State
 behind_first = state_behind opened_log (codes "1 append 1 aa 0:0:0 0:0:0")
 
--- behind the second
+-- after the second
 abbrev pub behind_second : State
 behind_second = state_behind behind_first (codes "2 open b")
 
--- behind the third
+-- after the third
 abbrev pub behind_third : State
 behind_third = state_behind behind_second (codes "1 flush 1")
 
@@ -72,6 +72,6 @@ want_entry = entry_of 1 1 (codes "1 append 1 aa 0:0:0 0:0:0") (replies.Refused r
 abbrev pub read_entry : LogEntry → Entry
 read_entry entry = entry_of 1 1 (codes "1 read 1 1:200:0 forward") (replies.Found 3 entry)
 
--- the state behind it
+-- the state after it
 abbrev pub behind_read : State
 behind_read = state_behind read_log (codes "1 read 1 1:200:0 forward")

@@ -1,4 +1,4 @@
--- Records that lines are answered with, and the state behind them, over disks that tell what they hold and over others.
+-- Records that lines are answered with, and the state after them, over disks that tell what they hold and over others.
 use Rattle.std.specs.Prelude.{ℕ, Bool, List, [], ◌∷◌, ◌++◌, codes}
 use Rattle.clfs_lsn.specs.Lsn.{null_lsn, lsn_number}
 use Rattle.clfs_lsn.specs.declared.entry.LogEntry.{LogEntry}
@@ -39,7 +39,7 @@ second_record = record_of (lsn_number 1 512 0) (lsn_number 1 0 0) 187
 abbrev pub third_record : LogEntry
 third_record = record_of (lsn_number 1 1024 0) null_lsn 204
 
--- a restart area with a base behind that record, which is flushed with it
+-- a restart area with a base after that record, which is flushed with it
 abbrev pub restart_log : State
 restart_log = state_behind read_log (codes "1 restart 1 dd 1:400:0")
 

@@ -56,7 +56,7 @@ pub fn containers_are_used_again()
         ∷ []) }
 {}
 
-/// A base moves to a live record of its stream, or just behind the last one; all is flushed first.
+/// A base moves to a live record of its stream, or just after the last one; all is flushed first.
 pub fn new_bases()
     ensures forward_up_to_the_last_record { IsDialogue worked (opening
         ++ codes "1 append 1 a0 0:0:0 0:0:0" ⟹ codes "1 lsn 1:0:0"

@@ -12,8 +12,8 @@ ghost use Rattle.clfs_rows.specs.Filled.{empty_record};
 ghost use Rattle.clfs_rows.specs.Worked.{opened_log, flushed_log};
 ghost use Rattle.clfs_rows.specs.Crashes.{closed_at, left_of, with_streams_of, with_base, with_other_data, state_behind, SurvivesLine, waiting_log, long_append, long_log, turning_log, turned_log, skipping_log, growing_log, growing_append, rebasing_log, two_streams_log, restart, restarted_log, advance, advanced_log};
 
-/// The log goes on where it was flushed, or at the end of one of the blocks that are flushed then, or in the container behind one. An
-/// append that flushes begins at 1:400:0, which is flushed, and leaves 1:a00:0. Another one, behind a container's end, leaves 2:400:0.
+/// The log goes on where it was flushed, or at the end of one of the blocks that are flushed then, or in the container after one. An
+/// append that flushes begins at 1:400:0, which is flushed, and leaves 1:a00:0. Another one, after a container's end, leaves 2:400:0.
 pub fn places_that_a_crash_leaves()
     ensures flushed_before { flushed waiting_log ≡ lsn_number 1 1024 0 }
     ensures flushed_behind { flushed long_log ≡ lsn_number 1 2560 0 }
@@ -63,7 +63,7 @@ pub fn records_that_a_crash_leaves()
         (record (left_of long_log 4 1 1536) { records = map with_other_data waiting_log.records }) }
 {}
 
-/// Streams, the number of containers, archiving and the policies are all those from before or all those from behind, and the latter
+/// Streams, the number of containers, archiving and the policies are all those from before or all those from after, and the latter
 /// where a record survives that wasn't there before.
 pub fn settings_that_a_crash_leaves()
     ensures without_the_new_stream { SurvivesLine flushed_log (codes "1 open b") (cut flushed_log) }
@@ -118,7 +118,7 @@ pub fn what_else_a_crash_leaves()
     ensures not_broken { ¬ SurvivesLine waiting_log long_append (with_broken (left_of long_log 5 1 2560)) }
 {}
 
-/// Where a line flushes nothing, the flushed part of the log survives and nothing else: in opening anew, in a bad line, in a line that is
+/// Where a line flushes nothing, the flushed part of the log survives and nothing else: in opening again, in a bad line, in a line that is
 /// refused, and in any line of a broken log.
 pub fn lines_that_flush_nothing()
     ensures a_flush_may_leave_more { SurvivesLine waiting_log (codes "1 flush 1") (left_of waiting_log 4 1 1536) }

@@ -56,7 +56,7 @@ pub fn what_a_broken_log_answers()
         → s.broken ≡ true → Step told s client call happened reply t → (reply ≡ replies.Refused refusals.Broken) × (t ≡ s) }
 {}
 
-/// The texts of what comes of the disk and of memory, and the lines that want of memory may refuse.
+/// The texts of what comes of the disk and of memory, and the lines that out of memory may refuse.
 pub fn texts_of_faults()
     ensures fault_of_the_disk { reply_line 1 (replies.Refused refusals.DiskFault) ≡ codes "1 refused 2 DiskFault\n" }
     ensures damage { reply_line 12 (replies.Refused (refusals.Damaged 1 512 1016)) ≡ codes "12 refused 11 Damaged 1 512 1016\n" }

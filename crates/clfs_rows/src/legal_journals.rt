@@ -19,7 +19,7 @@ pub fn journals_that_are_legal()
     ensures over_a_disk_that_does_not_tell { IsLegal false (read_entry (with_other_data second_record) ∷ []) read_log behind_read }
 {}
 
-/// A number is neither left out nor given twice, and each client has its own. Want of memory is no entry.
+/// A number is neither left out nor given twice, and each client has its own. Out of memory is no entry.
 pub fn journals_that_are_not_legal()
     ensures a_first_number_of_two { ¬ IsLegal true (record first_entry { number = 2 } ∷ []) opened_log behind_first }
     ensures a_first_number_of_none { ¬ IsLegal true (record first_entry { number = 0 } ∷ []) opened_log behind_first }

@@ -131,7 +131,7 @@ pub fn words_of_lines()
         ∷ []) }
 {}
 
-/// The options of an append come in one order, each at most once; behind `hold` all words are sizes.
+/// The options of an append come in one order, each at most once; after `hold` all words are sizes.
 pub fn options_of_appends()
     ensures all_in_order { IsDialogue worked (opening
         ++ codes "1 reserve 1 8" ⟹ codes "1 held 1"

@@ -6,7 +6,7 @@ ghost use Rattle.clfs_model.specs.Conditions.{IsClient, HasArguments};
 ghost use Rattle.clfs_rows.specs.Filled.{streams_of};
 ghost use Rattle.clfs_rows.specs.Worked.{worked, answers_to, ◌⟹◌, IsDialogue, opening, zeros, append_of_zeros};
 
-/// A name has 1 to 64 bytes, each a letter, a digit, `_`, `-` or `.`; the first wrong byte is told, or the place behind the longest
+/// A name has 1 to 64 bytes, each a letter, a digit, `_`, `-` or `.`; the first wrong byte is told, or the place after the longest
 /// name.
 pub fn names_of_streams()
     ensures bytes_of_a_name { IsDialogue worked (

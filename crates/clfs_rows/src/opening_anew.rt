@@ -1,4 +1,4 @@
-// What opening the log anew may come to, over a disk that tells what it holds and over another one.
+// What opening the log again may come to, over a disk that tells what it holds and over another one.
 ghost use Rattle.std.specs.Prelude.{◌≡◌, ℕ, [], ◌∷◌, Bool, true, false, codes};
 ghost use Rattle.clfs_lsn.specs.Lsn.{lsn_number};
 ghost use Rattle.clfs_model.specs.declared.refusal.Refusal.TheVariants as refusals;
@@ -49,7 +49,7 @@ pub fn what_another_disk_gives_back()
     ensures not_with_a_gap_between_blocks { ¬ OpensTo false unflushed_log (lsn_number 2 512 0) (without_one 3 (cut unflushed_log)) }
 {}
 
-/// A fault and damage leave the log broken. Want of memory leaves it as it was, and a log that is broken isn't opened anew.
+/// A fault and damage leave the log broken. Out of memory leaves it as it was, and a log that is broken isn't opened again.
 pub fn what_stops_opening_anew()
     ensures a_fault { ReopenStep true unflushed_log Fault (replies.Refused refusals.DiskFault) (with_broken unflushed_log) }
     ensures every_fault { (told : Bool) (s t : State) → s.broken ≡ false → ReopenStep told s Fault (replies.Refused refusals.DiskFault) t → t

@@ -114,7 +114,7 @@ pub fn records_in_a_block()
         ∷ []) }
 {}
 
-/// A block is sealed behind the record that asks for it. Sealed blocks wait until as many wait as there are write buffers; what
+/// A block is sealed after the record that asks for it. Sealed blocks wait until as many wait as there are write buffers; what
 /// is on the disk ends at the first of them.
 pub fn sealing_and_writing()
     ensures the_fourth_sealed_block_writes_all { IsDialogue worked (opening

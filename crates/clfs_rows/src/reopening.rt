@@ -1,4 +1,4 @@
-// Opening the log anew: what isn't on the disk is lost.
+// Opening the log again: what isn't on the disk is lost.
 ghost use Rattle.std.specs.Prelude.{[], ◌∷◌, ◌++◌, codes};
 ghost use Rattle.clfs_rows.specs.Worked.{worked, ◌⟹◌, IsDialogue, opening, zeros, append_of_zeros};
 

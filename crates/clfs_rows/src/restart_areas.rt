@@ -2,7 +2,7 @@
 ghost use Rattle.std.specs.Prelude.{[], ◌∷◌, ◌++◌, codes};
 ghost use Rattle.clfs_rows.specs.Worked.{worked, ◌⟹◌, IsDialogue, opening};
 
-/// The restart areas of a stream are read from the newest to older ones. They are still there after opening the log anew.
+/// The restart areas of a stream are read from the newest to older ones. They are still there after opening the log again.
 pub fn newest_first()
     ensures before_and_after_opening_anew { IsDialogue worked (opening
         ++ codes "1 readrestart 1" ⟹ codes "1 refused 20 NoRestart"

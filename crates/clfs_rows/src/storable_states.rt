@@ -23,7 +23,7 @@ pub fn bases_that_files_hold()
     ensures no_stream_below_the_new_base { ¬ IsStorable (with_base (lsn_number 2 0 0) arranged_log) }
 {}
 
-/// The blocks of each container lie one behind the other from its first byte on. Each is as long as its records make it, no longer than a
+/// The blocks of each container lie one after the other from its first byte on. Each is as long as its records make it, no longer than a
 /// block may be, and within its container.
 pub fn blocks_that_files_hold()
     ensures no_blocks { IsStorable opened_log }
@@ -40,7 +40,7 @@ pub fn blocks_that_files_hold()
     ensures no_more_records_of_a_block { ¬ IsStorable (block_of 512) }
 {}
 
-/// The log goes on behind the last record: in its block, behind it, or in a further container.
+/// The log goes on after the last record: in its block, after it, or in a further container.
 pub fn places_that_files_hold()
     ensures behind_the_last_block { IsStorable (with_place (sealed arranged_log.place) arranged_log) }
     ensures in_the_next_container { IsStorable (with_place (closed_at 3 0) arranged_log) }

@@ -11,7 +11,7 @@ ghost use Rattle.clfs_rows.specs.Crashes.{closed_at, with_base, waiting_log, lon
 ghost use Rattle.clfs_rows.specs.Compared.{two_containers, with_one_changed, with_link_to_itself};
 ghost use Rattle.clfs_rows.specs.Arranged.{arranged_log, an_area, with_areas, with_cursors, cursor_at, with_place, with_records, empty_restart, open_log, block_of};
 
-/// A log is in one behind all these lines.
+/// A log is in one after all these lines.
 pub fn states_that_a_log_can_be_in()
     ensures just_made { IsValid worked }
     ensures with_blocks_that_wait { IsValid waiting_log }

@@ -7,7 +7,7 @@ use Rattle.clfs_text.specs.Left.{Left}
 use Rattle.clfs_script.specs.declared.line.LineRefusal.{LineRefusal}
 use Rattle.clfs_script.specs.declared.line.LineRefusal.TheVariants.{NoMemory, BadLine}
 
--- sizes behind others
+-- sizes after others
 abbrev pub behind : List ℕ → Result (List ℕ) ℕ → Result (List ℕ) ℕ
 behind lengths (Ok more) = Ok (lengths ++ more)
 behind lengths (Err at) = Err at
@@ -73,14 +73,14 @@ pub size_bad : (room at : ℕ) (words : List Word) (end : ℕ) → (words ≡ []
 size_bad room at [] end some read = absurd (some refl)
 size_bad room at (w ∷ words) end some read = bad_value room at w words end (long_word w.bytes) refl read
 
--- one size more behind others
+-- one size more after others
 pub sizes_step : (whole : Result (List ℕ) ℕ) (lengths : List ℕ) (room n : ℕ) (words : List Word) (end : ℕ) (rest : Rest)
     → whole ≡ behind lengths (sizes_up_to (suc room) words) → word_at long_word words end ≡ Ok (record { value = n; rest = rest })
     → whole ≡ behind (lengths ++ n ∷ []) (sizes_up_to room rest.words)
 sizes_step whole lengths room n words end rest so_far read =
     so_far ∙ ap (behind lengths) (size_more room n words end rest read) ∙ sym (behind_more lengths n (sizes_up_to room rest.words))
 
--- a word that is no size behind sizes
+-- a word that is no size after sizes
 pub sizes_stop : (result : Result (List ℕ) LineRefusal) (read : Result ℕ LineRefusal) (e : LineRefusal) (whole : Result (List ℕ) ℕ) (lengths :
     List ℕ) (room : ℕ)
     (left after : Left) → IsErrAnd result (λ x. x ≡ e) → read ≡ Err e → whole ≡ behind lengths (sizes_up_to (suc room) (rest_of left).words)

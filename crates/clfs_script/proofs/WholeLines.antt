@@ -47,7 +47,7 @@ line_is language line left read whole is =
     (behind_both (word client_word start) (λ client. word (allowed_verb language) client.rest) (λ client verb. request_behind client verb.value verb.rest)
     ∙ ap (λ (r : Result (ℕ × Read (Option Verb)) ℕ). r >>= (λ (found : ℕ × Read (Option Verb)). request_behind found.0 found.1.value found.1.rest)) there)
 
--- there is no client, or no verb behind it
+-- there is no client, or no verb after it
 pub no_verb : (language : Language) (line : List ℕ) (left after : Left) (result : Result ScriptLine LineRefusal)
     (read : Result (ℕ × Option CodeVerb) LineRefusal) (e : LineRefusal)
     → left ≡ left_from line 0 → IsErrAnd result (λ x. x ≡ e) → read ≡ Err e → ReadsVerb language left read after
@@ -57,7 +57,7 @@ no_verb language line left after (Err NoMemory) read e whole is was reads = tt
 no_verb language line left after (Err (BadLine at)) read e whole is was reads =
     let bad = rw (was, ← is) at reads in line_is language line left (Err at) whole bad
 
--- there is a client with a verb, and what it asks for stands behind it
+-- there is a client with a verb, and what it asks for stands after it
 pub line_asked : (language : Language) (line : List ℕ) (left mid : Left) (client : ℕ) (verb : Option Verb) (result : Result ScriptLine LineRefusal)
     → left ≡ left_from line 0 → client_verb language (rest_of left) ≡ Ok (client, record { value = verb; rest = rest_of mid })
     → AnswersRequest result (request_behind client verb (rest_of mid)) → AnswersLine result (request_in language line)
@@ -67,7 +67,7 @@ line_asked language line left mid client verb (Err (BadLine at)) whole first beh
 line_asked language line left mid client verb (Ok found) whole first behind =
     line_is language line left (Ok (client, record { value = verb; rest = rest_of mid })) whole first ∙ ap request_or_bad behind
 
--- the line ends behind what it asks for
+-- the line ends after what it asks for
 line_ends : (line : ScriptLine) (result : Result ScriptLine LineRefusal) (words : List Word) → Answers result (last_of line words)
     → AnswersRequest result (last_of (request_of line) words)
 line_ends line (Err NoMemory) words last = tt
@@ -80,13 +80,13 @@ asked_last : (client : ℕ) (call : Call) (words : List Word) → asked client (
 asked_last client call [] = refl
 asked_last client call (w ∷ words) = refl
 
--- the line ends behind a call
+-- the line ends after a call
 pub call_ends : (client : ℕ) (call : Call) (result : Result ScriptLine LineRefusal) (words : List Word)
     → Answers result (last_of (record { client = client; request = Step call }) words) → AnswersRequest result (asked client (last_of call words))
 call_ends client call result words last =
     rw (asked_last client call words) (line_ends (record { client = client; request = Step call }) result words last)
 
--- the line ends behind `reopen`
+-- the line ends after `reopen`
 pub reopened : (client : ℕ) (result : Result ScriptLine LineRefusal) (words : List Word)
     → Answers result (last_of (record { client = client; request = Reopen }) words) → AnswersRequest result (last_of (run.reopens client) words)
 reopened client result words last = line_ends (record { client = client; request = Reopen }) result words last

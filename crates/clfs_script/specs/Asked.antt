@@ -21,13 +21,13 @@ use Rattle.clfs_script.specs.declared.line.LineRefusal.TheVariants.{NoMemory, Ba
 abbrev pub rest_of : Left → Rest
 rest_of left = record { words = words_from left.at left.words; end = left.end }
 
--- An answer is what the definition says, or want of memory, which is free.
+-- An answer is what the definition says, or out of memory, which is free.
 abbrev pub Answers : {A : Type 0} → Result A LineRefusal → Result A ℕ → Type 0
 Answers (Ok x) defined = defined ≡ Ok x
 Answers (Err NoMemory) defined = Unit
 Answers (Err (BadLine at)) defined = defined ≡ Err at
 
--- the same of the next word, with what is left behind it
+-- the same of the next word, with what is left after it
 abbrev pub AnswersWord : {A : Type 0} → Result A LineRefusal → Left → Result (Read A) ℕ → Type 0
 AnswersWord (Ok x) after defined = defined ≡ Ok (record { value = x; rest = rest_of after })
 AnswersWord (Err NoMemory) after defined = Unit
@@ -55,27 +55,27 @@ request_of line = requested line.client line.request
 abbrev pub asked : ℕ → Result Call ℕ → Result run.Request ℕ
 asked client defined = defined >>= (λ call. Ok (run.asks client call))
 
--- a client, the verb behind its number, and what stands behind that
+-- a client, the verb after its number, and what stands after that
 abbrev pub client_verb : Language → Rest → Result (ℕ × Read (Option script.Verb)) ℕ
 client_verb language rest = do
   client ← word client_word rest
   verb ← word (allowed_verb language) client.rest
   Ok (client.value, verb)
 
--- A client and its verb were read so. Want of memory is free.
+-- A client and its verb were read so. Out of memory is free.
 abbrev pub ReadsVerb : Language → Left → Result (ℕ × Option Verb) LineRefusal → Left → Type 0
 ReadsVerb language left (Ok found) after =
     client_verb language (rest_of left) ≡ Ok (found.0, record { value = option_map verb_of found.1; rest = rest_of after })
 ReadsVerb language left (Err NoMemory) after = Unit
 ReadsVerb language left (Err (BadLine at)) after = client_verb language (rest_of left) ≡ Err at
 
--- A client's request is what the definition says, or there was want of memory, which is free.
+-- A client's request is what the definition says, or there was out of memory, which is free.
 abbrev pub AnswersRequest : Result ScriptLine LineRefusal → Result run.Request ℕ → Type 0
 AnswersRequest (Ok line) defined = defined ≡ Ok (request_of line)
 AnswersRequest (Err NoMemory) defined = Unit
 AnswersRequest (Err (BadLine at)) defined = defined ≡ Err at
 
--- A line asks for what was read, or is bad at the place that was answered. Want of memory is free.
+-- A line asks for what was read, or is bad at the place that was answered. Out of memory is free.
 abbrev pub AnswersLine : Result ScriptLine LineRefusal → run.Request → Type 0
 AnswersLine (Ok line) request = request ≡ request_of line
 AnswersLine (Err NoMemory) request = Unit

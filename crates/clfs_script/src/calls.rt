@@ -1,4 +1,4 @@
-// What stands behind each verb.
+// What stands after each verb.
 ghost use Rattle.std.specs.Prelude.{Ok, codes};
 ghost use Rattle.clfs_model.specs.Script.{ends, area_line, append_line, read_line, restart_line, policy_of, policy_line, call_line, option_word, held_sizes, open_verb, drop_verb, reserve_verb, release_verb, align_verb, flush_verb, flush_to_verb, next_verb, end_verb, read_restart_verb, previous_restart_verb, advance_verb, archive_verb, tail_verb, unpolicy_verb, size_verb, info_verb};
 ghost use Rattle.clfs_script.specs.Asked.{rest_of, Answers, AnswersRequest, asked};
@@ -24,7 +24,7 @@ fn asks(client: u16, call: Call) -> Result<ScriptLine, LineRefusal>
     Ok(ScriptLine { client, request })
 }
 
-// The same of a call behind which the line ends.
+// The same of a call after which the line ends.
 #[inline(always)]
 fn ending_call(client: u16, call: Call, words: &mut Words) -> Result<ScriptLine, LineRefusal>
     ensures { AnswersRequest result (asked client (ends call (rest_of words.old))) }
@@ -282,7 +282,7 @@ fn info_line(client: u16, words: &mut Words) -> Result<ScriptLine, LineRefusal>
     ending_call(client, Call::Info { stream }, words)
 }
 
-// What stands behind a verb.
+// What stands after a verb.
 pub(crate) fn call_line(
     alloc: Global,
     client: u16,

@@ -10,7 +10,7 @@ use thiserror::Error;
 /// Which lines a script may have.
 #[derive(Clone, Copy, Debug, PartialEq, Eq)]
 pub enum Language {
-    /// Those of clients' calls, and those that ask to open the log anew.
+    /// Those of clients' calls, and those that ask to open the log again.
     CallsAndReopening,
     /// Those of clients' calls alone.
     CallsAlone,
@@ -21,7 +21,7 @@ pub enum Language {
 pub enum Request {
     /// A call.
     Step(Call),
-    /// To open the log anew.
+    /// To open the log again.
     Reopen,
 }
 

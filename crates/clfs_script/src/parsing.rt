@@ -22,7 +22,7 @@ fn allowed_verb(language: Language, word: &[u8]) -> Option<Option<Verb>>
     }
 }
 
-// A client, and the verb behind its number, or none for `reopen`.
+// A client, and the verb after its number, or none for `reopen`.
 #[inline(always)]
 fn client_verb(language: Language, words: &mut Words) -> Result<(u16, Option<Verb>), LineRefusal>
     ensures { ReadsVerb (language_of language) words.old result words.new }
@@ -35,7 +35,7 @@ fn client_verb(language: Language, words: &mut Words) -> Result<(u16, Option<Ver
     }
 }
 
-// What a client asks for by `reopen`, behind which the line ends.
+// What a client asks for by `reopen`, after which the line ends.
 fn reopen_line(client: u16, words: &mut Words) -> Result<ScriptLine, LineRefusal>
     ensures { AnswersRequest result (request_behind client None (rest_of words.old)) }
 {

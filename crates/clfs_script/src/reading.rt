@@ -186,7 +186,7 @@ pub(crate) fn kind(words: &mut Words) -> Result<PolicyKind, LineRefusal>
     }
 }
 
-// This, behind which the line ends.
+// This, after which the line ends.
 #[inline(always)]
 pub(crate) fn ending<T: Drop>(value: T, words: &mut Words) -> Result<T, LineRefusal>
     ensures { Answers result (ends value (rest_of words.old)) }

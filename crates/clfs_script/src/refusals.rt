@@ -45,7 +45,7 @@ fn push_places(
     push_place(b" ", third, out)
 }
 
-/// Writes a refusal's number, its name and its fields in order behind the text that is there.
+/// Writes a refusal's number, its name and its fields in order after the text that is there.
 pub fn push_refusal(refusal: &Refusal, out: &mut Bytes) -> Result<(), AllocError>
     ensures { OnOk result (out.new ≡ out.old ++ refusal_text refusal.now) }
 {

@@ -8,7 +8,7 @@ use clfs_lsn::Sizes;
 use clfs_text::Words;
 use std::alloc::Global;
 
-// One to sixteen sizes, behind which the line ends.
+// One to sixteen sizes, after which the line ends.
 pub(crate) fn sizes(alloc: Global, words: &mut Words) -> Result<Sizes, LineRefusal>
     ensures { Answers result (sizes (rest_of words.old)) }
 {

@@ -4,7 +4,7 @@ ghost use Rattle.std.specs.Option.{option_map};
 ghost use Rattle.clfs_model.specs.Script.{verb_word};
 ghost use Rattle.clfs_script.specs.Verbs.{verb_of, verb_among, four_letters, seven_letters, other_letters};
 
-// What a client's line asks for, without the words behind it.
+// What a client's line asks for, without the words after it.
 #[derive(Clone, Copy, Debug)]
 pub(crate) enum Verb {
     Open,

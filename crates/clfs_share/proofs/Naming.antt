@@ -9,7 +9,7 @@ use Rattle.clfs_model.specs.Run.{asks, reopens}
 use Rattle.clfs_model.specs.Script.{Rest, Read, Verb, ◌>>=◌, value_or, last_of, word, words_from, client_word, allowed_verb, call_line, request_behind, calls_alone, client_line, request_or_bad, request_in}
 use Rattle.clfs_share.specs.Lines.{first_word, client_named, names}
 
--- what stands behind the verb of a call
+-- what stands after the verb of a call
 by_call : (n c : ℕ) (call : Call) (read : Result Call ℕ) → request_or_bad (read >>= (λ (x : Call). Ok (asks n x))) ≡ asks c call → n ≡ c
 by_call n c call (Ok x) is = cc is
 by_call n c call (Err at) is = absurd (cc is)

@@ -106,7 +106,7 @@ left_longer told whole images from to end s t (entry ∷ entries) is more =
       ),
     )
 
--- an entry stands behind the others, while whose call a crash left what survives it
+-- an entry stands after the others, while whose call a crash left what survives it
 pub left_more : (told whole : Bool) (images : Images) (from to end : ℕ) (s t u : State) (entries : List Entry) (entry : Entry)
     → IsLeftByEntries told whole images from to s entries t → MakesCall whole images to end t entry.client entry.call
     → Step told t entry.client entry.call entry.happened entry.reply u → IsLeftByEntries told whole images from end s (entries ++ entry ∷ []) u

@@ -142,7 +142,7 @@ copied client number kept call happened copy reply before after is counted of_ca
     first_of (cc, simp (counted, of_call, of_reply, of_copy)) in
     is ∙ ap (λ (e : Entry). before ++ e ∷ []) of_call_itself
 
--- and it stands behind the entries of before
+-- and it stands after the entries of before
 pub behind : (client : ℕ) (call : Call) (reply : Reply) (before now after : List Entry)
     → after ≡ now ++ entry_of client (length (mine now client) + 1) call reply ∷ [] → now ≡ before
     → after ≡ before ++ entry_of client (length (mine before client) + 1) call reply ∷ []
@@ -165,7 +165,7 @@ intact laws told s t client call reply step whole = record {
       let broken = laws.breaks told s client call (happened_of reply) reply t step fault in cc (broken, whole);
 }
 
--- want of memory leaves the state
+-- out of memory leaves the state
 pub memory_leaves : Laws → (told : Bool) (s t : State) (client : ℕ) (call : Call) (reply : Reply) → Step told s client call (happened_of reply) reply t
     → is_out_of_memory reply ≡ true → t ≡ s
 memory_leaves laws told s t client call reply step wanting =

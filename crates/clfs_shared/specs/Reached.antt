@@ -1,4 +1,4 @@
--- What is true of a log behind the lock: how its journal leads from the opening to it.
+-- What is true of a log under the lock: how its journal leads from the opening to it.
 use Rattle.std.specs.Prelude.{◌≡◌, ◌≤◌, Bool, true, false, ◌&&◌, List, [], refl}
 use Rattle.std.proofs.Common.{sym, subst, le_refl}
 use Rattle.std.proofs.Math.Nat.{lt_irrefl, lt_of_lt_of_le}
@@ -30,7 +30,7 @@ is_calm o = o.is_steady && o.tells_contents && o.is_whole
 
 -- The journal is legal from the opening to this state. A fault stands in it only where the disk has failed since, and never where it is calm;
 -- damage only where the disk doesn't tell what its files hold. A log that isn't broken has files at full length, where the opening had. Where the
--- disk keeps what it synced, a crash at each moment since the opening leaves what survives a call behind a front of the journal.
+-- disk keeps what it synced, a crash at each moment since the opening leaves what survives a call after a front of the journal.
 pub record IsReached (o : Opening) (disk : DiskState) (s : State) (journal : List Entry) : Type 0 where
   pub legal : IsLegal o.tells_contents journal o.state s
   pub contents : disk.nature.tells_contents ≡ o.tells_contents

@@ -41,7 +41,7 @@ pub record IsOf (log : SharedState) (s : SessionState) : Type 0 where
   pub opening : s.opening ≡ log.opening
   pub client : is_in s.client log.clients ≡ true
 
--- one call of a client under the lock: want of memory changes nothing, and every other reply is the machine's, with one entry more
+-- one call of a client under the lock: out of memory changes nothing, and every other reply is the machine's, with one entry more
 pub record HasRun (told : Bool) (s : State) (before : List Entry) (client : ℕ) (call : Call) (reply : Reply) (t : State) (after : List Entry) : Type 0 where
   pub none : is_out_of_memory reply ≡ true → (after ≡ before) × (t ≡ s)
   pub step : is_out_of_memory reply ≡ false → Step told s client call (happened_of reply) reply t

@@ -1,6 +1,6 @@
 //! Sessions of several clients over one log, one call at a time, each with one place in one journal.
 //!
-//! A shared log is a manager behind the turn lock, with the journal of all calls that were made since it was shared. A session is a seat at the
+//! A shared log is a manager under the turn lock, with the journal of all calls that were made since it was shared. A session is a seat at the
 //! lock: it knows a beginning of the journal, in which are all calls of its own client. A call waits for the turn, is made by the manager, and
 //! stands at the end of the journal with its reply; the session has then seen all of it. So each reply is the log machine's at the end of a legal
 //! journal that begins with all that the session had seen.
@@ -11,8 +11,8 @@
 //! The journal has two forms (`recorder.rt`), by one text and one proof: it is kept in memory and handed out when the log is closed, or it is told
 //! to contracts alone, and memory doesn't grow with it.
 //!
-//! Nothing of a call lies behind the lock while it waits, and the lock tells nothing of who comes next. `order.rt` lets calls that wait to the
-//! lock one at a time, those that flush behind the others, so that one flush writes what several wait for; no clause rests on that.
+//! Nothing of a call lies under the lock while it waits, and the lock tells nothing of who comes next. `order.rt` lets calls that wait to the
+//! lock one at a time, those that flush after the others, so that one flush writes what several wait for; no clause rests on that.
 #![tactic(auto)]
 
 mod copies;

@@ -1,4 +1,4 @@
-// A log with its journal, which lies behind the lock, and the one job that is done there: a call of a client. They lie on the heap: who takes the turn
+// A log with its journal, which lies under the lock, and the one job that is done there: a call of a client. They lie on the heap: who takes the turn
 // moves the lock's value out of it and back again, and that is then no more than where they lie.
 ghost use Rattle.std.specs.Prelude.{◌≡◌, [], IfOk, IfErr};
 ghost use Rattle.clfs_turn.specs.Calls.{AddsAtMostOne};

@@ -1,5 +1,5 @@
 // The order in which calls that wait are let to the turn. Calls that put something into memory go before those that flush, and those that flush go
-// one behind the other, so that the first of them writes what all the others wait for. A kind is served for as many calls as waited when its turn
+// one after the other, so that the first of them writes what all the others wait for. A kind is served for as many calls as waited when its turn
 // began, so that neither waits for ever while the other comes again and again. No clause rests on any of this.
 //
 // A thread that comes sleeps where its kind waits for as long as it must. Who leaves wakes one thread of the kind that comes next, if one of it waits.

@@ -193,7 +193,7 @@ impl<D: Disk, J: Recorder> SharedLog<D, J> {
         // So numbers of entries fit their type.
         ensures fits { length session.new.seen < 2 ^ 64 }
 
-        // After want of memory nothing has changed. Any other answer is the machine's at the end of the journal, which gained this call.
+        // After out of memory nothing has changed. Any other answer is the machine's at the end of the journal, which gained this call.
         ensures none { is_out_of_memory result ≡ true → session.new.seen ≡ session.old.seen }
         ensures step { is_out_of_memory result ≡ false → IsStepped session.old session.new call.now result }
 
@@ -222,7 +222,7 @@ impl<D: Disk, J: Recorder> SharedLog<D, J> {
         reply
     }
 
-    /// Lets two sessions share what they have seen. An error would be want of memory; none comes.
+    /// Lets two sessions share what they have seen. An error would be out of memory; none comes.
     pub fn meet(&self, a: &mut Session, b: &mut Session) -> Result<(), AllocError>
         requires log { IsOf self.now a.old × IsOf self.now b.old }
         ensures same { IsSameSeat a.old a.new × IsSameSeat b.old b.new }

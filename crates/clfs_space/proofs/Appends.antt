@@ -20,7 +20,7 @@ joined : (shape : Shape) (place : Place) (hold containers n : ℕ) → joins sha
     ≤ free_sectors shape (record place { used = place.used + size n; records = place.records + 1 }) hold containers
 joined shape place hold containers n joins_it = omega (arith, sectors-record place.used n)
 
--- it begins a block behind the open one
+-- it begins a block after the open one
 begun_here : (shape : Shape) (place : Place) (hold containers n : ℕ)
     → free_sectors shape place hold containers - own n ≤ free_sectors shape (begun place.container (block_end place) n) hold containers
 begun_here shape place hold containers n = omega arith

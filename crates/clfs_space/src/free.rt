@@ -1,4 +1,4 @@
-// The free sectors: those behind the place in its container, and those of the containers that the log
+// The free sectors: those after the place in its container, and those of the containers that the log
 // can still go on to.
 ghost use Rattle.std.specs.Prelude.{◌≡◌, ◌+◌, ◌-◌, ◌≤◌};
 ghost use Rattle.clfs_lsn.specs.Limits.{most_containers};
@@ -33,7 +33,7 @@ pub(crate) fn active_containers(place: &Place, hold: Lsn) -> u32
     place.container - hold.container() + 1
 }
 
-// What the place's container can surely take behind the open block.
+// What the place's container can surely take after the open block.
 pub(crate) fn sectors_here(shape: &Shape, place: &Place) -> u32
     requires shape { IsShape shape.now }
     requires place { IsWithin shape.now place.now }

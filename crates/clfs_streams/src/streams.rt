@@ -79,7 +79,7 @@ impl Streams {
         self.rows.reserve(1)
     }
 
-    /// A stream of a new name, with no base, behind the others. It takes no memory.
+    /// A stream of a new name, with no base, after the others. It takes no memory.
     pub fn add(&mut self, name: Name)
         requires new { stream_number_from 1 name self.old.streams ≡ None }
         requires room { 1 ≤ self.old.room }

@@ -14,7 +14,7 @@ fn at(container: u32, offset: u16, sequence: u16) -> Lsn
     Lsn::from_parts(container, offset as u32, sequence as u32)
 }
 
-// An archive with one more block, where that lies behind the others.
+// An archive with one more block, where that lies after the others.
 fn with_block(mut archive: Archive, last: Lsn, end: u32) -> Result<Archive, AllocError>
     requires { All (λ (other : BlockEnd). other.last < last) archive.blocks }
     ensures { IfOk result (λ more. (n : ℕ) → last < n → All (λ (other : BlockEnd). other.last < n) more.blocks) }
@@ -98,7 +98,7 @@ fn takes(archive: &Archive, tail: Lsn, stable: Lsn) -> bool {
     archive.tail_refusal(tail, stable).is_none()
 }
 
-// Archiving that is on isn't begun anew.
+// Archiving that is on isn't begun again.
 fn begin_twice(archive: &mut Archive, low: Lsn, high: Lsn) -> bool {
     let refusal = archive.tail_refusal(low, high);
     archive.set_archive(true, low);

@@ -86,7 +86,7 @@ fn empty(alloc: Global) -> Result<Queue, AllocError>
     Queue::new(alloc, &SHAPE, 4, &START)
 }
 
-// The block of `FRONT`, its sector's address 2^32, and the closed gate behind it, but for the gate of the first.
+// The block of `FRONT`, its sector's address 2^32, and the closed gate after it, but for the gate of the first.
 fn is_group_of_front(at: u32, body: &[u8]) -> bool {
     let mut block = [0; 513];
     block[..64].copy_from_slice(&FRONT);

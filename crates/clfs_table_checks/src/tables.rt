@@ -40,7 +40,7 @@ fn head(number: u64, stream: u16, previous: u64) -> Head
     }
 }
 
-// The tables of the streams `a` and `b`, of which the first one has the base 6, and two records below and behind that.
+// The tables of the streams `a` and `b`, of which the first one has the base 6, and two records below and after that.
 fn tables_of(alloc: Global, a: Row, b: Row) -> Result<Tables, AllocError>
     requires first { (a.name ≡ 97 ∷ []) × (a.base ≡ null_lsn) }
     requires second { (b.name ≡ 98 ∷ []) × (b.base ≡ null_lsn) }

@@ -106,7 +106,7 @@ all_from low [] above = refl
 all_from low (head ∷ heads) above =
     rw (le-leb low head.lsn (above 0 head (omega arith))) (ap (λ rest. head ∷ rest) (all_from low heads (All-tail (λ (h : Head). low ≤ h.lsn) head heads above)))
 
--- heads behind the others, from the LSN on, are kept
+-- heads after the others, from the LSN on, are kept
 pub kept_with : (low : ℕ) (all kept more : List Head) → All (λ (head : Head). low ≤ head.lsn) more → IsKept low all kept → IsKept low (all ++ more) (kept ++ more)
 kept_with low all kept more above is = record {
   count = is.count;

@@ -56,7 +56,7 @@ heads_by low streams others heads up all =
       dead = λ below. let dead = is.dead below in let more = up head.stream in omega (arith, dead, more);
     }) heads all
 
--- no head is of the stream behind the last
+-- no head is of the stream after the last
 pub none_behind : (count : ℕ) (heads : List Head) → All (λ (head : Head). (1 ≤ head.stream) × (head.stream ≤ count)) heads → stream_heads (count + 1) heads ≡ []
 none_behind count [] within = refl
 none_behind count (head ∷ heads) within =
@@ -64,7 +64,7 @@ none_behind count (head ∷ heads) within =
     rw (ne_eqb head.stream (count + 1) (λ same. omega (arith, same, here.1)))
     (none_behind count heads (All-tail (λ (h : Head). (1 ≤ h.stream) × (h.stream ≤ count)) head heads within))
 
--- the rows with an empty one behind them
+-- the rows with an empty one after them
 pub row_added : (streams : List Stream) (name : List ℕ) (low : ℕ) (heads : List Head) (rows : List StreamRow) (row : StreamRow) (firsts : List (Option ℕ))
     → length rows ≡ length streams → length firsts ≡ length streams → AreFirsts firsts (base_in streams) heads
     → ((stream : ℕ) (d : StreamRow) → 1 ≤ stream → stream ≤ length streams → IsRow (base_in streams stream) low stream heads (get_or rows (stream - 1) d))
@@ -112,7 +112,7 @@ restarts_below low stream lsn heads kept is above =
     (All-filter (λ (h : Head). is_restart h.kind) (λ (other : Head). other.lsn < lsn) (stream_heads stream heads)
     (All-filter (λ (h : Head). h.stream == stream) (λ (other : Head). other.lsn < lsn) heads above)))
 
--- the row of the record's stream, with the record behind its others
+-- the row of the record's stream, with the record after its others
 pub row_with : (base low : ℕ) (heads : List Head) (head : Head) (old new : StreamRow) → low ≤ head.lsn → IsRow base low head.stream heads old
     → new.index.base ≡ old.index.base → new.restarts.base ≡ old.restarts.base
     → new.index.heads ≡ old.index.heads ++ head ∷ [] → new.restarts.heads ≡ old.restarts.heads ++ restarts_of (head ∷ [])

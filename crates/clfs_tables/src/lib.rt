@@ -6,7 +6,7 @@
 //! are forgotten: no link that leads there leads to a record, and reading forward from there begins at the first live one.
 //!
 //! No call takes memory but those that reserve it and `open_tables`, which makes the tables of a log that was opened. Nothing here is written
-//! to a disk, so a crash leaves nothing of it; opening makes it anew.
+//! to a disk, so a crash leaves nothing of it; opening makes it again.
 #![tactic(auto)]
 
 mod opening;

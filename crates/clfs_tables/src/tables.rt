@@ -235,7 +235,7 @@ impl Tables {
         self.tail.reserve()
     }
 
-    /// A stream of a new name, with no base and no records, behind the others. It takes no memory.
+    /// A stream of a new name, with no base and no records, after the others. It takes no memory.
     pub fn add_stream(&mut self, name: Name)
         requires new { stream_number_from 1 name self.old.streams ≡ None }
         requires few { length self.old.streams + 1 < 2 ^ 16 }
@@ -374,7 +374,7 @@ fn no_heads() -> Told<LinkedList<Head>>
     Told::pick(&())
 }
 
-// The heads of all records, with one more behind them.
+// The heads of all records, with one more after them.
 fn with_head(heads: &Told<LinkedList<Head>>, head: &Head) -> Told<LinkedList<Head>>
     ensures { result.value ≡ heads.now.value ++ head.now ∷ [] }
 {

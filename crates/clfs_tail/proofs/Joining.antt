@@ -13,7 +13,7 @@ use Rattle.clfs_tail.specs.Firsts.{first_live, AreFirsts}
 abbrev IsOfFirst : ℕ → Head → Type 0
 IsOfFirst count head = (1 ≤ head.stream) × (head.stream ≤ count)
 
--- No head is of the stream behind the last.
+-- No head is of the stream after the last.
 none_behind : (count base : ℕ) (heads : List Head) → All (IsOfFirst count) heads → live_heads base (count + 1) heads ≡ []
 none_behind count base [] within = refl
 none_behind count base (head ∷ heads) within =
@@ -74,7 +74,7 @@ live_of_own base stream heads head own live =
     ap (heads_from base) (filter-append (λ (h : Head). h.stream == stream) heads (head ∷ []) ∙ rw (eq-eqb head.stream stream own) refl)
     ∙ filter-append (λ (h : Head). nat_le base h.lsn) (stream_heads stream heads) (head ∷ []) ∙ rw (le-leb base head.lsn live) refl
 
--- the first of heads with one more behind them
+-- the first of heads with one more after them
 first_with : (heads : List Head) (head : Head) (first : Option ℕ) → first ≡ option_map (λ (h : Head). h.lsn) (slice_get heads 0)
     → (if is_some first then first else Some head.lsn) ≡ option_map (λ (h : Head). h.lsn) (slice_get (heads ++ head ∷ []) 0)
 first_with [] head first is = rw is refl
@@ -103,7 +103,7 @@ pushed_other firsts stream lsn other apart = elim (cases_Bool (is_some (get_or f
   | inr none ↦ rw none (get_or-set_other firsts (stream - 1) other (Some lsn) None apart)
 ]
 
--- a record joins a stream behind all others
+-- a record joins a stream after all others
 pub joined : (firsts : List (Option ℕ)) (stream lsn : ℕ) (bases : ℕ → ℕ) (heads : List Head) (head : Head) → 1 ≤ stream → stream ≤ length firsts
     → AreFirsts firsts bases heads → head.stream ≡ stream → head.lsn ≡ lsn → All (λ (other : Head). other.lsn < lsn) heads → bases stream ≤ lsn
     → AreFirsts (with_pushed firsts stream lsn) bases (heads ++ head ∷ [])

@@ -49,7 +49,7 @@ impl LogTail {
         self.nodes.reserve(1)
     }
 
-    /// A stream without records, behind the others. It takes no memory.
+    /// A stream without records, after the others. It takes no memory.
     pub fn add(&mut self)
         requires room { 1 ≤ self.old.room }
         ensures firsts { self.new.firsts ≡ self.old.firsts ++ None ∷ [] }
@@ -78,7 +78,7 @@ impl LogTail {
         settle(&mut self.nodes, place);
     }
 
-    /// A record joins a stream behind its others: its LSN is the first live one where no other record is live. It takes no memory.
+    /// A record joins a stream after its others: its LSN is the first live one where no other record is live. It takes no memory.
     pub fn push(&mut self, stream: u16, lsn: Lsn)
         requires some { 1 ≤ stream }
         requires there { stream ≤ length self.old.firsts }

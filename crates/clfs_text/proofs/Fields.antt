@@ -10,7 +10,7 @@ use Rattle.clfs_text.specs.Pieces.{pieces_of, BeginsWithNumber, LacksNumber}
 use Rattle.clfs_text.proofs.Scans.{scan, scan_word}
 use Rattle.clfs_text.proofs.Colons.{SeveralPieces, pieces_are, not_digits}
 
--- the number that digits before a colon make behind those read so far, and what stands behind the colon
+-- the number that digits before a colon make after those read so far, and what stands after the colon
 abbrev pub field : ℕ → List ℕ → Option (ℕ × List ℕ)
 field value [] = None
 field value (b ∷ text) =

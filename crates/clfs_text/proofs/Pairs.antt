@@ -80,7 +80,7 @@ two_more text i within =
     let m : 2 * (i + 1) ≡ suc (suc (2 * i)) = omega arith in
     rw (a, b, k, m) refl
 
--- bytes behind others
+-- bytes after others
 abbrev pub behind : List ℕ → Option (List ℕ) → Option (List ℕ)
 behind bytes more = option_map (λ rest. bytes ++ rest) more
 
@@ -136,7 +136,7 @@ pub first_two : (text rest pair : List ℕ) (i : ℕ) → rest ≡ drop (2 * i) 
     → (get_or pair 0 0 ≡ get_or text (2 * i) 0) × (get_or pair 1 0 ≡ get_or text (2 * i + 1) 0)
 first_two text rest pair i behind front within = let two = two_more text i within in (rw (front, behind, two) refl, rw (front, behind, two) refl)
 
--- what is left behind them
+-- what is left after them
 pub two_behind : (text rest after : List ℕ) (i : ℕ) → rest ≡ drop (2 * i) text → after ≡ drop 2 rest → after ≡ drop (2 * (i + 1)) text
 two_behind text rest after i behind back =
     back ∙ ap (drop 2) behind ∙ drop-drop 2 (2 * i) text ∙ ap (λ n. drop n text) {x = 2 * i + 2} {y = 2 * (i + 1)} (omega arith)

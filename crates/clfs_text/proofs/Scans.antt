@@ -10,7 +10,7 @@ use Rattle.std.proofs.Math.Nat.{mul-le-mul_left}
 use Rattle.std.proofs.Math.Bool.{and-false}
 use Rattle.clfs_lsn.specs.Words.{number_of_word, has_no_leading_zero}
 
--- the number that digits make behind those read so far, while it is at most so much
+-- the number that digits make after those read so far, while it is at most so much
 abbrev pub scan : (ℕ → Bool) → ℕ → ℕ → ℕ → List ℕ → Option ℕ
 scan is_digit base most value [] = Some value
 scan is_digit base most value (b ∷ bytes) =

@@ -32,7 +32,7 @@ not_true : (b : Bool) → (b ≡ true → ⊥) → b ≡ false
 not_true true h = absurd (h refl)
 not_true false h = refl
 
--- behind a line's end there are no words
+-- after a line's end there are no words
 pub past_the_end : (line : List ℕ) (at : ℕ) → length line < at → words_behind line at ≡ []
 past_the_end line at h = let t : nat_le at (length line) ≡ false = lt-leb at (length line) h in rw t refl
 

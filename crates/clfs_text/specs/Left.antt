@@ -9,7 +9,7 @@ pub record Left : Type 0 where
   pub words : List (List ℕ)
   pub end : ℕ
 
--- The words from a place on are what stands between single spaces there. Behind the line's last word there are none.
+-- The words from a place on are what stands between single spaces there. After the line's last word there are none.
 abbrev pub words_behind : List ℕ → ℕ → List (List ℕ)
 words_behind line at = if nat_le at (length line) then slice_split (λ b. b == 32) (drop at line) else []
 
@@ -17,7 +17,7 @@ words_behind line at = if nat_le at (length line) then slice_split (λ b. b == 3
 abbrev pub left_from : List ℕ → ℕ → Left
 left_from line at = record { at = at; words = words_behind line at; end = length line }
 
--- the same behind a first word of this text, where it comes next, else none
+-- the same after a first word of this text, where it comes next, else none
 abbrev pub skipping_words : ℕ → List ℕ → List (List ℕ) → ℕ → Bool × Left
 skipping_words at text [] end = (false, record { at = at; words = []; end = end })
 skipping_words at text (word ∷ words) end =

@@ -7,7 +7,7 @@ use Rattle.clfs_lsn.specs.Words.{hex_number}
 abbrev pub pieces_of : List ℕ → List (List ℕ)
 pieces_of text = slice_split (λ b. b == 58) text
 
--- a text is this number, a colon and what stands behind it
+-- a text is this number, a colon and what stands after it
 abbrev pub BeginsWithNumber : ℕ → List ℕ → List ℕ → Type 0
 BeginsWithNumber number behind text = (piece : List ℕ) × (pieces_of text ≡ piece ∷ pieces_of behind) × (hex_number piece ≡ Some number)
 

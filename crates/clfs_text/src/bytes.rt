@@ -40,7 +40,7 @@ fn nibble(byte: u8) -> u8
     if digit < 10 { digit } else { letter }
 }
 
-// Writes the byte of each pair of digits, and says whether all are digits. The loop goes on behind a byte that is none, and it isn't
+// Writes the byte of each pair of digits, and says whether all are digits. The loop goes on after a byte that is none, and it isn't
 // taken into its caller: so the compiler sees that the two slices share no byte, and reads sixteen pairs at a time.
 #[inline(never)]
 fn decode_into(text: &[u8], out: &mut [u8]) -> bool

@@ -1,7 +1,7 @@
-//! The words of the script's text: numbers, LSNs and data, read from a word and written behind other text.
+//! The words of the script's text: numbers, LSNs and data, read from a word and written after other text.
 //!
 //! A line is read from its front, word by word, by `Words`, which keeps the line and the place in it, and never a list of words.
-//! What a word spells is read where the word stands. What is written goes straight behind the bytes that are there already; the
+//! What a word spells is read where the word stands. What is written goes straight after the bytes that are there already; the
 //! digits are made on the stack.
 #![tactic(auto)]
 

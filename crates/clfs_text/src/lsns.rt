@@ -6,7 +6,7 @@ ghost use Rattle.clfs_text.specs.Pieces.{BeginsWithNumber, LacksNumber};
 use crate::numbers::{hex_digit, hex_number};
 use clfs_lsn::Lsn;
 
-// What stands behind the colon that comes next behind a zero.
+// What stands after the colon that comes next after a zero.
 fn behind_zero(rest: &[u8]) -> Option<(u32, &[u8])>
     ensures { MatchOption result (LacksNumber (48 ∷ rest.now)) (λ found. BeginsWithNumber found.0 found.1.now (48 ∷ rest.now)) }
 {
@@ -17,7 +17,7 @@ fn behind_zero(rest: &[u8]) -> Option<(u32, &[u8])>
     Some((0, behind))
 }
 
-// The number before the first colon, and what stands behind the colon. The digits are read as the colon is looked for.
+// The number before the first colon, and what stands after the colon. The digits are read as the colon is looked for.
 fn number_before_colon(text: &[u8]) -> Option<(u32, &[u8])>
     ensures { MatchOption result (LacksNumber text.now) (λ found. BeginsWithNumber found.0 found.1.now text.now) }
 {

@@ -22,7 +22,7 @@ pub(crate) fn hex_digit(byte: u8) -> Option<u64>
     }
 }
 
-// Whether the first byte forbids that the word is a number: there is none, or it is a zero with more behind it.
+// Whether the first byte forbids that the word is a number: there is none, or it is a zero with more after it.
 fn begins_badly(word: &[u8]) -> bool
     ensures { result ≡ not (nat_lt 0 (length word.now) && has_no_leading_zero word.now) }
 {

@@ -1,4 +1,4 @@
-// Numbers and LSNs as text behind other text.
+// Numbers and LSNs as text after other text.
 ghost use Rattle.std.specs.Prelude.{◌≡◌, false, ◌++◌, ◌+◌, ◌-◌, ◌<◌, ◌≤◌, OnOk, OnErr, length, drop, decimal};
 ghost use Rattle.std.specs.Fmt.{digit_glyph};
 ghost use Rattle.clfs_lsn.specs.Words.{hex_text, lsn_text};

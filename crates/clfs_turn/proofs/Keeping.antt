@@ -20,7 +20,7 @@ at_set_here [] i a b e = absurd (some-ne-none a (sym e))
 at_set_here (x ∷ xs) zero a b e = refl
 at_set_here (x ∷ xs) (suc i) a b e = at_set_here xs i a b e
 
--- an element of a list with one more behind it is the last one, or stood there before
+-- an element of a list with one more after it is the last one, or stood there before
 pub at_snoc_at : {A : Type 0} (l : List A) (a b : A) (j : ℕ) → get_elem? (l ++ a ∷ []) j ≡ some b
     → (get_elem? l j ≡ some b) ⊎ ((j ≡ length l) × (a ≡ b))
 at_snoc_at [] a b zero e = inr (refl, some-injective a b e)

@@ -1,4 +1,4 @@
-// What the lock asks of the value behind it, and of the jobs that are done on the value.
+// What the lock asks of the value after it, and of the jobs that are done on the value.
 ghost use Rattle.std.specs.Prelude.{◌≡◌, ℕ, List, [], length};
 
 /// A value that stands for a list of entries, each of which names a client.

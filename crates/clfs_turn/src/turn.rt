@@ -19,7 +19,7 @@ use std::mem;
 use std::snapshot::Snapshot;
 use std::sync::Wait;
 
-/// The lock, with the value behind it. Contracts see it as which lock it is, the state in which its
+/// The lock, with the value after it. Contracts see it as which lock it is, the state in which its
 /// history began, and its clients.
 #[derive(Drop)]
 pub struct Turn<V: Logged<E, O>, E, O> {
@@ -114,7 +114,7 @@ impl<V: Logged<E, O>, E, O> Turn<V, E, O> {
         answer
     }
 
-    /// Lets two seats share what they have seen. A refusal would be want of memory; none comes, since copies of seats take none.
+    /// Lets two seats share what they have seen. A refusal would be out of memory; none comes, since copies of seats take none.
     pub fn meet(&self, a: &mut TurnSeat<E, O>, b: &mut TurnSeat<E, O>) -> Result<(), AllocError>
         requires lock { (a.old.lock ≡ self.now.lock) × (b.old.lock ≡ self.now.lock) }
         ensures same { IsSameSeat a.old a.new × IsSameSeat b.old b.new }

@@ -1,4 +1,4 @@
-// The value behind the lock, its entries, and the one job that is done on it.
+// The value under the lock, its entries, and the one job that is done on it.
 ghost use Rattle.std.specs.Prelude.{◌≡◌, IfOk, IfErr};
 ghost use Rattle.clfs_turn.specs.Calls.{IsAdded};
 ghost use Rattle.clfs_turn_uses.specs.Notes.{note};
@@ -38,7 +38,7 @@ impl Logged<Note, ()> for Diary {
     ghost at_opening = { λ _ _. tt };
 }
 
-/// Adds a note. The error is want of memory; then the diary is as it was.
+/// Adds a note. The error is out of memory; then the diary is as it was.
 #[derive(Drop)]
 pub struct Write {
     /// Whose note it is: the client of the seat that does the job.

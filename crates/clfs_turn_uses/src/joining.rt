@@ -75,7 +75,7 @@ fn write_both<R: Threads + Wait + Sync>(
 }
 
 /// Lets two threads write so many notes each into one diary, for the clients 3 and 5, and gives the diary back when both
-/// were joined. The error is want of memory. In which order the notes of the two stand among each other is not said.
+/// were joined. The error is out of memory. In which order the notes of the two stand among each other is not said.
 pub fn two_writers<R: Threads + Wait + Sync>(
     rt: &R,
     alloc: Global,

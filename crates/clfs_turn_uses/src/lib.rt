@@ -1,4 +1,4 @@
-//! A diary behind the turn lock: a small use of `clfs_turn`, written as a layer above the lock would write it.
+//! A diary under the turn lock: a small use of `clfs_turn`, written as a layer above the lock would write it.
 //!
 //! Two writers with a seat each add notes to one diary. Nothing here names more of the lock than its public calls and the
 //! words of their contracts, and that is enough to say what a writer leaves: whatever the other threads do meanwhile, the

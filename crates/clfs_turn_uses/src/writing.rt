@@ -15,7 +15,7 @@ pub type Lock = Turn<Diary, Note, ()>;
 /// A seat at such a lock.
 pub type Writer = TurnSeat<Note, ()>;
 
-/// Writes so many notes of the seat's client, with numbers from 0 up, and gives the seat back. The error is want of memory.
+/// Writes so many notes of the seat's client, with numbers from 0 up, and gives the seat back. The error is out of memory.
 pub fn write_all<R: Wait>(
     rt: &R,
     lock: &Lock,

@@ -49,7 +49,7 @@ backs_refused told s u number kept have t refusal found is enough leads =
 
 -- ---- rolling back
 
--- what comes behind the sets
+-- what comes after the sets
 abbrev ending : ℕ → Memory → Plan Answered
 ending number now = over_transaction now number (λ (t : Transaction). end_plan now t RolledBack false)
 

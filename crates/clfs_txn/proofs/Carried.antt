@@ -25,7 +25,7 @@ pub as_plan : (told : Bool) (client : ℕ) (log : State) (plan other : Plan Answ
     → CarriesOut told client log other result t → CarriesOut told client log plan result t
 as_plan told client log plan other result t same carries = subst (λ (p : Plan Answered). CarriesOut told client log p result t) (sym same) carries
 
--- one call of the log, and what comes behind it
+-- one call of the log, and what comes after it
 pub one_call : (told : Bool) (client : ℕ) (log : State) (call : Call) (rest : Reply → Plan Answered) (reply : Reply) (mid : State) (result : Answered) (t : State)
     → Step told log client call (happened_of reply) reply mid → CarriesOut told client mid (rest reply) result t
     → CarriesOut told client log (calls call rest) result t

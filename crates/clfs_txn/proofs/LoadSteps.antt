@@ -164,7 +164,7 @@ few_come s t client number cursor stream found entry rest chain gives =
 
 -- ---- reading records
 
--- how reading goes on behind a record
+-- how reading goes on after a record
 abbrev pub behind_record : ℕ → ℕ → ℕ → List TxnRecord → (List TxnRecord → Memory) → LogEntry → Plan Loaded
 behind_record more area cursor records all entry = option_map_or (λ (r : TxnRecord). read_records more area cursor (records ++ r ∷ []) all) (txn_record_of entry.bytes)
     (gives_up area (NotATable entry.lsn))
@@ -200,7 +200,7 @@ record_strange told client log t area cursor more less records all entry same st
     (ap (λ (o : Option TxnRecord). option_map_or (λ (r : TxnRecord). read_records less area cursor (records ++ r ∷ []) all) o (gives_up area (NotATable entry.lsn))) none)
     (leads_call told client log _ _ (log_replies.Next entry) t step))
 
--- memory ran out behind one that was read, which is as where it runs out in the next call
+-- memory ran out after one that was read, which is as where it runs out in the next call
 pub record_lost : (told : Bool) (client : ℕ) (log t : State) (area cursor more less fewer : ℕ) (records : List TxnRecord) (all : List TxnRecord → Memory) (entry : LogEntry)
     (row : TxnRecord) → suc less ≡ more → suc fewer ≡ less → Step told log client (log_calls.ReadNext area cursor) Fine (log_replies.Next entry) t
     → txn_record_of entry.bytes ≡ Some row → Step told t client (log_calls.ReadNext area cursor) Fine (log_replies.Refused log_refusals.NoMemory) t

@@ -85,7 +85,7 @@ started told client log memory number cursor lsn left more rest all =
     leads_from told client log log (undo_from left memory number cursor lsn rest) _ _ (ap (λ (n : ℕ). undo_from n memory number cursor lsn rest) (sym all))
     (leads_nowhere told client log (undo_from left memory number cursor lsn rest))
 
--- what comes behind a set where so many more are taken back
+-- what comes after a set where so many more are taken back
 abbrev pub behind_set : ℕ → ℕ → ℕ → (Memory → Plan Answered) → Memory → Plan Answered
 behind_set more number cursor rest now = calls (log_calls.ReadNext now.area cursor)
     (on_next (λ refusal. with_read_ended now cursor (stops now refusal)) (λ (entry : LogEntry). undo_from more now number cursor entry.lsn rest))

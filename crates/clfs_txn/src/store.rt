@@ -27,7 +27,7 @@ use clfs_manager::Manager;
 use std::alloc::Global;
 use std::marker::Model;
 
-/// A table of 32 cells in a log, with transactions. The log refuses a call within a transaction only for want of memory and of the disk, and if it is broken.
+/// A table of 32 cells in a log, with transactions. The log refuses a call within a transaction only if memory runs out or the disk fails, and if it is broken.
 #[derive(Drop)]
 pub struct TxnStore<D: Disk> {
     table: TableLog<D>,
@@ -50,7 +50,7 @@ impl<D: Disk> TxnStore<D> {
     /// has no live record gets a restart area of zeros. No transaction is open: what wasn't committed when the log was closed is gone, and what was is there.
     ///
     /// Refused in this order: `Broken`; where the stream is to be made, `Dedicated` and `StreamLimit`; where it has no live record, `NotEnoughContainers` and
-    /// `Full`; and `NotATable` where its records are none of a table. Want of memory and of the disk, and damage, may come at any call of the log. After a
+    /// `Full`; and `NotATable` where its records are none of a table. Out of memory, a fault of the disk, and damage may come at any call of the log. After a
     /// refusal the stream may be there.
     pub fn load(
         alloc: Global,
@@ -79,7 +79,7 @@ impl<D: Disk> TxnStore<D> {
 
     /// A transaction begins that makes so many sets at most, and this is its number, one above the last. The log holds room for all its records from then on.
     ///
-    /// Refused in this order: `Log(Broken)`, `TxnLimit`, `IdsSpent`, and what the log refuses: `NotEnoughContainers`, `Full`, and want of memory and of
+    /// Refused in this order: `Log(Broken)`, `TxnLimit`, `IdsSpent`, and what the log refuses: `NotEnoughContainers`, `Full`, and out of memory and of
     /// the disk. After any refusal but a fault of the disk nothing has changed.
     pub fn begin(&mut self, changes: u16) -> Result<u32, TxnRefusal>
         requires some { 1 ≤ changes }
@@ -99,7 +99,7 @@ impl<D: Disk> TxnStore<D> {
 
     /// A transaction sets a cell, which has the value from then on.
     ///
-    /// Refused in this order: `Log(Broken)`, `NoSuchTxn`, `CellHeld`, `ChangesSpent`, and want of memory and of the disk. After any refusal but a fault of
+    /// Refused in this order: `Log(Broken)`, `NoSuchTxn`, `CellHeld`, `ChangesSpent`, and out of memory and a fault of the disk. After any refusal but a fault of
     /// the disk nothing has changed.
     pub fn set(&mut self, txn: u32, cell: u16, value: u64) -> Result<(), TxnRefusal>
         requires { cell < 32 }
@@ -138,7 +138,7 @@ impl<D: Disk> TxnStore<D> {
 
     /// What a transaction did stays: the record of its commit is on the disk when the call answers. Then the transaction isn't open any more.
     ///
-    /// Refused in this order: `Log(Broken)`, `NoSuchTxn`, and want of memory and of the disk. After want of memory nothing has changed.
+    /// Refused in this order: `Log(Broken)`, `NoSuchTxn`, and out of memory and a fault of the disk. After out of memory nothing has changed.
     pub fn commit(&mut self, txn: u32) -> Result<(), TxnRefusal>
         ensures step { (told : Bool) → TxnSteps told self.old.0 (asked.Commit txn) (λ _. replies.Done) result self.new.0 }
         ensures kept { IsErrOf result (refusals.Log log_refusals.NoMemory) → self.new.0 ≡ self.old.0 }
@@ -184,7 +184,7 @@ impl<D: Disk> TxnStore<D> {
     /// Writes a restart area with all cells, which is on the disk when the call answers. The stream's base is one above the last record before it then,
     /// so all records below the restart area are given up.
     ///
-    /// Refused in this order: `Log(Broken)`, `TxnsOpen`, and what the log refuses: `Full`, and want of memory and of the disk. After any refusal but a
+    /// Refused in this order: `Log(Broken)`, `TxnsOpen`, and what the log refuses: `Full`, and out of memory and a fault of the disk. After any refusal but a
     /// fault of the disk nothing has changed.
     pub fn checkpoint(&mut self) -> Result<(), TxnRefusal>
         ensures step { (told : Bool) → TxnSteps told self.old.0 asked.Checkpoint (λ _. replies.Done) result self.new.0 }

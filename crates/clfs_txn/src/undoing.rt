@@ -1,5 +1,5 @@
 // Taking back sets, the newest first. Which set comes next is what the log's undo-next links say; its cell and values are those that the store
-// remembers. A compensation is appended before the next set is looked for, so want of memory leaves some sets taken back and the others standing.
+// remembers. A compensation is appended before the next set is looked for, so out of memory leaves some sets taken back and the others standing.
 ghost use Rattle.std.specs.Prelude.{◌≡◌, ◌<◌, ◌≤◌, ℕ, Bool, IfErr, IsErrOf, IsSome, OnOk, Some, false, length, true};
 ghost use Rattle.clfs_cells.specs.declared.told.TxnRefusal.TheVariants as refusals;
 ghost use Rattle.clfs_model.specs.declared.refusal.Refusal.TheVariants as log_refusals;

@@ -1,4 +1,4 @@
--- A whole line: a verb, and what stands behind it.
+-- A whole line: a verb, and what stands after it.
 use Rattle.std.proofs.Common.{◌≡◌, ℕ, List, length, true, Result, Ok, Err, refl, ◌∙◌, sym, ap, subst, arith}
 use Rattle.std.specs.Prelude.{nat_le}
 use Rattle.std.specs.Result.{IsErrAnd}
@@ -33,7 +33,7 @@ no_verb line left after (Err other) read bad whole is was reads =
     let found = rw was at reads in
     subst (λ (b : BadWord). txn_call_in line ≡ Err b.at) (sym is) (line_is line left (Err bad.at) whole found)
 
--- there is a verb, and what it asks for stands behind it
+-- there is a verb, and what it asks for stands after it
 pub with_verb : (line : List ℕ) (left after : Left) (result : Result TxnCall BadWord) (read : Result Verb BadWord) (verb : Verb) → left ≡ left_from line 0
     → read ≡ Ok verb → ReadsVerb left read after → Answers result (behind_verb (verb_of verb) (rest_of after)) → Answers result (txn_call_in line)
 with_verb line left after result read verb whole was reads answers =

@@ -25,7 +25,7 @@ abbrev pub Answers : {A : Type 0} → Result A BadWord → Result A ℕ → Type
 Answers (Ok x) defined = defined ≡ Ok x
 Answers (Err bad) defined = defined ≡ Err bad.at
 
--- the same of the next word, with what is left behind it
+-- the same of the next word, with what is left after it
 abbrev pub AnswersWord : {A : Type 0} → Result A BadWord → Left → Result (Read A) ℕ → Type 0
 AnswersWord (Ok x) after defined = defined ≡ Ok (record { value = x; rest = rest_of after })
 AnswersWord (Err bad) after defined = defined ≡ Err bad.at

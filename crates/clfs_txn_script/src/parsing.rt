@@ -61,7 +61,7 @@ fn get_line(words: &mut Words) -> Result<TxnCall, BadWord>
     ending(TxnCall::Get { cell }, words)
 }
 
-// What stands behind a verb.
+// What stands after a verb.
 fn behind_verb(verb: Verb, words: &mut Words) -> Result<TxnCall, BadWord>
     ensures read { Answers result (behind_verb (verb_of verb) (rest_of words.old)) }
     ensures ranges { IfOk result (λ call. IsInRange call) }

@@ -25,7 +25,7 @@ fn number(words: &mut Words, least: u32, most: u32) -> Result<u32, BadWord>
     }
 }
 
-// What a line asks for, without the words behind it.
+// What a line asks for, without the words after it.
 pub(crate) fn verb(words: &mut Words) -> Result<Verb, BadWord>
     ensures { ReadsVerb words.old result words.new }
 {
@@ -80,7 +80,7 @@ pub(crate) fn value(words: &mut Words) -> Result<u64, BadWord>
     }
 }
 
-// This, behind which the line ends.
+// This, after which the line ends.
 pub(crate) fn ending<T: Drop>(value: T, words: &mut Words) -> Result<T, BadWord>
     ensures read { Answers result (ends value (rest_of words.old)) }
     ensures same { IfOk result (λ v. v ≡ value) }

@@ -4,7 +4,7 @@ ghost use Rattle.std.specs.Option.{option_map};
 ghost use Rattle.clfs_cells.specs.Lines.{txn_verb};
 ghost use Rattle.clfs_txn_script.specs.Asked.{verb_of};
 
-// What a line asks for, without the words behind it.
+// What a line asks for, without the words after it.
 #[derive(Clone, Copy, Debug)]
 pub(crate) enum Verb {
     Begin,

@@ -51,7 +51,7 @@ fn push_txn_reply(reply: &TxnReply, out: &mut Bytes) -> Result<(), AllocError>
     }
 }
 
-/// Writes the line of a reply, with its line feed, behind the text that is there. If memory runs out a part of it may be there.
+/// Writes the line of a reply, with its line feed, after the text that is there. If memory runs out a part of it may be there.
 pub fn write_txn_reply(reply: &TxnReply, out: &mut Bytes) -> Result<(), AllocError>
     ensures { OnOk result (out.new ≡ out.old ++ txn_reply_line reply.now) }
 {

@@ -3,6 +3,6 @@ use Rattle.std.specs.List.{flat_map}
 use Rattle.clfs_base.specs.Spelling.{filled, number_bytes}
 use Rattle.clfs_base.proofs.encoder.put_files.Given as goal
 
--- the numbers so far, and zeros behind them
+-- the numbers so far, and zeros after them
 abbrev pub invariant-loop-i : goal.invariant-loop-i
 invariant-loop-i l = l.out ≡ filled 512 (flat_map number_bytes (take l.i l.files))

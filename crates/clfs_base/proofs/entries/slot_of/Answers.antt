@@ -3,7 +3,7 @@ use Rattle.std.proofs.lemmas.Bool.{cases_lt}
 use Rattle.std.proofs.lemmas.List.{take_all, drop_all}
 use Rattle.clfs_base.proofs.entries.slot_of.Goals as goal
 
--- where a front ends behind the list, all of it is taken, and nothing is left
+-- where a front ends after the list, all of it is taken, and nothing is left
 taken : (xs : List ℕ) (n m : ℕ) → m ≡ min (length xs) n → take m xs ≡ take n xs
 taken xs n m is = ⊎_elim
     (λ (low : n < length xs). let same : m ≡ n = omega (arith, is, low) in ap (λ (k : ℕ). take k xs) same)

@@ -3,7 +3,7 @@ use Rattle.std.proofs.lemmas.List.{take_at, take_min}
 use Rattle.clfs_base.specs.Slots.{slot_place, slot_of}
 use Rattle.clfs_base.proofs.newest.read_slot.Goals as goal
 
--- what a read found, in a buffer that was cut off behind it
+-- what a read found, in a buffer that was cut off after it
 cut_off : (n len place slot : ℕ) (out tail base : List ℕ) → len ≡ 16384 → length out ≡ 16384 → place ≡ slot_place slot → n ≡ min 16384 (length base - place)
     → take n out ≡ take n (drop place base) → take n (take len (out ++ tail)) ≡ slot_of base slot
 cut_off n len place slot out tail base len_is size place_is n_is same =

@@ -7,7 +7,7 @@ use Rattle.clfs_base.specs.Writing.{HasNewest}
 use Rattle.clfs_base.proofs.Copies.{leaves_weaker, filling, body_written}
 use Rattle.clfs_base.proofs.slots.write_body.Goals as goal
 
--- the range of the write is that of a slot behind its gate
+-- the range of the write is that of a slot after its gate
 torn_at : (at slot n : ℕ) (old new : Files) → at ≡ slot_place slot → n ≡ 16383 → TornIn 0 (at + 1) n old new → TornIn 0 (16384 * slot + 1) 16383 old new
 torn_at at slot n old new place size torn =
     subst (λ (k : ℕ). TornIn 0 (k + 1) 16383 old new) place (subst (λ (k : ℕ). TornIn 0 (at + 1) k old new) size torn)

@@ -5,7 +5,7 @@ use Rattle.clfs_block.proofs.Frames.{length-payload_from, payload_more}
 use Rattle.clfs_block.proofs.gathering.gather_payload.Goals as goal
 
 module _ (front piece old out : List ℕ) (at : ℕ) (is : out ≡ front ++ drop at old) (size : length front ≡ at) where
-  -- a piece that is put behind a front of bytes goes on with it
+  -- a piece that is put after a front of bytes goes on with it
   put_behind : take at out ++ (piece ++ drop (at + length piece) out) ≡ (front ++ piece) ++ drop (at + length piece) old
   put_behind =
       let n = length piece in

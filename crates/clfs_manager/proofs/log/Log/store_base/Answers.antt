@@ -34,7 +34,7 @@ use Rattle.clfs_manager.proofs.log.Log.store_base.Goals as goal
 use Rattle.clfs_manager.proofs.log.Log.store_base.Given.{Over}
 
 module _ (g : Over) (c : goal.After-change-1 g) where
-  -- the container from which on the copy lists is that of the hold behind the new base
+  -- the container from which on the copy lists is that of the hold after the new base
   first_is : c.container.result ≡ container_of (hold (with_base c.args.stream c.args.base c.args.self.now.state.value))
   first_is =
       let old = c.args.self.now in
@@ -99,7 +99,7 @@ returns-in-Err-clause-moments g c =
     c.write_copy.ensures.moments
 
 module _ (g : Over) (c : goal.After-self-2-1 g) where
-  -- the container from which on the copy lists is that of the hold behind the new base
+  -- the container from which on the copy lists is that of the hold after the new base
   first_then : c.container.result ≡ container_of (hold (with_base c.args.stream c.args.base c.args.self.now.state.value))
   first_then =
       let old = c.args.self.now in
