@@ -35,3 +35,13 @@ mod Tabled
 mod TableEnds
 mod TableLog
 mod Settled
+mod Dropped
+mod LeftBy
+mod Along
+mod AlongAppends
+mod AlongCalls
+mod AlongCommit
+mod AlongCheckpoint
+mod AlongAll
+mod AlongLoad
+mod AlongOpen

@@ -61,7 +61,7 @@ fits shape is = le-ltb (longest shape) 260 (let some = is.some_sectors in omega 
 
 -- ---- the log with the area
 
-table_of_base : (log : State) → Opens log → table (with_stream log) ≡ table log
+pub table_of_base : (log : State) → Opens log → table (with_stream log) ≡ table log
 table_of_base log o =
     ap (λ (x : Option ℕ). option_map_or (table_in (with_stream log)) x blank_cells) o.numbered
     ∙ ap cells_in o.same_live ∙ sym o.table_is
@@ -113,11 +113,11 @@ ground told log client valid whole none passes o there =
 
 -- ---- the area is made
 
-area_as : (told : Bool) (stable number : ℕ) (reply : Reply) → IsReply told stable (replies.Area number) reply → reply ≡ replies.Area number
+pub area_as : (told : Bool) (stable number : ℕ) (reply : Reply) → IsReply told stable (replies.Area number) reply → reply ≡ replies.Area number
 area_as true stable number reply is = is
 area_as false stable number reply is = is
 
-stream_as : (told : Bool) (stable number : ℕ) (reply : Reply) → IsReply told stable (replies.Stream number) reply → reply ≡ replies.Stream number
+pub stream_as : (told : Bool) (stable number : ℕ) (reply : Reply) → IsReply told stable (replies.Stream number) reply → reply ≡ replies.Stream number
 stream_as true stable number reply is = is
 stream_as false stable number reply is = is
 

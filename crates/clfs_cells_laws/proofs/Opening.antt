@@ -75,7 +75,7 @@ no_stream streams number behind some =
           let is : IsSome {T = Stream} None = subst IsSome none some in absurd (cc is)
     ]
 
-none_of_it : (s log : State) (number : ℕ) (records : List LogEntry) → length log.streams < number → AllByRecursion (IsRecord log) records
+pub none_of_it : (s log : State) (number : ℕ) (records : List LogEntry) → length log.streams < number → AllByRecursion (IsRecord log) records
     → filter (λ (e : LogEntry). (e.stream == number) && is_live s e) records ≡ []
 none_of_it s log number [] behind all = refl
 none_of_it s log number (entry ∷ records) behind all = elim (cases_Bool (entry.stream == number)) [

@@ -226,7 +226,7 @@ begin_out {tabled = tabled} laws told s memory changes result v store carries = 
 
 -- ---- a checkpoint
 
-info_as : (told : Bool) (stable : ℕ) (info : LogInfo) (reply : Reply) → IsReply told stable (replies.Info info) reply → reply ≡ replies.Info info
+pub info_as : (told : Bool) (stable : ℕ) (info : LogInfo) (reply : Reply) → IsReply told stable (replies.Info info) reply → reply ≡ replies.Info info
 info_as true stable info reply is = is
 info_as false stable info reply is = is
 
@@ -267,11 +267,11 @@ same_names first number lsn name (x ∷ streams) = elim (cases_Bool (number == 1
   | inr further ↦ rw further (elim (cases_Bool (bytes_eq x.name name)) [ inl own ↦ rw own refl | inr other ↦ rw other (same_names (first + 1) (number - 1) lsn name streams) ])
 ]
 
-no_transactions : (ts : List Transaction) → nat_lt 0 (length ts) ≡ false → ts ≡ []
+pub no_transactions : (ts : List Transaction) → nat_lt 0 (length ts) ≡ false → ts ≡ []
 no_transactions [] is = refl
 no_transactions (t ∷ ts) is = let none = ltb-false 0 (length (t ∷ ts)) is in absurd (omega (arith, none))
 
-rebased_store : {tabled : Bool} → (s u : State) (memory : Memory) (bytes : List ℕ) (base : ℕ) → IsStore tabled s memory → IsValid u → nat_lt 0 (length memory.transactions) ≡ false
+pub rebased_store : {tabled : Bool} → (s u : State) (memory : Memory) (bytes : List ℕ) (base : ℕ) → IsStore tabled s memory → IsValid u → nat_lt 0 (length memory.transactions) ≡ false
     → Rebased s (store_area memory []) bytes base u → (tabled ≡ true → IsTabled u memory) → IsStore tabled u memory
 rebased_store {tabled = tabled} s u memory bytes base store valid none is table =
     let empty = no_transactions memory.transactions none in
@@ -293,7 +293,7 @@ abbrev written : Memory → List ℕ
 written memory = checkpoint_bytes (record { cells = memory.cells; last = memory.last })
 
 -- the new base is one, so there is a live record
-is_base_there : {tabled : Bool} → (s : State) (memory : Memory) (base : ℕ) → IsStore tabled s memory → (base == null_lsn) ≡ false
+pub is_base_there : {tabled : Bool} → (s : State) (memory : Memory) (base : ℕ) → IsStore tabled s memory → (base == null_lsn) ≡ false
     → refusal s memory.client (calls.WriteRestart memory.area (written memory) base false) ≡ None → is_base s memory.stream base ≡ true
 is_base_there {tabled = tabled} s memory base store some passes =
     let at : refusal s memory.client (calls.WriteRestart memory.area (written memory) base false)

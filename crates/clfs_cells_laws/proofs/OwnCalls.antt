@@ -83,7 +83,7 @@ pub record KeepsName (change : Area → Area) : Type 0 where
   pub client : (area : Area) → (change area).client ≡ area.client
   pub number : (area : Area) → (change area).number ≡ area.number
 
-find_changed : (change : Area → Area) → KeepsName change → (client number : ℕ) (areas : List Area)
+pub find_changed : (change : Area → Area) → KeepsName change → (client number : ℕ) (areas : List Area)
     → find (is_area client number) (change_first (is_area client number) change areas) ≡ option_map change (find (is_area client number) areas)
 find_changed change keeps client number [] = refl
 find_changed change keeps client number (area ∷ areas) = elim (cases_Bool (is_area client number area)) [

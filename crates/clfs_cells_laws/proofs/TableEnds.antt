@@ -30,11 +30,11 @@ is_end (Compensation change) = false
 is_end Commit = true
 is_end RolledBack = true
 
-or_true : (a : Bool) → (a || true) ≡ true
+pub or_true : (a : Bool) → (a || true) ≡ true
 or_true true = refl
 or_true false = refl
 
-false_end : (a b : Bool) → (a || ((b && true) || false)) ≡ (a || b)
+pub false_end : (a b : Bool) → (a || ((b && true) || false)) ≡ (a || b)
 false_end a true = refl
 false_end a false = refl
 

@@ -17,7 +17,7 @@ use Rattle.clfs_model.specs.Valid.{IsRecord, IsValid}
 use Rattle.clfs_cells.specs.declared.checkpoint.Checkpoint.{Checkpoint}
 use Rattle.clfs_cells.specs.declared.row.TxnRecord.{TxnRecord}
 use Rattle.clfs_cells.specs.Layout.{blank_cells, checkpoint_of, txn_record_of}
-use Rattle.clfs_cells.specs.Table.{first_cells, records_after}
+use Rattle.clfs_cells.specs.Table.{entries_after, first_cells, records_after}
 use Rattle.clfs_cells_laws.proofs.Above.{above, kept}
 use Rattle.clfs_cells_laws.proofs.Ground.{newest_in, spelled}
 use Rattle.clfs_cells_laws.proofs.Newest.{newest_has}
@@ -54,12 +54,15 @@ newest_below xs lsn some all = go (newest_in xs) refl
     go None is = some
     go (Some x) is = newest_has (λ (e : LogEntry). e.lsn < lsn) xs x is all
 
-pub row_joins : (s u : State) (stream : ℕ) (entry : LogEntry) (r : TxnRecord) → IsValid s → frontier s.place ≤ entry.lsn → 0 < entry.lsn → u.streams ≡ s.streams
-    → u.records ≡ s.records ++ entry ∷ [] → entry.stream ≡ stream → is_restart entry.kind ≡ false → txn_record_of entry.bytes ≡ Some r
-    → (first_cells u stream ≡ first_cells s stream) × (records_after u stream ≡ records_after s stream ++ r ∷ [])
-row_joins s u stream entry r valid high some streams records own plain spells =
+-- a record of the stream that is no restart area comes after all others above the newest one
+pub record JoinsEntries (s : State) (stream : ℕ) (entry : LogEntry) (w : State) : Type 0 where
+  pub newest : newest_in (live w stream) ≡ newest_in (live s stream)
+  pub entries : entries_after w stream ≡ entries_after s stream ++ entry ∷ []
+
+pub entries_join : (s : State) (stream : ℕ) (entry : LogEntry) → IsValid s → frontier s.place ≤ entry.lsn → 0 < entry.lsn → entry.stream ≡ stream
+    → is_restart entry.kind ≡ false → JoinsEntries s stream entry (record s { records = s.records ++ entry ∷ [] })
+entries_join s stream entry valid high some own plain =
     let w : State = record s { records = s.records ++ entry ∷ [] } in
-    let same = reads_as w u stream streams records in
     let p : LogEntry → Bool = λ e. (e.stream == stream) && is_live s e in
     let base = base_within s entry.stream valid in
     let low = flushed_within s valid in
@@ -69,16 +72,26 @@ row_joins s u stream entry r valid high some streams records own plain spells =
     let newest : newest_in (live w stream) ≡ newest_in (live s stream) = ap newest_in lives ∙ newest_more (live s stream) entry plain in
     let all_low = kept (λ (e : LogEntry). e.lsn < entry.lsn) p s.records (below_all s entry.lsn s.records high (recursion_from_All (IsRecord s) s.records valid.records.records)) in
     let under : lsn_or_null (newest_in (live s stream)) < entry.lsn = newest_below (live s stream) entry.lsn some all_low in
-    let above_is : above (lsn_or_null (newest_in (live w stream))) (live w stream) ≡ above (lsn_or_null (newest_in (live s stream))) (live s stream) ++ entry ∷ []
-    = ap (λ (o : Option LogEntry). above (lsn_or_null o) (live w stream)) newest
-    ∙ ap (above (lsn_or_null (newest_in (live s stream)))) lives
-    ∙ filter-append (λ (e : LogEntry). nat_lt (lsn_or_null (newest_in (live s stream))) e.lsn) (live s stream) (entry ∷ [])
-    ∙ ap (λ (l : List LogEntry). above (lsn_or_null (newest_in (live s stream))) (live s stream) ++ l)
-    (let one : above (lsn_or_null (newest_in (live s stream))) (entry ∷ []) ≡ entry ∷ [] = rw (lt-ltb (lsn_or_null (newest_in (live s stream))) entry.lsn under) refl in one) in
+    record {
+      newest = newest;
+      entries = ap (λ (o : Option LogEntry). above (lsn_or_null o) (live w stream)) newest
+          ∙ ap (above (lsn_or_null (newest_in (live s stream)))) lives
+          ∙ filter-append (λ (e : LogEntry). nat_lt (lsn_or_null (newest_in (live s stream))) e.lsn) (live s stream) (entry ∷ [])
+          ∙ ap (λ (l : List LogEntry). above (lsn_or_null (newest_in (live s stream))) (live s stream) ++ l)
+          (let one : above (lsn_or_null (newest_in (live s stream))) (entry ∷ []) ≡ entry ∷ [] = rw (lt-ltb (lsn_or_null (newest_in (live s stream))) entry.lsn under) refl in one);
+    }
+
+pub row_joins : (s u : State) (stream : ℕ) (entry : LogEntry) (r : TxnRecord) → IsValid s → frontier s.place ≤ entry.lsn → 0 < entry.lsn → u.streams ≡ s.streams
+    → u.records ≡ s.records ++ entry ∷ [] → entry.stream ≡ stream → is_restart entry.kind ≡ false → txn_record_of entry.bytes ≡ Some r
+    → (first_cells u stream ≡ first_cells s stream) × (records_after u stream ≡ records_after s stream ++ r ∷ [])
+row_joins s u stream entry r valid high some streams records own plain spells =
+    let w : State = record s { records = s.records ++ entry ∷ [] } in
+    let same = reads_as w u stream streams records in
+    let joins = entries_join s stream entry valid high some own plain in
     let one_row : spelled (entry ∷ []) ≡ r ∷ [] = rw spells refl in (
-      same.first ∙ ap first_of newest,
-      same.records ∙ ap spelled above_is ∙ filter_map-append (λ (e : LogEntry). txn_record_of e.bytes) (above (lsn_or_null (newest_in (live s stream))) (live s stream)) (entry ∷ [])
-          ∙ ap (λ (l : List TxnRecord). spelled (above (lsn_or_null (newest_in (live s stream))) (live s stream)) ++ l) one_row,
+      same.first ∙ ap first_of joins.newest,
+      same.records ∙ ap spelled joins.entries ∙ filter_map-append (λ (e : LogEntry). txn_record_of e.bytes) (entries_after s stream) (entry ∷ [])
+          ∙ ap (λ (l : List TxnRecord). spelled (entries_after s stream) ++ l) one_row,
     )
   where
     first_of : Option LogEntry → List ℕ

@@ -136,7 +136,7 @@ top_is s memory t made older is_open is =
       under = subst (IsNullOrLive s memory.stream) (sym stack.0) (newest_live s memory.stream older all.1);
     }
 
-changed_found : (memory : Memory) (number : ℕ) (t : Transaction) (f : Transaction → Transaction) → transaction memory number ≡ Some t → (f t).number ≡ t.number
+pub changed_found : (memory : Memory) (number : ℕ) (t : Transaction) (f : Transaction → Transaction) → transaction memory number ≡ Some t → (f t).number ≡ t.number
     → find (is_numbered number) (change_first (is_numbered t.number) f memory.transactions) ≡ Some (f t)
 changed_found memory number t f is keeps =
     let named = number_found memory number t is in

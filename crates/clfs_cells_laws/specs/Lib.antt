@@ -4,3 +4,4 @@ pub mod Sets
 pub mod Tables
 pub mod Stores
 pub mod Steps
+pub mod Crashes

@@ -6,7 +6,8 @@
 //!
 //! `specs/Stores.antt` says what is always true of a store. From that follows what its calls leave of the cells (`specs/Steps.antt`), that no call within a
 //! transaction is refused for room, and, if the disk told what it held when the table was loaded, that the store's cells are the log's table changed by what its
-//! open transactions did (`specs/Tables.antt`).
+//! open transactions did (`specs/Tables.antt`). And a crash leaves the table from before the call that is under way, or, in a commit, that with its transaction, since
+//! what isn't on the disk counts for nothing in it (`specs/Crashes.antt`).
 #![tactic(auto)]
 
 ghost use Rattle.std.specs.Prelude.{◌≡◌, ◌<◌, ℕ, Bool, true, false, [], All, Some, Ok, Err};
@@ -28,10 +29,12 @@ ghost use Rattle.clfs_cells.specs.declared.asked.TxnCall.{TxnCall};
 ghost use Rattle.clfs_cells.specs.declared.told.TxnReply.{TxnReply};
 ghost use Rattle.clfs_cells_laws.specs.Breaking.{breaks_loading, reads_back, tells_break, tells_table_broken, tells_table_damage};
 
+mod crashes;
 mod stores;
 mod tables;
 
 use clfs_laws::{broken_stays, faults_break, replies_are_of_their_calls, sameness, unbroken_stays};
+pub use crashes::crashes_leave_the_table;
 pub use stores::{a_transaction_has_its_room, calls_keep_a_store, calls_leave_the_cells_so};
 pub use tables::{a_commit_joins_the_table, a_stores_cells_are_its_table};
 

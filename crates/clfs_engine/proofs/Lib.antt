@@ -8,6 +8,7 @@ pub mod Loaded
 pub mod ServingEnds
 pub mod TxnLines
 pub mod TxnEnds
+pub mod TxnLeft
 pub mod Refusals
 pub mod Crashing
 pub mod Trials

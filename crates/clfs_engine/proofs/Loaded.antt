@@ -37,6 +37,16 @@ pub record IsKeptOn (t : State) (new : DiskState) : Type 0 where
   pub files : t.broken ≡ false → TellsContents new → HoldsFlushed new.files t
   pub settled : t.broken ≡ false → IsHonest new → IsSettled new
 
+-- until the log is open a crash leaves what it would have left at first
+pub left_before : (old mid : DiskState) → Passes Unchanged old mid → (moment : ℕ) (image : Files) → old.clock ≤ moment → moment < mid.clock → mid.image_at moment image
+    → (left : Files) × (MayLeave old left × Unchanged left image)
+left_before old mid time moment image after until is = ⊎_elim
+    (λ (later : old.clock < moment). let found = time.images moment image later (omega (arith, until)) is in (found.0, (found.1, found.2)))
+    (λ (first : moment ≤ old.clock).
+    let now : moment ≡ old.clock = omega (arith, first, after) in
+    (image, (subst (λ (m : ℕ). old.image_at m image) now (time.past moment image first is), λ file. refl)))
+    (cases_lt old.clock moment)
+
 module _ (buffers : ℕ) (old mid new : DiskState) (s t : State) (loaded : IsLoaded buffers old mid s) (kept : IsKeptOn t new) where
   whole_at_first : s.broken ≡ false
   whole_at_first = sym (ap (λ (u : State). u.broken) loaded.stable)
@@ -78,7 +88,7 @@ module _ (buffers : ℕ) (old mid new : DiskState) (s t : State) (loaded : IsLoa
     crash = λ honest. record {
       from = mid.clock;
       later = loaded.time.later;
-      before = λ moment image after until is. left_before moment image after until (given.answered.time.past moment image (omega (arith, until)) is);
+      before = λ moment image after until is. left_before old mid loaded.time moment image after until (given.answered.time.past moment image (omega (arith, until)) is);
       opened = λ whole full moment image after until is.
           (at_first honest whole full).each moment image after until (given.answered.time.past moment image until is);
       answered = λ whole full. subst (λ (n : Nature). IsLeftByRun n.tells_contents whole new.image_at mid.clock new.clock (nothing_asked s) s (requests_of lines) given.answers t)
@@ -94,15 +104,6 @@ module _ (buffers : ℕ) (old mid new : DiskState) (s t : State) (loaded : IsLoa
 
       at_first : IsHonest old → (whole : Bool) → (whole ≡ true → AreWholeFiles old.files) → Leaves (HoldSurvivor whole (bad_line 0) s) mid mid
       at_first honest whole full = loaded.left whole_at_first (honest_mid honest) whole (whole_mid whole full)
-
-      left_before : (moment : ℕ) (image : Files) → old.clock ≤ moment → moment < mid.clock → mid.image_at moment image
-          → (left : Files) × (MayLeave old left × Unchanged left image)
-      left_before moment image after until is = ⊎_elim
-          (λ (later : old.clock < moment). let found = loaded.time.images moment image later (omega (arith, until)) is in (found.0, (found.1, found.2)))
-          (λ (first : moment ≤ old.clock).
-          let now : moment ≡ old.clock = omega (arith, first, after) in
-          (image, (subst (λ (m : ℕ). old.image_at m image) now (loaded.time.past moment image first is), λ file. refl)))
-          (cases_lt old.clock moment)
 
       nature : new.nature ≡ old.nature
       nature = nature_is given.answers (requests_of lines) given.answered

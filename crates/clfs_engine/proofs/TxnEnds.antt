@@ -1,34 +1,36 @@
 -- How serving a table ends: by answering its lines, by why the table wasn't loaded, or by why the log wasn't opened.
-use Rattle.std.proofs.Common.{◌≡◌, ◌≢◌, ℕ, ◌≤◌, ◌⊎◌, Bool, true, false, List, ◌++◌, refl, sym, ap, subst, ◌∙◌, inl, inr, arith}
-use Rattle.std.specs.Prelude.{Option, IsTrue, Result, Ok, Err}
+use Rattle.std.proofs.Common.{◌≡◌, ◌≢◌, ℕ, ◌≤◌, ◌⊎◌, Bool, true, false, List, refl, sym, ap, subst, ◌∙◌, inl, inr, arith}
+use Rattle.std.specs.Prelude.{Option, IsTrue, Ok, Err}
 use Rattle.std.specs.Io.KnownBytes.{Appends}
 use Rattle.std.proofs.KnownBytes.{Appends-nil}
 use Rattle.clfs_ports.specs.Cause as ports
-use Rattle.clfs_disk.specs.State.{DiskState, Nature, TellsContents, IsHonest, IsSteady, Later, Rises}
+use Rattle.clfs_disk.specs.State.{DiskState, Nature, TellsContents, IsHonest, Later}
 use Rattle.clfs_model.specs.Accepted.{serve_limits}
-use Rattle.clfs_model.specs.declared.refusal.Refusal.{Refusal}
 use Rattle.clfs_model.specs.declared.refusal.Refusal.TheVariants as log_refusals
 use Rattle.clfs_model.specs.declared.state.State.{State}
 use Rattle.clfs_manager.specs.Written.{WritesDisk}
 use Rattle.clfs_recover.specs.Files.{AreWholeFiles}
 use Rattle.clfs_recover.specs.declared.refusal.LoadRefusal.{LoadRefusal}
-use Rattle.clfs_recover.specs.declared.refusal.LoadRefusal.TheVariants.{DiskFault}
 use Rattle.clfs_cells.specs.declared.told.TxnLoadRefusal.{TxnLoadRefusal}
 use Rattle.clfs_cells.specs.declared.told.TxnLoadRefusal.TheVariants.{Log, NotATable}
 use Rattle.clfs_cells.specs.Lines.{calls_of_lines}
 use Rattle.clfs_cells.specs.Loading.{LoadStep}
 use Rattle.clfs_cells.specs.Stored.{Store}
+use Rattle.clfs_cells.specs.Table.{table}
 use Rattle.clfs_cells_laws.specs.Breaking.{breaks_loading}
+use Rattle.clfs_cells_laws.specs.Crashes.{IsSafe}
 use Rattle.clfs_cells_laws.specs.Loads as tables
+use Rattle.clfs_txn.specs.Crashes.{CrashLeavesTable}
 use Rattle.clfs_lines.specs.Answering.{Answers, EndsAnswering, IsAnswerStatus, StopsAtFault, Writes}
 use Rattle.clfs_lines.specs.Ends.{AppendsFront}
 use Rattle.clfs_engine.specs.Opened.{RefusesLog, TellsRefusal, refusal_line}
-use Rattle.clfs_engine.specs.Txn.{AnswersTableLines, IsOpenedLog, IsTableAnswered, IsTableAnsweredInPart, RefusesTable, TellsTableRefusal, IsTableRefusalText, IsTxnStatus, EndsTxn, TableRun, has_table_fault, table_refusal_line, table_refusal_status}
-use Rattle.clfs_engine.proofs.Loaded.{IsLoaded, IsKeptOn}
+use Rattle.clfs_engine.specs.Txn.{AnswersTableLines, IsOpenedLog, IsTableAnswered, IsTableAnsweredInPart, RefusesTable, TellsTableRefusal, IsTableRefusalText, IsTxnStatus, EndsTxn, TableRun, table_refusal_line, table_refusal_status}
+use Rattle.clfs_engine.specs.TxnCrashed.{IsLeftByLines, IsLeftTable, IsLoadingLeft, IsServingLeft, alone}
+use Rattle.clfs_engine.proofs.Loaded.{IsLoaded, IsKeptOn, left_before}
 use Rattle.clfs_engine.proofs.OnlyRead.{unchanged_later, whole_same}
 use Rattle.clfs_engine.proofs.ServingEnds.{whole_as, fault_as, limit_as, at_limit_as, stops_as, refused_statuses, not_answered, fault_by, no_log_by, no_log_line, refusal_text}
-use Rattle.clfs_engine.proofs.SoFar.{later_then}
-use Rattle.clfs_engine.proofs.TxnLines.{IsTablePart}
+use Rattle.clfs_engine.proofs.SoFar.{later_then, stands_still}
+use Rattle.clfs_engine.proofs.TxnLines.{AreTableLines, IsTablePart}
 
 -- ---- a log that was opened
 
@@ -49,10 +51,23 @@ tells_later old new same told = subst (λ (n : Nature). IsTrue n.tells_contents)
 honest_later : (old new : DiskState) → new.nature ≡ old.nature → IsHonest old → IsHonest new
 honest_later old new same honest = subst (λ (n : Nature). IsTrue n.tells_contents × IsTrue n.tells_images) (sym same) honest
 
+-- what a crash leaves until the table was loaded
+loading_left : (old mid disk new : DiskState) (first : State) → IsLoaded 4 old mid first → Later mid disk → Later disk new
+    → CrashLeavesTable (table first) (table first) mid disk → IsHonest old → IsLoadingLeft old new first disk.clock
+loading_left old mid disk new first opened loading time moments honest = record {
+  opened = mid.clock;
+  later = opened.time.later;
+  on = loading.later;
+  before = λ moment image after until is. left_before old mid opened.time moment image after until
+      (loading.past moment image (omega (arith, until)) (time.past moment image (let later = loading.later in omega (arith, until, later)) is));
+  loading = λ moment image from until is. (moments (honest_later old mid opened.time.nature honest)).each moment image from until (time.past moment image until is);
+}
+
 -- a table was loaded of it, and the lines were answered
 module _ (old mid disk new : DiskState) (first : State) (store last : Store) (opened : IsLoaded 4 old mid first)
     (load : LoadStep mid.nature.tells_contents first 1 (Ok store.memory) store.log)
-    (loaded : tables.IsLoaded mid.nature.tells_contents first 1 store.memory store.log) (writes : WritesDisk ⊥ mid disk) (kept : IsKeptOn last.log new) where
+    (loaded : tables.IsLoaded mid.nature.tells_contents first 1 store.memory store.log) (writes : WritesDisk ⊥ mid disk) (kept : IsKeptOn last.log new)
+    (moments : CrashLeavesTable (table first) (table first) mid disk) (safe : TellsContents mid → IsSafe store.log store.memory.stream) where
   -- time until the table was loaded
   before : Later old disk
   before = later_then old mid disk (unchanged_later old mid opened.time) writes.time
@@ -74,9 +89,23 @@ module _ (old mid disk new : DiskState) (first : State) (store last : Store) (op
         given.steady (subst (λ (n : Nature). IsTrue n.steady) (sym before.nature) steady) (tells_later old disk before.nature told) (full_before told are);
   }
 
-  pub table_answered : (lines : List (List ℕ)) (text : List ℕ) → AnswersTableLines store disk last new lines text → IsTableAnswered old new lines text
+  table_left : (lines : List (List ℕ)) (text : List ℕ) (lines_did : AreTableLines store disk last new lines text) → IsHonest old
+      → IsServingLeft old new first store (calls_of_lines lines) lines_did.given.answers last
+  table_left lines text lines_did honest = record {
+    loaded = disk.clock;
+    loading = loading_left old mid disk new first opened writes.time lines_did.given.time moments honest;
+    answered = subst (λ (n : Nature). IsLeftByLines n.tells_contents new.image_at disk.clock new.clock (alone (table first)) store (calls_of_lines lines) lines_did.given.answers last)
+        before.nature (lines_did.crash (inr (safe (tells_later old mid opened.time.nature honest.0))) (honest_later old disk before.nature honest) (alone (table first)) at_first);
+  }
+    where
+      at_first : IsLeftTable disk.image_at disk.clock disk.clock (alone (table first))
+      at_first moment image from until is =
+          (moments (honest_later old mid opened.time.nature honest)).each moment image (let later = writes.time.later in omega (arith, from, later)) until is
+
+  pub table_answered : (lines : List (List ℕ)) (text : List ℕ) → AreTableLines store disk last new lines text → IsTableAnswered old new lines text
   unfolding lines_from
-  table_answered lines text given =
+  table_answered lines text lines_did =
+      let given = lines_did.given in
       let nature : new.nature ≡ old.nature = given.time.nature ∙ before.nature in
       record {
         first = first;
@@ -90,6 +119,7 @@ module _ (old mid disk new : DiskState) (first : State) (store last : Store) (op
             kept.files (given.unbroken (tells_later old disk before.nature told) loaded.whole none).0 (tells_later old new nature told);
         settled = λ honest none.
             kept.settled (given.unbroken (tells_later old disk before.nature honest.0) loaded.whole none).0 (honest_later old new nature honest);
+        crash = table_left lines text lines_did;
       }
 
   -- the replies were written in part
@@ -115,8 +145,9 @@ writes_as fault other old new to back writes = record {
 pub refuses_table : (cause : TxnLoadRefusal) (old mid new : DiskState) (first last : State) → IsLoaded 4 old mid first
     → LoadStep mid.nature.tells_contents first 1 (Err cause) last → tables.IsNotLoaded mid.nature.tells_contents first 1 cause last
     → (breaks_loading (Err cause) ≡ false → last.broken ≡ false) → WritesDisk (cause ≡ Log log_refusals.DiskFault) mid new
-    → (TellsContents mid → (container offset at : ℕ) → cause ≡ Log (log_refusals.Damaged container offset at) → ⊥) → IsKeptOn last new → RefusesTable cause old new
-refuses_table cause old mid new first last opened load refused stays writes damage kept =
+    → (TellsContents mid → (container offset at : ℕ) → cause ≡ Log (log_refusals.Damaged container offset at) → ⊥) → IsKeptOn last new
+    → CrashLeavesTable (table first) (table first) mid new → RefusesTable cause old new
+refuses_table cause old mid new first last opened load refused stays writes damage kept moments =
     let before = unchanged_later old mid opened.time in
     let time = later_then old mid new before writes.time in
     let tells = tells_later old mid opened.time.nature in
@@ -133,6 +164,7 @@ refuses_table cause old mid new first last opened load refused stays writes dama
       damage = λ told. damage (tells told);
       files = λ told other. kept.files (stays (calm_cause cause other (damage (tells told)))) (tells_later old new time.nature told);
       settled = λ honest other. kept.settled (stays (calm_cause cause other (damage (tells honest.0)))) (honest_later old new time.nature honest);
+      crash = loading_left old mid new new first opened writes.time (stands_still new) moments;
     }
   where
     calm_cause : (given : TxnLoadRefusal) → given ≢ Log log_refusals.DiskFault

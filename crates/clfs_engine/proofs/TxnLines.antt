@@ -1,12 +1,11 @@
 -- The lines that a store of a table answered, one after the other.
-use Rattle.std.proofs.Common.{◌≡◌, ℕ, ◌+◌, ◌-◌, ◌≤◌, ◌⊎◌, Bool, true, false, List, [], ◌∷◌, ◌++◌, length, take, drop, refl, sym, ap, ◌∙◌, length-append, subst, inl, inr, arith, Result, Ok, Err}
+use Rattle.std.proofs.Common.{◌≡◌, ℕ, ◌⊎◌, Bool, true, false, List, [], ◌∷◌, ◌++◌, length, take, drop, refl, sym, ap, ◌∙◌, length-append, subst, inl, inr, arith, Result, Ok, Err}
 use Rattle.std.specs.Prelude.{◌||◌, map, IsTrue}
 use Rattle.std.specs.List.{concat}
 use Rattle.std.proofs.lemmas.List.{take-append-drop, length-drop, length-map}
 use Rattle.clfs_disk.specs.State.{DiskState, Nature, TellsContents, IsSteady, Later, Rises}
 use Rattle.clfs_model.specs.Lines.{without_return}
 use Rattle.clfs_model.specs.declared.refusal.Refusal.TheVariants as log_refusals
-use Rattle.clfs_model.specs.declared.state.State.{State}
 use Rattle.clfs_recover.specs.Files.{AreWholeFiles}
 use Rattle.clfs_cells.specs.declared.asked.TxnCall.{TxnCall}
 use Rattle.clfs_cells.specs.declared.told.TxnRefusal.TheVariants as refusals
@@ -20,7 +19,9 @@ use Rattle.clfs_txn_lines.specs.Answered.{AnswersTable, LineStep, fault_reply}
 use Rattle.clfs_lines.specs.Through as through
 use Rattle.clfs_lines.specs.Through.{AnswersEach, AnswersThrough}
 use Rattle.clfs_engine.specs.Txn.{TableRun, AnswersTableLines, IsFrontOfReplies, has_table_broken, has_table_damage, has_table_fault, table_text}
+use Rattle.clfs_engine.specs.TxnCrashed.{CrashLeavesLines}
 use Rattle.clfs_engine.proofs.SoFar.{later_then, stands_still}
+use Rattle.clfs_engine.proofs.TxnLeft.{first_left}
 
 -- ---- the replies as texts
 
@@ -88,6 +89,7 @@ record IsRun (s : Store) (old : DiskState) (t : Store) (new : DiskState) (lines 
   unbroken : TellsContents old → s.log.broken ≡ false → has_table_fault answers ≡ false → (t.log.broken ≡ false) × (has_table_broken answers ≡ false)
   whole : TellsContents old → has_table_fault answers ≡ false → AreWholeFiles old.files → AreWholeFiles new.files
   steady : IsSteady old → TellsContents old → AreWholeFiles old.files → has_table_fault answers ≡ false
+  crash : CrashLeavesLines s old (calls_of_lines lines) answers t new
 
 none_run : (s : Store) (disk : DiskState) → IsRun s disk s disk [] []
 none_run s disk = record {
@@ -100,6 +102,7 @@ none_run s disk = record {
   unbroken = λ told was none. (was, refl);
   whole = λ told none are. are;
   steady = λ steady told are. refl;
+  crash = λ safe honest was left. (refl, refl);
 }
 
 first_run : BreakOnly → (s : Store) (old : DiskState) (mid : Store) (between : DiskState) (t : Store) (new : DiskState) (line text : List ℕ) (lines texts : List (List ℕ))
@@ -133,13 +136,19 @@ first_run only s old mid between t new line text lines texts one rest =
           let there : has_table_fault rest.answers ≡ false =
           rest.steady (subst (λ (n : Nature). IsTrue n.steady) (sym nature) steady) (tells told) (did.writes.whole fine.0 told are) in
           rw (here, there) refl;
+      crash = first_left s old mid between t new (txn_call_in (without_return line)) one.reply (calls_of_lines lines) rest.answers did rest.time rest.crash;
     }
+
+-- lines that were answered, and what a crash leaves meanwhile
+pub record AreTableLines (s : Store) (old : DiskState) (t : Store) (new : DiskState) (lines : List (List ℕ)) (text : List ℕ) : Type 0 where
+  pub given : AnswersTableLines s old t new lines text
+  pub crash : CrashLeavesLines s old (calls_of_lines lines) given.answers t new
 
 -- what is said of replies that were written in part
 pub record IsTablePart (s : Store) (old : DiskState) (t : Store) (new : DiskState) (torn : Bool) (lines : List (List ℕ)) (text : List ℕ) : Type 0 where
   pub output : List ℕ
-  pub given : AnswersTableLines s old t new lines output
-  pub front : IsFrontOfReplies torn given.answers text
+  pub given : AreTableLines s old t new lines output
+  pub front : IsFrontOfReplies torn given.given.answers text
 
 module _ (A : Type 0) (store : A → Store) (disk : A → DiskState) where
   run_of : BreakOnly → (a b : A) (lines texts : List (List ℕ))
@@ -155,18 +164,21 @@ module _ (A : Type 0) (store : A → Store) (disk : A → DiskState) where
   -- all replies as one text
   pub table_lines : BreakOnly → (a b : A) (lines : List (List ℕ)) (text : List ℕ)
       → AnswersThrough (λ (x : A) (line reply : List ℕ) (y : A). AnswersTable (store x) (disk x) line reply (store y) (disk y)) a b lines text
-      → AnswersTableLines (store a) (disk a) (store b) (disk b) lines text
+      → AreTableLines (store a) (disk a) (store b) (disk b) lines text
   table_lines only a b lines text given =
       let run = run_of only a b lines given.replies given.each in record {
-        answers = run.answers;
-        run = run.run;
-        is = given.is ∙ sym (texts_joined run.answers ∙ ap (λ (texts : List (List ℕ)). concat texts) run.are);
-        time = run.time;
-        cause = run.cause;
-        damage = run.damage;
-        unbroken = run.unbroken;
-        whole = run.whole;
-        steady = run.steady;
+        given = record {
+          answers = run.answers;
+          run = run.run;
+          is = given.is ∙ sym (texts_joined run.answers ∙ ap (λ (texts : List (List ℕ)). concat texts) run.are);
+          time = run.time;
+          cause = run.cause;
+          damage = run.damage;
+          unbroken = run.unbroken;
+          whole = run.whole;
+          steady = run.steady;
+        };
+        crash = run.crash;
       }
 
   -- or all but the last, and a front of it
@@ -180,15 +192,18 @@ module _ (A : Type 0) (store : A → Store) (disk : A → DiskState) where
       let sum = ap length split in record {
         output = table_text run.answers;
         given = record {
-          answers = run.answers;
-          run = run.run;
-          is = refl;
-          time = run.time;
-          cause = run.cause;
-          damage = run.damage;
-          unbroken = run.unbroken;
-          whole = run.whole;
-          steady = run.steady;
+          given = record {
+            answers = run.answers;
+            run = run.run;
+            is = refl;
+            time = run.time;
+            cause = run.cause;
+            damage = run.damage;
+            unbroken = run.unbroken;
+            whole = run.whole;
+            steady = run.steady;
+          };
+          crash = run.crash;
         };
         front = record {
           whole = take count run.answers;

@@ -16,6 +16,7 @@ pub mod Trial
 pub mod Check
 pub mod Dump
 pub mod Txn
+pub mod TxnCrashed
 pub mod Complete
 pub mod Crew
 pub mod Work

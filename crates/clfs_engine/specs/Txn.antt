@@ -6,7 +6,6 @@ use Rattle.clfs_lsn.specs.Words.{lsn_text}
 use Rattle.clfs_ports.specs.Cause as ports
 use Rattle.clfs_disk.specs.State.{DiskState, TellsContents, IsHonest, IsSteady, IsSettled, Later, Rises}
 use Rattle.clfs_model.specs.Accepted.{serve_limits}
-use Rattle.clfs_model.specs.declared.refusal.Refusal.{Refusal}
 use Rattle.clfs_model.specs.declared.refusal.Refusal.TheVariants as log_refusals
 use Rattle.clfs_model.specs.declared.state.State.{State}
 use Rattle.clfs_model.specs.Storable.{IsStorable}
@@ -31,6 +30,7 @@ use Rattle.clfs_engine.specs.Complete.{IsDone}
 use Rattle.clfs_engine.specs.Ends.{disk_fault_text}
 use Rattle.clfs_engine.specs.Opened.{RefusesLog, IsNoLogText, IsRefusalText}
 use Rattle.clfs_engine.specs.Serve.{StaysUnopened}
+use Rattle.clfs_engine.specs.TxnCrashed.{IsLoadingLeft, IsServingLeft}
 
 -- ---- lines
 
@@ -96,6 +96,8 @@ pub record IsTableAnswered (old new : DiskState) (lines : List (List ℕ)) (text
   -- where no line is answered that the disk failed, the files hold the flushed part of the last log, and nothing is pending
   pub files : TellsContents old → has_table_fault answered.answers ≡ false → HoldsFlushed new.files last.log
   pub settled : IsHonest old → has_table_fault answered.answers ≡ false → IsSettled new
+  -- what a crash leaves of the table
+  pub crash : IsHonest old → IsServingLeft old new first store (calls_of_lines lines) answered.answers last
 
 -- A text that is all replies, or all but the last and, where it is torn, a front of that one.
 pub record IsFrontOfReplies (torn : Bool) (answers : List TxnReply) (text : List ℕ) : Type 0 where
@@ -133,6 +135,8 @@ pub record RefusesTable (cause : TxnLoadRefusal) (old new : DiskState) : Type 0 
   -- after another cause the files hold the flushed part of the log, whose table is that of before, and nothing is pending
   pub files : TellsContents old → cause ≢ Log log_refusals.DiskFault → HoldsFlushed new.files last
   pub settled : IsHonest old → cause ≢ Log log_refusals.DiskFault → IsSettled new
+  -- what a crash leaves of the table
+  pub crash : IsHonest old → IsLoadingLeft old new first new.clock
 
 -- the line that says why a table isn't loaded
 abbrev pub table_refusal_line : TxnLoadRefusal → List ℕ

@@ -7,7 +7,7 @@ use crate::refusing::refused;
 use crate::serving::LONGEST_SCRIPT;
 use crate::status::{DISK_FAULT, NOT_A_TABLE, Outcome, REFUSED};
 use clfs_cells::TxnLoadRefusal;
-use clfs_cells_laws::only_faults_break_a_store;
+use clfs_cells_laws::{crashes_leave_the_table, only_faults_break_a_store};
 use clfs_disk::Disk;
 use clfs_lines::{NO_MEMORY, answered, printed};
 use clfs_lsn::Bytes;
@@ -86,6 +86,7 @@ pub fn txn<S: Source, K: Sink, D: Disk + Drop>(
         (K.faults sink.old) (K.faults sink.new) → TableComesThrough result.status (D.state disk) (D.state result.disk)
         (S.left source.old) (S.left source.new) (K.written sink.old) (K.written sink.new) }
 {
+    crashes_leave_the_table();
     files_have_one_meaning();
     only_faults_break_a_store();
     let manager = match Manager::load(alloc, disk, WRITE_BUFFERS) {

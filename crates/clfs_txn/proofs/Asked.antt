@@ -76,3 +76,6 @@ read_next_is area place cursor p = ap (λ (a : ℕ). log_calls.ReadNext a cursor
 
 pub end_read_is : (area place cursor : ℕ) → area ≡ place → log_calls.EndRead area cursor ≡ log_calls.EndRead place cursor
 end_read_is area place cursor p = ap (λ (a : ℕ). log_calls.EndRead a cursor) p
+
+pub reserve_is : (area place : ℕ) (sizes others : List ℕ) → area ≡ place → sizes ≡ others → log_calls.Reserve area sizes ≡ log_calls.Reserve place others
+reserve_is area place sizes others p q = ap (λ (a : ℕ). log_calls.Reserve a sizes) p ∙ ap (λ (l : List ℕ). log_calls.Reserve place l) q

@@ -1,5 +1,5 @@
 -- What a step of a store says of it between two calls, by what the call answered.
-use Rattle.std.proofs.Common.{false, ◌≡◌, Bool, Result, Ok, Err, subst}
+use Rattle.std.proofs.Common.{◌≡◌, Bool, Result, Ok, Err, subst}
 use Rattle.std.specs.Prelude.{IsErrOf, OnOk}
 use Rattle.clfs_model.specs.declared.refusal.Refusal.{Refusal}
 use Rattle.clfs_cells.specs.declared.asked.TxnCall.{TxnCall}
@@ -13,15 +13,15 @@ use Rattle.clfs_cells_laws.specs.Stores.{IsKeptStore}
 use Rattle.clfs_txn.specs.Calls.{TxnSteps}
 
 -- what is known of the store that makes a call, and how the call went
-pub record Went {A : Type 0} (told : Bool) (s : Store) (call : TxnCall) (answer : A → TxnReply) (result : Result A TxnRefusal) (t : Store) : Type 0 where
-  pub kept : IsKeptStore false s.log s.memory
+pub record Went {A : Type 0} (tabled told : Bool) (s : Store) (call : TxnCall) (answer : A → TxnReply) (result : Result A TxnRefusal) (t : Store) : Type 0 where
+  pub kept : IsKeptStore tabled s.log s.memory
   pub step : TxnSteps told s call answer result t
 
 -- the same by what a contract sees of the store
-pub went : {A D : Type 0} (told : Bool) (inside seen : Store × D) (call : TxnCall) (answer : A → TxnReply) (result : Result A TxnRefusal) (t : Store) → inside ≡ seen
-    → IsKeptStore false inside.0.log inside.0.memory → TxnSteps told inside.0 call answer result t → Went told seen.0 call answer result t
-went {A} {D} told inside seen call answer result t view kept step = record {
-  kept = subst (λ (v : Store × D). IsKeptStore false v.0.log v.0.memory) view kept;
+pub went : {A D : Type 0} (tabled told : Bool) (inside seen : Store × D) (call : TxnCall) (answer : A → TxnReply) (result : Result A TxnRefusal) (t : Store) → inside ≡ seen
+    → IsKeptStore tabled inside.0.log inside.0.memory → TxnSteps told inside.0 call answer result t → Went tabled told seen.0 call answer result t
+went {A} {D} tabled told inside seen call answer result t view kept step = record {
+  kept = subst (λ (v : Store × D). IsKeptStore tabled v.0.log v.0.memory) view kept;
   step = subst (λ (v : Store × D). TxnSteps told v.0 call answer result t) view step;
 }
 

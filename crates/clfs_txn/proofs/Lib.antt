@@ -24,3 +24,6 @@ mod LoadParts
 mod LoadWhole
 mod Damage
 mod Between
+mod Moments
+mod Tables
+mod LoadMoments

@@ -203,7 +203,7 @@ is_table most client area stream info some there = rw (some, there) refl
 
 -- ---- the first restart area
 
-first_data : (m : Memory) → m ≡ unread m.client m.area m.stream → checkpoint_bytes (checkpoint_of_memory m) ≡ checkpoint_bytes blank_checkpoint
+pub first_data : (m : Memory) → m ≡ unread m.client m.area m.stream → checkpoint_bytes (checkpoint_of_memory m) ≡ checkpoint_bytes blank_checkpoint
 first_data m is = ap (λ (x : Memory). checkpoint_bytes (checkpoint_of_memory x)) is
 
 first_step : (told : Bool) (log t : State) (m : Memory) (reply : Reply) → m ≡ unread m.client m.area m.stream

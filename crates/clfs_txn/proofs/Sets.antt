@@ -1,5 +1,5 @@
 -- The ways in which a set goes.
-use Rattle.std.proofs.Common.{◌≡◌, inl, inr, ℕ, Bool, true, false, length, Option, Some, None, refl, sym, ap, ◌∙◌}
+use Rattle.std.proofs.Common.{◌≡◌, inl, inr, ℕ, Bool, true, false, length, Option, Some, None, refl, sym, ap, ◌∙◌, List}
 use Rattle.std.specs.Prelude.{nat_le}
 use Rattle.std.specs.Option.{option_map, option_map_or}
 use Rattle.clfs_model.specs.declared.refusal.Refusal.{Refusal}
@@ -17,6 +17,10 @@ use Rattle.clfs_cells.specs.Calls.{Answered, TxnStep, txn_plan, refuses, over_tr
 use Rattle.clfs_cells.specs.Stored.{Store, Memory, Transaction, transaction, holder, newest_standing, with_set}
 use Rattle.clfs_txn.specs.Calls.{IsFound, IsNotFound}
 use Rattle.clfs_txn.proofs.Carried.{passed, met, one_call, step_is, refused_at_once}
+use Rattle.clfs_disk.specs.State.{DiskState}
+use Rattle.clfs_cells_laws.specs.Crashes.{LeavesEither}
+use Rattle.clfs_txn.specs.Crashes.{CrashLeavesTable, Meanwhile}
+use Rattle.clfs_txn.proofs.Moments.{first_call, meanwhile_as}
 
 pub over : (memory : Memory) (number : ℕ) (go : Transaction → Plan Answered) (found : Option Transaction) → transaction memory number ≡ found
     → over_transaction memory number go ≡ option_map_or go found (refuses memory refusals.NoSuchTxn)
@@ -94,3 +98,13 @@ done told s number cell value t lsn u found free some step same =
     step_is told s (asked.Set number cell value) replies.Done u (set_cell s.memory t (change_to s.memory cell value))
     (appends s number cell value t found free some)
     (one_call told s.memory.client s.log _ _ (log_replies.Placed lsn) u.log result u.log step (told_is, refl))
+
+-- what a crash leaves while the record is appended
+pub set_meanwhile : (before after : List ℕ) (told : Bool) (s : Store) (number cell value : ℕ) (t : Transaction) (old new : DiskState) → IsFound s number t
+    → None ≡ option_map (λ (t : Transaction). t.number) (holder s.memory number cell) → nat_le t.changes (length t.made) ≡ false
+    → (LeavesEither before after s.memory.client (append_call s.memory t (Set (change_to s.memory cell value)) (newest_standing t) false) s.log
+    → CrashLeavesTable before after old new)
+    → Meanwhile before after told s.memory.client s.log (txn_plan s.log s.memory (asked.Set number cell value)) old new
+set_meanwhile before after told s number cell value t old new found free some leaves =
+    meanwhile_as before after told s.memory.client s.log (set_cell s.memory t (change_to s.memory cell value)) _ old new (appends s number cell value t found free some)
+    (first_call before after told s.memory.client s.log (append_call s.memory t (Set (change_to s.memory cell value)) (newest_standing t) false) _ old new found.whole leaves)

@@ -2,3 +2,4 @@ pub mod Kept
 pub mod Calls
 pub mod Reading
 pub mod Loading
+pub mod Crashes

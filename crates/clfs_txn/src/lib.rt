@@ -5,7 +5,8 @@
 //! `clfs_cells`: which calls of the log it makes, one after the other, and what it answers by their replies.
 //!
 //! Loading a store from a log, beginning, setting, taking sets back, committing, rolling back, reading a cell, writing a checkpoint and closing are here.
-//! Loading comes to the log's table, as `clfs_cells_laws` says it of the log's records alone.
+//! Loading comes to the log's table, as `clfs_cells_laws` says it of the log's records alone. A crash in a call leaves the files of a log with the table from
+//! before it, or, in a commit, with that and its transaction (`specs/Crashes.antt`).
 #![tactic(auto)]
 
 mod asking;

@@ -2,7 +2,8 @@
 // the newest restart area is read and all records above it, once and in order. What was committed counts whatever follows it, so the records are kept
 // until the last one is read. All that loading changes in the log is that stream, that area and that first restart area: it changes no table.
 ghost use Rattle.std.specs.Prelude.{◌≡◌, ◌<◌, ◌-◌, ℕ, Bool, IfErr, IfOk, IsErr, IsErrOf, List, OnOk, Ok, Err, [], false, length, true};
-ghost use Rattle.clfs_disk.specs.State.{TellsContents};
+ghost use Rattle.clfs_disk.specs.Files.{Unchanged};
+ghost use Rattle.clfs_disk.specs.State.{Passes, TellsContents};
 ghost use Rattle.clfs_lsn.specs.declared.cursor.Mode.TheVariants.{Forward};
 ghost use Rattle.clfs_lsn.specs.declared.entry.LogEntry.{LogEntry as Record};
 ghost use Rattle.clfs_model.specs.Conditions.{IsClient};
@@ -13,7 +14,7 @@ ghost use Rattle.clfs_model.specs.declared.reply.Reply.TheVariants as replies;
 ghost use Rattle.clfs_manager.specs.Calls.{Steps};
 ghost use Rattle.clfs_manager.specs.Written.{WritesDisk};
 ghost use Rattle.clfs_cells.specs.Layout.{blank_checkpoint, txn_record_of};
-ghost use Rattle.clfs_cells.specs.Loading.{Loaded, LoadStep, gives_up, in_table_area, load_above, load_area, load_new, load_stream, load_table, memory_of, read_records};
+ghost use Rattle.clfs_cells.specs.Loading.{Loaded, LoadStep, gives_up, in_table_area, load_above, load_area, load_new, load_plan, load_stream, load_table, memory_of, read_records};
 ghost use Rattle.clfs_cells.specs.Plans.{Plan, ends};
 ghost use Rattle.clfs_cells.specs.Stored.{Memory as Kept};
 ghost use Rattle.clfs_cells.specs.Table.{table_name};
@@ -21,14 +22,16 @@ ghost use Rattle.clfs_cells.specs.declared.row.TxnRecord.{TxnRecord as Row};
 ghost use Rattle.clfs_cells.specs.declared.told.TxnLoadRefusal.TheVariants as refusals;
 ghost use Rattle.clfs_cells.specs.declared.told.TxnLoadRefusal.{TxnLoadRefusal as Cause};
 ghost use Rattle.clfs_cells_laws.specs.Loads.{IsLoaded, IsNotLoaded};
+ghost use Rattle.clfs_cells_laws.specs.Crashes.{LeavesEither, LeavesTables};
 ghost use Rattle.clfs_txn.specs.Calls.{HasSameArea, LeadsTo};
+ghost use Rattle.clfs_txn.specs.Crashes.{CrashLeavesTable, Meanwhile};
 ghost use Rattle.clfs_txn.specs.Loading.{GoesForward, IsJoined, IsNotTaken, Taken, left_by, loaded_of, or_all_read, or_ended_read, or_given_up, or_refused, says_broken, to_come, unread};
 ghost use Rattle.clfs_txn.specs.Reading.{IsAt};
 
 use crate::asking::breaks;
 use crate::table::TableLog;
 use clfs_cells::{CHECKPOINT_BYTES, Checkpoint, Memory, Replay, TxnLoadRefusal, TxnRecord};
-use clfs_cells_laws::loading_comes_to_the_table;
+use clfs_cells_laws::{loading_comes_to_the_table, the_same_log_has_the_same_table};
 use clfs_disk::Disk;
 use clfs_laws::{
     broken_stays, faults_break, reading_gives_the_chain, steps_only_add_records, unbroken_stays,
@@ -83,10 +86,14 @@ fn open_stream<D: Disk>(
 ) -> Result<u16, Refusal>
     requires client { IsClient client }
     ensures step { (told : Bool) → Steps told manager.old.0 client (calls.OpenStream table_name) replies.Stream result manager.new.0 }
+    ensures moments { (before after : List ℕ) → manager.old.0.broken ≡ false → LeavesEither before after client (calls.OpenStream table_name) manager.old.0
+        → CrashLeavesTable before after (D.state manager.old.1) (D.state manager.new.1) }
     ensures writes { WritesDisk (IsErrOf result log_refusals.DiskFault) (D.state manager.old.1) (D.state manager.new.1) }
     ensures stopped { manager.old.0.broken ≡ true → manager.new.1 ≡ manager.old.1 }
 {
     ways_of_a_step();
+    the_same_log_has_the_same_table();
+    manager.stored();
     if is_broken(manager) {
         return Err(Refusal::Broken);
     }
@@ -127,6 +134,8 @@ fn make_area<D: Disk>(
     requires client { IsClient client }
     ensures step { (told : Bool) (rest : ℕ → ℕ → Plan Loaded)
         → LeadsTo Loaded told client manager.old.0 (in_table_area rest) manager.new.0 (or_refused rest result) }
+    ensures moments { (before after : List ℕ) → manager.old.0.broken ≡ false → LeavesEither before after client (calls.OpenStream table_name) manager.old.0
+        → CrashLeavesTable before after (D.state manager.old.1) (D.state manager.new.1) }
     ensures memory { IfOk result (λ m. m ≡ unread client m.area m.stream) }
     ensures writes { WritesDisk (IsErrOf result log_refusals.DiskFault) (D.state manager.old.1) (D.state manager.new.1) }
     ensures was_whole { OnOk result (manager.old.0.broken ≡ false) }
@@ -178,6 +187,7 @@ impl<D: Disk> TableLog<D> {
         requires { self.old.0.log.broken ≡ false }
         ensures step { Steps (D.state self.old.1).nature.tells_contents self.old.0.log self.old.0.memory.client
             (calls.ReadRestart self.old.0.memory.area) (λ (found : ℕ × Record). replies.Found found.0 found.1) result self.new.0.log }
+        ensures time { Passes Unchanged (D.state self.old.1) (D.state self.new.1) }
         ensures writes { WritesDisk (IsErrOf result log_refusals.DiskFault) (D.state self.old.1) (D.state self.new.1) }
         ensures memory { self.new.0.memory ≡ self.old.0.memory }
         ensures whole { OnOk result (self.new.0.log.broken ≡ false) }
@@ -218,6 +228,7 @@ impl<D: Disk> TableLog<D> {
             → LeadsTo Loaded (D.state self.old.1).nature.tells_contents self.old.0.memory.client self.old.0.log
             (read_records more self.old.0.memory.area cursor replay.old all) self.new.0.log
             (or_ended_read (more - 1) self.old.0.memory.area cursor replay.new all result) }
+        ensures time { Passes Unchanged (D.state self.old.1) (D.state self.new.1) }
         ensures writes { WritesDisk (IsErrOf result (refusals.Log log_refusals.DiskFault)) (D.state self.old.1) (D.state self.new.1) }
         ensures memory { self.new.0.memory ≡ self.old.0.memory }
         ensures whole { OnOk result (self.new.0.log.broken ≡ false) }
@@ -244,6 +255,7 @@ impl<D: Disk> TableLog<D> {
             → LeadsTo Loaded (D.state self.old.1).nature.tells_contents self.old.0.memory.client self.old.0.log
             (read_records more self.old.0.memory.area cursor replay.old all) self.new.0.log
             (or_all_read self.old.0.memory.area cursor replay.new all result) }
+        ensures time { Passes Unchanged (D.state self.old.1) (D.state self.new.1) }
         ensures writes { WritesDisk (IsErrOf result (refusals.Log log_refusals.DiskFault)) (D.state self.old.1) (D.state self.new.1) }
         ensures memory { self.new.0.memory ≡ self.old.0.memory }
         ensures damage { TellsContents (D.state self.old.1) → (container offset at : ℕ) → IsErrOf result (refusals.Log (log_refusals.Damaged container offset at)) → ⊥ }
@@ -261,6 +273,7 @@ impl<D: Disk> TableLog<D> {
             → LeadsTo Loaded (D.state self.old.1).nature.tells_contents self.old.0.memory.client self.old.0.log
             (read_records more self.old.0.memory.area cursor [] (memory_of self.old.0.memory.client self.old.0.memory.area self.old.0.memory.stream restart.now))
             self.new.0.log (or_given_up self.new.0.memory result) }
+        ensures time { Passes Unchanged (D.state self.old.1) (D.state self.new.1) }
         ensures writes { WritesDisk (IsErrOf result (refusals.Log log_refusals.DiskFault)) (D.state self.old.1) (D.state self.new.1) }
         ensures area { HasSameArea self.old.0.memory self.new.0.memory }
         ensures damage { TellsContents (D.state self.old.1) → (container offset at : ℕ) → IsErrOf result (refusals.Log (log_refusals.Damaged container offset at)) → ⊥ }
@@ -279,6 +292,7 @@ impl<D: Disk> TableLog<D> {
         ensures step { LeadsTo Loaded (D.state self.old.1).nature.tells_contents self.old.0.memory.client self.old.0.log
             (load_above (length self.old.0.log.records) self.old.0.memory.client self.old.0.memory.area self.old.0.memory.stream restart.now lsn)
             self.new.0.log (or_given_up self.new.0.memory result) }
+        ensures time { Passes Unchanged (D.state self.old.1) (D.state self.new.1) }
         ensures writes { WritesDisk (IsErrOf result (refusals.Log log_refusals.DiskFault)) (D.state self.old.1) (D.state self.new.1) }
         ensures area { HasSameArea self.old.0.memory self.new.0.memory }
         ensures damage { TellsContents (D.state self.old.1) → (container offset at : ℕ) → IsErrOf result (refusals.Log (log_refusals.Damaged container offset at)) → ⊥ }
@@ -296,6 +310,7 @@ impl<D: Disk> TableLog<D> {
         ensures step { LeadsTo Loaded (D.state self.old.1).nature.tells_contents self.old.0.memory.client self.old.0.log
             (load_table (length self.old.0.log.records) self.old.0.memory.client self.old.0.memory.area self.old.0.memory.stream)
             self.new.0.log (or_given_up self.new.0.memory result) }
+        ensures time { Passes Unchanged (D.state self.old.1) (D.state self.new.1) }
         ensures writes { WritesDisk (IsErrOf result (refusals.Log log_refusals.DiskFault)) (D.state self.old.1) (D.state self.new.1) }
         ensures area { HasSameArea self.old.0.memory self.new.0.memory }
         ensures damage { TellsContents (D.state self.old.1) → (container offset at : ℕ) → IsErrOf result (refusals.Log (log_refusals.Damaged container offset at)) → ⊥ }
@@ -314,6 +329,8 @@ impl<D: Disk> TableLog<D> {
         requires unread { self.old.0.memory ≡ unread self.old.0.memory.client self.old.0.memory.area self.old.0.memory.stream }
         ensures step { (told : Bool) → LeadsTo Loaded told self.old.0.memory.client self.old.0.log
             (load_new self.old.0.memory.client self.old.0.memory.area self.old.0.memory.stream) self.new.0.log (or_given_up self.new.0.memory result) }
+        ensures moments { (before after : List ℕ) → Meanwhile before after (D.state self.old.1).nature.tells_contents self.old.0.memory.client self.old.0.log
+            (load_new self.old.0.memory.client self.old.0.memory.area self.old.0.memory.stream) (D.state self.old.1) (D.state self.new.1) }
         ensures writes { WritesDisk (IsErrOf result (refusals.Log log_refusals.DiskFault)) (D.state self.old.1) (D.state self.new.1) }
         ensures area { HasSameArea self.old.0.memory self.new.0.memory }
         ensures damage { TellsContents (D.state self.old.1) → (container offset at : ℕ) → IsErrOf result (refusals.Log (log_refusals.Damaged container offset at)) → ⊥ }
@@ -331,6 +348,8 @@ impl<D: Disk> TableLog<D> {
         ensures step { LeadsTo Loaded (D.state self.old.1).nature.tells_contents self.old.0.memory.client self.old.0.log
             (load_stream (length self.old.0.log.records) self.old.0.memory.client self.old.0.memory.area self.old.0.memory.stream info.now)
             self.new.0.log (or_given_up self.new.0.memory result) }
+        ensures moments { (before after : List ℕ) → Meanwhile before after (D.state self.old.1).nature.tells_contents self.old.0.memory.client self.old.0.log
+            (load_stream (length self.old.0.log.records) self.old.0.memory.client self.old.0.memory.area self.old.0.memory.stream info.now) (D.state self.old.1) (D.state self.new.1) }
         ensures writes { WritesDisk (IsErrOf result (refusals.Log log_refusals.DiskFault)) (D.state self.old.1) (D.state self.new.1) }
         ensures area { HasSameArea self.old.0.memory self.new.0.memory }
         ensures damage { TellsContents (D.state self.old.1) → (container offset at : ℕ) → IsErrOf result (refusals.Log (log_refusals.Damaged container offset at)) → ⊥ }
@@ -351,6 +370,8 @@ impl<D: Disk> TableLog<D> {
         ensures step { LeadsTo Loaded (D.state self.old.1).nature.tells_contents self.old.0.memory.client self.old.0.log
             (load_area (length self.old.0.log.records) self.old.0.memory.client self.old.0.memory.area self.old.0.memory.stream)
             self.new.0.log (or_given_up self.new.0.memory result) }
+        ensures moments { (before after : List ℕ) → Meanwhile before after (D.state self.old.1).nature.tells_contents self.old.0.memory.client self.old.0.log
+            (load_area (length self.old.0.log.records) self.old.0.memory.client self.old.0.memory.area self.old.0.memory.stream) (D.state self.old.1) (D.state self.new.1) }
         ensures writes { WritesDisk (IsErrOf result (refusals.Log log_refusals.DiskFault)) (D.state self.old.1) (D.state self.new.1) }
         ensures area { HasSameArea self.old.0.memory self.new.0.memory }
         ensures damage { TellsContents (D.state self.old.1) → (container offset at : ℕ) → IsErrOf result (refusals.Log (log_refusals.Damaged container offset at)) → ⊥ }
@@ -385,6 +406,9 @@ impl<D: Disk> TableLog<D> {
         ensures step { LeadsTo Loaded (D.state self.1).nature.tells_contents self.0.memory.client self.0.log
             (load_area (length self.0.log.records) self.0.memory.client self.0.memory.area self.0.memory.stream)
             (left_by (λ store. store.0.log) (λ refused. refused.manager.0) result) (ends (loaded_of (λ store. store.0.memory) (λ refused. refused.cause) result)) }
+        ensures moments { (before after : List ℕ) → Meanwhile before after (D.state self.1).nature.tells_contents self.0.memory.client self.0.log
+            (load_area (length self.0.log.records) self.0.memory.client self.0.memory.area self.0.memory.stream)
+            (D.state self.1) (D.state (left_by (λ store. store.1) (λ refused. refused.manager.1) result)) }
         ensures writes { WritesDisk (IfErr result (λ refused. refused.cause ≡ refusals.Log log_refusals.DiskFault) × IsErr result)
             (D.state self.1) (D.state (left_by (λ store. store.1) (λ refused. refused.manager.1) result)) }
         ensures damage { TellsContents (D.state self.1) → IfErr result (λ refused. (container offset at : ℕ)
@@ -411,6 +435,9 @@ impl<D: Disk> TableLog<D> {
         requires area { areas_of manager.0 client ≡ [] }
         ensures step { LoadStep (D.state manager.1).nature.tells_contents manager.0 client
             (loaded_of (λ store. store.0.memory) (λ refused. refused.cause) result) (left_by (λ store. store.0.log) (λ refused. refused.manager.0) result) }
+        ensures moments { (before after : List ℕ) → manager.0.broken ≡ false → CrashLeavesTable before after (D.state manager.1) (D.state manager.1)
+            → LeavesTables before after (D.state manager.1).nature.tells_contents client manager.0 (load_plan (length manager.0.records) client)
+            → CrashLeavesTable before after (D.state manager.1) (D.state (left_by (λ store. store.1) (λ refused. refused.manager.1) result)) }
         ensures loaded { IfOk result (λ store. IsLoaded (D.state manager.1).nature.tells_contents manager.0 client store.0.memory store.0.log) }
         ensures refused { IfErr result (λ refused. IsNotLoaded (D.state manager.1).nature.tells_contents manager.0 client refused.cause refused.manager.0) }
         ensures writes { WritesDisk (IfErr result (λ refused. refused.cause ≡ refusals.Log log_refusals.DiskFault) × IsErr result)

@@ -9,19 +9,27 @@ ghost use Rattle.clfs_manager.specs.Written.{WritesDisk};
 ghost use Rattle.clfs_cells.specs.Calls.{TxnStep};
 ghost use Rattle.clfs_cells.specs.Loading.{LoadStep};
 ghost use Rattle.clfs_cells.specs.Stored.{with_begun};
+ghost use Rattle.clfs_cells.specs.Table.{table, table_with};
 ghost use Rattle.clfs_cells.specs.declared.asked.TxnCall.TheVariants as asked;
 ghost use Rattle.clfs_cells.specs.declared.told.TxnLoadRefusal.TheVariants as load_refusals;
 ghost use Rattle.clfs_cells.specs.declared.told.TxnRefusal.TheVariants as refusals;
 ghost use Rattle.clfs_cells.specs.declared.told.TxnReply.TheVariants as replies;
+ghost use Rattle.clfs_cells_laws.specs.Crashes.{IsSafe, IsSafeLog, table_joined};
 ghost use Rattle.clfs_cells_laws.specs.Loads.{IsLoaded, IsNotLoaded};
 ghost use Rattle.clfs_cells_laws.specs.Steps.{IsCommitted, IsRolledBack, IsSetTo, IsTakenBack, for_room_or_outside, from_outside};
+ghost use Rattle.clfs_cells_laws.specs.Tables.{numbers_of};
 ghost use Rattle.clfs_txn.specs.Calls.{TxnSteps, is_fault, is_of_log};
+ghost use Rattle.clfs_txn.specs.Crashes.{CrashLeavesTable, KeepsTable, LeavesTableOf};
 ghost use Rattle.clfs_txn.specs.Loading.{left_by, loaded_of};
 
 use crate::loading::TxnLoadRefused;
 use crate::table::TableLog;
 use clfs_cells::TxnRefusal;
-use clfs_cells_laws::{a_transaction_has_its_room, calls_keep_a_store, calls_leave_the_cells_so};
+use clfs_cells_laws::{
+    a_stores_cells_are_its_table, a_transaction_has_its_room, calls_keep_a_store,
+    calls_leave_the_cells_so, crashes_leave_the_table, only_faults_break_a_store,
+    the_same_log_has_the_same_table,
+};
 use clfs_disk::Disk;
 use clfs_manager::Manager;
 use std::alloc::Global;
@@ -34,7 +42,6 @@ pub struct TxnStore<D: Disk> {
 }
 
 impl<D: Disk> Model for TxnStore<D> {
-    ghost use Rattle.std.specs.Prelude.{false};
     ghost use Rattle.clfs_cells.specs.Stored.{Store};
     ghost use Rattle.clfs_cells_laws.specs.Stores.{IsKeptStore};
 
@@ -42,7 +49,7 @@ impl<D: Disk> Model for TxnStore<D> {
 
     ghost view = { λ t. t.table };
 
-    ghost invariant = { λ t. IsKeptStore false t.table.0.log t.table.0.memory };
+    ghost invariant = { λ t. IsKeptStore (D.state t.table.1).nature.tells_contents t.table.0.log t.table.0.memory };
 }
 
 impl<D: Disk> TxnStore<D> {
@@ -61,6 +68,10 @@ impl<D: Disk> TxnStore<D> {
         requires area { areas_of manager.0 client ≡ [] }
         ensures step { LoadStep (D.state manager.1).nature.tells_contents manager.0 client
             (loaded_of (λ store. store.0.memory) (λ refused. refused.cause) result) (left_by (λ store. store.0.log) (λ refused. refused.manager.0) result) }
+        ensures moments { manager.0.broken ≡ false → IsSafeLog manager.0
+            → CrashLeavesTable (table manager.0) (table manager.0) (D.state manager.1) (D.state (left_by (λ store. store.1) (λ refused. refused.manager.1) result)) }
+        ensures safe { IfOk result (λ store. TellsContents (D.state manager.1) → manager.0.broken ≡ false → IsSafeLog manager.0
+            → IsSafe store.0.log store.0.memory.stream) }
         ensures loaded { IfOk result (λ store. IsLoaded (D.state manager.1).nature.tells_contents manager.0 client store.0.memory store.0.log) }
         ensures refused { IfErr result (λ refused. IsNotLoaded (D.state manager.1).nature.tells_contents manager.0 client refused.cause refused.manager.0) }
         ensures writes { WritesDisk (IfErr result (λ refused. refused.cause ≡ load_refusals.Log log_refusals.DiskFault) × IsErr result)
@@ -70,9 +81,14 @@ impl<D: Disk> TxnStore<D> {
         ensures stopped { manager.0.broken ≡ true → left_by (λ store. store.1) (λ refused. refused.manager.1) result ≡ manager.1 }
     {
         calls_keep_a_store();
+        crashes_leave_the_table();
+        the_same_log_has_the_same_table();
         manager.stored();
         match TableLog::load(alloc, manager, client) {
-            Ok(table) => Ok(TxnStore { table }),
+            Ok(table) => {
+                table.numbers();
+                Ok(TxnStore { table })
+            }
             Err(refused) => Err(refused),
         }
     }
@@ -85,6 +101,8 @@ impl<D: Disk> TxnStore<D> {
         requires some { 1 ≤ changes }
         requires few { changes ≤ 7 }
         ensures step { (told : Bool) → TxnSteps told self.old.0 (asked.Begin changes) replies.Begun result self.new.0 }
+        ensures moments { LeavesTableOf self.old.0 (asked.Begin changes) (D.state self.old.1) (D.state self.new.1) }
+        ensures table { KeepsTable (D.state self.old.1) self.old.0 (asked.Begin changes) replies.Begun result self.new.0 }
         ensures writes { WritesDisk (IsErrOf result (refusals.Log log_refusals.DiskFault)) (D.state self.old.1) (D.state self.new.1) }
         ensures kept { IfErr result (λ refusal. is_fault refusal ≡ false → self.new.0 ≡ self.old.0) }
         ensures stopped { self.old.0.log.broken ≡ true → self.new.1 ≡ self.old.1 }
@@ -94,6 +112,9 @@ impl<D: Disk> TxnStore<D> {
         calls_keep_a_store();
         calls_leave_the_cells_so();
         a_transaction_has_its_room();
+        crashes_leave_the_table();
+        the_same_log_has_the_same_table();
+        self.table.stored();
         self.table.begin(changes)
     }
 
@@ -104,6 +125,8 @@ impl<D: Disk> TxnStore<D> {
     pub fn set(&mut self, txn: u32, cell: u16, value: u64) -> Result<(), TxnRefusal>
         requires { cell < 32 }
         ensures step { (told : Bool) → TxnSteps told self.old.0 (asked.Set txn cell value) (λ _. replies.Done) result self.new.0 }
+        ensures moments { LeavesTableOf self.old.0 (asked.Set txn cell value) (D.state self.old.1) (D.state self.new.1) }
+        ensures table { KeepsTable (D.state self.old.1) self.old.0 (asked.Set txn cell value) (λ _. replies.Done) result self.new.0 }
         ensures writes { WritesDisk (IsErrOf result (refusals.Log log_refusals.DiskFault)) (D.state self.old.1) (D.state self.new.1) }
         ensures kept { IfErr result (λ refusal. is_fault refusal ≡ false → self.new.0 ≡ self.old.0) }
         ensures stopped { self.old.0.log.broken ≡ true → self.new.1 ≡ self.old.1 }
@@ -113,6 +136,9 @@ impl<D: Disk> TxnStore<D> {
         calls_keep_a_store();
         calls_leave_the_cells_so();
         a_transaction_has_its_room();
+        crashes_leave_the_table();
+        the_same_log_has_the_same_table();
+        self.table.stored();
         self.table.set(txn, cell, value)
     }
 
@@ -123,6 +149,8 @@ impl<D: Disk> TxnStore<D> {
     /// be taken back, and the call may be made again; after a fault or damage the store is broken, and after the others nothing has changed.
     pub fn back(&mut self, txn: u32, kept: u16) -> Result<(), TxnRefusal>
         ensures step { TxnSteps (D.state self.old.1).nature.tells_contents self.old.0 (asked.Back txn kept) (λ _. replies.Done) result self.new.0 }
+        ensures moments { LeavesTableOf self.old.0 (asked.Back txn kept) (D.state self.old.1) (D.state self.new.1) }
+        ensures table { KeepsTable (D.state self.old.1) self.old.0 (asked.Back txn kept) (λ _. replies.Done) result self.new.0 }
         ensures writes { WritesDisk (IsErrOf result (refusals.Log log_refusals.DiskFault)) (D.state self.old.1) (D.state self.new.1) }
         ensures kept { IfErr result (λ refusal. is_of_log refusal ≡ false → self.new.0 ≡ self.old.0) }
         ensures stopped { self.old.0.log.broken ≡ true → self.new.1 ≡ self.old.1 }
@@ -133,6 +161,9 @@ impl<D: Disk> TxnStore<D> {
         calls_keep_a_store();
         calls_leave_the_cells_so();
         a_transaction_has_its_room();
+        crashes_leave_the_table();
+        the_same_log_has_the_same_table();
+        self.table.stored();
         self.table.back(txn, kept)
     }
 
@@ -141,6 +172,11 @@ impl<D: Disk> TxnStore<D> {
     /// Refused in this order: `Log(Broken)`, `NoSuchTxn`, and out of memory and a fault of the disk. After out of memory nothing has changed.
     pub fn commit(&mut self, txn: u32) -> Result<(), TxnRefusal>
         ensures step { (told : Bool) → TxnSteps told self.old.0 (asked.Commit txn) (λ _. replies.Done) result self.new.0 }
+        ensures moments { LeavesTableOf self.old.0 (asked.Commit txn) (D.state self.old.1) (D.state self.new.1) }
+        ensures table { KeepsTable (D.state self.old.1) self.old.0 (asked.Commit txn) (λ _. replies.Done) result self.new.0 }
+        ensures lasts { OnOk result (self.old.0.log.broken ≡ false → IsSafe self.old.0.log self.old.0.memory.stream
+            → CrashLeavesTable (table_joined self.old.0.log self.old.0.memory.stream txn) (table_joined self.old.0.log self.old.0.memory.stream txn)
+            (D.state self.new.1) (D.state self.new.1)) }
         ensures kept { IsErrOf result (refusals.Log log_refusals.NoMemory) → self.new.0 ≡ self.old.0 }
         ensures writes { WritesDisk (IsErrOf result (refusals.Log log_refusals.DiskFault)) (D.state self.old.1) (D.state self.new.1) }
         ensures stopped { self.old.0.log.broken ≡ true → self.new.1 ≡ self.old.1 }
@@ -150,7 +186,13 @@ impl<D: Disk> TxnStore<D> {
         calls_keep_a_store();
         calls_leave_the_cells_so();
         a_transaction_has_its_room();
-        self.table.commit(txn)
+        crashes_leave_the_table();
+        only_faults_break_a_store();
+        the_same_log_has_the_same_table();
+        self.table.stored();
+        let answer = self.table.commit(txn);
+        self.table.stored();
+        answer
     }
 
     /// All that a transaction did is taken back, and it isn't open any more. Each cell of which it made a set has the value then from before the first of them.
@@ -159,6 +201,8 @@ impl<D: Disk> TxnStore<D> {
     /// back, and the call may be made again.
     pub fn rollback(&mut self, txn: u32) -> Result<(), TxnRefusal>
         ensures step { TxnSteps (D.state self.old.1).nature.tells_contents self.old.0 (asked.Rollback txn) (λ _. replies.Done) result self.new.0 }
+        ensures moments { LeavesTableOf self.old.0 (asked.Rollback txn) (D.state self.old.1) (D.state self.new.1) }
+        ensures table { KeepsTable (D.state self.old.1) self.old.0 (asked.Rollback txn) (λ _. replies.Done) result self.new.0 }
         ensures writes { WritesDisk (IsErrOf result (refusals.Log log_refusals.DiskFault)) (D.state self.old.1) (D.state self.new.1) }
         ensures kept { IfErr result (λ refusal. is_of_log refusal ≡ false → self.new.0 ≡ self.old.0) }
         ensures stopped { self.old.0.log.broken ≡ true → self.new.1 ≡ self.old.1 }
@@ -169,6 +213,9 @@ impl<D: Disk> TxnStore<D> {
         calls_keep_a_store();
         calls_leave_the_cells_so();
         a_transaction_has_its_room();
+        crashes_leave_the_table();
+        the_same_log_has_the_same_table();
+        self.table.stored();
         self.table.rollback(txn)
     }
 
@@ -176,8 +223,11 @@ impl<D: Disk> TxnStore<D> {
     pub fn get(&self, cell: u16) -> u64
         requires { cell < 32 }
         ensures value { result ≡ slice_index self.now.0.memory.cells cell }
+        ensures table { TellsContents (D.state self.now.1) → self.now.0.log.broken ≡ false
+            → result ≡ slice_index (table_with self.now.0.log self.now.0.memory.stream (numbers_of self.now.0.memory.transactions)) cell }
         ensures step { (told : Bool) → TxnStep told self.now.0 (asked.Get cell) (replies.Value result) self.now.0 }
     {
+        a_stores_cells_are_its_table();
         self.table.get(cell)
     }
 
@@ -188,6 +238,8 @@ impl<D: Disk> TxnStore<D> {
     /// fault of the disk nothing has changed.
     pub fn checkpoint(&mut self) -> Result<(), TxnRefusal>
         ensures step { (told : Bool) → TxnSteps told self.old.0 asked.Checkpoint (λ _. replies.Done) result self.new.0 }
+        ensures moments { LeavesTableOf self.old.0 asked.Checkpoint (D.state self.old.1) (D.state self.new.1) }
+        ensures table { KeepsTable (D.state self.old.1) self.old.0 asked.Checkpoint (λ _. replies.Done) result self.new.0 }
         ensures writes { WritesDisk (IsErrOf result (refusals.Log log_refusals.DiskFault)) (D.state self.old.1) (D.state self.new.1) }
         ensures kept { IfErr result (λ refusal. is_fault refusal ≡ false → self.new.0 ≡ self.old.0) }
         ensures stopped { self.old.0.log.broken ≡ true → self.new.1 ≡ self.old.1 }
@@ -195,6 +247,9 @@ impl<D: Disk> TxnStore<D> {
     {
         calls_keep_a_store();
         calls_leave_the_cells_so();
+        crashes_leave_the_table();
+        the_same_log_has_the_same_table();
+        self.table.stored();
         self.table.checkpoint()
     }
 

@@ -1,9 +1,12 @@
 // A table in its log: the log, what is kept beside it, and whether the log is broken. What is always true of it holds after each call of the log too, where a
 // store's call may have made some of its calls and not the others. Contracts see the log's state, what is kept beside it, and the disk.
 ghost use Rattle.std.specs.Prelude.{◌≡◌, ◌<◌, Bool, slice_index};
+ghost use Rattle.clfs_model.specs.Run.{bad_line};
+ghost use Rattle.clfs_manager.specs.Crashes.{CrashSurvives};
 ghost use Rattle.clfs_cells.specs.declared.asked.TxnCall.TheVariants as asked;
 ghost use Rattle.clfs_cells.specs.declared.told.TxnReply.TheVariants as replies;
 ghost use Rattle.clfs_cells.specs.Calls.{TxnStep};
+ghost use Rattle.clfs_cells_laws.specs.Tables.{HasNumbers};
 
 use clfs_cells::Memory;
 use clfs_disk::Disk;
@@ -40,6 +43,22 @@ impl<D: Disk> TableLog<D> {
         ensures step { (told : Bool) → TxnStep told self.now.0 (asked.Get cell) (replies.Value result) self.now.0 }
     {
         self.memory.cell(cell)
+    }
+
+    // What a crash leaves now: what survives where nothing is asked.
+    pub(crate) fn stored(&self)
+        ensures survives { CrashSurvives (bad_line 0) self.now.0.log (D.state self.now.1) (D.state self.now.1) }
+    {
+        self.manager.stored();
+    }
+
+    // The numbers that are kept are such as their types have.
+    pub(crate) fn numbers(&self)
+        ensures { HasNumbers self.now.0.memory }
+    {
+        let checkpoint = self.memory.checkpoint();
+        let _cells = checkpoint.cells;
+        let _last = checkpoint.last;
     }
 
     // The log given back.

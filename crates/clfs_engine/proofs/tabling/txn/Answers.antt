@@ -48,10 +48,12 @@ returns-in-Ok-load-clause-ends g c =
       settled = c.stored-in-Ok-load.ensures.settled;
     } in
     let kept : IsKeptOn last.log new = rw (c.close-manager.ensures.log, c.close-manager.ensures.disk) at closed in
+    let begins = sym (ap (λ (s : State). s.broken) open_log.stable) in
+    let counts = c.crashes_leave_the_table.ensures.opened first open_log.stable in
     rw (c.close.ensures, c.close-manager.ensures.disk) (answering_ends _ _ c.answered-status.result old new _ _ _ _ _ _ _ _
-    (λ lines text is. table_answered old mid disk new first store last opened load.step load.loaded writes kept lines text
+    (λ lines text is. table_answered old mid disk new first store last opened load.step load.loaded writes kept (load.moments begins counts) (λ tells. load.safe tells begins counts) lines text
     (table_lines _ (λ it. it.store.0) (λ it. g.D.Disk.state it.store.1) only _ _ lines text is))
-    (λ torn lines text is. table_answered_in_part old mid disk new first store last opened load.step load.loaded writes kept torn lines text
+    (λ torn lines text is. table_answered_in_part old mid disk new first store last opened load.step load.loaded writes kept (load.moments begins counts) (λ tells. load.safe tells begins counts) torn lines text
     (table_part _ (λ it. it.store.0) (λ it. g.D.Disk.state it.store.1) only _ _ torn lines text is))
     c.answered-status.ensures)
 
@@ -79,7 +81,8 @@ returns-in-Err-load-clause-ends g c =
     rw c.close-in-Err-load.ensures (table_refusal_ends c.refused_table.result cause old new _ _ _ _ _ _
     (refuses_table cause old mid new first last opened load.step load.refused
     (c.only_faults_break_a_store.ensures.loading _ _ _ _ _ (sym (ap (λ (s : State). s.broken) open_log.stable)) load.step)
-    (writes_as _ _ mid new (λ f. f.0) (λ f. (f, refl)) load.writes) load.damage kept)
+    (writes_as _ _ mid new (λ f. f.0) (λ f. (f, refl)) load.writes) load.damage kept
+    (load.moments (sym (ap (λ (s : State). s.broken) open_log.stable)) (c.crashes_leave_the_table.ensures.opened first open_log.stable)))
     c.refused_table.ensures)
 
 pub returns-in-Err-clause-complete : goal.returns-in-Err-clause-complete

@@ -57,3 +57,9 @@ returns-in-Err-clause-writes g c = of_same _ _ c.in-Err.refusal c.in-Err.ensures
 pub returns-in-Err-clause-no_damage : goal.returns-in-Err-clause-no_damage
 returns-in-Err-clause-no_damage g c = λ container offset at is.
     no_damage true _ _ _ log_replies.Stream (Err c.in-Err.refusal) _ container offset at refl (c.in-Err.ensures.step true) (let same : c.in-Err.refusal ≡ log_refusals.Damaged container offset at = cc is in ap (λ r. Err r) same)
+
+pub returns-in-Ok-clause-moments : goal.returns-in-Ok-clause-moments
+returns-in-Ok-clause-moments g c = rw c.create_area.ensures.disk c.in-Ok.ensures.moments
+
+pub returns-in-Err-clause-moments : goal.returns-in-Err-clause-moments
+returns-in-Err-clause-moments g c = c.in-Err.ensures.moments

@@ -1,24 +1,41 @@
-use Rattle.std.proofs.Common.{false, ◌≡◌, true, refl}
+use Rattle.std.proofs.Common.{false, ◌≡◌, true, refl, ap, sym, subst, Bool}
 use Rattle.clfs_model.specs.declared.refusal.Refusal.{Refusal}
 use Rattle.clfs_cells.specs.declared.asked.TxnCall.TheVariants as asked
 use Rattle.clfs_cells.specs.declared.told.TxnReply.TheVariants as replies
 use Rattle.clfs_cells_laws.specs.Steps.{from_outside}
 use Rattle.clfs_txn.proofs.Between.{if_done, if_refused, went}
+use Rattle.clfs_disk.specs.State.{Nature}
+use Rattle.clfs_cells_laws.specs.Stores.{IsKeptStore}
+use Rattle.clfs_txn.proofs.Tables.{Crashes, keeps, moments}
 use Rattle.clfs_txn.proofs.store.TxnStore.back.Goals as goal
 
 pub invariant_of-self : goal.invariant_of-self
 invariant_of-self g c =
-    let so = went (g.D.Disk.state c.self.inside.table.1).nature.tells_contents c.self.inside.table c.args.self.now (asked.Back c.args.txn c.args.kept) (λ _. replies.Done) c.back.result c.back.new.self.0 c.self.view_is c.self.invariant c.back.ensures.step in
-    c.calls_keep_a_store.ensures.kept false (g.D.Disk.state c.self.inside.table.1).nature.tells_contents c.args.self.now.0 c.back.new.self.0 (asked.Back c.args.txn c.args.kept) _ tt so.kept so.step
+    let tells = (g.D.Disk.state c.self.inside.table.1).nature.tells_contents in
+    let so = went tells tells c.self.inside.table c.args.self.now (asked.Back c.args.txn c.args.kept) (λ _. replies.Done) c.back.result c.back.new.self.0 c.self.view_is c.self.invariant c.back.ensures.step in
+    subst (λ (b : Bool). IsKeptStore b c.back.new.self.0.log c.back.new.self.0.memory) (ap (λ (n : Nature). n.tells_contents) (sym c.back.ensures.writes.time.nature))
+    (c.calls_keep_a_store.ensures.kept tells tells c.args.self.now.0 c.back.new.self.0 (asked.Back c.args.txn c.args.kept) _ tt so.kept so.step)
 
 pub returns-clause-values : goal.returns-clause-values
 returns-clause-values g c =
-    let so = went (g.D.Disk.state c.self.inside.table.1).nature.tells_contents c.self.inside.table c.args.self.now (asked.Back c.args.txn c.args.kept) (λ _. replies.Done) c.back.result c.back.new.self.0 c.self.view_is c.self.invariant c.back.ensures.step in
-    if_done (g.D.Disk.state c.self.inside.table.1).nature.tells_contents c.args.self.now.0 c.back.new.self.0 (asked.Back c.args.txn c.args.kept) (λ _. replies.Done) c.back.result
-    (λ _ step. c.calls_leave_the_cells_so.ensures.back false (g.D.Disk.state c.self.inside.table.1).nature.tells_contents c.args.self.now.0 c.back.new.self.0 c.args.txn c.args.kept so.kept step) so.step
+    let tells = (g.D.Disk.state c.self.inside.table.1).nature.tells_contents in
+    let so = went tells tells c.self.inside.table c.args.self.now (asked.Back c.args.txn c.args.kept) (λ _. replies.Done) c.back.result c.back.new.self.0 c.self.view_is c.self.invariant c.back.ensures.step in
+    if_done tells c.args.self.now.0 c.back.new.self.0 (asked.Back c.args.txn c.args.kept) (λ _. replies.Done) c.back.result
+    (λ _ step. c.calls_leave_the_cells_so.ensures.back tells tells c.args.self.now.0 c.back.new.self.0 c.args.txn c.args.kept so.kept step) so.step
 
 pub returns-clause-room : goal.returns-clause-room
 returns-clause-room g c =
-    let so = went (g.D.Disk.state c.self.inside.table.1).nature.tells_contents c.self.inside.table c.args.self.now (asked.Back c.args.txn c.args.kept) (λ _. replies.Done) c.back.result c.back.new.self.0 c.self.view_is c.self.invariant c.back.ensures.step in
-    if_refused (λ (given : Refusal). from_outside given ≡ true) (g.D.Disk.state c.self.inside.table.1).nature.tells_contents c.args.self.now.0 c.back.new.self.0 (asked.Back c.args.txn c.args.kept) (λ _. replies.Done) c.back.result
-    (λ given step. c.a_transaction_has_its_room.ensures.within false (g.D.Disk.state c.self.inside.table.1).nature.tells_contents c.args.self.now.0 c.back.new.self.0 (asked.Back c.args.txn c.args.kept) given tt refl so.kept step) so.step
+    let tells = (g.D.Disk.state c.self.inside.table.1).nature.tells_contents in
+    let so = went tells tells c.self.inside.table c.args.self.now (asked.Back c.args.txn c.args.kept) (λ _. replies.Done) c.back.result c.back.new.self.0 c.self.view_is c.self.invariant c.back.ensures.step in
+    if_refused (λ (given : Refusal). from_outside given ≡ true) tells c.args.self.now.0 c.back.new.self.0 (asked.Back c.args.txn c.args.kept) (λ _. replies.Done) c.back.result
+    (λ given step. c.a_transaction_has_its_room.ensures.within tells tells c.args.self.now.0 c.back.new.self.0 (asked.Back c.args.txn c.args.kept) given tt refl so.kept step) so.step
+
+pub returns-clause-moments : goal.returns-clause-moments
+returns-clause-moments g c =
+    let laws : Crashes = record { left = c.crashes_leave_the_table.ensures.left; ends = c.crashes_leave_the_table.ensures.ends; at_rest = c.crashes_leave_the_table.ensures.at_rest; same = c.the_same_log_has_the_same_table.ensures } in
+    moments g.D.Disk.state c.self.inside.table c.args.self.now (asked.Back c.args.txn c.args.kept) _ laws c.self.view_is tt c.self.invariant c.stored.ensures.survives (c.back.ensures.moments _ _)
+
+pub returns-clause-table : goal.returns-clause-table
+returns-clause-table g c =
+    let laws : Crashes = record { left = c.crashes_leave_the_table.ensures.left; ends = c.crashes_leave_the_table.ensures.ends; at_rest = c.crashes_leave_the_table.ensures.at_rest; same = c.the_same_log_has_the_same_table.ensures } in
+    keeps g.D.Disk.state c.self.inside.table c.args.self.now (asked.Back c.args.txn c.args.kept) (λ _. replies.Done) c.back.result c.back.new.self.0 laws c.self.view_is tt c.self.invariant (c.back.ensures.step)

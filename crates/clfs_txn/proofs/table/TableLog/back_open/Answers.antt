@@ -1,7 +1,7 @@
 use Rattle.clfs_cells.specs.Calls.{answers}
 use Rattle.clfs_cells.specs.declared.told.TxnReply.TheVariants as replies
 use Rattle.clfs_cells.specs.Kept.{transaction_of}
-use Rattle.clfs_txn.proofs.Backs.{backs_done, backs_refused, too_many}
+use Rattle.clfs_txn.proofs.Backs.{back_meanwhile, backs_done, backs_refused, too_many}
 use Rattle.clfs_txn.proofs.Written.{of_log}
 use Rattle.clfs_txn.proofs.Damage.{of_the_log}
 use Rattle.clfs_txn.proofs.table.TableLog.back_open.Goals as goal
@@ -25,3 +25,16 @@ returns-in-Err-clause-writes g c = of_log _ _ c.in-Err.refusal c.in-Err.ensures.
 
 pub returns-in-Err-clause-damage : goal.returns-in-Err-clause-damage
 returns-in-Err-clause-damage g c = λ tells container offset at is. c.in-Err.ensures.damage tells container offset at (of_the_log _ _ is)
+
+pub returns-then-have-kept-clause-moments : goal.returns-then-have-kept-clause-moments
+returns-then-have-kept-clause-moments g c = λ before after along present. present
+
+pub returns-in-Ok-clause-moments : goal.returns-in-Ok-clause-moments
+returns-in-Ok-clause-moments g c = λ before after.
+    back_meanwhile before after _ c.args.self.now.0 c.args.txn c.args.kept c.standing-have.result (transaction_of c.args.t.now) _ _ c.requires c.standing-have.ensures.standing
+    c.if-have-kept.false (c.in-Ok.ensures.moments before after (λ now. answers replies.Done now))
+
+pub returns-in-Err-clause-moments : goal.returns-in-Err-clause-moments
+returns-in-Err-clause-moments g c = λ before after.
+    back_meanwhile before after _ c.args.self.now.0 c.args.txn c.args.kept c.standing-have.result (transaction_of c.args.t.now) _ _ c.requires c.standing-have.ensures.standing
+    c.if-have-kept.false (c.in-Err.ensures.moments before after (λ now. answers replies.Done now))

@@ -9,6 +9,7 @@ use Rattle.clfs_txn.proofs.Breaking.{same_store}
 use Rattle.clfs_txn.proofs.Written.{of_log, of_ok}
 use Rattle.clfs_txn.proofs.Logged.{ended_logged}
 use Rattle.clfs_txn.proofs.Damage.{of_the_log}
+use Rattle.clfs_txn.proofs.Moments.{by_call, first_call}
 use Rattle.clfs_txn.proofs.table.TableLog.end.Goals as goal
 
 pub returns-in-Err-clause-step : goal.returns-in-Err-clause-step
@@ -82,3 +83,23 @@ returns-in-Err-clause-no_damage g c = λ container offset at is. c.in-Err.ensure
 
 pub returns-in-Err-release-clause-no_damage : goal.returns-in-Err-release-clause-no_damage
 returns-in-Err-release-clause-no_damage g c = λ container offset at is. c.in-Err-release.ensures.no_damage container offset at (of_the_log _ _ is)
+
+pub returns-in-Err-clause-moments : goal.returns-in-Err-clause-moments
+returns-in-Err-clause-moments g c =
+    let t = transaction_of c.args.t.now in
+    let call = append_call_is c.args.self.now.0.memory t c.args.action c.args.action _ _ c.args.flush refl c.null.ensures in λ before after.
+    first_call before after _ _ _ _ _ _ _ c.requires (by_call before after _ _ _ _ _ _ call (c.in-Err.ensures.moments before after))
+
+pub returns-in-Ok-clause-moments : goal.returns-in-Ok-clause-moments
+returns-in-Ok-clause-moments g c =
+    let t = transaction_of c.args.t.now in
+    let call = append_call_is c.args.self.now.0.memory t c.args.action c.args.action _ _ c.args.flush refl c.null.ensures in λ before after.
+    rw (c.in-Ok.ensures.disk, ap (λ v. v.1) c.self.view_is)
+    (first_call before after _ _ _ _ _ _ _ c.requires (by_call before after _ _ _ _ _ _ call (c.in_default.ensures.moments before after)))
+
+pub returns-in-Err-release-clause-moments : goal.returns-in-Err-release-clause-moments
+returns-in-Err-release-clause-moments g c =
+    let t = transaction_of c.args.t.now in
+    let call = append_call_is c.args.self.now.0.memory t c.args.action c.args.action _ _ c.args.flush refl c.null.ensures in λ before after.
+    rw (c.in-Err-release.ensures.disk, ap (λ v. v.1) c.self.view_is)
+    (first_call before after _ _ _ _ _ _ _ c.requires (by_call before after _ _ _ _ _ _ call (c.in_default.ensures.moments before after)))

@@ -8,6 +8,7 @@ use Rattle.clfs_txn.specs.Loading.{GoesForward, to_come}
 use Rattle.clfs_txn.proofs.Joined.{tells_on, writes_then}
 use Rattle.clfs_txn.proofs.Leads.{leads_call}
 use Rattle.clfs_txn.proofs.LoadParts.{above_few, above_read, at_forward, given_up, of_load, refused_as}
+use Rattle.clfs_txn.proofs.Moments.{passes_then}
 use Rattle.clfs_txn.proofs.table.TableLog.load_above.Goals as goal
 
 pub read_records-requires-clause-forward : goal.read_records-requires-clause-forward
@@ -43,3 +44,6 @@ returns-in_err-cursor-clause-damage g c =
 
 pub returns-clause-damage : goal.returns-clause-damage
 returns-clause-damage g c = λ tells. c.read_records.ensures.damage (tells_on (g.D.Disk.state c.args.self.now.1) (g.D.Disk.state c.read.new.self.1) c.in_ok-cursor.ensures.writes.time.nature tells)
+
+pub returns-clause-time : goal.returns-clause-time
+returns-clause-time g c = passes_then _ _ _ c.in_ok-cursor.ensures.time c.read_records.ensures.time

@@ -3,6 +3,7 @@ use Rattle.clfs_model.specs.declared.reply.Reply.TheVariants as log_replies
 use Rattle.clfs_txn.proofs.Leads.{leads_call, leads_on}
 use Rattle.clfs_txn.proofs.LoadParts.{no_damage, refused_as}
 use Rattle.clfs_txn.proofs.Written.{nothing}
+use Rattle.clfs_txn.proofs.LoadMoments.{info_meanwhile}
 use Rattle.clfs_txn.proofs.table.TableLog.load_stream.Goals as goal
 
 pub returns-in-Ok-clause-step : goal.returns-in-Ok-clause-step
@@ -18,3 +19,10 @@ returns-in-Err-clause-writes g c = nothing _ _ (λ f. c.in-Err.ensures.calm (ref
 pub returns-in-Err-clause-damage : goal.returns-in-Err-clause-damage
 returns-in-Err-clause-damage g c = λ tells container offset at is.
     no_damage true _ _ _ log_replies.Info (Err c.in-Err.refusal) _ container offset at refl (c.in-Err.ensures.step true) (refused_as _ _ is)
+
+pub returns-in-Ok-clause-moments : goal.returns-in-Ok-clause-moments
+returns-in-Ok-clause-moments g c = λ before after.
+    info_meanwhile before after _ _ _ _ _ _ c.in-Ok.info _ _ (c.in-Ok.ensures.step _) (c.load_of.ensures.moments before after)
+
+pub returns-in-Err-clause-moments : goal.returns-in-Err-clause-moments
+returns-in-Err-clause-moments g c = λ before after along present. present

@@ -1,4 +1,4 @@
-use Rattle.std.proofs.Common.{ap, ◌∙◌, sym, ℕ, List, length, true, Some, None}
+use Rattle.std.proofs.Common.{ap, ◌∙◌, sym, ℕ, List, length, true, Some, None, subst}
 use Rattle.std.proofs.lemmas.Result.{err_from_is_err_and}
 use Rattle.clfs_disk.specs.State.{Nature}
 use Rattle.clfs_model.specs.declared.reply.Reply.TheVariants as log_replies
@@ -8,6 +8,9 @@ use Rattle.clfs_txn.proofs.Leads.{leads_call}
 use Rattle.clfs_txn.proofs.LoadSteps.{ending, leaves_records, reading}
 use Rattle.clfs_txn.proofs.LoadParts.{from_same, given_up, of_load, refused_as, restart_read, table_read}
 use Rattle.clfs_txn.proofs.Written.{of_ok}
+use Rattle.clfs_txn.proofs.Moments.{passes_then}
+use Rattle.clfs_disk.specs.Files.{Unchanged}
+use Rattle.clfs_disk.specs.State.{Passes}
 use Rattle.clfs_txn.proofs.table.TableLog.load_table.Goals as goal
 
 pub returns-in_err-cursor-clause-step : goal.returns-in_err-cursor-clause-step
@@ -57,3 +60,10 @@ returns-in_err-cursor-clause-damage g c =
 pub returns-in-Some-clause-damage : goal.returns-in-Some-clause-damage
 returns-in-Some-clause-damage g c = λ tells.
     c.load_above.ensures.damage (tells_on (g.D.Disk.state c.args.self.now.1) (g.D.Disk.state c.end_read.new.self.1) (ap (λ d. (g.D.Disk.state d).nature) c.end_read.ensures.disk ∙ c.in_ok-cursor.ensures.writes.time.nature) tells)
+
+pub returns-in-Some-clause-time : goal.returns-in-Some-clause-time
+returns-in-Some-clause-time g c =
+    passes_then _ _ _ (subst (λ d. Passes Unchanged (g.D.Disk.state c.args.self.now.1) (g.D.Disk.state d)) (sym c.end_read.ensures.disk) c.in_ok-cursor.ensures.time) c.load_above.ensures.time
+
+pub returns-clause-time : goal.returns-clause-time
+returns-clause-time g c = rw c.end_read.ensures.disk c.in_ok-cursor.ensures.time

@@ -17,3 +17,9 @@ returns-in-Err-clause-writes g c = rw (c.close-manager.ensures.disk, c.delete_ar
 
 pub returns-in-Err-clause-damage : goal.returns-in-Err-clause-damage
 returns-in-Err-clause-damage g c = λ tells container offset at is. c.in-Err.ensures.damage tells container offset at (ap (λ (r : TxnLoadRefusal). Err r) is)
+
+pub returns-in-Ok-clause-moments : goal.returns-in-Ok-clause-moments
+returns-in-Ok-clause-moments g c = c.in-Ok.ensures.moments
+
+pub returns-in-Err-clause-moments : goal.returns-in-Err-clause-moments
+returns-in-Err-clause-moments g c = rw (c.close-manager.ensures.disk, c.delete_area.ensures.disk) c.in-Err.ensures.moments

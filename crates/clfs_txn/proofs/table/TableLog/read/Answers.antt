@@ -5,6 +5,7 @@ use Rattle.clfs_txn.proofs.Asked.{same_steps, read_is}
 use Rattle.clfs_txn.proofs.Breaking.{Laws, kept_by, broken_then, whole_then}
 use Rattle.clfs_txn.proofs.Cursors.{read_reply, at_reply, there_reply}
 use Rattle.clfs_txn.proofs.Joined.{reads_only}
+use Rattle.clfs_txn.proofs.Moments.{call_leaves}
 use Rattle.clfs_txn.proofs.table.TableLog.read.Goals as goal
 
 pub invariant_of-self : goal.invariant_of-self
@@ -39,3 +40,12 @@ pub returns-clause-there : goal.returns-clause-there
 returns-clause-there g c =
     there_reply c.args.self.now.0.log _ _ _ _ _ c.read-reply.result
     (read_reply _ _ _ _ _ _ c.read-reply.result _ c.requires (c.steps_keep_a_state_valid.ensures.step _ _ _ _ _ _ _ c.stored.ensures.valid c.read-reply.ensures.step) (returns-clause-step g c))
+
+pub returns-clause-moments : goal.returns-clause-moments
+returns-clause-moments g c = λ before after.
+    call_leaves g.D.Disk.state before after _ _ _ _ _ _ _ _ _ c.the_same_log_has_the_same_table.ensures (c.client.ensures ∙ ap (λ v. v.0.memory.client) c.self.view_is)
+    (read_is _ _ _ _ (c.area.ensures ∙ ap (λ v. v.0.memory.area) c.self.view_is))
+    (ap (λ v. v.0.log) c.self.view_is) (ap (λ v. v.1) c.self.view_is) c.requires c.read-reply.ensures.moments
+
+pub returns-clause-time : goal.returns-clause-time
+returns-clause-time g c = rw (sym c.self.view_is) c.read-reply.ensures.time

@@ -5,6 +5,7 @@ use Rattle.clfs_txn.proofs.Breaking.{Laws, kept_by, broken_then, whole_then}
 use Rattle.clfs_txn.proofs.Cursors.{next_at_reply}
 use Rattle.clfs_txn.proofs.Joined.{reads_only}
 use Rattle.clfs_txn.proofs.Logged.{next_set_reply}
+use Rattle.clfs_txn.proofs.Moments.{call_leaves}
 use Rattle.clfs_txn.proofs.table.TableLog.read_next.Goals as goal
 
 pub invariant_of-self : goal.invariant_of-self
@@ -37,3 +38,12 @@ returns-clause-set g c =
     let whole : c.self.inside.manager.0.broken ≡ false = ap (λ v. v.0.log.broken) c.self.view_is ∙ c.requires in
     rw (sym c.self.view_is) (next_set_reply _ _ _ _ _ _ c.read_next-reply.result _ whole c.stored.ensures.valid c.self.invariant.logged
     (same_steps _ _ _ _ _ _ _ replies.Next c.read_next-reply.result _ refl c.client.ensures (read_next_is _ _ _ c.area.ensures) c.read_next-reply.ensures.step))
+
+pub returns-clause-moments : goal.returns-clause-moments
+returns-clause-moments g c = λ before after.
+    call_leaves g.D.Disk.state before after _ _ _ _ _ _ _ _ _ c.the_same_log_has_the_same_table.ensures (c.client.ensures ∙ ap (λ v. v.0.memory.client) c.self.view_is)
+    (read_next_is _ _ _ (c.area.ensures ∙ ap (λ v. v.0.memory.area) c.self.view_is))
+    (ap (λ v. v.0.log) c.self.view_is) (ap (λ v. v.1) c.self.view_is) c.requires c.read_next-reply.ensures.moments
+
+pub returns-clause-time : goal.returns-clause-time
+returns-clause-time g c = rw (sym c.self.view_is) c.read_next-reply.ensures.time

@@ -24,3 +24,6 @@ returns-clause-step g c =
     (ended_at _ _ _ c.self-2.inside.manager.0 _ _ _ (ap (λ v. v.0.log) c.self-2.view_is) (c.end_read.ensures.ended _))
     (c.set_table.ensures ∙ table_set c.self-2.inside.memory m c.args.restart.now c.replayed.result c.read_all.new.replay
     (ap (λ v. v.0.memory) c.self-2.view_is ∙ c.end_read.ensures.memory ∙ c.in_ok-read_all.ensures.memory) c.requires.none c.replayed.ensures)
+
+pub returns-clause-time : goal.returns-clause-time
+returns-clause-time g c = rw (ap (λ v. v.1) c.self-2.view_is, c.end_read.ensures.disk) c.in_ok-read_all.ensures.time

@@ -29,3 +29,6 @@ returns-clause-whole g c =
     let whole : c.self.inside.manager.0.broken ≡ false = ap (λ v. v.0.log.broken) c.self.view_is ∙ c.requires in
     whole_then c.read_restart-reply.result _
     (broken_then laws _ _ _ _ (λ (found : ℕ × LogEntry). replies.Found found.0 found.1) c.read_restart-reply.result _ (λ _. refl) whole c.read_restart-reply.ensures.step)
+
+pub returns-clause-time : goal.returns-clause-time
+returns-clause-time g c = rw (sym c.self.view_is) c.read_restart-reply.ensures.time

@@ -1,6 +1,8 @@
 use Rattle.std.proofs.Common.{◌≡◌, ap, ◌∙◌, refl, false, true}
 use Rattle.clfs_model.specs.declared.reply.Reply.TheVariants as replies
 use Rattle.clfs_txn.proofs.Breaking.{Laws, kept_after, unchanged}
+use Rattle.clfs_txn.proofs.Moments.{call_leaves, none_leaves}
+use Rattle.clfs_txn.proofs.Asked.{reserve_is}
 use Rattle.clfs_txn.proofs.table.TableLog.reserve.Goals as goal
 
 pub invariant_of-self : goal.invariant_of-self
@@ -14,3 +16,14 @@ pub returns-clause-kept : goal.returns-clause-kept
 returns-clause-kept g c =
     unchanged c.refusals_change_nothing.ensures.calls true _ _ _ _ replies.Held c.reserve-reply.result _ (ap (λ v. v.0.log) c.self.view_is)
     (c.reserve-reply.ensures.step true)
+
+pub returns-clause-moments : goal.returns-clause-moments
+returns-clause-moments g c = λ before after.
+    call_leaves g.D.Disk.state before after _ _ _ _ _ _ _ _ _ c.the_same_log_has_the_same_table.ensures (c.client.ensures ∙ ap (λ v. v.0.memory.client) c.self.view_is)
+    (reserve_is _ _ _ _ (c.area.ensures ∙ ap (λ v. v.0.memory.area) c.self.view_is) c.in_ok-sizes.ensures)
+    (ap (λ v. v.0.log) c.self.view_is) (ap (λ v. v.1) c.self.view_is) c.requires.whole c.reserve-reply.ensures.moments
+
+pub returns-in_err-sizes-clause-moments : goal.returns-in_err-sizes-clause-moments
+returns-in_err-sizes-clause-moments g c = λ before after.
+    none_leaves g.D.Disk.state before after _ _ _ _ _ _ c.the_same_log_has_the_same_table.ensures (ap (λ v. v.0.log) c.self.view_is) (ap (λ v. v.1) c.self.view_is)
+    c.requires.whole c.stored.ensures.survives

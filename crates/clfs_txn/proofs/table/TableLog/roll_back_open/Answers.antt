@@ -1,11 +1,13 @@
-use Rattle.std.proofs.Common.{false}
+use Rattle.std.proofs.Common.{ap, false, refl}
 use Rattle.clfs_cells.specs.Calls.{end_plan, over_transaction}
 use Rattle.clfs_cells.specs.declared.row.Action.TheVariants.{RolledBack}
 use Rattle.clfs_cells.specs.Kept.{transaction_of}
-use Rattle.clfs_txn.proofs.Backs.{rolls_ended, rolls_refused}
+use Rattle.clfs_txn.proofs.Backs.{roll_meanwhile, rolled_meanwhile, rolls_ended, rolls_refused}
 use Rattle.clfs_txn.proofs.Joined.{then_ok, writes_then}
 use Rattle.clfs_txn.proofs.Written.{nothing, of_log}
 use Rattle.clfs_txn.proofs.Damage.{of_the_log}
+use Rattle.clfs_txn.proofs.Moments.{meanwhile_by}
+use Rattle.clfs_disk.specs.State.{Nature}
 use Rattle.clfs_txn.proofs.table.TableLog.roll_back_open.Goals as goal
 
 pub returns-in-Err-clause-step : goal.returns-in-Err-clause-step
@@ -35,3 +37,19 @@ returns-in-Err-clause-damage g c = λ tells container offset at is. c.in-Err.ens
 
 pub returns-in-Ok-clause-damage : goal.returns-in-Ok-clause-damage
 returns-in-Ok-clause-damage g c = λ tells. c.end.ensures.no_damage
+
+pub returns-in-Err-clause-moments : goal.returns-in-Err-clause-moments
+returns-in-Err-clause-moments g c = λ before after.
+    roll_meanwhile before after _ c.args.self.now.0 c.args.txn c.standing.result (transaction_of c.args.t.now) _ _ c.requires c.standing.ensures.standing
+    (c.in-Err.ensures.moments before after (λ now. over_transaction now c.args.txn (λ t. end_plan now t RolledBack false)))
+
+pub returns-in-Ok-clause-moments : goal.returns-in-Ok-clause-moments
+returns-in-Ok-clause-moments g c =
+    let told = (g.D.Disk.state c.args.self.now.1).nature.tells_contents in
+    let nature = c.in_default.ensures.writes.time.nature in λ before after.
+    rolled_meanwhile before after told c.args.self.now.0 c.undo_sets.new.self.0 c.args.txn c.standing.result (transaction_of c.args.t.now) (transaction_of c.in-Ok.now)
+    _ _ _ c.requires c.standing.ensures.standing (c.in_default.ensures.step (λ now. over_transaction now c.args.txn (λ t. end_plan now t RolledBack false)))
+    c.in-Ok.ensures c.in_default.ensures.area.client nature
+    (c.in_default.ensures.moments before after (λ now. over_transaction now c.args.txn (λ t. end_plan now t RolledBack false)))
+    (meanwhile_by before after (g.D.Disk.state c.undo_sets.new.self.1).nature.tells_contents told c.undo_sets.new.self.0.memory.client c.undo_sets.new.self.0.memory.client
+    c.undo_sets.new.self.0.log (end_plan c.undo_sets.new.self.0.memory (transaction_of c.in-Ok.now) RolledBack false) _ _ (ap (λ (n : Nature). n.tells_contents) nature) refl (c.end.ensures.moments before after))

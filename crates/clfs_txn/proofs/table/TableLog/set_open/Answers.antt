@@ -11,11 +11,12 @@ use Rattle.clfs_cells.specs.Stored.{Memory, Transaction, holder, with_set}
 use Rattle.clfs_txn.specs.Kept.{store_of}
 use Rattle.clfs_txn.proofs.Asked.{same_call, same_end, append_call_is}
 use Rattle.clfs_txn.proofs.Breaking.{same_store}
-use Rattle.clfs_txn.proofs.Sets.{held, spent, refused, done}
+use Rattle.clfs_txn.proofs.Sets.{held, spent, refused, done, set_meanwhile}
 use Rattle.clfs_txn.proofs.Written.{of_log}
 use Rattle.clfs_cells.specs.Stored.{newest_standing, transaction}
 use Rattle.clfs_txn.specs.Reading.{HasLink}
 use Rattle.clfs_txn.proofs.Logged.{set_logged}
+use Rattle.clfs_txn.proofs.Moments.{by_call}
 use Rattle.clfs_txn.proofs.table.TableLog.set_open.Goals as goal
 
 pub returns-in-Some-clause-step : goal.returns-in-Some-clause-step
@@ -69,3 +70,27 @@ invariant_of-self g c =
       client = rw c.set.ensures c.self-2.invariant.client;
       logged = rw c.set.ensures (set_logged c.self-2.inside.manager.0 c.self-2.inside.memory t c.change_to-change.result c.in-Ok.lsn there linked c.self-2.invariant.logged);
     }
+
+pub returns-in-Some-clause-moments : goal.returns-in-Some-clause-moments
+returns-in-Some-clause-moments g c = λ before after along present. present
+
+pub returns-then-is_spent-clause-moments : goal.returns-then-is_spent-clause-moments
+returns-then-is_spent-clause-moments g c = λ before after along present. present
+
+pub returns-in-Ok-clause-moments : goal.returns-in-Ok-clause-moments
+returns-in-Ok-clause-moments g c =
+    let t = transaction_of c.args.t.now in
+    let free = c.in_default.ensures ∙ ap (λ v. option_map (λ (t : Transaction). t.number) (holder v.0.memory c.args.txn c.args.cell)) c.self.view_is in
+    let some = sym c.is_spent.ensures ∙ c.if-is_spent.false in
+    let call = append_call_is c.args.self.now.0.memory t _ _ _ _ _ (ap (λ (x : Change). Set x) c.change_to-change.ensures) c.newest_standing.ensures in λ before after.
+    rw (ap (λ v. v.1) c.self-2.view_is) (set_meanwhile before after _ c.args.self.now.0 c.args.txn c.args.cell c.args.value t _ _ c.requires.found free some
+    (by_call before after _ _ _ _ _ _ call (c.in-Ok.ensures.moments before after)))
+
+pub returns-in-Err-clause-moments : goal.returns-in-Err-clause-moments
+returns-in-Err-clause-moments g c =
+    let t = transaction_of c.args.t.now in
+    let free = c.in_default.ensures ∙ ap (λ v. option_map (λ (t : Transaction). t.number) (holder v.0.memory c.args.txn c.args.cell)) c.self.view_is in
+    let some = sym c.is_spent.ensures ∙ c.if-is_spent.false in
+    let call = append_call_is c.args.self.now.0.memory t _ _ _ _ _ (ap (λ (x : Change). Set x) c.change_to-change.ensures) c.newest_standing.ensures in λ before after.
+    set_meanwhile before after _ c.args.self.now.0 c.args.txn c.args.cell c.args.value t _ _ c.requires.found free some
+    (by_call before after _ _ _ _ _ _ call (c.in-Err.ensures.moments before after))

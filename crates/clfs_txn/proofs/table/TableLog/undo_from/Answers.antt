@@ -8,13 +8,15 @@ use Rattle.clfs_txn.specs.Reading.{IsSet}
 use Rattle.clfs_txn.proofs.Damage.{handed_on}
 use Rattle.clfs_txn.proofs.Joined.{tells_on, then_ok, writes_then}
 use Rattle.clfs_txn.proofs.Leads.{by_client}
-use Rattle.clfs_txn.proofs.Undone.{areas_then, at_by, behind_set, last_undone, not_undone, same_area, started, step_by, went_nowhere, went_on}
+use Rattle.clfs_txn.proofs.Undone.{areas_then, at_by, behind_set, last_meanwhile, last_undone, next_meanwhile, not_undone, same_area, set_meanwhile, started, step_by, went_nowhere, went_on}
 use Rattle.clfs_txn.proofs.Written.{nothing, of_same}
+use Rattle.clfs_txn.proofs.Moments.{by_client_call, meanwhile_by}
 use Rattle.clfs_txn.proofs.table.TableLog.undo_from.Goals as goal
 
 pub loop-init : goal.loop-init
 loop-init g c = record {
   step = λ rest. started _ _ _ _ _ _ _ (c.args.more - 0) c.args.more rest (omega arith);
+  moments = λ before after rest along present. present;
   writes = nothing ⊥ _ (λ f. f);
   area = record { client = refl; area = refl };
   whole = c.requires.whole;
@@ -40,6 +42,13 @@ loop-preserved g c =
           went_on told _ _ _ _ _ _ c.loop.self.0.memory c.undo_set.new.self.0.memory _ _ _ _ (c.args.more - c.loop.counter) less c.in_ok-lsn.field-0 rest size (before.step rest)
           (by_client told _ _ _ _ _ _ before.area.client (undone.step told c.args.cursor (behind_set less c.args.number c.args.cursor rest)))
           (step_by _ _ _ _ _ _ _ _ _ tells client read.step) read.memory;
+      moments = λ first second rest.
+          next_meanwhile first second told _ _ _ _ _ c.loop.self.0.memory c.undo_set.new.self.0.memory _ _ _ (c.args.more - c.loop.counter) less rest _ _ _ _ size
+          before.writes.time.nature undone.writes.time.nature undone.whole (before.step rest) (before.moments first second rest)
+          (by_client told _ _ _ _ _ _ before.area.client (undone.step told c.args.cursor (behind_set less c.args.number c.args.cursor rest)))
+          (meanwhile_by first second _ told _ _ _ _ _ _ (ap (λ (n : Nature). n.tells_contents) before.writes.time.nature) before.area.client
+          (undone.moments first second c.args.cursor (behind_set less c.args.number c.args.cursor rest)))
+          (by_client_call first second _ _ _ _ _ _ client (read.moments first second));
       writes = then_ok _ _ _ c.in_ok-lsn.field-0 (then_ok _ _ _ c.in_ok-undo_set.field-0 before.writes undone.writes) read.writes;
       area = areas_then _ _ _ (areas_then _ _ _ before.area undone.area) (same_area _ _ read.memory);
       whole = read.whole;
@@ -108,3 +117,40 @@ returns-in_err-lsn-clause-damage g c =
 
 pub returns-clause-damage : goal.returns-clause-damage
 returns-clause-damage g c = λ tells. c.undo_set-2.ensures.no_damage
+
+pub returns-in_err-undo_set-clause-moments : goal.returns-in_err-undo_set-clause-moments
+returns-in_err-undo_set-clause-moments g c =
+    let told = (g.D.Disk.state c.args.self.now.1).nature.tells_contents in
+    let before = c.loop.invariant in
+    let less = c.args.more - (c.loop.counter + 1) in
+    let size : suc less ≡ c.args.more - c.loop.counter = omega (arith, c.loop-test.true) in
+    let tells = ap (λ (n : Nature). n.tells_contents) before.writes.time.nature in λ first second rest.
+    set_meanwhile first second told _ _ _ _ c.loop.self.0.memory _ _ _ (c.args.more - c.loop.counter) less rest _ _ _ size before.writes.time.nature (before.step rest)
+    (before.moments first second rest)
+    (meanwhile_by first second _ told _ _ _ _ _ _ tells before.area.client (c.in_err-undo_set.ensures.moments first second c.args.cursor (behind_set less c.args.number c.args.cursor rest)))
+
+pub returns-in_err-lsn-clause-moments : goal.returns-in_err-lsn-clause-moments
+returns-in_err-lsn-clause-moments g c =
+    let told = (g.D.Disk.state c.args.self.now.1).nature.tells_contents in
+    let before = c.loop.invariant in
+    let undone = c.in_ok-undo_set.ensures in
+    let read = c.in_err-lsn.ensures in
+    let less = c.args.more - (c.loop.counter + 1) in
+    let size : suc less ≡ c.args.more - c.loop.counter = omega (arith, c.loop-test.true) in
+    let tells = ap (λ (n : Nature). n.tells_contents) before.writes.time.nature in
+    let client = undone.area.client ∙ before.area.client in λ first second rest.
+    next_meanwhile first second told _ _ _ _ _ c.loop.self.0.memory c.undo_set.new.self.0.memory _ _ _ (c.args.more - c.loop.counter) less rest _ _ _ _ size
+    before.writes.time.nature undone.writes.time.nature undone.whole (before.step rest) (before.moments first second rest)
+    (by_client told _ _ _ _ _ _ before.area.client (undone.step told c.args.cursor (behind_set less c.args.number c.args.cursor rest)))
+    (meanwhile_by first second _ told _ _ _ _ _ _ tells before.area.client (undone.moments first second c.args.cursor (behind_set less c.args.number c.args.cursor rest)))
+    (by_client_call first second _ _ _ _ _ _ client (read.moments first second))
+
+pub returns-clause-moments : goal.returns-clause-moments
+returns-clause-moments g c =
+    let told = (g.D.Disk.state c.args.self.now.1).nature.tells_contents in
+    let before = c.loop.invariant in
+    let none : c.args.more - c.loop.counter ≡ 0 = omega (arith, c.loop-test.false) in
+    let tells = ap (λ (n : Nature). n.tells_contents) before.writes.time.nature in λ first second rest.
+    last_meanwhile first second told _ _ _ _ c.loop.self.0.memory _ _ _ (c.args.more - c.loop.counter) rest _ _ _ none before.writes.time.nature (before.step rest)
+    (before.moments first second rest)
+    (meanwhile_by first second _ told _ _ _ _ _ _ tells before.area.client (c.undo_set-2.ensures.moments first second c.args.cursor (λ (m : Memory). with_read_ended m c.args.cursor (rest m))))

@@ -4,9 +4,10 @@ use Rattle.clfs_cells.specs.Stored.{Memory, with_undone}
 use Rattle.clfs_txn.specs.Reading.{IsSet}
 use Rattle.clfs_txn.proofs.Asked.{same_call, same_end, append_call_is}
 use Rattle.clfs_txn.proofs.Logged.{undone_is_set, undone_logged}
-use Rattle.clfs_txn.proofs.Undone.{set_undone, set_refused}
+use Rattle.clfs_txn.proofs.Undone.{set_undone, set_refused, undo_meanwhile}
 use Rattle.clfs_txn.proofs.Written.{of_same}
 use Rattle.clfs_txn.proofs.Damage.{handed_on}
+use Rattle.clfs_txn.proofs.Moments.{by_call}
 use Rattle.clfs_txn.proofs.table.TableLog.undo_set.Goals as goal
 
 pub invariant_of-self : goal.invariant_of-self
@@ -45,3 +46,17 @@ returns-in-Err-clause-writes g c = of_same _ _ c.in-Err.refusal c.in-Err.ensures
 
 pub returns-in-Err-clause-no_damage : goal.returns-in-Err-clause-no_damage
 returns-in-Err-clause-no_damage g c = λ container offset at is. c.in-Err.ensures.no_damage container offset at (handed_on _ _ is)
+
+pub returns-in-Ok-clause-moments : goal.returns-in-Ok-clause-moments
+returns-in-Ok-clause-moments g c =
+    let t = transaction_of c.set_at.result.0 in
+    let call = append_call_is c.args.self.now.0.memory t _ _ _ c.set_at.result.1.undo_next _ c.compensation.ensures refl in λ before after cursor rest.
+    rw (ap (λ v. v.1) c.self.view_is) (undo_meanwhile before after _ _ _ c.args.self.now.0.memory c.args.number cursor c.args.lsn t c.set_at.result.1 rest _ _ c.set_at.ensures
+    c.requires.whole (by_call before after _ _ _ _ _ _ call (c.in-Ok.ensures.moments before after)))
+
+pub returns-in-Err-clause-moments : goal.returns-in-Err-clause-moments
+returns-in-Err-clause-moments g c =
+    let t = transaction_of c.set_at.result.0 in
+    let call = append_call_is c.args.self.now.0.memory t _ _ _ c.set_at.result.1.undo_next _ c.compensation.ensures refl in λ before after cursor rest.
+    undo_meanwhile before after _ _ _ c.args.self.now.0.memory c.args.number cursor c.args.lsn t c.set_at.result.1 rest _ _ c.set_at.ensures
+    c.requires.whole (by_call before after _ _ _ _ _ _ call (c.in-Err.ensures.moments before after))

@@ -1,8 +1,9 @@
 use Rattle.std.proofs.Common.{◌+◌, ap, ◌∙◌}
 use Rattle.clfs_txn.proofs.Asked.{same_call, base_is}
 use Rattle.clfs_txn.proofs.Breaking.{same_store}
-use Rattle.clfs_txn.proofs.Restarts.{unknown, refused, done}
+use Rattle.clfs_txn.proofs.Restarts.{checkpoint_meanwhile, unknown, refused, done}
 use Rattle.clfs_txn.proofs.Written.{nothing, of_log}
+use Rattle.clfs_txn.proofs.Moments.{by_call}
 use Rattle.clfs_txn.proofs.table.TableLog.write_checkpoint.Goals as goal
 
 pub returns-in-Err-clause-step : goal.returns-in-Err-clause-step
@@ -28,3 +29,16 @@ returns-in-Err-clause-writes g c = nothing _ _ (λ f. c.in-Err.ensures.calm (cc 
 
 pub returns-in-Err-write_restart-clause-writes : goal.returns-in-Err-write_restart-clause-writes
 returns-in-Err-write_restart-clause-writes g c = of_log _ _ c.in-Err-write_restart.refusal c.in-Err-write_restart.ensures.writes
+
+pub returns-in-Err-clause-moments : goal.returns-in-Err-clause-moments
+returns-in-Err-clause-moments g c = λ before after along present. present
+
+pub returns-in-Ok-write_restart-clause-moments : goal.returns-in-Ok-write_restart-clause-moments
+returns-in-Ok-write_restart-clause-moments g c = λ before after.
+    checkpoint_meanwhile before after _ c.args.self.now.0 c.in-Ok.info _ _ c.requires.whole c.requires.none (c.in-Ok.ensures.step _)
+    (by_call before after _ _ _ _ _ _ (base_is _ _ _ _ (c.of_number.ensures ∙ ap (λ n. n + 1) c.number.ensures)) (c.in-Ok-write_restart.ensures.moments before after))
+
+pub returns-in-Err-write_restart-clause-moments : goal.returns-in-Err-write_restart-clause-moments
+returns-in-Err-write_restart-clause-moments g c = λ before after.
+    checkpoint_meanwhile before after _ c.args.self.now.0 c.in-Ok.info _ _ c.requires.whole c.requires.none (c.in-Ok.ensures.step _)
+    (by_call before after _ _ _ _ _ _ (base_is _ _ _ _ (c.of_number.ensures ∙ ap (λ n. n + 1) c.number.ensures)) (c.in-Err-write_restart.ensures.moments before after))

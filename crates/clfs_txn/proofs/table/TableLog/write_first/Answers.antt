@@ -2,6 +2,8 @@ use Rattle.std.proofs.Common.{refl, true, Err}
 use Rattle.clfs_model.specs.declared.reply.Reply.TheVariants as log_replies
 use Rattle.clfs_txn.proofs.Asked.{base_is, same_call}
 use Rattle.clfs_txn.proofs.LoadParts.{first_refused, first_written, no_damage, of_load, refused_as}
+use Rattle.clfs_txn.proofs.Moments.{by_call}
+use Rattle.clfs_txn.proofs.LoadMoments.{first_meanwhile}
 use Rattle.clfs_txn.proofs.table.TableLog.write_first.Goals as goal
 
 pub returns-in-Ok-clause-step : goal.returns-in-Ok-clause-step
@@ -20,3 +22,13 @@ returns-in-Err-clause-writes g c = of_load _ _ c.in-Err.refusal c.in-Err.ensures
 pub returns-in-Err-clause-damage : goal.returns-in-Err-clause-damage
 returns-in-Err-clause-damage g c = λ tells container offset at is.
     no_damage true _ _ _ log_replies.Placed (Err c.in-Err.refusal) _ container offset at refl (c.in-Err.ensures.step true) (refused_as _ _ is)
+
+pub returns-in-Ok-clause-moments : goal.returns-in-Ok-clause-moments
+returns-in-Ok-clause-moments g c = λ before after.
+    first_meanwhile before after _ _ c.args.self.now.0.memory _ _ c.requires.unread c.requires.whole
+    (by_call before after _ _ _ _ _ _ (base_is _ _ _ _ c.null.ensures) (c.in-Ok.ensures.moments before after))
+
+pub returns-in-Err-clause-moments : goal.returns-in-Err-clause-moments
+returns-in-Err-clause-moments g c = λ before after.
+    first_meanwhile before after _ _ c.args.self.now.0.memory _ _ c.requires.unread c.requires.whole
+    (by_call before after _ _ _ _ _ _ (base_is _ _ _ _ c.null.ensures) (c.in-Err.ensures.moments before after))

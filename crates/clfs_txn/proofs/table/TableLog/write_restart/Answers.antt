@@ -4,6 +4,7 @@ use Rattle.clfs_cells.specs.Layout.{checkpoint_bytes}
 use Rattle.clfs_txn.specs.Calls.{checkpoint_of}
 use Rattle.clfs_txn.proofs.Asked.{same_steps, restart_is}
 use Rattle.clfs_txn.proofs.Breaking.{Laws, kept_after, unchanged}
+use Rattle.clfs_txn.proofs.Moments.{call_leaves, none_leaves}
 use Rattle.clfs_txn.proofs.table.TableLog.write_restart.Goals as goal
 
 pub invariant_of-self : goal.invariant_of-self
@@ -25,3 +26,15 @@ pub returns-clause-kept : goal.returns-clause-kept
 returns-clause-kept g c =
     unchanged c.refusals_change_nothing.ensures.calls true _ _ _ _ replies.Placed c.write_restart-reply.result _ (ap (λ v. v.0.log) c.self.view_is)
     (c.write_restart-reply.ensures.step true)
+
+pub returns-clause-moments : goal.returns-clause-moments
+returns-clause-moments g c = λ before after.
+    call_leaves g.D.Disk.state before after _ _ _ _ _ _ _ _ _ c.the_same_log_has_the_same_table.ensures (c.client.ensures ∙ ap (λ v. v.0.memory.client) c.self.view_is)
+    (restart_is _ _ _ _ _ (c.area.ensures ∙ ap (λ v. v.0.memory.area) c.self.view_is)
+    (c.in_ok-bytes.ensures.held ∙ ap checkpoint_bytes (c.checkpoint-checkpoint.ensures ∙ ap (λ v. checkpoint_of v.0.memory) c.self.view_is)))
+    (ap (λ v. v.0.log) c.self.view_is) (ap (λ v. v.1) c.self.view_is) c.requires c.write_restart-reply.ensures.moments
+
+pub returns-in_err-bytes-clause-moments : goal.returns-in_err-bytes-clause-moments
+returns-in_err-bytes-clause-moments g c = λ before after.
+    none_leaves g.D.Disk.state before after _ _ _ _ _ _ c.the_same_log_has_the_same_table.ensures (ap (λ v. v.0.log) c.self.view_is) (ap (λ v. v.1) c.self.view_is)
+    c.requires c.stored.ensures.survives
