@@ -3,33 +3,63 @@ ghost use Rattle.std.specs.Prelude.{◌≡◌};
 ghost use Rattle.clfs_shared.specs.Sessions.{IsOf};
 ghost use Rattle.clfs_turn.specs.Seats.{IsSameSeat};
 
-use crate::setting::{ALL, append, both, flushes_of, has_area, journal_of, sessions_of, shared};
+use crate::calls::{append, area_of, end, group_of, has_area, stable};
+use crate::setting::{ALL, flushes_of, room_for_three, shared, three_sessions_of};
 use clfs_disk::Disk;
 use clfs_group::{Group, GroupName, GroupRefused};
 use clfs_lsn::Lsn;
-use clfs_model::{Call, Refusal, Reply};
+use clfs_model::Refusal;
 use clfs_shared::{Session, SharedLog};
 use std::alloc::Global;
 use std::marker::Brand;
 use std::sync::Wait;
 
-// Makes an area of a session that has one, and answers whether it has the number 2.
-fn has_area_again<D: Disk, W: Wait>(rt: &W, log: &SharedLog<D>, session: &mut Session) -> bool
-    requires { IsOf log.now session.old }
-    ensures { IsSameSeat session.old session.new }
+// The LSNs of three records. What a group answers of the second, of the first, and of an LSN that no record has; and, after the third one was appended, of the
+// third, twice, and of the first again.
+type Answers = ([Lsn; 3], [Result<Lsn, Refusal>; 6]);
+
+// Those of a group, or why none was made. None of them, if a record wasn't appended.
+type Grouped = Result<Option<Answers>, Refusal>;
+
+// Two records, and what a group answers of the second, of the first, and of an LSN that no record has.
+fn answers_of_two<N: GroupName, D: Disk, W: Wait>(
+    rt: &W,
+    alloc: Global,
+    log: &SharedLog<D>,
+    group: &Group<N>,
+    caller: &mut Session,
+) -> Option<([Lsn; 2], [Result<Lsn, Refusal>; 3])>
+    requires { IsOf log.now N.session × IsOf log.now caller.old }
+    ensures { IsSameSeat caller.old caller.new }
 {
-    let creating = Call::CreateArea {
-        stream: 1,
-        largest: 8,
-        reads: 1,
-    };
-    matches!(log.step(rt, session, &creating), Reply::Area(2))
+    let first = append(rt, alloc, log, caller, 1)?;
+    let second = append(rt, alloc, log, caller, 1)?;
+    let of_second = stable(rt, log, group, caller, second);
+    let of_first = stable(rt, log, group, caller, first);
+    let of_none = stable(rt, log, group, caller, Lsn::from_parts(1, 1024, 0));
+    Some(([first, second], [of_second, of_first, of_none]))
 }
 
-// The LSNs of two records, and what a group answers of the second, of the first, and of an LSN that no record has.
-type Answers = ([Lsn; 2], [Result<Lsn, Refusal>; 3]);
+// A further record, and what a group answers of it, twice, and of another one.
+fn answers_of_one<N: GroupName, D: Disk, W: Wait>(
+    rt: &W,
+    alloc: Global,
+    log: &SharedLog<D>,
+    group: &Group<N>,
+    caller: &mut Session,
+    other: Lsn,
+) -> Option<(Lsn, [Result<Lsn, Refusal>; 3])>
+    requires { IsOf log.now N.session × IsOf log.now caller.old }
+    ensures { IsSameSeat caller.old caller.new }
+{
+    let lsn = append(rt, alloc, log, caller, 1)?;
+    let once = stable(rt, log, group, caller, lsn);
+    let again = stable(rt, log, group, caller, lsn);
+    let of_other = stable(rt, log, group, caller, other);
+    Some((lsn, [once, again, of_other]))
+}
 
-// Appends two records, and asks the group of them.
+// Appends two records and then a third one, and asks the group of them.
 fn answers_of<N: GroupName, D: Disk, W: Wait>(
     rt: &W,
     alloc: Global,
@@ -40,208 +70,181 @@ fn answers_of<N: GroupName, D: Disk, W: Wait>(
     requires { IsOf log.now N.session × IsOf log.now caller.old }
     ensures { IsSameSeat caller.old caller.new }
 {
-    let first = append(rt, alloc, log, caller, 1)?;
-    let second = append(rt, alloc, log, caller, 1)?;
-    let answers = [
-        group.stable(rt, log, caller, second),
-        group.stable(rt, log, caller, first),
-        group.stable(rt, log, caller, Lsn::from_parts(1, 1024, 0)),
-    ];
-    Some(([first, second], answers))
+    let ([first, second], [a, b, c]) = answers_of_two(rt, alloc, log, group, caller)?;
+    let (third, [d, e, f]) = answers_of_one(rt, alloc, log, group, caller, first)?;
+    Some(([first, second, third], [a, b, c, d, e, f]))
 }
 
-// Does so by a group of this session, which comes back.
-fn of_two_records<N: GroupName, D: Disk, W: Wait>(
+// Asks a group of this session, which comes back.
+fn grouped<N: GroupName, D: Disk, W: Wait>(
     rt: &W,
     alloc: Global,
     log: &SharedLog<D>,
     caller: &mut Session,
     session: Session,
     stream: u16,
-) -> (Session, Option<Answers>)
+) -> (Session, Grouped)
     requires log { IsOf log.now caller.old × IsOf log.now session }
     requires name { (session ≡ N.session) × (stream ≡ N.stream) }
     ensures caller { IsSameSeat caller.old caller.new }
     ensures session { IsSameSeat session result.0 }
 {
-    match Group::<N>::new(rt, log, session, stream) {
+    match group_of::<N, _, _>(rt, log, session, stream) {
         Ok(group) => {
             let answers = answers_of(rt, alloc, log, &group, caller);
-            (group.end(), answers)
+            (end(group), Ok(answers))
         }
-        Err(GroupRefused { session, cause: _ }) => (session, None),
-    }
-}
-
-// Whether the two records lie in the first block, and the answers are the block's end twice and a refusal.
-fn are_right(answers: Option<Answers>) -> bool {
-    let stable = Lsn::from_parts(1, 512, 0);
-    let lsn = Lsn::from_parts(1, 1024, 0);
-    let records = [Lsn::from_parts(1, 0, 0), Lsn::from_parts(1, 0, 1)];
-    let refused = Err(Refusal::RecordNonexistent { lsn });
-    answers == Some((records, [Ok(stable), Ok(stable), refused]))
-}
-
-// Whether the session of a group that ended appends on, in an area that it makes.
-fn goes_on<W: Wait, D: Disk>(
-    rt: &W,
-    alloc: Global,
-    log: &SharedLog<D>,
-    session: &mut Session,
-) -> bool
-    requires { IsOf log.now session.old }
-    ensures { IsSameSeat session.old session.new }
-{
-    let made = has_area_again(rt, log, session);
-    made && append(rt, alloc, log, session, 2) == Some(Lsn::from_parts(1, 512, 0))
-}
-
-// Whether one flush serves two records of a session, the third call is refused, and the group's session appends on when the group has ended.
-fn is_one_flush<W: Wait>(rt: &W, alloc: Global) -> Option<bool> {
-    let (log, sessions) = shared(alloc, ALL, &[3, 64])?;
-    let (mut caller, session) = sessions_of(&log, sessions);
-    let made = has_area(rt, alloc, &log, &mut caller);
-    let (mut session, answers) = of_two_records::<Brand, _, _>(
-        rt,
-        alloc,
-        &log,
-        &mut caller,
-        session,
-        1,
-    );
-    let goes_on = goes_on(rt, alloc, &log, &mut session);
-    let sessions = both(alloc, &log, caller, session)?;
-    let journal = journal_of(log, sessions);
-    Some(made && are_right(answers) && goes_on && flushes_of(&journal) == (1, 2))
-}
-
-#[test]
-fn one_flush_serves_two_records(rt: HostRuntime) {
-    assert!(rt; is_one_flush(&rt, rt.alloc()) == Some(true));
-}
-
-// Why no group is made on this stream, and the session.
-fn cause_of<N: GroupName, D: Disk, W: Wait>(
-    rt: &W,
-    log: &SharedLog<D>,
-    session: Session,
-    stream: u16,
-) -> (Session, Option<Refusal>)
-    requires log { IsOf log.now session }
-    requires name { (session ≡ N.session) × (stream ≡ N.stream) }
-    ensures { IsSameSeat session result.0 }
-{
-    match Group::<N>::new(rt, log, session, stream) {
-        Ok(group) => (group.end(), None),
-        Err(GroupRefused { session, cause }) => (session, Some(cause)),
+        Err(GroupRefused { session, cause }) => (session, Err(cause)),
     }
 }
 
 // The same on stream 1.
-fn cause<D: Disk, W: Wait>(
-    rt: &W,
-    log: &SharedLog<D>,
-    session: Session,
-) -> (Session, Option<Refusal>)
-    requires { IsOf log.now session }
-    ensures { IsSameSeat session result.0 }
-{
-    cause_of::<Brand, _, _>(rt, log, session, 1)
-}
-
-// Whether no group is made on a stream that isn't there, and one is made once it is.
-fn needs_a_stream<W: Wait>(rt: &W, alloc: Global) -> Option<bool> {
-    let (log, sessions) = shared(alloc, ALL, &[3, 64])?;
-    let (mut caller, session) = sessions_of(&log, sessions);
-    let (session, before) = cause(rt, &log, session);
-    let made = has_area(rt, alloc, &log, &mut caller);
-    let (session, after) = cause(rt, &log, session);
-    let sessions = both(alloc, &log, caller, session)?;
-    let _journal = journal_of(log, sessions);
-    Some(before == Some(Refusal::NoSuchStream) && made && after == None)
-}
-
-#[test]
-fn a_group_needs_a_stream(rt: HostRuntime) {
-    assert!(rt; needs_a_stream(&rt, rt.alloc()) == Some(true));
-}
-
-// After one append, what the group answers of it; after another, of that, twice; and then of the first one again. None, if a record isn't appended.
-type FourAnswers = Option<[Result<Lsn, Refusal>; 4]>;
-
-// Appends two records, and asks the group of them.
-fn four_answers_of<N: GroupName, D: Disk, W: Wait>(
-    rt: &W,
-    alloc: Global,
-    log: &SharedLog<D>,
-    group: &Group<N>,
-    caller: &mut Session,
-) -> FourAnswers
-    requires { IsOf log.now N.session × IsOf log.now caller.old }
-    ensures { IsSameSeat caller.old caller.new }
-{
-    let first = append(rt, alloc, log, caller, 1)?;
-    let stable = group.stable(rt, log, caller, first);
-    let second = append(rt, alloc, log, caller, 1)?;
-    Some([
-        stable,
-        group.stable(rt, log, caller, second),
-        group.stable(rt, log, caller, second),
-        group.stable(rt, log, caller, first),
-    ])
-}
-
-// Does so by a group of this session, which comes back.
-fn over_a_disk_that_fails<N: GroupName, D: Disk, W: Wait>(
+fn asked<D: Disk, W: Wait>(
     rt: &W,
     alloc: Global,
     log: &SharedLog<D>,
     caller: &mut Session,
     session: Session,
-    stream: u16,
-) -> (Session, FourAnswers)
-    requires log { IsOf log.now caller.old × IsOf log.now session }
-    requires name { (session ≡ N.session) × (stream ≡ N.stream) }
+) -> (Session, Grouped)
+    requires { IsOf log.now caller.old × IsOf log.now session }
     ensures caller { IsSameSeat caller.old caller.new }
     ensures session { IsSameSeat session result.0 }
 {
-    match Group::<N>::new(rt, log, session, stream) {
-        Ok(group) => {
-            let answers = four_answers_of(rt, alloc, log, &group, caller);
-            (group.end(), answers)
-        }
-        Err(GroupRefused { session, cause: _ }) => (session, None),
+    grouped::<Brand, _, _>(rt, alloc, log, caller, session, 1)
+}
+
+// Makes an area of a session that has one, and appends a record by it. It answers the record's LSN; none, if the area hasn't the number 2.
+fn appended_again<D: Disk, W: Wait>(
+    rt: &W,
+    alloc: Global,
+    log: &SharedLog<D>,
+    session: &mut Session,
+) -> Option<Lsn>
+    requires { IsOf log.now session.old }
+    ensures { IsSameSeat session.old session.new }
+{
+    if area_of(rt, log, session) == Some(2) {
+        append(rt, alloc, log, session, 2)
+    } else {
+        None
     }
 }
 
-// What the group answers over a disk that passes so many calls; none, if it doesn't come to that.
-fn answers_over<W: Wait>(rt: &W, alloc: Global, passes: u64) -> FourAnswers {
-    let (log, sessions) = shared(alloc, passes, &[3, 64])?;
-    let (mut caller, session) = sessions_of(&log, sessions);
-    let made = has_area(rt, alloc, &log, &mut caller);
-    let (session, answers) = over_a_disk_that_fails::<Brand, _, _>(
-        rt,
-        alloc,
-        &log,
-        &mut caller,
-        session,
-        1,
-    );
-    let sessions = both(alloc, &log, caller, session)?;
-    let _journal = journal_of(log, sessions);
-    if made { answers } else { None }
+// What a log was seen to do.
+#[derive(Clone, Copy)]
+struct Seen {
+    // What a group answers before there is a stream, whether a stream and an area of it were made then, and what a group answers after that.
+    before: Grouped,
+    made: bool,
+    after: Grouped,
+    // The record that the group's session appended once the group had ended.
+    appended: Option<Lsn>,
+}
+
+// Asks groups of this session, which comes back, before there is a stream and after that.
+fn asked_twice<D: Disk, W: Wait>(
+    rt: &W,
+    alloc: Global,
+    log: &SharedLog<D>,
+    caller: &mut Session,
+    session: Session,
+) -> (Session, Seen)
+    requires { IsOf log.now caller.old × IsOf log.now session }
+    ensures caller { IsSameSeat caller.old caller.new }
+    ensures session { IsSameSeat session result.0 }
+{
+    let (session, before) = asked(rt, alloc, log, caller, session);
+    let made = has_area(rt, alloc, log, caller);
+    let (mut session, after) = asked(rt, alloc, log, caller, session);
+    let appended = appended_again(rt, alloc, log, &mut session);
+    let seen = Seen {
+        before,
+        made,
+        after,
+        appended,
+    };
+    (session, seen)
+}
+
+// What a log was seen to do, and how many of its flushes were answered, and how many were made.
+type Run = (Seen, (usize, usize));
+
+// Asks groups over a disk that passes so many calls from the log's opening on; none, if it isn't opened by them.
+fn run_over<W: Wait>(rt: &W, alloc: Global, passes: u64) -> Option<Run> {
+    let room = room_for_three(alloc)?;
+    let (log, sessions) = shared(alloc, passes)?;
+    let (mut caller, other, session) = three_sessions_of(&log, sessions);
+    let (session, seen) = asked_twice(rt, alloc, &log, &mut caller, session);
+    Some((seen, flushes_of(log, room, caller, other, session)))
+}
+
+// An LSN of the log's first container, at the begin of a block.
+fn block(offset: u32) -> Lsn {
+    Lsn::from_parts(1, offset, 0)
+}
+
+// The records that are appended: two in the first block, and one in the next one.
+fn records() -> [Lsn; 3] {
+    [block(0), Lsn::from_parts(1, 0, 1), block(512)]
+}
+
+// Whether one flush served the first two records and another one the third, an LSN of no record was refused, and the session appended on.
+fn is_served(run: &Run) -> bool {
+    let (seen, flushes) = run;
+    let refused = Err(Refusal::RecordNonexistent { lsn: block(1024) });
+    let answers = [
+        Ok(block(512)),
+        Ok(block(512)),
+        refused,
+        Ok(block(1024)),
+        Ok(block(1024)),
+        Ok(block(1024)),
+    ];
+    seen.after == Ok(Some((records(), answers)))
+        && seen.appended == Some(block(1024))
+        && *flushes == (2, 3)
+}
+
+// Whether no group was made on a stream that wasn't there, and one was once it was.
+fn needed_a_stream(run: &Run) -> bool {
+    let (seen, _) = run;
+    seen.before == Err(Refusal::NoSuchStream) && seen.made && seen.after.is_ok()
+}
+
+// What those find of a log over a disk that doesn't fail.
+fn found<W: Wait>(rt: &W, alloc: Global) -> Option<(bool, bool)> {
+    let run = run_over(rt, alloc, ALL)?;
+    Some((is_served(&run), needed_a_stream(&run)))
+}
+
+#[test]
+fn one_flush_serves_two_records_of_a_stream_that_is_there(rt: HostRuntime) {
+    assert!(rt; found(&rt, rt.alloc()) == Some((true, true)));
+}
+
+// What a group answers over a disk that passes so many calls; none, if it doesn't come to all answers.
+fn answers_over<W: Wait>(rt: &W, alloc: Global, passes: u64) -> Option<Answers> {
+    let (seen, _) = run_over(rt, alloc, passes)?;
+    seen.after.ok()?
+}
+
+// What a group answers of a log that breaks at its second flush.
+fn broken_answers() -> Answers {
+    let refused = Err(Refusal::RecordNonexistent { lsn: block(1024) });
+    let answers = [
+        Ok(block(512)),
+        Ok(block(512)),
+        refused,
+        Err(Refusal::DiskFault),
+        Err(Refusal::Broken),
+        Ok(block(512)),
+    ];
+    (records(), answers)
 }
 
 #[test]
 fn a_mark_is_answered_though_the_log_is_broken(rt: HostRuntime) {
     let alloc = rt.alloc();
-    let stable = Lsn::from_parts(1, 512, 0);
-    let expected = [
-        Ok(stable),
-        Err(Refusal::DiskFault),
-        Err(Refusal::Broken),
-        Ok(stable),
-    ];
     let first = (1..64).find_map(|passes| answers_over(&rt, alloc, passes));
-    assert!(rt; first == Some(expected));
+    assert!(rt; first == Some(broken_answers()));
 }

@@ -4,9 +4,8 @@ ghost use Rattle.std.specs.Prelude.{◌≡◌};
 ghost use Rattle.clfs_shared.specs.Sessions.{IsOf};
 ghost use Rattle.clfs_turn.specs.Seats.{IsSameSeat};
 
-use crate::setting::{
-    ALL, all_three, append, flushes_of, has_area, journal_of, shared, three_sessions_of,
-};
+use crate::calls::{append, end, group_of, has_area, stable};
+use crate::setting::{ALL, flushes_of, room_for_three, shared, three_sessions_of};
 use clfs_disk::Disk;
 use clfs_group::{Group, GroupName, GroupRefused};
 use clfs_lsn::Lsn;
@@ -36,8 +35,7 @@ fn commit<N: GroupName, D: Disk, W: Wait>(
     ensures { IsSameSeat session result.session }
 {
     let lsns = match append(rt, alloc, log, &mut session, 1) {
-        Some(lsn) => group
-            .stable(rt, log, &mut session, lsn)
+        Some(lsn) => stable(rt, log, group, &mut session, lsn)
             .ok()
             .map(|answer| (lsn, answer)),
         None => None,
@@ -95,10 +93,10 @@ where
     ensures second { IsSameSeat second result.1.session }
     ensures group { IsSameSeat session result.2 }
 {
-    match Group::<N>::new(rt, log, session, stream) {
+    match group_of::<N, _, _>(rt, log, session, stream) {
         Ok(group) => {
             let (by_first, by_second) = in_two_threads(rt, alloc, log, &group, first, second);
-            (by_first, by_second, group.end())
+            (by_first, by_second, end(group))
         }
         Err(GroupRefused { session, cause: _ }) => (none(first), none(second), session),
     }
@@ -126,7 +124,8 @@ fn are_above(of_first: Option<(Lsn, Lsn)>, of_second: Option<(Lsn, Lsn)>) -> boo
 
 // Whether two threads that share a group are each answered an LSN above that of their record, by one flush or by two.
 fn is_shared<W: Threads + Wait + Sync>(rt: &W, alloc: Global) -> Option<bool> {
-    let (log, sessions) = shared(alloc, ALL, &[3, 5, 64])?;
+    let room = room_for_three(alloc)?;
+    let (log, sessions) = shared(alloc, ALL)?;
     let (mut first, mut second, session) = three_sessions_of(&log, sessions);
     let made_first = has_area(rt, alloc, &log, &mut first);
     let made_second = has_area(rt, alloc, &log, &mut second);
@@ -134,8 +133,7 @@ fn is_shared<W: Threads + Wait + Sync>(rt: &W, alloc: Global) -> Option<bool> {
         rt, alloc, &log, first, second, session, 1,
     );
     let above = are_above(by_first.lsns, by_second.lsns);
-    let sessions = all_three(alloc, &log, by_first.session, by_second.session, session)?;
-    let (answered, all) = flushes_of(&journal_of(log, sessions));
+    let (answered, all) = flushes_of(log, room, by_first.session, by_second.session, session);
     Some(made_first && made_second && above && 1 <= answered && answered <= 2 && answered == all)
 }
 
