@@ -2,3 +2,8 @@ pub mod Naming
 pub mod Making
 pub mod Deleting
 pub mod Answering
+pub mod Numbers
+pub mod Replying
+pub mod Ending
+pub mod Taking
+pub mod Returning

@@ -4,3 +4,5 @@ pub mod Answered
 pub mod Made
 pub mod Left
 pub mod Served
+pub mod Ended
+pub mod Taken

@@ -10,11 +10,21 @@
 //!
 //! When no more lines come the deletion of each area that the client can have is asked for, so that what it held is free for the others. A broken log
 //! refuses.
+//!
+//! `share` shares a log among clients, each served in a thread of its own, which opens the client's source and sink by its openers. Its contract tells all of
+//! them by one journal.
 #![tactic(auto)]
 
+mod clients;
 mod leaving;
+mod openers;
 mod reading;
 mod seat;
 mod serving;
+mod sharing;
+mod threads;
 
+pub use clients::{ClientEnd, EndedClient};
+pub use openers::{OpenedPorts, Openers};
 pub use serving::{Served, serve_client};
+pub use sharing::{ShareRefused, Shared, share};

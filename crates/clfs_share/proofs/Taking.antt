@@ -1,0 +1,136 @@
+-- What a journal has of a client that ended.
+use Rattle.std.proofs.Common.{◌≡◌, ℕ, ◌+◌, Bool, refl, sym, ap, subst, ◌∙◌, List, [], ◌∷◌, ◌++◌, length, map}
+use Rattle.std.specs.Prelude.{Option, Some, None}
+use Rattle.std.specs.List.{AllByRecursion, range_with_len}
+use Rattle.std.specs.Option.{option_map}
+use Rattle.clfs_lsn.specs.Limits.{most_areas}
+use Rattle.clfs_model.specs.declared.journal.Entry.{Entry}
+use Rattle.clfs_model.specs.declared.state.Area.{Area}
+use Rattle.clfs_model.specs.declared.state.State.{State}
+use Rattle.clfs_model.specs.Journals.{IsLegal, mine}
+use Rattle.clfs_model.specs.State.{area_of}
+use Rattle.clfs_laws.specs.Rows.{row_of, row_in, row_through}
+use Rattle.clfs_turn.specs.Seats.{HasSeen, IsSameSeat}
+use Rattle.clfs_lines.specs.Through.{AnswersThrough, AnswersInPart}
+use Rattle.clfs_shared.specs.declared.opening.Opening.{Opening}
+use Rattle.clfs_shared.specs.Journal.{client_of}
+use Rattle.clfs_shared.specs.Sessions.{SessionState, own_entries}
+use Rattle.clfs_share.specs.declared.clients.Client.{Client}
+use Rattle.clfs_share.specs.declared.clients.ClientEnd.{ClientEnd}
+use Rattle.clfs_share.specs.declared.clients.ClientEnd.TheVariants.{Served, NotOpened, NoThread}
+use Rattle.clfs_share.specs.Answered.{AnswersLine}
+use Rattle.clfs_share.specs.Ended.{EndsAs, HasEnded, HaveEnded, openers_of, ended_of}
+use Rattle.clfs_share.specs.Left.{deletions, own_row}
+use Rattle.clfs_share.specs.Made.{all_made, calls_made, AreReplies}
+use Rattle.clfs_share.specs.Served.{IsServed, client_limits}
+use Rattle.clfs_share.specs.Taken.{AreTaken, IsAnswered, IsAnsweredInPart, IsTaken, IsTakenAs}
+use Rattle.clfs_share.proofs.Replying.{answered_by, ends_as, in_part_by}
+use Rattle.clfs_share.proofs.Making.{same_seats}
+
+-- own entries say what a client's areas are
+abbrev pub RowsLaw : Type 0
+RowsLaw = (told : Bool) (s t : State) (journal : List Entry) (client number : ℕ) → IsLegal told journal s t
+    → row_in t client number ≡ row_through number (row_in s client number) (mine journal client)
+
+no_area : (found : Option Area) → option_map row_of found ≡ None → found ≡ None
+no_area None is = refl
+no_area (Some area) is = absurd (cc is)
+
+-- a new session has no entries of its own
+none_own : (s : SessionState) → s.seen ≡ [] → own_entries s ≡ []
+none_own s none = ap (λ (z : List Entry). mine z s.client) none
+
+module _ (rows : RowsLaw) (journal : List Entry) (last : State) (s t : SessionState) (new : s.seen ≡ []) (seen : HasSeen client_of journal t)
+    (legal : IsLegal s.opening.tells_contents journal s.opening.state last) where
+  -- the journal has of the client what its session has seen
+  own_of : IsSameSeat s t → mine journal s.client ≡ own_entries t
+  own_of same = ap (λ (c : ℕ). mine journal c) (sym same.client) ∙ sym seen.own
+
+  -- an area that isn't there by the client's own entries isn't there
+  no_own_area : IsSameSeat s t → (number : ℕ) → own_row number t ≡ None → area_of last s.client number ≡ None
+  no_own_area same number none = no_area (area_of last s.client number)
+      (rows s.opening.tells_contents s.opening.state last journal s.client number legal
+      ∙ ap (λ (z : List Entry). row_through number (row_in s.opening.state s.client number) z) (own_of same)
+      ∙ ap (λ (c : ℕ). row_through number (row_in s.opening.state c number) (own_entries t)) (sym same.client)
+      ∙ ap (λ (o : Opening). row_through number (row_in o.state t.client number) (own_entries t)) (sym same.opening)
+      ∙ none)
+
+  served_taken : (status : ℕ) (left left' written written' : Option (List ℕ)) (source source' sink sink' : ℕ)
+      → IsServed s t status left left' written written' source source' sink sink'
+      → IsTaken journal last s.client status left left' written written' source source' sink sink'
+  served_taken status left left' written written' source source' sink sink' served = record {
+    calls = all_made (own_entries between);
+    ends = ends_as client_limits (AnswersThrough AnswersLine s between) (IsAnswered s.client (all_made (own_entries between)))
+        (AnswersInPart AnswersLine s between) (IsAnsweredInPart s.client (all_made (own_entries between))) status left left' written written' source source' sink sink'
+        (answered_by s between (none_own s new)) (in_part_by s between (none_own s new)) served.ends;
+    answers = served.leaves.answers;
+    deleted = let F : ℕ → Type 0 = λ c. AreReplies (deletions c most_areas) served.leaves.answers in subst F served.same.client served.leaves.answered;
+    entries = ap all_made (own_of same) ∙ served.leaves.entries
+        ∙ ap (λ (c : ℕ). all_made (own_entries between) ++ calls_made (deletions c most_areas) served.leaves.answers) served.same.client;
+    leaves = served.leaves.ends;
+    gone = λ all number least most. no_own_area same number (served.leaves.gone all number least most);
+  }
+    where
+      between : SessionState
+      between = served.between
+
+      same : IsSameSeat s t
+      same = same_seats s between t served.same served.leaves.same
+
+  -- a session that has made no call since it was new
+  none_taken : t ≡ s → mine journal s.client ≡ []
+  none_taken is = ap (λ (c : ℕ). mine journal c) (sym (ap (λ (x : SessionState). x.client) is)) ∙ sym seen.own
+      ∙ ap (λ (x : SessionState). own_entries x) is ∙ none_own s new
+
+  module _ {P S K : Type 0} (opens : P → S → K → Type 0) (left : S → Option (List ℕ)) (source_faults : S → ℕ) (written : K → Option (List ℕ)) (sink_faults : K → ℕ) where
+    taken_as : (end : ClientEnd) (openers : P) (ports : Option (S × K)) → EndsAs opens left source_faults written sink_faults end openers ports s t
+        → IsTakenAs opens left source_faults written sink_faults journal last end s.client openers ports
+    taken_as (Served status) openers ports is = record {
+      source = is.source;
+      sink = is.sink;
+      opened = is.opened;
+      source_after = is.source_after;
+      sink_after = is.sink_after;
+      are = is.are;
+      taken = served_taken status (left is.source) (left is.source_after) (written is.sink) (written is.sink_after)
+          (source_faults is.source) (source_faults is.source_after) (sink_faults is.sink) (sink_faults is.sink_after) is.served;
+    }
+    taken_as NotOpened openers ports is = none_taken is
+    taken_as NoThread openers ports is = none_taken is
+
+-- ---- all clients
+
+-- a session that has seen nothing, of a log that began so
+pub record BeginsIn (o : Opening) (s : SessionState) : Type 0 where
+  pub seen : s.seen ≡ []
+  pub opening : s.opening ≡ o
+
+module _ {P S K : Type 0} (opens : P → S → K → Type 0) (left : S → Option (List ℕ)) (source_faults : S → ℕ) (written : K → Option (List ℕ)) (sink_faults : K → ℕ) (rows : RowsLaw) (o : Opening)
+    (journal : List Entry) (last : State) (legal : IsLegal o.tells_contents journal o.state last) where
+  first_is : {a b : ℕ} {xs ys : List ℕ} → a ∷ xs ≡ b ∷ ys → a ≡ b
+  first_is is = cc is
+
+  rest_is : {a b : ℕ} {xs ys : List ℕ} → a ∷ xs ≡ b ∷ ys → xs ≡ ys
+  rest_is is = cc is
+
+  one_taken : (number : ℕ) (old new : Client P S K) → HasEnded opens left source_faults written sink_faults old new → BeginsIn o old.session
+      → old.session.client ≡ number → HasSeen client_of journal new.session
+      → IsTakenAs opens left source_faults written sink_faults journal last new.end number old.openers new.ports
+  one_taken number old new ended begins is seen =
+      let L : Opening → Type 0 = λ x. IsLegal x.tells_contents journal x.state last in
+      let F : ℕ → Type 0 = λ c. IsTakenAs opens left source_faults written sink_faults journal last new.end c old.openers new.ports in
+      subst F is (taken_as rows journal last old.session new.session begins.seen seen (subst L (sym begins.opening) legal)
+      opens left source_faults written sink_faults new.end old.openers new.ports ended)
+
+  pub all_taken : (number : ℕ) (olds news : List (Client P S K)) → HaveEnded opens left source_faults written sink_faults olds news
+      → AllByRecursion (λ (c : Client P S K). BeginsIn o c.session) olds
+      → map (λ (c : Client P S K). c.session.client) olds ≡ range_with_len number (length olds)
+      → AllByRecursion (λ (c : Client P S K). HasSeen client_of journal c.session) news
+      → AreTaken opens left source_faults written sink_faults journal last number (map openers_of olds) (map ended_of news)
+  all_taken number [] [] ended begin are seen = tt
+  all_taken number [] (new ∷ news) ended begin are seen = absurd ended
+  all_taken number (old ∷ olds) [] ended begin are seen = absurd ended
+  all_taken number (old ∷ olds) (new ∷ news) ended begin are seen = (
+    one_taken number old new ended.0 begin.0 (first_is are) seen.0,
+    all_taken (number + 1) olds news ended.1 begin.1 (rest_is are) seen.1,
+  )

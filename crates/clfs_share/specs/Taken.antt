@@ -1,0 +1,78 @@
+-- What a shared log took of a client, as its journal has it, and what the client's source and sink saw of that.
+use Rattle.std.specs.Prelude.{◌≡◌, ℕ, ◌+◌, ◌≤◌, Bool, true, false, List, [], ◌∷◌, ◌++◌, length, All, None, Option, Some}
+use Rattle.std.specs.List.{concat, list_all}
+use Rattle.clfs_lsn.specs.Limits.{most_areas}
+use Rattle.clfs_model.specs.declared.journal.Entry.{Entry}
+use Rattle.clfs_model.specs.declared.reply.Reply.{Reply}
+use Rattle.clfs_model.specs.declared.state.State.{State}
+use Rattle.clfs_model.specs.Journals.{mine}
+use Rattle.clfs_model.specs.State.{area_of}
+use Rattle.clfs_lines.specs.Answering.{EndsAnswering}
+use Rattle.clfs_share.specs.declared.clients.ClientEnd.{ClientEnd}
+use Rattle.clfs_share.specs.declared.clients.ClientEnd.TheVariants.{Served, NotOpened, NoThread}
+use Rattle.clfs_share.specs.declared.clients.EndedClient.{EndedClient}
+use Rattle.clfs_share.specs.Left.{deletions, is_gone, EndsArea}
+use Rattle.clfs_share.specs.Lines.{own_requests}
+use Rattle.clfs_share.specs.Made.{Made, all_made, calls_made, AreReplies, reply_lines}
+use Rattle.clfs_share.specs.Served.{client_limits}
+
+-- Lines of a client were answered: the calls that they and the replies give are these, and this text is the replies.
+pub record IsAnswered (client : ℕ) (calls : List Made) (lines : List (List ℕ)) (text : List ℕ) : Type 0 where
+  pub answers : List Reply
+  pub answered : AreReplies (own_requests client lines) answers
+  pub made : calls_made (own_requests client lines) answers ≡ calls
+  pub is : text ≡ concat (reply_lines (own_requests client lines) answers)
+
+-- Lines of a client were answered, and this text is all replies, or all but the last and, if it is torn, a front of that one.
+pub record IsAnsweredInPart (client : ℕ) (calls : List Made) (torn : Bool) (lines : List (List ℕ)) (text : List ℕ) : Type 0 where
+  pub output : List ℕ
+  pub answered : IsAnswered client calls lines output
+  pub whole : List (List ℕ)
+  pub others : List (List ℕ)
+  pub all : whole ++ others ≡ reply_lines (own_requests client lines) answered.answers
+  pub at_most_one : length others ≤ 1
+  pub front : List ℕ
+  pub untorn : torn ≡ false → front ≡ []
+  pub rest : List ℕ
+  pub is : text ≡ concat whole ++ front
+  pub goes_on : text ++ rest ≡ output
+
+-- The log took a client's calls: in the journal, whose last state this is, they are those of its lines, in order, each with its reply, and then the
+-- deletions of its areas. The status tells how its lines ended.
+pub record IsTaken (journal : List Entry) (last : State) (client status : ℕ) (left left_after written written_after : Option (List ℕ)) (source source_after sink sink_after : ℕ) : Type 0 where
+  pub calls : List Made
+  pub ends : EndsAnswering client_limits (IsAnswered client calls) (IsAnsweredInPart client calls) status left left_after
+      written written_after source source_after sink sink_after
+  pub answers : List Reply
+  pub deleted : AreReplies (deletions client most_areas) answers
+  pub entries : all_made (mine journal client) ≡ calls ++ calls_made (deletions client most_areas) answers
+  -- each deletion leaves no such area, but where the log is broken or memory ran out
+  pub leaves : All EndsArea answers
+  pub gone : list_all is_gone answers ≡ true → (number : ℕ) → 1 ≤ number → number ≤ most_areas → area_of last client number ≡ None
+
+-- A client's source and sink were opened, and the log took its calls.
+pub record WasTaken {P S K : Type 0} (opens : P → S → K → Type 0) (left : S → Option (List ℕ)) (source_faults : S → ℕ) (written : K → Option (List ℕ))
+    (sink_faults : K → ℕ) (journal : List Entry) (last : State) (client status : ℕ) (openers : P) (ports : Option (S × K)) : Type 0 where
+  pub source : S
+  pub sink : K
+  pub opened : opens openers source sink
+  pub source_after : S
+  pub sink_after : K
+  pub are : ports ≡ Some (source_after, sink_after)
+  pub taken : IsTaken journal last client status (left source) (left source_after) (written sink) (written sink_after)
+      (source_faults source) (source_faults source_after) (sink_faults sink) (sink_faults sink_after)
+
+module _ {P S K : Type 0} (opens : P → S → K → Type 0) (left : S → Option (List ℕ)) (source_faults : S → ℕ) (written : K → Option (List ℕ)) (sink_faults : K → ℕ)
+    (journal : List Entry) (last : State) where
+  -- a client that ended so: the log took no call of one that wasn't served
+  abbrev pub IsTakenAs : ClientEnd → ℕ → P → Option (S × K) → Type 0
+  IsTakenAs (Served status) client openers ports = WasTaken opens left source_faults written sink_faults journal last client status openers ports
+  IsTakenAs NotOpened client openers ports = mine journal client ≡ []
+  IsTakenAs NoThread client openers ports = mine journal client ≡ []
+
+  -- clients with their numbers, of which the first has this one
+  abbrev pub AreTaken : ℕ → List P → List (EndedClient S K) → Type 0
+  AreTaken client [] [] = Unit {0}
+  AreTaken client [] (ended ∷ others) = ⊥
+  AreTaken client (openers ∷ more) [] = ⊥
+  AreTaken client (openers ∷ more) (ended ∷ others) = IsTakenAs ended.end client openers ended.ports × AreTaken (client + 1) more others

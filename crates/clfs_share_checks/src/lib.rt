@@ -1,0 +1,5 @@
+//! Tests of clients that share a log, by public calls alone. The crate has no function of its own, so the shared log isn't proved a second time for them.
+#![tactic(auto)]
+
+#[cfg(test)]
+mod clients;
