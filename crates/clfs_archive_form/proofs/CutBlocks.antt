@@ -88,7 +88,7 @@ pub row_len : (blocks : List (List ℕ)) → length (in_a_row blocks) ≡ total 
 row_len [] = refl
 row_len (block ∷ blocks) = omega (arith, length-append block (in_a_row blocks), row_len blocks)
 
-exact_whole : (blocks : List (List ℕ)) → AreExact blocks → total blocks % 512 ≡ 0
+pub exact_whole : (blocks : List (List ℕ)) → AreExact blocks → total blocks % 512 ≡ 0
 exact_whole [] exact = refl
 exact_whole (block ∷ blocks) exact = omega (arith, exact.0, exact_whole blocks exact.1)
 

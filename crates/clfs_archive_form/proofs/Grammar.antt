@@ -280,15 +280,22 @@ module _ (bytes : List ℕ) where
     same = rw is (first_of_all (record { image = image; containers = containers }) (archives_behind (length bytes / 16395) image bytes at));
   }
 
+  none_from : (image : BaseImage) (at : ℕ) → length bytes ≤ at → (n : ℕ) → archives_behind n image bytes at ≡ Ok []
+  none_from image at end zero = refl
+  none_from image at end (suc n) = rw (le-ltb at (length bytes) end) refl
+
+  -- an archive up to the end is the only one
+  pub read_alone : (image : BaseImage) (containers : List Stored) (at : ℕ)
+      → archive_there first_demands bytes 0 ≡ Ok (record { image = image; containers = containers }, at) → length bytes ≤ at
+      → archives_in bytes ≡ Ok (as_archive image containers ∷ [])
+  unfolding archives_in
+  read_alone image containers at is end = rw (is, none_from image at end (length bytes / 16395)) refl
+
   module _ (image : BaseImage) (containers : List Stored) (at : ℕ) (read : ReadTo bytes image containers at) where
     pub all_read : length bytes ≤ at → (archives : List Archive) × (archives_in bytes ≡ Ok archives) × (joined archives ≡ Some (record { image = image; containers = containers }))
     unfolding archives_right
     all_read end =
-        (read.archives, read.same ∙ ap (archives_after read.archives) (none_behind read.most) ∙ ap archives_right (append-nil read.archives), read.taken)
-      where
-        none_behind : (n : ℕ) → archives_behind n image bytes at ≡ Ok []
-        none_behind zero = refl
-        none_behind (suc n) = rw (le-ltb at (length bytes) end) refl
+        (read.archives, read.same ∙ ap (archives_after read.archives) (none_from image at end read.most) ∙ ap archives_right (append-nil read.archives), read.taken)
 
     next_behind : at < length bytes → (n : ℕ) × (read.most ≡ n + 1) × (archives_behind read.most image bytes at
         ≡ archive_there (later_demands image) bytes at

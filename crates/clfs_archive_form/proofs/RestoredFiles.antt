@@ -45,7 +45,7 @@ abbrev read_both : List LogEntry → Result (List LogEntry) LoadRefusal → Resu
 read_both entries read = read >>= (λ (others : List LogEntry). Ok (entries ++ others))
 
 -- open blocks have no more sectors than there are
-opens_total : (left : ℕ) (bytes : List ℕ) (blocks : List (List ℕ)) (rest : ℕ) → Opens left bytes blocks rest → total blocks + 512 * rest ≡ 512 * left
+pub opens_total : (left : ℕ) (bytes : List ℕ) (blocks : List (List ℕ)) (rest : ℕ) → Opens left bytes blocks rest → total blocks + 512 * rest ≡ 512 * left
 opens_total left bytes [] rest opens = omega (arith, opens)
 opens_total left bytes (block ∷ blocks) rest opens =
     let more = opens_total (left - block_sectors bytes) (drop (512 * block_sectors bytes) bytes) blocks rest opens.1 in omega (arith, more, block_len left bytes block opens.0, opens.0.fits)
@@ -99,7 +99,7 @@ fold_low e b (x ∷ bs) low =
     let first : max (min b e) x ≡ min (max b x) e = omega (arith, low.0) in
     ap (λ (n : ℕ). fold max n bs) first ∙ fold_low e (max b x) bs low.1
 
-bases_lowered : (e : ℕ) (rows : List Row) (entries : List LogEntry) → AreBelow e entries → HaveLowBases entries
+pub bases_lowered : (e : ℕ) (rows : List Row) (entries : List LogEntry) → AreBelow e entries → HaveLowBases entries
     → bases_with (lowered_rows e rows) entries ≡ map (λ (base : ℕ). min base e) (bases_with rows entries)
 bases_lowered e rows entries to low =
     ap (λ (n : ℕ). map (base_with (lowered_rows e rows) entries) (range_with_len 0 n)) (length-map rows (lowered e))
@@ -133,20 +133,20 @@ module _ (alone : ReadAlone) (written : AreReadAsWritten) (fits : ReadsFit) (byt
   source id = blocks_at bytes archive id
 
   -- what is read of the containers from one on, of which so many follow the first, and what their files hold of it
-  record Gathered (id j count end : ℕ) : Type 0 where
-    all : List LogEntry
-    given : stored_records shape streams id (map source (range_with_len id (suc count))) ≡ Ok all
-    here : List (List ℕ)
-    others : List (List (List ℕ))
-    have : HaveBlocks image.container_sectors files (range_with_len (1 + j) (suc count)) (here ∷ others)
-    read : stored_records shape streams id (here ∷ others) ≡ Ok (below up_to all)
-    within : All (λ (blocks : List (List ℕ)). total blocks ≤ 512 * image.container_sectors) (here ∷ others)
-    ends : stored_end (here ∷ others) ≡ end
-    last_end : (before : List LogEntry) → AreBelow (lsn_number id 0 0) before
+  pub record Gathered (id j count end : ℕ) : Type 0 where
+    pub all : List LogEntry
+    pub given : stored_records shape streams id (map source (range_with_len id (suc count))) ≡ Ok all
+    pub here : List (List ℕ)
+    pub others : List (List (List ℕ))
+    pub have : HaveBlocks image.container_sectors files (range_with_len (1 + j) (suc count)) (here ∷ others)
+    pub read : stored_records shape streams id (here ∷ others) ≡ Ok (below up_to all)
+    pub within : All (λ (blocks : List (List ℕ)). total blocks ≤ 512 * image.container_sectors) (here ∷ others)
+    pub ends : stored_end (here ∷ others) ≡ end
+    pub last_end : (before : List LogEntry) → AreBelow (lsn_number id 0 0) before
         → end_of_last (before ++ below up_to all) (in_container (container_of up_to) (below up_to all)) ≡ end
-    from : AreFrom (lsn_number id 0 0) (below up_to all)
-    to : AreBelow (lsn_number (container_of up_to) end 0) (below up_to all)
-    low : HaveLowBases (below up_to all)
+    pub from : AreFrom (lsn_number id 0 0) (below up_to all)
+    pub to : AreBelow (lsn_number (container_of up_to) end 0) (below up_to all)
+    pub low : HaveLowBases (below up_to all)
 
   module _ (is_shape : IsShape shape) where
     -- the blocks of the last container
@@ -236,7 +236,7 @@ module _ (alone : ReadAlone) (written : AreReadAsWritten) (fits : ReadsFit) (byt
           low = subst HaveLowBases (sym split) (bases_both kept (below up_to rest.all) low.1 rest.low);
         }
 
-    gather : (count j end : ℕ) → image.first + j + count ≡ container_of up_to → ((i : ℕ) → image.first + i ≤ container_of up_to → IsReadable bytes archive (image.first + i))
+    pub gather : (count j end : ℕ) → image.first + j + count ≡ container_of up_to → ((i : ℕ) → image.first + i ≤ container_of up_to → IsReadable bytes archive (image.first + i))
         → ((i : ℕ) → image.first + i < container_of up_to → (size : ℕ) × HoldsKept bytes archive up_to files i size)
         → HoldsKept bytes archive up_to files (container_of up_to - image.first) end → Gathered (image.first + j) j count end
     gather zero j end is readable fronts last =
@@ -266,7 +266,7 @@ module _ (alone : ReadAlone) (written : AreReadAsWritten) (fits : ReadsFit) (byt
       archive = if image.archiving then Some tail else None;
     }
 
-    kept_are : (all : List LogEntry) → stored_records shape streams image.first (map source (kept_ids image up_to)) ≡ Ok all
+    pub kept_are : (all : List LogEntry) → stored_records shape streams image.first (map source (kept_ids image up_to)) ≡ Ok all
         → kept_records bytes archive up_to ≡ below up_to all
     unfolding kept_records
     kept_are all given = ap (λ (r : Result (List LogEntry) LoadRefusal). below up_to (were_read r)) given

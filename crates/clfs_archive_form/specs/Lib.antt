@@ -8,4 +8,5 @@ pub mod Reading
 pub mod Restoring
 pub mod Kept
 pub mod Written
+pub mod ReadBack
 pub mod Worked

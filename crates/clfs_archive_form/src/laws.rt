@@ -1,24 +1,33 @@
 // Laws of restored logs, for whoever writes their files. Their functions do nothing; a caller cites their clauses.
-ghost use Rattle.std.specs.Prelude.{◌≡◌, ◌≢◌, ◌⊎◌, ◌+◌, ◌*◌, ◌<◌, ◌≤◌, ◌++◌, ℕ, List, length, slice_index, Option, Some, Ok};
+ghost use Rattle.std.specs.Prelude.{◌≡◌, ◌≢◌, ◌⊎◌, ◌+◌, ◌*◌, ◌<◌, ◌≤◌, [], ◌∷◌, ◌++◌, ℕ, List, length, slice_index, Option, Some, None, Ok};
 ghost use Rattle.clfs_lsn.specs.Format.{sector_bytes, open_gate};
+ghost use Rattle.clfs_lsn.specs.Lsn.{container_of};
 ghost use Rattle.clfs_lsn.specs.Size.{IsShape};
 ghost use Rattle.clfs_lsn.specs.declared.entry.LogEntry.{LogEntry};
 ghost use Rattle.clfs_lsn.specs.declared.shape.Shape.{Shape};
 ghost use Rattle.clfs_disk.specs.Files.{Files};
 ghost use Rattle.clfs_container.specs.OpenBlocks.{AreWhole, total};
 ghost use Rattle.clfs_base.specs.Spelling.{IsImage};
+ghost use Rattle.clfs_model.specs.declared.state.State.{State};
 ghost use Rattle.clfs_recover.specs.Files.{StandsFor};
 ghost use Rattle.clfs_archive_form.specs.declared.archive.Archive.{Archive};
 ghost use Rattle.clfs_archive_form.specs.declared.archive.Stored.{Stored};
+ghost use Rattle.clfs_archive_form.specs.Archives.{archives_in};
+ghost use Rattle.clfs_archive_form.specs.Form.{archived_pieces, IsArchiveOf};
 ghost use Rattle.clfs_archive_form.specs.Kept.{StandIn};
+ghost use Rattle.clfs_archive_form.specs.ReadBack.{archive_alone};
 ghost use Rattle.clfs_archive_form.specs.Reading.{IsReadableAs, CanBeRead};
 ghost use Rattle.clfs_archive_form.specs.Restoring.{last_copy, chosen, restored};
 ghost use Rattle.clfs_archive_form.specs.Written.{AreRestored, CanBeRestored};
 
 use clfs_base::copies_are_read_as_written;
 use clfs_block::{blocks_are_read_as_written, records_are_read_of_their_block};
+use clfs_container::open_blocks_are_one_list;
 use clfs_record::records_are_read_as_written;
-use clfs_recover::{copies_without_fault_fit, logs_are_copies_and_blocks};
+use clfs_recover::{
+    copies_without_fault_fit, logs_are_copies_and_blocks, opened_copies_fit,
+    opened_records_lie_in_order,
+};
 
 /// Files that hold the base copy of a restored log, and in each listed container the blocks that are left, stand for what is restored.
 pub fn restored_files_stand_for_the_log()
@@ -57,4 +66,35 @@ pub fn blocks_in_a_row_are_open()
 {
     blocks_are_read_as_written();
     records_are_read_as_written();
+}
+
+/// The archive of a log is read as it was written: it is one archive and nothing more, with the log's base copy and each container where it stands.
+pub fn an_archive_is_read_back()
+    ensures read { (files : Files) (bytes : List ℕ) (s : State) (is : IsArchiveOf files bytes) → StandsFor files s
+        → archives_in bytes ≡ Ok (archive_alone is.image (archived_pieces is.image is.blocks) ∷ []) }
+{
+    open_blocks_are_one_list();
+    copies_are_read_as_written();
+    copies_without_fault_fit();
+    opened_copies_fit();
+    opened_records_lie_in_order();
+    logs_are_copies_and_blocks();
+}
+
+/// The archive of a log whose tail lies in the first container that is listed, restored alone and as far as it reaches, is the same log, its tail too.
+pub fn an_archive_restored_alone_is_the_same_log()
+    ensures same { (files : Files) (bytes : List ℕ) (s : State) (is : IsArchiveOf files bytes) → StandsFor files s
+        → container_of is.image.tail ≡ is.image.first
+        → (lsn : ℕ) × (chosen (archive_alone is.image (archived_pieces is.image is.blocks)) None ≡ Ok lsn)
+        × (restored bytes (archive_alone is.image (archived_pieces is.image is.blocks)) lsn s.buffers ≡ s) }
+{
+    open_blocks_are_one_list();
+    copies_are_read_as_written();
+    blocks_are_read_as_written();
+    records_are_read_of_their_block();
+    records_are_read_as_written();
+    copies_without_fault_fit();
+    opened_copies_fit();
+    opened_records_lie_in_order();
+    logs_are_copies_and_blocks();
 }

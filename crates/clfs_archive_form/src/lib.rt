@@ -34,7 +34,8 @@ pub use draft::{Draft, MOST_BYTES, TooLong, archived};
 pub use judge::Judge;
 pub use kept::put_blocks_below;
 pub use laws::{
-    archives_can_be_restored, blocks_in_a_row_are_open, restored_files_stand_for_the_log,
+    an_archive_is_read_back, an_archive_restored_alone_is_the_same_log, archives_can_be_restored,
+    blocks_in_a_row_are_open, restored_files_stand_for_the_log,
 };
 pub use refusal::InputRefusal;
 pub use rows::{

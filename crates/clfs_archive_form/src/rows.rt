@@ -117,4 +117,6 @@ pub fn restored_small_logs()
         ≡ first_record ∷ further_record ∷ [] }
     ensures last_copy { (restored (three_block ++ (first_block ++ second_block)) (record { image = small_copy; containers = stored 1 0 512 ∷ stored 1 512 1024 ∷ [] }) (first_lsn + 1024) 4).records
         ≡ first_record ∷ second_record ∷ [] }
+    ensures other_order { (restored ((first_block ++ second_block) ++ three_block) (record { image = small_copy; containers = stored 1 0 1024 ∷ stored 1 1024 512 ∷ [] }) (first_lsn + 512) 4).records
+        ≡ three_records }
 {}

@@ -1,7 +1,7 @@
 use clfs_command::{
     Command, DataWord, DumpOptions, ScriptLength, WordsRefusal, form_of, help_text, read_command,
 };
-use clfs_lsn::Shape;
+use clfs_lsn::{Lsn, Shape};
 use std::alloc::{AllocError, Global};
 
 fn owned(alloc: Global, line: &str) -> Result<Vec<String>, AllocError> {
@@ -528,12 +528,49 @@ fn words_of_dumps(rt: HostRuntime) -> Result<(), AllocError> {
     Ok(())
 }
 
-const CHECKS: [(&str, Option<Command>); 15] = [
+// Words of `restore`, and the number of the LSN that they ask for, or that they ask for none.
+const RESTORES: [(&str, Option<Option<u64>>); 8] = [
+    ("restore", Some(None)),
+    ("restore --", Some(None)),
+    ("restore --up-to 0:0:0", Some(Some(0))),
+    ("restore --up-to=1:200:1", Some(Some(4294967809))),
+    ("restore --up-to 1:1:0", None),
+    ("restore --up-to", None),
+    ("restore --up-to 1:0:0 --up-to 1:0:0", None),
+    ("restore 1:0:0", None),
+];
+
+// Restoring up to an LSN of this number.
+fn restore_up_to(number: Option<u64>) -> Command {
+    let up_to = match number {
+        Some(number) => Some(Lsn::of_number(number)),
+        None => None,
+    };
+    Command::Restore { up_to }
+}
+
+#[test]
+fn words_of_restores(rt: HostRuntime) -> Result<(), AllocError> {
+    for (line, want) in RESTORES {
+        let want = match want {
+            Some(number) => Some(restore_up_to(number)),
+            None => None,
+        };
+        assert!(rt; is_read_as(rt.alloc(), line, want)?, "{line}");
+    }
+    Ok(())
+}
+
+const CHECKS: [(&str, Option<Command>); 19] = [
     ("check", Some(Command::Check)),
     ("check --", Some(Command::Check)),
     ("txn", Some(Command::Txn)),
     ("txn --", Some(Command::Txn)),
     ("txn 1", None),
+    ("archive", Some(Command::Archive)),
+    ("archive --", Some(Command::Archive)),
+    ("archive 1", None),
+    ("archive --up-to 1:0:0", None),
     ("check x", None),
     ("check --dedicated", None),
     ("check check", None),
@@ -562,15 +599,17 @@ Usage: clfs FOLDER <COMMAND>
        clfs --version
 
 Commands:
-  format  Makes a log in FOLDER
-  serve   Answers the lines of a script on standard input, one reply a line
-  race    Answers the lines of a script, those of each client in a thread of its own
-  trial   Answers lines that are made of a number, over a log in memory, and prints their sums
-  crew    Appends in threads by permits of one shared area, over a log in memory
-  check   Judges the log in FOLDER and tells what is in it, or where it is broken
-  crowd   Appends in threads that share their flushes, over a log in memory
-  dump    Prints the log in FOLDER as text, or up to where it is broken
-  txn     Answers the lines of a script by a table of cells with transactions, which the log in FOLDER keeps
+  format   Makes a log in FOLDER
+  serve    Answers the lines of a script on standard input, one reply a line
+  race     Answers the lines of a script, those of each client in a thread of its own
+  trial    Answers lines that are made of a number, over a log in memory, and prints their sums
+  crew     Appends in threads by permits of one shared area, over a log in memory
+  check    Judges the log in FOLDER and tells what is in it, or where it is broken
+  crowd    Appends in threads that share their flushes, over a log in memory
+  dump     Prints the log in FOLDER as text, or up to where it is broken
+  txn      Answers the lines of a script by a table of cells with transactions, which the log in FOLDER keeps
+  archive  Writes an archive of the log in FOLDER to standard output, and moves its archive tail
+  restore  Makes a log in FOLDER of the archives on standard input
 
 Options may stand in any order, as --containers 4 or --containers=4; numbers are decimal, without a sign or a zero in front.
 Status 1: the words are no command, and standard error says which are.
@@ -672,6 +711,27 @@ Usage: clfs FOLDER txn
 Opens the log, loads the table of its stream txn, which it makes if there is none, and answers each line as soon as it is whole: begin N, set T C V,
 back T K, commit T, rollback T, get C and checkpoint. There are 32 cells of 64 bits. A script and a line are limited as of serve.
 Status 0 to 7: as of serve. 9: not a table. 10: the log refused.
+
+Writes an archive of the log in FOLDER to standard output, and moves its archive tail
+
+Usage: clfs FOLDER archive
+
+An archive has the newest base copy and the containers from the archive tail's on, at most 67108864 bytes. Archiving has to be on. The tail moves only
+after all of the archive is written: what is below it may be reused then, so keep the archive.
+Status 0: the archive is written. 3: standard output can't be written. 4: disk fault. 5: out of memory. 6: not a log. 11: archiving is off.
+15: archive too long.
+
+Makes a log in FOLDER of the archives on standard input
+
+Usage: clfs FOLDER restore [OPTIONS]
+
+Options:
+      --up-to <LSN>  Restores no record at this LSN or above, as 1:200:0
+
+Takes one archive or several, one after the other, of at most 67108864 bytes together. Nothing is read if a log is there, and no file changes before all
+archives are judged.
+Status 0: restored. 2: standard input can't be read. 3: standard output can't be written. 4: disk fault. 5: out of memory. 7: input too long.
+8: a log is there. 12: not an archive. 13: archive gap. 14: up-to outside.
 ";
 
 #[test]
@@ -689,7 +749,7 @@ const FORMS: [(&str, &str); 4] = [
     ),
     (
         "forma",
-        "clfs: forma is no command: after FOLDER comes format, serve, race, trial, crew, check, crowd, dump or txn",
+        "clfs: forma is no command: after FOLDER comes format, serve, race, trial, crew, check, crowd, dump, txn, archive or restore",
     ),
     (
         "trial 1 0",

@@ -16,7 +16,7 @@ use Rattle.clfs_command.specs.declared.words.DataWord.{DataWord}
 use Rattle.clfs_command.specs.declared.words.DataWord.TheVariants.{Hex, Nothing}
 use Rattle.clfs_command.specs.declared.words.DataWord.TheVariants as words
 use Rattle.clfs_command.specs.declared.words.Command.{Command}
-use Rattle.clfs_command.specs.declared.words.Command.TheVariants.{Format, Serve, Race, Trial, Crew, Check, Crowd, Dump, Txn}
+use Rattle.clfs_command.specs.declared.words.Command.TheVariants.{Format, Serve, Race, Trial, Crew, Check, Crowd, Dump, Txn, Archive, Restore}
 
 -- the decimal number of 32 bits that an option has, without a sign or a leading zero
 abbrev pub number_of : Text → List Row → Option ℕ
@@ -124,6 +124,11 @@ abbrev pub dump_of : Option (Option ℕ) → Option (Option ℕ) → Option (Opt
 dump_of (Some from) (Some to) (Some stream) (Some form) = Some (Dump (record { from = from; to = to; stream = stream; form = form }))
 dump_of _ _ _ _ = None
 
+-- restoring a log up to this LSN, or as far as archives reach, if what is asked for is an LSN
+abbrev pub restore_of : Option (Option ℕ) → Option Command
+restore_of (Some up_to) = Some (Restore up_to)
+restore_of None = None
+
 -- the command that a subcommand and its options stand for
 abbrev pub with_options : Text × List Row → Option Command
 with_options (name, options) =
@@ -139,7 +144,9 @@ with_options (name, options) =
     else if bytes_eq name (codes "crowd") then crowd_of (number_of (codes "THREADS") options) (number_of (codes "COUNT") options)
     else if bytes_eq name (codes "dump") then dump_of (lsn_of (codes "from") options) (lsn_of (codes "to") options) (name_of (codes "stream") options)
     (data_of (codes "data") options)
-    else if bytes_eq name (codes "txn") then Some Txn else None
+    else if bytes_eq name (codes "txn") then Some Txn
+    else if bytes_eq name (codes "archive") then Some Archive
+    else if bytes_eq name (codes "restore") then restore_of (lsn_of (codes "up-to") options) else None
 
 -- The command that words name. They name none where clap finds a fault in them, or a number isn't one that a log can have.
 abbrev pub command_of : List Text → Option Command
@@ -155,4 +162,6 @@ HasItsRanges (Crew threads count) = (1 ≤ threads) × ((threads ≤ most_crew_t
 HasItsRanges Check = Unit {0}
 HasItsRanges (Dump options) = Unit {0}
 HasItsRanges Txn = Unit {0}
+HasItsRanges Archive = Unit {0}
+HasItsRanges (Restore up_to) = Unit {0}
 HasItsRanges (Crowd threads count) = (1 ≤ threads) × ((threads ≤ most_crew_threads) × ((1 ≤ count) × (count ≤ most_crew_records)))

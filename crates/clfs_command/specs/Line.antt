@@ -68,8 +68,16 @@ dump_line = with_rule (with_rule (with_rule (with_rule (command_named (codes "du
 abbrev pub txn_line : App
 txn_line = command_named (codes "txn")
 
+-- `archive`
+abbrev pub archive_line : App
+archive_line = command_named (codes "archive")
+
+-- `restore [--up-to LSN]`
+abbrev pub restore_line : App
+restore_line = with_rule (command_named (codes "restore")) (option (codes "up-to"))
+
 -- the words after FOLDER, of which the first names the subcommand
 abbrev pub command_line : App
-command_line = with_subcommand (with_subcommand (with_subcommand (with_subcommand (with_subcommand (with_subcommand (with_subcommand (with_subcommand (with_subcommand (on_top
+command_line = with_subcommand (with_subcommand (with_subcommand (with_subcommand (with_subcommand (with_subcommand (with_subcommand (with_subcommand (with_subcommand (with_subcommand (with_subcommand (on_top
     (λ s. record s { no_binary_name = true; disable_help_subcommand = true; subcommand_required = true }) (command_named (codes "clfs")))
-    format_line.top) serve_line.top) race_line.top) trial_line.top) crew_line.top) check_line.top) crowd_line.top) dump_line.top) txn_line.top
+    format_line.top) serve_line.top) race_line.top) trial_line.top) crew_line.top) check_line.top) crowd_line.top) dump_line.top) txn_line.top) archive_line.top) restore_line.top

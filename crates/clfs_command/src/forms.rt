@@ -20,6 +20,8 @@ fn known_form(command: &str) -> Option<&'static str> {
             "--from LSN, as 1:200:0, or not; --to LSN or not; --stream NAME, 1 to 64 bytes, or not; and --data hex, text or none, or not",
         ),
         "txn" => Some("no more words"),
+        "archive" => Some("no more words"),
+        "restore" => Some("--up-to LSN, as 1:200:0, or not"),
         _ => None,
     }
 }
@@ -37,7 +39,7 @@ pub fn form_of(alloc: Global, words: &[String]) -> Result<String, AllocError> {
             "clfs: {first} takes {form}; each is given once, and numbers are decimal, without a sign or a zero in front"
         ),
         None => format!(in alloc;
-            "clfs: {first} is no command: after FOLDER comes format, serve, race, trial, crew, check, crowd, dump or txn"
+            "clfs: {first} is no command: after FOLDER comes format, serve, race, trial, crew, check, crowd, dump, txn, archive or restore"
         ),
     }
 }

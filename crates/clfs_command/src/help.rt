@@ -1,7 +1,7 @@
 // What `clfs --help` prints: the commands, and the options of each.
 use crate::line::{
-    check_line, command_line, crew_line, crowd_line, dump_line, format_line, race_line, serve_line,
-    trial_line, txn_line,
+    archive_line, check_line, command_line, crew_line, crowd_line, dump_line, format_line,
+    race_line, restore_line, serve_line, trial_line, txn_line,
 };
 use clap::Command;
 use std::alloc::{AllocError, Global};
@@ -53,6 +53,20 @@ const TXN_NOTES: &str = "\
 Opens the log, loads the table of its stream txn, which it makes if there is none, and answers each line as soon as it is whole: begin N, set T C V,
 back T K, commit T, rollback T, get C and checkpoint. There are 32 cells of 64 bits. A script and a line are limited as of serve.
 Status 0 to 7: as of serve. 9: not a table. 10: the log refused.";
+
+// What `archive` does, and how it ends.
+const ARCHIVE_NOTES: &str = "\
+An archive has the newest base copy and the containers from the archive tail's on, at most 67108864 bytes. Archiving has to be on. The tail moves only
+after all of the archive is written: what is below it may be reused then, so keep the archive.
+Status 0: the archive is written. 3: standard output can't be written. 4: disk fault. 5: out of memory. 6: not a log. 11: archiving is off.
+15: archive too long.";
+
+// What `restore` does, and how it ends.
+const RESTORE_NOTES: &str = "\
+Takes one archive or several, one after the other, of at most 67108864 bytes together. Nothing is read if a log is there, and no file changes before all
+archives are judged.
+Status 0: restored. 2: standard input can't be read. 3: standard output can't be written. 4: disk fault. 5: out of memory. 7: input too long.
+8: a log is there. 12: not an archive. 13: archive gap. 14: up-to outside.";
 
 // What `dump` does, and how it ends.
 const DUMP_NOTES: &str = "\
@@ -128,5 +142,17 @@ pub fn help_text(alloc: Global) -> Result<String, AllocError> {
     )?;
     push_command(dump_line(alloc)?, "clfs FOLDER dump", DUMP_NOTES, &mut text)?;
     push_command(txn_line(alloc), "clfs FOLDER txn", TXN_NOTES, &mut text)?;
+    push_command(
+        archive_line(alloc),
+        "clfs FOLDER archive",
+        ARCHIVE_NOTES,
+        &mut text,
+    )?;
+    push_command(
+        restore_line(alloc)?,
+        "clfs FOLDER restore",
+        RESTORE_NOTES,
+        &mut text,
+    )?;
     Ok(text)
 }

@@ -1,7 +1,7 @@
 // The command line after FOLDER, as clap takes it.
 ghost use Rattle.std.specs.Prelude.{◌≡◌, IfOk, codes, false};
 ghost use Rattle.clap.specs.Words.{app_of, rule_of};
-ghost use Rattle.clfs_command.specs.Line.{option, needed, with_default, flag, word, command_named, format_line, serve_line, race_line, trial_line, crew_line, check_line, crowd_line, dump_line, txn_line, command_line};
+ghost use Rattle.clfs_command.specs.Line.{option, needed, with_default, flag, word, command_named, format_line, serve_line, race_line, trial_line, crew_line, check_line, crowd_line, dump_line, txn_line, archive_line, restore_line, command_line};
 
 use clap::{Arg, ArgAction, Command};
 use std::alloc::{AllocError, Global};
@@ -148,6 +148,24 @@ pub fn txn_line<'a>(alloc: Global) -> Command<'a>
     command_named(alloc, "txn", about)
 }
 
+/// The line of `archive`.
+pub fn archive_line<'a>(alloc: Global) -> Command<'a>
+    ensures { app_of result ≡ archive_line }
+{
+    let about =
+        "Writes an archive of the log in FOLDER to standard output, and moves its archive tail";
+    command_named(alloc, "archive", about)
+}
+
+/// The line of `restore`.
+pub fn restore_line<'a>(alloc: Global) -> Result<Command<'a>, AllocError>
+    ensures { IfOk result (λ r. app_of r ≡ restore_line) }
+{
+    let about = "Makes a log in FOLDER of the archives on standard input";
+    let up_to = "Restores no record at this LSN or above, as 1:200:0";
+    command_named(alloc, "restore", about).arg(option(alloc, "up-to", "LSN", up_to))
+}
+
 /// The line of `crowd`.
 pub fn crowd_line<'a>(alloc: Global) -> Result<Command<'a>, AllocError>
     ensures { IfOk result (λ r. app_of r ≡ crowd_line) }
@@ -202,5 +220,7 @@ pub fn command_line<'a>(alloc: Global) -> Result<Command<'a>, AllocError>
         .subcommand(check_line(alloc))?
         .subcommand(crowd_line(alloc)?)?
         .subcommand(dump_line(alloc)?)?
-        .subcommand(txn_line(alloc))
+        .subcommand(txn_line(alloc))?
+        .subcommand(archive_line(alloc))?
+        .subcommand(restore_line(alloc)?)
 }

@@ -3,7 +3,7 @@ ghost use Rattle.std.specs.Prelude.{◌≡◌, take, map, Some, None, IfSome, If
 ghost use Rattle.std.specs.Option.{option_and_then};
 ghost use Rattle.std.specs.String.{string_bytes};
 ghost use Rattle.clap.specs.Words.{rows_of, found_of, subcommand_rows_of};
-ghost use Rattle.clfs_command.specs.Command.{number_of, is_set, is_size, format_of, length_of, are_buffers, serve_of, race_of, trial_of, crew_of, crowd_of, name_of_word, lsn_of, name_of, data_of_word, data_of, dump_of, with_options, command_of, HasItsRanges};
+ghost use Rattle.clfs_command.specs.Command.{number_of, is_set, is_size, format_of, length_of, are_buffers, serve_of, race_of, trial_of, crew_of, crowd_of, name_of_word, lsn_of, name_of, data_of_word, data_of, dump_of, restore_of, with_options, command_of, HasItsRanges};
 
 use crate::line::command_line;
 use clap::ArgMatches;
@@ -133,6 +133,13 @@ pub enum Command {
     Dump(DumpOptions),
     /// To serve a table of cells.
     Txn,
+    /// To write an archive of a log.
+    Archive,
+    /// To restore a log of archives.
+    Restore {
+        /// The LSN up to which it is restored; if there is none, it is restored as far as the archives reach.
+        up_to: Option<Lsn>,
+    },
 }
 
 /// Why no command was read.
@@ -369,6 +376,13 @@ fn dump_of(
     }))
 }
 
+fn restore_of(up_to: Option<Option<Lsn>>) -> Option<Command>
+    ensures command { result ≡ restore_of up_to }
+    ensures ranges { IfSome result HasItsRanges }
+{
+    Some(Command::Restore { up_to: up_to? })
+}
+
 // The command that a subcommand and its options stand for.
 fn with_options(name: &str, options: &ArgMatches) -> Option<Command>
     ensures command { result ≡ with_options (name.now, rows_of (found_of options.now)) }
@@ -398,6 +412,8 @@ fn with_options(name: &str, options: &ArgMatches) -> Option<Command>
             data_of("data", options),
         ),
         "txn" => Some(Command::Txn),
+        "archive" => Some(Command::Archive),
+        "restore" => restore_of(lsn_of("up-to", options)),
         _ => None,
     }
 }

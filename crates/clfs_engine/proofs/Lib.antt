@@ -8,6 +8,11 @@ pub mod Loaded
 pub mod ServingEnds
 pub mod TxnLines
 pub mod TxnEnds
+pub mod Statuses
+pub mod ArchiveEnds
+pub mod RestoreEnds
+pub mod RestoreTold
+pub mod ArchiveTold
 pub mod TxnLeft
 pub mod Refusals
 pub mod Crashing

@@ -45,10 +45,10 @@ opened_log old mid first loaded = record {
 }
 
 -- a disk that tells what its files hold does so later
-tells_later : (old new : DiskState) → new.nature ≡ old.nature → TellsContents old → TellsContents new
+pub tells_later : (old new : DiskState) → new.nature ≡ old.nature → TellsContents old → TellsContents new
 tells_later old new same told = subst (λ (n : Nature). IsTrue n.tells_contents) (sym same) told
 
-honest_later : (old new : DiskState) → new.nature ≡ old.nature → IsHonest old → IsHonest new
+pub honest_later : (old new : DiskState) → new.nature ≡ old.nature → IsHonest old → IsHonest new
 honest_later old new same honest = subst (λ (n : Nature). IsTrue n.tells_contents × IsTrue n.tells_images) (sym same) honest
 
 -- what a crash leaves until the table was loaded

@@ -18,6 +18,8 @@ pub mod Dump
 pub mod Txn
 pub mod TxnCrashed
 pub mod Complete
+pub mod Archiving
+pub mod Restoring
 pub mod Crew
 pub mod Work
 pub mod Crowd

@@ -14,7 +14,7 @@ use Rattle.clfs_lines.specs.Answering.{Writes, WritesFront, IsWholeAnswer, IsAns
 
 -- the line for words that are no command
 abbrev pub usage_text : List ℕ
-usage_text = codes "usage: clfs FOLDER format, serve, race, trial, crew, check, txn or crowd\n"
+usage_text = codes "usage: clfs FOLDER format, serve, race, trial, crew, check, txn, archive, restore or crowd\n"
 
 -- The log wasn't opened, no file has changed, and nothing was read or written.
 pub record StaysUnopened (old new : DiskState) (left left_after written written_after : Option (List ℕ)) : Type 0 where

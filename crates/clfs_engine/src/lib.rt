@@ -19,6 +19,7 @@
 #![tactic(auto)]
 
 mod answering;
+mod archiving;
 mod asking;
 mod checking;
 mod crewing;
@@ -31,6 +32,7 @@ mod members;
 mod program;
 mod racing;
 mod refusing;
+mod restoring;
 mod rows;
 mod serving;
 mod status;
@@ -40,6 +42,7 @@ mod trying;
 mod workers;
 mod working;
 
+pub use archiving::archive;
 pub use checking::check;
 pub use clfs_lines::{DONE, INPUT_TOO_LONG, NO_MEMORY, SINK_FAULT, SOURCE_FAULT};
 pub use clfs_race::{Gate, Pass};
@@ -49,8 +52,12 @@ pub use dumping::dump;
 pub use formatting::format;
 pub use program::run;
 pub use racing::race;
+pub use restoring::restore;
 pub use rows::{appends_and_reads, areas, ends_of_lines, lengths_of_records, words_of_lines};
 pub use serving::{serve, serve_within};
-pub use status::{DISK_FAULT, EXISTS, NOT_A_LOG, NOT_A_TABLE, Outcome, REFUSED, USAGE};
+pub use status::{
+    ARCHIVE_GAP, ARCHIVE_TOO_LONG, DISK_FAULT, EXISTS, NOT_A_LOG, NOT_A_TABLE, NOT_AN_ARCHIVE,
+    NOT_ARCHIVED, Outcome, REFUSED, UP_TO_OUTSIDE, USAGE,
+};
 pub use tabling::txn;
 pub use trying::trial;

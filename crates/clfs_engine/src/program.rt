@@ -1,12 +1,13 @@
 // The commands of the program.
-ghost use Rattle.std.specs.Prelude.{◌≡◌, ◌≢◌, ℕ, Bool, map, Some, None};
+ghost use Rattle.std.specs.Prelude.{◌≡◌, ◌≢◌, ℕ, Bool, map, Option, Some, None};
 ghost use Rattle.std.specs.String.{string_bytes};
 ghost use Rattle.clfs_lsn.specs.declared.shape.Shape.{Shape};
 ghost use Rattle.clfs_command.specs.Command.{command_of};
-ghost use Rattle.clfs_command.specs.declared.words.Command.TheVariants.{Format, Serve, Race, Trial, Crew, Check, Crowd, Dump, Txn};
+ghost use Rattle.clfs_command.specs.declared.words.Command.TheVariants.{Format, Serve, Race, Trial, Crew, Check, Crowd, Dump, Txn, Archive, Restore};
 ghost use Rattle.clfs_command.specs.declared.words.DumpOptions.{DumpOptions};
 ghost use Rattle.clfs_command.specs.declared.words.ScriptLength.{ScriptLength};
 ghost use Rattle.clfs_ports.specs.Cause.{Rises};
+ghost use Rattle.clfs_engine.specs.Archiving.{EndsArchive, NothingFailsArchiving, IsArchivingDone};
 ghost use Rattle.clfs_engine.specs.Check.{EndsCheck};
 ghost use Rattle.clfs_engine.specs.Complete.{IsDone, NothingFailsAnswering, NothingFailsServing, NothingFailsRacing, NothingFailsMaking, NothingFailsChecking, ComesThrough, RaceComesThrough};
 ghost use Rattle.clfs_engine.specs.Crew.{EndsCrew};
@@ -15,16 +16,19 @@ ghost use Rattle.clfs_engine.specs.Dump.{EndsDump, selection_of};
 ghost use Rattle.clfs_engine.specs.Txn.{EndsTxn, TableComesThrough};
 ghost use Rattle.clfs_engine.specs.Format.{EndsFormat};
 ghost use Rattle.clfs_engine.specs.Race.{EndsRacing};
+ghost use Rattle.clfs_engine.specs.Restoring.{EndsRestore, NothingFailsRestoring, IsRestoringDone};
 ghost use Rattle.clfs_engine.specs.Serve.{EndsServing, EndsByUsage};
 ghost use Rattle.clfs_engine.specs.Lengths.{longest_script, limits_of};
 ghost use Rattle.clfs_engine.specs.Trial.{EndsTrial};
 
+use crate::archiving::archive;
 use crate::checking::check;
 use crate::crewing::crew;
 use crate::crowding::crowd;
 use crate::dumping::dump;
 use crate::formatting::format;
 use crate::racing::race;
+use crate::restoring::restore;
 use crate::serving::{LONGEST_SCRIPT, serve_within};
 use crate::status::{Outcome, USAGE};
 use crate::tabling::txn;
@@ -50,7 +54,7 @@ fn longest_script(length: ScriptLength) -> u64
 
 /// Runs the command that the words name: `serve` with its write buffers, its read buffers and the length that the script may have, `race` with its write buffers,
 /// `format` with the sizes of the log and whether it is dedicated, `trial` with its number and its count, `crew` and `crowd`
-/// with their threads and their count, `dump` with its options, `txn`, or `check`. The words are those after the folder. Only a race, a crew and a crowd
+/// with their threads and their count, `dump` with its options, `restore` up to its LSN, `archive`, `txn`, or `check`. The words are those after the folder. Only a race, a crew and a crowd
 /// start threads, and wait for them.
 pub fn run<R: Threads + Wait + Sync, S: Source, K: Sink, D: Disk + Send + Drop>(
     rt: &R,
@@ -83,6 +87,11 @@ pub fn run<R: Threads + Wait + Sync, S: Source, K: Sink, D: Disk + Send + Drop>(
     ensures tables { command_of (map string_bytes words.now) ≡ Some Txn
         → EndsTxn result.status (D.state disk) (D.state result.disk) (S.left source.old) (S.left source.new)
         (K.written sink.old) (K.written sink.new) (S.faults source.old) (S.faults source.new) (K.faults sink.old) (K.faults sink.new) }
+    ensures archives { command_of (map string_bytes words.now) ≡ Some Archive
+        → EndsArchive result.status (D.state disk) (D.state result.disk) (K.written sink.old) (K.written sink.new) (K.faults sink.old) (K.faults sink.new) }
+    ensures restores { (up_to : Option ℕ) → command_of (map string_bytes words.now) ≡ Some (Restore up_to)
+        → EndsRestore up_to result.status (D.state disk) (D.state result.disk) (S.left source.old) (S.left source.new)
+        (K.written sink.old) (K.written sink.new) (S.faults source.old) (S.faults source.new) (K.faults sink.old) (K.faults sink.new) }
     // If nothing outside fails, a command is done, unless memory runs out.
     ensures serving_comes_through { (buffers reads : ℕ) (length : ScriptLength) → command_of (map string_bytes words.now) ≡ Some (Serve buffers reads length)
         → NothingFailsAnswering (limits_of length) (D.state disk) (D.state result.disk) (S.left source.old) (S.faults source.old) (S.faults source.new) (K.faults sink.old) (K.faults sink.new)
@@ -105,18 +114,25 @@ pub fn run<R: Threads + Wait + Sync, S: Source, K: Sink, D: Disk + Send + Drop>(
     ensures table_comes_through { command_of (map string_bytes words.now) ≡ Some Txn
         → NothingFailsServing (D.state disk) (D.state result.disk) (S.left source.old) (S.faults source.old) (S.faults source.new) (K.faults sink.old) (K.faults sink.new)
         → TableComesThrough result.status (D.state disk) (D.state result.disk) (S.left source.old) (S.left source.new) (K.written sink.old) (K.written sink.new) }
+    ensures archiving_is_done { command_of (map string_bytes words.now) ≡ Some Archive
+        → NothingFailsArchiving (D.state disk) (D.state result.disk) (K.faults sink.old) (K.faults sink.new) → IsArchivingDone result.status }
+    ensures restoring_is_done { (up_to : Option ℕ) → command_of (map string_bytes words.now) ≡ Some (Restore up_to)
+        → NothingFailsRestoring (D.state disk) (D.state result.disk) (S.faults source.old) (S.faults source.new) (K.faults sink.old) (K.faults sink.new)
+        → IsRestoringDone result.status }
     ensures usage { command_of (map string_bytes words.now) ≡ None → EndsByUsage result.status (K.written sink.old) (K.written sink.new)
         (K.faults sink.old) (K.faults sink.new) }
-    // Only a script is read from the source, and only serving a log or a table, racing, making, judging and dumping a log call the disk.
+    // Only a script and archives are read from the source, and only serving a log or a table, racing, making, judging, dumping, archiving and restoring a
+    // log call the disk.
     ensures unread { ((buffers reads : ℕ) (length : ScriptLength) → command_of (map string_bytes words.now) ≢ Some (Serve buffers reads length))
         → ((buffers : ℕ) → command_of (map string_bytes words.now) ≢ Some (Race buffers)) → command_of (map string_bytes words.now) ≢ Some Txn
-        → source.new ≡ source.old }
+        → ((up_to : Option ℕ) → command_of (map string_bytes words.now) ≢ Some (Restore up_to)) → source.new ≡ source.old }
     ensures untouched { ((buffers reads : ℕ) (length : ScriptLength) → command_of (map string_bytes words.now) ≢ Some (Serve buffers reads length))
         → ((buffers : ℕ) → command_of (map string_bytes words.now) ≢ Some (Race buffers))
         → ((shape : Shape) (containers : ℕ) (dedicated : Bool) → command_of (map string_bytes words.now) ≢ Some (Format shape containers dedicated))
         → command_of (map string_bytes words.now) ≢ Some Check
         → ((options : DumpOptions) → command_of (map string_bytes words.now) ≢ Some (Dump options))
-        → command_of (map string_bytes words.now) ≢ Some Txn → result.disk ≡ disk }
+        → command_of (map string_bytes words.now) ≢ Some Txn → command_of (map string_bytes words.now) ≢ Some Archive
+        → ((up_to : Option ℕ) → command_of (map string_bytes words.now) ≢ Some (Restore up_to)) → result.disk ≡ disk }
 {
     match read_command(alloc, words) {
         Ok(
@@ -150,13 +166,15 @@ pub fn run<R: Threads + Wait + Sync, S: Source, K: Sink, D: Disk + Send + Drop>(
         Ok(Command::Check) => check(alloc, sink, disk),
         Ok(Command::Dump(options)) => dump(alloc, &options, sink, disk),
         Ok(Command::Txn) => txn(alloc, source, sink, disk),
+        Ok(Command::Archive) => archive(alloc, sink, disk),
+        Ok(Command::Restore { up_to }) => restore(alloc, up_to, source, sink, disk),
         Ok(Command::Crowd { threads, count }) => Outcome {
             status: crowd(rt, alloc, threads, count, sink),
             disk,
         },
         Err(WordsRefusal::Usage) => {
             let line =
-                b"usage: clfs FOLDER format, serve, race, trial, crew, check, txn or crowd\n";
+                b"usage: clfs FOLDER format, serve, race, trial, crew, check, txn, archive, restore or crowd\n";
             Outcome {
                 status: printed(sink, line, USAGE),
                 disk,

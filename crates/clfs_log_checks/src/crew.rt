@@ -54,7 +54,8 @@ const NO_CREWS: [&[&str]; 13] = [
 
 #[test]
 fn words_that_are_no_crew(rt: HostRuntime) -> Result<(), AllocError> {
-    let usage = b"usage: clfs FOLDER format, serve, race, trial, crew, check, txn or crowd\n";
+    let usage =
+        b"usage: clfs FOLDER format, serve, race, trial, crew, check, txn, archive, restore or crowd\n";
     for texts in NO_CREWS {
         let ran = crewed(&rt, rt.alloc(), texts, NEVER)?;
         assert!(rt; ran.is(USAGE, usage));

@@ -54,7 +54,8 @@ const NO_CROWDS: [&[&str]; 9] = [
 
 #[test]
 fn words_that_are_no_crowd(rt: HostRuntime) -> Result<(), AllocError> {
-    let usage = b"usage: clfs FOLDER format, serve, race, trial, crew, check, txn or crowd\n";
+    let usage =
+        b"usage: clfs FOLDER format, serve, race, trial, crew, check, txn, archive, restore or crowd\n";
     for texts in NO_CROWDS {
         let ran = crowded(&rt, rt.alloc(), texts, NEVER)?;
         assert!(rt; ran.is(USAGE, usage));

@@ -222,7 +222,8 @@ const NO_DUMPS: [&[&str]; 4] = [
 
 #[test]
 fn words_that_are_no_dump(rt: HostRuntime) -> Result<(), AllocError> {
-    let usage = b"usage: clfs FOLDER format, serve, race, trial, crew, check, txn or crowd\n";
+    let usage =
+        b"usage: clfs FOLDER format, serve, race, trial, crew, check, txn, archive, restore or crowd\n";
     for texts in NO_DUMPS {
         let disk = Memory::new(rt.alloc(), 2048, 8388608, &[])?;
         let ran = dumped(&rt, rt.alloc(), texts, disk, NEVER)?;

@@ -16,7 +16,7 @@ use std::sync::Wait;
 use std::thread::Threads;
 
 const USAGE_LINE: &[u8] =
-    b"usage: clfs FOLDER format, serve, race, trial, crew, check, txn or crowd\n";
+    b"usage: clfs FOLDER format, serve, race, trial, crew, check, txn, archive, restore or crowd\n";
 
 // Each row stands after a stream and an area of client 1, in a log that has just been made.
 const ROWS: [(&str, &str); 16] = [

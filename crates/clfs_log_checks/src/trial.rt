@@ -82,7 +82,8 @@ const NO_TRIALS: [(&str, &str); 7] = [
 
 #[test]
 fn words_that_are_no_trial(rt: HostRuntime) -> Result<(), AllocError> {
-    let usage = b"usage: clfs FOLDER format, serve, race, trial, crew, check, txn or crowd\n";
+    let usage =
+        b"usage: clfs FOLDER format, serve, race, trial, crew, check, txn, archive, restore or crowd\n";
     for (number, count) in NO_TRIALS {
         let ran = tried(&rt, rt.alloc(), number, count, NEVER)?;
         assert!(rt; ran.is(USAGE, usage));

@@ -200,7 +200,7 @@ fn tables_and_faults_outside(rt: HostRuntime) -> Result<(), AllocError> {
     assert!(rt;
         ran.is(
             USAGE,
-            b"usage: clfs FOLDER format, serve, race, trial, crew, check, txn or crowd\n"
+            b"usage: clfs FOLDER format, serve, race, trial, crew, check, txn, archive, restore or crowd\n"
         )
     );
     Ok(())

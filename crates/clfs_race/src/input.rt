@@ -1,5 +1,5 @@
 // A script that is read whole, up to a limit.
-ghost use Rattle.std.specs.Prelude.{◌≡◌, ◌≤◌, ◌<◌, ◌^◌, [], length, IfOk, OnOk, OnErr};
+ghost use Rattle.std.specs.Prelude.{◌≡◌, ◌+◌, ◌≤◌, ◌<◌, ◌^◌, [], length, IfOk, OnOk, OnErr};
 ghost use Rattle.std.specs.Io.KnownBytes.{Consumes};
 ghost use Rattle.clfs_race.specs.Taken.{HasEnded, TakesBytes};
 ghost use Rattle.clfs_race.specs.Stopped.{HasStopped, end_of};
@@ -38,9 +38,9 @@ pub struct Script {
 }
 
 /// How the taking of bytes ended.
-#[derive(Clone, Copy)]
-enum Stop {
-    /// No more are left, or there are more than a script may have.
+#[derive(Clone, Copy, Debug, PartialEq, Eq)]
+pub enum Stop {
+    /// No more are left, or there are more than were asked for.
     Done,
     /// The source failed.
     Fault,
@@ -53,21 +53,22 @@ fn room(alloc: Global) -> Result<Vec<u8>, AllocError>
     vec![in alloc; 0u8; PIECE]
 }
 
-// Takes bytes up to the source's end, but no more than a piece beyond what a script may have.
-fn take_bytes<S: Source>(
+/// Takes bytes up to the source's end, but no more than a piece of 65,536 beyond `most`.
+pub fn take_bytes<S: Source>(
     alloc: Global,
     source: &mut S,
+    most: usize,
     bytes: &mut Vec<u8>,
 ) -> Result<Stop, AllocError>
     requires { bytes.old.items ≡ [] }
     ensures taken { OnOk result (Consumes (S.left source.old) (S.left source.new) bytes.new.items) }
-    ensures stopped { IfOk result (λ stop. HasStopped stop bytes.new.items (S.left source.new) (S.faults source.old) (S.faults source.new)) }
-    ensures few { OnOk result (length bytes.new.items ≤ 1114112) }
+    ensures stopped { IfOk result (λ stop. HasStopped most stop bytes.new.items (S.left source.new) (S.faults source.old) (S.faults source.new)) }
+    ensures few { OnOk result (length bytes.new.items ≤ most + 65536) }
     ensures out_of_memory { OnErr result (TakesBytes (S.left source.old) (S.left source.new)) }
     ensures count { S.faults source.old ≤ S.faults source.new }
 {
     let mut piece = room(alloc)?;
-    while bytes.len() <= MOST_BYTES {
+    while bytes.len() <= most {
         let Ok(count) = source.read(&mut piece) else {
             return Ok(Stop::Fault);
         };
@@ -102,7 +103,7 @@ pub fn read_script<S: Source>(alloc: Global, source: &mut S) -> Result<Script, A
     ensures count { S.faults source.old ≤ S.faults source.new }
 {
     let mut bytes = Vec::new(alloc);
-    let stop = take_bytes(alloc, source, &mut bytes)?;
+    let stop = take_bytes(alloc, source, MOST_BYTES, &mut bytes)?;
     let mut counts = LineCounts::new();
     let end = end_of(stop, is_within_limits(&bytes, &mut counts));
     Ok(Script { bytes, end, counts })

@@ -15,7 +15,7 @@ mod writing;
 
 pub use dividing::{ClientCalls, Division, divide};
 pub use gate::{Gate, Pass};
-pub use input::{Script, ScriptEnd, read_script};
+pub use input::{Script, ScriptEnd, Stop, read_script, take_bytes};
 pub use laws::lines_meet_their_conditions;
 pub use lines::{ended_line, without_return};
 pub use writing::{write_bad_lines, write_journal};

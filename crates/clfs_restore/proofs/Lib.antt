@@ -1,9 +1,12 @@
-mod Pieces
-mod Fronts
+mod Alone
+mod Archived
 mod Found
+mod Fronts
 mod Joining
 mod Kept
 mod Listing
+mod Looked
 mod Made
 mod Moments
-mod Archived
+mod Moved
+mod Pieces

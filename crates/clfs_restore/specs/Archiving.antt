@@ -11,6 +11,7 @@ use Rattle.clfs_base.specs.declared.refusal.NewestRefusal.{NewestRefusal}
 use Rattle.clfs_model.specs.declared.refusal.Refusal.{Refusal}
 use Rattle.clfs_model.specs.declared.refusal.Refusal.TheVariants as refusals
 use Rattle.clfs_model.specs.declared.state.State.{State}
+use Rattle.clfs_model.specs.Flush.{flushed}
 use Rattle.clfs_model.specs.Step.{with_broken}
 use Rattle.clfs_recover.specs.Files.{StandsFor}
 use Rattle.clfs_recover.specs.Stored.{stored_in}
@@ -29,6 +30,15 @@ pub record IsJustLoaded (disk : DiskState) (s : State) : Type 0 where
   pub nothing_waits : s.waiting ≡ []
   pub nothing_open : s.place.records ≡ 0
   pub stands : TellsContents disk → StandsFor disk.files s
+
+-- the same log when all of it that is on the disk was archived: the archive tail lies at its flushed LSN
+abbrev pub all_archived : State → State
+all_archived s = record s { archive = Some (flushed s) }
+
+-- the flushed LSN, as the refusal of an archive tail tells it
+abbrev pub stable_of : Refusal → Option ℕ
+stable_of (refusals.ArchiveTailInvalid lsn tail stable) = Some stable
+stable_of _ = None
 
 -- Why a log's files aren't read, as archiving tells it: a base file without an open slot is damage at its first byte.
 abbrev pub refused_as : LoadRefusal → ArchiveRefusal

@@ -1,2 +1,3 @@
 pub mod Archiving
 pub mod Restoring
+pub mod Outcomes

@@ -41,8 +41,8 @@ pub struct RestoreRefused<D> {
     pub cause: RestoreRefusal,
 }
 
-// The lowest slot of the base file whose gate is open.
-fn first_open_slot<D: Disk>(disk: &mut D) -> Result<Option<u32>, Failed>
+/// The lowest slot of the base file whose gate is open: who finds one need not ask for archives.
+pub fn first_open_slot<D: Disk>(disk: &mut D) -> Result<Option<u32>, Failed>
     ensures open { IfOk result (λ slot. TellsContents (D.state disk.old) → slot ≡ open_slot_of ((D.state disk.old).files 0)) }
     ensures same { Unchanged (D.state disk.old).files (D.state disk.new).files }
     ensures time { Passes Unchanged (D.state disk.old) (D.state disk.new) }
@@ -241,8 +241,8 @@ fn judge(alloc: Global, archives: &[u8], up_to: Option<Lsn>) -> Result<(), Resto
     Ok(())
 }
 
-// Why nothing is restored where the disk failed at first: what the archives are comes before that.
-fn cause_after_fault(alloc: Global, archives: &[u8], up_to: Option<Lsn>) -> RestoreRefusal
+/// Why nothing is restored if the disk failed before the archives were read: what they are comes before that.
+pub fn cause_after_fault(alloc: Global, archives: &[u8], up_to: Option<Lsn>) -> RestoreRefusal
     ensures { IsFreeCause archives.now up_to result }
 {
     match judge(alloc, archives, up_to) {

@@ -20,4 +20,5 @@ returns c = record {
   later_container = refl;
   both_containers = refl;
   last_copy = refl;
+  other_order = refl;
 }

@@ -4,7 +4,7 @@ use Rattle.clap.specs.Words.{App, app_of, shape_of, with_subcommand}
 use Rattle.clap.specs.Simple.{app_of_fields, on_top}
 use Rattle.clap.specs.declared.builder.command.Command.{Command}
 use Rattle.clap.specs.declared.builder.command.Command.TheViews.{out-Command}
-use Rattle.clfs_command.specs.Line.{format_line, serve_line, race_line, trial_line, crew_line, check_line, crowd_line, dump_line, txn_line}
+use Rattle.clfs_command.specs.Line.{format_line, serve_line, race_line, trial_line, crew_line, check_line, crowd_line, dump_line, txn_line, archive_line, restore_line}
 use Rattle.clfs_command.proofs.line.command_line.Goals as goal
 
 -- a command that uses none of the settings that change how words are read has no option for all levels
@@ -38,5 +38,9 @@ returns c =
     let dump : app_of c.in_ok-dump_line.field-0 ≡ dump_line = c.in_ok-dump_line.ensures in
     let eighth = c.in_ok-subcommand-8.ensures.shape (joined _ _ dump refl) ∙ ap₂ with_subcommand seventh (ap (λ (x : App). x.top) dump) in
     let txn : app_of c.txn_line.result ≡ txn_line = c.txn_line.ensures in
-    IfOk-weaker c.subcommand-9.result _ _
-    (λ r added. added.shape (joined _ _ txn refl) ∙ ap₂ with_subcommand eighth (ap (λ (x : App). x.top) txn)) c.subcommand-9.ensures
+    let ninth = c.in_ok-subcommand-9.ensures.shape (joined _ _ txn refl) ∙ ap₂ with_subcommand eighth (ap (λ (x : App). x.top) txn) in
+    let archive : app_of c.archive_line.result ≡ archive_line = c.archive_line.ensures in
+    let tenth = c.in_ok-subcommand-10.ensures.shape (joined _ _ archive refl) ∙ ap₂ with_subcommand ninth (ap (λ (x : App). x.top) archive) in
+    let restore : app_of c.in_ok-restore_line.field-0 ≡ restore_line = c.in_ok-restore_line.ensures in
+    IfOk-weaker c.subcommand-11.result _ _
+    (λ r added. added.shape (joined _ _ restore refl) ∙ ap₂ with_subcommand tenth (ap (λ (x : App). x.top) restore)) c.subcommand-11.ensures
