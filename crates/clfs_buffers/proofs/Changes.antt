@@ -1,8 +1,8 @@
 -- What a change of the table of blocks leaves in it.
 use Rattle.std.proofs.Common.{◌≡◌, ◌⊎◌, inl, inr, ⊎_elim, ℕ, zero, suc, ◌-◌, Bool, true, false, cond, List, [], ◌∷◌, take, Option, Some, None, refl, sym, ◌∙◌, ap, subst, arith}
-use Rattle.std.specs.Prelude.{Contains, IsSome}
+use Rattle.std.specs.Prelude.{Contains, IsSome, slice_get}
 use Rattle.std.specs.Map.{lookup, lookup_entry, remove_entry}
-use Rattle.std.specs.Option.{option_map_or}
+use Rattle.std.specs.Option.{is_some, option_map, option_map_or}
 use Rattle.std.proofs.lemmas.Bool.Decides.{nat_tests}
 use Rattle.std.proofs.lemmas.List.Elements.{Contains-append_cases, Contains-push_cases}
 use Rattle.lru.specs.LruCache.{LruCache, lru_cache, promoted, put_entries}
@@ -20,6 +20,41 @@ no_entry {V = V} test (x ∷ es) e = (elim (test x.0) as (λ b. cond b (Some x.1
   | true ↦ λ h. absurd (cc h)
   | false ↦ λ h. no_entry test es h
 ]) e
+
+-- what is found is the value of an entry that is there
+found_entry : {K V : Type 0} (test : K → Bool) (es : List (K × V)) → lookup test es ≡ option_map (λ e. e.1) (lookup_entry test es)
+found_entry test [] = refl
+found_entry {V = V} test (x ∷ es) = (elim (test x.0) as (λ b. cond b (Some x.1) (lookup test es) ≡ option_map (λ e. e.1) (cond b (Some x) (lookup_entry test es))) [
+  | true ↦ refl
+  | false ↦ found_entry test es
+])
+
+-- what is found and goes first is then the first
+pub promoted_first : {K V : Type 0} (test : K → Bool) (es : List (K × V)) (value : V) → lookup test es ≡ Some value
+    → option_map (λ e. e.1) (slice_get (promoted test es) 0) ≡ Some value
+promoted_first {K} {V} test es value found = by_entry (lookup_entry test es) (sym (found_entry test es) ∙ found)
+  where
+    by_entry : (o : Option (K × V)) → option_map (λ e. e.1) o ≡ Some value
+        → option_map (λ e. e.1) (slice_get (option_map_or (λ e. e ∷ remove_entry test es) o es) 0) ≡ Some value
+    by_entry None is = absurd (cc is)
+    by_entry (Some e) is = is
+
+-- so the first is what was found, where something was
+pub first_is : (table new : LruCache BlockPlace (List LogEntry)) (place : BlockPlace) (first : Option (BlockPlace × List LogEntry))
+    → true ≡ is_some (lookup (is_same_place place) table.entries) → new ≡ lru_cache (promoted (is_same_place place) table.entries) table.cap
+    → first ≡ slice_get new.entries 0 → option_map (λ e. e.1) first ≡ lookup (is_same_place place) table.entries
+first_is table new place first some change is = by_found (lookup (is_same_place place) table.entries) refl
+  where
+    by_found : (o : Option (List LogEntry)) → lookup (is_same_place place) table.entries ≡ o → option_map (λ e. e.1) first ≡ lookup (is_same_place place) table.entries
+    by_found None none = let clash : true ≡ false = some ∙ ap is_some none in absurd (cc clash)
+    by_found (Some records) found =
+        ap (option_map (λ e. e.1)) (is ∙ ap (λ (t : LruCache BlockPlace (List LogEntry)). slice_get t.entries 0) change)
+        ∙ promoted_first (is_same_place place) table.entries records found ∙ sym found
+
+-- nothing is found where nothing is
+pub none_is : {X : Type 0} (found : Option X) → false ≡ is_some found → None ≡ found
+none_is None e = refl
+none_is (Some x) e = absurd (cc e)
 
 -- what is new goes first
 pub put_first : {K V : Type 0} (eq : K → K → Bool) (c : LruCache K V) (k : K) (v : V) → lookup (eq k) c.entries ≡ None

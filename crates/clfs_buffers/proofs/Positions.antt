@@ -6,7 +6,8 @@ use Rattle.std.proofs.lemmas.Bool.{ltb-false}
 use Rattle.std.proofs.lemmas.Option.{slice_get_past}
 use Rattle.clfs_lsn.specs.Format.{record_header}
 use Rattle.clfs_lsn.specs.Checks.{guard_ok, unless_ok}
-use Rattle.clfs_lsn.specs.Spelling.{record_at, entry_of}
+use Rattle.clfs_lsn.specs.Size.{size}
+use Rattle.clfs_lsn.specs.Spelling.{record_at, entry_of, header_of}
 use Rattle.clfs_lsn.specs.declared.entry.LogEntry.{LogEntry}
 use Rattle.clfs_lsn.specs.declared.entry.Head.{Head}
 use Rattle.clfs_record.specs.Decoding.{head_read}
@@ -80,6 +81,14 @@ wrong at = Err at
 -- equal answers have equal records
 one_record : (x y : LogEntry × ℕ) → answer x ≡ answer y → x.0 ≡ y.0
 one_record x y e = let same : x ≡ y = cc e in ap (λ (z : LogEntry × ℕ). z.0) same
+
+-- what is read of bytes lies in them whole
+pub read_whole : (lsn streams : ℕ) (bytes : List ℕ) (x : LogEntry × ℕ) → record_at lsn streams bytes ≡ Ok x → size (header_of bytes).len ≤ length bytes
+unfolding record_at
+read_whole lsn streams bytes x is =
+    let a = guard_ok _ _ _ _ is in
+    let b = guard_ok _ _ _ _ a.1 in
+    ltb-false _ _ b.0
 
 -- what is read of bytes is the record that they stand for, whose header is there
 pub read_entry : (lsn streams : ℕ) (bytes : List ℕ) (x : LogEntry × ℕ) → record_at lsn streams bytes ≡ Ok x

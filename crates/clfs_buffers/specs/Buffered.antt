@@ -1,7 +1,9 @@
 -- The blocks that are kept: where each lies and the records that were read there, the one used last first, and how many there are at most.
-use Rattle.std.specs.Prelude.{◌≡◌, ℕ, ◌-◌, ◌≤◌, ◌==◌, ◌&&◌, Bool, List, ◌∷◌, take, Contains, Option, Ok}
+use Rattle.std.specs.Prelude.{◌≡◌, ℕ, ◌-◌, ◌≤◌, ◌==◌, ◌&&◌, Bool, List, ◌∷◌, take, slice_get, Contains, Option, Ok}
+use Rattle.std.specs.Option.{option_map, option_and_then}
 use Rattle.std.specs.Map.{lookup}
 use Rattle.lru.specs.LruCache.{LruCache, promoted}
+use Rattle.clfs_lsn.specs.Lsn.{sequence_of}
 use Rattle.clfs_lsn.specs.declared.entry.LogEntry.{LogEntry}
 use Rattle.clfs_lsn.specs.declared.shape.Shape.{Shape}
 use Rattle.clfs_block.specs.Records.{block_records}
@@ -25,6 +27,10 @@ is_same_place a b = (a.container == b.container) && (a.offset == b.offset)
 -- the records of the block that is kept of a place
 abbrev pub kept_at : BlockPlace → Buffered → Option (List LogEntry)
 kept_at place kept = lookup (is_same_place place) kept.blocks
+
+-- the data of the record at an LSN, if its block is kept and has it
+abbrev pub kept_data : ℕ → Buffered → Option (List ℕ)
+kept_data lsn kept = option_map (λ entry. entry.bytes) (option_and_then (λ records. slice_get records (sequence_of lsn)) (kept_at (block_place lsn) kept))
 
 -- a block was used
 abbrev pub with_used : BlockPlace → Buffered → Buffered

@@ -1,6 +1,6 @@
 // The blocks that are kept, by their places. The memory of a block that goes serves the next one that is read, and that of the bytes as the
 // disk gives them serves all reads.
-ghost use Rattle.std.specs.Prelude.{◌≡◌, ◌-◌, ◌≤◌, ◌∷◌, List, [], length, drop, take, None, Some, Ok, IsSome, IfErr, IfOk, OnOk, OnErr, IsErrOf};
+ghost use Rattle.std.specs.Prelude.{◌≡◌, ◌-◌, ◌≤◌, ◌∷◌, List, [], length, drop, take, None, Some, Ok, IsSome, IfErr, IfOk, IfSome, OnOk, OnErr, IsErrOf};
 ghost use Rattle.std.specs.Map.{lookup};
 ghost use Rattle.lru.specs.LruCache.{lru_cache};
 ghost use Rattle.clfs_lsn.specs.Lsn.{offset_of};
@@ -10,14 +10,14 @@ ghost use Rattle.clfs_disk.specs.Files.{Unchanged};
 ghost use Rattle.clfs_disk.specs.State.{TellsContents, IsSteady, Passes, Rises, raised};
 ghost use Rattle.clfs_buffers.specs.Reading.{block_place, record_in, record_by, Gives, TellsByte};
 ghost use Rattle.clfs_block.specs.Checks.{IsEnough};
-ghost use Rattle.clfs_buffers.specs.Buffered.{is_same_place, kept_at, with_used, IsAdded};
+ghost use Rattle.clfs_buffers.specs.Buffered.{is_same_place, kept_at, kept_data, with_used, IsAdded};
 
 use crate::kept::KeptBlock;
 use crate::place::BlockPlace;
 use crate::reading::read_kept;
 use crate::refusal::ReadRefusal;
 use clfs_disk::Disk;
-use clfs_lsn::{LogEntry, Lsn, Shape};
+use clfs_lsn::{Bytes, LogEntry, Lsn, Shape};
 use lru::LruCache;
 use std::alloc::{AllocError, Global};
 use std::marker::Model;
@@ -70,6 +70,23 @@ impl Buffers {
         ensures some { 1 ≤ result }
     {
         self.most
+    }
+
+    /// The data of the record at an LSN, if its block is kept and has it: `read` of such a record, with no look at its header and none at the disk.
+    /// The block is then the one used last, also if memory runs out for the data.
+    pub fn kept_data(&mut self, lsn: Lsn) -> Result<Option<Bytes>, AllocError>
+        ensures exact { IfOk result (λ found. found ≡ kept_data lsn self.old) }
+        ensures used { self.new ≡ with_used (block_place lsn) self.old }
+        ensures small { IfOk result (λ found. IfSome found (λ bytes. length bytes ≤ most_data)) }
+    {
+        let place = BlockPlace::of(lsn);
+        if !self.table.promote(&place) {
+            return Ok(None);
+        }
+        let Some((_, block)) = self.table.peek_mru() else {
+            return Ok(None);
+        };
+        block.data_at(self.alloc, lsn.sequence())
     }
 
     /// The record at an LSN of a log of this shape and of so many streams. `file` is the number of the file that the LSN's container lies in.

@@ -1,7 +1,7 @@
 // One block that is kept: its used payload, in which each record stands in one piece, and the bytes at which the records begin. So a
 // record is found at once, wherever in the block it stands, and its data is copied once.
-ghost use Rattle.std.specs.Prelude.{◌≡◌, ◌+◌, ◌^◌, ◌<◌, ◌≤◌, [], length, slice_get, IfOk, IsErrOf};
-ghost use Rattle.std.specs.Option.{ok_or};
+ghost use Rattle.std.specs.Prelude.{◌≡◌, ◌+◌, ◌^◌, ◌<◌, ◌≤◌, [], length, slice_get, IfOk, IfSome, IsErrOf};
+ghost use Rattle.std.specs.Option.{ok_or, option_map};
 ghost use Rattle.clfs_lsn.specs.Limits.{most_block_records};
 ghost use Rattle.clfs_lsn.specs.Size.{IsShape, most_data};
 ghost use Rattle.clfs_block.specs.Records.{block_records};
@@ -12,13 +12,16 @@ use crate::place::BlockPlace;
 use crate::refusal::ReadRefusal;
 use crate::starts::find_starts;
 use clfs_block::{BlockRefusal, check_frame, check_rest, fill_payload};
-use clfs_lsn::{Bytes, LogEntry, Shape};
-use clfs_record::{RecordRefusal, decode, stream_of};
-use std::alloc::Global;
+use clfs_lsn::{Bytes, LogEntry, RECORD_HEADER, Shape};
+use clfs_record::{RecordRefusal, decode, len_of, stream_of};
+use std::alloc::{AllocError, Global};
 use std::marker::Model;
 
 // The byte of a block at which the field of its number of records begins.
 const RECORDS_FIELD: u32 = 4;
+
+// The bytes of a record's header.
+const HEADER: usize = RECORD_HEADER as usize;
 
 // A block that was read. A contract sees its records.
 #[derive(Drop)]
@@ -95,6 +98,21 @@ impl KeptBlock {
             payload,
             starts,
         })
+    }
+
+    // The data of the record at a position of the block, or none where there are too few. It was judged when the block was read.
+    pub fn data_at(&self, alloc: Global, sequence: u32) -> Result<Option<Bytes>, AllocError>
+        ensures exact { IfOk result (λ found. found ≡ option_map (λ entry. entry.bytes) (slice_get self.now sequence)) }
+        ensures small { IfOk result (λ found. IfSome found (λ bytes. length bytes ≤ most_data)) }
+    {
+        if self.starts.len() <= sequence as usize {
+            return Ok(None);
+        }
+        let at = self.starts[sequence as usize] as usize;
+        let bytes = self.payload.as_slice().split_at(at).1;
+        let len = len_of(bytes) as usize;
+        let copied = Vec::from_slice(alloc, &bytes[HEADER..HEADER + len])?;
+        Ok(Some(Bytes::from_vec(copied)))
     }
 
     // The record at a position of the block, or damage at the number of the records where there are too few.

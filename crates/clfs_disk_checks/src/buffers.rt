@@ -148,6 +148,32 @@ fn records_of_a_block_are_read_by_one_call(rt: HostRuntime) {
     }
 }
 
+// The data byte of the record at a position of a block of container 1, if the block is kept and has the record.
+fn kept(buffers: &mut Buffers, sector: u8, sequence: u32) -> Option<u8> {
+    let lsn = Lsn::create(1, 512 * sector as u32, sequence).unwrap_or(Lsn::null());
+    match buffers.kept_data(lsn).ok()??.as_slice() {
+        [byte] => Some(*byte),
+        _ => None,
+    }
+}
+
+// A block that was read gives the data of its records by no call of the disk, and no other block gives any.
+fn gives_kept_data(alloc: Global) -> Option<bool> {
+    let (mut buffers, mut disk) = start(alloc, 3, 1)?;
+    let none_yet = kept(&mut buffers, 1, 0).is_none();
+    read(&mut buffers, &mut disk, 1, 1, 0).ok()?;
+    let first = kept(&mut buffers, 1, 0) == Some(4);
+    let last = kept(&mut buffers, 1, 2) == Some(6);
+    let too_many = kept(&mut buffers, 1, 3).is_none();
+    let other = kept(&mut buffers, 2, 0).is_none();
+    Some(none_yet && first && last && too_many && other)
+}
+
+#[test]
+fn a_kept_block_gives_the_data_of_its_records(rt: HostRuntime) {
+    assert!(rt; gives_kept_data(rt.alloc()) == Some(true));
+}
+
 // A block of two sectors after its container's first byte, with one record of 500 bytes.
 fn long_block() -> [u8; 1024] {
     let mut bytes = [0; 1024];

@@ -2,7 +2,8 @@
 //
 // A sync that is answered with Ok says that all that was written and grown, in all files, is on the medium, and that the files are found
 // in the folder:
-// - a file is synced if it was written or grown since its last sync, the folder if a file was made in it since;
+// - a file is synced if it was written or grown since its last sync, the folder if a file was made in it since. A sync looks at no file below
+//   the first or above the last that changed since the sync before;
 // - the first sync of a run syncs every file that is there, the folder, and the folder that it lies in. Who wrote them may have been
 //   killed before it synced, so that they are read and still not on the medium.
 // If a sync of an earlier run failed, the files are replaced by synced copies before anything is read (`unsynced.rt`).
@@ -20,11 +21,46 @@ use std::io;
 // How many files a disk has.
 const FILES: u16 = 257;
 
+// Where the files are that may have changed since the last sync: none below the first, and none from the end on.
+#[derive(Clone, Copy)]
+struct Changed {
+    first: u16,
+    end: u16,
+    ghost inside: { end ≤ 257 },
+}
+
+impl Changed {
+    fn all() -> Changed {
+        Changed {
+            first: 0,
+            end: FILES,
+        }
+    }
+
+    fn none() -> Changed {
+        Changed {
+            first: FILES,
+            end: 0,
+        }
+    }
+
+    // These, and this file too.
+    fn with(self, file: u16) -> Changed
+        requires { file ≤ 256 }
+    {
+        Changed {
+            first: self.first.min(file),
+            end: self.end.max(file + 1),
+        }
+    }
+}
+
 /// The lock is held as long as this value is there.
 #[derive(Drop)]
 pub(crate) struct Directory {
     folder: File,
     files: Vec<Option<StoredFile>>,
+    changed: Changed,
     // A file was made since the folder's last sync, or may have been before it was opened.
     is_unsynced: bool,
     // The folder that this one lies in, until the first sync. None also if this process may not read it.
@@ -127,6 +163,7 @@ impl Directory {
         Ok(State::Open(Directory {
             folder,
             files,
+            changed: Changed::all(),
             is_unsynced: true,
             parent,
         }))
@@ -158,6 +195,7 @@ impl Directory {
     pub fn write(&mut self, file: u16, at: u64, bytes: &[u8]) -> Result<(), Fault>
         requires { file ≤ 256 }
     {
+        self.changed = self.changed.with(file);
         match &mut self.files[file as usize] {
             Some(stored) => stored.write(at, bytes),
             None => Err(Fault::new(Place::File(file), Call::Write, Cause::Absent)),
@@ -174,6 +212,7 @@ impl Directory {
     ) -> Result<(), Fault>
         requires { file ≤ 256 }
     {
+        self.changed = self.changed.with(file);
         let slot = &mut self.files[file as usize];
         if slot.is_none() {
             *slot = Some(location.make_file(file)?);
@@ -187,11 +226,7 @@ impl Directory {
 
     /// Syncs what was written, grown and made since the last sync; the first time all that is there.
     pub fn sync(&mut self) -> Result<(), Fault> {
-        for slot in self.files.iter_mut() {
-            if let Some(file) = slot {
-                file.sync()?;
-            }
-        }
+        self.sync_files()?;
         if let Err(error) = self.sync_folder() {
             return Err(Fault::said(Place::Folder, Call::Sync, error));
         }
@@ -199,6 +234,19 @@ impl Directory {
             Ok(()) => Ok(()),
             Err(error) => Err(Fault::said(Place::Parent, Call::Sync, error)),
         }
+    }
+
+    fn sync_files(&mut self) -> Result<(), Fault> {
+        let Changed { first, end } = self.changed;
+        if first < end {
+            for slot in self.files[first as usize..end as usize].iter_mut() {
+                if let Some(file) = slot {
+                    file.sync()?;
+                }
+            }
+        }
+        self.changed = Changed::none();
+        Ok(())
     }
 
     fn sync_folder(&mut self) -> io::Result<()> {

@@ -76,6 +76,8 @@ pub(crate) enum Cause {
     SymbolicLink,
     /// The file has this many names.
     Names(u64),
+    /// A folder stands in the place of a client's file.
+    Folder,
     /// The file is the same one of the system as this earlier one of the log.
     SameAs(Place),
     /// The file ends before the place.
@@ -101,6 +103,7 @@ impl fmt::Display for Cause {
             Cause::NoRegularFile => f.write_str("it is no regular file"),
             Cause::SymbolicLink => f.write_str("it is a symbolic link"),
             Cause::Names(count) => write!(f, "it has {count} names (hard links)"),
+            Cause::Folder => f.write_str("it is a folder"),
             Cause::SameAs(place) => write!(f, "it is the same file as FOLDER{place}"),
             Cause::TooShort => f.write_str("it ends before the place"),
             Cause::Absent => f.write_str("it isn't there"),

@@ -22,9 +22,9 @@ pub(crate) struct Location {
     path: String,
 }
 
-// What is written to a standard stream that the caller had closed must not land in a file of the log, so a file that got the number of
-// such a stream is moved above them.
-fn above_streams(file: File) -> io::Result<File> {
+/// What is written to a standard stream that the caller had closed must not land in a file of the log or of a client, so a file that got the number of
+/// such a stream is moved above them.
+pub(crate) fn above_streams(file: File) -> io::Result<File> {
     if file.as_raw_fd() <= 2 {
         return file.try_clone();
     }

@@ -1,7 +1,7 @@
 -- Records that are read: those that wait are in the queue, and those on the disk are in the blocks that are read there or kept.
 use Rattle.std.proofs.Common.{◌≡◌, ℕ, ◌-◌, ◌%◌, ◌<◌, ◌≤◌, ◌⊎◌, refl, sym, ap, ◌∙◌, subst, ⊎_elim, List, [], ◌∷◌, length, drop, Result, Ok, Err, arith}
 use Rattle.std.specs.Prelude.{Option, Some, None, IsSome, find, Contains, nat_le, nat_lt, slice_get, slice_index, slice_index_or, ◌==◌, IfOk, OnOk, OnErr}
-use Rattle.std.specs.Option.{ok_or}
+use Rattle.std.specs.Option.{ok_or, option_map, option_and_then}
 use Rattle.std.proofs.lemmas.Bool.{lt-ltb, le-leb}
 use Rattle.clfs_lsn.specs.Lsn.{lsn_number, container_of, offset_of, sequence_of}
 use Rattle.clfs_lsn.specs.declared.entry.LogEntry.{LogEntry}
@@ -13,7 +13,7 @@ use Rattle.clfs_model.specs.declared.state.State.{State}
 use Rattle.clfs_model.specs.Flush.{cut, flushed, first_or, block_start}
 use Rattle.clfs_model.specs.Live.{hold}
 use Rattle.clfs_model.specs.Valid.{IsValid, IsWaiting}
-use Rattle.clfs_buffers.specs.Buffered.{Buffered, kept_at, with_used, with_block, IsAdded}
+use Rattle.clfs_buffers.specs.Buffered.{Buffered, kept_at, kept_data, with_used, with_block, IsAdded}
 use Rattle.clfs_buffers.specs.Reading.{block_place, first_lsn, record_in, record_by, Gives}
 use Rattle.clfs_buffers.specs.declared.place.BlockPlace.{BlockPlace}
 use Rattle.clfs_buffers.specs.declared.refusal.ReadRefusal.{ReadRefusal}
@@ -89,6 +89,27 @@ pub kept_gives : (s : State) (kept : Buffered) → AreKept s kept → (lsn : ℕ
     → (entry : LogEntry) → Contains s.records entry → entry.lsn ≡ lsn → record_in lsn records ≡ Ok entry
 kept_gives s kept are lsn records is entry has at = found_in lsn records entry at (are.records (block_place lsn) records is entry has (ap block_place at))
 
+-- the data that are kept of a record are its own
+pub kept_bytes : (s : State) (kept : Buffered) → AreKept s kept → (lsn : ℕ) (bytes : List ℕ) → kept_data lsn kept ≡ Some bytes
+    → (entry : LogEntry) → Contains s.records entry → entry.lsn ≡ lsn → entry.bytes ≡ bytes
+kept_bytes s kept are lsn bytes is entry has at = by_kept (kept_at (block_place lsn) kept) refl
+  where
+    data_in : Option LogEntry → Option (List ℕ)
+    data_in found = option_map (λ (e : LogEntry). e.bytes) found
+
+    by_kept : (o : Option (List LogEntry)) → kept_at (block_place lsn) kept ≡ o → entry.bytes ≡ bytes
+    by_kept None none =
+        let clash : None ≡ Some bytes =
+        ap (λ (o : Option (List LogEntry)). data_in (option_and_then (λ (rs : List LogEntry). slice_get rs (sequence_of lsn)) o)) (sym none) ∙ is in
+        absurd (cc clash)
+    by_kept (Some records) some =
+        let there = are.records (block_place lsn) records some entry has (ap block_place at) in
+        let here : slice_get records (sequence_of lsn) ≡ Some entry = subst (λ (n : ℕ). slice_get records (sequence_of n) ≡ Some entry) at there in
+        let same : Some entry.bytes ≡ Some bytes =
+        sym (ap data_in here)
+        ∙ ap (λ (o : Option (List LogEntry)). data_in (option_and_then (λ (rs : List LogEntry). slice_get rs (sequence_of lsn)) o)) (sym some) ∙ is in
+        cc same
+
 -- and so does one that is read
 pub read_gives : (shape : Shape) (streams : ℕ) (bytes : List ℕ) (lsn : ℕ) (entry : LogEntry) → entry.lsn ≡ lsn → IsReadAt shape streams bytes entry
     → record_by shape streams lsn (drop (offset_of lsn) bytes) ≡ Ok entry
@@ -109,6 +130,11 @@ kept_alike s old new same are = record {
   stable = λ place records is. are.stable place records (sym (same place) ∙ is);
   records = λ place records is. are.records place records (sym (same place) ∙ is);
 }
+
+-- they are the state's after one was used
+pub kept_used : (s : State) (old new : Buffered) (lsn : ℕ) → new ≡ with_used (block_place lsn) old
+    → ((place : BlockPlace) → kept_at place (with_used (block_place lsn) old) ≡ kept_at place old) → AreKept s old → AreKept s new
+kept_used s old new lsn is same are = subst (AreKept s) (sym is) (kept_alike s old (with_used (block_place lsn) old) same are)
 
 -- a block that was read of the log's files is one that may be kept
 pub kept_with_one_more : (s : State) (image : BaseImage) (files : Files) (entries : List LogEntry) (old : Buffered) (lsn : ℕ) (records : List LogEntry)

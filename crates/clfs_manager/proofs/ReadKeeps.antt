@@ -119,6 +119,19 @@ open_buffers old new s log kept same time are is = record {
   forgotten = record { low = is.forgotten.low; ends = is.forgotten.ends };
 }
 
+-- over the same disk
+pub open_kept : (disk : DiskState) (s : State) (log : Log) (kept : Buffered) → (TellsContents disk → AreKept s kept) → IsOpen disk s log
+    → IsOpen disk s (record log { buffers = kept })
+open_kept disk s log kept are is = record {
+  memory = holds_buffers s kept log is.memory;
+  blocks = is.blocks;
+  stored = is.stored;
+  files = is.files;
+  kept = are;
+  settled = is.settled;
+  forgotten = record { low = is.forgotten.low; ends = is.forgotten.ends };
+}
+
 -- with other areas, which the state has too
 pub open_areas : (disk : DiskState) (s : State) (log : Log) (areas : AreaTable) (told : Told State) → IsOpen disk s log
     → IsOpen disk (record s { areas = areas.areas }) (record log { areas = areas; state = told })

@@ -94,9 +94,9 @@ KeepsLog old new = TellsContents old → (slot : ℕ) → open_slot_of (old.file
 abbrev pub making_calls : ℕ → ℕ
 making_calls containers = containers + 12
 
--- What is answered by whether a log is there: this slot is open, or none.
+-- What is answered by whether a log is there: this slot is open, or none. Out of memory is told only if none is.
 abbrev pub IsFree : Result (Unit {0}) FormatRefusal → List ℕ → Type 0
 IsFree (Ok done) base = open_slot_of base ≡ None
 IsFree (Err (Exists slot)) base = open_slot_of base ≡ Some slot
 IsFree (Err DiskFault) base = Unit {0}
-IsFree (Err NoMemory) base = Unit {0}
+IsFree (Err NoMemory) base = open_slot_of base ≡ None

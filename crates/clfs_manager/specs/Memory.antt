@@ -1,7 +1,9 @@
 -- What a manager has in memory of the state of its log.
 use Rattle.std.specs.Prelude.{◌≡◌, ℕ, ◌+◌, ◌≤◌, false, nat_le, List, length, filter}
 use Rattle.clfs_lsn.specs.Lsn.{lsn_number, container_of}
+use Rattle.clfs_lsn.specs.declared.entry.Head.{Head}
 use Rattle.clfs_lsn.specs.declared.entry.LogEntry.{LogEntry}
+use Rattle.clfs_lsn.specs.Heads.{heads_from}
 use Rattle.clfs_base.specs.declared.image.BaseImage.{BaseImage}
 use Rattle.clfs_model.specs.declared.state.State.{State}
 use Rattle.clfs_model.specs.Flush.{block_start, flushed}
@@ -12,7 +14,7 @@ use Rattle.clfs_model.specs.Valid.{IsValid}
 use Rattle.clfs_policy.specs.declared.policies.Policies.{Policies}
 use Rattle.clfs_recover.specs.Files.{policy_of}
 use Rattle.clfs_recover.specs.Walk.{shape_of}
-use Rattle.clfs_archive.specs.Blocks.{AreFew, AreSealed}
+use Rattle.clfs_archive.specs.Blocks.{AreFew, AreSealed, sealed_lasts}
 use Rattle.clfs_manager.specs.declared.log.Log.{Log}
 
 -- the policies that are installed
@@ -59,6 +61,10 @@ pub record Holds (s : State) (log : Log) : Type 0 where
 -- the LSN at which the hold's container begins
 abbrev pub hold_start : State → ℕ
 hold_start s = lsn_number (container_of (hold s)) 0 0
+
+-- the last record of each sealed block in the hold's container and after it: archiving may still ask where these blocks end
+abbrev pub lasts_needed : State → List Head
+lasts_needed s = heads_from (hold_start s) (sealed_lasts (block_start s.place) (heads_of s))
 
 -- In containers below the hold's nothing is kept in memory but what was left there: at most as many heads of records, and ends of blocks, as are kept
 -- from there on.

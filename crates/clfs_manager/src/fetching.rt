@@ -3,17 +3,18 @@
 // it, and all containers from there on are listed. A block that was read is kept, and serves the records beside it.
 //
 // A fault of the disk and damage break the log: its state is broken from then on, and so is the log.
-ghost use Rattle.std.specs.Prelude.{◌≡◌, ◌+◌, ◌<◌, ◌≤◌, nat_lt, true, length, Ok, IfOk, IfErr, OnOk, OnErr, IsErrOf};
+ghost use Rattle.std.specs.Prelude.{◌≡◌, ◌+◌, ◌<◌, ◌≤◌, nat_lt, true, length, Ok, IfOk, IfErr, IsSome, OnOk, OnErr, IsErrOf};
 ghost use Rattle.clfs_lsn.specs.Head.{head_of};
 ghost use Rattle.clfs_lsn.specs.Lsn.{container_of};
 ghost use Rattle.clfs_lsn.specs.Size.{most_data};
 ghost use Rattle.clfs_lsn.specs.declared.entry.LogEntry.{LogEntry};
 ghost use Rattle.clfs_disk.specs.Files.{Unchanged};
-ghost use Rattle.clfs_disk.specs.State.{TellsContents, IsSteady, Passes, Rises};
+ghost use Rattle.clfs_disk.specs.State.{TellsContents, IsSteady, Passes, Rises, raised};
 ghost use Rattle.clfs_base.specs.Spelling.{IsImage};
 ghost use Rattle.clfs_model.specs.Flush.{flushed};
 ghost use Rattle.clfs_model.specs.Step.{with_broken};
-ghost use Rattle.clfs_buffers.specs.Reading.{Gives, TellsByte};
+ghost use Rattle.clfs_buffers.specs.Buffered.{kept_at};
+ghost use Rattle.clfs_buffers.specs.Reading.{Gives, TellsByte, block_place};
 ghost use Rattle.clfs_recover.specs.Reading.{file_of};
 ghost use Rattle.clfs_laws.specs.Refused.{is_of_call};
 ghost use Rattle.clfs_manager.specs.Memory.{IsSound};
@@ -82,7 +83,9 @@ fn is_stable(log: &Log, lsn: Lsn) -> bool
 
 // The record with a head and its data.
 fn entry_of(head: Head, bytes: Bytes) -> LogEntry
-    ensures { (entry : LogEntry) → head_of entry ≡ head → entry.bytes ≡ bytes → result ≡ entry }
+    ensures entry { (entry : LogEntry) → head_of entry ≡ head → entry.bytes ≡ bytes → result ≡ entry }
+    ensures lsn { result.lsn ≡ head.lsn }
+    ensures bytes { result.bytes ≡ bytes }
 {
     LogEntry {
         lsn: head.lsn,
@@ -127,8 +130,8 @@ fn block_bytes(archive: &Archive, lsn: Lsn) -> u32 {
     }
 }
 
-// A record that is on the disk, by its LSN.
-fn stored_entry<D: Disk>(log: &mut Log, disk: &mut D, lsn: Lsn) -> Result<LogEntry, ReadRefusal>
+// A record that is on the disk, by its LSN, out of its block.
+fn entry_on_disk<D: Disk>(log: &mut Log, disk: &mut D, lsn: Lsn) -> Result<LogEntry, ReadRefusal>
     requires sound { IsSound log.old }
     requires open { IsOpen (D.state disk.old) log.old.state.value log.old }
     requires there { (entry : LogEntry) × IsNeeded log.old.state.value entry × (entry.lsn ≡ lsn) }
@@ -145,6 +148,8 @@ fn stored_entry<D: Disk>(log: &mut Log, disk: &mut D, lsn: Lsn) -> Result<LogEnt
     ensures cause { IsErrOf result ReadRefusal.DiskFault → Rises (D.state disk.old).faults (D.state disk.new).faults }
     ensures steady { IsSteady (D.state disk.old) → (IsErrOf result ReadRefusal.DiskFault → ⊥)
         × ((D.state disk.new).faults ≡ (D.state disk.old).faults) }
+    ensures quiet { IsSome (kept_at (block_place lsn) log.old.buffers) → disk.new ≡ disk.old }
+    ensures calls_at_most { raised 0 (D.state disk.new).calls ≤ raised 2 (D.state disk.old).calls }
 {
     stored_records_are_read();
     changes_keep_blocks();
@@ -154,6 +159,34 @@ fn stored_entry<D: Disk>(log: &mut Log, disk: &mut D, lsn: Lsn) -> Result<LogEnt
     let streams = image.streams.as_slice().len() as u16;
     let expected = block_bytes(&log.archive, lsn);
     log.buffers.read(disk, &shape, streams, file, lsn, expected)
+}
+
+// A record that is on the disk, by its head. Of a block that is kept its data alone are taken: its header was judged when the block was read, and how
+// long the block is has to be known only if it isn't kept.
+fn stored_entry<D: Disk>(log: &mut Log, disk: &mut D, head: Head) -> Result<LogEntry, ReadRefusal>
+    requires sound { IsSound log.old }
+    requires open { IsOpen (D.state disk.old) log.old.state.value log.old }
+    requires there { IsNeededHead log.old.state.value head }
+    requires stable { head.lsn < flushed log.old.state.value }
+    ensures exact { TellsContents (D.state disk.old) → (entry : LogEntry) → IsNeeded log.old.state.value entry → head_of entry ≡ head → Gives result (Ok entry) }
+    ensures told { IfErr result (λ refusal. TellsByte log.old.state.value.shape (length log.old.state.value.streams) head.lsn refusal) }
+    ensures lsn { IfOk result (λ read. read.lsn ≡ head.lsn) }
+    ensures small { IfOk result (λ read. length read.bytes ≤ most_data) }
+    ensures log { log.new ≡ record log.old { buffers = log.new.buffers } }
+    ensures kept { TellsContents (D.state disk.old) → AreKept log.old.state.value log.new.buffers }
+    ensures same { Unchanged (D.state disk.old).files (D.state disk.new).files }
+    ensures time { Passes Unchanged (D.state disk.old) (D.state disk.new) }
+    ensures cause { IsErrOf result ReadRefusal.DiskFault → Rises (D.state disk.old).faults (D.state disk.new).faults }
+    ensures steady { IsSteady (D.state disk.old) → (IsErrOf result ReadRefusal.DiskFault → ⊥)
+        × ((D.state disk.new).faults ≡ (D.state disk.old).faults) }
+    ensures quiet { IsSome (kept_at (block_place head.lsn) log.old.buffers) → disk.new ≡ disk.old }
+    ensures calls_at_most { raised 0 (D.state disk.new).calls ≤ raised 2 (D.state disk.old).calls }
+{
+    changes_keep_blocks();
+    match log.buffers.kept_data(head.lsn)? {
+        Some(bytes) => Ok(entry_of(head, bytes)),
+        None => entry_on_disk(log, disk, head.lsn),
+    }
 }
 
 // The record with a head.
@@ -171,11 +204,15 @@ pub(crate) fn fetch<D: Disk>(log: &mut Log, disk: &mut D, head: Head) -> Result<
     ensures reads { OnlyReads result (D.state disk.old) (D.state disk.new) }
     ensures refused { IfErr result (λ refusal. is_of_call refusal ≡ true → disk.new ≡ disk.old) }
     ensures waits { IfOk result (λ read. flushed log.old.state.value ≤ read.lsn → disk.new ≡ disk.old) }
+
+    // Nor is the disk called where the record's block is kept.
+    ensures quiet { IsSome (kept_at (block_place head.lsn) log.old.buffers) → disk.new ≡ disk.old }
+    ensures calls_at_most { raised 0 (D.state disk.new).calls ≤ raised 2 (D.state disk.old).calls }
 {
     if !is_stable(log, head.lsn) {
         return Ok(waiting_entry(log, head)?);
     }
-    match stored_entry(log, disk, head.lsn) {
+    match stored_entry(log, disk, head) {
         Ok(entry) => Ok(entry),
         Err(refusal) => Err(refuse(log, head.lsn, refusal)),
     }

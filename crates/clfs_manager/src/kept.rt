@@ -5,7 +5,7 @@ ghost use Rattle.clfs_lsn.specs.Heads.{heads_from, stream_heads};
 ghost use Rattle.clfs_model.specs.Heads.{heads_of};
 ghost use Rattle.clfs_model.specs.State.{stream_at};
 ghost use Rattle.clfs_tables.specs.Tables.{restarts_of};
-ghost use Rattle.clfs_manager.specs.Memory.{HasForgotten, IsSound, hold_start};
+ghost use Rattle.clfs_manager.specs.Memory.{HasForgotten, IsSound, hold_start, lasts_needed};
 
 use crate::log::Log;
 use crate::manager::Manager;
@@ -48,7 +48,8 @@ impl Log {
     fn ends_kept(&self) -> usize
         requires sound { IsSound self.now }
         requires forgotten { HasForgotten self.now.state.value self.now }
-        ensures { let s = self.now.state.value in result ≤ 2 * length (heads_from (hold_start s) (heads_of s)) }
+        ensures all { length (lasts_needed self.now.state.value) ≤ result }
+        ensures few { result ≤ 2 * length (lasts_needed self.now.state.value) }
     {
         self.archive.len()
     }
@@ -87,10 +88,12 @@ impl<D: Disk> Manager<D> {
         self.log.restarts_kept(stream)
     }
 
-    /// How many ends of blocks are kept in memory: at most twice as many as all streams have records there. `None` if the log is broken.
+    /// How many ends of blocks are kept in memory: those of all blocks there that take no more records, and at most as many more. `None` if the log
+    /// is broken.
     pub fn ends_kept(&self) -> Option<usize>
         ensures there { self.now.0.broken ≡ false → IsSome result }
-        ensures few { IfSome result (λ count. count ≤ 2 * length (heads_from (hold_start self.now.0) (heads_of self.now.0))) }
+        ensures all { IfSome result (λ count. length (lasts_needed self.now.0) ≤ count) }
+        ensures few { IfSome result (λ count. count ≤ 2 * length (lasts_needed self.now.0)) }
         ensures broken { self.now.0.broken ≡ true → result ≡ None }
     {
         if self.log.broken {

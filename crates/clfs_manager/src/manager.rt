@@ -99,6 +99,10 @@ impl<D: Disk> Manager<D> {
         ensures same { IfErr result (λ refused. (slot : ℕ) → refused.cause ≡ FormatRefusal.Exists slot
             → Unchanged (D.state disk).files (D.state refused.disk).files × Passes Unchanged (D.state disk) (D.state refused.disk)) }
 
+        // It looks for a log before it takes memory: where a slot is open it never tells that memory ran out.
+        ensures looks { IfErr result (λ refused. refused.cause ≡ FormatRefusal.NoMemory
+            → TellsContents (D.state disk) → open_slot_of ((D.state disk).files 0) ≡ None) }
+
         // Where a slot was open nothing has changed, whatever is told.
         ensures kept { IfErr result (λ refused. KeepsLog (D.state disk) (D.state refused.disk)) }
 

@@ -7,7 +7,7 @@ ghost use Rattle.clfs_lsn.specs.Head.{head_of};
 ghost use Rattle.clfs_lsn.specs.Size.{most_data};
 ghost use Rattle.clfs_lsn.specs.declared.entry.LogEntry.{LogEntry};
 ghost use Rattle.clfs_disk.specs.Files.{Unchanged};
-ghost use Rattle.clfs_disk.specs.State.{TellsContents, IsSteady, Passes, Rises};
+ghost use Rattle.clfs_disk.specs.State.{TellsContents, IsSteady, Passes, Rises, raised};
 ghost use Rattle.clfs_model.specs.declared.call.Call.TheVariants as calls;
 ghost use Rattle.clfs_model.specs.declared.refusal.Refusal.TheVariants as refusals;
 ghost use Rattle.clfs_model.specs.declared.reply.Reply.TheVariants as replies;
@@ -83,6 +83,7 @@ impl Log {
         ensures reads { OnlyReads result (D.state disk.old) (D.state disk.new) }
         ensures untouched { IfErr result (λ refusal. is_of_call refusal ≡ true → disk.new ≡ disk.old) }
         ensures waits { IfOk result (λ found. flushed self.old.state.value ≤ found.1.lsn → disk.new ≡ disk.old) }
+        ensures calls_at_most { raised 0 (D.state disk.new).calls ≤ raised 2 (D.state disk.old).calls }
     {
         let last = head.lsn;
         let info = self.areas.area(place);
@@ -117,6 +118,7 @@ impl Log {
         ensures reads { OnlyReads result (D.state disk.old) (D.state disk.new) }
         ensures untouched { IfErr result (λ refusal. is_of_call refusal ≡ true → disk.new ≡ disk.old) }
         ensures waits { IfOk result (λ entry. flushed self.old.state.value ≤ entry.lsn → disk.new ≡ disk.old) }
+        ensures calls_at_most { raised 0 (D.state disk.new).calls ≤ raised 2 (D.state disk.old).calls }
     {
         let last = head.lsn;
         let info = self.areas.area(place);
@@ -144,6 +146,7 @@ impl Log {
         ensures reads { OnlyReads result (D.state disk.old) (D.state disk.new) }
         ensures refused { IfErr result (λ refusal. is_of_call refusal ≡ true → disk.new ≡ disk.old) }
         ensures waits { IfOk result (λ found. flushed self.old.state.value ≤ found.1.lsn → disk.new ≡ disk.old) }
+        ensures calls_at_most { raised 0 (D.state disk.new).calls ≤ raised 2 (D.state disk.old).calls }
         ensures place { IfErr result (λ refusal. TellsWhere self.old.state.value client area (λ here. live_at self.old.state.value here.stream lsn) refusal) }
     {
         refusals_are_the_calls_own();
@@ -170,6 +173,7 @@ impl Log {
         ensures reads { OnlyReads result (D.state disk.old) (D.state disk.new) }
         ensures refused { IfErr result (λ refusal. is_of_call refusal ≡ true → disk.new ≡ disk.old) }
         ensures waits { IfOk result (λ found. flushed self.old.state.value ≤ found.1.lsn → disk.new ≡ disk.old) }
+        ensures calls_at_most { raised 0 (D.state disk.new).calls ≤ raised 2 (D.state disk.old).calls }
         ensures place { IfErr result (λ refusal. TellsWhere self.old.state.value client area (λ here. newest_restart self.old.state.value here.stream) refusal) }
     {
         refusals_are_the_calls_own();
@@ -197,6 +201,7 @@ impl Log {
         ensures reads { OnlyReads result (D.state disk.old) (D.state disk.new) }
         ensures refused { IfErr result (λ refusal. is_of_call refusal ≡ true → disk.new ≡ disk.old) }
         ensures waits { IfOk result (λ entry. flushed self.old.state.value ≤ entry.lsn → disk.new ≡ disk.old) }
+        ensures calls_at_most { raised 0 (D.state disk.new).calls ≤ raised 2 (D.state disk.old).calls }
         ensures place { IfErr result (λ refusal. TellsWhere self.old.state.value client area (λ here. option_and_then (next_of_cursor self.old.state.value here) (record_cursor here cursor)) refusal) }
     {
         refusals_are_the_calls_own();
@@ -224,6 +229,7 @@ impl Log {
         ensures reads { OnlyReads result (D.state disk.old) (D.state disk.new) }
         ensures refused { IfErr result (λ refusal. is_of_call refusal ≡ true → disk.new ≡ disk.old) }
         ensures waits { IfOk result (λ entry. flushed self.old.state.value ≤ entry.lsn → disk.new ≡ disk.old) }
+        ensures calls_at_most { raised 0 (D.state disk.new).calls ≤ raised 2 (D.state disk.old).calls }
         ensures place { IfErr result (λ refusal. TellsWhere self.old.state.value client area (λ here. option_and_then (next_of_cursor self.old.state.value here) (restart_cursor here cursor)) refusal) }
     {
         refusals_are_the_calls_own();
@@ -269,6 +275,7 @@ impl<D: Disk> Manager<D> {
         ensures stopped { self.old.0.broken ≡ true → self.new.1 ≡ self.old.1 }
         ensures refused { IfErr result (λ refusal. is_of_call refusal ≡ true → self.new.1 ≡ self.old.1) }
         ensures waits { IfOk result (λ found. flushed self.old.0 ≤ found.1.lsn → self.new.1 ≡ self.old.1) }
+        ensures calls_at_most { raised 0 (D.state self.new.1).calls ≤ raised 2 (D.state self.old.1).calls }
         ensures place { IfErr result (λ refusal. TellsWhere self.old.0 client area (λ here. live_at self.old.0 here.stream lsn) refusal) }
     {
         self.stored();
@@ -308,6 +315,7 @@ impl<D: Disk> Manager<D> {
         ensures stopped { self.old.0.broken ≡ true → self.new.1 ≡ self.old.1 }
         ensures refused { IfErr result (λ refusal. is_of_call refusal ≡ true → self.new.1 ≡ self.old.1) }
         ensures waits { IfOk result (λ entry. flushed self.old.0 ≤ entry.lsn → self.new.1 ≡ self.old.1) }
+        ensures calls_at_most { raised 0 (D.state self.new.1).calls ≤ raised 2 (D.state self.old.1).calls }
         ensures place { IfErr result (λ refusal. TellsWhere self.old.0 client area (λ here. option_and_then (next_of_cursor self.old.0 here) (record_cursor here cursor)) refusal) }
     {
         self.stored();
@@ -347,6 +355,7 @@ impl<D: Disk> Manager<D> {
         ensures stopped { self.old.0.broken ≡ true → self.new.1 ≡ self.old.1 }
         ensures refused { IfErr result (λ refusal. is_of_call refusal ≡ true → self.new.1 ≡ self.old.1) }
         ensures waits { IfOk result (λ found. flushed self.old.0 ≤ found.1.lsn → self.new.1 ≡ self.old.1) }
+        ensures calls_at_most { raised 0 (D.state self.new.1).calls ≤ raised 2 (D.state self.old.1).calls }
         ensures place { IfErr result (λ refusal. TellsWhere self.old.0 client area (λ here. newest_restart self.old.0 here.stream) refusal) }
     {
         self.stored();
@@ -391,6 +400,7 @@ impl<D: Disk> Manager<D> {
         ensures stopped { self.old.0.broken ≡ true → self.new.1 ≡ self.old.1 }
         ensures refused { IfErr result (λ refusal. is_of_call refusal ≡ true → self.new.1 ≡ self.old.1) }
         ensures waits { IfOk result (λ entry. flushed self.old.0 ≤ entry.lsn → self.new.1 ≡ self.old.1) }
+        ensures calls_at_most { raised 0 (D.state self.new.1).calls ≤ raised 2 (D.state self.old.1).calls }
         ensures place { IfErr result (λ refusal. TellsWhere self.old.0 client area (λ here. option_and_then (next_of_cursor self.old.0 here) (restart_cursor here cursor)) refusal) }
     {
         self.stored();

@@ -174,6 +174,9 @@ impl Tables {
         requires known { (head : Head) × (head_at last self.now.heads ≡ Some head) × (head.stream ≡ stream) }
         ensures { result ≡ next_head (base_in self.now.streams stream) stream mode last self.now.heads }
     {
+        if let Mode::Forward = mode {
+            return self.above(stream, last);
+        }
         if last < self.low {
             return self.next_of_forgotten(stream, mode, last);
         }

@@ -1,8 +1,7 @@
-use Rattle.std.proofs.Common.{ap, sym, subst}
+use Rattle.std.proofs.Common.{sym, subst}
 use Rattle.clfs_model.specs.declared.refusal.Refusal.{Refusal}
 use Rattle.clfs_manager.specs.Fetching.{TellsOf}
 use Rattle.clfs_manager.proofs.Placed.{told_block}
-use Rattle.clfs_lsn.specs.declared.entry.Head.{Head}
 use Rattle.clfs_manager.proofs.ReadKeeps.{left_buffers, left_refused, refused_reads}
 use Rattle.clfs_manager.proofs.fetching.fetch.Goals as goal
 
@@ -21,7 +20,7 @@ returns-in-Err-clause-reads g c =
     let there = c.requires.there in
     refused_reads c.args.head.lsn c.refuse.result c.in-Err.refusal there.entry (g.D.Disk.state c.args.disk.now) (g.D.Disk.state c.stored_entry.new.disk)
     c.refuse.ensures.refusal c.in-Err.ensures.same c.in-Err.ensures.time
-    (λ tells. c.in-Err.ensures.exact tells there.entry there.needed (ap (λ (h : Head). h.lsn) there.head_is))
+    (λ tells. c.in-Err.ensures.exact tells there.entry there.needed there.head_is)
     c.in-Err.ensures.cause c.in-Err.ensures.steady
 
 pub returns-in-Err-clause-place : goal.returns-in-Err-clause-place

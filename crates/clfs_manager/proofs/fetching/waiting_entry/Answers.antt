@@ -32,7 +32,7 @@ pub returns-clause-exact : goal.returns-clause-exact
 returns-clause-exact c entry needed is =
     let there = ap (option_map (λ (e : LogEntry). e.bytes)) (in_queue c.args.log.now c.args.head c.requires.sound c.requires.waits entry needed is) in
     let same : entry.bytes ≡ c.in_ok-bytes.bytes = cc (there, c.in_ok-bytes.ensures) in
-    c.entry_of.ensures entry is same
+    c.entry_of.ensures.entry entry is same
 
 pub returns-clause-small : goal.returns-clause-small
 returns-clause-small c =

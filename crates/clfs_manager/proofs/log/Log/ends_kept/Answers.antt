@@ -1,17 +1,49 @@
 use Rattle.std.proofs.Common.{◌≡◌, ℕ, ◌*◌, ◌≤◌, arith, length, subst}
+use Rattle.std.specs.Prelude.{nat_le}
+use Rattle.std.proofs.lemmas.List.Sums.{count_by-le-length, length-filter}
 use Rattle.clfs_lsn.specs.Heads.{heads_from}
 use Rattle.clfs_model.specs.declared.state.State.{State}
 use Rattle.clfs_model.specs.Flush.{block_start}
 use Rattle.clfs_model.specs.Heads.{heads_of}
-use Rattle.clfs_manager.specs.Memory.{hold_start}
+use Rattle.clfs_archive.specs.Blocks.{blocks_from, sealed_lasts}
+use Rattle.clfs_archive.specs.declared.block.BlockEnd.{BlockEnd}
+use Rattle.clfs_manager.specs.Memory.{HasForgotten, Holds, hold_start, lasts_needed}
+use Rattle.clfs_manager.specs.declared.log.Log.{Log}
 use Rattle.clfs_manager.proofs.log.Log.ends_kept.Goals as goal
 
-pub returns : goal.returns
-returns c =
+low_is : (s : State) (log : Log) → Holds s log → HasForgotten s log → log.tables.low ≡ hold_start s
+low_is s log holds forgotten = omega (arith, holds.low, forgotten.low)
+
+-- the ends from the hold's container on are just those that are needed
+needed : (s : State) (log : Log) → Holds s log → HasForgotten s log
+    → length (blocks_from log.tables.low log.archive.blocks) ≡ length (heads_from log.tables.low (sealed_lasts (block_start s.place) (heads_of s)))
+    → length (blocks_from log.tables.low log.archive.blocks) ≡ length (lasts_needed s)
+needed s log holds forgotten are =
+    subst (λ (n : ℕ). length (blocks_from log.tables.low log.archive.blocks) ≡ length (heads_from n (sealed_lasts (block_start s.place) (heads_of s))))
+    (low_is s log holds forgotten) are
+
+few : (s : State) (log : Log) (count : ℕ) → HasForgotten s log → count ≡ length log.archive.blocks
+    → length (blocks_from log.tables.low log.archive.blocks) ≡ length (lasts_needed s) → count ≤ 2 * length (lasts_needed s)
+few s log count forgotten is are = omega (arith, is, forgotten.ends, are)
+
+all : (s : State) (log : Log) (count : ℕ) → count ≡ length log.archive.blocks
+    → length (blocks_from log.tables.low log.archive.blocks) ≡ length (lasts_needed s) → length (lasts_needed s) ≤ count
+all s log count is are =
+    let test : BlockEnd → _ = λ (block : BlockEnd). nat_le log.tables.low block.last in
+    omega (arith, is, are, length-filter test log.archive.blocks, count_by-le-length test log.archive.blocks)
+
+pub returns-clause-few : goal.returns-clause-few
+returns-clause-few c =
     let log = c.args.self.now in
     let s : State = log.state.value in
-    let holds = c.requires.sound.holds in
-    let forgotten = c.requires.forgotten in
-    let low : log.tables.low ≡ hold_start s = omega (arith, holds.low, forgotten.low) in
-    let records = c.len.ensures.records log.tables.low log.tables.low (block_start s.place) (heads_of s) holds.sealed.told in
-    subst (λ (n : ℕ). c.len.result ≤ 2 * length (heads_from n (heads_of s))) low (omega (arith, c.len.ensures.value, forgotten.ends, records))
+    few s log c.len.result c.requires.forgotten c.len.ensures.value
+    (needed s log c.requires.sound.holds c.requires.forgotten
+    (c.len.ensures.sealed log.tables.low log.tables.low (block_start s.place) (heads_of s) (omega arith) c.requires.sound.holds.sealed))
+
+pub returns-clause-all : goal.returns-clause-all
+returns-clause-all c =
+    let log = c.args.self.now in
+    let s : State = log.state.value in
+    all s log c.len.result c.len.ensures.value
+    (needed s log c.requires.sound.holds c.requires.forgotten
+    (c.len.ensures.sealed log.tables.low log.tables.low (block_start s.place) (heads_of s) (omega arith) c.requires.sound.holds.sealed))

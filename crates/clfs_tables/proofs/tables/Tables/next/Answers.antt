@@ -21,4 +21,4 @@ returns-in-Above c =
     let heads = c.args.self.now.heads in
     let base = base_in c.args.self.now.streams c.args.stream in
     let known = known_head c.args.stream c.args.last heads c.in_ok-head.head c.requires.known.0 c.in_ok-head.ensures c.requires.known.1 c.requires.known.2 in
-    c.above.ensures ∙ c.in-Above.ensures base c.args.stream heads known.1 ∙ ap (λ lsn. next_head base c.args.stream c.args.mode lsn heads) known.0
+    c.above-in-Above.ensures ∙ c.in-Above.ensures base c.args.stream heads known.1 ∙ ap (λ lsn. next_head base c.args.stream c.args.mode lsn heads) known.0
