@@ -36,7 +36,7 @@ use Rattle.clfs_cells_laws.specs.Stores.{IsStore, store_area}
 use Rattle.clfs_cells_laws.proofs.Along.{IsTable, Rising, asks_of, fine_state, fine_step, quiet_survives}
 use Rattle.clfs_cells_laws.proofs.AlongCalls.{EndsAs, placed_along, store_on}
 use Rattle.clfs_cells_laws.proofs.AlongCommit.{flushed_safe}
-use Rattle.clfs_cells_laws.proofs.CheckpointTable.{checkpoint_tabled, stream_there}
+use Rattle.clfs_cells_laws.proofs.CheckpointTable.{checkpoint_lives, checkpoint_tabled, stream_there}
 use Rattle.clfs_cells_laws.proofs.FromLoading.{at_rest}
 use Rattle.clfs_cells_laws.proofs.LeftBy.{quiet_left, restart_left}
 use Rattle.clfs_cells_laws.proofs.OtherEnds.{Rebased, info_as, is_base_there, no_transactions, rebased_store, rebases, restart_entry}
@@ -87,8 +87,12 @@ module _ (laws : Laws) (rising : Rising) (s : State) (memory : Memory) (store : 
       let made = subst (Rebased s area bytes base) (sym at) (rebases s area bytes base some) in
       let above = added_above laws true s memory.client c Fine (answer s memory.client c).reply u (restart_entry s area bytes base) store.valid step made.records in
       let empty = no_transactions memory.transactions none in
-      let after = rebased_store s u memory bytes base store valid none made (λ so. checkpoint_tabled laws s u memory (restart_entry s area bytes base) base store.cells
-      empty base_is (is_base_there s memory base store some passes) store.valid valid (store.table so) above made.streams made.records refl refl refl (stream_there s memory.stream store.stream)) in
+      let there = stream_there s memory.stream store.stream in
+      let is_one = is_base_there s memory base store some passes in
+      let lives = checkpoint_lives s u memory.stream (restart_entry s area bytes base) base base_is is_one store.valid above made.streams made.records refl there in
+      let after = rebased_store s u memory bytes base store valid none made (λ e. let no : restart_entry s area bytes base ∷ [] ≡ [] = sym lives ∙ e in cc no)
+      (λ so. checkpoint_tabled laws s u memory (restart_entry s area bytes base) base store.cells
+      empty base_is is_one store.valid valid (store.table so) above made.streams made.records refl refl refl there) in
       let y : State = spend_if false area (length bytes) (put (grown s (need_of false (length bytes) [])) (restart_record s area bytes base)) in
       record {
         made = made;

@@ -172,12 +172,11 @@ none_live s u stream last (e ∷ xs) base old all = elim (cases_Bool (e.stream =
 
 -- ---- the table
 
-pub checkpoint_tabled : Laws → (s u : State) (memory : Memory) (entry : LogEntry) (base : ℕ) → length memory.cells ≡ cell_count → memory.transactions ≡ []
-    → base ≡ last_live s memory.stream + 1 → is_base s memory.stream base ≡ true → IsValid s → IsValid u → IsTabled s memory → frontier s.place ≤ entry.lsn
-    → u.streams ≡ set_base memory.stream base s.streams → u.records ≡ s.records ++ entry ∷ [] → entry.stream ≡ memory.stream → is_restart entry.kind ≡ true
-    → entry.bytes ≡ checkpoint_bytes (record { cells = memory.cells; last = memory.last }) → IsThere s memory.stream → IsTabled u memory
-checkpoint_tabled laws s u memory entry base long none base_is is_one valid valid_u keeps high streams records own restart bytes there =
-    let k : ℕ = memory.stream in
+-- the restart area alone is live
+pub checkpoint_lives : (s u : State) (stream : ℕ) (entry : LogEntry) (base : ℕ) → base ≡ last_live s stream + 1 → is_base s stream base ≡ true → IsValid s
+    → frontier s.place ≤ entry.lsn → u.streams ≡ set_base stream base s.streams → u.records ≡ s.records ++ entry ∷ [] → entry.stream ≡ stream → IsThere s stream
+    → live u stream ≡ entry ∷ []
+checkpoint_lives s u k entry base base_is is_one valid high streams records own there =
     let last : ℕ = last_live s k in
     let p : LogEntry → Bool = λ e. (e.stream == k) && is_live s e in
     let q : LogEntry → Bool = λ e. (e.stream == k) && is_live u e in
@@ -191,8 +190,15 @@ checkpoint_tabled laws s u memory entry base long none base_is is_one valid vali
     let passes : q entry ≡ true
     = rw (eq-eqb entry.stream k own) (le-leb (base_of u entry.stream) entry.lsn (let same : base_of u entry.stream ≡ last + 1 = ap (base_of u) own ∙ moved in omega (arith, same, low))) in
     let one : filter q (entry ∷ []) ≡ entry ∷ [] = rw passes refl in
-    let lives : live u k ≡ entry ∷ []
-    = ap (filter q) records ∙ filter-append q s.records (entry ∷ []) ∙ ap (λ (l : List LogEntry). l ++ filter q (entry ∷ [])) (none_live s u k last s.records moved old all) ∙ one in
+    ap (filter q) records ∙ filter-append q s.records (entry ∷ []) ∙ ap (λ (l : List LogEntry). l ++ filter q (entry ∷ [])) (none_live s u k last s.records moved old all) ∙ one
+
+pub checkpoint_tabled : Laws → (s u : State) (memory : Memory) (entry : LogEntry) (base : ℕ) → length memory.cells ≡ cell_count → memory.transactions ≡ []
+    → base ≡ last_live s memory.stream + 1 → is_base s memory.stream base ≡ true → IsValid s → IsValid u → IsTabled s memory → frontier s.place ≤ entry.lsn
+    → u.streams ≡ set_base memory.stream base s.streams → u.records ≡ s.records ++ entry ∷ [] → entry.stream ≡ memory.stream → is_restart entry.kind ≡ true
+    → entry.bytes ≡ checkpoint_bytes (record { cells = memory.cells; last = memory.last }) → IsThere s memory.stream → IsTabled u memory
+checkpoint_tabled laws s u memory entry base long none base_is is_one valid valid_u keeps high streams records own restart bytes there =
+    let k : ℕ = memory.stream in
+    let lives = checkpoint_lives s u k entry base base_is is_one valid high streams records own there in
     let newest : newest_in (live u k) ≡ Some entry = ap newest_in lives ∙ (let only : newest_in (entry ∷ []) ≡ Some entry = rw restart refl in only) in
     let c : Checkpoint = record { cells = memory.cells; last = memory.last } in
     let says : checkpoint_of entry.bytes ≡ Some c

@@ -1,5 +1,5 @@
 -- How the calls of a store end: begin, set, and the end of a transaction.
-use Rattle.std.proofs.Common.{◌≡◌, ℕ, zero, suc, ◌<◌, ◌≤◌, Bool, true, false, refl, sym, subst, ap, arith, List, [], ◌∷◌, length, Option, Some, None}
+use Rattle.std.proofs.Common.{◌≡◌, ℕ, zero, suc, ◌<◌, ◌≤◌, Bool, true, false, refl, sym, subst, ap, ◌∙◌, arith, List, [], ◌∷◌, length, Option, Some, None}
 use Rattle.std.specs.Prelude.{◌^◌, nat_le}
 use Rattle.std.specs.Option.{option_map_or}
 use Rattle.std.proofs.lemmas.Bool.{eq-eqb, ne_eqb}
@@ -15,6 +15,7 @@ use Rattle.clfs_model.specs.declared.state.State.{State}
 use Rattle.clfs_model.specs.Put.{next_lsn}
 use Rattle.clfs_model.specs.Space.{free}
 use Rattle.clfs_model.specs.Step.{Step}
+use Rattle.clfs_cells.specs.declared.asked.TxnCall.TheVariants as asked
 use Rattle.clfs_cells.specs.declared.begun.Made.{Made}
 use Rattle.clfs_cells.specs.declared.row.Action.{Action}
 use Rattle.clfs_cells.specs.declared.row.Action.TheVariants.{Set}
@@ -27,6 +28,7 @@ use Rattle.clfs_cells.specs.Calls.{Answered, answers, append_call, change_to, re
 use Rattle.clfs_cells.specs.Layout.{cell_count, txn_bytes, txn_record}
 use Rattle.clfs_cells.specs.Plans.{Plan, calls as asks, CarriesOut, on_found, on_placed}
 use Rattle.clfs_cells.specs.Stored.{Memory, Transaction, holder, is_numbered, newest_standing, standing, transaction, with_set}
+use Rattle.clfs_cells_laws.specs.Reasons.{reason_if, set_reason, table_reason}
 use Rattle.clfs_cells_laws.specs.Steps.{IsSetTo, from_outside, is_of_log}
 use Rattle.clfs_cells_laws.specs.Stores.{IsOpen, IsStore, newest_of, sectors_held}
 use Rattle.clfs_cells_laws.proofs.Changes.{others_stay, written}
@@ -40,11 +42,13 @@ use Rattle.clfs_cells_laws.proofs.Ways.{way}
 
 -- ---- how a call ends
 
-pub data Out (tabled : Bool) (allowed : Refusal → Bool) (s : State) (memory : Memory) (answered : TxnReply → Type 0) (leaves : Memory → Type 0) (result : Answered) (v : State) : Type 0 where
-  denied : (given : TxnRefusal) → is_of_log given ≡ false → result ≡ record { reply = told_replies.Refused given; memory = memory } → v ≡ s
-      → Out tabled allowed s memory answered leaves result v
-  stopped : Halted tabled allowed result v → Out tabled allowed s memory answered leaves result v
-  done : answered result.reply → leaves result.memory → IsStore tabled v result.memory → Out tabled allowed s memory answered leaves result v
+-- with the table's own reason to refuse it, if there is one
+pub data Out (tabled : Bool) (allowed : Refusal → Bool) (own : Option TxnRefusal) (s : State) (memory : Memory) (answered : TxnReply → Type 0) (leaves : Memory → Type 0)
+    (result : Answered) (v : State) : Type 0 where
+  denied : (given : TxnRefusal) → own ≡ Some given → is_of_log given ≡ false → result ≡ record { reply = told_replies.Refused given; memory = memory } → v ≡ s
+      → Out tabled allowed own s memory answered leaves result v
+  stopped : own ≡ None → Halted tabled allowed result v → Out tabled allowed own s memory answered leaves result v
+  done : own ≡ None → answered result.reply → leaves result.memory → IsStore tabled v result.memory → Out tabled allowed own s memory answered leaves result v
 
 abbrev pub Lengths : Type 0
 Lengths = (txn : ℕ) (action : Action) → length (txn_bytes (txn_record txn action)) ≡ 24
@@ -53,9 +57,10 @@ abbrev pub IsDone : TxnReply → Type 0
 IsDone reply = reply ≡ told_replies.Done
 
 -- a call that ended so
-done_as : {tabled : Bool} → (allowed : Refusal → Bool) (s u : State) (memory now : Memory) (reply : TxnReply) (answered : TxnReply → Type 0) (leaves : Memory → Type 0) (result : Answered)
-    (v : State) → answered reply → leaves now → IsStore tabled u now → (result ≡ record { reply = reply; memory = now }) × (v ≡ u) → Out tabled allowed s memory answered leaves result v
-done_as {tabled = tabled} allowed s u memory now reply answered leaves result v so left store ended = done
+done_as : {tabled : Bool} → (allowed : Refusal → Bool) (own : Option TxnRefusal) → own ≡ None → (s u : State) (memory now : Memory) (reply : TxnReply) (answered : TxnReply → Type 0) (leaves : Memory → Type 0) (result : Answered)
+    (v : State) → answered reply → leaves now → IsStore tabled u now → (result ≡ record { reply = reply; memory = now }) × (v ≡ u)
+    → Out tabled allowed own s memory answered leaves result v
+done_as {tabled = tabled} allowed own none s u memory now reply answered leaves result v so left store ended = done none
     (subst (λ (a : Answered). answered a.reply) (sym ended.0) so)
     (subst (λ (a : Answered). leaves a.memory) (sym ended.0) left)
     (subst (λ (x : State). IsStore tabled x result.memory) (sym ended.1) (subst (λ (a : Answered). IsStore tabled u a.memory) (sym ended.0) store))
@@ -111,11 +116,11 @@ undo_started {tabled = tabled} (suc more) laws lengths told s memory t rest resu
 
 -- ---- a set
 
-set_done : {tabled : Bool} → Laws → Lengths → (told : Bool) (s : State) (memory : Memory) (number cell value : ℕ) (t : Transaction) (result : Answered) (v : State) → IsStore tabled s memory
+set_done : {tabled : Bool} → (own : Option TxnRefusal) → own ≡ None → Laws → Lengths → (told : Bool) (s : State) (memory : Memory) (number cell value : ℕ) (t : Transaction) (result : Answered) (v : State) → IsStore tabled s memory
     → cell < cell_count → value < 2 ^ 64 → transaction memory number ≡ Some t → holder memory number cell ≡ None → nat_le t.changes (length t.made) ≡ false
     → CarriesOut told memory.client s (set_cell memory t (change_to memory cell value)) result v
-    → Out tabled from_outside s memory IsDone (IsSetTo cell value memory) result v
-set_done {tabled = tabled} laws lengths told s memory number cell value t result v store inside fits there free room (happened, reply, mid, (step, behind)) =
+    → Out tabled from_outside own s memory IsDone (IsSetTo cell value memory) result v
+set_done {tabled = tabled} own none laws lengths told s memory number cell value t result v store inside fits there free room (happened, reply, mid, (step, behind)) =
     by (went told s memory.client (append_call memory t (Set change) (newest_standing t) false) reply mid
     (append_passes tabled laws s memory [] store t (Set change) (newest_standing t) false is_open.newest (standing_live s memory t is_open) held (lengths t.number (Set change)))
     (way told s memory.client (append_call memory t (Set change) (newest_standing t) false) happened reply mid store.whole step))
@@ -144,41 +149,56 @@ set_done {tabled = tabled} laws lengths told s memory number cell value t result
     }
 
     by : Went told s memory.client (append_call memory t (Set (change_to memory cell value)) (newest_standing t) false) reply mid
-        → Out tabled from_outside s memory IsDone (IsSetTo cell value memory) result v
-    by (kept takes is same) = stopped (stopped_by from_outside told s mid memory rest reply result v (λ given is. is) (λ given. refl) store (left_whole is same) behind)
+        → Out tabled from_outside own s memory IsDone (IsSetTo cell value memory) result v
+    by (kept takes is same) = stopped none (stopped_by from_outside told s mid memory rest reply result v (λ given is. is) (λ given. refl) store (left_whole is same) behind)
     by (broke how given outside is same) =
-        stopped (stopped_by from_outside told s mid memory rest reply result v (λ given is. is) (λ given. refl) store (left_broken given outside is same) behind)
+        stopped none (stopped_by from_outside told s mid memory rest reply result v (λ given is. is) (λ given. refl) store (left_broken given outside is same) behind)
     by (gave comes) =
         let came_so = append_came told s memory [] t (Set (change_to memory cell value)) (newest_standing t) false reply mid store comes in
         let add = added laws told s memory [] t (Set (change_to memory cell value)) (newest_standing t) false happened reply mid store
         (lengths t.number (Set (change_to memory cell value))) step came_so.1 in
         let at : ℕ = next_lsn s (length (txn_bytes (txn_record t.number (Set (change_to memory cell value))))) in
-        done_as from_outside s mid memory (with_set t (change_to memory cell value) at memory) told_replies.Done IsDone (IsSetTo cell value memory) result v refl (leaves at)
+        done_as from_outside own none s mid memory (with_set t (change_to memory cell value) at memory) told_replies.Done IsDone (IsSetTo cell value memory) result v refl (leaves at)
         (set_store laws s mid memory [] t number cell value at false store there free room inside fits add)
         (behind_reply told memory.client mid rest reply (replies.Placed at) result v came_so.0 behind)
 
 pub set_out : {tabled : Bool} → Laws → Lengths → (told : Bool) (s : State) (memory : Memory) (number cell value : ℕ) (result : Answered) (v : State) → IsStore tabled s memory
     → cell < cell_count → value < 2 ^ 64 → CarriesOut told memory.client s (set_plan memory number cell value) result v
-    → Out tabled from_outside s memory IsDone (IsSetTo cell value memory) result v
+    → Out tabled from_outside (table_reason memory (asked.Set number cell value)) s memory IsDone (IsSetTo cell value memory) result v
 set_out {tabled = tabled} laws lengths told s memory number cell value result v store inside fits carries = of_txn (transaction memory number) refl carries
   where
+    reason_found : (t : Transaction) → transaction memory number ≡ Some t → table_reason memory (asked.Set number cell value) ≡ set_reason memory number cell t
+    reason_found t is = ap (λ (o : Option Transaction). option_map_or (set_reason memory number cell) o (Some denials.NoSuchTxn)) is
+
+    reason_held : (t : Transaction) (o : Option Transaction) → transaction memory number ≡ Some t → holder memory number cell ≡ o
+        → table_reason memory (asked.Set number cell value)
+        ≡ option_map_or (λ (other : Transaction). Some (denials.CellHeld other.number)) o (reason_if (nat_le t.changes (length t.made)) (denials.ChangesSpent t.changes) None)
+    reason_held t o there is = reason_found t there
+        ∙ ap (λ (x : Option Transaction). option_map_or (λ (other : Transaction). Some (denials.CellHeld other.number)) x
+        (reason_if (nat_le t.changes (length t.made)) (denials.ChangesSpent t.changes) None)) is
+
+    reason_spent : (t : Transaction) (spent : Bool) → transaction memory number ≡ Some t → holder memory number cell ≡ None → nat_le t.changes (length t.made) ≡ spent
+        → table_reason memory (asked.Set number cell value) ≡ reason_if spent (denials.ChangesSpent t.changes) None
+    reason_spent t spent there free is = reason_held t None there free ∙ ap (λ (b : Bool). reason_if b (denials.ChangesSpent t.changes) None) is
+
     room : (t : Transaction) → transaction memory number ≡ Some t → holder memory number cell ≡ None → (spent : Bool) → nat_le t.changes (length t.made) ≡ spent
         → CarriesOut told memory.client s (unless spent (denials.ChangesSpent t.changes) memory (set_cell memory t (change_to memory cell value))) result v
-        → Out tabled from_outside s memory IsDone (IsSetTo cell value memory) result v
-    room t there free true is ended = denied (denials.ChangesSpent t.changes) refl ended.0 ended.1
-    room t there free false is carried = set_done laws lengths told s memory number cell value t result v store inside fits there free is carried
+        → Out tabled from_outside (table_reason memory (asked.Set number cell value)) s memory IsDone (IsSetTo cell value memory) result v
+    room t there free true is ended = denied (denials.ChangesSpent t.changes) (reason_spent t true there free is) refl ended.0 ended.1
+    room t there free false is carried = set_done _ (reason_spent t false there free is) laws lengths told s memory number cell value t result v store inside fits there free is carried
 
     of_holder : (t : Transaction) → transaction memory number ≡ Some t → (other : Option Transaction) → holder memory number cell ≡ other
         → CarriesOut told memory.client s (option_map_or (λ (x : Transaction). refuses memory (denials.CellHeld x.number)) other
         (unless (nat_le t.changes (length t.made)) (denials.ChangesSpent t.changes) memory (set_cell memory t (change_to memory cell value)))) result v
-        → Out tabled from_outside s memory IsDone (IsSetTo cell value memory) result v
-    of_holder t there (Some other) is ended = denied (denials.CellHeld other.number) refl ended.0 ended.1
+        → Out tabled from_outside (table_reason memory (asked.Set number cell value)) s memory IsDone (IsSetTo cell value memory) result v
+    of_holder t there (Some other) is ended = denied (denials.CellHeld other.number) (reason_held t (Some other) there is) refl ended.0 ended.1
     of_holder t there None is carried = room t there is (nat_le t.changes (length t.made)) refl carried
 
     of_txn : (found : Option Transaction) → transaction memory number ≡ found
         → CarriesOut told memory.client s (option_map_or (λ (t : Transaction). option_map_or (λ (x : Transaction). refuses memory (denials.CellHeld x.number)) (holder memory number cell)
         (unless (nat_le t.changes (length t.made)) (denials.ChangesSpent t.changes) memory (set_cell memory t (change_to memory cell value)))) found
         (refuses memory denials.NoSuchTxn)) result v
-        → Out tabled from_outside s memory IsDone (IsSetTo cell value memory) result v
-    of_txn None is ended = denied denials.NoSuchTxn refl ended.0 ended.1
+        → Out tabled from_outside (table_reason memory (asked.Set number cell value)) s memory IsDone (IsSetTo cell value memory) result v
+    of_txn None is ended =
+        denied denials.NoSuchTxn (ap (λ (o : Option Transaction). option_map_or (set_reason memory number cell) o (Some denials.NoSuchTxn)) is) refl ended.0 ended.1
     of_txn (Some t) is carried = of_holder t is (holder memory number cell) refl carried

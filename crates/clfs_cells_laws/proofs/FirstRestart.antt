@@ -1,8 +1,8 @@
 -- A table's first restart area: what writing it leaves of the log.
-use Rattle.std.proofs.Common.{◌≡◌, ℕ, Bool, true, false, refl, ap, ◌∙◌, inl, inr, arith, List, [], ◌∷◌, ◌++◌, length, Option, Some}
-use Rattle.std.specs.Prelude.{◌&&◌, ◌==◌, filter, nat_lt}
+use Rattle.std.proofs.Common.{◌≡◌, ℕ, ◌≤◌, Bool, true, false, refl, sym, ap, ◌∙◌, inl, inr, arith, List, [], ◌∷◌, ◌++◌, length, Option, Some}
+use Rattle.std.specs.Prelude.{◌≢◌, ◌&&◌, ◌==◌, filter, nat_lt}
 use Rattle.std.specs.Option.{option_map_or}
-use Rattle.std.proofs.lemmas.Bool.{cases_Bool, le-ltb}
+use Rattle.std.proofs.lemmas.Bool.{cases_Bool, eq-eqb, le-leb, le-ltb}
 use Rattle.std.proofs.lemmas.List.Elements.{filter-append}
 use Rattle.clfs_lsn.specs.Lsn.{null_lsn}
 use Rattle.clfs_lsn.specs.Place.{joins, begins_here}
@@ -16,7 +16,7 @@ use Rattle.clfs_model.specs.Live.{is_live, live}
 use Rattle.clfs_model.specs.Put.{made_ready, need_of, next_lsn, put}
 use Rattle.clfs_model.specs.Refusals.{stream_number}
 use Rattle.clfs_model.specs.Space.{grown, grown_if}
-use Rattle.clfs_model.specs.State.{log_of}
+use Rattle.clfs_model.specs.State.{base_of, log_of}
 use Rattle.clfs_cells.specs.declared.row.TxnRecord.{TxnRecord}
 use Rattle.clfs_cells.specs.Layout.{blank_cells, blank_checkpoint, checkpoint_bytes}
 use Rattle.clfs_cells.specs.Table.{records_after, table, table_in, table_name}
@@ -147,3 +147,23 @@ no_rows s t area stream none made =
       | inl is ↦ rw is nothing
       | inr other ↦ rw other refl
     ]
+
+no_end : (xs : List LogEntry) (x : LogEntry) → xs ++ x ∷ [] ≡ [] → ⊥
+no_end [] x none = cc none
+no_end (y ∷ xs) x none = cc none
+
+-- the restart area is live, since its stream's base isn't above it
+pub first_lives : (s t : State) (area : Area) → base_of s area.stream ≤ next_lsn (grown s (need_of false 260 [])) 260
+    → Restarted s area (checkpoint_bytes blank_checkpoint) t → live t area.stream ≢ []
+unfolding over
+first_lives s t area low made none =
+    let entry : LogEntry = put_record s area (checkpoint_bytes blank_checkpoint) in
+    let u : State = record s { records = s.records ++ entry ∷ [] } in
+    let p : LogEntry → Bool = λ e. (e.stream == area.stream) && is_live s e in
+    let passes : p entry ≡ true = rw (eq-eqb area.stream area.stream refl) (le-leb (base_of s area.stream) (next_lsn (grown s (need_of false 260 [])) 260) low) in
+    let one : filter p (entry ∷ []) ≡ entry ∷ [] = rw passes refl in
+    let lives : live t area.stream ≡ filter p s.records ++ entry ∷ []
+    = ap (λ (records : List LogEntry). live (over t.streams records) area.stream) made.records
+    ∙ ap (λ (streams : List Stream). live (over streams u.records) area.stream) made.streams
+    ∙ filter-append p s.records (entry ∷ []) ∙ ap (λ (l : List LogEntry). filter p s.records ++ l) one in
+    no_end (filter p s.records) entry (sym lives ∙ none)

@@ -54,6 +54,7 @@ loaded_store tabled told log client memory t is valid table = record {
   valid = valid;
   whole = is.whole;
   stream = is.stream;
+  some = is.some;
   area = ap (λ (n : ℕ). area_of t n memory.area) is.by ∙ is.area
       ∙ ap (λ (n : ℕ). Some (record (store_area memory []) { client = n; held = 0 })) (sym is.by)
       ∙ ap (λ (l : List Transaction). Some (record (store_area memory []) { held = sectors_held l })) (sym is.none);

@@ -1,5 +1,5 @@
 -- What loading stands on once the client has its area, and what it comes to.
-use Rattle.std.proofs.Common.{◌≡◌, ℕ, ◌<◌, Bool, true, false, refl, sym, subst, ap, ◌∙◌, inl, inr, List, [], Option, Some, None, Ok, Err}
+use Rattle.std.proofs.Common.{◌≡◌, ℕ, ◌<◌, ◌≤◌, Bool, true, false, refl, sym, subst, ap, ◌∙◌, inl, inr, List, [], Option, Some, None, Ok, Err}
 use Rattle.std.specs.Prelude.{◌==◌, if◌then◌else◌, find, filter, is_none, reverse, slice_get}
 use Rattle.std.specs.List.{AllByRecursion, filter_map, last_or}
 use Rattle.std.specs.Option.{option_map, option_map_or, option_and_then}
@@ -19,7 +19,9 @@ use Rattle.clfs_model.specs.Answers.{answer}
 use Rattle.clfs_model.specs.Flush.{flushed}
 use Rattle.clfs_model.specs.Live.{live, lsn_or_null}
 use Rattle.clfs_model.specs.Refusals.{refusal, stream_number}
-use Rattle.clfs_model.specs.State.{areas_of, stream_at}
+use Rattle.clfs_model.specs.Put.{need_of, next_lsn}
+use Rattle.clfs_model.specs.Space.{grown}
+use Rattle.clfs_model.specs.State.{areas_of, base_of, stream_at}
 use Rattle.clfs_model.specs.Step.{Comes, IsDamaged, with_broken}
 use Rattle.clfs_cells.specs.declared.checkpoint.Checkpoint.{Checkpoint}
 use Rattle.clfs_cells.specs.declared.row.TxnRecord.{TxnRecord}
@@ -101,6 +103,8 @@ pub record Ground : Type 0 where
   pub table_same : (t : State) → t.records ≡ base.records → t.streams ≡ base.streams → table t ≡ table log
   pub last_is : last_of log ≡ last_in (live base stream)
   pub first_area : table_area log client ≡ own_area client number stream []
+  pub first_high : refusal (with_own base (own_area client number stream [])) client (first_restart number) ≡ None
+      → base_of base stream ≤ next_lsn (grown (with_own base (own_area client number stream [])) (need_of false 260 [])) 260
   pub refusal_is : load_refusal log client ≡ (if lsn_or_null (last_or None (live base stream)) == null_lsn
       then option_map Log (refusal (with_own base (own_area client number stream [])) client (first_restart number))
       else option_map NotATable (no_table_in (live base stream)))

@@ -1,9 +1,9 @@
 -- What a log has that has got more records: its old ones, live as before.
-use Rattle.std.proofs.Common.{◌≡◌, ℕ, ◌<◌, ◌≤◌, Bool, true, sym, subst, ap, ◌∙◌, inl, inr, List, [], ◌∷◌, ◌++◌, Option, Some}
-use Rattle.std.specs.Prelude.{◌&&◌, ◌==◌, find, filter}
+use Rattle.std.proofs.Common.{◌≡◌, ℕ, ◌<◌, ◌≤◌, Bool, true, refl, sym, subst, ap, ◌∙◌, inl, inr, List, [], ◌∷◌, ◌++◌, Option, Some}
+use Rattle.std.specs.Prelude.{◌≢◌, ◌&&◌, ◌==◌, find, filter}
 use Rattle.std.specs.Option.{option_map_or, option_or}
 use Rattle.std.proofs.lemmas.Bool.{cases_Bool, eqb-true, eq-eqb, le-leb}
-use Rattle.std.proofs.lemmas.List.Elements.{recursion_from_All}
+use Rattle.std.proofs.lemmas.List.Elements.{filter-append, recursion_from_All}
 use Rattle.std.proofs.lemmas.List.Folds.{find-append}
 use Rattle.clfs_lsn.specs.Lsn.{null_lsn}
 use Rattle.clfs_lsn.specs.Place.{frontier}
@@ -11,8 +11,8 @@ use Rattle.clfs_lsn.specs.Streams.{stream_in}
 use Rattle.clfs_lsn.specs.declared.entry.LogEntry.{LogEntry}
 use Rattle.clfs_lsn.specs.declared.stream.Stream.{Stream}
 use Rattle.clfs_model.specs.declared.state.State.{State}
-use Rattle.clfs_model.specs.Live.{is_live, live_at}
-use Rattle.clfs_model.specs.State.{base_of}
+use Rattle.clfs_model.specs.Live.{is_live, live, live_at}
+use Rattle.clfs_model.specs.State.{base_of, log_of}
 use Rattle.clfs_model.specs.Valid.{IsRecord, IsValid}
 use Rattle.clfs_cells.specs.declared.begun.Made.{Made}
 use Rattle.clfs_cells_laws.specs.Stores.{IsInLog, IsLiveRecord}
@@ -82,3 +82,21 @@ live_named s stream lsn valid is =
     let one : IsRecord s is.entry
     = first_has (IsRecord s) (λ (e : LogEntry). e.lsn == lsn) s.records is.entry is.there (recursion_from_All (IsRecord s) s.records valid.records.records) in
     subst (λ (n : ℕ). 0 < n) at one.named
+
+-- ---- some record is live
+
+over : List Stream → List LogEntry → State
+over streams records = record (log_of 1 16 4 4) { streams = streams; records = records }
+
+none_before : (xs ys : List LogEntry) → xs ++ ys ≡ [] → xs ≡ []
+none_before [] ys none = refl
+none_before (x ∷ xs) ys none = absurd (cc none)
+
+pub still_some : (s t : State) (stream : ℕ) → Grows s t → live s stream ≢ [] → live t stream ≢ []
+unfolding over
+still_some s t stream grows some none =
+    let p : LogEntry → Bool = λ e. (e.stream == stream) && is_live s e in
+    let lives : live t stream ≡ live s stream ++ filter p grows.more
+    = ap (λ (l : List Stream). live (over l t.records) stream) grows.streams ∙ ap (λ (l : List LogEntry). live (over s.streams l) stream) grows.records
+    ∙ filter-append p s.records grows.more in
+    some (none_before (live s stream) (filter p grows.more) (sym lives ∙ none))

@@ -30,6 +30,7 @@ mod CheckpointTable
 mod OtherEnds
 mod Told
 mod FromLoading
+mod Reasons
 mod Rows
 mod Tabled
 mod TableEnds

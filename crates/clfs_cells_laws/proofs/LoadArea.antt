@@ -39,7 +39,7 @@ use Rattle.clfs_cells.specs.Loading.{Loaded, gives_up, load_above, load_area, lo
 use Rattle.clfs_cells.specs.Plans.{Plan, calls as asks, ends, CarriesOut, on_found, on_info, on_placed}
 use Rattle.clfs_cells_laws.specs.Loads.{IsLoadCause}
 use Rattle.clfs_cells_laws.proofs.Above.{above}
-use Rattle.clfs_cells_laws.proofs.FirstRestart.{Restarted, no_rows, restarts, zeros}
+use Rattle.clfs_cells_laws.proofs.FirstRestart.{Restarted, first_lives, no_rows, restarts, zeros}
 use Rattle.clfs_cells_laws.proofs.Ground.{Ground, End, Met, at, cells_in, denied, done, end_by, gave, given_up, last_in, met, newest_in, no_table_in, own_area, spelled, strange, stranger_in}
 use Rattle.clfs_cells_laws.proofs.Newest.{IsThere, each_there, last_has, lsn_found, newest_has, none_last, none_of, some_of}
 use Rattle.clfs_cells_laws.proofs.OwnArea.{change_own}
@@ -220,6 +220,7 @@ begun g mid empty null passes made =
     record {
       by = refl;
       stream = ap (λ (l : List Stream). stream_number (record g.base { streams = l }) table_name) made.streams ∙ g.numbered;
+      some = first_lives (at g []) mid (own_area g.client g.number g.stream []) (g.first_high passes) made;
       area = ap (λ (l : List Area). area_of (record g.base { areas = l }) g.client g.number) made.areas
           ∙ there g [] ∙ ap (λ (a : Area). Some (record a { number = g.number; stream = g.stream })) (sym g.first_area);
       none = refl;

@@ -1,5 +1,5 @@
 -- What loading comes to.
-use Rattle.std.proofs.Common.{◌≡◌, ℕ, ◌<◌, Bool, true, false, refl, sym, subst, ap, ◌∙◌, inl, inr, arith, List, [], ◌∷◌, length, Option, Some, None, Ok, Err}
+use Rattle.std.proofs.Common.{◌≡◌, ℕ, ◌<◌, ◌≤◌, Bool, true, false, refl, sym, subst, ap, ◌∙◌, inl, inr, arith, List, [], ◌∷◌, length, Option, Some, None, Ok, Err}
 use Rattle.std.specs.Prelude.{◌==◌, ◌&&◌, filter, find, if◌then◌else◌, is_none, nat_lt}
 use Rattle.std.specs.List.{AllByRecursion, last_or}
 use Rattle.std.specs.Option.{option_map, option_map_or}
@@ -9,33 +9,40 @@ use Rattle.clfs_lsn.specs.Lsn.{null_lsn}
 use Rattle.clfs_lsn.specs.Size.{IsShape, longest}
 use Rattle.clfs_lsn.specs.declared.entry.LogEntry.{LogEntry}
 use Rattle.clfs_lsn.specs.declared.shape.Shape.{Shape}
+use Rattle.clfs_model.specs.declared.call.Call.{Call}
 use Rattle.clfs_model.specs.declared.call.Call.TheVariants as calls
 use Rattle.clfs_model.specs.declared.refusal.Refusal.{Refusal}
 use Rattle.clfs_model.specs.declared.refusal.Refusal.TheVariants as refusals
+use Rattle.clfs_model.specs.declared.reply.Happened.TheVariants.{Fine}
 use Rattle.clfs_model.specs.declared.reply.Reply.{Reply}
 use Rattle.clfs_model.specs.declared.reply.Reply.TheVariants as replies
 use Rattle.clfs_model.specs.declared.state.Area.{Area}
 use Rattle.clfs_model.specs.declared.state.State.{State}
-use Rattle.clfs_model.specs.Answers.{Outcome, unused_area}
+use Rattle.clfs_model.specs.Answers.{Outcome, answer, outcome, restarted, unused_area}
 use Rattle.clfs_model.specs.Flush.{flushed}
 use Rattle.clfs_model.specs.Live.{is_live, live, lsn_or_null}
 use Rattle.clfs_model.specs.Refusals.{open_refusal, refusal, refused_if}
-use Rattle.clfs_model.specs.State.{areas_of, stream_at}
+use Rattle.clfs_model.specs.Put.{need_of, next_lsn}
+use Rattle.clfs_model.specs.Space.{grown}
+use Rattle.clfs_model.specs.State.{areas_of, base_of, stream_at}
 use Rattle.clfs_model.specs.Step.{IsReply, with_broken}
 use Rattle.clfs_model.specs.Valid.{IsRecord, IsValid}
 use Rattle.clfs_cells.specs.declared.told.TxnLoadRefusal.{TxnLoadRefusal}
 use Rattle.clfs_cells.specs.declared.told.TxnLoadRefusal.TheVariants.{Log, NotATable}
-use Rattle.clfs_cells.specs.Layout.{blank_cells}
+use Rattle.clfs_cells.specs.Layout.{blank_cells, blank_checkpoint, checkpoint_bytes}
 use Rattle.clfs_cells.specs.Loaded.{first_restart, load_refusal, table_area, table_stream, with_stream, with_table_area}
 use Rattle.clfs_cells.specs.Loading.{Loaded, LoadStep, load_area}
 use Rattle.clfs_cells.specs.Plans.{Plan, calls as asks, ends, CarriesOut, on_area, on_stream}
 use Rattle.clfs_cells.specs.Table.{table, table_name, table_in}
 use Rattle.clfs_cells_laws.specs.Loads.{IsLoaded, IsNotLoaded}
 use Rattle.clfs_cells_laws.proofs.Above.{Rises, filter_rises, kept, rises}
-use Rattle.clfs_cells_laws.proofs.FirstRestart.{table_by}
-use Rattle.clfs_cells_laws.proofs.Ground.{Ground, at, cells_in, last_in, no_table_in}
+use Rattle.clfs_cells_laws.proofs.Along.{fine_step}
+use Rattle.clfs_cells_laws.proofs.FirstRestart.{Restarted, put_record, restarts, table_by}
+use Rattle.clfs_cells_laws.proofs.Ground.{Ground, at, cells_in, last_in, no_table_in, own_area}
 use Rattle.clfs_cells_laws.proofs.LoadArea.{cause_from, loads_area}
 use Rattle.clfs_cells_laws.proofs.Opening.{Opens, opens, stream_is_there}
+use Rattle.clfs_cells_laws.proofs.OwnArea.{find_own, with_own}
+use Rattle.clfs_cells_laws.proofs.OwnCalls.{Laws, added_above, base_within, flushed_within}
 use Rattle.clfs_cells_laws.proofs.Ways.{Way, broken_way, called, came, lacked, refused, faulted, damaged, by_reply}
 
 -- what loading comes to
@@ -47,7 +54,7 @@ by : (told : Bool) (log : State) (client : ℕ) (r s : Loaded) (t u : State) →
 by told log client r s t u p q is =
     subst (λ (x : Loaded). Comes_to told log client x t) (sym p) (subst (λ (x : State). Comes_to told log client s x) (sym q) is)
 
-above_null : (log : State) (p : LogEntry → Bool) (records : List LogEntry) → AllByRecursion (IsRecord log) records
+pub above_null : (log : State) (p : LogEntry → Bool) (records : List LogEntry) → AllByRecursion (IsRecord log) records
     → AllByRecursion (λ (e : LogEntry). 0 < e.lsn) (filter p records)
 above_null log p records all = kept (λ (e : LogEntry). 0 < e.lsn) p records (each records all)
   where
@@ -81,10 +88,30 @@ refusal_of log client whole passes o =
     ∙ ap (λ (x : Option Refusal). option_map_or (λ (given : Refusal). Some (Log given)) x (by_records log client (live log (table_stream log)))) passes
     ∙ ap (by_records log client) (sym o.same_live)
 
+-- the first restart area isn't below its stream's base
+first_is_high : Laws → (base : State) (client number stream : ℕ) → IsValid (with_own base (own_area client number stream [])) → base.broken ≡ false → areas_of base client ≡ []
+    → refusal (with_own base (own_area client number stream [])) client (first_restart number) ≡ None
+    → base_of base stream ≤ next_lsn (grown (with_own base (own_area client number stream [])) (need_of false 260 [])) 260
+first_is_high laws base client number stream valid whole none free =
+    let area : Area = own_area client number stream [] in
+    let l : State = with_own base area in
+    let bytes : List ℕ = checkpoint_bytes blank_checkpoint in
+    let c : Call = first_restart number in
+    let u : State = (answer l client c).state in
+    let at : u ≡ restarted l area bytes null_lsn false
+    = ap (λ (o : Option Area). (option_map_or (λ (a : Area). outcome (replies.Placed (next_lsn l 260)) (restarted l a (checkpoint_bytes blank_checkpoint) null_lsn false)) o
+    (outcome (replies.Refused refusals.NoSuchArea) l)).state) (find_own base area none) in
+    let made = subst (Restarted l area bytes) (sym at) (restarts l area bytes) in
+    let above = added_above laws true l client c Fine (answer l client c).reply u (put_record l area bytes) valid (fine_step l client c whole free) made.records in
+    let low = base_within l stream valid in
+    let high = flushed_within l valid in
+    omega (arith, low, high, above)
+
 -- what loading stands on once the client has its area
-ground : (told : Bool) (log : State) (client : ℕ) → IsValid log → log.broken ≡ false → areas_of log client ≡ [] → open_refusal log table_name ≡ None → Opens log
-    → is_none (stream_at (with_stream log) (table_stream log)) ≡ false → Ground
-ground told log client valid whole none passes o there =
+ground : Laws → (told : Bool) (log : State) (client : ℕ) → IsValid log → log.broken ≡ false → areas_of log client ≡ [] → open_refusal log table_name ≡ None → Opens log
+    → is_none (stream_at (with_stream log) (table_stream log)) ≡ false
+    → IsValid (with_own (with_stream log) (own_area client (unused_area (with_stream log) client) (table_stream log) [])) → Ground
+ground laws told log client valid whole none passes o there valid_at =
     let base : State = with_stream log in
     let stream : ℕ = table_stream log in
     let all = recursion_from_All (IsRecord log) log.records valid.records.records in
@@ -108,6 +135,8 @@ ground told log client valid whole none passes o there =
       table_same = λ t records streams. table_by t base records streams ∙ table_of_base log o;
       last_is = ap last_in (sym o.same_live);
       first_area = refl;
+      first_high = λ free. first_is_high laws base client (unused_area base client) stream valid_at (o.broken ∙ whole)
+          (ap (filter (λ (area : Area). area.client == client)) o.areas ∙ none) free;
       refusal_is = refusal_of log client whole passes o;
     }
 
@@ -144,13 +173,13 @@ passes_there : (b : Bool) → refused_if b refusals.NoSuchStream None ≡ None �
 passes_there true e = absurd (cc e)
 passes_there false e = refl
 
-behind_area : (told : Bool) (log : State) (client : ℕ) (r : Loaded) (t : State) (most : ℕ) → IsValid log → log.broken ≡ false → areas_of log client ≡ []
-    → open_refusal log table_name ≡ None → Opens log
+behind_area : Laws → (told : Bool) (log : State) (client : ℕ) (r : Loaded) (t : State) (most : ℕ) → IsValid log → log.broken ≡ false → areas_of log client ≡ []
+    → open_refusal log table_name ≡ None → Opens log → IsValid (with_stream log)
     → CarriesOut told client (with_stream log) (asks (calls.CreateArea (table_stream log) 260 2)
     (on_area (λ given. ends (Err (Log given))) (λ area. load_area most client area (table_stream log)))) r t
     → Comes_to told log client r t
 unfolding ground
-behind_area told log client r t most valid whole none passes o carries =
+behind_area laws told log client r t most valid whole none passes o valid_base carries =
     let base : State = with_stream log in
     let c = called told client base (calls.CreateArea (table_stream log) 260 2) rest r t (o.broken ∙ whole) carries in
     went c.reply c.mid c.went c.behind
@@ -169,7 +198,10 @@ behind_area told log client r t most valid whole none passes o carries =
         (record { caused = whole; left = inr (ap (filter (λ (area : Area). area.client == client)) o.areas ∙ none); table = table_of_base log o })
     went reply mid (came passed comes) behind =
         let there = passes_there _ (sym (create_is log client valid none o) ∙ passed) in
-        let g : Ground = ground told log client valid whole none passes o there in
+        let c : Call = calls.CreateArea (table_stream log) 260 2 in
+        let b : State = with_stream log in
+        let valid_at = laws.keeps true b client c Fine (answer b client c).reply (answer b client c).state valid_base (fine_step b client c (o.broken ∙ whole) passed) in
+        let g : Ground = ground laws told log client valid whole none passes o there valid_at in
         loads_area most g r t
         (by_reply told client mid rest reply (replies.Area (unused_area (with_stream log) client)) mid (at g []) r t
         (area_as told (flushed (with_stream log)) (unused_area (with_stream log) client) reply comes.0) comes.1 behind)
@@ -191,10 +223,10 @@ name_refusal log client first whole is =
     ∙ ap (λ (x : Option Refusal). option_map_or (λ (given : Refusal). Some (Log given)) x (by_records log client (live log (table_stream log)))) is
 
 -- what loading from a valid log comes to, for a client that has no area
-pub loads : (told : Bool) (log : State) (client : ℕ) (r : Loaded) (t : State) → IsValid log → areas_of log client ≡ [] → LoadStep told log client r t
+pub loads : Laws → (told : Bool) (log : State) (client : ℕ) (r : Loaded) (t : State) → IsValid log → areas_of log client ≡ [] → LoadStep told log client r t
     → Comes_to told log client r t
 unfolding LoadStep
-loads told log client r t valid none carries = elim (cases_Bool log.broken) [
+loads laws told log client r t valid none carries = elim (cases_Bool log.broken) [
   | inl broken ↦ if_broken broken carries
   | inr whole ↦
       let c = called told client log (calls.OpenStream table_name) rest r t whole carries in
@@ -220,7 +252,9 @@ loads told log client r t valid none carries = elim (cases_Bool log.broken) [
     if_whole whole reply mid (came passes comes) behind =
         let o = opens log valid in
         let told_so = subst (λ (x : Outcome). IsReply told (flushed log) x.reply reply × (mid ≡ x.state)) o.answered comes in
-        behind_area told log client r t (length log.records) valid whole none passes o
+        let c : Call = calls.OpenStream table_name in
+        let valid_base = laws.keeps true log client c Fine (answer log client c).reply (answer log client c).state valid (fine_step log client c whole passes) in
+        behind_area laws told log client r t (length log.records) valid whole none passes o valid_base
         (by_reply told client mid rest reply (replies.Stream (table_stream log)) mid (with_stream log) r t
         (stream_as told (flushed log) (table_stream log) reply told_so.0) told_so.1 behind)
     if_whole whole reply mid (refused first is said same) behind =

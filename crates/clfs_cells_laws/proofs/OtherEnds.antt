@@ -1,6 +1,6 @@
 -- How a transaction begins, and how a checkpoint is written: what is left of the store.
 use Rattle.std.proofs.Common.{◌≡◌, ℕ, zero, suc, ◌+◌, ◌-◌, ◌*◌, ◌<◌, Bool, true, false, refl, sym, subst, ap, ◌∙◌, inl, inr, arith, List, [], ◌∷◌, ◌++◌, length, Option, Some, None}
-use Rattle.std.specs.Prelude.{if◌then◌else◌, ◌^◌, not, ◌==◌, find, nat_le, nat_lt, replicate}
+use Rattle.std.specs.Prelude.{◌≢◌, if◌then◌else◌, ◌^◌, not, ◌==◌, find, nat_le, nat_lt, replicate}
 use Rattle.std.specs.List.{AllByRecursion}
 use Rattle.std.specs.Option.{option_map_or}
 use Rattle.std.specs.Str.{bytes_eq}
@@ -24,13 +24,15 @@ use Rattle.clfs_model.specs.declared.state.Area.{Area}
 use Rattle.clfs_model.specs.declared.state.State.{State}
 use Rattle.clfs_model.specs.Answers.{Outcome, answer, info_of, outcome, reserved_for, restart_record, restarted}
 use Rattle.clfs_model.specs.Flush.{flush, flushed}
-use Rattle.clfs_model.specs.Live.{last_live}
+use Rattle.clfs_model.specs.Live.{last_live, live}
 use Rattle.clfs_model.specs.Put.{hold_sizes, need_of, next_lsn, put, with_more_held}
 use Rattle.clfs_model.specs.Refusals.{full, is_base, refusal, refused_if, restart_refusal, too_long}
 use Rattle.clfs_model.specs.Space.{free, grown, has_room, own_sum, reserved}
 use Rattle.clfs_model.specs.State.{base_of, change_area, change_first, is_area}
 use Rattle.clfs_model.specs.Step.{Step, Comes, IsReply}
 use Rattle.clfs_model.specs.Valid.{IsValid}
+use Rattle.clfs_cells.specs.declared.asked.TxnCall.TheVariants as asked
+use Rattle.clfs_cells.specs.declared.told.TxnRefusal.{TxnRefusal}
 use Rattle.clfs_cells.specs.declared.told.TxnRefusal.TheVariants as denials
 use Rattle.clfs_cells.specs.declared.told.TxnReply.{TxnReply}
 use Rattle.clfs_cells.specs.declared.told.TxnReply.TheVariants as told_replies
@@ -38,11 +40,12 @@ use Rattle.clfs_cells.specs.Calls.{Answered, answers, begin_plan, checkpoint_pla
 use Rattle.clfs_cells.specs.Layout.{checkpoint_bytes}
 use Rattle.clfs_cells.specs.Plans.{Plan, calls as asks, CarriesOut, on_held, on_info, on_placed}
 use Rattle.clfs_cells.specs.Stored.{Memory, Transaction, most_records, with_begun}
+use Rattle.clfs_cells_laws.specs.Reasons.{begin_reason, reason_if, table_reason}
 use Rattle.clfs_cells_laws.specs.Steps.{for_room_or_outside, from_outside}
 use Rattle.clfs_cells_laws.specs.Stores.{AllApart, AreApart, IsOpen, IsStore, records_left, sectors_held, store_area}
 use Rattle.clfs_cells_laws.proofs.Ends.{IsDone, Out, denied, done, stopped, stopped_by}
 use Rattle.clfs_cells_laws.proofs.FirstRestart.{keeps_flush, keeps_grown, keeps_ready}
-use Rattle.clfs_cells_laws.proofs.Grown.{Grows}
+use Rattle.clfs_cells_laws.proofs.Grown.{Grows, still_some}
 use Rattle.clfs_cells_laws.proofs.OneOf.{all_join, apart_join, sectors_parts}
 use Rattle.clfs_cells_laws.proofs.Opening.{stream_is_there}
 use Rattle.clfs_cells_laws.proofs.OwnCalls.{added_above, Laws, area_after, damage_of}
@@ -51,7 +54,7 @@ use Rattle.clfs_cells_laws.proofs.StoreCalls.{open_on, stream_same}
 use Rattle.clfs_cells.specs.Table.{first_cells, records_after, table_name}
 use Rattle.clfs_cells_laws.proofs.Tabled.{begun_keeps}
 use Rattle.clfs_cells_laws.proofs.TabledRows.{keeps_as}
-use Rattle.clfs_cells_laws.proofs.CheckpointTable.{checkpoint_tabled, stream_there}
+use Rattle.clfs_cells_laws.proofs.CheckpointTable.{checkpoint_lives, checkpoint_tabled, stream_there}
 use Rattle.clfs_cells_laws.proofs.TableLog.{reads_as}
 use Rattle.clfs_cells_laws.specs.Tables.{IsTabled}
 use Rattle.clfs_cells_laws.proofs.Undoes.{behind_reply, halted_store, same_log}
@@ -65,7 +68,7 @@ wider _ is = is
 
 -- ---- a transaction begins
 
-abbrev sizes_of : ℕ → List ℕ
+abbrev pub sizes_of : ℕ → List ℕ
 sizes_of changes = replicate (most_records changes) 24
 
 none_long : (n : ℕ) → find (λ len. nat_lt 260 len) (replicate n 24) ≡ None
@@ -75,10 +78,10 @@ none_long (suc n) = none_long n
 sizes_are : (changes : ℕ) → sizes_of changes ≡ 24 ∷ replicate (2 * changes) 24
 sizes_are changes = let more : most_records changes ≡ suc (2 * changes) = omega arith in ap (λ (n : ℕ). replicate n 24) more
 
-sectors_are : (changes : ℕ) → own_sum (sizes_of changes) ≡ most_records changes
+pub sectors_are : (changes : ℕ) → own_sum (sizes_of changes) ≡ most_records changes
 sectors_are changes = let sum = sum_by-replicate own (most_records changes) 24 in omega (arith, sum)
 
-reserve_refusal : {tabled : Bool} → (s : State) (memory : Memory) (changes : ℕ) → IsStore tabled s memory
+pub reserve_refusal : {tabled : Bool} → (s : State) (memory : Memory) (changes : ℕ) → IsStore tabled s memory
     → refusal s memory.client (calls.Reserve memory.area (sizes_of changes))
     ≡ refused_if (nat_lt s.containers 2) (refusals.NotEnoughContainers s.containers)
     (refused_if (not (has_room s (own_sum (sizes_of changes)))) (refusals.Full (free (grown s (own_sum (sizes_of changes)))) (reserved (grown s (own_sum (sizes_of changes)))) (own_sum (sizes_of changes))) None)
@@ -94,7 +97,7 @@ for_room true full_up have of_free of_reserved need first is = let same : refusa
 for_room false true have of_free of_reserved need first is = let same : refusals.Full of_free of_reserved need ≡ first = cc is in ap for_room_or_outside (sym same)
 for_room false false have of_free of_reserved need first is = absurd (cc is)
 
-held_as : (told : Bool) (stable held : ℕ) (reply : Reply) → IsReply told stable (replies.Held held) reply → reply ≡ replies.Held held
+pub held_as : (told : Bool) (stable held : ℕ) (reply : Reply) → IsReply told stable (replies.Held held) reply → reply ≡ replies.Held held
 held_as true stable held reply is = is
 held_as false stable held reply is = is
 
@@ -128,6 +131,7 @@ begun_store {tabled = tabled} s u memory changes store valid unspent is =
       valid = valid;
       whole = ap (λ (y : State). y.broken) same ∙ grew.broken ∙ store.whole;
       stream = stream_same s u streams ∙ store.stream;
+      some = still_some s u memory.stream grows store.some;
       area = area_after s u memory.client memory.area (store_area memory []) (with_more_held need) (record { client = λ a. refl; number = λ a. refl }) store.area areas
           ∙ ap (λ (n : ℕ). Some (record (store_area memory []) { held = n })) sum;
       cells = store.cells;
@@ -163,11 +167,11 @@ IsBegunAs memory reply = reply ≡ told_replies.Begun (memory.last + 1)
 
 pub begin_out : {tabled : Bool} → Laws → (told : Bool) (s : State) (memory : Memory) (changes : ℕ) (result : Answered) (v : State) → IsStore tabled s memory
     → CarriesOut told memory.client s (begin_plan memory changes) result v
-    → Out tabled for_room_or_outside s memory (IsBegunAs memory) (λ now. now ≡ with_begun changes memory) result v
-begin_out {tabled = tabled} laws told s memory changes result v store carries = limit (nat_le most_transactions (length memory.transactions)) carries
+    → Out tabled for_room_or_outside (begin_reason memory) s memory (IsBegunAs memory) (λ now. now ≡ with_begun changes memory) result v
+begin_out {tabled = tabled} laws told s memory changes result v store carries = limit (nat_le most_transactions (length memory.transactions)) refl carries
   where
     Ends_so : Type 0
-    Ends_so = Out tabled for_room_or_outside s memory (IsBegunAs memory) (λ now. now ≡ with_begun changes memory) result v
+    Ends_so = Out tabled for_room_or_outside (begin_reason memory) s memory (IsBegunAs memory) (λ now. now ≡ with_begun changes memory) result v
 
     reserve : Call
     reserve = calls.Reserve memory.area (sizes_of changes)
@@ -175,22 +179,22 @@ begin_out {tabled = tabled} laws told s memory changes result v store carries = 
     rest : Reply → Plan Answered
     rest = on_held (stops memory) (answers (told_replies.Begun (memory.last + 1)) (with_begun changes memory))
 
-    by : (memory.last == greatest_number) ≡ false → (happened : Happened) (reply : Reply) (mid : State) → Step told s memory.client (calls.Reserve memory.area (sizes_of changes)) happened reply mid
+    by : (memory.last == greatest_number) ≡ false → begin_reason memory ≡ None → (happened : Happened) (reply : Reply) (mid : State) → Step told s memory.client (calls.Reserve memory.area (sizes_of changes)) happened reply mid
         → CarriesOut told memory.client mid (on_held (stops memory) (answers (told_replies.Begun (memory.last + 1)) (with_begun changes memory)) reply) result v
         → Way told s memory.client (calls.Reserve memory.area (sizes_of changes)) reply mid
-        → Out tabled for_room_or_outside s memory (IsBegunAs memory) (λ now. now ≡ with_begun changes memory) result v
-    by unspent happened reply mid step behind (lacked takes is same) =
-        stopped (stopped_by for_room_or_outside told s mid memory rest reply result v wider (λ given. refl) store (left_whole is same) behind)
-    by unspent happened reply mid step behind (refused first by_it is same) =
-        stopped (halted_store for_room_or_outside told memory.client s memory first result v
+        → Out tabled for_room_or_outside (begin_reason memory) s memory (IsBegunAs memory) (λ now. now ≡ with_begun changes memory) result v
+    by unspent clear happened reply mid step behind (lacked takes is same) =
+        stopped clear (stopped_by for_room_or_outside told s mid memory rest reply result v wider (λ given. refl) store (left_whole is same) behind)
+    by unspent clear happened reply mid step behind (refused first by_it is same) =
+        stopped clear (halted_store for_room_or_outside told memory.client s memory first result v
         (for_room _ _ s.containers _ _ _ first (sym (reserve_refusal s memory changes store) ∙ by_it)) store
         (same_log told memory.client mid s (stops memory first) result v same (behind_reply told memory.client mid rest reply (replies.Refused first) result v is behind)))
-    by unspent happened reply mid step behind (faulted called is same) =
-        stopped (stopped_by for_room_or_outside told s mid memory rest reply result v wider (λ given. refl) store (left_broken refusals.DiskFault refl is same) behind)
-    by unspent happened reply mid step behind (damaged read is same) =
+    by unspent clear happened reply mid step behind (faulted called is same) =
+        stopped clear (stopped_by for_room_or_outside told s mid memory rest reply result v wider (λ given. refl) store (left_broken refusals.DiskFault refl is same) behind)
+    by unspent clear happened reply mid step behind (damaged read is same) =
         let d = damage_of reply is in
-        stopped (stopped_by for_room_or_outside told s mid memory rest reply result v wider (λ given. refl) store (left_broken d.0 d.1 d.2 same) behind)
-    by unspent happened reply mid step behind (came none comes) =
+        stopped clear (stopped_by for_room_or_outside told s mid memory rest reply result v wider (λ given. refl) store (left_broken d.0 d.1 d.2 same) behind)
+    by unspent clear happened reply mid step behind (came none comes) =
         let sizes : List ℕ = sizes_of changes in
         let area : Area = store_area memory [] in
         let next : State = hold_sizes area sizes (grown s (own_sum sizes)) in
@@ -202,27 +206,31 @@ begin_out {tabled = tabled} laws told s memory changes result v store carries = 
         let valid = laws.keeps told s memory.client (calls.Reserve memory.area sizes) happened reply mid store.valid step in
         let ended = behind_reply told memory.client mid rest reply (replies.Held held) result v told_so behind in
         let after = begun_store s mid memory changes store valid unspent so.1 in
-        done (ap (λ (a : Answered). a.reply) ended.0) (ap (λ (a : Answered). a.memory) ended.0)
+        done clear (ap (λ (a : Answered). a.reply) ended.0) (ap (λ (a : Answered). a.memory) ended.0)
         (subst (λ (x : State). IsStore tabled x result.memory) (sym ended.1) (subst (λ (a : Answered). IsStore tabled mid a.memory) (sym ended.0) after))
 
-    begins : (memory.last == greatest_number) ≡ false → CarriesOut told memory.client s (asks (calls.Reserve memory.area (sizes_of changes))
+    begins : (memory.last == greatest_number) ≡ false → begin_reason memory ≡ None → CarriesOut told memory.client s (asks (calls.Reserve memory.area (sizes_of changes))
         (on_held (stops memory) (answers (told_replies.Begun (memory.last + 1)) (with_begun changes memory)))) result v
-        → Out tabled for_room_or_outside s memory (IsBegunAs memory) (λ now. now ≡ with_begun changes memory) result v
-    begins unspent (happened, reply, mid, (step, behind)) =
-        by unspent happened reply mid step behind (way told s memory.client (calls.Reserve memory.area (sizes_of changes)) happened reply mid store.whole step)
+        → Out tabled for_room_or_outside (begin_reason memory) s memory (IsBegunAs memory) (λ now. now ≡ with_begun changes memory) result v
+    begins unspent clear (happened, reply, mid, (step, behind)) =
+        by unspent clear happened reply mid step behind (way told s memory.client (calls.Reserve memory.area (sizes_of changes)) happened reply mid store.whole step)
 
-    numbers : (spent : Bool) → (memory.last == greatest_number) ≡ spent → CarriesOut told memory.client s (unless spent denials.IdsSpent memory (asks (calls.Reserve memory.area (sizes_of changes))
+    numbers : (spent : Bool) → (memory.last == greatest_number) ≡ spent → begin_reason memory ≡ reason_if spent denials.IdsSpent None → CarriesOut told memory.client s (unless spent denials.IdsSpent memory (asks (calls.Reserve memory.area (sizes_of changes))
         (on_held (stops memory) (answers (told_replies.Begun (memory.last + 1)) (with_begun changes memory))))) result v
-        → Out tabled for_room_or_outside s memory (IsBegunAs memory) (λ now. now ≡ with_begun changes memory) result v
-    numbers true is ended = denied denials.IdsSpent refl ended.0 ended.1
-    numbers false is carried = begins is carried
+        → Out tabled for_room_or_outside (begin_reason memory) s memory (IsBegunAs memory) (λ now. now ≡ with_begun changes memory) result v
+    numbers true is reason ended = denied denials.IdsSpent reason refl ended.0 ended.1
+    numbers false is reason carried = begins is reason carried
 
-    limit : (many : Bool) → CarriesOut told memory.client s (unless many (denials.TxnLimit (length memory.transactions)) memory
+    reason_at : (many : Bool) → nat_le most_transactions (length memory.transactions) ≡ many
+        → begin_reason memory ≡ reason_if many (denials.TxnLimit (length memory.transactions)) (reason_if (memory.last == greatest_number) denials.IdsSpent None)
+    reason_at many is = ap (λ (b : Bool). reason_if b (denials.TxnLimit (length memory.transactions)) (reason_if (memory.last == greatest_number) denials.IdsSpent None)) is
+
+    limit : (many : Bool) → nat_le most_transactions (length memory.transactions) ≡ many → CarriesOut told memory.client s (unless many (denials.TxnLimit (length memory.transactions)) memory
         (unless (memory.last == greatest_number) denials.IdsSpent memory (asks (calls.Reserve memory.area (sizes_of changes))
         (on_held (stops memory) (answers (told_replies.Begun (memory.last + 1)) (with_begun changes memory)))))) result v
-        → Out tabled for_room_or_outside s memory (IsBegunAs memory) (λ now. now ≡ with_begun changes memory) result v
-    limit true ended = denied (denials.TxnLimit (length memory.transactions)) refl ended.0 ended.1
-    limit false carried = numbers (memory.last == greatest_number) refl carried
+        → Out tabled for_room_or_outside (begin_reason memory) s memory (IsBegunAs memory) (λ now. now ≡ with_begun changes memory) result v
+    limit true is ended = denied (denials.TxnLimit (length memory.transactions)) (reason_at true is) refl ended.0 ended.1
+    limit false is carried = numbers (memory.last == greatest_number) refl (reason_at false is) carried
 
 -- ---- a checkpoint
 
@@ -230,7 +238,7 @@ pub info_as : (told : Bool) (stable : ℕ) (info : LogInfo) (reply : Reply) → 
 info_as true stable info reply is = is
 info_as false stable info reply is = is
 
-lsn_as : (told : Bool) (stable lsn : ℕ) (reply : Reply) → IsReply told stable (replies.Placed lsn) reply → reply ≡ replies.Placed lsn
+pub lsn_as : (told : Bool) (stable lsn : ℕ) (reply : Reply) → IsReply told stable (replies.Placed lsn) reply → reply ≡ replies.Placed lsn
 lsn_as true stable lsn reply is = is
 lsn_as false stable lsn reply is = is
 
@@ -272,19 +280,24 @@ no_transactions [] is = refl
 no_transactions (t ∷ ts) is = let none = ltb-false 0 (length (t ∷ ts)) is in absurd (omega (arith, none))
 
 pub rebased_store : {tabled : Bool} → (s u : State) (memory : Memory) (bytes : List ℕ) (base : ℕ) → IsStore tabled s memory → IsValid u → nat_lt 0 (length memory.transactions) ≡ false
-    → Rebased s (store_area memory []) bytes base u → (tabled ≡ true → IsTabled u memory) → IsStore tabled u memory
-rebased_store {tabled = tabled} s u memory bytes base store valid none is table =
+    → Rebased s (store_area memory []) bytes base u → live u memory.stream ≢ [] → (tabled ≡ true → IsTabled u memory) → IsStore tabled u memory
+rebased_store {tabled = tabled} s u memory bytes base store valid none is some table =
     let empty = no_transactions memory.transactions none in
     record {
       valid = valid;
       whole = is.broken ∙ store.whole;
       stream = ap (λ (l : List Stream). stream_number_from 1 table_name l) is.streams ∙ same_names 1 memory.stream base table_name s.streams ∙ store.stream;
+      some = some;
       area = ap (λ (l : List Area). find (is_area memory.client memory.area) l) is.areas ∙ store.area;
       cells = store.cells;
       table = table;
       apart = store.apart;
       open_ones = subst (AllByRecursion (IsOpen u memory)) (sym empty) tt;
     }
+
+-- why a checkpoint isn't begun
+abbrev pub checkpoint_reason : Memory → Option TxnRefusal
+checkpoint_reason memory = table_reason memory asked.Checkpoint
 
 abbrev pub any_refusal : Refusal → Bool
 any_refusal given = true
@@ -320,26 +333,29 @@ is_base_there {tabled = tabled} s memory base store some passes =
     based_by false false given others differs passes_it = absurd (cc passes_it)
 
 pub checkpoint_out : {tabled : Bool} → Laws → (told : Bool) (s : State) (memory : Memory) (result : Answered) (v : State) → IsStore tabled s memory
-    → CarriesOut told memory.client s (checkpoint_plan memory) result v → Out tabled any_refusal s memory IsDone (λ now. now ≡ memory) result v
+    → CarriesOut told memory.client s (checkpoint_plan memory) result v → Out tabled any_refusal (checkpoint_reason memory) s memory IsDone (λ now. now ≡ memory) result v
 checkpoint_out {tabled = tabled} laws told s memory result v store carries = first (nat_lt 0 (length memory.transactions)) refl carries
   where
     behind_restart : Reply → Plan Answered
     behind_restart = on_placed (stops memory) (λ _. answers told_replies.Done memory)
 
+    no_reason : nat_lt 0 (length memory.transactions) ≡ false → checkpoint_reason memory ≡ None
+    no_reason none = ap (λ (b : Bool). reason_if b (denials.TxnsOpen (length memory.transactions)) None) none
+
     by : nat_lt 0 (length memory.transactions) ≡ false → (base : ℕ) → base ≡ last_live s memory.stream + 1 → (base == null_lsn) ≡ false → (happened : Happened) (reply : Reply) (mid : State)
         → Step told s memory.client (calls.WriteRestart memory.area (written memory) base false) happened reply mid
         → CarriesOut told memory.client mid (on_placed (stops memory) (λ _. answers told_replies.Done memory) reply) result v
-        → Way told s memory.client (calls.WriteRestart memory.area (written memory) base false) reply mid → Out tabled any_refusal s memory IsDone (λ now. now ≡ memory) result v
+        → Way told s memory.client (calls.WriteRestart memory.area (written memory) base false) reply mid → Out tabled any_refusal (checkpoint_reason memory) s memory IsDone (λ now. now ≡ memory) result v
     by none base base_is some happened reply mid step behind (lacked takes is same) =
-        stopped (stopped_by any_refusal told s mid memory behind_restart reply result v (λ given outside. refl) (λ given. refl) store (left_whole is same) behind)
+        stopped (no_reason none) (stopped_by any_refusal told s mid memory behind_restart reply result v (λ given outside. refl) (λ given. refl) store (left_whole is same) behind)
     by none base base_is some happened reply mid step behind (refused first by_it is same) =
-        stopped (halted_store any_refusal told memory.client s memory first result v refl store
+        stopped (no_reason none) (halted_store any_refusal told memory.client s memory first result v refl store
         (same_log told memory.client mid s (stops memory first) result v same (behind_reply told memory.client mid behind_restart reply (replies.Refused first) result v is behind)))
     by none base base_is some happened reply mid step behind (faulted called is same) =
-        stopped (stopped_by any_refusal told s mid memory behind_restart reply result v (λ given outside. refl) (λ given. refl) store (left_broken refusals.DiskFault refl is same) behind)
+        stopped (no_reason none) (stopped_by any_refusal told s mid memory behind_restart reply result v (λ given outside. refl) (λ given. refl) store (left_broken refusals.DiskFault refl is same) behind)
     by none base base_is some happened reply mid step behind (damaged read is same) =
         let d = damage_of reply is in
-        stopped (stopped_by any_refusal told s mid memory behind_restart reply result v (λ given outside. refl) (λ given. refl) store (left_broken d.0 d.1 d.2 same) behind)
+        stopped (no_reason none) (stopped_by any_refusal told s mid memory behind_restart reply result v (λ given outside. refl) (λ given. refl) store (left_broken d.0 d.1 d.2 same) behind)
     by none base base_is some happened reply mid step behind (came passes comes) =
         let area : Area = store_area memory [] in
         let bytes : List ℕ = written memory in
@@ -354,14 +370,18 @@ checkpoint_out {tabled = tabled} laws told s memory result v store carries = fir
         let ended = behind_reply told memory.client mid behind_restart reply (replies.Placed (next_lsn s (length bytes))) result v told_so behind in
         let made = subst (Rebased s area bytes base) (sym so.1) (rebases s area bytes base some) in
         let above = added_above laws told s memory.client (calls.WriteRestart memory.area bytes base false) happened reply mid (restart_entry s area bytes base) store.valid step made.records in
-        let after = rebased_store s mid memory bytes base store valid none made (λ so. checkpoint_tabled laws s mid memory (restart_entry s area bytes base) base store.cells
-        (no_transactions memory.transactions none) base_is (is_base_there s memory base store some passes) store.valid valid (store.table so) above made.streams made.records refl refl refl (stream_there s memory.stream store.stream)) in
-        done (ap (λ (a : Answered). a.reply) ended.0) (ap (λ (a : Answered). a.memory) ended.0)
+        let there = stream_there s memory.stream store.stream in
+        let is_one = is_base_there s memory base store some passes in
+        let lives = checkpoint_lives s mid memory.stream (restart_entry s area bytes base) base base_is is_one store.valid above made.streams made.records refl there in
+        let after = rebased_store s mid memory bytes base store valid none made (λ e. let no : restart_entry s area bytes base ∷ [] ≡ [] = sym lives ∙ e in cc no)
+        (λ so. checkpoint_tabled laws s mid memory (restart_entry s area bytes base) base store.cells
+        (no_transactions memory.transactions none) base_is is_one store.valid valid (store.table so) above made.streams made.records refl refl refl there) in
+        done (no_reason none) (ap (λ (a : Answered). a.reply) ended.0) (ap (λ (a : Answered). a.memory) ended.0)
         (subst (λ (x : State). IsStore tabled x result.memory) (sym ended.1) (subst (λ (a : Answered). IsStore tabled mid a.memory) (sym ended.0) after))
 
     writes : nat_lt 0 (length memory.transactions) ≡ false → (base : ℕ) → base ≡ last_live s memory.stream + 1 → (base == null_lsn) ≡ false
         → CarriesOut told memory.client s (asks (calls.WriteRestart memory.area (written memory) base false) (on_placed (stops memory) (λ _. answers told_replies.Done memory))) result v
-        → Out tabled any_refusal s memory IsDone (λ now. now ≡ memory) result v
+        → Out tabled any_refusal (checkpoint_reason memory) s memory IsDone (λ now. now ≡ memory) result v
     writes none base base_is some (happened, reply, mid, (step, behind)) =
         by none base base_is some happened reply mid step behind (way told s memory.client (calls.WriteRestart memory.area (written memory) base false) happened reply mid store.whole step)
 
@@ -372,13 +392,13 @@ checkpoint_out {tabled = tabled} laws told s memory result v store carries = fir
     info_passes : refusal s memory.client (calls.Info memory.stream) ≡ None
     info_passes = ap (λ (b : Bool). refused_if b refusals.NoSuchStream None) (stream_is_there s memory.stream store.stream)
 
-    asked : nat_lt 0 (length memory.transactions) ≡ false → (reply : Reply) (mid : State)
-        → CarriesOut told memory.client mid (behind_info reply) result v → Way told s memory.client (calls.Info memory.stream) reply mid → Out tabled any_refusal s memory IsDone (λ now. now ≡ memory) result v
-    asked none reply mid behind (lacked takes is same) = absurd (cc takes)
-    asked none reply mid behind (faulted called is same) = absurd (cc called)
-    asked none reply mid behind (damaged read is same) = absurd (cc read)
-    asked none reply mid behind (refused first by_it is same) = let both : None ≡ Some first = sym info_passes ∙ by_it in absurd (cc both)
-    asked none reply mid behind (came passes comes) =
+    went_on : nat_lt 0 (length memory.transactions) ≡ false → (reply : Reply) (mid : State)
+        → CarriesOut told memory.client mid (behind_info reply) result v → Way told s memory.client (calls.Info memory.stream) reply mid → Out tabled any_refusal (checkpoint_reason memory) s memory IsDone (λ now. now ≡ memory) result v
+    went_on none reply mid behind (lacked takes is same) = absurd (cc takes)
+    went_on none reply mid behind (faulted called is same) = absurd (cc called)
+    went_on none reply mid behind (damaged read is same) = absurd (cc read)
+    went_on none reply mid behind (refused first by_it is same) = let both : None ≡ Some first = sym info_passes ∙ by_it in absurd (cc both)
+    went_on none reply mid behind (came passes comes) =
         let told_so = info_as told (flushed s) (info_of s memory.stream) reply comes.0 in
         let above : (last_live s memory.stream + 1 == null_lsn) ≡ false = ne_eqb (last_live s memory.stream + 1) 0 (λ e. omega (arith, e)) in
         writes none (last_live s memory.stream + 1) refl above
@@ -386,12 +406,13 @@ checkpoint_out {tabled = tabled} laws told s memory result v store carries = fir
         (behind_reply told memory.client mid behind_info reply (replies.Info (info_of s memory.stream)) result v told_so behind))
 
     asks_info : nat_lt 0 (length memory.transactions) ≡ false → CarriesOut told memory.client s (asks (calls.Info memory.stream) behind_info) result v
-        → Out tabled any_refusal s memory IsDone (λ now. now ≡ memory) result v
+        → Out tabled any_refusal (checkpoint_reason memory) s memory IsDone (λ now. now ≡ memory) result v
     asks_info none (happened, reply, mid, (step, behind)) =
-        asked none reply mid behind (way told s memory.client (calls.Info memory.stream) happened reply mid store.whole step)
+        went_on none reply mid behind (way told s memory.client (calls.Info memory.stream) happened reply mid store.whole step)
 
     first : (some : Bool) → nat_lt 0 (length memory.transactions) ≡ some
         → CarriesOut told memory.client s (unless some (denials.TxnsOpen (length memory.transactions)) memory (asks (calls.Info memory.stream) behind_info)) result v
-        → Out tabled any_refusal s memory IsDone (λ now. now ≡ memory) result v
-    first true is ended = denied (denials.TxnsOpen (length memory.transactions)) refl ended.0 ended.1
+        → Out tabled any_refusal (checkpoint_reason memory) s memory IsDone (λ now. now ≡ memory) result v
+    first true is ended =
+        denied (denials.TxnsOpen (length memory.transactions)) (ap (λ (b : Bool). reason_if b (denials.TxnsOpen (length memory.transactions)) None) is) refl ended.0 ended.1
     first false is carried = asks_info is carried

@@ -112,6 +112,7 @@ finished g restart c acc last from sofar none =
     record {
       by = refl;
       stream = g.numbered;
+      some = λ e. let no : None ≡ Some restart = sym (ap newest_in e) ∙ from.newest in cc no;
       area = there g [] ∙ ap (λ (a : Area). Some (record a { number = g.number; stream = g.stream })) (sym g.first_area);
       none = refl;
       whole = g.whole;

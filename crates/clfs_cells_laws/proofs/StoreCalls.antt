@@ -23,7 +23,7 @@ use Rattle.clfs_cells.specs.Stored.{Memory, Transaction, holder, holds, is_holde
 use Rattle.clfs_cells.specs.Table.{table_name}
 use Rattle.clfs_cells_laws.specs.Stores.{AllApart, AreApart, IsInLog, IsLiveRecord, IsOpen, IsStoreWith, is_of_cell, records_left, sectors_held, store_area}
 use Rattle.clfs_cells_laws.proofs.Changes.{made_holds, new_made, others_stay, set_open, undone_open, undone_standing, with_made}
-use Rattle.clfs_cells_laws.proofs.Grown.{Grows, in_log_on, live_on}
+use Rattle.clfs_cells_laws.proofs.Grown.{Grows, in_log_on, live_on, still_some}
 use Rattle.clfs_cells_laws.proofs.Links.{held_less, made_left, some_left, undone_left}
 use Rattle.clfs_cells_laws.proofs.OneOf.{Placed, all_join, all_parts, apart_join, apart_parts, change_at, placed}
 use Rattle.clfs_cells_laws.proofs.OwnCalls.{KeepsName, Laws, area_after, joined_live}
@@ -90,6 +90,7 @@ changed_store {tabled = tabled} s u memory cursors entry t x transactions cells 
       valid = add.valid;
       whole = add.whole;
       stream = stream_same s u add.streams ∙ store.stream;
+      some = still_some s u memory.stream (grows_by s u memory cursors entry add) store.some;
       area = add.area ∙ ap (λ (n : ℕ). Some (record (store_area memory cursors) { held = n })) (sym held);
       cells = long;
       table = table;
@@ -243,6 +244,7 @@ moved_store {tabled = tabled} s u memory cursors others change store valid keeps
       valid = valid;
       whole = ap (λ (x : State). x.broken) is ∙ store.whole;
       stream = stream_same s u grows.streams ∙ store.stream;
+      some = still_some s u memory.stream grows store.some;
       area = area_after s u memory.client memory.area (store_area memory cursors) change keeps store.area (ap (λ (x : State). x.areas) is)
           ∙ ap (λ (a : Area). Some a) changed;
       cells = store.cells;

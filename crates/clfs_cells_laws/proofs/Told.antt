@@ -1,6 +1,6 @@
 -- What the steps of a store come to, call by call.
 use Rattle.std.proofs.Common.{◌≡◌, ◌⊎◌, ℕ, ◌<◌, Bool, true, false, refl, sym, subst, ap, ◌∙◌, inl, inr}
-use Rattle.std.specs.Prelude.{◌^◌, slice_index}
+use Rattle.std.specs.Prelude.{◌^◌, Option, slice_index}
 use Rattle.clfs_model.specs.declared.refusal.Refusal.{Refusal}
 use Rattle.clfs_model.specs.declared.refusal.Refusal.TheVariants as log_refusals
 use Rattle.clfs_model.specs.declared.state.State.{State}
@@ -14,6 +14,7 @@ use Rattle.clfs_cells.specs.Calls.{Answered, TxnStep, back_plan, begin_plan, che
 use Rattle.clfs_cells.specs.Layout.{cell_count}
 use Rattle.clfs_cells.specs.Plans.{Plan, CarriesOut}
 use Rattle.clfs_cells.specs.Stored.{Memory, Store, with_begun}
+use Rattle.clfs_cells_laws.specs.Reasons.{asks_log, begin_reason, table_reason}
 use Rattle.clfs_cells_laws.specs.Steps.{HasArguments, IsCommitted, IsRolledBack, IsSetTo, IsTakenBack, for_room_or_outside, from_outside, is_of_log, is_within}
 use Rattle.clfs_cells_laws.specs.Stores.{IsKeptStore, IsStore}
 use Rattle.clfs_cells_laws.proofs.Ends.{IsDone, Lengths, Out, denied, done, set_out, stopped}
@@ -23,42 +24,37 @@ use Rattle.clfs_cells_laws.proofs.TxnEnds.{back_out, commit_out, rollback_out}
 
 -- ---- by how a call ends
 
-abbrev answer_of : TxnReply → Store → Answered
+abbrev pub answer_of : TxnReply → Store → Answered
 answer_of reply t = record { reply = reply; memory = t.memory }
 
-still_store : {tabled : Bool} → (allowed : Refusal → Bool) (s : State) (memory : Memory) (answered : TxnReply → Type 0) (leaves : Memory → Type 0) (result : Answered) (v : State)
-    → IsStore tabled s memory → Out tabled allowed s memory answered leaves result v → (v.broken ≡ true) ⊎ IsStore tabled v result.memory
-still_store {tabled = tabled} allowed s memory answered leaves result v store (denied given own is same) =
+still_store : {tabled : Bool} → (allowed : Refusal → Bool) (own : Option TxnRefusal) (s : State) (memory : Memory) (answered : TxnReply → Type 0) (leaves : Memory → Type 0) (result : Answered) (v : State)
+    → IsStore tabled s memory → Out tabled allowed own s memory answered leaves result v → (v.broken ≡ true) ⊎ IsStore tabled v result.memory
+still_store {tabled = tabled} allowed own s memory answered leaves result v store (denied given why own_one is same) =
     inr (subst (λ (x : State). IsStore tabled x result.memory) (sym same) (subst (λ (a : Answered). IsStore tabled s a.memory) (sym is) store))
-still_store {tabled = tabled} allowed s memory answered leaves result v store (stopped h) = h.left
-still_store {tabled = tabled} allowed s memory answered leaves result v store (done so left after) = inr after
+still_store {tabled = tabled} allowed own s memory answered leaves result v store (stopped clear h) = h.left
+still_store {tabled = tabled} allowed own s memory answered leaves result v store (done clear so left after) = inr after
 
-left_done : {tabled : Bool} → (allowed : Refusal → Bool) (s : State) (memory : Memory) (answered : TxnReply → Type 0) (leaves : Memory → Type 0) (reply : TxnReply) (now : Memory) (v : State)
+left_done : {tabled : Bool} → (allowed : Refusal → Bool) (own : Option TxnRefusal) (s : State) (memory : Memory) (answered : TxnReply → Type 0) (leaves : Memory → Type 0) (reply : TxnReply) (now : Memory) (v : State)
     → ((given : TxnRefusal) → reply ≡ told_replies.Refused given → ⊥)
-    → Out tabled allowed s memory answered leaves (record { reply = reply; memory = now }) v → leaves now
-left_done {tabled = tabled} allowed s memory answered leaves reply now v fine (denied given own is same) = absurd (fine given (ap (λ (a : Answered). a.reply) is))
-left_done {tabled = tabled} allowed s memory answered leaves reply now v fine (stopped h) = absurd (fine (denials.Log h.given) h.is)
-left_done {tabled = tabled} allowed s memory answered leaves reply now v fine (done so left after) = left
+    → Out tabled allowed own s memory answered leaves (record { reply = reply; memory = now }) v → leaves now
+left_done {tabled = tabled} allowed own s memory answered leaves reply now v fine (denied given why own_one is same) = absurd (fine given (ap (λ (a : Answered). a.reply) is))
+left_done {tabled = tabled} allowed own s memory answered leaves reply now v fine (stopped clear h) = absurd (fine (denials.Log h.given) h.is)
+left_done {tabled = tabled} allowed own s memory answered leaves reply now v fine (done clear so left after) = left
 
-refused_so : {tabled : Bool} → (allowed : Refusal → Bool) (s : State) (memory : Memory) (answered : TxnReply → Type 0) (leaves : Memory → Type 0) (given : Refusal) (now : Memory) (v : State)
+refused_so : {tabled : Bool} → (allowed : Refusal → Bool) (own : Option TxnRefusal) (s : State) (memory : Memory) (answered : TxnReply → Type 0) (leaves : Memory → Type 0) (given : Refusal) (now : Memory) (v : State)
     → (answered (told_replies.Refused (denials.Log given)) → ⊥)
-    → Out tabled allowed s memory answered leaves (record { reply = told_replies.Refused (denials.Log given); memory = now }) v → allowed given ≡ true
-refused_so {tabled = tabled} allowed s memory answered leaves given now v fine (denied other own is same) =
+    → Out tabled allowed own s memory answered leaves (record { reply = told_replies.Refused (denials.Log given); memory = now }) v → allowed given ≡ true
+refused_so {tabled = tabled} allowed own s memory answered leaves given now v fine (denied other why own_one is same) =
     let both : denials.Log given ≡ other = cc (ap (λ (a : Answered). a.reply) is) in
-    let of_log : true ≡ false = ap is_of_log both ∙ own in absurd (cc of_log)
-refused_so {tabled = tabled} allowed s memory answered leaves given now v fine (stopped h) =
+    let of_log : true ≡ false = ap is_of_log both ∙ own_one in absurd (cc of_log)
+refused_so {tabled = tabled} allowed own s memory answered leaves given now v fine (stopped clear h) =
     let same : given ≡ h.given = cc (h.is) in ap allowed same ∙ h.may
-refused_so {tabled = tabled} allowed s memory answered leaves given now v fine (done so left after) = absurd (fine so)
+refused_so {tabled = tabled} allowed own s memory answered leaves given now v fine (done clear so left after) = absurd (fine so)
 
 -- ---- by the call
 
--- the calls that ask the log for something
-abbrev asks_log : TxnCall → Bool
-asks_log (asked.Get cell) = false
-asks_log call = true
-
 -- a log that isn't broken lets the call go on
-goes : (told : Bool) (s : Store) (plan : Plan Answered) (result : Answered) (v : State) → s.log.broken ≡ false
+pub goes : (told : Bool) (s : Store) (plan : Plan Answered) (result : Answered) (v : State) → s.log.broken ≡ false
     → CarriesOut told s.memory.client s.log (unbroken s.log s.memory plan) result v → CarriesOut told s.memory.client s.log plan result v
 goes told s plan result v whole carries =
     subst (λ (p : Plan Answered). CarriesOut told s.memory.client s.log p result v)
@@ -73,7 +69,7 @@ broken_says told s t plan reply broken carries =
     (ap (λ (b : Bool). unless b (denials.Log log_refusals.Broken) s.memory plan) broken) carries in
     (ap (λ (a : Answered). a.reply) ended.0, ended.1)
 
-broken_step : (told : Bool) (s t : Store) (call : TxnCall) (reply : TxnReply) → s.log.broken ≡ true → asks_log call ≡ true → TxnStep told s call reply t
+pub broken_step : (told : Bool) (s t : Store) (call : TxnCall) (reply : TxnReply) → s.log.broken ≡ true → asks_log call ≡ true → TxnStep told s call reply t
     → (reply ≡ told_replies.Refused (denials.Log log_refusals.Broken)) × (t.log ≡ s.log)
 unfolding TxnStep
 broken_step told s t (asked.Begin changes) reply broken asks step = broken_says told s t (begin_plan s.memory changes) reply broken step
@@ -93,43 +89,43 @@ get_leaves told s t cell reply step =
     (ap (λ (a : Answered). a.reply) step.0, λ i. record { log = log i; memory = memory i })
 
 module _ (tabled : Bool) (laws : Laws) (lengths : Lengths) (told : Bool) (s t : Store) (store : IsStore tabled s.log s.memory) where
-  set_ends : (number cell value : ℕ) (reply : TxnReply) → cell < cell_count → value < 2 ^ 64 → TxnStep told s (asked.Set number cell value) reply t
-      → Out tabled from_outside s.log s.memory IsDone (IsSetTo cell value s.memory) (answer_of reply t) t.log
+  pub set_ends : (number cell value : ℕ) (reply : TxnReply) → cell < cell_count → value < 2 ^ 64 → TxnStep told s (asked.Set number cell value) reply t
+      → Out tabled from_outside (table_reason s.memory (asked.Set number cell value)) s.log s.memory IsDone (IsSetTo cell value s.memory) (answer_of reply t) t.log
   unfolding TxnStep
   set_ends number cell value reply inside fits step =
       set_out laws lengths told s.log s.memory number cell value (answer_of reply t) t.log store inside fits
       (goes told s (set_plan s.memory number cell value) (answer_of reply t) t.log store.whole step)
 
-  back_ends : (number kept : ℕ) (reply : TxnReply) → TxnStep told s (asked.Back number kept) reply t
-      → Out tabled from_outside s.log s.memory IsDone (IsTakenBack number kept s.memory) (answer_of reply t) t.log
+  pub back_ends : (number kept : ℕ) (reply : TxnReply) → TxnStep told s (asked.Back number kept) reply t
+      → Out tabled from_outside (table_reason s.memory (asked.Back number kept)) s.log s.memory IsDone (IsTakenBack number kept s.memory) (answer_of reply t) t.log
   unfolding TxnStep
   back_ends number kept reply step =
       back_out laws lengths told s.log s.memory number kept (answer_of reply t) t.log store
       (goes told s (back_plan s.memory number kept) (answer_of reply t) t.log store.whole step)
 
-  commit_ends : (number : ℕ) (reply : TxnReply) → TxnStep told s (asked.Commit number) reply t
-      → Out tabled from_outside s.log s.memory IsDone (IsCommitted number s.memory) (answer_of reply t) t.log
+  pub commit_ends : (number : ℕ) (reply : TxnReply) → TxnStep told s (asked.Commit number) reply t
+      → Out tabled from_outside (table_reason s.memory (asked.Commit number)) s.log s.memory IsDone (IsCommitted number s.memory) (answer_of reply t) t.log
   unfolding TxnStep
   commit_ends number reply step =
       commit_out laws lengths told s.log s.memory number (answer_of reply t) t.log store
       (goes told s (commit_plan s.memory number) (answer_of reply t) t.log store.whole step)
 
-  rollback_ends : (number : ℕ) (reply : TxnReply) → TxnStep told s (asked.Rollback number) reply t
-      → Out tabled from_outside s.log s.memory IsDone (IsRolledBack number s.memory) (answer_of reply t) t.log
+  pub rollback_ends : (number : ℕ) (reply : TxnReply) → TxnStep told s (asked.Rollback number) reply t
+      → Out tabled from_outside (table_reason s.memory (asked.Rollback number)) s.log s.memory IsDone (IsRolledBack number s.memory) (answer_of reply t) t.log
   unfolding TxnStep
   rollback_ends number reply step =
       rollback_out laws lengths told s.log s.memory number (answer_of reply t) t.log store
       (goes told s (rollback_plan s.memory number) (answer_of reply t) t.log store.whole step)
 
   begin_ends : (changes : ℕ) (reply : TxnReply) → TxnStep told s (asked.Begin changes) reply t
-      → Out tabled for_room_or_outside s.log s.memory (IsBegunAs s.memory) (λ now. now ≡ with_begun changes s.memory) (answer_of reply t) t.log
+      → Out tabled for_room_or_outside (begin_reason s.memory) s.log s.memory (IsBegunAs s.memory) (λ now. now ≡ with_begun changes s.memory) (answer_of reply t) t.log
   unfolding TxnStep
   begin_ends changes reply step =
       begin_out laws told s.log s.memory changes (answer_of reply t) t.log store
       (goes told s (begin_plan s.memory changes) (answer_of reply t) t.log store.whole step)
 
   checkpoint_ends : (reply : TxnReply) → TxnStep told s asked.Checkpoint reply t
-      → Out tabled any_refusal s.log s.memory IsDone (λ now. now ≡ s.memory) (answer_of reply t) t.log
+      → Out tabled any_refusal (table_reason s.memory asked.Checkpoint) s.log s.memory IsDone (λ now. now ≡ s.memory) (answer_of reply t) t.log
   unfolding TxnStep
   checkpoint_ends reply step =
       checkpoint_out laws told s.log s.memory (answer_of reply t) t.log store
@@ -141,13 +137,13 @@ module _ (tabled : Bool) (laws : Laws) (lengths : Lengths) (told : Bool) (s t : 
       inr (subst (λ (x : State). IsStore tabled x t.memory) (sym step.1) (subst (λ (a : Answered). IsStore tabled s.log a.memory) (sym step.0) store))
 
   whole_stays : (call : TxnCall) (reply : TxnReply) → HasArguments call → TxnStep told s call reply t → (t.log.broken ≡ true) ⊎ IsStore tabled t.log t.memory
-  whole_stays (asked.Begin changes) reply has step = still_store _ s.log s.memory _ _ (answer_of reply t) t.log store (begin_ends changes reply step)
-  whole_stays (asked.Set number cell value) reply has step = still_store _ s.log s.memory _ _ (answer_of reply t) t.log store (set_ends number cell value reply has.0 has.1 step)
-  whole_stays (asked.Back number kept) reply has step = still_store _ s.log s.memory _ _ (answer_of reply t) t.log store (back_ends number kept reply step)
-  whole_stays (asked.Commit number) reply has step = still_store _ s.log s.memory _ _ (answer_of reply t) t.log store (commit_ends number reply step)
-  whole_stays (asked.Rollback number) reply has step = still_store _ s.log s.memory _ _ (answer_of reply t) t.log store (rollback_ends number reply step)
+  whole_stays (asked.Begin changes) reply has step = still_store _ _ s.log s.memory _ _ (answer_of reply t) t.log store (begin_ends changes reply step)
+  whole_stays (asked.Set number cell value) reply has step = still_store _ _ s.log s.memory _ _ (answer_of reply t) t.log store (set_ends number cell value reply has.0 has.1 step)
+  whole_stays (asked.Back number kept) reply has step = still_store _ _ s.log s.memory _ _ (answer_of reply t) t.log store (back_ends number kept reply step)
+  whole_stays (asked.Commit number) reply has step = still_store _ _ s.log s.memory _ _ (answer_of reply t) t.log store (commit_ends number reply step)
+  whole_stays (asked.Rollback number) reply has step = still_store _ _ s.log s.memory _ _ (answer_of reply t) t.log store (rollback_ends number reply step)
   whole_stays (asked.Get cell) reply has step = get_ends cell reply step
-  whole_stays asked.Checkpoint reply has step = still_store _ s.log s.memory _ _ (answer_of reply t) t.log store (checkpoint_ends reply step)
+  whole_stays asked.Checkpoint reply has step = still_store _ _ s.log s.memory _ _ (answer_of reply t) t.log store (checkpoint_ends reply step)
 
   not_done : (given : TxnRefusal) → told_replies.Done ≡ told_replies.Refused given → ⊥
   not_done given is = cc is
@@ -156,41 +152,41 @@ module _ (tabled : Bool) (laws : Laws) (lengths : Lengths) (told : Bool) (s t : 
   not_log given is = cc is
 
   whole_set_leaves : (number cell value : ℕ) → cell < cell_count → value < 2 ^ 64 → TxnStep told s (asked.Set number cell value) told_replies.Done t → IsSetTo cell value s.memory t.memory
-  whole_set_leaves number cell value inside fits step = left_done _ s.log s.memory _ _ told_replies.Done t.memory t.log not_done (set_ends number cell value told_replies.Done inside fits step)
+  whole_set_leaves number cell value inside fits step = left_done _ _ s.log s.memory _ _ told_replies.Done t.memory t.log not_done (set_ends number cell value told_replies.Done inside fits step)
 
   whole_back_leaves : (number kept : ℕ) → TxnStep told s (asked.Back number kept) told_replies.Done t → IsTakenBack number kept s.memory t.memory
-  whole_back_leaves number kept step = left_done _ s.log s.memory _ _ told_replies.Done t.memory t.log not_done (back_ends number kept told_replies.Done step)
+  whole_back_leaves number kept step = left_done _ _ s.log s.memory _ _ told_replies.Done t.memory t.log not_done (back_ends number kept told_replies.Done step)
 
   whole_rollback_leaves : (number : ℕ) → TxnStep told s (asked.Rollback number) told_replies.Done t → IsRolledBack number s.memory t.memory
-  whole_rollback_leaves number step = left_done _ s.log s.memory _ _ told_replies.Done t.memory t.log not_done (rollback_ends number told_replies.Done step)
+  whole_rollback_leaves number step = left_done _ _ s.log s.memory _ _ told_replies.Done t.memory t.log not_done (rollback_ends number told_replies.Done step)
 
   whole_commit_leaves : (number : ℕ) → TxnStep told s (asked.Commit number) told_replies.Done t → IsCommitted number s.memory t.memory
-  whole_commit_leaves number step = left_done _ s.log s.memory _ _ told_replies.Done t.memory t.log not_done (commit_ends number told_replies.Done step)
+  whole_commit_leaves number step = left_done _ _ s.log s.memory _ _ told_replies.Done t.memory t.log not_done (commit_ends number told_replies.Done step)
 
   whole_begin_leaves : (changes number : ℕ) → TxnStep told s (asked.Begin changes) (told_replies.Begun number) t → t.memory ≡ with_begun changes s.memory
   whole_begin_leaves changes number step =
-      left_done _ s.log s.memory _ _ (told_replies.Begun number) t.memory t.log (λ given is. cc is) (begin_ends changes (told_replies.Begun number) step)
+      left_done _ _ s.log s.memory _ _ (told_replies.Begun number) t.memory t.log (λ given is. cc is) (begin_ends changes (told_replies.Begun number) step)
 
   whole_checkpoint_leaves : TxnStep told s asked.Checkpoint told_replies.Done t → t.memory ≡ s.memory
-  whole_checkpoint_leaves step = left_done _ s.log s.memory _ _ told_replies.Done t.memory t.log not_done (checkpoint_ends told_replies.Done step)
+  whole_checkpoint_leaves step = left_done _ _ s.log s.memory _ _ told_replies.Done t.memory t.log not_done (checkpoint_ends told_replies.Done step)
 
   whole_within : (call : TxnCall) (given : Refusal) → HasArguments call → is_within call ≡ true → TxnStep told s call (told_replies.Refused (denials.Log given)) t
       → from_outside given ≡ true
   whole_within (asked.Set number cell value) given has is step =
-      refused_so from_outside s.log s.memory _ _ given t.memory t.log (not_log given) (set_ends number cell value (told_replies.Refused (denials.Log given)) has.0 has.1 step)
+      refused_so from_outside _ s.log s.memory _ _ given t.memory t.log (not_log given) (set_ends number cell value (told_replies.Refused (denials.Log given)) has.0 has.1 step)
   whole_within (asked.Back number kept) given has is step =
-      refused_so from_outside s.log s.memory _ _ given t.memory t.log (not_log given) (back_ends number kept (told_replies.Refused (denials.Log given)) step)
+      refused_so from_outside _ s.log s.memory _ _ given t.memory t.log (not_log given) (back_ends number kept (told_replies.Refused (denials.Log given)) step)
   whole_within (asked.Commit number) given has is step =
-      refused_so from_outside s.log s.memory _ _ given t.memory t.log (not_log given) (commit_ends number (told_replies.Refused (denials.Log given)) step)
+      refused_so from_outside _ s.log s.memory _ _ given t.memory t.log (not_log given) (commit_ends number (told_replies.Refused (denials.Log given)) step)
   whole_within (asked.Rollback number) given has is step =
-      refused_so from_outside s.log s.memory _ _ given t.memory t.log (not_log given) (rollback_ends number (told_replies.Refused (denials.Log given)) step)
+      refused_so from_outside _ s.log s.memory _ _ given t.memory t.log (not_log given) (rollback_ends number (told_replies.Refused (denials.Log given)) step)
   whole_within (asked.Begin changes) given has is step = absurd (cc is)
   whole_within (asked.Get cell) given has is step = absurd (cc is)
   whole_within asked.Checkpoint given has is step = absurd (cc is)
 
   whole_begin_refused : (changes : ℕ) (given : Refusal) → TxnStep told s (asked.Begin changes) (told_replies.Refused (denials.Log given)) t → for_room_or_outside given ≡ true
   whole_begin_refused changes given step =
-      refused_so for_room_or_outside s.log s.memory _ _ given t.memory t.log (λ is. cc is) (begin_ends changes (told_replies.Refused (denials.Log given)) step)
+      refused_so for_room_or_outside _ s.log s.memory _ _ given t.memory t.log (λ is. cc is) (begin_ends changes (told_replies.Refused (denials.Log given)) step)
 
 -- ---- whether it is broken or not
 

@@ -24,16 +24,19 @@ use Rattle.clfs_model.specs.Valid.{IsValid}
 use Rattle.clfs_cells.specs.declared.begun.Made.{Made}
 use Rattle.clfs_cells.specs.declared.row.Action.{Action}
 use Rattle.clfs_cells.specs.declared.row.Action.TheVariants.{Commit, RolledBack}
+use Rattle.clfs_cells.specs.declared.asked.TxnCall.TheVariants as asked
+use Rattle.clfs_cells.specs.declared.told.TxnRefusal.{TxnRefusal}
 use Rattle.clfs_cells.specs.declared.told.TxnRefusal.TheVariants as denials
 use Rattle.clfs_cells.specs.declared.told.TxnReply.TheVariants as told_replies
 use Rattle.clfs_cells.specs.Calls.{Answered, answers, append_call, back_plan, commit_plan, end_plan, over_transaction, refuses, rollback_plan, stops, undo_sets, unless}
 use Rattle.clfs_cells.specs.Layout.{txn_bytes, txn_record}
 use Rattle.clfs_cells.specs.Plans.{Plan, calls as asks, CarriesOut, on_held, on_placed}
 use Rattle.clfs_cells.specs.Stored.{Memory, Transaction, is_numbered, most_records, records_made, standing, transaction, without_first, without_transaction}
+use Rattle.clfs_cells_laws.specs.Reasons.{back_reason, reason_if, reason_within, table_reason}
 use Rattle.clfs_cells_laws.specs.Steps.{IsCommitted, IsRolledBack, IsTakenBack, from_outside}
 use Rattle.clfs_cells_laws.specs.Stores.{AllApart, AreApart, IsOpen, IsStore, records_left, sectors_held, store_area, value_before, value_by}
 use Rattle.clfs_cells_laws.proofs.Ends.{IsDone, Lengths, Out, denied, done, stopped, stopped_by, undo_started}
-use Rattle.clfs_cells_laws.proofs.Grown.{Grows, live_named}
+use Rattle.clfs_cells_laws.proofs.Grown.{Grows, live_named, still_some}
 use Rattle.clfs_cells_laws.proofs.Links.{append_passes, some_held, some_left}
 use Rattle.clfs_cells_laws.proofs.OneOf.{Placed, all_parts, apart_parts, placed, sectors_parts, without_at}
 use Rattle.clfs_cells_laws.proofs.OwnCalls.{joined_live, Laws, Went, area_after, broke, gave, kept, went}
@@ -119,6 +122,7 @@ module _ (tabled : Bool) (s u w : State) (memory : Memory) (t : Transaction) (en
         valid = valid_w;
         whole = ap (λ (x : State). x.broken) is ∙ add.whole;
         stream = stream_same s w grows.streams ∙ store.stream;
+        some = still_some s w memory.stream grows store.some;
         area = area_after u w memory.client memory.area (less_one memory) (with_less_held (rest_of t)) (record { client = λ a. refl; number = λ a. refl }) add.area
             (ap (λ (x : State). x.areas) is)
             ∙ ap (λ (n : ℕ). Some (record (store_area memory []) { held = n })) left_held;
@@ -221,20 +225,25 @@ end_out {tabled = tabled} laws lengths told s memory number t action flush resul
 
 -- ---- commit
 
-over_out : {tabled : Bool} → {P : Memory → Type 0} (told : Bool) (s : State) (memory : Memory) (number : ℕ) (go : Transaction → Plan Answered) (result : Answered) (v : State)
-    → ((t : Transaction) → transaction memory number ≡ Some t → CarriesOut told memory.client s (go t) result v → Out tabled from_outside s memory IsDone P result v)
-    → CarriesOut told memory.client s (over_transaction memory number go) result v → Out tabled from_outside s memory IsDone P result v
-over_out {tabled = tabled} {P = P} told s memory number go result v to carries = by (transaction memory number) refl carries
+over_out : {tabled : Bool} → {P : Memory → Type 0} (told : Bool) (s : State) (memory : Memory) (number : ℕ) (reason : Transaction → Option TxnRefusal)
+    (go : Transaction → Plan Answered) (result : Answered) (v : State)
+    → ((t : Transaction) → transaction memory number ≡ Some t → CarriesOut told memory.client s (go t) result v → Out tabled from_outside (reason t) s memory IsDone P result v)
+    → CarriesOut told memory.client s (over_transaction memory number go) result v → Out tabled from_outside (reason_within memory number reason) s memory IsDone P result v
+over_out {tabled = tabled} {P = P} told s memory number reason go result v to carries = by (transaction memory number) refl carries
   where
     by : (o : Option Transaction) → transaction memory number ≡ o → CarriesOut told memory.client s (option_map_or go o (refuses memory denials.NoSuchTxn)) result v
-        → Out tabled from_outside s memory IsDone P result v
-    by None is over = denied denials.NoSuchTxn refl over.0 over.1
-    by (Some t) is carried = to t is carried
+        → Out tabled from_outside (reason_within memory number reason) s memory IsDone P result v
+    by None is over =
+        denied denials.NoSuchTxn (ap (λ (o : Option Transaction). option_map_or reason o (Some denials.NoSuchTxn)) is) refl over.0 over.1
+    by (Some t) is carried =
+        subst (λ (own : Option TxnRefusal). Out tabled from_outside own s memory IsDone P result v)
+        (sym (ap (λ (o : Option Transaction). option_map_or reason o (Some denials.NoSuchTxn)) is)) (to t is carried)
 
 pub commit_out : {tabled : Bool} → Laws → Lengths → (told : Bool) (s : State) (memory : Memory) (number : ℕ) (result : Answered) (v : State) → IsStore tabled s memory
-    → CarriesOut told memory.client s (commit_plan memory number) result v → Out tabled from_outside s memory IsDone (IsCommitted number memory) result v
+    → CarriesOut told memory.client s (commit_plan memory number) result v
+    → Out tabled from_outside (table_reason memory (asked.Commit number)) s memory IsDone (IsCommitted number memory) result v
 commit_out {tabled = tabled} laws lengths told s memory number result v store carries =
-    over_out told s memory number (λ t. end_plan memory t Commit true) result v
+    over_out told s memory number (λ t. None) (λ t. end_plan memory t Commit true) result v
     (λ t there carried. by t there (end_out laws lengths told s memory number t Commit true result v store there tt (committed_keeps t there) carried)) carries
   where
     committed_keeps : (t : Transaction) → transaction memory number ≡ Some t → tabled ≡ true
@@ -246,9 +255,9 @@ commit_out {tabled = tabled} laws lengths told s memory number result v store ca
         commit_keeps (first_cells s memory.stream) (records_after s memory.stream) memory (store.table so) at.before at.after t at.is apart.1
         (without_first (is_numbered t.number) memory.transactions) (gone_from memory.transactions t at) is_open.numbered
 
-    by : (t : Transaction) → transaction memory number ≡ Some t → Ended tabled memory t result v → Out tabled from_outside s memory IsDone (IsCommitted number memory) result v
-    by t there (not_ended h) = stopped h
-    by t there (ended so is store_after) = done so
+    by : (t : Transaction) → transaction memory number ≡ Some t → Ended tabled memory t result v → Out tabled from_outside None s memory IsDone (IsCommitted number memory) result v
+    by t there (not_ended h) = stopped refl h
+    by t there (ended so is store_after) = done refl so
         (record {
           was = t;
           there = there;
@@ -277,31 +286,33 @@ back_leaves {tabled = tabled} s u memory now number to_keep t x store there few 
     }
 
 pub back_out : {tabled : Bool} → Laws → Lengths → (told : Bool) (s : State) (memory : Memory) (number to_keep : ℕ) (result : Answered) (v : State) → IsStore tabled s memory
-    → CarriesOut told memory.client s (back_plan memory number to_keep) result v → Out tabled from_outside s memory IsDone (IsTakenBack number to_keep memory) result v
+    → CarriesOut told memory.client s (back_plan memory number to_keep) result v
+    → Out tabled from_outside (table_reason memory (asked.Back number to_keep)) s memory IsDone (IsTakenBack number to_keep memory) result v
 back_out {tabled = tabled} laws lengths told s memory number to_keep result v store carries =
-    over_out told s memory number (λ t. unless (nat_lt (length (standing t)) to_keep) (denials.KeptTooMany (length (standing t))) memory
+    over_out told s memory number (back_reason to_keep) (λ t. unless (nat_lt (length (standing t)) to_keep) (denials.KeptTooMany (length (standing t))) memory
     (undo_sets (length (standing t) - to_keep) memory t (λ now. answers told_replies.Done now))) result v
     (λ t there carried. by t there (nat_lt (length (standing t)) to_keep) refl carried) carries
   where
-    over : (t : Transaction) → transaction memory number ≡ Some t → to_keep ≤ length (standing t)
+    over : (t : Transaction) → transaction memory number ≡ Some t → to_keep ≤ length (standing t) → back_reason to_keep t ≡ None
         → Undoing tabled told t.number t memory (length (standing t) - to_keep) (λ now. answers told_replies.Done now) result v
-        → Out tabled from_outside s memory IsDone (IsTakenBack number to_keep memory) result v
-    over t there few (halted h) = stopped h
-    over t there few (came_to u now x store_u undone client finished) =
+        → Out tabled from_outside (back_reason to_keep t) s memory IsDone (IsTakenBack number to_keep memory) result v
+    over t there few clear (halted h) = stopped clear h
+    over t there few clear (came_to u now x store_u undone client finished) =
         let named = number_found memory number t there in
         let left = back_leaves s u memory now number to_keep t x store_u there few
         (subst (λ (n : ℕ). IsUndone n t memory now x (length (standing t) - to_keep)) named undone) in
-        done (ap (λ (a : Answered). a.reply) finished.0)
+        done clear (ap (λ (a : Answered). a.reply) finished.0)
         (subst (λ (a : Answered). IsTakenBack number to_keep memory a.memory) (sym finished.0) left)
         (subst (λ (y : State). IsStore tabled y result.memory) (sym finished.1) (subst (λ (a : Answered). IsStore tabled u a.memory) (sym finished.0) store_u))
 
     by : (t : Transaction) → transaction memory number ≡ Some t → (more : Bool) → nat_lt (length (standing t)) to_keep ≡ more
         → CarriesOut told memory.client s (unless more (denials.KeptTooMany (length (standing t))) memory
         (undo_sets (length (standing t) - to_keep) memory t (λ now. answers told_replies.Done now))) result v
-        → Out tabled from_outside s memory IsDone (IsTakenBack number to_keep memory) result v
-    by t there true is so = denied (denials.KeptTooMany (length (standing t))) refl so.0 so.1
+        → Out tabled from_outside (back_reason to_keep t) s memory IsDone (IsTakenBack number to_keep memory) result v
+    by t there true is so =
+        denied (denials.KeptTooMany (length (standing t))) (ap (λ (b : Bool). reason_if b (denials.KeptTooMany (length (standing t))) None) is) refl so.0 so.1
     by t there false is carried =
-        over t there (ltb-false (length (standing t)) to_keep is)
+        over t there (ltb-false (length (standing t)) to_keep is) (ap (λ (b : Bool). reason_if b (denials.KeptTooMany (length (standing t))) None) is)
         (undo_started (length (standing t) - to_keep) laws lengths told s memory t (λ now. answers told_replies.Done now) result v store (found_by_its memory number t there)
         (omega arith) carried)
 
@@ -345,9 +356,9 @@ rolled_keeps {tabled = tabled} u now number x store there none so =
 
 pub rollback_out : {tabled : Bool} → Laws → Lengths → (told : Bool) (s : State) (memory : Memory) (number : ℕ) (result : Answered) (v : State) → IsStore tabled s memory
     → CarriesOut told memory.client s (rollback_plan memory number) result v
-    → (Out tabled from_outside s memory IsDone (IsRolledBack number memory) result v)
+    → Out tabled from_outside (table_reason memory (asked.Rollback number)) s memory IsDone (IsRolledBack number memory) result v
 rollback_out {tabled = tabled} laws lengths told s memory number result v store carries =
-    over_out told s memory number (λ t. undo_sets (length (standing t)) memory t ends_it) result v
+    over_out told s memory number (λ t. None) (λ t. undo_sets (length (standing t)) memory t ends_it) result v
     (λ t there carried. over t there
     (undo_started (length (standing t)) laws lengths told s memory t ends_it result v store (found_by_its memory number t there) (omega arith) carried)) carries
   where
@@ -356,14 +367,14 @@ rollback_out {tabled = tabled} laws lengths told s memory number result v store 
 
     by : (t : Transaction) → transaction memory number ≡ Some t → (u : State) (now : Memory) (x : Transaction) → IsStore tabled u now
         → IsUndone number t memory now x (length (standing t)) → Ended tabled now x result v
-        → Out tabled from_outside s memory IsDone (IsRolledBack number memory) result v
-    by t there u now x store_u undone (not_ended h) = stopped h
+        → Out tabled from_outside None s memory IsDone (IsRolledBack number memory) result v
+    by t there u now x store_u undone (not_ended h) = stopped refl h
     by t there u now x store_u undone (ended so is store_v) =
-        done so (rolled_back s u memory now number t x result.memory store_u there undone is) store_v
+        done refl so (rolled_back s u memory now number t x result.memory store_u there undone is) store_v
 
     over : (t : Transaction) → transaction memory number ≡ Some t → Undoing tabled told t.number t memory (length (standing t)) ends_it result v
-        → Out tabled from_outside s memory IsDone (IsRolledBack number memory) result v
-    over t there (halted h) = stopped h
+        → Out tabled from_outside None s memory IsDone (IsRolledBack number memory) result v
+    over t there (halted h) = stopped refl h
     over t there (came_to u now x store_u undone client carried) =
         let named = number_found memory number t there in
         let its = subst (λ (n : ℕ). IsUndone n t memory now x (length (standing t))) named undone in

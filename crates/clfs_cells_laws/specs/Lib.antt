@@ -5,3 +5,4 @@ pub mod Tables
 pub mod Stores
 pub mod Steps
 pub mod Crashes
+pub mod Reasons

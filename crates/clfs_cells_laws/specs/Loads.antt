@@ -1,9 +1,9 @@
 -- What loading comes to, as facts of the store and of the log that it leaves.
-use Rattle.std.specs.Prelude.{◌≤◌, ◌≡◌, ◌⊎◌, ℕ, Bool, true, false, [], length, Some, None, IsSome, MatchBool}
+use Rattle.std.specs.Prelude.{◌≤◌, ◌≡◌, ◌≢◌, ◌⊎◌, ℕ, Bool, true, false, [], length, Some, None, IsSome, MatchBool}
 use Rattle.std.specs.List.{AllByRecursion}
 use Rattle.clfs_model.specs.declared.refusal.Refusal.TheVariants as log_refusals
 use Rattle.clfs_model.specs.declared.state.State.{State}
-use Rattle.clfs_model.specs.Live.{live_at}
+use Rattle.clfs_model.specs.Live.{live, live_at}
 use Rattle.clfs_model.specs.Refusals.{stream_number}
 use Rattle.clfs_model.specs.State.{area_of, areas_of}
 use Rattle.clfs_cells.specs.declared.told.TxnLoadRefusal.{TxnLoadRefusal}
@@ -14,11 +14,12 @@ use Rattle.clfs_cells.specs.Stored.{Memory}
 use Rattle.clfs_cells.specs.declared.row.TxnRecord.{TxnRecord}
 use Rattle.clfs_cells.specs.Table.{records_after, table, table_name}
 
--- A store that was loaded from a log, and the log that it has. Over a disk that tells what it holds its cells are the table, and the next transaction gets
+-- A store that was loaded from a log, and the log that it has, of whose stream a record is live. Over a disk that tells what it holds its cells are the table, and the next transaction gets
 -- the number above the last one.
 pub record IsLoaded (told : Bool) (log : State) (client : ℕ) (memory : Memory) (t : State) : Type 0 where
   pub by : memory.client ≡ client
   pub stream : stream_number t table_name ≡ Some memory.stream
+  pub some : live t memory.stream ≢ []
   pub area : area_of t client memory.area ≡ Some (record (table_area log client) { number = memory.area; stream = memory.stream })
   pub none : memory.transactions ≡ []
   pub whole : t.broken ≡ false

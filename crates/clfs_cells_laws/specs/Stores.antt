@@ -3,13 +3,14 @@
 -- The open transactions share no cell. The sets of one that stand lie one on the other: undoing goes from each to the one below it, and each found in its cell what
 -- those below it leave there. So taking sets back from the top gives each cell the value that it had. The log has all these sets, live, and the store's area
 -- holds a sector for each record that an open transaction may still append, so none of these is refused.
-use Rattle.std.specs.Prelude.{◌≡◌, ◌⊎◌, ℕ, ◌+◌, ◌-◌, ◌<◌, ◌≤◌, Bool, true, false, List, [], ◌∷◌, length, Some, slice_index}
+use Rattle.std.specs.Prelude.{◌≡◌, ◌≢◌, ◌⊎◌, ℕ, ◌+◌, ◌-◌, ◌<◌, ◌≤◌, Bool, true, false, List, [], ◌∷◌, length, Some, slice_index}
 use Rattle.std.specs.List.{AllByRecursion}
 use Rattle.clfs_lsn.specs.Lsn.{null_lsn}
 use Rattle.clfs_lsn.specs.declared.cursor.Cursor.{Cursor}
 use Rattle.clfs_lsn.specs.declared.entry.LogEntry.{LogEntry}
 use Rattle.clfs_model.specs.declared.state.Area.{Area}
 use Rattle.clfs_model.specs.declared.state.State.{State}
+use Rattle.clfs_model.specs.Live.{live}
 use Rattle.clfs_model.specs.Reading.{entry_at}
 use Rattle.clfs_model.specs.Refusals.{stream_number}
 use Rattle.clfs_model.specs.State.{area_of, base_of}
@@ -80,12 +81,13 @@ store_area memory cursors = record {
   cursors = cursors;
 }
 
--- A log that isn't broken, and what a store keeps beside it, whose area has these cursors. With `tabled` its cells are what the log says: so they are if the
+-- A log that isn't broken and has a live record of the stream, and what a store keeps beside it, whose area has these cursors. With `tabled` its cells are what the log says: so they are if the
 -- disk told what it held when the table was loaded.
 pub record IsStoreWith (tabled : Bool) (cursors : List Cursor) (log : State) (memory : Memory) : Type 0 where
   pub valid : IsValid log
   pub whole : log.broken ≡ false
   pub stream : stream_number log table_name ≡ Some memory.stream
+  pub some : live log memory.stream ≢ []
   pub area : area_of log memory.client memory.area ≡ Some (store_area memory cursors)
   pub cells : length memory.cells ≡ cell_count
   pub apart : AllApart memory.transactions

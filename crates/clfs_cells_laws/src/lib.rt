@@ -33,9 +33,16 @@ mod crashes;
 mod stores;
 mod tables;
 
-use clfs_laws::{broken_stays, faults_break, replies_are_of_their_calls, sameness, unbroken_stays};
+use clfs_cells::{checkpoints_are_read_as_written, records_are_read_as_written};
+use clfs_laws::{
+    broken_stays, faults_break, held_sectors_suffice, replies_are_of_their_calls, sameness,
+    steps_keep_a_state_valid, steps_only_add_records, unbroken_stays,
+};
 pub use crashes::crashes_leave_the_table;
-pub use stores::{a_transaction_has_its_room, calls_keep_a_store, calls_leave_the_cells_so};
+pub use stores::{
+    a_transaction_has_its_room, calls_are_refused_for_the_first_reason, calls_keep_a_store,
+    calls_leave_the_cells_so,
+};
 pub use tables::{a_commit_joins_the_table, a_stores_cells_are_its_table};
 
 /// What loading a table comes to, from a log that can be, for a client that has no area. The function does nothing.
@@ -44,7 +51,13 @@ pub fn loading_comes_to_the_table()
         → LoadStep told log client (Ok memory) t → IsLoaded told log client memory t }
     ensures refused { (told : Bool) (log : State) (client : ℕ) (cause : TxnLoadRefusal) (t : State) → IsValid log → areas_of log client ≡ []
         → LoadStep told log client (Err cause) t → IsNotLoaded told log client cause t }
-{}
+{
+    checkpoints_are_read_as_written();
+    records_are_read_as_written();
+    held_sectors_suffice();
+    steps_keep_a_state_valid();
+    steps_only_add_records();
+}
 
 /// Logs that are the same but for records that no reply can show have the same table. The function does nothing.
 pub fn the_same_log_has_the_same_table()

@@ -12,10 +12,12 @@ ghost use Rattle.clfs_cells.specs.declared.asked.TxnCall.TheVariants as calls;
 ghost use Rattle.clfs_cells.specs.declared.told.TxnRefusal.TheVariants.{Log};
 ghost use Rattle.clfs_cells.specs.declared.told.TxnReply.{TxnReply};
 ghost use Rattle.clfs_cells.specs.declared.told.TxnReply.TheVariants as replies;
+ghost use Rattle.clfs_cells_laws.specs.Reasons.{IsForReason};
 ghost use Rattle.clfs_cells_laws.specs.Steps.{HasArguments, IsCommitted, IsRolledBack, IsSetTo, IsTakenBack, for_room_or_outside, from_outside, is_within};
 ghost use Rattle.clfs_cells_laws.specs.Stores.{IsKeptStore, IsStore};
 ghost use Rattle.clfs_cells_laws.specs.Tables.{HasNumbers};
 
+use crate::only_faults_break_a_store;
 use clfs_cells::{checkpoints_are_read_as_written, records_are_read_as_written};
 use clfs_laws::{held_sectors_suffice, steps_keep_a_state_valid, steps_only_add_records};
 
@@ -71,4 +73,21 @@ pub fn a_transaction_has_its_room()
     held_sectors_suffice();
     steps_keep_a_state_valid();
     steps_only_add_records();
+}
+
+/// A call of a store is refused for the first of its reasons, and answered if there is none: that the log is broken, then the table's own reasons in their order, then
+/// the log's. A fault of the disk and damage are told only if there is none, and out of memory only if the log isn't broken and the table has no reason of its own.
+/// So the log refuses a checkpoint for room or for what comes from outside, and for nothing else.
+pub fn calls_are_refused_for_the_first_reason()
+    ensures reason { (tabled told : Bool) (s t : Store) (call : TxnCall) (reply : TxnReply) → HasArguments call → IsKeptStore tabled s.log s.memory
+        → TxnStep told s call reply t → IsForReason s call reply }
+    ensures checkpoint { (tabled told : Bool) (s t : Store) (given : Refusal) → IsKeptStore tabled s.log s.memory
+        → TxnStep told s calls.Checkpoint (replies.Refused (Log given)) t → for_room_or_outside given ≡ true }
+{
+    checkpoints_are_read_as_written();
+    records_are_read_as_written();
+    held_sectors_suffice();
+    steps_keep_a_state_valid();
+    steps_only_add_records();
+    only_faults_break_a_store();
 }

@@ -106,6 +106,20 @@ fn a_full_log_goes_on_after_a_checkpoint(rt: HostRuntime) -> Result<(), AllocErr
     Ok(())
 }
 
+// The same log goes on if it gets a container more, too.
+#[test]
+fn a_full_log_goes_on_with_more_containers(rt: HostRuntime) -> Result<(), AllocError> {
+    let alloc = rt.alloc();
+    let (mut script, mut want) = seventeen(alloc)?;
+    script.extend_from_slice(b"begin 7\n")?;
+    want.extend_from_slice(b"refused 5 Full 14 0 15\n")?;
+    let disk = formatted(&rt, alloc, ["1", "16", "2"])?;
+    let disk = check_table(&rt, alloc, disk, &script, &want)?;
+    let disk = check_script(&rt, alloc, disk, b"1 size 3\n", b"1 containers 3\n")?;
+    check_table(&rt, alloc, disk, b"get 1\nbegin 7\n", b"value 17\ntxn 18\n")?;
+    Ok(())
+}
+
 // Lines of another client that make the stream, and why its records are no table then: there is no restart area, or one of another length.
 const STRANGERS: [(&[u8], &[u8], &[u8]); 2] = [
     (

@@ -16,9 +16,10 @@ ghost use Rattle.clfs_cells.specs.declared.told.TxnRefusal.TheVariants as refusa
 ghost use Rattle.clfs_cells.specs.declared.told.TxnReply.TheVariants as replies;
 ghost use Rattle.clfs_cells_laws.specs.Crashes.{IsSafe, IsSafeLog, table_joined};
 ghost use Rattle.clfs_cells_laws.specs.Loads.{IsLoaded, IsNotLoaded};
+ghost use Rattle.clfs_cells_laws.specs.Reasons.{IsForReason};
 ghost use Rattle.clfs_cells_laws.specs.Steps.{IsCommitted, IsRolledBack, IsSetTo, IsTakenBack, for_room_or_outside, from_outside};
 ghost use Rattle.clfs_cells_laws.specs.Tables.{numbers_of};
-ghost use Rattle.clfs_txn.specs.Calls.{TxnSteps, is_fault, is_of_log};
+ghost use Rattle.clfs_txn.specs.Calls.{TxnSteps, is_fault, is_of_log, replied};
 ghost use Rattle.clfs_txn.specs.Crashes.{CrashLeavesTable, KeepsTable, LeavesTableOf};
 ghost use Rattle.clfs_txn.specs.Loading.{left_by, loaded_of};
 
@@ -26,9 +27,9 @@ use crate::loading::TxnLoadRefused;
 use crate::table::TableLog;
 use clfs_cells::TxnRefusal;
 use clfs_cells_laws::{
-    a_stores_cells_are_its_table, a_transaction_has_its_room, calls_keep_a_store,
-    calls_leave_the_cells_so, crashes_leave_the_table, only_faults_break_a_store,
-    the_same_log_has_the_same_table,
+    a_stores_cells_are_its_table, a_transaction_has_its_room,
+    calls_are_refused_for_the_first_reason, calls_keep_a_store, calls_leave_the_cells_so,
+    crashes_leave_the_table, only_faults_break_a_store, the_same_log_has_the_same_table,
 };
 use clfs_disk::Disk;
 use clfs_manager::Manager;
@@ -101,6 +102,7 @@ impl<D: Disk> TxnStore<D> {
         requires some { 1 ≤ changes }
         requires few { changes ≤ 7 }
         ensures step { (told : Bool) → TxnSteps told self.old.0 (asked.Begin changes) replies.Begun result self.new.0 }
+        ensures reason { IsForReason self.old.0 (asked.Begin changes) (replied replies.Begun result) }
         ensures moments { LeavesTableOf self.old.0 (asked.Begin changes) (D.state self.old.1) (D.state self.new.1) }
         ensures table { KeepsTable (D.state self.old.1) self.old.0 (asked.Begin changes) replies.Begun result self.new.0 }
         ensures writes { WritesDisk (IsErrOf result (refusals.Log log_refusals.DiskFault)) (D.state self.old.1) (D.state self.new.1) }
@@ -110,6 +112,7 @@ impl<D: Disk> TxnStore<D> {
         ensures refused { (given : LogRefusal) → IsErrOf result (refusals.Log given) → for_room_or_outside given ≡ true }
     {
         calls_keep_a_store();
+        calls_are_refused_for_the_first_reason();
         calls_leave_the_cells_so();
         a_transaction_has_its_room();
         crashes_leave_the_table();
@@ -125,6 +128,7 @@ impl<D: Disk> TxnStore<D> {
     pub fn set(&mut self, txn: u32, cell: u16, value: u64) -> Result<(), TxnRefusal>
         requires { cell < 32 }
         ensures step { (told : Bool) → TxnSteps told self.old.0 (asked.Set txn cell value) (λ _. replies.Done) result self.new.0 }
+        ensures reason { IsForReason self.old.0 (asked.Set txn cell value) (replied (λ _. replies.Done) result) }
         ensures moments { LeavesTableOf self.old.0 (asked.Set txn cell value) (D.state self.old.1) (D.state self.new.1) }
         ensures table { KeepsTable (D.state self.old.1) self.old.0 (asked.Set txn cell value) (λ _. replies.Done) result self.new.0 }
         ensures writes { WritesDisk (IsErrOf result (refusals.Log log_refusals.DiskFault)) (D.state self.old.1) (D.state self.new.1) }
@@ -134,6 +138,7 @@ impl<D: Disk> TxnStore<D> {
         ensures room { (given : LogRefusal) → IsErrOf result (refusals.Log given) → from_outside given ≡ true }
     {
         calls_keep_a_store();
+        calls_are_refused_for_the_first_reason();
         calls_leave_the_cells_so();
         a_transaction_has_its_room();
         crashes_leave_the_table();
@@ -149,6 +154,7 @@ impl<D: Disk> TxnStore<D> {
     /// be taken back, and the call may be made again; after a fault or damage the store is broken, and after the others nothing has changed.
     pub fn back(&mut self, txn: u32, kept: u16) -> Result<(), TxnRefusal>
         ensures step { TxnSteps (D.state self.old.1).nature.tells_contents self.old.0 (asked.Back txn kept) (λ _. replies.Done) result self.new.0 }
+        ensures reason { IsForReason self.old.0 (asked.Back txn kept) (replied (λ _. replies.Done) result) }
         ensures moments { LeavesTableOf self.old.0 (asked.Back txn kept) (D.state self.old.1) (D.state self.new.1) }
         ensures table { KeepsTable (D.state self.old.1) self.old.0 (asked.Back txn kept) (λ _. replies.Done) result self.new.0 }
         ensures writes { WritesDisk (IsErrOf result (refusals.Log log_refusals.DiskFault)) (D.state self.old.1) (D.state self.new.1) }
@@ -159,6 +165,7 @@ impl<D: Disk> TxnStore<D> {
         ensures room { (given : LogRefusal) → IsErrOf result (refusals.Log given) → from_outside given ≡ true }
     {
         calls_keep_a_store();
+        calls_are_refused_for_the_first_reason();
         calls_leave_the_cells_so();
         a_transaction_has_its_room();
         crashes_leave_the_table();
@@ -172,6 +179,7 @@ impl<D: Disk> TxnStore<D> {
     /// Refused in this order: `Log(Broken)`, `NoSuchTxn`, and out of memory and a fault of the disk. After out of memory nothing has changed.
     pub fn commit(&mut self, txn: u32) -> Result<(), TxnRefusal>
         ensures step { (told : Bool) → TxnSteps told self.old.0 (asked.Commit txn) (λ _. replies.Done) result self.new.0 }
+        ensures reason { IsForReason self.old.0 (asked.Commit txn) (replied (λ _. replies.Done) result) }
         ensures moments { LeavesTableOf self.old.0 (asked.Commit txn) (D.state self.old.1) (D.state self.new.1) }
         ensures table { KeepsTable (D.state self.old.1) self.old.0 (asked.Commit txn) (λ _. replies.Done) result self.new.0 }
         ensures lasts { OnOk result (self.old.0.log.broken ≡ false → IsSafe self.old.0.log self.old.0.memory.stream
@@ -184,6 +192,7 @@ impl<D: Disk> TxnStore<D> {
         ensures room { (given : LogRefusal) → IsErrOf result (refusals.Log given) → from_outside given ≡ true }
     {
         calls_keep_a_store();
+        calls_are_refused_for_the_first_reason();
         calls_leave_the_cells_so();
         a_transaction_has_its_room();
         crashes_leave_the_table();
@@ -201,6 +210,7 @@ impl<D: Disk> TxnStore<D> {
     /// back, and the call may be made again.
     pub fn rollback(&mut self, txn: u32) -> Result<(), TxnRefusal>
         ensures step { TxnSteps (D.state self.old.1).nature.tells_contents self.old.0 (asked.Rollback txn) (λ _. replies.Done) result self.new.0 }
+        ensures reason { IsForReason self.old.0 (asked.Rollback txn) (replied (λ _. replies.Done) result) }
         ensures moments { LeavesTableOf self.old.0 (asked.Rollback txn) (D.state self.old.1) (D.state self.new.1) }
         ensures table { KeepsTable (D.state self.old.1) self.old.0 (asked.Rollback txn) (λ _. replies.Done) result self.new.0 }
         ensures writes { WritesDisk (IsErrOf result (refusals.Log log_refusals.DiskFault)) (D.state self.old.1) (D.state self.new.1) }
@@ -211,6 +221,7 @@ impl<D: Disk> TxnStore<D> {
         ensures room { (given : LogRefusal) → IsErrOf result (refusals.Log given) → from_outside given ≡ true }
     {
         calls_keep_a_store();
+        calls_are_refused_for_the_first_reason();
         calls_leave_the_cells_so();
         a_transaction_has_its_room();
         crashes_leave_the_table();
@@ -234,18 +245,21 @@ impl<D: Disk> TxnStore<D> {
     /// Writes a restart area with all cells, which is on the disk when the call answers. The stream's base is one above the last record before it then,
     /// so all records below the restart area are given up.
     ///
-    /// Refused in this order: `Log(Broken)`, `TxnsOpen`, and what the log refuses: `Full`, and out of memory and a fault of the disk. After any refusal but a
-    /// fault of the disk nothing has changed.
+    /// Refused in this order: `Log(Broken)`, `TxnsOpen`, and what the log refuses: `NotEnoughContainers`, `Full`, and out of memory and a fault of the disk. After any
+    /// refusal but a fault of the disk nothing has changed.
     pub fn checkpoint(&mut self) -> Result<(), TxnRefusal>
         ensures step { (told : Bool) → TxnSteps told self.old.0 asked.Checkpoint (λ _. replies.Done) result self.new.0 }
+        ensures reason { IsForReason self.old.0 asked.Checkpoint (replied (λ _. replies.Done) result) }
         ensures moments { LeavesTableOf self.old.0 asked.Checkpoint (D.state self.old.1) (D.state self.new.1) }
         ensures table { KeepsTable (D.state self.old.1) self.old.0 asked.Checkpoint (λ _. replies.Done) result self.new.0 }
         ensures writes { WritesDisk (IsErrOf result (refusals.Log log_refusals.DiskFault)) (D.state self.old.1) (D.state self.new.1) }
         ensures kept { IfErr result (λ refusal. is_fault refusal ≡ false → self.new.0 ≡ self.old.0) }
         ensures stopped { self.old.0.log.broken ≡ true → self.new.1 ≡ self.old.1 }
         ensures cells { OnOk result (self.new.0.memory ≡ self.old.0.memory) }
+        ensures refused { (given : LogRefusal) → IsErrOf result (refusals.Log given) → for_room_or_outside given ≡ true }
     {
         calls_keep_a_store();
+        calls_are_refused_for_the_first_reason();
         calls_leave_the_cells_so();
         crashes_leave_the_table();
         the_same_log_has_the_same_table();

@@ -18,10 +18,10 @@ returns c =
     } in
     record {
       loaded = λ told log client memory t valid none step.
-          loaded_store false told log client memory t (loads told log client (Ok memory) t valid none step) (load_valid laws told log client (Ok memory) t valid step)
+          loaded_store false told log client memory t (loads laws told log client (Ok memory) t valid none step) (load_valid laws told log client (Ok memory) t valid step)
           (λ so. absurd (cc so));
       loaded_table = λ log client memory t valid none step numbers.
-          let is = loads true log client (Ok memory) t valid none step in
+          let is = loads laws true log client (Ok memory) t valid none step in
           loaded_store true true log client memory t is (load_valid laws true log client (Ok memory) t valid step) (λ _. loaded_table log client memory t is numbers);
       kept = λ tabled told s t call reply has store step.
           stays tabled laws (λ txn action. c.records_are_read_as_written.ensures.length (txn_record txn action)) told s t store call reply has step;

@@ -16,6 +16,12 @@ invariant_of-self g c =
     subst (λ (b : Bool). IsKeptStore b c.back.new.self.0.log c.back.new.self.0.memory) (ap (λ (n : Nature). n.tells_contents) (sym c.back.ensures.writes.time.nature))
     (c.calls_keep_a_store.ensures.kept tells tells c.args.self.now.0 c.back.new.self.0 (asked.Back c.args.txn c.args.kept) _ tt so.kept so.step)
 
+pub returns-clause-reason : goal.returns-clause-reason
+returns-clause-reason g c =
+    let tells = (g.D.Disk.state c.self.inside.table.1).nature.tells_contents in
+    let so = went tells tells c.self.inside.table c.args.self.now (asked.Back c.args.txn c.args.kept) (λ _. replies.Done) c.back.result c.back.new.self.0 c.self.view_is c.self.invariant c.back.ensures.step in
+    c.calls_are_refused_for_the_first_reason.ensures.reason tells tells c.args.self.now.0 c.back.new.self.0 (asked.Back c.args.txn c.args.kept) _ tt so.kept so.step
+
 pub returns-clause-values : goal.returns-clause-values
 returns-clause-values g c =
     let tells = (g.D.Disk.state c.self.inside.table.1).nature.tells_contents in

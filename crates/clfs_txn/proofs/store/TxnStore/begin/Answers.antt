@@ -16,6 +16,12 @@ invariant_of-self g c =
     subst (λ (b : Bool). IsKeptStore b c.begin.new.self.0.log c.begin.new.self.0.memory) (ap (λ (n : Nature). n.tells_contents) (sym c.begin.ensures.writes.time.nature))
     (c.calls_keep_a_store.ensures.kept tells true c.args.self.now.0 c.begin.new.self.0 (asked.Begin c.args.changes) _ tt so.kept so.step)
 
+pub returns-clause-reason : goal.returns-clause-reason
+returns-clause-reason g c =
+    let tells = (g.D.Disk.state c.self.inside.table.1).nature.tells_contents in
+    let so = went tells true c.self.inside.table c.args.self.now (asked.Begin c.args.changes) replies.Begun c.begin.result c.begin.new.self.0 c.self.view_is c.self.invariant (c.begin.ensures.step true) in
+    c.calls_are_refused_for_the_first_reason.ensures.reason tells true c.args.self.now.0 c.begin.new.self.0 (asked.Begin c.args.changes) _ tt so.kept so.step
+
 pub returns-clause-begun : goal.returns-clause-begun
 returns-clause-begun g c =
     let tells = (g.D.Disk.state c.self.inside.table.1).nature.tells_contents in

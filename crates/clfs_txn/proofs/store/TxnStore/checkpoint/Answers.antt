@@ -1,8 +1,10 @@
-use Rattle.std.proofs.Common.{false, true, ap, sym, subst, Bool}
+use Rattle.std.proofs.Common.{◌≡◌, false, true, ap, sym, subst, Bool}
+use Rattle.clfs_model.specs.declared.refusal.Refusal.{Refusal}
 use Rattle.clfs_cells.specs.declared.asked.TxnCall.TheVariants as asked
 use Rattle.clfs_cells.specs.declared.told.TxnReply.TheVariants as replies
-use Rattle.clfs_txn.proofs.Between.{if_done, went}
+use Rattle.clfs_txn.proofs.Between.{if_done, if_refused, went}
 use Rattle.clfs_disk.specs.State.{Nature}
+use Rattle.clfs_cells_laws.specs.Steps.{for_room_or_outside}
 use Rattle.clfs_cells_laws.specs.Stores.{IsKeptStore}
 use Rattle.clfs_txn.proofs.Tables.{Crashes, keeps, moments}
 use Rattle.clfs_txn.proofs.store.TxnStore.checkpoint.Goals as goal
@@ -13,6 +15,19 @@ invariant_of-self g c =
     let so = went tells true c.self.inside.table c.args.self.now (asked.Checkpoint) (λ _. replies.Done) c.checkpoint.result c.checkpoint.new.self.0 c.self.view_is c.self.invariant (c.checkpoint.ensures.step true) in
     subst (λ (b : Bool). IsKeptStore b c.checkpoint.new.self.0.log c.checkpoint.new.self.0.memory) (ap (λ (n : Nature). n.tells_contents) (sym c.checkpoint.ensures.writes.time.nature))
     (c.calls_keep_a_store.ensures.kept tells true c.args.self.now.0 c.checkpoint.new.self.0 (asked.Checkpoint) _ tt so.kept so.step)
+
+pub returns-clause-reason : goal.returns-clause-reason
+returns-clause-reason g c =
+    let tells = (g.D.Disk.state c.self.inside.table.1).nature.tells_contents in
+    let so = went tells true c.self.inside.table c.args.self.now (asked.Checkpoint) (λ _. replies.Done) c.checkpoint.result c.checkpoint.new.self.0 c.self.view_is c.self.invariant (c.checkpoint.ensures.step true) in
+    c.calls_are_refused_for_the_first_reason.ensures.reason tells true c.args.self.now.0 c.checkpoint.new.self.0 (asked.Checkpoint) _ tt so.kept so.step
+
+pub returns-clause-refused : goal.returns-clause-refused
+returns-clause-refused g c =
+    let tells = (g.D.Disk.state c.self.inside.table.1).nature.tells_contents in
+    let so = went tells true c.self.inside.table c.args.self.now (asked.Checkpoint) (λ _. replies.Done) c.checkpoint.result c.checkpoint.new.self.0 c.self.view_is c.self.invariant (c.checkpoint.ensures.step true) in
+    if_refused (λ (given : Refusal). for_room_or_outside given ≡ true) true c.args.self.now.0 c.checkpoint.new.self.0 (asked.Checkpoint) (λ _. replies.Done) c.checkpoint.result
+    (λ given step. c.calls_are_refused_for_the_first_reason.ensures.checkpoint tells true c.args.self.now.0 c.checkpoint.new.self.0 given so.kept step) so.step
 
 pub returns-clause-cells : goal.returns-clause-cells
 returns-clause-cells g c =

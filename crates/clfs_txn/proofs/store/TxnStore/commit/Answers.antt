@@ -16,6 +16,12 @@ invariant_of-self g c =
     subst (λ (b : Bool). IsKeptStore b c.commit-answer.new.self.0.log c.commit-answer.new.self.0.memory) (ap (λ (n : Nature). n.tells_contents) (sym c.commit-answer.ensures.writes.time.nature))
     (c.calls_keep_a_store.ensures.kept tells true c.args.self.now.0 c.commit-answer.new.self.0 (asked.Commit c.args.txn) _ tt so.kept so.step)
 
+pub returns-clause-reason : goal.returns-clause-reason
+returns-clause-reason g c =
+    let tells = (g.D.Disk.state c.self.inside.table.1).nature.tells_contents in
+    let so = went tells true c.self.inside.table c.args.self.now (asked.Commit c.args.txn) (λ _. replies.Done) c.commit-answer.result c.commit-answer.new.self.0 c.self.view_is c.self.invariant (c.commit-answer.ensures.step true) in
+    c.calls_are_refused_for_the_first_reason.ensures.reason tells true c.args.self.now.0 c.commit-answer.new.self.0 (asked.Commit c.args.txn) _ tt so.kept so.step
+
 pub returns-clause-ended : goal.returns-clause-ended
 returns-clause-ended g c =
     let tells = (g.D.Disk.state c.self.inside.table.1).nature.tells_contents in

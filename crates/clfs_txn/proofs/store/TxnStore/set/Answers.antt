@@ -17,6 +17,13 @@ invariant_of-self g c =
     subst (λ (b : Bool). IsKeptStore b c.set.new.self.0.log c.set.new.self.0.memory) (ap (λ (n : Nature). n.tells_contents) (sym c.set.ensures.writes.time.nature))
     (c.calls_keep_a_store.ensures.kept tells true c.args.self.now.0 c.set.new.self.0 (asked.Set c.args.txn c.args.cell c.args.value) _ (c.requires, fits) so.kept so.step)
 
+pub returns-clause-reason : goal.returns-clause-reason
+returns-clause-reason g c =
+    let fits : c.args.value < 2 ^ 64 = omega arith in
+    let tells = (g.D.Disk.state c.self.inside.table.1).nature.tells_contents in
+    let so = went tells true c.self.inside.table c.args.self.now (asked.Set c.args.txn c.args.cell c.args.value) (λ _. replies.Done) c.set.result c.set.new.self.0 c.self.view_is c.self.invariant (c.set.ensures.step true) in
+    c.calls_are_refused_for_the_first_reason.ensures.reason tells true c.args.self.now.0 c.set.new.self.0 (asked.Set c.args.txn c.args.cell c.args.value) _ (c.requires, fits) so.kept so.step
+
 pub returns-clause-set : goal.returns-clause-set
 returns-clause-set g c =
     let fits : c.args.value < 2 ^ 64 = omega arith in
