@@ -18,7 +18,7 @@ use Rattle.clfs_archive.proofs.Among.{none_passes}
 use Rattle.clfs_archive.proofs.Sealing.{one_block, and_both, not_true, join, sealed_one}
 
 -- two LSNs with the same number but for the sequence are in one block
-in_block : (a b : ℕ) → a / 512 ≡ b / 512 → is_in_block a b ≡ true
+pub in_block : (a b : ℕ) → a / 512 ≡ b / 512 → is_in_block a b ≡ true
 in_block a b same =
     let container : container_of a ≡ container_of b = omega (arith, same) in
     let offset : offset_of a ≡ offset_of b = omega (arith, same) in

@@ -1,6 +1,6 @@
 -- The ends of blocks against the heads of records.
-use Rattle.std.specs.Prelude.{◌≡◌, ℕ, ◌*◌, ◌<◌, ◌≤◌, true, nat_le, List, [], ◌∷◌, ◌++◌, length, filter, All, AllPairs}
-use Rattle.std.specs.List.{Any}
+use Rattle.std.specs.Prelude.{◌≡◌, ℕ, ◌*◌, ◌<◌, ◌≤◌, Bool, ◌&&◌, not, true, nat_le, nat_lt, List, [], ◌∷◌, ◌++◌, length, filter, All, AllPairs}
+use Rattle.std.specs.List.{Any, list_any}
 use Rattle.clfs_lsn.specs.Lsn.{sequence_of}
 use Rattle.clfs_lsn.specs.declared.entry.Head.{Head}
 use Rattle.clfs_model.specs.Archive.{is_in_block}
@@ -18,6 +18,14 @@ blocks_from lsn blocks = filter (λ (block : BlockEnd). nat_le lsn block.last) b
 -- at most twice as many ends of blocks as lie from an LSN on
 abbrev pub AreFew : ℕ → List BlockEnd → Type 0
 AreFew lsn blocks = length blocks ≤ 2 * length (blocks_from lsn blocks)
+
+-- whether a record is the last of its block: no other one of the block lies above it
+abbrev pub is_last_in_block : List Head → Head → Bool
+is_last_in_block heads head = not (list_any (λ (other : Head). is_in_block other.lsn head.lsn && nat_lt head.lsn other.lsn) heads)
+
+-- The last record of each block that is sealed: of the blocks below the LSN at which the next one begins.
+abbrev pub sealed_lasts : ℕ → List Head → List Head
+sealed_lasts next heads = filter (λ (head : Head). nat_lt head.lsn next && is_last_in_block heads head) heads
 
 -- the end of a block of these records: its last one is there, no other of the block lies above it, and the block ends after all of them
 pub record IsBlock (heads : List Head) (block : BlockEnd) : Type 0 where

@@ -12,7 +12,7 @@ ghost use Rattle.clfs_model.specs.Heads.{extents_of};
 ghost use Rattle.clfs_model.specs.Live.{hold};
 ghost use Rattle.clfs_model.specs.Refusals.{tail_refusal};
 ghost use Rattle.clfs_archive.specs.declared.block.BlockEnd.{BlockEnd};
-ghost use Rattle.clfs_archive.specs.Blocks.{IsBlock, AreBlocks, AreFew, AreSealed, blocks_from};
+ghost use Rattle.clfs_archive.specs.Blocks.{IsBlock, AreBlocks, AreFew, AreSealed, blocks_from, sealed_lasts};
 
 use crate::block::{BlockEnd, extents_from};
 use clfs_lsn::{Lsn, forget_below, place_of};
@@ -57,8 +57,8 @@ impl Archive {
     /// How many ends of blocks are kept.
     pub fn len(&self) -> usize
         ensures value { result ≡ length self.now.blocks }
-        ensures records { (lsn from stable : ℕ) (heads : List Head) → AreBlocks from stable self.now.blocks heads
-            → length (blocks_from lsn self.now.blocks) ≤ length (heads_from lsn heads) }
+        ensures sealed { (lsn from next : ℕ) (heads : List Head) → from ≤ lsn → AreSealed from next self.now.blocks heads
+            → length (blocks_from lsn self.now.blocks) ≡ length (heads_from lsn (sealed_lasts next heads)) }
     {
         self.blocks.len()
     }

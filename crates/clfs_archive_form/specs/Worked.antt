@@ -6,7 +6,7 @@ use Rattle.byteorder.specs.Endian.{little_bytes}
 use Rattle.clfs_lsn.specs.Format.{sector_payload}
 use Rattle.clfs_lsn.specs.Spelling.{record_bytes}
 use Rattle.clfs_lsn.specs.declared.entry.LogEntry.{LogEntry}
-use Rattle.clfs_lsn.specs.declared.entry.Kind.TheVariants.{Plain}
+use Rattle.clfs_lsn.specs.declared.entry.Kind.TheVariants.{Plain, Restart}
 use Rattle.clfs_block.specs.Frame.{used_payload}
 use Rattle.clfs_base.specs.declared.demands.Demands.{Demands}
 use Rattle.clfs_base.specs.declared.image.BaseImage.{BaseImage}
@@ -72,6 +72,14 @@ further_record = small_record second_lsn first_lsn 204
 -- its block
 abbrev pub further_block : List ℕ
 further_block = block_with second_lsn (further_record ∷ [])
+
+-- a restart area in place of the second record, which moves the base of its stream to itself
+abbrev pub restart_area : LogEntry
+restart_area = record (small_record (first_lsn + 512) 0 187) { kind = Restart; new_base = first_lsn + 512 }
+
+-- its block
+abbrev pub restart_block : List ℕ
+restart_block = block_with (first_lsn + 512) (restart_area ∷ [])
 
 -- the copy of that log, with this base of its stream: blocks of 2 sectors and 2 containers of 8, of which container 1 is listed
 abbrev pub copy_with : ℕ → BaseImage

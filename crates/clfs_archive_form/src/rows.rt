@@ -6,7 +6,7 @@ ghost use Rattle.clfs_archive_form.specs.Form.{magic, archived_image, archived_p
 ghost use Rattle.clfs_archive_form.specs.Copies.{first_demands, later_demands, copy_told};
 ghost use Rattle.clfs_archive_form.specs.Archives.{magic_there, copy_there, rest_there, wanted_count, joined};
 ghost use Rattle.clfs_archive_form.specs.Restoring.{gap_in, bounds_of, chosen, restored, kept_records};
-ghost use Rattle.clfs_archive_form.specs.Worked.{first_lsn, second_lsn, first_record, second_record, first_block, second_block, three_records, three_block, further_record, further_block, copy_with, small_copy, longer_copy, small_rest, behind_copy, copy_front, front_fault, stored, small_archive, small_state};
+ghost use Rattle.clfs_archive_form.specs.Worked.{first_lsn, second_lsn, first_record, second_record, first_block, second_block, restart_block, three_records, three_block, further_record, further_block, copy_with, small_copy, longer_copy, small_rest, behind_copy, copy_front, front_fault, stored, small_archive, small_state};
 ghost use Rattle.clfs_archive_form.specs.declared.refusal.InputRefusal.TheVariants.{Gap, UpToInvalid};
 
 /// The archive of a small log with two records: its length and its front; which containers are archived; and that the copy of a log of the first
@@ -98,7 +98,7 @@ pub fn bounds_of_small_archives()
 {}
 
 /// The state that is restored of a small log: up to its first byte, within it, up to its end; with a block cut inside; with a base above the frontier;
-/// and up to the first byte of a later container.
+/// with a restart area that moves the base, which below it counts for nothing; and up to the first byte of a later container.
 pub fn restored_small_logs()
     ensures all { restored (first_block ++ second_block) (small_archive small_copy) (first_lsn + 1024) 4
         ≡ small_state (first_record ∷ second_record ∷ []) 1024 }
@@ -109,6 +109,9 @@ pub fn restored_small_logs()
     ensures used { block_payload (take 2 three_records) first_lsn ≡ 96 }
     ensures base { (restored (first_block ++ second_block) (small_archive (copy_with (first_lsn + 1024))) (first_lsn + 512) 4).streams
         ≡ record { name = 115 ∷ []; base = first_lsn + 512 } ∷ [] }
+    ensures restart_base { (restored (first_block ++ restart_block) (small_archive small_copy) (first_lsn + 1024) 4).streams
+        ≡ record { name = 115 ∷ []; base = first_lsn + 512 } ∷ [] }
+    ensures no_restart_area { restored (first_block ++ restart_block) (small_archive small_copy) (first_lsn + 512) 4 ≡ small_state (first_record ∷ []) 512 }
     ensures tail { (restored (first_block ++ second_block) (small_archive (record small_copy { tail = second_lsn })) (first_lsn + 512) 4).archive
         ≡ Some (first_lsn + 512) }
     ensures later_container { (restored (first_block ++ further_block) (record { image = longer_copy; containers = stored 1 0 512 ∷ stored 2 512 512 ∷ [] }) second_lsn 4).place

@@ -1,4 +1,4 @@
-// Writing the output, as far as the sink takes it.
+// Writing the output, as far as the sink takes it. A long output is given to it in pieces: the system takes one write of many megabytes more slowly.
 ghost use Rattle.std.specs.Prelude.{◌≡◌, ◌≢◌, ◌≤◌, ◌⊎◌, OnOk, OnErr};
 ghost use Rattle.std.specs.Io.KnownBytes.{Appends};
 ghost use Rattle.clfs_ports.specs.Cause.{HasCause, Rises};
@@ -6,6 +6,9 @@ ghost use Rattle.clfs_lines.specs.Ends.{AppendsFront};
 
 use crate::status::SINK_FAULT;
 use clfs_ports::{Failed, Sink};
+
+// The most bytes that are given to the sink in one call.
+const MOST_IN_A_CALL: usize = 1 << 20;
 
 /// Writes all the bytes, or a front of them where the sink fails. After a fault the sink isn't called again.
 pub fn write_all<K: Sink>(sink: &mut K, bytes: &[u8]) -> Result<(), Failed>
@@ -16,7 +19,8 @@ pub fn write_all<K: Sink>(sink: &mut K, bytes: &[u8]) -> Result<(), Failed>
     let mut done = 0;
     while done < bytes.len() {
         let (_, rest) = bytes.split_at(done);
-        let count = sink.write(rest)?;
+        let (piece, _) = rest.split_at(rest.len().min(MOST_IN_A_CALL));
+        let count = sink.write(piece)?;
         done += count;
     }
     Ok(())

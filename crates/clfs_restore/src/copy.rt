@@ -19,12 +19,19 @@ use clfs_manager::Manager;
 use clfs_recover::LoadRefusal;
 use std::alloc::{AllocError, Global};
 
-// So many zeros.
+// How many zeros are put at once.
+const ZEROS: usize = 4096;
+
+// So many zeros. They are put in pieces, since that takes less time than one after the other.
 pub(crate) fn zeros(alloc: Global, count: usize) -> Result<Vec<u8>, AllocError>
     ensures { IfOk result (λ bytes. vec_len bytes ≡ count) }
 {
-    let mut bytes = Vec::new(alloc);
-    bytes.resize(count, 0)?;
+    let some = [0; ZEROS];
+    let mut bytes = Vec::with_capacity(alloc, count)?;
+    while bytes.len() < count {
+        let more = (count - bytes.len()).min(ZEROS);
+        bytes.extend_from_slice(&some[..more])?;
+    }
     Ok(bytes)
 }
 
