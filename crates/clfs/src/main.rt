@@ -1,15 +1,18 @@
 //! The program: `clfs FOLDER COMMAND ..` runs a command of the log over standard input and output.
 //!
 //! Everything that matters is `clfs_engine::run`, which is proved over any source, sink and disk. Here the two standard streams
-//! become a source and a sink, the folder a disk, and the words after it the command. A word that isn't text, or no folder, is
-//! no command. `--help` and `--version` are words in the folder's place; they are answered here, the help by a text that clap makes of
-//! the command line. Standard error has what standard output doesn't say: which words are allowed in the place of those that are no
-//! command, and why a run ended without its work done, told here, or by the folder if one of its calls failed. If it is a terminal, how
-//! far a large log was read stands there while it is opened or checked.
+//! become a source and a sink, the folder a disk, and the words after it the command. `share`, whose clients have paths of their own, is
+//! `clfs_engine::run_share`. A word that isn't text, or no folder, is no command. `--help` and `--version` are words in the folder's place; they are
+//! answered here, the help by a text that clap makes of the command line. Standard error has what standard output doesn't say: which words are allowed in
+//! the place of those that are no command, and why a run, or a client that shares the log, ended without its work done, told here, or by the folder if one of
+//! its calls failed. If it is a terminal, how far a large log was read stands there while it is opened or checked; `share` doesn't tell it.
 #![tactic(auto)]
 
-use clfs_command::{form_of, help_text};
-use clfs_engine::{DONE, NO_MEMORY, SINK_FAULT, SOURCE_FAULT, USAGE, run};
+mod clients;
+
+use crate::clients::Clients;
+use clfs_command::{asks_to_share, form_of, help_text};
+use clfs_engine::{DONE, NO_MEMORY, SINK_FAULT, SOURCE_FAULT, USAGE, run, run_share};
 use clfs_files::{EndsProgress, Folder, Progress, ReaderSource, Watched, WriterSink};
 use std::alloc::{AllocError, Global};
 use std::env;
@@ -64,18 +67,46 @@ fn cause(status: u8) -> Option<&'static str> {
     }
 }
 
-// The status of a run of the command over standard input and output and the folder. The threads of a race are started by `threads`.
-fn run_command(rt: &HostRuntime, threads: &(impl Threads + Wait + Sync), words: &[String]) -> u8 {
-    let Ok(path) = folder_path(rt.alloc(), words) else {
-        return NO_MEMORY;
-    };
+// The status of `share` over the folder. The clients' own threads are started by `threads`.
+fn share_folder(
+    rt: &HostRuntime,
+    threads: &(impl Threads + Wait + Sync),
+    path: String,
+    words: &[String],
+) -> u8 {
+    let folder = Folder::new(*rt, path);
+    let mut sink = WriterSink::new(rt.stdout());
+    let clients = Clients::new(*rt);
+    run_share(threads, rt.alloc(), words, &clients, &mut sink, folder).status
+}
+
+// The status of a command over standard input and output and the folder. The threads of a race are started by `threads`.
+fn run_folder(
+    rt: &HostRuntime,
+    threads: &(impl Threads + Wait + Sync),
+    path: String,
+    words: &[String],
+) -> u8 {
     let progress = Progress::new(*rt, &rt.stderr());
     let mut source = EndsProgress::new(ReaderSource::new(rt.stdin()), &progress);
     let mut sink = EndsProgress::new(WriterSink::new(rt.stdout()), &progress);
     let folder = Watched::new(Folder::new(*rt, path), &progress);
-    let command = command_words(words);
-    let status = run(threads, rt.alloc(), command, &mut source, &mut sink, folder).status;
+    let status = run(threads, rt.alloc(), words, &mut source, &mut sink, folder).status;
     progress.end();
+    status
+}
+
+// The status of the command that the words after the program's name ask for.
+fn run_command(rt: &HostRuntime, threads: &(impl Threads + Wait + Sync), words: &[String]) -> u8 {
+    let Ok(path) = folder_path(rt.alloc(), words) else {
+        return NO_MEMORY;
+    };
+    let command = command_words(words);
+    let status = if asks_to_share(command) {
+        share_folder(rt, threads, path, command)
+    } else {
+        run_folder(rt, threads, path, command)
+    };
     if status == USAGE {
         tell_form(rt, command);
     }

@@ -1,5 +1,6 @@
 use clfs_command::{
-    Command, DataWord, DumpOptions, ScriptLength, WordsRefusal, form_of, help_text, read_command,
+    Command, DataWord, DumpOptions, PathPair, ScriptLength, WordsRefusal, asks_to_share, form_of,
+    help_text, read_command, read_share,
 };
 use clfs_lsn::{Lsn, Shape};
 use std::alloc::{AllocError, Global};
@@ -561,6 +562,96 @@ fn words_of_restores(rt: HostRuntime) -> Result<(), AllocError> {
     Ok(())
 }
 
+// Words of `share`, and the write buffers and paths that they ask for, two by two, or none.
+const SHARES: [(&str, Option<(u32, &str)>); 16] = [
+    ("share a b", Some((4, "a b"))),
+    ("share a b c d", Some((4, "a b c d"))),
+    ("share --write-buffers 64 a b", Some((64, "a b"))),
+    ("share a b --write-buffers=1", Some((1, "a b"))),
+    ("share a --write-buffers 2 b", Some((2, "a b"))),
+    ("share -- -a b", Some((4, "-a b"))),
+    ("share", None),
+    ("share a", None),
+    ("share a b c", None),
+    ("share a a", None),
+    ("share a b c a", None),
+    ("share -a b", None),
+    ("share a b --write-buffers 0", None),
+    ("share a b --write-buffers 65", None),
+    ("share a b --endless", None),
+    ("shares a b", None),
+];
+
+// The paths of clients, one after the other.
+fn path_line(alloc: Global, clients: &[PathPair]) -> Result<String, AllocError> {
+    let mut line = String::new(alloc);
+    for pair in clients {
+        if !line.is_empty() {
+            line.push(' ')?;
+        }
+        line.push_str(&pair.input)?;
+        line.push(' ')?;
+        line.push_str(&pair.output)?;
+    }
+    Ok(line)
+}
+
+// The words of a line ask `share` for this, or for nothing.
+fn is_share(alloc: Global, line: &str, want: Option<(u32, &str)>) -> Result<bool, AllocError> {
+    let words = owned(alloc, line)?;
+    Ok(match (read_share(alloc, &words), want) {
+        (Ok(share), Some((buffers, paths))) => {
+            share.write_buffers == buffers && path_line(alloc, &share.clients)?.as_str() == paths
+        }
+        (Err(WordsRefusal::Usage), None) => true,
+        _ => false,
+    })
+}
+
+#[test]
+fn words_of_shares(rt: HostRuntime) -> Result<(), AllocError> {
+    for (line, want) in SHARES {
+        assert!(rt; is_share(rt.alloc(), line, want)?, "{line}");
+        assert!(rt; is_read_as(rt.alloc(), line, None)?, "{line}");
+    }
+    Ok(())
+}
+
+// Words of `share` with so many clients.
+fn many_clients(alloc: Global, count: u32) -> Result<Vec<String>, AllocError> {
+    let mut words = Vec::new(alloc);
+    words.push(String::from_str(alloc, "share")?)?;
+    for client in 0..count {
+        words.push(format!(in alloc; "in{client}")?)?;
+        words.push(format!(in alloc; "out{client}")?)?;
+    }
+    Ok(words)
+}
+
+// How many clients such words ask for; none if they ask for nothing.
+fn count_of_clients(alloc: Global, count: u32) -> Result<Option<usize>, AllocError> {
+    let words = many_clients(alloc, count)?;
+    Ok(match read_share(alloc, &words) {
+        Ok(share) => Some(share.clients.len()),
+        Err(_) => None,
+    })
+}
+
+#[test]
+fn as_many_clients_as_there_can_be(rt: HostRuntime) -> Result<(), AllocError> {
+    assert!(rt; count_of_clients(rt.alloc(), 64)? == Some(64));
+    assert!(rt; count_of_clients(rt.alloc(), 65)? == None);
+    Ok(())
+}
+
+#[test]
+fn which_words_ask_to_share(rt: HostRuntime) -> Result<(), AllocError> {
+    assert!(rt; asks_to_share(&owned(rt.alloc(), "share")?));
+    assert!(rt; !asks_to_share(&owned(rt.alloc(), "serve share")?));
+    assert!(rt; !asks_to_share(&owned(rt.alloc(), "")?));
+    Ok(())
+}
+
 const CHECKS: [(&str, Option<Command>); 19] = [
     ("check", Some(Command::Check)),
     ("check --", Some(Command::Check)),
@@ -610,6 +701,7 @@ Commands:
   txn      Answers the lines of a script by a table of cells with transactions, which the log in FOLDER keeps
   archive  Writes an archive of the log in FOLDER to standard output, and moves its archive tail
   restore  Makes a log in FOLDER of the archives on standard input
+  share    Answers the lines of several programs over one log, each as if it were alone
 
 Options may stand in any order, as --containers 4 or --containers=4; numbers are decimal, without a sign or a zero in front.
 Status 1: the words are no command, and standard error says which are.
@@ -732,6 +824,21 @@ Takes one archive or several, one after the other, of at most 67108864 bytes tog
 archives are judged.
 Status 0: restored. 2: standard input can't be read. 3: standard output can't be written. 4: disk fault. 5: out of memory. 7: input too long.
 8: a log is there. 12: not an archive. 13: archive gap. 14: up-to outside.
+
+Answers the lines of several programs over one log, each as if it were alone
+
+Usage: clfs FOLDER share [OPTIONS] <PATHS>...
+
+Arguments:
+  <PATHS>...  IN and OUT of each client: where its lines come from, and where its replies go
+
+Options:
+      --write-buffers <W>  Full blocks that may wait before all are written, 1 to 64 [default: 4]
+
+Opens the log, and serves each client in a thread of its own: its IN is opened, then its OUT, as a rule named pipes, and each of its lines is answered as
+soon as it is whole. Client 1 has the first two paths, and each line begins with the client's number, as those of race. A client is done when its IN ends;
+its areas are deleted then. If one client's IN or OUT fails, or a line has more than 131072 bytes, that client alone is done, and standard error says so.
+Status 0: all clients are done. 3: standard output can't be written. 4: disk fault, or damage. 5: out of memory before a path was opened. 6: not a log.
 ";
 
 #[test]
@@ -742,18 +849,22 @@ fn what_the_help_says(rt: HostRuntime) -> Result<(), AllocError> {
 }
 
 // Words, and what is said of them: they are no command.
-const FORMS: [(&str, &str); 4] = [
+const FORMS: [(&str, &str); 5] = [
     (
         "",
         "clfs: FOLDER and a command are needed; clfs --help has them",
     ),
     (
         "forma",
-        "clfs: forma is no command: after FOLDER comes format, serve, race, trial, crew, check, crowd, dump, txn, archive or restore",
+        "clfs: forma is no command: after FOLDER comes format, serve, race, trial, crew, check, crowd, dump, txn, archive, restore or share",
     ),
     (
         "trial 1 0",
         "clfs: trial takes NUMBER, 0 to 4294967295, and COUNT, 1 to 100000; each is given once, and numbers are decimal, without a sign or a zero in front",
+    ),
+    (
+        "share a",
+        "clfs: share takes IN and OUT of each client, 1 to 64 clients and no path twice, and --write-buffers W, 1 to 64, or not; each is given once, and numbers are decimal, without a sign or a zero in front",
     ),
     (
         "dump --from 1",

@@ -1,1 +1,2 @@
 mod NoCommands
+mod NoShares

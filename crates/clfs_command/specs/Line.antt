@@ -3,7 +3,7 @@
 use Rattle.std.specs.Prelude.{true, [], ◌∷◌, codes, Some}
 use Rattle.clap.specs.Simple.{App, on_top, new_app, new_rule, with_rule, with_subcommand}
 use Rattle.clap.specs.Walk.{Rule, Text}
-use Rattle.clap.specs.declared.builder.action.ArgAction.TheVariants.{SetTrue}
+use Rattle.clap.specs.declared.builder.action.ArgAction.TheVariants.{Append, SetTrue}
 
 -- the option `--name`, which has one value
 abbrev pub option : Text → Rule
@@ -24,6 +24,10 @@ flag name = record (new_rule name) { long = Some name; action = Some SetTrue }
 -- a word that has to be there; words are taken in the order in which a command has them
 abbrev pub word : Text → Rule
 word name = record (new_rule name) { required = true }
+
+-- words of which one has to be there, after all others; options may stand between them
+abbrev pub words : Text → Rule
+words name = record (word name) { action = Some Append }
 
 -- a command of this name that no word asks for help
 abbrev pub command_named : Text → App
@@ -81,3 +85,8 @@ abbrev pub command_line : App
 command_line = with_subcommand (with_subcommand (with_subcommand (with_subcommand (with_subcommand (with_subcommand (with_subcommand (with_subcommand (with_subcommand (with_subcommand (with_subcommand (on_top
     (λ s. record s { no_binary_name = true; disable_help_subcommand = true; subcommand_required = true }) (command_named (codes "clfs")))
     format_line.top) serve_line.top) race_line.top) trial_line.top) crew_line.top) check_line.top) crowd_line.top) dump_line.top) txn_line.top) archive_line.top) restore_line.top
+
+-- `share PATHS.. [--write-buffers W]`, whose words are those after `share`
+abbrev pub share_line : App
+share_line = with_rule (with_rule (on_top (λ s. record s { no_binary_name = true }) (command_named (codes "share")))
+    (with_default (codes "write-buffers") (codes "4"))) (words (codes "PATHS"))

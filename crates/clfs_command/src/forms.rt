@@ -22,6 +22,9 @@ fn known_form(command: &str) -> Option<&'static str> {
         "txn" => Some("no more words"),
         "archive" => Some("no more words"),
         "restore" => Some("--up-to LSN, as 1:200:0, or not"),
+        "share" => Some(
+            "IN and OUT of each client, 1 to 64 clients and no path twice, and --write-buffers W, 1 to 64, or not",
+        ),
         _ => None,
     }
 }
@@ -39,7 +42,7 @@ pub fn form_of(alloc: Global, words: &[String]) -> Result<String, AllocError> {
             "clfs: {first} takes {form}; each is given once, and numbers are decimal, without a sign or a zero in front"
         ),
         None => format!(in alloc;
-            "clfs: {first} is no command: after FOLDER comes format, serve, race, trial, crew, check, crowd, dump, txn, archive or restore"
+            "clfs: {first} is no command: after FOLDER comes format, serve, race, trial, crew, check, crowd, dump, txn, archive, restore or share"
         ),
     }
 }

@@ -1,7 +1,7 @@
 // What `clfs --help` prints: the commands, and the options of each.
 use crate::line::{
     archive_line, check_line, command_line, crew_line, crowd_line, dump_line, format_line,
-    race_line, restore_line, serve_line, trial_line, txn_line,
+    race_line, restore_line, serve_line, share_line, trial_line, txn_line,
 };
 use clap::Command;
 use std::alloc::{AllocError, Global};
@@ -68,6 +68,13 @@ archives are judged.
 Status 0: restored. 2: standard input can't be read. 3: standard output can't be written. 4: disk fault. 5: out of memory. 7: input too long.
 8: a log is there. 12: not an archive. 13: archive gap. 14: up-to outside.";
 
+// What `share` does, and how it ends.
+const SHARE_NOTES: &str = "\
+Opens the log, and serves each client in a thread of its own: its IN is opened, then its OUT, as a rule named pipes, and each of its lines is answered as
+soon as it is whole. Client 1 has the first two paths, and each line begins with the client's number, as those of race. A client is done when its IN ends;
+its areas are deleted then. If one client's IN or OUT fails, or a line has more than 131072 bytes, that client alone is done, and standard error says so.
+Status 0: all clients are done. 3: standard output can't be written. 4: disk fault, or damage. 5: out of memory before a path was opened. 6: not a log.";
+
 // What `dump` does, and how it ends.
 const DUMP_NOTES: &str = "\
 Writes nothing to the log. It is printed up to its end, or up to the first wrong byte, which is then named; all of it is judged, whatever is printed.
@@ -106,7 +113,8 @@ fn push_command(
 /// The help of the program: what it is, how it is called, which commands there are, and of each the options, what it does, and its
 /// statuses. The text is clap's for the command line that `read_command` reads, with notes.
 pub fn help_text(alloc: Global) -> Result<String, AllocError> {
-    let mut text = command_line(alloc)?.override_usage(USAGE).render_help()?;
+    let all = command_line(alloc)?.subcommand(share_line(alloc)?)?;
+    let mut text = all.override_usage(USAGE).render_help()?;
     push_notes(NOTES, &mut text)?;
     push_command(
         format_line(alloc)?,
@@ -152,6 +160,12 @@ pub fn help_text(alloc: Global) -> Result<String, AllocError> {
         restore_line(alloc)?,
         "clfs FOLDER restore",
         RESTORE_NOTES,
+        &mut text,
+    )?;
+    push_command(
+        share_line(alloc)?,
+        "clfs FOLDER share",
+        SHARE_NOTES,
         &mut text,
     )?;
     Ok(text)

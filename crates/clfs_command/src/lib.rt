@@ -3,15 +3,19 @@
 //! clap reads the words after FOLDER as one command with one level of subcommands. What it finds in them, and when it finds a
 //! fault, is what its own definitions say of a command line of this form (`specs/Line.antt`); which numbers the options may have
 //! is said here (`specs/Command.antt`). The texts of the help stand beside the options that they explain.
+//!
+//! `share` has paths of any number, and so a command line and a call of its own (`specs/Share.antt`).
 #![tactic(auto)]
 
 mod forms;
 mod help;
 mod line;
+mod share;
 mod words;
 
 pub use forms::form_of;
 pub use help::help_text;
+pub use share::{PathPair, ShareWords, asks_to_share, read_share};
 pub use words::{
     AskedName, Command, DataWord, DumpOptions, ScriptLength, WordsRefusal, read_command,
 };

@@ -1,7 +1,7 @@
 // The command line after FOLDER, as clap takes it.
 ghost use Rattle.std.specs.Prelude.{◌≡◌, IfOk, codes, false};
 ghost use Rattle.clap.specs.Words.{app_of, rule_of};
-ghost use Rattle.clfs_command.specs.Line.{option, needed, with_default, flag, word, command_named, format_line, serve_line, race_line, trial_line, crew_line, check_line, crowd_line, dump_line, txn_line, archive_line, restore_line, command_line};
+ghost use Rattle.clfs_command.specs.Line.{option, needed, with_default, flag, word, words, share_line, command_named, format_line, serve_line, race_line, trial_line, crew_line, check_line, crowd_line, dump_line, txn_line, archive_line, restore_line, command_line};
 
 use clap::{Arg, ArgAction, Command};
 use std::alloc::{AllocError, Global};
@@ -51,6 +51,14 @@ fn word<'a>(alloc: Global, name: &'a str, help: &'a str) -> Arg<'a>
     ensures local { result.global ≡ false }
 {
     Arg::new(alloc, name).help(help).required(true)
+}
+
+// Words of which one has to be there, after all others.
+fn words<'a>(alloc: Global, name: &'a str, help: &'a str) -> Arg<'a>
+    ensures rule { rule_of result ≡ words name.entry.now }
+    ensures local { result.global ≡ false }
+{
+    word(alloc, name, help).action(ArgAction::Append)
 }
 
 /// The line of `format`.
@@ -223,4 +231,16 @@ pub fn command_line<'a>(alloc: Global) -> Result<Command<'a>, AllocError>
         .subcommand(txn_line(alloc))?
         .subcommand(archive_line(alloc))?
         .subcommand(restore_line(alloc)?)
+}
+
+/// The line of `share`. It takes the words after its name.
+pub fn share_line<'a>(alloc: Global) -> Result<Command<'a>, AllocError>
+    ensures { IfOk result (λ r. app_of r ≡ share_line) }
+{
+    let about = "Answers the lines of several programs over one log, each as if it were alone";
+    let paths = "IN and OUT of each client: where its lines come from, and where its replies go";
+    command_named(alloc, "share", about)
+        .no_binary_name(true)
+        .arg(write_buffers(alloc))?
+        .arg(words(alloc, "PATHS", paths))
 }

@@ -203,8 +203,8 @@ fn is_set(name: &str, options: &ArgMatches) -> bool
     }
 }
 
-// The number that an option or a word has.
-fn number_of(name: &str, options: &ArgMatches) -> Option<u32>
+/// The number that an option or a word has.
+pub(crate) fn number_of(name: &str, options: &ArgMatches) -> Option<u32>
     ensures { result ≡ number_of name.now (rows_of (found_of options.now)) }
 {
     decimal_number(u32::MAX, options.get_str(name)?.as_bytes())

@@ -30,3 +30,5 @@ pub mod Crews
 pub mod Commits
 pub mod Crowds
 pub mod Gathered
+pub mod Shares
+pub mod OpenersMade

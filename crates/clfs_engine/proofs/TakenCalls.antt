@@ -12,13 +12,12 @@ use Rattle.clfs_model.specs.declared.reply.Happened.TheVariants.{Fine, Fault, Da
 use Rattle.clfs_model.specs.declared.reply.Reply.{Reply}
 use Rattle.clfs_model.specs.declared.reply.Reply.TheVariants as replies
 use Rattle.clfs_model.specs.declared.state.State.{State}
-use Rattle.clfs_model.specs.Journals.{ClientScript, GoesOn, IsLegal}
+use Rattle.clfs_model.specs.Journals.{GoesOn, IsLegal}
 use Rattle.clfs_recover.specs.Files.{AreWholeFiles}
 use Rattle.clfs_recover.specs.Whole.{are_whole}
 use Rattle.clfs_shared.specs.Journal.{is_fault, is_damage, has_fault, has_damage}
-use Rattle.clfs_shared.specs.Reached.{opening_of}
+use Rattle.clfs_shared.specs.Reached.{opening_of, IsReached}
 use Rattle.clfs_engine.specs.Raced.{HasTaken, is_any_broken}
-use Rattle.clfs_engine.specs.Ran.{HasRun}
 use Rattle.clfs_engine.specs.Told.{tells_broken}
 use Rattle.clfs_engine.proofs.Loaded.{IsLoaded, IsKeptOn}
 use Rattle.clfs_engine.proofs.OnlyRead.{whole_same}
@@ -35,7 +34,7 @@ pub or_parts : (a b : Bool) → (a || b) ≡ false → (a ≡ false) × (b ≡ f
 or_parts true b e = absurd (cc e)
 or_parts false b e = (refl, e)
 
-all_three : (a b c : Bool) → a ≡ true → b ≡ true → c ≡ true → (a && b && c) ≡ true
+pub all_three : (a b c : Bool) → a ≡ true → b ≡ true → c ≡ true → (a && b && c) ≡ true
 all_three a b c p q r = rw (p, q, r) refl
 
 pub fine_by : (happened : Happened) → is_fault happened ≡ false → is_damage happened ≡ false → happened ≡ Fine
@@ -55,7 +54,7 @@ not_broken (replies.Refused refusals.Broken) other = absurd (other refl)
 not_broken (replies.Refused refusal) other = refl
 not_broken reply other = refl
 
-none_broken : (entries : List Entry) → All (λ (entry : Entry). entry.reply ≢ replies.Refused refusals.Broken) entries → is_any_broken entries ≡ false
+pub none_broken : (entries : List Entry) → All (λ (entry : Entry). entry.reply ≢ replies.Refused refusals.Broken) entries → is_any_broken entries ≡ false
 none_broken [] all = refl
 none_broken (entry ∷ entries) all =
     let first : tells_broken entry.reply ≡ false = not_broken entry.reply (All-head (λ (e : Entry). e.reply ≢ replies.Refused refusals.Broken) entry entries all) in
@@ -63,26 +62,26 @@ none_broken (entry ∷ entries) all =
     rw (first, rest) refl
 
 module _ (buffers : ℕ) (old mid new : DiskState) (s t : State) (loaded : IsLoaded buffers old mid s) (kept : IsKeptOn t new) (laws : JournalLaws)
-    (scripts : List ClientScript) (journal : List Entry) (whole : Bool) (run : HasRun (opening_of s mid) scripts new t journal whole) where
-  whole_at_first : s.broken ≡ false
+    (journal : List Entry) (reached : IsReached (opening_of s mid) new t journal) where
+  pub whole_at_first : s.broken ≡ false
   whole_at_first = sym (ap (λ (u : State). u.broken) loaded.stable)
 
-  tells_mid : TellsContents old → TellsContents mid
+  pub tells_mid : TellsContents old → TellsContents mid
   tells_mid told = subst (λ (n : Nature). IsTrue n.tells_contents) (sym loaded.time.nature) told
 
-  tells_new : TellsContents old → TellsContents new
-  tells_new told = run.reached.contents ∙ tells_mid told
+  pub tells_new : TellsContents old → TellsContents new
+  tells_new told = reached.contents ∙ tells_mid told
 
-  honest_new : IsHonest old → IsHonest new
-  honest_new honest = (tells_new honest.0, run.reached.images ∙ subst (λ (n : Nature). IsTrue n.tells_images) (sym loaded.time.nature) honest.1)
+  pub honest_new : IsHonest old → IsHonest new
+  honest_new honest = (tells_new honest.0, reached.images ∙ subst (λ (n : Nature). IsTrue n.tells_images) (sym loaded.time.nature) honest.1)
 
-  unbroken : TellsContents old → has_fault journal ≡ false
+  pub unbroken : TellsContents old → has_fault journal ≡ false
       → (t.broken ≡ false) × All (λ (entry : Entry). entry.reply ≢ replies.Refused refusals.Broken) journal
   unbroken told none =
-      laws.part mid.nature.tells_contents [] s t journal whole_at_first run.reached.legal
-      (All-from_recursion (λ (e : Entry). e.happened ≡ Fine) journal (all_fine journal none (run.reached.damage (tells_mid told))))
+      laws.part mid.nature.tells_contents [] s t journal whole_at_first reached.legal
+      (All-from_recursion (λ (e : Entry). e.happened ≡ Fine) journal (all_fine journal none (reached.damage (tells_mid told))))
 
-  pub has_taken : HasTaken buffers old new journal
+  unfoldable pub has_taken : HasTaken buffers old new journal
   has_taken = record {
     first = s;
     last = t;
@@ -91,13 +90,13 @@ module _ (buffers : ℕ) (old mid new : DiskState) (s t : State) (loaded : IsLoa
     valid = loaded.valid;
     storable = loaded.storable;
     begins = whole_at_first;
-    legal = subst (λ (n : Nature). IsLegal n.tells_contents journal s t) loaded.time.nature run.reached.legal;
-    cause = λ some. let rose = run.reached.fault some in omega (arith, rose, loaded.time.faults);
-    damage = λ told. run.reached.damage (tells_mid told);
+    legal = subst (λ (n : Nature). IsLegal n.tells_contents journal s t) loaded.time.nature reached.legal;
+    cause = λ some. let rose = reached.fault some in omega (arith, rose, loaded.time.faults);
+    damage = λ told. reached.damage (tells_mid told);
     unbroken = λ told none. none_broken journal (unbroken told none).1;
     whole = λ told none are. laws.tells new.files
-        (run.reached.whole (tells_mid told) (laws.passes mid.files (whole_same old.files mid.files loaded.same are)) (unbroken told none).0);
-    steady = λ steady told are. run.reached.calm
+        (reached.whole (tells_mid told) (laws.passes mid.files (whole_same old.files mid.files loaded.same are)) (unbroken told none).0);
+    steady = λ steady told are. reached.calm
         (all_three mid.nature.steady mid.nature.tells_contents (are_whole mid.files)
         (subst (λ (n : Nature). IsTrue n.steady) (sym loaded.time.nature) steady) (tells_mid told)
         (laws.passes mid.files (whole_same old.files mid.files loaded.same are)));

@@ -24,3 +24,4 @@ pub mod Crew
 pub mod Work
 pub mod Crowd
 pub mod Commits
+pub mod Share

@@ -15,6 +15,9 @@
 //! records there are and how many sectors are still held. `crowd` lets threads append that share their flushes (`clfs_group`), over a log in memory,
 //! and prints how many records there are and of how many of them the threads were told that they are on the disk.
 //!
+//! `share_log` opens the log, and lets clients share it (`clfs_share`) until all have ended, each over a source and a sink of its own;
+//! `run_share` is the same for words after FOLDER.
+//!
 //! If nothing outside fails, a command is done, unless memory runs out; each says so in a clause of its own, `complete` (specs/Complete.antt).
 #![tactic(auto)]
 
@@ -35,6 +38,7 @@ mod refusing;
 mod restoring;
 mod rows;
 mod serving;
+mod sharing;
 mod status;
 mod tabling;
 mod tally;
@@ -55,6 +59,7 @@ pub use racing::race;
 pub use restoring::restore;
 pub use rows::{appends_and_reads, areas, ends_of_lines, lengths_of_records, words_of_lines};
 pub use serving::{serve, serve_within};
+pub use sharing::{PathOpeners, ShareOutcome, run_share, share_log};
 pub use status::{
     ARCHIVE_GAP, ARCHIVE_TOO_LONG, DISK_FAULT, EXISTS, NOT_A_LOG, NOT_A_TABLE, NOT_AN_ARCHIVE,
     NOT_ARCHIVED, Outcome, REFUSED, UP_TO_OUTSIDE, USAGE,

@@ -6,6 +6,8 @@
 //! read: `access.rt` says when a folder is opened, locked and given up, `location.rt` what is taken for a file of a log, `directory.rt` how
 //! files are made and synced, `file.rt` what is done with one of them, `unsynced.rt` what follows a sync that failed.
 //!
+//! A client of a log that several programs share has paths of its own, `ClientPaths`, which are opened as a source and a sink.
+//!
 //! Who waits for a large log sees on a terminal how far it was read: `Watched` passes each call of a folder on as it is and counts what is read,
 //! and `Progress` is the line that tells it.
 #![tactic(auto)]
@@ -16,12 +18,16 @@ mod fault;
 mod file;
 mod folder;
 mod location;
+mod opened;
+mod paths;
 mod progress;
 mod standard;
 mod unsynced;
 mod watched;
 
 pub use folder::Folder;
+pub use opened::{PathSink, PathSource};
+pub use paths::ClientPaths;
 pub use progress::{EndsProgress, Progress};
 pub use standard::{ReaderSource, WriterSink};
 pub use watched::Watched;

@@ -48,7 +48,7 @@ returns-in-Ok-load-clause-ends g c =
     c.deref-in-Ok-load.ensures.value c.told-status.ensures in
     rw c.close.ensures
     (race_ends c.args.write_buffers old new _ _ written written' _ _ sink sink' c.in-Ok.script.bytes.items division (opening_of s mid) t raced.journal raced.whole c.in-Ok.ensures.taken
-    (has_taken c.args.write_buffers old mid new s t loaded kept laws division.scripts.items raced.journal raced.whole run) run c.in-Ok.script.end c.told-status.result
+    (has_taken c.args.write_buffers old mid new s t loaded kept laws raced.journal run.reached) run c.in-Ok.script.end c.told-status.result
     c.in-Ok.ensures.ended c.in-Ok-divide.ensures tells c.in-Ok.ensures.count)
 
 pub returns-clause-ends : goal.returns-clause-ends

@@ -1,0 +1,26 @@
+use Rattle.std.proofs.Common.{◌∙◌}
+use Rattle.std.proofs.lemmas.Result.{IfErr-weaker, IfOk-weaker}
+use Rattle.clfs_command.proofs.NoCommands.{some_fault}
+use Rattle.clfs_command.proofs.NoShares.{is_simple, is_plain, is_asked, none_asked}
+use Rattle.clfs_command.proofs.share.share_by.Goals as goal
+
+pub returns : goal.returns
+returns c =
+    let line = c.in_ok-line.ensures in
+    record {
+      share = tt;
+      usage = λ e. none_asked _ _ line (some_fault _ c.in-Err.error (c.in-Err.ensures.kinds (is_simple _ line)) (λ memory. c.in_default.not-OutOfMemory (c.kind.ensures ∙ memory)));
+      ranges = tt;
+    }
+
+pub returns-in-Ok-clause-share : goal.returns-in-Ok-clause-share
+returns-in-Ok-clause-share c =
+    let line = c.in_ok-line.ensures in
+    let found = is_asked _ _ line (c.in-Ok.ensures.kinds (is_simple _ line)) _ (c.in-Ok.ensures.matches (is_plain _ line)).0 in
+    IfOk-weaker c.share_in.result _ _ (λ share is. found ∙ is) c.share_in.ensures.share
+
+pub returns-in-Ok-clause-usage : goal.returns-in-Ok-clause-usage
+returns-in-Ok-clause-usage c =
+    let line = c.in_ok-line.ensures in
+    let found = is_asked _ _ line (c.in-Ok.ensures.kinds (is_simple _ line)) _ (c.in-Ok.ensures.matches (is_plain _ line)).0 in
+    IfErr-weaker c.share_in.result _ _ (λ refusal is named. found ∙ is named) c.share_in.ensures.usage

@@ -1,0 +1,57 @@
+use Rattle.std.proofs.Common.{refl}
+use Rattle.clfs_engine.proofs.Loaded.{IsLoaded, IsKeptOn}
+use Rattle.clfs_engine.proofs.Shares.{shared_ends, share_refused, share_without_memory}
+use Rattle.clfs_engine.proofs.TakenCalls.{JournalLaws}
+use Rattle.clfs_engine.proofs.sharing.share_log.Goals as goal
+
+-- the log wasn't opened
+pub returns-in-Err : goal.returns-in-Err
+returns-in-Err g c =
+    let load = c.in-Err.ensures in
+    rw (c.unserved.ensures.status, c.unserved.ensures.disk, c.unserved.ensures.clients)
+    (share_refused _ c.refused.result c.args.write_buffers c.in-Err.field-0.cause (g.D.Disk.state c.args.disk) (g.D.Disk.state c.in-Err.field-0.disk) 0 _ _ _ _
+    (record {
+      is = load.refused;
+      cause = load.cause;
+      steady = load.steady;
+      same = load.same_refused.0;
+      time = load.same_refused.1;
+    })
+    refl c.refused.ensures)
+
+-- all clients have ended
+pub returns-in-Ok-share : goal.returns-in-Ok-share
+returns-in-Ok-share g c =
+    let old = g.D.Disk.state c.args.disk in
+    let mid = g.D.Disk.state c.in-Ok.manager.1 in
+    let shared = c.in-Ok-share.field-0 in
+    let new = g.D.Disk.state shared.manager.1 in
+    let s = c.in-Ok.manager.0 in
+    let t = shared.manager.0 in
+    let load = c.in-Ok.ensures in
+    let loaded : IsLoaded c.args.write_buffers old mid s = record {
+      stands = load.loaded;
+      buffers_are = load.buffers;
+      valid = load.valid;
+      storable = load.storable;
+      stable = load.stable;
+      same = load.same.0;
+      time = load.same.1;
+      left = c.stored.ensures.survives_nothing 0;
+    } in
+    let kept : IsKeptOn t new = record { files = c.stored-in-Ok-share.ensures.files; settled = c.stored-in-Ok-share.ensures.settled } in
+    let laws : JournalLaws = record {
+      part = c.unbroken_stays.ensures.part;
+      passes = c.whole_files_pass_the_test.ensures.passes;
+      tells = c.whole_files_pass_the_test.ensures.tells;
+    } in
+    rw c.close.ensures
+    (shared_ends _ c.args.write_buffers old mid new s t loaded kept laws shared.journal c.in-Ok-share.ensures.reached
+    (c.in-Ok-share.ensures.clients, c.in-Ok-share.ensures.others) c.end_status.result _ _ _ c.end_status.ensures)
+
+-- there was no memory to begin
+pub returns : goal.returns
+returns g c =
+    let load = c.in-Ok.ensures in
+    rw (c.unserved-in-Err-share.ensures.status, c.unserved-in-Err-share.ensures.disk, c.close-in-Err-share.ensures, c.in-Err-share.ensures.refused.0, c.unserved-in-Err-share.ensures.clients)
+    (share_without_memory _ 5 c.args.write_buffers (g.D.Disk.state c.args.disk) (g.D.Disk.state c.in-Ok.manager.1) 0 _ _ refl load.same.0 load.same.1 refl)
