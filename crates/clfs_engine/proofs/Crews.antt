@@ -32,7 +32,7 @@ use Rattle.clfs_area.specs.Areas.{AreaBooks, HasSameBooks, IsSameArea, PermitSta
 use Rattle.clfs_area.specs.Calls.{HasAsked, held_append}
 use Rattle.clfs_area.specs.Causes.{may_refuse_append, TellsAppend}
 use Rattle.clfs_engine.specs.Crew.{IsCrewText, crew_log, crew_text, is_placed, placed_in}
-use Rattle.clfs_engine.specs.Trial.{is_refusal}
+use Rattle.clfs_operations.specs.Trial.{is_refusal}
 use Rattle.clfs_engine.specs.Work.{HasAppended, HasPlaced, HasWorked, IsAtWork, IsCrewRecord, IsCrewed, NeverFails, WorkerState, ready, record_bytes, worker_of}
 
 -- ---- one entry more

@@ -1,25 +1,16 @@
 -- What sharing a log comes to, by how it was loaded and by what its clients' journal leads to.
-use Rattle.std.proofs.Common.{◌≡◌, ⊎_elim, ℕ, ◌≤◌, ◌⊎◌, Bool, true, false, refl, sym, ap, subst, ◌∙◌, List, [], inl, inr, arith}
-use Rattle.std.specs.Prelude.{IsTrue, Option, if◌then◌else◌}
-use Rattle.std.specs.Io.KnownBytes.{Appends}
+use Rattle.std.proofs.Common.{◌≡◌, ⊎_elim, ℕ, ◌⊎◌, Bool, true, false, refl, sym, ap, subst, ◌∙◌, List, inl, inr, arith}
+use Rattle.std.specs.Prelude.{Option, if◌then◌else◌}
 use Rattle.std.proofs.KnownBytes.{Appends-nil}
 use Rattle.clfs_disk.specs.Files.{Unchanged}
-use Rattle.clfs_disk.specs.State.{DiskState, Nature, TellsContents, IsHonest, Passes, Rises}
+use Rattle.clfs_disk.specs.State.{DiskState, IsHonest, Passes}
 use Rattle.clfs_model.specs.declared.journal.Entry.{Entry}
 use Rattle.clfs_model.specs.declared.state.State.{State}
-use Rattle.clfs_recover.specs.Files.{AreWholeFiles}
-use Rattle.clfs_recover.specs.declared.refusal.LoadRefusal.{LoadRefusal}
-use Rattle.clfs_shared.specs.Crashes.{IsLeftByEntries}
-use Rattle.clfs_shared.specs.Journal.{has_fault}
-use Rattle.clfs_shared.specs.Reached.{opening_of, IsReached}
-use Rattle.clfs_engine.specs.Opened.{RefusesLog, TellsRefusal, refusal_line}
-use Rattle.clfs_engine.specs.Raced.{HasTaken}
-use Rattle.clfs_engine.specs.Share.{Serving, IsLeftByJournal, IsShared, IsShareStatus, EndsSharing}
-use Rattle.clfs_engine.proofs.Loaded.{IsLoaded, IsKeptOn}
-use Rattle.clfs_engine.proofs.OnlyRead.{whole_same}
-use Rattle.clfs_engine.proofs.RaceEnds.{left_alone}
-use Rattle.clfs_engine.proofs.ServingEnds.{refused_statuses, not_answered, fault_by, no_log_by, no_log_line, refusal_text}
-use Rattle.clfs_engine.proofs.TakenCalls.{JournalLaws, has_taken, tells_mid, tells_new, honest_new, unbroken}
+use Rattle.clfs_manager.specs.Reopening.{HoldsFlushed}
+use Rattle.clfs_operations.specs.Loaded.{IsKeptOn, IsLeftByJournal, IsTakenFrom}
+use Rattle.clfs_operations.specs.Race.{LeavesFiles}
+use Rattle.clfs_operations.specs.Unopened.{EndsUnopened}
+use Rattle.clfs_engine.specs.Share.{Serving, IsShared, EndsSharing}
 
 -- a status that is none of three
 none_of : (status k : ℕ) → status ≡ k → (k ≡ 3 → ⊥) → (k ≡ 5 → ⊥) → (k ≡ 6 → ⊥) → (status ≡ 3) ⊎ ((status ≡ 5) ⊎ (status ≡ 6)) → ⊥
@@ -27,36 +18,21 @@ none_of status k is no_three no_five no_six (inl e) = no_three (sym is ∙ e)
 none_of status k is no_three no_five no_six (inr (inl e)) = no_five (sym is ∙ e)
 none_of status k is no_three no_five no_six (inr (inr e)) = no_six (sym is ∙ e)
 
-module _ (Serves : Serving) (buffers : ℕ) (old mid new : DiskState) (s t : State) (loaded : IsLoaded buffers old mid s) (kept : IsKeptOn t new) (laws : JournalLaws)
-    (journal : List Entry) (reached : IsReached (opening_of s mid) new t journal) (serves : Serves journal t) where
-  -- a log that tells what its files hold was broken by a fault
-  faulted : t.broken ≡ true → TellsContents old → Rises old.faults new.faults
-  faulted broken told = by_fault (has_fault journal) refl
-    where
-      by_fault : (some : Bool) → has_fault journal ≡ some → Rises old.faults new.faults
-      by_fault true is = let rose = reached.fault is in omega (arith, rose, loaded.time.faults)
-      by_fault false is = let fine = (unbroken buffers old mid new s t loaded kept laws journal reached told is).0 in let never : true ≡ false = sym broken ∙ fine in cc never
-
-  left_by_journal : IsHonest old → IsLeftByJournal old new s journal t
-  left_by_journal honest = record {
-    from = mid.clock;
-    later = loaded.time.later;
-    left = λ whole full. subst (λ (n : Nature). IsLeftByEntries n.tells_contents whole new.image_at mid.clock new.clock s journal t) loaded.time.nature
-        (reached.crash (tells_mid buffers old mid new s t loaded kept laws journal reached honest.0)
-        (subst (λ (n : Nature). IsTrue n.tells_images) (sym loaded.time.nature) honest.1) whole
-        (λ is. laws.passes mid.files (whole_same old.files mid.files loaded.same (full is))));
-  }
+module _ (Serves : Serving) (buffers : ℕ) (old new : DiskState) (s t : State) (kept : IsKeptOn t new)
+    (journal : List Entry) (from : IsTakenFrom buffers old new s t journal) (serves : Serves journal t) where
+  left_by_journal : IsHonest old → IsLeftByJournal old new from.taken.first journal from.taken.last
+  left_by_journal honest = subst (λ (first : State). IsLeftByJournal old new first journal from.taken.last) (sym from.first)
+      (subst (λ (last : State). IsLeftByJournal old new s journal last) (sym from.last) (from.crash honest))
 
   pub is_shared : (broken : Bool) → t.broken ≡ broken → IsShared Serves buffers broken old new
-  unfolding has_taken
   is_shared broken is = record {
     journal = journal;
-    taken = has_taken buffers old mid new s t loaded kept laws journal reached;
-    serves = serves;
-    is_broken = is;
-    cause = λ bad told. faulted (is ∙ bad) told;
-    files = λ fine told. kept.files (is ∙ fine) (tells_new buffers old mid new s t loaded kept laws journal reached told);
-    settled = λ fine honest. kept.settled (is ∙ fine) (honest_new buffers old mid new s t loaded kept laws journal reached honest);
+    taken = from.taken;
+    serves = subst (λ (last : State). Serves journal last) (sym from.last) serves;
+    is_broken = ap (λ (last : State). last.broken) from.last ∙ is;
+    cause = λ bad told. from.cause (is ∙ bad) told;
+    files = λ fine told. subst (λ (last : State). HoldsFlushed new.files last) (sym from.last) (kept.files (is ∙ fine) (from.contents told));
+    settled = λ fine honest. kept.settled (is ∙ fine) (from.honest honest);
     crash = left_by_journal;
   }
 
@@ -96,36 +72,29 @@ module _ (Serves : Serving) (buffers : ℕ) (old mid new : DiskState) (s t : Sta
         sink_count = omega arith;
       }
 
--- the statuses of a log that wasn't opened
-share_status : (status : ℕ) → (status ≡ 4) ⊎ ((status ≡ 6) ⊎ ((status ≡ 3) ⊎ (status ≡ 5))) → IsShareStatus status
-share_status status (inl e) = inr (inr (inl e))
-share_status status (inr (inl e)) = inr (inr (inr (inr e)))
-share_status status (inr (inr (inl e))) = inr (inl e)
-share_status status (inr (inr (inr e))) = inr (inr (inr (inl e)))
+-- no status of a log that wasn't opened
+not_done : (status : ℕ) → (status ≡ 3) ⊎ ((status ≡ 4) ⊎ ((status ≡ 5) ⊎ (status ≡ 6))) → status ≡ 0 → ⊥
+not_done status (inl e) f = omega (arith, e, f)
+not_done status (inr (inl e)) f = omega (arith, e, f)
+not_done status (inr (inr (inl e))) f = omega (arith, e, f)
+not_done status (inr (inr (inr e))) f = omega (arith, e, f)
 
-pub share_refused : (Serves : Serving) (status buffers : ℕ) (refusal : LoadRefusal) (old new : DiskState) (ended : ℕ) (written written' : Option (List ℕ)) (sink sink' : ℕ)
-    → RefusesLog refusal old new → ended ≡ 0 → TellsRefusal status refusal written written' sink sink'
-    → EndsSharing Serves status buffers old new ended written written' sink sink'
-share_refused Serves status buffers refusal old new ended written written' sink sink' refuses none tells =
-    let statuses = refused_statuses status refusal tells.statuses in record {
-      statuses = share_status status statuses;
-      done = λ e. absurd (not_answered status 0 statuses e (inl refl));
-      done_silence = λ e. absurd (not_answered status 0 statuses e (inl refl));
-      sink_fault = tells.sink_fault;
-      sink_fault_front = λ e. let front = tells.sink_fault_front e in (refusal_line refusal, refusal_text refusal old new refuses front.0, front.1);
-      disk_fault = λ e.
-          let line = tells.line (λ f. omega (arith, e, f)) (λ f. omega (arith, e, f)) in
-          let is = fault_by status refusal tells.statuses e in
-          inr (subst (λ (r : LoadRefusal). RefusesLog r old new) is refuses, (none, subst (λ (r : LoadRefusal). Appends written written' (refusal_line r)) is line));
-      no_memory = λ e. record { same = refuses.same; time = refuses.time };
-      no_memory_silence = tells.no_memory_silence;
-      no_log = λ e.
-          let is = no_log_by status refusal tells.statuses e in
-          let line = tells.line (λ f. omega (arith, e, f)) (λ f. omega (arith, e, f)) in
-          (refusal_line refusal, record { refusal = refusal; no_log = is; refuses = refuses; line = no_log_line refusal is }, line);
-      unopened = λ others. none;
-      sink_count = tells.sink_count;
-    }
+-- the log wasn't opened
+pub share_refused : (Serves : Serving) (status buffers : ℕ) (old new : DiskState) (ended : ℕ) (written written' : Option (List ℕ)) (sink sink' : ℕ)
+    → EndsUnopened status old new written written' sink sink' → ended ≡ 0 → EndsSharing Serves status buffers old new ended written written' sink sink'
+share_refused Serves status buffers old new ended written written' sink sink' unopened none = record {
+  statuses = inr unopened.statuses;
+  done = λ e. absurd (not_done status unopened.statuses e);
+  done_silence = λ e. absurd (not_done status unopened.statuses e);
+  sink_fault = unopened.sink_fault;
+  sink_fault_front = unopened.sink_fault_front;
+  disk_fault = λ e. let told = unopened.disk_fault e in inr (told.0, (none, told.1));
+  no_memory = unopened.no_memory;
+  no_memory_silence = unopened.no_memory_silence;
+  no_log = unopened.no_log;
+  unopened = λ others. none;
+  sink_count = unopened.sink_count;
+}
 
 -- memory ran out before a client was served
 pub share_without_memory : (Serves : Serving) (status buffers : ℕ) (old new : DiskState) (ended : ℕ) (written : Option (List ℕ)) (sink : ℕ)
@@ -145,10 +114,10 @@ share_without_memory Serves status buffers old new ended written sink five same 
 }
 
 -- the same where the disk wasn't called
-pub share_ran_out : (Serves : Serving) (status buffers : ℕ) (disk : DiskState) (ended : ℕ) (written : Option (List ℕ)) (sink : ℕ)
+pub share_ran_out : (Serves : Serving) (status buffers : ℕ) (disk : DiskState) (ended : ℕ) (written : Option (List ℕ)) (sink : ℕ) → LeavesFiles disk disk
     → status ≡ 5 → ended ≡ 0 → EndsSharing Serves status buffers disk disk ended written written sink sink
-share_ran_out Serves status buffers disk ended written sink five none =
-    share_without_memory Serves status buffers disk disk ended written sink five (left_alone disk).same (left_alone disk).time none
+share_ran_out Serves status buffers disk ended written sink alone five none =
+    share_without_memory Serves status buffers disk disk ended written sink five alone.same alone.time none
 
 -- what serves clients in one way serves them in another
 module _ (Serves Others : Serving) (also : (journal : List Entry) (last : State) → Serves journal last → Others journal last) where

@@ -13,7 +13,7 @@ use Rattle.clfs_model.specs.declared.state.State.{State}
 use Rattle.clfs_model.specs.Journals.{IsLegal, held_in}
 use Rattle.clfs_model.specs.State.{log_of}
 use Rattle.clfs_lines.specs.Answering.{Writes, WritesFront}
-use Rattle.clfs_engine.specs.Trial.{is_refusal}
+use Rattle.clfs_operations.specs.Trial.{is_refusal}
 
 -- ---- the journal of a crew
 

@@ -6,18 +6,17 @@ use Rattle.clfs_disk.specs.State.{DiskState, TellsContents, IsHonest, IsSettled,
 use Rattle.clfs_model.specs.declared.journal.Entry.{Entry}
 use Rattle.clfs_model.specs.declared.state.State.{State}
 use Rattle.clfs_model.specs.Journals.{mine}
-use Rattle.clfs_recover.specs.Files.{AreWholeFiles}
 use Rattle.clfs_recover.specs.declared.refusal.LoadRefusal.TheVariants.{DiskFault}
 use Rattle.clfs_manager.specs.Reopening.{HoldsFlushed}
-use Rattle.clfs_shared.specs.Crashes.{IsLeftByEntries}
 use Rattle.clfs_command.specs.Share.{Paths}
 use Rattle.clfs_share.specs.Taken.{AreTaken}
 use Rattle.clfs_share.specs.declared.clients.EndedClient.{EndedClient}
 use Rattle.clfs_lines.specs.Answering.{Writes, WritesFront}
-use Rattle.clfs_engine.specs.Ends.{disk_fault_text}
-use Rattle.clfs_engine.specs.Opened.{RefusesLog, IsNoLogText, IsRefusalText}
-use Rattle.clfs_engine.specs.Race.{LeavesFiles}
-use Rattle.clfs_engine.specs.Raced.{HasTaken}
+use Rattle.clfs_operations.specs.Ends.{disk_fault_text}
+use Rattle.clfs_operations.specs.Loaded.{IsLeftByJournal}
+use Rattle.clfs_operations.specs.Opened.{RefusesLog, IsNoLogText, IsRefusalText}
+use Rattle.clfs_operations.specs.Race.{LeavesFiles}
+use Rattle.clfs_operations.specs.Raced.{HasTaken}
 
 -- What a journal with its last state says of clients.
 abbrev pub Serving : Type 1
@@ -47,14 +46,6 @@ abbrev pub AreServedAt : {P S K : Type 0} → (ℕ → Paths → P → Type 0) �
     → List Paths → List (EndedClient S K) → Serving
 AreServedAt {P} makes opens left source_faults written sink_faults paths clients journal last =
     (openers : List P) × (AreOpeners makes 1 paths openers × AreServed opens left source_faults written sink_faults openers clients journal last)
-
--- From some moment on, at which the log was open, a crash leaves files that hold what survives the next call after a front of the journal, in files of full
--- length where they were so. Calls that ran out of memory, which aren't in the journal, may stand between those that are.
-pub record IsLeftByJournal (old new : DiskState) (first : State) (journal : List Entry) (last : State) : Type 0 where
-  pub from : ℕ
-  pub later : old.clock ≤ from
-  pub left : (whole : Bool) → (whole ≡ true → AreWholeFiles old.files)
-      → IsLeftByEntries old.nature.tells_contents whole new.image_at from new.clock first journal last
 
 -- The log on a disk was opened with so many write buffers and shared among clients until all had ended, and it was closed, broken or not.
 pub record IsShared (Serves : Serving) (buffers : ℕ) (broken : Bool) (old new : DiskState) : Type 0 where

@@ -6,7 +6,7 @@ ghost use Rattle.std.specs.Prelude.{◌≡◌, ◌+◌, ◌*◌, ◌≤◌, ◌<
 ghost use Rattle.clfs_area.specs.Areas.{permit_of};
 ghost use Rattle.clfs_command.specs.Command.{most_crew_threads, most_crew_records};
 ghost use Rattle.clfs_disk.specs.State.{TellsContents, IsSteady};
-ghost use Rattle.clfs_engine.specs.Complete.{IsDone};
+ghost use Rattle.clfs_operations.specs.Complete.{IsDone};
 ghost use Rattle.clfs_engine.specs.Crew.{crew_log, crew_text, IsCrewText, EndsCrew};
 ghost use Rattle.clfs_engine.specs.Work.{NeverFails, HasPlaced, IsAtWork, IsCrewRecord, IsCrewed};
 ghost use Rattle.clfs_lsn.specs.Limits.{most_sizes};
@@ -17,8 +17,6 @@ ghost use Rattle.clfs_shared.specs.Sessions.{IsOf, own_entries};
 ghost use Rattle.clfs_turn.specs.Seats.{IsSameSeat};
 
 use crate::desk::Desk;
-use crate::making::made_log;
-use crate::refusing::push_number;
 use crate::working::{divided, joined, run_workers};
 use clfs_area::{AreaState, Ended, LogName, Permit};
 use clfs_disk::{Disk, Steady};
@@ -27,6 +25,7 @@ use clfs_lines::{DONE, NO_MEMORY, printed};
 use clfs_lsn::{Bytes, Lsn, Name, Shape, Sizes};
 use clfs_manager::Manager;
 use clfs_model::{Call, Draft, Reply};
+use clfs_operations::{made_log, push_number};
 use clfs_ports::Sink;
 use clfs_recover::whole_files_pass_the_test;
 use clfs_shared::{Closed, Session, SharedLog, ToldJournal};

@@ -7,7 +7,7 @@ ghost use Rattle.std.specs.Prelude.{◌≡◌, ℕ, ◌+◌, ◌≤◌, ◌<◌,
 ghost use Rattle.clfs_command.specs.Command.{most_crew_threads, most_crew_records};
 ghost use Rattle.clfs_disk.specs.State.{TellsContents, IsSteady};
 ghost use Rattle.clfs_engine.specs.Commits.{MemberState, IsMember, IsQuiet, IsGathered, client_of_member, has_made};
-ghost use Rattle.clfs_engine.specs.Complete.{IsDone};
+ghost use Rattle.clfs_operations.specs.Complete.{IsDone};
 ghost use Rattle.clfs_engine.specs.Crowd.{crowd_log, crowd_text, IsCrowdText, EndsCrowd};
 ghost use Rattle.clfs_engine.specs.Work.{IsCrewRecord, NeverFails, record_bytes};
 ghost use Rattle.clfs_ports.specs.Cause.{Rises};
@@ -16,9 +16,7 @@ ghost use Rattle.clfs_shared.specs.Sessions.{IsOf, own_entries};
 ghost use Rattle.clfs_turn.specs.Lists.{are_distinct};
 ghost use Rattle.clfs_turn.specs.Seats.{IsNewSeat, IsSameSeat};
 
-use crate::making::made_log;
 use crate::members::{Member, Totals, members_of, run_members, totals_of};
-use crate::refusing::push_number;
 use clfs_disk::{Disk, Steady};
 use clfs_group::{Group, GroupName, what_is_stable_stays};
 use clfs_laws::{
@@ -29,6 +27,7 @@ use clfs_lines::{DONE, NO_MEMORY, printed};
 use clfs_lsn::{Bytes, Lsn, Name, Shape};
 use clfs_manager::Manager;
 use clfs_model::{Call, Draft, Reply};
+use clfs_operations::{made_log, push_number};
 use clfs_ports::Sink;
 use clfs_recover::whole_files_pass_the_test;
 use clfs_shared::{Closed, Session, SharedLog, ToldJournal};

@@ -7,35 +7,29 @@ ghost use Rattle.clfs_command.specs.declared.words.Command.TheVariants.{Format, 
 ghost use Rattle.clfs_command.specs.declared.words.DumpOptions.{DumpOptions};
 ghost use Rattle.clfs_command.specs.declared.words.ScriptLength.{ScriptLength};
 ghost use Rattle.clfs_ports.specs.Cause.{Rises};
-ghost use Rattle.clfs_engine.specs.Archiving.{EndsArchive, NothingFailsArchiving, IsArchivingDone};
-ghost use Rattle.clfs_engine.specs.Check.{EndsCheck};
-ghost use Rattle.clfs_engine.specs.Complete.{IsDone, NothingFailsAnswering, NothingFailsServing, NothingFailsRacing, NothingFailsMaking, NothingFailsChecking, ComesThrough, RaceComesThrough};
+ghost use Rattle.clfs_operations.specs.Archiving.{EndsArchive, NothingFailsArchiving, IsArchivingDone};
+ghost use Rattle.clfs_operations.specs.Check.{EndsCheck};
+ghost use Rattle.clfs_operations.specs.Complete.{IsDone, NothingFailsAnswering, NothingFailsServing, NothingFailsRacing, NothingFailsMaking, NothingFailsChecking, ComesThrough, RaceComesThrough};
 ghost use Rattle.clfs_engine.specs.Crew.{EndsCrew};
 ghost use Rattle.clfs_engine.specs.Crowd.{EndsCrowd};
-ghost use Rattle.clfs_engine.specs.Dump.{EndsDump, selection_of};
-ghost use Rattle.clfs_engine.specs.Txn.{EndsTxn, TableComesThrough};
-ghost use Rattle.clfs_engine.specs.Format.{EndsFormat};
-ghost use Rattle.clfs_engine.specs.Race.{EndsRacing};
-ghost use Rattle.clfs_engine.specs.Restoring.{EndsRestore, NothingFailsRestoring, IsRestoringDone};
-ghost use Rattle.clfs_engine.specs.Serve.{EndsServing, EndsByUsage};
-ghost use Rattle.clfs_engine.specs.Lengths.{longest_script, limits_of};
-ghost use Rattle.clfs_engine.specs.Trial.{EndsTrial};
+ghost use Rattle.clfs_operations.specs.Dump.{EndsDump, selection_of};
+ghost use Rattle.clfs_operations.specs.Txn.{EndsTxn, TableComesThrough};
+ghost use Rattle.clfs_operations.specs.Format.{EndsFormat};
+ghost use Rattle.clfs_operations.specs.Race.{EndsRacing};
+ghost use Rattle.clfs_operations.specs.Restoring.{EndsRestore, NothingFailsRestoring, IsRestoringDone};
+ghost use Rattle.clfs_operations.specs.Serve.{EndsServing, EndsByUsage};
+ghost use Rattle.clfs_operations.specs.Lengths.{longest_script, limits_of};
+ghost use Rattle.clfs_operations.specs.Trial.{EndsTrial};
 
-use crate::archiving::archive;
-use crate::checking::check;
 use crate::crewing::crew;
 use crate::crowding::crowd;
-use crate::dumping::dump;
-use crate::formatting::format;
-use crate::racing::race;
-use crate::restoring::restore;
-use crate::serving::{LONGEST_SCRIPT, serve_within};
-use crate::status::{Outcome, USAGE};
-use crate::tabling::txn;
-use crate::trying::trial;
 use clfs_command::{Command, ScriptLength, WordsRefusal, read_command};
 use clfs_disk::Disk;
 use clfs_lines::{NO_MEMORY, printed};
+use clfs_operations::{
+    LONGEST_SCRIPT, Outcome, USAGE, archive, check, dump, format, memory_runs_out_at_once, race,
+    restore, serve_within, trial, txn,
+};
 use clfs_ports::{Sink, Source};
 use clfs_race::Pass;
 use std::alloc::Global;
@@ -134,6 +128,7 @@ pub fn run<R: Threads + Wait + Sync, S: Source, K: Sink, D: Disk + Send + Drop>(
         → command_of (map string_bytes words.now) ≢ Some Txn → command_of (map string_bytes words.now) ≢ Some Archive
         → ((up_to : Option ℕ) → command_of (map string_bytes words.now) ≢ Some (Restore up_to)) → result.disk ≡ disk }
 {
+    memory_runs_out_at_once::<D>();
     match read_command(alloc, words) {
         Ok(
             Command::Serve {

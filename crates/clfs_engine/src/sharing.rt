@@ -6,18 +6,18 @@ ghost use Rattle.std.specs.Prelude.{ℕ, ◌≡◌, ◌+◌, ◌<◌, ◌≤◌,
 ghost use Rattle.std.specs.String.{string_bytes};
 ghost use Rattle.clfs_lsn.specs.Limits.{most_clients, most_write_buffers};
 ghost use Rattle.clfs_command.specs.Share.{Asked, IsInRange, Paths, asked_of, paths_of, share_of};
-ghost use Rattle.clfs_engine.specs.Serve.{EndsByUsage};
+ghost use Rattle.clfs_operations.specs.Serve.{EndsByUsage};
 ghost use Rattle.clfs_engine.specs.Share.{AddsOpeners, AreOpeners, AreServed, AreServedAt, EndsSharing};
 
-use crate::refusing::refused;
-use crate::status::{DISK_FAULT, USAGE};
 use clfs_command::{PathPair, ShareWords, WordsRefusal, read_share};
 use clfs_disk::Disk;
-use clfs_laws::unbroken_stays;
 use clfs_lines::{DONE, NO_MEMORY, printed};
 use clfs_manager::{LoadRefused, Manager};
+use clfs_operations::{
+    DISK_FAULT, USAGE, journals_are_taken_from_logs, memory_runs_out_at_once, refused,
+    unopened_logs_are_told,
+};
 use clfs_ports::{Sink, Source};
-use clfs_recover::whole_files_pass_the_test;
 use clfs_share::{EndedClient, Openers, ShareRefused, Shared, share};
 use std::alloc::{AllocError, Global};
 use std::sync::Wait;
@@ -85,8 +85,8 @@ where
     ensures { EndsSharing (AreServed P.opens S.left S.faults K.written K.faults openers.items result.clients.items) result.status write_buffers
         (D.state disk) (D.state result.disk) (length result.clients.items) (T.written sink.old) (T.written sink.new) (T.faults sink.old) (T.faults sink.new) }
 {
-    unbroken_stays();
-    whole_files_pass_the_test();
+    journals_are_taken_from_logs::<D>();
+    unopened_logs_are_told::<D>();
     let manager = match Manager::load(alloc, disk, write_buffers) {
         Ok(manager) => manager,
         Err(LoadRefused { disk, cause }) => {
@@ -176,6 +176,7 @@ where
         (asked_of share.now).buffers (D.state disk) (D.state result.disk) (length result.clients.items) (T.written sink.old) (T.written sink.new)
         (T.faults sink.old) (T.faults sink.new) }
 {
+    memory_runs_out_at_once::<D>();
     match openers_of(alloc, maker, &share.clients) {
         Ok(openers) => share_log(rt, alloc, share.write_buffers, openers, sink, disk),
         Err(_) => unserved(alloc, NO_MEMORY, disk),

@@ -31,4 +31,4 @@ returns-in-Ok g c =
 pub returns-in-Err : goal.returns-in-Err
 returns-in-Err g c =
     rw (c.unserved.ensures.status, c.unserved.ensures.disk, c.unserved.ensures.clients)
-    (share_ran_out _ 5 _ (g.D.Disk.state c.args.disk) 0 _ _ refl refl)
+    (share_ran_out _ 5 _ (g.D.Disk.state c.args.disk) 0 _ _ (c.memory_runs_out_at_once.ensures.alone c.args.disk) refl refl)

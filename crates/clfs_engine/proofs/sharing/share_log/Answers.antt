@@ -1,15 +1,17 @@
 use Rattle.std.proofs.Common.{refl}
-use Rattle.clfs_engine.proofs.Loaded.{IsLoaded, IsKeptOn}
+use Rattle.clfs_operations.specs.Loaded.{IsLoaded, IsKeptOn}
 use Rattle.clfs_engine.proofs.Shares.{shared_ends, share_refused, share_without_memory}
-use Rattle.clfs_engine.proofs.TakenCalls.{JournalLaws}
 use Rattle.clfs_engine.proofs.sharing.share_log.Goals as goal
 
 -- the log wasn't opened
 pub returns-in-Err : goal.returns-in-Err
 returns-in-Err g c =
     let load = c.in-Err.ensures in
+    let old = g.D.Disk.state c.args.disk in
+    let new = g.D.Disk.state c.in-Err.field-0.disk in
     rw (c.unserved.ensures.status, c.unserved.ensures.disk, c.unserved.ensures.clients)
-    (share_refused _ c.refused.result c.args.write_buffers c.in-Err.field-0.cause (g.D.Disk.state c.args.disk) (g.D.Disk.state c.in-Err.field-0.disk) 0 _ _ _ _
+    (share_refused _ c.refused.result c.args.write_buffers old new 0 _ _ _ _
+    (c.unopened_logs_are_told.ensures c.refused.result c.in-Err.field-0.cause c.args.disk c.in-Err.field-0.disk _ _ _ _
     (record {
       is = load.refused;
       cause = load.cause;
@@ -17,7 +19,8 @@ returns-in-Err g c =
       same = load.same_refused.0;
       time = load.same_refused.1;
     })
-    refl c.refused.ensures)
+    c.refused.ensures)
+    refl)
 
 -- all clients have ended
 pub returns-in-Ok-share : goal.returns-in-Ok-share
@@ -40,14 +43,10 @@ returns-in-Ok-share g c =
       left = c.stored.ensures.survives_nothing 0;
     } in
     let kept : IsKeptOn t new = record { files = c.stored-in-Ok-share.ensures.files; settled = c.stored-in-Ok-share.ensures.settled } in
-    let laws : JournalLaws = record {
-      part = c.unbroken_stays.ensures.part;
-      passes = c.whole_files_pass_the_test.ensures.passes;
-      tells = c.whole_files_pass_the_test.ensures.tells;
-    } in
+    let from = c.journals_are_taken_from_logs.ensures c.args.write_buffers c.args.disk c.in-Ok.manager.1 shared.manager.1 s t shared.journal loaded kept c.in-Ok-share.ensures.reached in
     rw c.close.ensures
-    (shared_ends _ c.args.write_buffers old mid new s t loaded kept laws shared.journal c.in-Ok-share.ensures.reached
-    (c.in-Ok-share.ensures.clients, c.in-Ok-share.ensures.others) c.end_status.result _ _ _ c.end_status.ensures)
+    (shared_ends _ c.args.write_buffers old new s t kept shared.journal from (c.in-Ok-share.ensures.clients, c.in-Ok-share.ensures.others)
+    c.end_status.result _ _ _ c.end_status.ensures)
 
 -- there was no memory to begin
 pub returns : goal.returns

@@ -1,6 +1,0 @@
-use Rattle.std.proofs.Common.{true}
-use Rattle.clfs_engine.proofs.Trials.{info_flushed}
-use Rattle.clfs_engine.proofs.trying.flushed_lsn.Goals as goal
-
-pub returns-in-Ok : goal.returns-in-Ok
-returns-in-Ok g c = info_flushed c.args.manager.now.0 1 c.in-Ok.info (c.in-Ok.ensures.step true 0)
