@@ -1,3 +1,4 @@
 pub mod Line
+pub mod Forms
 pub mod Command
 pub mod Share

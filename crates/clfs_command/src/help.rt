@@ -1,8 +1,6 @@
 // What `clfs --help` prints: the commands, and the options of each.
-use crate::line::{
-    archive_line, check_line, command_line, crew_line, crowd_line, dump_line, format_line,
-    race_line, restore_line, serve_line, share_line, trial_line, txn_line,
-};
+use crate::commands::{CommandForm, commands, share_form};
+use crate::line::{command_line, line_of, with_line};
 use clap::Command;
 use std::alloc::{AllocError, Global};
 
@@ -33,8 +31,8 @@ const TRIAL_NOTES: &str = "\
 Looks at no folder, and reads nothing. The same number and count give the same line.
 Status 0: the line is printed. 3: standard output can't be written. 5: out of memory.";
 
-// What `crew` does, and how it ends.
-const CREW_NOTES: &str = "\
+// What `crew` does, and `crowd`, and how it ends.
+const THREADS_NOTES: &str = "\
 Looks at no folder, and reads nothing. What isn't counted lacked memory.
 Status 0: the line is printed. 3: standard output can't be written. 5: out of memory.";
 
@@ -42,11 +40,6 @@ Status 0: the line is printed. 3: standard output can't be written. 5: out of me
 const CHECK_NOTES: &str = "\
 Writes nothing, and takes no more memory for a larger log. A log is told of only if serve would open it.
 Status 0: a log is there. 3: standard output can't be written. 4: disk fault. 5: out of memory. 6: not a log.";
-
-// What `crowd` does, and how it ends.
-const CROWD_NOTES: &str = "\
-Looks at no folder, and reads nothing. What isn't counted lacked memory.
-Status 0: the line is printed. 3: standard output can't be written. 5: out of memory.";
 
 // What `txn` does, and how it ends.
 const TXN_NOTES: &str = "\
@@ -86,87 +79,83 @@ const NOTES: &str = "\
 Options may stand in any order, as --containers 4 or --containers=4; numbers are decimal, without a sign or a zero in front.
 Status 1: the words are no command, and standard error says which are.";
 
-// Adds a part of the help after an empty line.
-fn push_part(part: &str, text: &mut String) -> Result<(), AllocError> {
-    text.push('\n')?;
-    text.push_str(part)
+// The notes on a command.
+fn notes_of(command: &str) -> &'static str {
+    match command {
+        "format" => FORMAT_NOTES,
+        "serve" => SERVE_NOTES,
+        "race" => RACE_NOTES,
+        "trial" => TRIAL_NOTES,
+        "crew" | "crowd" => THREADS_NOTES,
+        "check" => CHECK_NOTES,
+        "dump" => DUMP_NOTES,
+        "txn" => TXN_NOTES,
+        "archive" => ARCHIVE_NOTES,
+        "restore" => RESTORE_NOTES,
+        "share" => SHARE_NOTES,
+        _ => "",
+    }
 }
 
-// Adds the notes on a command after its options.
-fn push_notes(notes: &str, text: &mut String) -> Result<(), AllocError> {
-    push_part(notes, text)?;
+// Adds a part of the help and notes on it, after an empty line.
+fn push_part(part: &str, notes: &str, text: &mut String) -> Result<(), AllocError> {
+    text.push_str(part)?;
+    text.push('\n')?;
+    text.push_str(notes)?;
     text.push('\n')
 }
 
-// Adds the help of a command, as it is called, with its notes.
-fn push_command(
-    line: Command,
-    call: &str,
-    notes: &str,
+// The help of a line.
+fn help_of(mut line: Command) -> Result<String, AllocError> {
+    line.render_help()
+}
+
+// The help of a command that is called so.
+fn help_as(alloc: Global, form: &CommandForm, call: &str) -> Result<String, AllocError> {
+    help_of(line_of(alloc, form)?.bin_name(call)?)
+}
+
+// The help of a command.
+fn command_help(alloc: Global, form: &CommandForm) -> Result<String, AllocError> {
+    let call = format!(in alloc; "clfs FOLDER {}", form.name)?;
+    help_as(alloc, form, call.as_str())
+}
+
+// Adds the help of a command, after an empty line.
+fn push_command(alloc: Global, form: &CommandForm, text: &mut String) -> Result<(), AllocError> {
+    let part = command_help(alloc, form)?;
+    text.push('\n')?;
+    push_part(part.as_str(), notes_of(form.name), text)
+}
+
+fn push_commands(
+    alloc: Global,
+    forms: &[CommandForm],
     text: &mut String,
 ) -> Result<(), AllocError> {
-    let part = line.bin_name(call)?.render_help()?;
-    push_part(part.as_str(), text)?;
-    push_notes(notes, text)
+    for form in forms {
+        push_command(alloc, form, text)?;
+    }
+    Ok(())
+}
+
+// What the program is, how it is called, and which commands there are.
+fn program_help(alloc: Global) -> Result<String, AllocError> {
+    let line = with_line(alloc, command_line(alloc)?, share_form())?;
+    help_of(line.override_usage(USAGE))
+}
+
+fn push_all(alloc: Global, text: &mut String) -> Result<(), AllocError> {
+    let part = program_help(alloc)?;
+    push_part(part.as_str(), NOTES, text)?;
+    push_commands(alloc, commands(), text)?;
+    push_command(alloc, share_form(), text)
 }
 
 /// The help of the program: what it is, how it is called, which commands there are, and of each the options, what it does, and its
 /// statuses. The text is clap's for the command line that `read_command` reads, with notes.
 pub fn help_text(alloc: Global) -> Result<String, AllocError> {
-    let all = command_line(alloc)?.subcommand(share_line(alloc)?)?;
-    let mut text = all.override_usage(USAGE).render_help()?;
-    push_notes(NOTES, &mut text)?;
-    push_command(
-        format_line(alloc)?,
-        "clfs FOLDER format",
-        FORMAT_NOTES,
-        &mut text,
-    )?;
-    push_command(
-        serve_line(alloc)?,
-        "clfs FOLDER serve",
-        SERVE_NOTES,
-        &mut text,
-    )?;
-    push_command(race_line(alloc)?, "clfs FOLDER race", RACE_NOTES, &mut text)?;
-    push_command(
-        trial_line(alloc)?,
-        "clfs FOLDER trial",
-        TRIAL_NOTES,
-        &mut text,
-    )?;
-    push_command(crew_line(alloc)?, "clfs FOLDER crew", CREW_NOTES, &mut text)?;
-    push_command(
-        check_line(alloc),
-        "clfs FOLDER check",
-        CHECK_NOTES,
-        &mut text,
-    )?;
-    push_command(
-        crowd_line(alloc)?,
-        "clfs FOLDER crowd",
-        CROWD_NOTES,
-        &mut text,
-    )?;
-    push_command(dump_line(alloc)?, "clfs FOLDER dump", DUMP_NOTES, &mut text)?;
-    push_command(txn_line(alloc), "clfs FOLDER txn", TXN_NOTES, &mut text)?;
-    push_command(
-        archive_line(alloc),
-        "clfs FOLDER archive",
-        ARCHIVE_NOTES,
-        &mut text,
-    )?;
-    push_command(
-        restore_line(alloc)?,
-        "clfs FOLDER restore",
-        RESTORE_NOTES,
-        &mut text,
-    )?;
-    push_command(
-        share_line(alloc)?,
-        "clfs FOLDER share",
-        SHARE_NOTES,
-        &mut text,
-    )?;
+    let mut text = String::new(alloc);
+    push_all(alloc, &mut text)?;
     Ok(text)
 }

@@ -7,6 +7,7 @@
 //! `share` has paths of any number, and so a command line and a call of its own (`specs/Share.antt`).
 #![tactic(auto)]
 
+mod commands;
 mod forms;
 mod help;
 mod line;

@@ -1,8 +1,10 @@
 // The command line after FOLDER, as clap takes it.
-ghost use Rattle.std.specs.Prelude.{◌≡◌, IfOk, codes, false};
-ghost use Rattle.clap.specs.Words.{app_of, rule_of};
-ghost use Rattle.clfs_command.specs.Line.{option, needed, with_default, flag, word, words, share_line, command_named, format_line, serve_line, race_line, trial_line, crew_line, check_line, crowd_line, dump_line, txn_line, archive_line, restore_line, command_line};
+ghost use Rattle.std.specs.Prelude.{◌≡◌, IfOk, false};
+ghost use Rattle.clap.specs.Words.{app_of, rule_of, with_subcommand};
+ghost use Rattle.clfs_command.specs.Line.{option, needed, with_default, flag, word, words, share_line, command_named, command_line};
+ghost use Rattle.clfs_command.specs.Forms.{rule_of_form, with_forms, line_of, with_lines, bare_line};
 
+use crate::commands::{CommandForm, WordForm, WordKind, commands, share_form};
 use clap::{Arg, ArgAction, Command};
 use std::alloc::{AllocError, Global};
 
@@ -34,6 +36,20 @@ fn needed<'a>(alloc: Global, name: &'a str, value: &'a str, help: &'a str) -> Ar
     option(alloc, name, value, help).required(true)
 }
 
+// An option that has this value where it isn't there.
+fn with_default<'a>(
+    alloc: Global,
+    name: &'a str,
+    value: &'a str,
+    default: &'a str,
+    help: &'a str,
+) -> Arg<'a>
+    ensures rule { rule_of result ≡ with_default name.entry.now default.entry.now }
+    ensures local { result.global ≡ false }
+{
+    option(alloc, name, value, help).default_value(default)
+}
+
 // The flag `--name`, which has no value.
 fn flag<'a>(alloc: Global, name: &'a str, help: &'a str) -> Arg<'a>
     ensures rule { rule_of result ≡ flag name.entry.now }
@@ -61,158 +77,76 @@ fn words<'a>(alloc: Global, name: &'a str, help: &'a str) -> Arg<'a>
     word(alloc, name, help).action(ArgAction::Append)
 }
 
-/// The line of `format`.
-pub fn format_line<'a>(alloc: Global) -> Result<Command<'a>, AllocError>
-    ensures { IfOk result (λ r. app_of r ≡ format_line) }
-{
-    let block = "Sectors of the largest block, 1 to 128; a sector has 512 bytes";
-    let container = "Sectors of a container, twice B to 16384";
-    let containers = "Containers of the log, 1 to 256";
-    let dedicated = "Makes a log that has one stream";
-    command_named(alloc, "format", "Makes a log in FOLDER")
-        .arg(needed(alloc, "block-sectors", "B", block))?
-        .arg(needed(alloc, "container-sectors", "S", container))?
-        .arg(needed(alloc, "containers", "N", containers))?
-        .arg(flag(alloc, "dedicated", dedicated))
-}
-
-// The option `--write-buffers`, which is 4 if it isn't there.
-fn write_buffers<'a>(alloc: Global) -> Arg<'a>
-    ensures rule { rule_of result ≡ with_default (codes "write-buffers") (codes "4") }
+// clap's word of this form.
+fn word_of<'a>(alloc: Global, form: &WordForm) -> Arg<'a>
+    ensures rule { rule_of result ≡ rule_of_form form.now }
     ensures local { result.global ≡ false }
 {
-    let help = "Full blocks that may wait before all are written, 1 to 64";
-    option(alloc, "write-buffers", "W", help).default_value("4")
+    match form.kind {
+        WordKind::Optional(value) => option(alloc, form.name, value, form.help),
+        WordKind::Needed(value) => needed(alloc, form.name, value, form.help),
+        WordKind::Default(value, default) => with_default(
+            alloc, form.name, value, default, form.help,
+        ),
+        WordKind::Flag => flag(alloc, form.name, form.help),
+        WordKind::Word => word(alloc, form.name, form.help),
+        WordKind::Words => words(alloc, form.name, form.help),
+    }
 }
 
-// The option `--read-buffers`, which is 32 if it isn't there.
-fn read_buffers<'a>(alloc: Global) -> Arg<'a>
-    ensures rule { rule_of result ≡ with_default (codes "read-buffers") (codes "32") }
-    ensures local { result.global ≡ false }
+// Adds words to a command's line.
+fn with_forms<'a>(
+    alloc: Global,
+    line: Command<'a>,
+    forms: &[WordForm],
+) -> Result<Command<'a>, AllocError>
+    ensures { IfOk result (λ r. app_of r ≡ with_forms (app_of line.entry) forms.now) }
 {
-    let help = "Blocks that were read that are kept, 1 to 4096";
-    option(alloc, "read-buffers", "N", help).default_value("32")
+    match forms.split_first() {
+        Some((form, others)) => with_forms(alloc, line.arg(word_of(alloc, form))?, others),
+        None => Ok(line),
+    }
 }
 
-/// The line of `serve`.
-pub fn serve_line<'a>(alloc: Global) -> Result<Command<'a>, AllocError>
-    ensures { IfOk result (λ r. app_of r ≡ serve_line) }
+/// The line of a command.
+pub fn line_of<'a>(alloc: Global, form: &CommandForm) -> Result<Command<'a>, AllocError>
+    ensures { IfOk result (λ r. app_of r ≡ line_of form.now) }
 {
-    let about = "Answers the lines of a script on standard input, one reply a line";
-    let endless = "Takes a script of any length in place of 64 MiB";
-    command_named(alloc, "serve", about)
-        .arg(write_buffers(alloc))?
-        .arg(read_buffers(alloc))?
-        .arg(flag(alloc, "endless", endless))
+    with_forms(
+        alloc,
+        command_named(alloc, form.name, form.about),
+        form.words,
+    )
 }
 
-/// The line of `race`.
-pub fn race_line<'a>(alloc: Global) -> Result<Command<'a>, AllocError>
-    ensures { IfOk result (λ r. app_of r ≡ race_line) }
+// Adds commands to a line, each as a subcommand.
+fn with_lines<'a>(
+    alloc: Global,
+    line: Command<'a>,
+    forms: &[CommandForm],
+) -> Result<Command<'a>, AllocError>
+    ensures { IfOk result (λ r. app_of r ≡ with_lines (app_of line.entry) forms.now) }
 {
-    let about = "Answers the lines of a script, those of each client in a thread of its own";
-    command_named(alloc, "race", about).arg(write_buffers(alloc))
+    match forms.split_first() {
+        Some((form, others)) => with_lines(alloc, with_line(alloc, line, form)?, others),
+        None => Ok(line),
+    }
 }
 
-/// The line of `trial`.
-pub fn trial_line<'a>(alloc: Global) -> Result<Command<'a>, AllocError>
-    ensures { IfOk result (λ r. app_of r ≡ trial_line) }
+/// Adds a command to a line as a subcommand.
+pub fn with_line<'a>(
+    alloc: Global,
+    line: Command<'a>,
+    form: &CommandForm,
+) -> Result<Command<'a>, AllocError>
+    ensures { IfOk result (λ r. app_of r ≡ with_subcommand (app_of line.entry) (line_of form.now).top) }
 {
-    let about =
-        "Answers lines that are made of a number, over a log in memory, and prints their sums";
-    let number = "The number, 0 to 4294967295";
-    let count = "How many lines are made, 1 to 100000";
-    command_named(alloc, "trial", about)
-        .arg(word(alloc, "NUMBER", number))?
-        .arg(word(alloc, "COUNT", count))
+    line.subcommand(line_of(alloc, form)?)
 }
 
-/// The line of `crew`.
-pub fn crew_line<'a>(alloc: Global) -> Result<Command<'a>, AllocError>
-    ensures { IfOk result (λ r. app_of r ≡ crew_line) }
-{
-    let about = "Appends in threads by permits of one shared area, over a log in memory";
-    let threads = "How many threads there are, 1 to 8";
-    let count = "How many records each of them appends, 1 to 1000";
-    command_named(alloc, "crew", about)
-        .arg(word(alloc, "THREADS", threads))?
-        .arg(word(alloc, "COUNT", count))
-}
-
-/// The line of `check`.
-pub fn check_line<'a>(alloc: Global) -> Command<'a>
-    ensures { app_of result ≡ check_line }
-{
-    let about = "Judges the log in FOLDER and tells what is in it, or where it is broken";
-    command_named(alloc, "check", about)
-}
-
-/// The line of `txn`.
-pub fn txn_line<'a>(alloc: Global) -> Command<'a>
-    ensures { app_of result ≡ txn_line }
-{
-    let about =
-        "Answers the lines of a script by a table of cells with transactions, which the log in FOLDER keeps";
-    command_named(alloc, "txn", about)
-}
-
-/// The line of `archive`.
-pub fn archive_line<'a>(alloc: Global) -> Command<'a>
-    ensures { app_of result ≡ archive_line }
-{
-    let about =
-        "Writes an archive of the log in FOLDER to standard output, and moves its archive tail";
-    command_named(alloc, "archive", about)
-}
-
-/// The line of `restore`.
-pub fn restore_line<'a>(alloc: Global) -> Result<Command<'a>, AllocError>
-    ensures { IfOk result (λ r. app_of r ≡ restore_line) }
-{
-    let about = "Makes a log in FOLDER of the archives on standard input";
-    let up_to = "Restores no record at this LSN or above, as 1:200:0";
-    command_named(alloc, "restore", about).arg(option(alloc, "up-to", "LSN", up_to))
-}
-
-/// The line of `crowd`.
-pub fn crowd_line<'a>(alloc: Global) -> Result<Command<'a>, AllocError>
-    ensures { IfOk result (λ r. app_of r ≡ crowd_line) }
-{
-    let about = "Appends in threads that share their flushes, over a log in memory";
-    let threads = "How many threads there are, 1 to 8";
-    let count = "How many records each of them appends, 1 to 1000";
-    command_named(alloc, "crowd", about)
-        .arg(word(alloc, "THREADS", threads))?
-        .arg(word(alloc, "COUNT", count))
-}
-
-// The option `--data`, which is hex if it isn't there.
-fn data_form<'a>(alloc: Global) -> Arg<'a>
-    ensures rule { rule_of result ≡ with_default (codes "data") (codes "hex") }
-    ensures local { result.global ≡ false }
-{
-    let help = "How data are printed: hex, text or none";
-    option(alloc, "data", "FORM", help).default_value("hex")
-}
-
-/// The line of `dump`.
-pub fn dump_line<'a>(alloc: Global) -> Result<Command<'a>, AllocError>
-    ensures { IfOk result (λ r. app_of r ≡ dump_line) }
-{
-    let about = "Prints the log in FOLDER as text, or up to where it is broken";
-    let from = "Prints no record below this LSN, as 1:200:0";
-    let to = "Prints no record at this LSN or above";
-    let stream = "Prints the records of the stream of this name alone, 1 to 64 bytes";
-    command_named(alloc, "dump", about)
-        .arg(option(alloc, "from", "LSN", from))?
-        .arg(option(alloc, "to", "LSN", to))?
-        .arg(option(alloc, "stream", "NAME", stream))?
-        .arg(data_form(alloc))
-}
-
-/// All of the line, of which the first word names the subcommand.
-pub fn command_line<'a>(alloc: Global) -> Result<Command<'a>, AllocError>
-    ensures { IfOk result (λ r. app_of r ≡ command_line) }
+// The line without its subcommands.
+fn bare_line<'a>(alloc: Global) -> Command<'a>
+    ensures { app_of result ≡ bare_line }
 {
     let about =
         "A log manager: several clients share one log, and each sees its own stream of records";
@@ -220,27 +154,18 @@ pub fn command_line<'a>(alloc: Global) -> Result<Command<'a>, AllocError>
         .no_binary_name(true)
         .disable_help_subcommand(true)
         .subcommand_required(true)
-        .subcommand(format_line(alloc)?)?
-        .subcommand(serve_line(alloc)?)?
-        .subcommand(race_line(alloc)?)?
-        .subcommand(trial_line(alloc)?)?
-        .subcommand(crew_line(alloc)?)?
-        .subcommand(check_line(alloc))?
-        .subcommand(crowd_line(alloc)?)?
-        .subcommand(dump_line(alloc)?)?
-        .subcommand(txn_line(alloc))?
-        .subcommand(archive_line(alloc))?
-        .subcommand(restore_line(alloc)?)
+}
+
+/// All of the line, of which the first word names the subcommand.
+pub fn command_line<'a>(alloc: Global) -> Result<Command<'a>, AllocError>
+    ensures { IfOk result (λ r. app_of r ≡ command_line) }
+{
+    with_lines(alloc, bare_line(alloc), commands())
 }
 
 /// The line of `share`. It takes the words after its name.
 pub fn share_line<'a>(alloc: Global) -> Result<Command<'a>, AllocError>
     ensures { IfOk result (λ r. app_of r ≡ share_line) }
 {
-    let about = "Answers the lines of several programs over one log, each as if it were alone";
-    let paths = "IN and OUT of each client: where its lines come from, and where its replies go";
-    command_named(alloc, "share", about)
-        .no_binary_name(true)
-        .arg(write_buffers(alloc))?
-        .arg(words(alloc, "PATHS", paths))
+    Ok(line_of(alloc, share_form())?.no_binary_name(true))
 }

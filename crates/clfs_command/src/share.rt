@@ -11,19 +11,15 @@ ghost use Rattle.clfs_lsn.specs.Limits.{most_clients, most_write_buffers};
 ghost use Rattle.clfs_command.specs.Share.{paths_of, asked_of, buffers_of, pairs_of, are_apart, can_be_shared, clients_of, share_in, share_by, share_of, names_share, IsInRange};
 
 use crate::line::share_line;
-use crate::words::{WordsRefusal, number_of};
+use crate::words::{MOST_WRITE_BUFFERS, WordsRefusal, number_of, refusal_of};
 use clap::ArgMatches;
-use clap::error::ErrorKind;
 use std::alloc::{AllocError, Global};
 
 // The most paths: two of each client.
 const MOST_PATHS: usize = 128;
 
-// The most write buffers of a log.
-const MOST_WRITE_BUFFERS: u32 = 64;
-
 /// A client's two paths.
-#[derive(Debug, Drop)]
+#[derive(Drop)]
 pub struct PathPair {
     /// Where its lines come from.
     pub input: String,
@@ -32,7 +28,7 @@ pub struct PathPair {
 }
 
 /// What `share` is asked for with.
-#[derive(Debug, Drop)]
+#[derive(Drop)]
 pub struct ShareWords {
     /// The write buffers of the log, 1 to 64.
     pub write_buffers: u32,
@@ -154,10 +150,7 @@ fn share_by(alloc: Global, words: &[String]) -> Result<ShareWords, WordsRefusal>
     let line = share_line(alloc)?;
     match line.try_get_matches_from(words) {
         Ok(matches) => share_in(alloc, &matches),
-        Err(error) => match error.kind() {
-            ErrorKind::OutOfMemory => Err(WordsRefusal::NoMemory),
-            _ => Err(WordsRefusal::Usage),
-        },
+        Err(error) => Err(refusal_of(&error)),
     }
 }
 

@@ -1,20 +1,22 @@
 // Which command the words after FOLDER name.
-ghost use Rattle.std.specs.Prelude.{◌≡◌, take, map, Some, None, IfSome, IfOk, IfErr};
+ghost use Rattle.std.specs.Prelude.{◌≡◌, ◌≢◌, take, map, Some, None, IfSome, IfOk, IfErr};
 ghost use Rattle.std.specs.Option.{option_and_then};
 ghost use Rattle.std.specs.String.{string_bytes};
+ghost use Rattle.clap.specs.Values.{kind_of};
 ghost use Rattle.clap.specs.Words.{rows_of, found_of, subcommand_rows_of};
+ghost use Rattle.clap.specs.declared.error.kind.ErrorKind.TheVariants.{OutOfMemory};
 ghost use Rattle.clfs_command.specs.Command.{number_of, is_set, is_size, format_of, length_of, are_buffers, serve_of, race_of, trial_of, crew_of, crowd_of, name_of_word, lsn_of, name_of, data_of_word, data_of, dump_of, restore_of, with_options, command_of, HasItsRanges};
 
 use crate::line::command_line;
-use clap::ArgMatches;
 use clap::error::ErrorKind;
+use clap::{ArgMatches, Error};
 use clfs_lsn::{LONGEST_NAME, Lsn, MOST_CONTAINERS, Shape};
 use clfs_text::{decimal_number, lsn_of_word};
 use std::alloc::{AllocError, Global};
 use thiserror::Error;
 
 /// How long a script may get.
-#[derive(Clone, Copy, Debug, PartialEq, Eq)]
+#[derive(Clone, Copy, PartialEq, Eq)]
 pub enum ScriptLength {
     /// 67,108,864 bytes.
     Limited,
@@ -23,7 +25,7 @@ pub enum ScriptLength {
 }
 
 /// How the data of records are asked for.
-#[derive(Clone, Copy, Debug, PartialEq, Eq)]
+#[derive(Clone, Copy, PartialEq, Eq)]
 pub enum DataWord {
     /// In hexadecimal digits.
     Hex,
@@ -34,7 +36,7 @@ pub enum DataWord {
 }
 
 /// The name of a stream that is asked for, of 1 to 64 bytes.
-#[derive(Clone, Copy, Debug, PartialEq, Eq)]
+#[derive(Clone, Copy, PartialEq, Eq)]
 pub struct AskedName {
     /// Its bytes, and zeros after them.
     pub bytes: [u8; 64],
@@ -68,7 +70,7 @@ impl AskedName {
 }
 
 /// Which records of a log are printed, and how. What isn't there asks for nothing.
-#[derive(Clone, Copy, Debug, PartialEq, Eq)]
+#[derive(Clone, Copy, PartialEq, Eq)]
 pub struct DumpOptions {
     /// No record below this LSN.
     pub from: Option<Lsn>,
@@ -81,7 +83,7 @@ pub struct DumpOptions {
 }
 
 /// What a user can ask the program for.
-#[derive(Clone, Copy, Debug, PartialEq, Eq)]
+#[derive(Clone, Copy, PartialEq, Eq)]
 pub enum Command {
     /// To make a log.
     Format {
@@ -169,8 +171,8 @@ const MOST_BLOCK_SECTORS: u32 = 128;
 // The most sectors of a container.
 const MOST_CONTAINER_SECTORS: u32 = 16384;
 
-// The most write buffers of a log.
-const MOST_WRITE_BUFFERS: u32 = 64;
+/// The most write buffers of a log.
+pub(crate) const MOST_WRITE_BUFFERS: u32 = 64;
 
 // The most blocks that were read that are kept.
 const MOST_READ_BUFFERS: u32 = 4096;
@@ -418,6 +420,16 @@ fn with_options(name: &str, options: &ArgMatches) -> Option<Command>
     }
 }
 
+/// Why words name nothing, if clap says this of them.
+pub(crate) fn refusal_of(error: &Error) -> WordsRefusal
+    ensures { result ≡ WordsRefusal.Usage → kind_of error.now ≢ OutOfMemory }
+{
+    match error.kind() {
+        ErrorKind::OutOfMemory => WordsRefusal::NoMemory,
+        _ => WordsRefusal::Usage,
+    }
+}
+
 // The command that was found.
 fn found_command(matches: &ArgMatches) -> Option<Command>
     ensures command { result ≡ option_and_then with_options (subcommand_rows_of matches.now) }
@@ -448,9 +460,6 @@ pub fn read_command(alloc: Global, words: &[String]) -> Result<Command, WordsRef
     let line = command_line(alloc)?;
     match line.try_get_matches_from(words) {
         Ok(matches) => command_in(&matches),
-        Err(error) => match error.kind() {
-            ErrorKind::OutOfMemory => Err(WordsRefusal::NoMemory),
-            _ => Err(WordsRefusal::Usage),
-        },
+        Err(error) => Err(refusal_of(&error)),
     }
 }

@@ -4,14 +4,10 @@ use Rattle.clfs_command.proofs.NoCommands.{some_fault}
 use Rattle.clfs_command.proofs.NoShares.{is_simple, is_plain, is_asked, none_asked}
 use Rattle.clfs_command.proofs.share.share_by.Goals as goal
 
-pub returns : goal.returns
-returns c =
+pub returns-in-Err-clause-usage : goal.returns-in-Err-clause-usage
+returns-in-Err-clause-usage c = λ e.
     let line = c.in_ok-line.ensures in
-    record {
-      share = tt;
-      usage = λ e. none_asked _ _ line (some_fault _ c.in-Err.error (c.in-Err.ensures.kinds (is_simple _ line)) (λ memory. c.in_default.not-OutOfMemory (c.kind.ensures ∙ memory)));
-      ranges = tt;
-    }
+    none_asked _ _ line (some_fault _ c.in-Err.error (c.in-Err.ensures.kinds (is_simple _ line)) (c.refusal_of.ensures e))
 
 pub returns-in-Ok-clause-share : goal.returns-in-Ok-clause-share
 returns-in-Ok-clause-share c =

@@ -1,16 +1,12 @@
-use Rattle.std.proofs.Common.{sym, ◌∙◌}
+use Rattle.std.proofs.Common.{◌∙◌}
 use Rattle.std.proofs.lemmas.Result.{IfErr-weaker, IfOk-weaker}
 use Rattle.clfs_command.proofs.NoCommands.{some_fault, is_simple, is_plain, is_found, none_named}
 use Rattle.clfs_command.proofs.words.read_command.Goals as goal
 
-pub returns : goal.returns
-returns c =
+pub returns-in-Err-clause-usage : goal.returns-in-Err-clause-usage
+returns-in-Err-clause-usage c = λ e.
     let line = c.in_ok-line.ensures in
-    record {
-      command = tt;
-      usage = λ e. none_named _ _ line (some_fault _ c.in-Err.error (c.in-Err.ensures.kinds (is_simple _ line)) (λ memory. c.in_default.not-OutOfMemory (c.kind.ensures ∙ memory)));
-      ranges = tt;
-    }
+    none_named _ _ line (some_fault _ c.in-Err.error (c.in-Err.ensures.kinds (is_simple _ line)) (c.refusal_of.ensures e))
 
 pub returns-in-Ok-clause-command : goal.returns-in-Ok-clause-command
 returns-in-Ok-clause-command c =
