@@ -128,6 +128,7 @@ fn push_command(alloc: Global, form: &CommandForm, text: &mut String) -> Result<
     push_part(part.as_str(), notes_of(form.name), text)
 }
 
+// Adds the help of commands, in their order.
 fn push_commands(
     alloc: Global,
     forms: &[CommandForm],
@@ -145,6 +146,7 @@ fn program_help(alloc: Global) -> Result<String, AllocError> {
     help_of(line.override_usage(USAGE))
 }
 
+// Adds all of the help.
 fn push_all(alloc: Global, text: &mut String) -> Result<(), AllocError> {
     let part = program_help(alloc)?;
     push_part(part.as_str(), NOTES, text)?;

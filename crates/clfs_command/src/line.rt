@@ -2,7 +2,7 @@
 ghost use Rattle.std.specs.Prelude.{◌≡◌, IfOk, false};
 ghost use Rattle.clap.specs.Words.{app_of, rule_of, with_subcommand};
 ghost use Rattle.clfs_command.specs.Line.{option, needed, with_default, flag, word, words, share_line, command_named, command_line};
-ghost use Rattle.clfs_command.specs.Forms.{rule_of_form, with_forms, line_of, with_lines, bare_line};
+ghost use Rattle.clfs_command.specs.Forms.{rule_of_form, line_of, bare_line};
 
 use crate::commands::{CommandForm, WordForm, WordKind, commands, share_form};
 use clap::{Arg, ArgAction, Command};
@@ -94,43 +94,15 @@ fn word_of<'a>(alloc: Global, form: &WordForm) -> Arg<'a>
     }
 }
 
-// Adds words to a command's line.
-fn with_forms<'a>(
-    alloc: Global,
-    line: Command<'a>,
-    forms: &[WordForm],
-) -> Result<Command<'a>, AllocError>
-    ensures { IfOk result (λ r. app_of r ≡ with_forms (app_of line.entry) forms.now) }
-{
-    match forms.split_first() {
-        Some((form, others)) => with_forms(alloc, line.arg(word_of(alloc, form))?, others),
-        None => Ok(line),
-    }
-}
-
 /// The line of a command.
 pub fn line_of<'a>(alloc: Global, form: &CommandForm) -> Result<Command<'a>, AllocError>
     ensures { IfOk result (λ r. app_of r ≡ line_of form.now) }
 {
-    with_forms(
-        alloc,
-        command_named(alloc, form.name, form.about),
-        form.words,
-    )
-}
-
-// Adds commands to a line, each as a subcommand.
-fn with_lines<'a>(
-    alloc: Global,
-    line: Command<'a>,
-    forms: &[CommandForm],
-) -> Result<Command<'a>, AllocError>
-    ensures { IfOk result (λ r. app_of r ≡ with_lines (app_of line.entry) forms.now) }
-{
-    match forms.split_first() {
-        Some((form, others)) => with_lines(alloc, with_line(alloc, line, form)?, others),
-        None => Ok(line),
+    let mut line = command_named(alloc, form.name, form.about);
+    for word in form.words {
+        line = line.arg(word_of(alloc, word))?;
     }
+    Ok(line)
 }
 
 /// Adds a command to a line as a subcommand.
@@ -160,7 +132,11 @@ fn bare_line<'a>(alloc: Global) -> Command<'a>
 pub fn command_line<'a>(alloc: Global) -> Result<Command<'a>, AllocError>
     ensures { IfOk result (λ r. app_of r ≡ command_line) }
 {
-    with_lines(alloc, bare_line(alloc), commands())
+    let mut line = bare_line(alloc);
+    for form in commands() {
+        line = with_line(alloc, line, form)?;
+    }
+    Ok(line)
 }
 
 /// The line of `share`. It takes the words after its name.
