@@ -5,7 +5,9 @@ use Rattle.std.specs.List.Sorted.{IsStrictlyIncreasing}
 use Rattle.std.proofs.lemmas.Bool.Decides.{nat_tests}
 use Rattle.std.proofs.lemmas.List.Elements.{All-head, All-tail, All-map, All-weaker}
 use Rattle.clfs_lsn.specs.Head.{head_of}
-use Rattle.clfs_lsn.specs.Place.{IsClosed, frontier}
+use Rattle.clfs_lsn.specs.Lsn.{sequence_of}
+use Rattle.clfs_lsn.specs.Place.{IsClosed, IsWithin, frontier}
+use Rattle.clfs_lsn.specs.declared.shape.Shape.{Shape}
 use Rattle.clfs_lsn.specs.declared.place.Place.{Place}
 use Rattle.clfs_model.specs.Archive.{end_of_block}
 use Rattle.clfs_model.specs.Flush.{block_start}
@@ -76,3 +78,7 @@ pub streams_long : (rows : List Row) (bases : List ℕ) → length bases ≡ len
 streams_long [] bases long = refl
 streams_long (row ∷ rows) [] long = absurd (omega (arith, long))
 streams_long (row ∷ rows) (base ∷ bases) long = omega (arith, streams_long rows bases (omega (arith, long)))
+
+-- the block that a place begins starts with its first record
+pub starts : {shape : Shape} (place : Place) → IsWithin shape place → sequence_of (block_start place) ≡ 0
+starts {shape} place within = omega (arith, within.offset)

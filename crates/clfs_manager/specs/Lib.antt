@@ -15,3 +15,4 @@ pub mod Sizes
 pub mod Base
 pub mod Streams
 pub mod Putting
+pub mod Opened

@@ -1,14 +1,18 @@
 // A log as a manager has it in memory: tables of its records by their heads, the areas of clients, what is set, the newest base copy, what waits to
 // be written, and blocks that were read. The state for which all this stands is told, for clauses alone.
-ghost use Rattle.std.specs.Prelude.{◌≡◌, ◌≤◌, ◌<◌, ◌^◌, [], false, map, if◌then◌else◌, Some, None, IfOk};
+ghost use Rattle.std.specs.Prelude.{◌≡◌, ◌≤◌, ◌<◌, ◌^◌, [], map, if◌then◌else◌, Some, None, IfOk};
+ghost use Rattle.clfs_base.specs.Spelling.{IsImage};
 ghost use Rattle.clfs_lsn.specs.Head.{head_of};
 ghost use Rattle.clfs_lsn.specs.Limits.{most_write_buffers};
+ghost use Rattle.clfs_lsn.specs.Place.{IsClosed, IsWithin};
+ghost use Rattle.clfs_lsn.specs.Size.{IsShape};
 ghost use Rattle.clfs_model.specs.Flush.{block_start};
 ghost use Rattle.clfs_recover.specs.Files.{policy_of, state_of};
 ghost use Rattle.clfs_recover.specs.Walk.{shape_of};
 ghost use Rattle.clfs_recover.specs.KnownLogs.{IsLogOf};
 ghost use Rattle.clfs_recover.specs.Opening.{told_parts};
-ghost use Rattle.clfs_manager.specs.Memory.{HasForgotten, Holds, policies_in};
+ghost use Rattle.clfs_manager.specs.Memory.{policies_in};
+ghost use Rattle.clfs_manager.specs.Opened.{FitTables, FitsMemory, HaveRecords, IsOpened};
 
 use clfs_archive::{Archive, open_archive};
 use clfs_areas::Areas;
@@ -23,7 +27,7 @@ use clfs_queue::Queue;
 use clfs_recover::{
     HeadParts, copies_without_fault_fit, logs_are_found_in_files,
     opened_bases_are_moved_by_records, opened_copies_fit, opened_records_lie_in_order,
-    opened_states_are_cut, opened_states_are_valid,
+    opened_states_are_valid,
 };
 use clfs_tables::{Tables, open_tables};
 use clfs_told::Told;
@@ -99,6 +103,79 @@ fn start_of(place: &Place) -> Lsn
     Lsn::from_parts(place.container, place.offset, 0)
 }
 
+// What was found of a log fits memory.
+fn opened_parts_fit(opened: &HeadParts, write_buffers: u32)
+    requires log { IsLogOf (told_parts opened.now) }
+    requires some { 1 ≤ write_buffers }
+    requires few { write_buffers ≤ most_write_buffers }
+    ensures { FitsMemory (told_parts opened.now) write_buffers }
+{
+    copies_are_read_as_written();
+    logs_are_found_in_files();
+    copies_without_fault_fit();
+    opened_states_are_valid();
+    opened_copies_fit();
+    opened_records_lie_in_order();
+    opened_bases_are_moved_by_records();
+    numbers_fit_their_types();
+}
+
+// The tables of what was found, and where its sealed blocks end.
+fn open_records(alloc: Global, opened: &HeadParts) -> Result<(Tables, Archive), AllocError>
+    requires heads { opened.now.heads ≡ map head_of opened.now.entries.value }
+    requires fit { FitTables (told_parts opened.now) }
+    ensures { IfOk result (λ both. HaveRecords (told_parts opened.now) both.0 both.1) }
+{
+    let heads = opened.heads.as_slice();
+    let rows = opened.image.streams.as_slice();
+    let tables = open_tables(alloc, rows, opened.bases.as_slice(), heads)?;
+    let next = start_of(&opened.place);
+    let archive = open_archive(alloc, tail_in(&opened.image), heads, next)?;
+    Ok((tables, archive))
+}
+
+// What waits to be written, nothing yet, and the blocks that are read, none yet.
+fn open_blocks(
+    alloc: Global,
+    opened: &HeadParts,
+    write_buffers: u32,
+    read_buffers: u32,
+) -> Result<(Queue, Buffers), AllocError>
+    requires shape { IsShape (shape_of opened.now.image) }
+    requires place { IsWithin (shape_of opened.now.image) opened.now.place }
+    requires closed { IsClosed opened.now.place }
+    requires some { 1 ≤ write_buffers }
+    requires few { write_buffers ≤ most_write_buffers }
+    requires reads { 1 ≤ read_buffers }
+    ensures queue { IfOk result (λ both. both.0 ≡ record {
+      shape = shape_of opened.now.image;
+      buffers = write_buffers;
+      place = opened.now.place;
+      waiting = [];
+      records = [];
+    }) }
+    ensures kept { IfOk result (λ both. both.1 ≡ record { most = read_buffers; blocks = [] }) }
+{
+    let queue = Queue::new(
+        alloc,
+        &shape_of(&opened.image),
+        write_buffers,
+        &opened.place,
+    )?;
+    let buffers = Buffers::new(alloc, read_buffers)?;
+    Ok((queue, buffers))
+}
+
+// The newest copy of what was found.
+fn newest_of(alloc: Global, opened: HeadParts) -> Result<Physical, AllocError>
+    requires slot { opened.slot ≤ 1 }
+    requires image { IsImage opened.image }
+    ensures { IfOk result (λ newest. newest ≡ record { slot = opened.slot; image = opened.image }) }
+{
+    let HeadParts { slot, image, .. } = opened;
+    Physical::new(alloc, slot, image)
+}
+
 // A log that was opened, with so many write buffers, which keeps so many blocks that are read. All memory that its blocks and base copies will ever need is taken here.
 // The copy may list containers below the hold's; of these nothing is kept.
 pub(crate) fn open_log(
@@ -112,43 +189,23 @@ pub(crate) fn open_log(
     requires some { 1 ≤ write_buffers }
     requires few { write_buffers ≤ most_write_buffers }
     requires reads { 1 ≤ read_buffers }
-    ensures state { IfOk result (λ log. log.state.value ≡ state_of (told_parts opened) write_buffers) }
-    ensures holds { IfOk result (λ log. Holds log.state.value log) }
-    ensures newest { IfOk result (λ log. log.physical ≡ record { slot = opened.slot; image = opened.image }) }
-    ensures kept { IfOk result (λ log. log.buffers ≡ record { most = read_buffers; blocks = [] }) }
-    ensures whole { IfOk result (λ log. log.broken ≡ false) }
-    ensures forgotten { IfOk result (λ log. HasForgotten log.state.value log) }
+    ensures { IfOk result (λ log. IsOpened (told_parts opened) write_buffers read_buffers log) }
 {
-    copies_are_read_as_written();
-    logs_are_found_in_files();
-    copies_without_fault_fit();
-    opened_states_are_valid();
-    opened_states_are_cut();
-    opened_copies_fit();
-    opened_records_lie_in_order();
-    opened_bases_are_moved_by_records();
-    numbers_fit_their_types();
+    opened_parts_fit(&opened, write_buffers);
     let state = state_of(&opened, write_buffers);
-    let heads = opened.heads.as_slice();
-    let rows = opened.image.streams.as_slice();
-    let tables = open_tables(alloc, rows, opened.bases.as_slice(), heads)?;
-    let next = start_of(&opened.place);
-    let archive = open_archive(alloc, tail_in(&opened.image), heads, next)?;
-    let shape = shape_of(&opened.image);
-    let queue = Queue::new(alloc, &shape, write_buffers, &opened.place)?;
     let policies = policies_in(&opened.image);
-    let buffers = Buffers::new(alloc, read_buffers)?;
-    let HeadParts { slot, image, .. } = opened;
-    let physical = Physical::new(alloc, slot, image)?;
+    let records = open_records(alloc, &opened)?;
+    let blocks = open_blocks(alloc, &opened, write_buffers, read_buffers)?;
+    let physical = newest_of(alloc, opened)?;
     let mut log = Log {
         alloc,
-        tables,
+        tables: records.0,
         areas: Areas::new(alloc),
-        archive,
+        archive: records.1,
         policies,
         physical,
-        queue,
-        buffers,
+        queue: blocks.0,
+        buffers: blocks.1,
         broken: false,
         state,
     };
