@@ -1,5 +1,7 @@
 -- The first copy of a log, written after closed gates.
-use Rattle.std.proofs.Common.{◌≡◌, inl, inr, ⊎_elim, ℕ, zero, suc, List, eqb, ◌∙◌, ap, arith}
+use Rattle.std.proofs.Common.{◌≡◌, inl, inr, ⊎_elim, ℕ, zero, suc, ◌+◌, ◌*◌, ◌≤◌, List, eqb, ◌∙◌, ap, arith}
+use Rattle.clfs_base.specs.Layout.{slot_bytes}
+use Rattle.clfs_base.specs.Slots.{slot_place}
 use Rattle.clfs_disk.specs.Files.{Files, TornIn}
 use Rattle.clfs_base.specs.declared.image.BaseImage.{BaseImage}
 use Rattle.clfs_base.specs.Spelling.{IsImage, spelled}
@@ -43,3 +45,10 @@ none_yet image old files none torn = inl (gates_stay old files none torn)
 pub none_or_first : (image : BaseImage) (old mid files : Files) → TornIn 0 1 16383 old mid → NoneOrFirst 0 image mid files → NoneOrFirst 0 image old files
 none_or_first image old mid files torn either = ⊎_elim (λ (none : HasNoCopy files). inl none)
     (λ (has : HasNewest 0 image mid files). inr (newest_from image old mid files torn has)) either
+
+-- a base file with two slots has room for the first one, and for its gate
+pub first_fits_in : (n : ℕ) → 2 * slot_bytes ≤ n → slot_place 0 + slot_bytes ≤ n
+first_fits_in n long = omega (arith, long)
+
+pub gate_fits_in : (n m : ℕ) → m ≡ n → 2 * slot_bytes ≤ n → slot_place 0 + 1 ≤ m
+gate_fits_in n m same long = omega (arith, same, long)
