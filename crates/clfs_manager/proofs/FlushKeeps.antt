@@ -1,6 +1,6 @@
 -- A log that was flushed is open still.
 use Rattle.std.proofs.Common.{◌≡◌, ℕ, ◌≤◌, refl, sym, ap, ◌∙◌, arith, Bool, true, false, inr}
-use Rattle.std.specs.Prelude.{Result, Ok, Err, OnOk, OnErr}
+use Rattle.std.specs.Prelude.{None, Some, if◌then◌else◌, nat_lt, Result, Ok, Err, OnOk, OnErr}
 use Rattle.std.specs.Result.{is_err}
 use Rattle.clfs_disk.specs.State.{DiskState, IsSettled}
 use Rattle.clfs_model.specs.declared.state.State.{State}
@@ -106,3 +106,19 @@ managed_flushed old new before after client call reply valid storable meets mana
       broken = rw state (ap (λ (t : State). t.broken) (flush_is s) ∙ managed.broken ∙ unbroken ∙ sym (keeps.broken ∙ unbroken));
       whole = λ _. open_flushed old new s after.state.value before after managed.valid (managed.whole unbroken) state holds keeps stored settled nature;
     }
+
+-- an LSN that is below what is on the disk
+pub is_above : (lsn stable found : ℕ) → (if nat_lt lsn stable then Some stable else None) ≡ Some found → (nat_lt lsn stable ≡ true) × (found ≡ stable)
+is_above lsn stable found is = by_test (nat_lt lsn stable) refl is
+  where
+    by_test : (test : Bool) → nat_lt lsn stable ≡ test → (if test then Some stable else None) ≡ Some found → (nat_lt lsn stable ≡ true) × (found ≡ stable)
+    by_test true below same = (below, cc)
+    by_test false below same = absurd (cc same)
+
+-- and one that isn't
+pub is_later : (lsn stable : ℕ) → (if nat_lt lsn stable then Some stable else None) ≡ None → nat_lt lsn stable ≡ false
+is_later lsn stable is = by_test (nat_lt lsn stable) refl is
+  where
+    by_test : (test : Bool) → nat_lt lsn stable ≡ test → (if test then Some stable else None) ≡ None → nat_lt lsn stable ≡ false
+    by_test true below same = absurd (cc same)
+    by_test false below same = below

@@ -1,5 +1,5 @@
 -- What a restart area finds that isn't refused, and the log that ends in it.
-use Rattle.std.proofs.Common.{inl, inr, ◌≡◌, ℕ, ◌≤◌, Bool, true, false, refl, sym, subst, ◌∙◌, List, length, arith}
+use Rattle.std.proofs.Common.{inl, inr, ◌≡◌, ℕ, ◌≤◌, Bool, true, false, refl, sym, ap, subst, ◌∙◌, List, length, arith}
 use Rattle.std.specs.Prelude.{All, Option, None, ◌==◌, filter, nat_le, nat_lt}
 use Rattle.std.proofs.lemmas.Bool.{cases_Bool, ltb-false}
 use Rattle.std.proofs.lemmas.List.Elements.{All-filter}
@@ -17,7 +17,12 @@ use Rattle.clfs_tables.specs.Tables.{IsNumber, base_in}
 use Rattle.clfs_model.specs.Flush.{flush, flushed, seal}
 use Rattle.clfs_model.specs.Put.{next_lsn, put}
 use Rattle.clfs_model.specs.Refusals.{unless_two_containers}
+use Rattle.clfs_physical.specs.Stored.{Newest}
+use Rattle.clfs_queue.specs.Queued.{Queued}
+use Rattle.clfs_recover.specs.Walk.{shape_of}
 use Rattle.clfs_manager.specs.Fetching.{IsLeft}
+use Rattle.clfs_manager.specs.Memory.{Holds}
+use Rattle.clfs_manager.specs.Putting.{HasSameLog}
 use Rattle.clfs_manager.specs.Restarts.{EndsInRestart}
 use Rattle.clfs_manager.specs.Written.{IsIntact}
 use Rattle.clfs_manager.specs.declared.log.Log.{Log}
@@ -34,6 +39,54 @@ two_containers s others none = by_test (nat_lt s.containers 2) refl
     by_test : (few : Bool) → nat_lt s.containers 2 ≡ few → 2 ≤ s.containers
     by_test true is = let wrong = rw is at none in absurd (cc wrong)
     by_test false is = ltb-false s.containers 2 is
+
+-- A log for which memory was taken is intact as before.
+pub intact_same : (disk : DiskState) (old new : Log) → HasSameLog old new → IsIntact disk old → IsIntact disk new
+intact_same disk old new same intact =
+    let sound = intact.sound in
+    let holds = sound.holds in
+    let opened = intact.opened in
+    let s : State = old.state.value in
+    let state : new.state.value ≡ s = ap (λ t. t.value) same.state in
+    let memory : Holds s new = record {
+      shape = ap (λ (q : Queued). q.shape) same.queue ∙ holds.shape;
+      buffers = ap (λ (q : Queued). q.buffers) same.queue ∙ holds.buffers;
+      place = ap (λ (q : Queued). q.place) same.queue ∙ holds.place;
+      waiting = ap (λ (q : Queued). q.waiting) same.queue ∙ holds.waiting;
+      records = ap (λ (q : Queued). q.records) same.queue ∙ holds.records;
+      streams = same.tables.streams ∙ holds.streams;
+      heads = same.tables.heads ∙ holds.heads;
+      low = omega (arith, same.tables.low, holds.low);
+      areas = ap (λ a. a.areas) same.areas ∙ holds.areas;
+      archive = same.tail ∙ holds.archive;
+      sealed = rw (same.tables.low, same.ends) holds.sealed;
+      room = λ some. omega (arith, holds.room some, same.room);
+      policies = same.policies ∙ holds.policies;
+      containers = ap (λ (n : Newest). n.image.containers) same.physical ∙ holds.containers;
+      image_shape = ap (λ (n : Newest). shape_of n.image) same.physical ∙ holds.image_shape;
+      dedicated = ap (λ (n : Newest). n.image.dedicated) same.physical ∙ holds.dedicated;
+      rows = ap (λ (n : Newest). length n.image.streams) same.physical ∙ holds.rows;
+      listed = rw same.physical holds.listed;
+      needed = rw same.physical holds.needed;
+    } in
+    record {
+      sound = record {
+        valid = rw state sound.valid;
+        storable = rw state sound.storable;
+        unbroken = same.broken ∙ sound.unbroken;
+        whole = rw state sound.whole;
+        holds = subst (λ (u : State). Holds u new) (sym state) memory;
+      };
+      opened = record {
+        memory = subst (λ (u : State). Holds u new) (sym state) memory;
+        blocks = opened.blocks;
+        stored = rw (state, same.physical) opened.stored;
+        files = λ tells. rw same.physical (opened.files tells);
+        kept = λ tells. rw (state, same.buffers) (opened.kept tells);
+        settled = opened.settled;
+        forgotten = rw state (record { low = omega (arith, same.tables.low, opened.forgotten.low); ends = rw (same.tables.low, same.ends) opened.forgotten.ends });
+      };
+    }
 
 -- A log that is intact is left as it must be.
 pub left_intact : (disk : DiskState) (log : Log) → IsIntact disk log → IsLeft disk log

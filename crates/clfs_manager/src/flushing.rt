@@ -1,11 +1,12 @@
 // Writing what waits. The open block ends, so that all records stand in blocks that wait, and these are written as one group after the blocks that
 // are on the disk: a crash leaves all of the group or none of it. No memory is taken: the group's bytes stand in the queue's buffer, and there is
 // room for the end of the open block since its first record was appended.
-ghost use Rattle.std.specs.Prelude.{◌≡◌, [], Bool, IsOk, IsErrOf, ◌+◌, ◌*◌, ◌<◌, ◌≤◌, false, true, OnOk, OnErr, IfErr};
+ghost use Rattle.std.specs.Prelude.{◌≡◌, [], Bool, IsOk, IsErrOf, ◌+◌, ◌*◌, ◌<◌, ◌≤◌, false, true, if◌then◌else◌, nat_lt, Some, None, OnOk, OnErr, IfOk, IfErr};
 ghost use Rattle.clfs_disk.specs.State.{IsSettled, IsSteady, Later, Rises};
 ghost use Rattle.clfs_lsn.specs.Format.{sector_bytes};
 ghost use Rattle.clfs_lsn.specs.Place.{IsClosed, IsSmall, block_end, frontier};
 ghost use Rattle.clfs_model.specs.Flush.{flush, flushed};
+ghost use Rattle.clfs_model.specs.Refusals.{refusal};
 ghost use Rattle.clfs_model.specs.Run.{asks};
 ghost use Rattle.clfs_model.specs.Step.{calls_disk, is_pending, with_broken};
 ghost use Rattle.clfs_physical.specs.Joined.{SameLengths};
@@ -122,6 +123,23 @@ impl Log {
         self.physical.flush(disk, at, body)
     }
 
+    // What `flush_to` comes to before anything is written: where the record at an LSN is on the disk already the LSN below which all records are. Refused
+    // where the client has no area of the number, or where no record can have the LSN yet.
+    fn flushed_above(&self, client: u16, area: u16, lsn: Lsn) -> Result<Option<Lsn>, Refusal>
+        requires sound { IsSound self.now }
+        ensures refused { IfErr result (λ first. refusal self.now.state.value client (calls.FlushTo area lsn) ≡ Some first) }
+        ensures own { IfErr result (λ first. is_of_call first ≡ true) }
+        ensures allowed { OnOk result (refusal self.now.state.value client (calls.FlushTo area lsn) ≡ None) }
+        ensures above { IfOk result (λ found. found ≡ (if nat_lt lsn (flushed self.now.state.value) then Some (flushed self.now.state.value) else None)) }
+    {
+        self.area_place(client, area)?;
+        if lsn >= frontier(&self.queue.place()) {
+            return Err(Refusal::RecordNonexistent { lsn });
+        }
+        let stable = self.flushed();
+        Ok(if lsn < stable { Some(stable) } else { None })
+    }
+
     // The same where only the restart area that was put last may keep the log from being one that files can hold: its new base is in the files then,
     // with it, but not in the tables.
     pub(crate) fn write_group<D: Disk>(&mut self, disk: &mut D) -> Result<(), Failed>
@@ -164,14 +182,14 @@ impl<D: Disk> Manager<D> {
         ensures stopped { self.old.0.broken ≡ true → self.new.1 ≡ self.old.1 }
         ensures refused { IfErr result (λ refusal. is_of_call refusal ≡ true → self.new.1 ≡ self.old.1) }
     {
-        steps_keep_a_state_valid();
-        steps_keep_a_state_storable();
         ways_of_a_step();
-        states_between_survive();
-        logs_are_copies_and_blocks();
         if self.log.broken {
             return Err(Refusal::Broken);
         }
+        steps_keep_a_state_valid();
+        steps_keep_a_state_storable();
+        states_between_survive();
+        logs_are_copies_and_blocks();
         self.log.area_place(client, area)?;
         if self.log.write_out(&mut self.disk).is_err() {
             return Err(Refusal::DiskFault);
@@ -190,20 +208,16 @@ impl<D: Disk> Manager<D> {
         ensures stopped { self.old.0.broken ≡ true → self.new.1 ≡ self.old.1 }
         ensures refused { IfErr result (λ refusal. is_of_call refusal ≡ true → self.new.1 ≡ self.old.1) }
     {
-        steps_keep_a_state_valid();
-        steps_keep_a_state_storable();
         ways_of_a_step();
-        states_between_survive();
-        logs_are_copies_and_blocks();
         if self.log.broken {
             return Err(Refusal::Broken);
         }
-        self.log.area_place(client, area)?;
-        if lsn >= frontier(&self.log.queue.place()) {
-            return Err(Refusal::RecordNonexistent { lsn });
-        }
-        let stable = self.log.flushed();
-        if lsn < stable {
+        steps_keep_a_state_valid();
+        steps_keep_a_state_storable();
+        states_between_survive();
+        logs_are_copies_and_blocks();
+        let found = self.log.flushed_above(client, area, lsn)?;
+        if let Some(stable) = found {
             return Ok(stable);
         }
         if self.log.write_out(&mut self.disk).is_err() {

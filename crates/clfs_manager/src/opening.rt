@@ -1,6 +1,6 @@
 // Opening a stream by its name: the one of that name, or a new one after the others. A new stream is in the base copy that follows the newest one, so
 // that a crash leaves it or not. Its memory is taken first, and it joins the tables once it is on the disk, which takes none.
-ghost use Rattle.std.specs.Prelude.{◌≡◌, ◌+◌, ◌<◌, ◌≤◌, ◌^◌, Bool, true, false, None, IsErrOf, IfOk, IfErr, length};
+ghost use Rattle.std.specs.Prelude.{◌≡◌, ◌+◌, ◌<◌, ◌≤◌, ◌^◌, Bool, true, false, None, IsErrOf, IfOk, IfErr, OnOk, length};
 ghost use Rattle.clfs_lsn.specs.Lsn.{container_of, null_lsn};
 ghost use Rattle.clfs_model.specs.declared.call.Call.TheVariants as calls;
 ghost use Rattle.clfs_model.specs.declared.reply.Reply.TheVariants as replies;
@@ -15,6 +15,7 @@ ghost use Rattle.clfs_model.specs.Storable.{IsStorable};
 ghost use Rattle.clfs_model.specs.Survivors.{Survives};
 ghost use Rattle.clfs_model.specs.Valid.{IsValid};
 ghost use Rattle.clfs_laws.specs.Refused.{is_of_call};
+ghost use Rattle.clfs_tables.specs.Tables.{HasSame};
 ghost use Rattle.clfs_manager.specs.Calls.{Steps};
 ghost use Rattle.clfs_manager.specs.Crashes.{CrashLeavesSurvivor, CrashSurvives};
 ghost use Rattle.clfs_manager.specs.Streams.{IsNotAdded, with_stream};
@@ -36,6 +37,7 @@ use clfs_recover::{
     logs_are_copies_and_blocks, low_containers_are_left_out, settings_leave_the_records,
     streams_come_last,
 };
+use clfs_tables::Tables;
 use clfs_told::Told;
 use std::alloc::AllocError;
 
@@ -63,6 +65,19 @@ fn new_row(name: &Name) -> Result<Row, AllocError>
     })
 }
 
+// All memory that a new stream of this name wants: room in the tables, a name and a row.
+fn stream_memory(tables: &mut Tables, name: &Name) -> Result<(Name, Row), AllocError>
+    ensures same { HasSame tables.old tables.new }
+    ensures more { OnOk result (1 ≤ tables.new.more) }
+    ensures name { IfOk result (λ both. both.0 ≡ name.now) }
+    ensures row { IfOk result (λ both. both.1 ≡ record { name = name.now; base = null_lsn }) }
+{
+    tables.reserve_stream()?;
+    let own = copy_of(name)?;
+    let row = new_row(name)?;
+    Ok((own, row))
+}
+
 impl Log {
     // A new stream, in memory and on the disk: its number. After a fault the log is broken, and where memory is wanting nothing has changed that
     // the log tells.
@@ -88,10 +103,8 @@ impl Log {
         let _newest = self.physical.image();
         let first = self.hold().container();
         let number = self.tables.len() as u16 + 1;
-        self.tables.reserve_stream()?;
-        let own = copy_of(name)?;
-        let row = new_row(name)?;
-        match self.physical.add_stream(disk, first, row) {
+        let memory = stream_memory(&mut self.tables, name)?;
+        match self.physical.add_stream(disk, first, memory.1) {
             Ok(()) => {}
             Err(PhysicalRefusal::NoMemory) => return Err(Refusal::NoMemory),
             Err(PhysicalRefusal::DiskFault) => {
@@ -100,7 +113,7 @@ impl Log {
                 return Err(Refusal::DiskFault);
             }
         }
-        self.tables.add_stream(own);
+        self.tables.add_stream(memory.0);
         self.state = with_stream(&self.state, name);
         Ok(number)
     }
@@ -122,16 +135,16 @@ impl<D: Disk> Manager<D> {
         ensures moments { CrashSurvives (asks client (calls.OpenStream name.now)) self.old.0 (D.state self.old.1) (D.state self.new.1) }
         ensures refused { IfErr result (λ refusal. is_of_call refusal ≡ true → self.new.1 ≡ self.old.1) }
     {
+        ways_of_a_step();
+        if self.log.broken {
+            return Err(Refusal::Broken);
+        }
         steps_keep_a_state_valid();
         steps_keep_a_state_storable();
         the_holds_container_never_falls();
         refusals_are_the_calls_own();
-        ways_of_a_step();
         states_between_survive();
         logs_are_copies_and_blocks();
-        if self.log.broken {
-            return Err(Refusal::Broken);
-        }
         if let Some(refusal) = self.log.open_refusal(name) {
             return Err(refusal);
         }

@@ -72,15 +72,15 @@ impl<D: Disk> Manager<D> {
         ensures moments { CrashSurvives (asks client (calls.Reserve area sizes.now)) self.old.0 (D.state self.old.1) (D.state self.new.1) }
         ensures refused { IfErr result (λ refusal. is_of_call refusal ≡ true → self.new.1 ≡ self.old.1) }
     {
-        steps_keep_a_state_valid();
-        steps_keep_a_state_storable();
-        refusals_are_the_calls_own();
         ways_of_a_step();
-        states_between_survive();
-        logs_are_copies_and_blocks();
         if self.log.broken {
             return Err(Refusal::Broken);
         }
+        steps_keep_a_state_valid();
+        steps_keep_a_state_storable();
+        refusals_are_the_calls_own();
+        states_between_survive();
+        logs_are_copies_and_blocks();
         let place = self.log.area_for_records(client, area)?;
         if let Some(refusal) = self.log.reserve_refusal(place, sizes) {
             return Err(refusal);

@@ -122,14 +122,14 @@ impl<D: Disk> Manager<D> {
         ensures moments { (client : ℕ) → CrashSurvives (asks client (calls.InstallPolicy policy)) self.old.0 (D.state self.old.1) (D.state self.new.1) }
         ensures refused { IfErr result (λ refusal. is_of_call refusal ≡ true → self.new.1 ≡ self.old.1) }
     {
-        steps_keep_a_state_valid();
-        steps_keep_a_state_storable();
         ways_of_a_step();
-        states_between_survive();
-        logs_are_copies_and_blocks();
         if self.log.broken {
             return Err(Refusal::Broken);
         }
+        steps_keep_a_state_valid();
+        steps_keep_a_state_storable();
+        states_between_survive();
+        logs_are_copies_and_blocks();
         if let Some(refusal) = self.log.policy_refusal(policy) {
             return Err(refusal);
         }
@@ -148,14 +148,14 @@ impl<D: Disk> Manager<D> {
         ensures moments { (client : ℕ) → CrashSurvives (asks client (calls.RemovePolicy kind)) self.old.0 (D.state self.old.1) (D.state self.new.1) }
         ensures refused { IfErr result (λ refusal. is_of_call refusal ≡ true → self.new.1 ≡ self.old.1) }
     {
-        steps_keep_a_state_valid();
-        steps_keep_a_state_storable();
         ways_of_a_step();
-        states_between_survive();
-        logs_are_copies_and_blocks();
         if self.log.broken {
             return Err(Refusal::Broken);
         }
+        steps_keep_a_state_valid();
+        steps_keep_a_state_storable();
+        states_between_survive();
+        logs_are_copies_and_blocks();
         let Some(policies) = self.log.policies_without(kind) else {
             return Err(Refusal::PolicyNotInstalled);
         };

@@ -44,7 +44,7 @@ add_stream-requires-clause-row g c =
     let none : stream_number_from 1 c.args.name.now (streams_with image.streams bases) ≡ None =
     subst (λ (rows : List Stream). stream_number_from 1 c.args.name.now rows ≡ None) (sym streams) c.requires.new in
     let long : length (streams_with image.streams bases) ≡ length image.streams = ap length streams ∙ sym holds.rows in
-    subst (λ (row : Row). IsNewRow row image) (sym c.in_ok-row.ensures) (record {
+    subst (λ (row : Row). IsNewRow row image) (sym c.in_ok-memory.ensures.row) (record {
       few = omega (arith, parts.1, holds.rows);
       name = is_name c.args.name.now parts.0;
       other = λ i within same. no_row image.streams bases 1 c.args.name.now long none i within same;
@@ -65,11 +65,11 @@ pub returns-in-Err-NoMemory-clause-refused : goal.returns-in-Err-NoMemory-clause
 returns-in-Err-NoMemory-clause-refused g c =
     let old = c.args.self.now in
     let none = c.add_stream.ensures.no_memory (c.in-Err-NoMemory.is ∙ ap (λ (e : PhysicalRefusal). Err e) c.in-Err-NoMemory.field-0-is) in
-    let same : IsIntact (g.D.Disk.state c.args.disk.now) (record old { tables = c.reserve_stream.new.self }) =
-    intact_reserved (g.D.Disk.state c.args.disk.now) old c.reserve_stream.new.self c.reserve_stream.ensures.same c.requires.intact in (
+    let same : IsIntact (g.D.Disk.state c.args.disk.now) (record old { tables = c.stream_memory.new.tables }) =
+    intact_reserved (g.D.Disk.state c.args.disk.now) old c.stream_memory.new.tables c.stream_memory.ensures.same c.requires.intact in (
       refl,
-      subst (λ d. IsIntact (g.D.Disk.state d) (record old { tables = c.reserve_stream.new.self; physical = c.add_stream.new.self })) (sym none.1)
-          (subst (λ (n : Newest). IsIntact (g.D.Disk.state c.args.disk.now) (record old { tables = c.reserve_stream.new.self; physical = n })) (sym none.0) same),
+      subst (λ d. IsIntact (g.D.Disk.state d) (record old { tables = c.stream_memory.new.tables; physical = c.add_stream.new.self })) (sym none.1)
+          (subst (λ (n : Newest). IsIntact (g.D.Disk.state c.args.disk.now) (record old { tables = c.stream_memory.new.tables; physical = n })) (sym none.0) same),
     )
 
 pub returns-in-Err-NoMemory-clause-writes : goal.returns-in-Err-NoMemory-clause-writes
@@ -105,7 +105,7 @@ module _ (g : Over) (c : goal.After-self-2-1 g) where
   newest_is = c.in-Ok.ensures.now ∙ ap (λ (row : Row). let n : Newest = record {
     slot = older_of c.args.self.now.physical.slot;
     image = with_row row (next_copy c.container-first.result changes.Listing c.args.self.now.physical.image);
-  } in n) c.in_ok-row.ensures
+  } in n) c.in_ok-memory.ensures.row
 
   first_is : c.container-first.result ≡ container_of (hold s)
   first_is = c.container-first.ensures.value ∙ ap container_of c.hold.ensures.value
@@ -113,10 +113,10 @@ module _ (g : Over) (c : goal.After-self-2-1 g) where
   holds_then : Holds t (record old { tables = c.add_stream-2.new.self; physical = c.add_stream.new.self; state = c.with_stream-self.result })
   holds_then =
       let holds = c.requires.intact.sound.holds in
-      let same = c.reserve_stream.ensures.same in
+      let same = c.stream_memory.ensures.same in
       let row : Row = new_row in
       let stream : Stream = record { name = c.args.name.now; base = null_lsn } in
-      let of_name : List ℕ → List Stream = λ name. c.reserve_stream.new.self.streams ++ record { name = name; base = null_lsn } ∷ [] in
+      let of_name : List ℕ → List Stream = λ name. c.stream_memory.new.tables.streams ++ record { name = name; base = null_lsn } ∷ [] in
       let low : c.add_stream-2.new.self.low ≡ old.tables.low = c.add_stream-2.ensures.low ∙ same.low in
       record {
         shape = holds.shape;
@@ -124,7 +124,7 @@ module _ (g : Over) (c : goal.After-self-2-1 g) where
         place = holds.place;
         waiting = holds.waiting;
         records = holds.records;
-        streams = c.add_stream-2.ensures.streams ∙ ap of_name c.in_ok-own.ensures ∙ ap (λ (rows : List Stream). rows ++ stream ∷ []) (same.streams ∙ holds.streams);
+        streams = c.add_stream-2.ensures.streams ∙ ap of_name c.in_ok-memory.ensures.name ∙ ap (λ (rows : List Stream). rows ++ stream ∷ []) (same.streams ∙ holds.streams);
         heads = c.add_stream-2.ensures.heads ∙ same.heads ∙ holds.heads;
         low = omega (arith, low, holds.low, c.requires.held);
         areas = holds.areas;
@@ -149,8 +149,8 @@ module _ (g : Over) (c : goal.After-self-2-1 g) where
       let settings = c.settings_leave_the_records.ensures in
       let is = stream_copied (record { log = low.log; held = low.held; same = low.same })
       (record { log = settings.log; state = settings.state; archived = settings.archived; archive = settings.archive }) (record { log = last.log; state = last.state }) s c.args.name.now
-      c.in_ok-row.row c.container-first.result c.args.self.now.physical blocks c.requires.intact.sound.valid c.requires.held c.image-newest.ensures.image c.image-newest.ensures.current
-      c.in_ok-row.ensures (c.container-first.ensures.value ∙ ap container_of c.hold.ensures.value) stored in
+      c.in_ok-memory.memory.1 c.container-first.result c.args.self.now.physical blocks c.requires.intact.sound.valid c.requires.held c.image-newest.ensures.image c.image-newest.ensures.current
+      c.in_ok-memory.ensures.row (c.container-first.ensures.value ∙ ap container_of c.hold.ensures.value) stored in
       (blocks, (rw c.in-Ok.ensures.now is, λ tells whole stores. c.in-Ok.ensures.written tells whole blocks stores))
 
 pub returns-clause-intact : goal.returns-clause-intact
@@ -172,7 +172,7 @@ returns-clause-intact g c =
       settled = c.in-Ok.ensures.settled;
       nature = c.add_stream.ensures.time.nature;
       forgotten = λ is.
-          let low : c.add_stream-2.new.self.low ≡ old.tables.low = c.add_stream-2.ensures.low ∙ c.reserve_stream.ensures.same.low in
+          let low : c.add_stream-2.new.self.low ≡ old.tables.low = c.add_stream-2.ensures.low ∙ c.stream_memory.ensures.same.low in
           rw state (record {
             low = omega (arith, is.low, low, ap container_of (hold_added s c.args.name.now));
             ends = rw low is.ends;
@@ -186,16 +186,8 @@ returns-clause-writes g c =
     (record old { tables = c.add_stream-2.new.self; physical = c.add_stream.new.self; state = c.with_stream-self.result }) (λ f. cc f) c.requires.intact.opened
     (stored_then g c) c.add_stream.ensures.time (λ calm made. (c.add_stream.ensures.steady calm made).1)
 
-pub returns-in_err-reserve_stream-clause-moments : goal.returns-in_err-reserve_stream-clause-moments
-returns-in_err-reserve_stream-clause-moments g c = λ asked s before added. crash_still c.logs_are_copies_and_blocks.ensures.stands c.logs_are_copies_and_blocks.ensures.by_file
-    (g.D.Disk.state c.args.disk.now) c.args.self.now c.requires.intact asked s before
-
-pub returns-in_err-own-clause-moments : goal.returns-in_err-own-clause-moments
-returns-in_err-own-clause-moments g c = λ asked s before added. crash_still c.logs_are_copies_and_blocks.ensures.stands c.logs_are_copies_and_blocks.ensures.by_file
-    (g.D.Disk.state c.args.disk.now) c.args.self.now c.requires.intact asked s before
-
-pub returns-in_err-row-clause-moments : goal.returns-in_err-row-clause-moments
-returns-in_err-row-clause-moments g c = λ asked s before added. crash_still c.logs_are_copies_and_blocks.ensures.stands c.logs_are_copies_and_blocks.ensures.by_file
+pub returns-in_err-memory-clause-moments : goal.returns-in_err-memory-clause-moments
+returns-in_err-memory-clause-moments g c = λ asked s before added. crash_still c.logs_are_copies_and_blocks.ensures.stands c.logs_are_copies_and_blocks.ensures.by_file
     (g.D.Disk.state c.args.disk.now) c.args.self.now c.requires.intact asked s before
 
 pub returns-in-Err-NoMemory-clause-moments : goal.returns-in-Err-NoMemory-clause-moments
@@ -207,12 +199,12 @@ returns-in-Err-NoMemory-clause-moments g c =
     let settings = c.settings_leave_the_records.ensures in
     crash_copied c.logs_are_copies_and_blocks.ensures.stands c.logs_are_copies_and_blocks.ensures.by_file (g.D.Disk.state c.args.disk.now)
     (g.D.Disk.state c.add_stream.new.disk) (with_stream c.args.name.now s)
-    (record { slot = older_of old.physical.slot; image = with_row c.in_ok-row.row (next_copy c.container-first.result changes.Listing old.physical.image) })
+    (record { slot = older_of old.physical.slot; image = with_row c.in_ok-memory.memory.1 (next_copy c.container-first.result changes.Listing old.physical.image) })
     old c.requires.intact c.requires.valid
     (λ blocks stored. stream_copied (record { log = low.log; held = low.held; same = low.same })
     (record { log = settings.log; state = settings.state; archived = settings.archived; archive = settings.archive }) (record { log = last.log; state = last.state }) s c.args.name.now
-    c.in_ok-row.row c.container-first.result c.args.self.now.physical blocks c.requires.intact.sound.valid c.requires.held c.image-newest.ensures.image c.image-newest.ensures.current
-    c.in_ok-row.ensures (c.container-first.ensures.value ∙ ap container_of c.hold.ensures.value) stored)
+    c.in_ok-memory.memory.1 c.container-first.result c.args.self.now.physical blocks c.requires.intact.sound.valid c.requires.held c.image-newest.ensures.image c.image-newest.ensures.current
+    c.in_ok-memory.ensures.row (c.container-first.ensures.value ∙ ap container_of c.hold.ensures.value) stored)
     c.add_stream.ensures.moments
 
 pub returns-in-Err-DiskFault-clause-moments : goal.returns-in-Err-DiskFault-clause-moments
@@ -224,12 +216,12 @@ returns-in-Err-DiskFault-clause-moments g c =
     let settings = c.settings_leave_the_records.ensures in
     crash_copied c.logs_are_copies_and_blocks.ensures.stands c.logs_are_copies_and_blocks.ensures.by_file (g.D.Disk.state c.args.disk.now)
     (g.D.Disk.state c.add_stream.new.disk) (with_stream c.args.name.now s)
-    (record { slot = older_of old.physical.slot; image = with_row c.in_ok-row.row (next_copy c.container-first.result changes.Listing old.physical.image) })
+    (record { slot = older_of old.physical.slot; image = with_row c.in_ok-memory.memory.1 (next_copy c.container-first.result changes.Listing old.physical.image) })
     old c.requires.intact c.requires.valid
     (λ blocks stored. stream_copied (record { log = low.log; held = low.held; same = low.same })
     (record { log = settings.log; state = settings.state; archived = settings.archived; archive = settings.archive }) (record { log = last.log; state = last.state }) s c.args.name.now
-    c.in_ok-row.row c.container-first.result c.args.self.now.physical blocks c.requires.intact.sound.valid c.requires.held c.image-newest.ensures.image c.image-newest.ensures.current
-    c.in_ok-row.ensures (c.container-first.ensures.value ∙ ap container_of c.hold.ensures.value) stored)
+    c.in_ok-memory.memory.1 c.container-first.result c.args.self.now.physical blocks c.requires.intact.sound.valid c.requires.held c.image-newest.ensures.image c.image-newest.ensures.current
+    c.in_ok-memory.ensures.row (c.container-first.ensures.value ∙ ap container_of c.hold.ensures.value) stored)
     c.add_stream.ensures.moments
 
 pub returns-clause-moments : goal.returns-clause-moments
@@ -241,10 +233,10 @@ returns-clause-moments g c =
     let settings = c.settings_leave_the_records.ensures in
     crash_copied c.logs_are_copies_and_blocks.ensures.stands c.logs_are_copies_and_blocks.ensures.by_file (g.D.Disk.state c.args.disk.now)
     (g.D.Disk.state c.add_stream.new.disk) (with_stream c.args.name.now s)
-    (record { slot = older_of old.physical.slot; image = with_row c.in_ok-row.row (next_copy c.container-first.result changes.Listing old.physical.image) })
+    (record { slot = older_of old.physical.slot; image = with_row c.in_ok-memory.memory.1 (next_copy c.container-first.result changes.Listing old.physical.image) })
     old c.requires.intact c.requires.valid
     (λ blocks stored. stream_copied (record { log = low.log; held = low.held; same = low.same })
     (record { log = settings.log; state = settings.state; archived = settings.archived; archive = settings.archive }) (record { log = last.log; state = last.state }) s c.args.name.now
-    c.in_ok-row.row c.container-first.result c.args.self.now.physical blocks c.requires.intact.sound.valid c.requires.held c.image-newest.ensures.image c.image-newest.ensures.current
-    c.in_ok-row.ensures (c.container-first.ensures.value ∙ ap container_of c.hold.ensures.value) stored)
+    c.in_ok-memory.memory.1 c.container-first.result c.args.self.now.physical blocks c.requires.intact.sound.valid c.requires.held c.image-newest.ensures.image c.image-newest.ensures.current
+    c.in_ok-memory.ensures.row (c.container-first.ensures.value ∙ ap container_of c.hold.ensures.value) stored)
     c.add_stream.ensures.moments

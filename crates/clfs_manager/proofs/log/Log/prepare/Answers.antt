@@ -1,13 +1,47 @@
-use Rattle.std.proofs.Common.{ap}
 use Rattle.clfs_model.specs.Space.{grown}
 use Rattle.clfs_manager.proofs.Crashes.{crash_still, survives_as}
-use Rattle.std.proofs.Common.{refl, ap}
+use Rattle.std.proofs.Common.{◌≡◌, ◌∙◌, false, refl, ap, subst, sym}
 use Rattle.std.specs.Prelude.{IsErrOf}
 use Rattle.clfs_model.specs.declared.state.State.{State}
 use Rattle.clfs_physical.specs.declared.refusal.PhysicalRefusal.TheVariants as physical
+use Rattle.clfs_model.specs.Step.{grows}
 use Rattle.clfs_manager.proofs.Intact.{writes_as}
-use Rattle.clfs_manager.proofs.RestartCall.{left_broken, left_intact}
+use Rattle.clfs_manager.proofs.RestartCall.{intact_same, left_broken, left_intact}
 use Rattle.clfs_manager.proofs.log.Log.prepare.Goals as goal
+
+pub grow-requires-clause-intact : goal.grow-requires-clause-intact
+grow-requires-clause-intact g c = intact_same (g.D.Disk.state c.args.disk.now) c.args.self.now c.take_memory.new.self c.take_memory.ensures.same c.requires.intact
+
+pub returns-in_err-room-clause-left : goal.returns-in_err-room-clause-left
+returns-in_err-room-clause-left g c = left_intact (g.D.Disk.state c.args.disk.now) c.take_memory.new.self
+    (intact_same (g.D.Disk.state c.args.disk.now) c.args.self.now c.take_memory.new.self c.take_memory.ensures.same c.requires.intact)
+
+pub returns-in-Ok-clause-state : goal.returns-in-Ok-clause-state
+returns-in-Ok-clause-state g c = c.in-Ok.ensures.state ∙ ap (λ t. grown t.value c.args.need) c.take_memory.ensures.same.state
+
+pub returns-in-Ok-clause-intact : goal.returns-in-Ok-clause-intact
+returns-in-Ok-clause-intact g c = c.in-Ok.ensures.intact
+
+pub returns-in-Ok-clause-areas : goal.returns-in-Ok-clause-areas
+returns-in-Ok-clause-areas g c = c.in-Ok.ensures.same.areas ∙ c.take_memory.ensures.same.areas
+
+pub returns-in-Ok-clause-heads : goal.returns-in-Ok-clause-heads
+returns-in-Ok-clause-heads g c = rw c.in-Ok.ensures.same.tables c.in_ok-room.ensures.heads
+
+pub returns-in-Ok-clause-ends : goal.returns-in-Ok-clause-ends
+returns-in-Ok-clause-ends g c = rw c.in-Ok.ensures.same.archive c.in_ok-room.ensures.ends
+
+pub returns-in-Ok-clause-empty : goal.returns-in-Ok-clause-empty
+returns-in-Ok-clause-empty g c = c.in_ok-room.ensures.empty
+
+pub returns-in-Ok-clause-capacity : goal.returns-in-Ok-clause-capacity
+returns-in-Ok-clause-capacity g c = c.in_ok-room.ensures.capacity
+
+pub returns-in-Ok-clause-left : goal.returns-in-Ok-clause-left
+returns-in-Ok-clause-left g c = left_intact (g.D.Disk.state c.grow.new.disk) c.grow.new.self c.in-Ok.ensures.intact
+
+pub returns-in-Ok-clause-quiet : goal.returns-in-Ok-clause-quiet
+returns-in-Ok-clause-quiet g c = λ none. (λ fault. cc fault, (c.grow.ensures.quiet (subst (λ t. grows t.value c.args.need ≡ false) (sym c.take_memory.ensures.same.state) none)).1.1)
 
 pub returns-in-Ok-clause-writes : goal.returns-in-Ok-clause-writes
 returns-in-Ok-clause-writes g c = writes_as (IsErrOf c.grow.result physical.DiskFault) _ _ _ (λ f. cc) (λ f. cc) c.grow.ensures.writes

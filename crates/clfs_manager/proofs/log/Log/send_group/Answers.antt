@@ -117,3 +117,15 @@ returns-clause-steady g c = λ steady made.
       | inl none ↦ let nothing = c.flush.ensures.nothing none.0 in (nothing.0, ap (λ d. (g.D.Disk.state d).faults) nothing.1)
       | inr some ↦ c.flush.ensures.steady steady made (rw ended.physical (omega (arith, some.within, long)))
     ]
+
+pub returns-clause-settled : goal.returns-clause-settled
+returns-clause-settled g c = c.flush.ensures.settled
+
+pub returns-clause-lengths : goal.returns-clause-lengths
+returns-clause-lengths g c = c.flush.ensures.lengths
+
+pub returns-clause-time : goal.returns-clause-time
+returns-clause-time g c = c.flush.ensures.time
+
+pub returns-clause-cause : goal.returns-clause-cause
+returns-clause-cause g c = c.flush.ensures.cause

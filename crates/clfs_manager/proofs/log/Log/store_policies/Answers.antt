@@ -88,3 +88,18 @@ returns-clause-meanwhile g c =
     c.change_to.result c.container-first.result old.physical blocks sound.valid c.image-newest.ensures.image sound.holds.containers c.requires.allowed
     c.change_to.ensures (c.container-first.ensures.value ∙ ap container_of c.hold.ensures.value) stored)
     c.write_copy.ensures.moments
+
+pub returns-clause-time : goal.returns-clause-time
+returns-clause-time g c = c.write_copy.ensures.time
+
+pub returns-in-Err-clause-time : goal.returns-in-Err-clause-time
+returns-in-Err-clause-time g c = c.write_copy.ensures.time
+
+pub returns-in-Err-clause-cause : goal.returns-in-Err-clause-cause
+returns-in-Err-clause-cause g c = c.in-Err.ensures.cause
+
+pub returns-in-Err-clause-broken : goal.returns-in-Err-clause-broken
+returns-in-Err-clause-broken g c = record { broken = refl; state = c.broken-self.ensures }
+
+pub returns-clause-steady : goal.returns-clause-steady
+returns-clause-steady g c = λ calm made. (refl, (c.write_copy.ensures.steady calm made).1)

@@ -5,6 +5,7 @@ use Rattle.clfs_archive.specs.Blocks.{AreSealed}
 use Rattle.clfs_model.specs.declared.state.State.{State}
 use Rattle.clfs_model.specs.Flush.{block_start, flush}
 use Rattle.clfs_model.specs.Heads.{heads_of}
+use Rattle.clfs_model.specs.Step.{with_broken}
 use Rattle.clfs_physical.specs.Stored.{Newest}
 use Rattle.clfs_queue.specs.Queued.{Queued, seal}
 use Rattle.clfs_recover.specs.Walk.{shape_of}
@@ -72,3 +73,35 @@ returns-clause-written g c =
     _ (subst (λ r. IsOk r) (sym c.in_default.is) refl) ended.physical
     (group_of_answer (IsOk c.send_group.result) (IsOk c.send_group.result) (g.D.Disk.state c.args.disk.now) (g.D.Disk.state c.send_group.new.disk) _ c.args.self.now.state.value _ c.args.self.now.physical
     (λ is. is) (ap (λ t. t.value) ended.state) ended.physical c.send_group.ensures.group)
+
+pub returns-clause-state : goal.returns-clause-state
+returns-clause-state g c = c.flushed-self.ensures ∙ ap (λ t. flush t.value) c.end_block.ensures.ended.state
+
+pub returns-clause-same : goal.returns-clause-same
+returns-clause-same g c =
+    let ended = c.end_block.ensures.ended in
+    record {
+      few = λ is. rw (ap (λ t. t.low) ended.tables) (ended.few is);
+      room = ended.room;
+      tables = ended.tables;
+      areas = ended.areas;
+      policies = ended.policies;
+      physical = ended.physical;
+      buffers = ended.buffers;
+      broken = ended.broken;
+    }
+
+pub returns-in-Err-clause-broken : goal.returns-in-Err-clause-broken
+returns-in-Err-clause-broken g c = record { broken = refl; state = c.broken-self.ensures ∙ ap (λ t. with_broken t.value) c.end_block.ensures.ended.state }
+
+pub returns-clause-lengths : goal.returns-clause-lengths
+returns-clause-lengths g c = c.send_group.ensures.lengths
+
+pub returns-clause-time : goal.returns-clause-time
+returns-clause-time g c = c.send_group.ensures.time
+
+pub returns-in-Err-clause-lengths : goal.returns-in-Err-clause-lengths
+returns-in-Err-clause-lengths g c = c.send_group.ensures.lengths
+
+pub returns-in-Err-clause-time : goal.returns-in-Err-clause-time
+returns-in-Err-clause-time g c = c.send_group.ensures.time

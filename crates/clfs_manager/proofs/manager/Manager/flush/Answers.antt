@@ -1,6 +1,6 @@
 use Rattle.clfs_model.specs.declared.reply.Happened.TheVariants.{Fine}
 use Rattle.clfs_manager.proofs.Crashes.{after_survives, crash_flush, crash_seen, never_ok}
-use Rattle.clfs_manager.proofs.Intact.{writes_failed}
+use Rattle.clfs_manager.proofs.Intact.{intact_managed, writes_failed}
 use Rattle.clfs_model.specs.Run.{asks}
 use Rattle.clfs_manager.proofs.Crashes.{crash_broken, crash_managed}
 use Rattle.std.proofs.Common.{◌≡◌, refl, sym, ◌∙◌, false}
@@ -90,3 +90,9 @@ returns-then-is_err-clause-writes g c =
     writes_seen g.D.Disk.state (old.state.value, c.self.inside.disk) c.args.self.now c.self.view_is _ (g.D.Disk.state c.write_out.new.disk)
     (writes_failed _ (g.D.Disk.state c.self.inside.disk) (g.D.Disk.state c.write_out.new.disk) old.state.value old refl (c.self.invariant.whole c.if-self.false)
     c.write_out.ensures.time (on_err c.write_out.result failed c.write_out.ensures.cause) (λ calm made. never_ok c.write_out.result failed (c.write_out.ensures.steady calm made).0))
+
+pub area_place-requires : goal.area_place-requires
+area_place-requires g c = record { sound = (intact_managed (g.D.Disk.state c.self.inside.disk) c.self.inside.log c.self.invariant c.if-self.false).sound }
+
+pub write_out-requires : goal.write_out-requires
+write_out-requires g c = record { sound = (intact_managed (g.D.Disk.state c.self.inside.disk) c.self.inside.log c.self.invariant c.if-self.false).sound }

@@ -1,3 +1,4 @@
+use Rattle.clfs_manager.proofs.Crashes.{crash_broken}
 use Rattle.clfs_manager.specs.Settings.{with_policies}
 use Rattle.clfs_manager.proofs.CopyingCalls.{crash_untouched, crash_written}
 use Rattle.std.proofs.Common.{refl, sym, ◌∙◌, false, arith}
@@ -8,7 +9,7 @@ use Rattle.clfs_model.specs.Policies.{with_policy}
 use Rattle.clfs_manager.proofs.FlushKeeps.{on_ok, on_err, managed_broken}
 use Rattle.clfs_manager.proofs.SettingsKeep.{settings_done}
 use Rattle.clfs_manager.proofs.StoredKeeps.{managed_done}
-use Rattle.clfs_manager.proofs.Intact.{writes_fine, writes_seen}
+use Rattle.clfs_manager.proofs.Intact.{intact_managed, writes_fine, writes_seen}
 use Rattle.clfs_manager.proofs.manager.Manager.install_policy.Goals as goal
 
 pub invariant_of-self : goal.invariant_of-self
@@ -44,12 +45,7 @@ returns-clause-writes g c =
     (λ calm made. (c.store_policies.ensures.steady calm made).1))
 
 pub returns-then-self-clause-moments : goal.returns-then-self-clause-moments
-returns-then-self-clause-moments g c = λ client. crash_untouched (record {
-  stands = c.logs_are_copies_and_blocks.ensures.stands;
-  by_file = c.logs_are_copies_and_blocks.ensures.by_file;
-  before = c.states_between_survive.ensures.before;
-  after = c.states_between_survive.ensures.after;
-}) g.D.Disk.state c.self.inside.log c.self.inside.disk c.args.self.now c.self.view_is c.self.invariant client (calls.InstallPolicy c.args.policy)
+returns-then-self-clause-moments g c = λ client. crash_broken _ _ _ _ (rw (← c.self.view_is) (c.self.invariant.broken ∙ c.if-self.true))
 
 pub returns-in-Some-clause-moments : goal.returns-in-Some-clause-moments
 returns-in-Some-clause-moments g c = λ client. crash_untouched (record {
@@ -76,3 +72,12 @@ returns-clause-moments g c = λ client. crash_written (record {
   after = c.states_between_survive.ensures.after;
 }) c.ways_of_a_step.ensures c.steps_keep_a_state_valid.ensures.step g.D.Disk.state c.self.inside.log c.self.inside.disk c.args.self.now c.self.view_is c.self.invariant c.if-self.false client (calls.InstallPolicy c.args.policy)
     (with_policies c.policies_with-policies.result c.self.inside.log.state.value) (g.D.Disk.state c.store_policies.new.disk) (sym c.policy_refusal.ensures ∙ c.in_default.is) (sym c.policies_with-policies.ensures.state) c.store_policies.ensures.meanwhile
+
+pub policy_refusal-requires : goal.policy_refusal-requires
+policy_refusal-requires g c = record { sound = (intact_managed (g.D.Disk.state c.self.inside.disk) c.self.inside.log c.self.invariant c.if-self.false).sound }
+
+pub policies_with-policies-requires-clause-sound : goal.policies_with-policies-requires-clause-sound
+policies_with-policies-requires-clause-sound g c = (intact_managed (g.D.Disk.state c.self.inside.disk) c.self.inside.log c.self.invariant c.if-self.false).sound
+
+pub store_policies-requires-clause-sound : goal.store_policies-requires-clause-sound
+store_policies-requires-clause-sound g c = (intact_managed (g.D.Disk.state c.self.inside.disk) c.self.inside.log c.self.invariant c.if-self.false).sound

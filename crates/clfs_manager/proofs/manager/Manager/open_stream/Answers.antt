@@ -1,3 +1,5 @@
+use Rattle.clfs_manager.proofs.Intact.{intact_managed}
+use Rattle.clfs_manager.proofs.Crashes.{crash_broken}
 use Rattle.clfs_model.specs.Run.{asks}
 use Rattle.std.proofs.Common.{ap}
 use Rattle.clfs_model.specs.Answers.{Outcome}
@@ -52,12 +54,7 @@ invariant_of-self g c =
     c.add_stream.ensures.intact c.add_stream.ensures.refused
 
 pub returns-then-self-clause-moments : goal.returns-then-self-clause-moments
-returns-then-self-clause-moments g c = crash_untouched (record {
-  stands = c.logs_are_copies_and_blocks.ensures.stands;
-  by_file = c.logs_are_copies_and_blocks.ensures.by_file;
-  before = c.states_between_survive.ensures.before;
-  after = c.states_between_survive.ensures.after;
-}) g.D.Disk.state c.self.inside.log c.self.inside.disk c.args.self.now c.self.view_is c.self.invariant c.args.client (calls.OpenStream c.args.name.now)
+returns-then-self-clause-moments g c = crash_broken _ _ _ _ (rw (← c.self.view_is) (c.self.invariant.broken ∙ c.if-self.true))
 
 pub returns-in-Some-clause-moments : goal.returns-in-Some-clause-moments
 returns-in-Some-clause-moments g c = crash_untouched (record {
@@ -87,3 +84,9 @@ returns-clause-moments g c =
       after = c.states_between_survive.ensures.after;
     }) g.D.Disk.state c.self.inside.log c.self.inside.disk c.args.self.now c.self.view_is c.self.invariant c.args.client (calls.OpenStream c.args.name.now)
     (with_stream c.args.name.now s) (g.D.Disk.state c.add_stream.new.disk) (sym c.open_refusal.ensures ∙ c.in_default.is) (ap (λ (o : Outcome). o.state) (new_answer s c.args.client c.args.name.now none)) (c.add_stream.ensures.moments (asks c.args.client (calls.OpenStream c.args.name.now)) c.self.inside.log.state.value)
+
+pub open_refusal-requires : goal.open_refusal-requires
+open_refusal-requires g c = record { sound = (intact_managed (g.D.Disk.state c.self.inside.disk) c.self.inside.log c.self.invariant c.if-self.false).sound }
+
+pub add_stream-requires-clause-intact : goal.add_stream-requires-clause-intact
+add_stream-requires-clause-intact g c = intact_managed (g.D.Disk.state c.self.inside.disk) c.self.inside.log c.self.invariant c.if-self.false

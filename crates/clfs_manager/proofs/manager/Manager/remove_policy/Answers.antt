@@ -1,3 +1,4 @@
+use Rattle.clfs_manager.proofs.Crashes.{crash_broken}
 use Rattle.clfs_manager.specs.Settings.{with_policies}
 use Rattle.clfs_manager.proofs.CopyingCalls.{crash_untouched, crash_written}
 use Rattle.std.proofs.Common.{refl, sym, ◌∙◌, false, arith}
@@ -8,7 +9,7 @@ use Rattle.clfs_model.specs.Policies.{without_policy}
 use Rattle.clfs_manager.proofs.FlushKeeps.{on_ok, on_err, managed_broken}
 use Rattle.clfs_manager.proofs.SettingsKeep.{settings_done}
 use Rattle.clfs_manager.proofs.StoredKeeps.{managed_done}
-use Rattle.clfs_manager.proofs.Intact.{writes_as, writes_fine, writes_seen, writes_stored}
+use Rattle.clfs_manager.proofs.Intact.{intact_managed, writes_as, writes_fine, writes_seen, writes_stored}
 use Rattle.clfs_manager.proofs.manager.Manager.remove_policy.Goals as goal
 
 pub invariant_of-self : goal.invariant_of-self
@@ -44,12 +45,7 @@ returns-clause-writes g c =
     (λ calm made. (c.store_policies.ensures.steady calm made).1))
 
 pub returns-then-self-clause-moments : goal.returns-then-self-clause-moments
-returns-then-self-clause-moments g c = λ client. crash_untouched (record {
-  stands = c.logs_are_copies_and_blocks.ensures.stands;
-  by_file = c.logs_are_copies_and_blocks.ensures.by_file;
-  before = c.states_between_survive.ensures.before;
-  after = c.states_between_survive.ensures.after;
-}) g.D.Disk.state c.self.inside.log c.self.inside.disk c.args.self.now c.self.view_is c.self.invariant client (calls.RemovePolicy c.args.kind)
+returns-then-self-clause-moments g c = λ client. crash_broken _ _ _ _ (rw (← c.self.view_is) (c.self.invariant.broken ∙ c.if-self.true))
 
 pub returns-in_default-clause-moments : goal.returns-in_default-clause-moments
 returns-in_default-clause-moments g c = λ client. crash_untouched (record {
@@ -86,3 +82,9 @@ returns-then-is_err-clause-writes g c =
     (writes_stored c.store_policies.result (g.D.Disk.state c.self.inside.disk) (g.D.Disk.state c.store_policies.new.disk) old.state.value
     c.store_policies.new.self.state.value old c.store_policies.new.self (c.self.invariant.whole c.if-self.false) c.store_policies.ensures.stored
     c.store_policies.ensures.time c.store_policies.ensures.cause c.store_policies.ensures.steady))
+
+pub policies_without-requires : goal.policies_without-requires
+policies_without-requires g c = record { sound = (intact_managed (g.D.Disk.state c.self.inside.disk) c.self.inside.log c.self.invariant c.if-self.false).sound }
+
+pub store_policies-requires-clause-sound : goal.store_policies-requires-clause-sound
+store_policies-requires-clause-sound g c = (intact_managed (g.D.Disk.state c.self.inside.disk) c.self.inside.log c.self.invariant c.if-self.false).sound

@@ -1,5 +1,5 @@
 use Rattle.clfs_model.specs.Run.{Request, asks}
-use Rattle.clfs_manager.proofs.Crashes.{crash_seen, survives_as}
+use Rattle.clfs_manager.proofs.Crashes.{crash_broken, crash_seen, survives_as}
 use Rattle.clfs_manager.proofs.CopyingCalls.{crash_untouched, growth_survives}
 use Rattle.std.proofs.Common.{◌≡◌, ℕ, ◌+◌, IsErrOf, refl, sym, ap, subst, ◌∙◌, arith, false, true}
 use Rattle.std.specs.Prelude.{None, Some, Result}
@@ -150,12 +150,7 @@ returns-in-Err-NoMemory-clause-writes g c =
     (writes_as (IsErrOf c.grow.result physical.DiskFault) _ _ _ (λ f. cc) (λ f. cc) c.grow.ensures.writes)
 
 pub returns-then-self-clause-moments : goal.returns-then-self-clause-moments
-returns-then-self-clause-moments g c = crash_untouched (record {
-  stands = c.logs_are_copies_and_blocks.ensures.stands;
-  by_file = c.logs_are_copies_and_blocks.ensures.by_file;
-  before = c.states_between_survive.ensures.before;
-  after = c.states_between_survive.ensures.after;
-}) g.D.Disk.state c.self.inside.log c.self.inside.disk c.args.self.now c.self.view_is c.self.invariant c.args.client (calls.Reserve c.args.area c.args.sizes.now)
+returns-then-self-clause-moments g c = crash_broken _ _ _ _ (rw (← c.self.view_is) (c.self.invariant.broken ∙ c.if-self.true))
 
 pub returns-in_err-place-clause-moments : goal.returns-in_err-place-clause-moments
 returns-in_err-place-clause-moments g c = crash_untouched (record {
@@ -217,3 +212,9 @@ returns-in-Err-NoMemory-clause-moments g c =
     crash_seen g.D.Disk.state (s, c.self.inside.disk) c.args.self.now c.self.view_is asked (g.D.Disk.state c.grow.new.disk)
     (λ whole. c.grow.ensures.moments asked s (c.states_between_survive.ensures.before s c.args.client (calls.Reserve c.args.area sizes) managed.valid)
     (survives_as asked s (grown s c.own_sum-need.result) (grown s (own_sum sizes)) (ap (λ (n : ℕ). grown s n) need) larger))
+
+pub area_for_records-requires : goal.area_for_records-requires
+area_for_records-requires g c = record { sound = (intact_managed (g.D.Disk.state c.self.inside.disk) c.self.inside.log c.self.invariant c.if-self.false).sound }
+
+pub reserve_refusal-requires-clause-sound : goal.reserve_refusal-requires-clause-sound
+reserve_refusal-requires-clause-sound g c = (intact_managed (g.D.Disk.state c.self.inside.disk) c.self.inside.log c.self.invariant c.if-self.false).sound

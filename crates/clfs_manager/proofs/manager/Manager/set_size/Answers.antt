@@ -1,3 +1,4 @@
+use Rattle.clfs_manager.proofs.Crashes.{crash_broken}
 use Rattle.clfs_model.specs.Run.{asks}
 use Rattle.clfs_manager.proofs.CopyingCalls.{crash_answered, crash_untouched}
 use Rattle.std.proofs.Common.{IsErrOf, refl, sym, ◌∙◌, false}
@@ -60,12 +61,7 @@ returns-clause-writes g c =
     ])
 
 pub returns-then-self-clause-moments : goal.returns-then-self-clause-moments
-returns-then-self-clause-moments g c = λ client. crash_untouched (record {
-  stands = c.logs_are_copies_and_blocks.ensures.stands;
-  by_file = c.logs_are_copies_and_blocks.ensures.by_file;
-  before = c.states_between_survive.ensures.before;
-  after = c.states_between_survive.ensures.after;
-}) g.D.Disk.state c.self.inside.log c.self.inside.disk c.args.self.now c.self.view_is c.self.invariant client (calls.SetSize c.args.containers)
+returns-then-self-clause-moments g c = λ client. crash_broken _ _ _ _ (rw (← c.self.view_is) (c.self.invariant.broken ∙ c.if-self.true))
 
 pub returns-in-Some-clause-moments : goal.returns-in-Some-clause-moments
 returns-in-Some-clause-moments g c = λ client. crash_untouched (record {
@@ -91,3 +87,6 @@ returns-clause-moments g c = λ client. crash_answered (record {
   after = c.states_between_survive.ensures.after;
 }) g.D.Disk.state c.self.inside.log c.self.inside.disk c.args.self.now c.self.view_is c.self.invariant client (calls.SetSize c.args.containers)
     (with_containers c.args.containers c.self.inside.log.state.value) (g.D.Disk.state c.resize.new.disk) (sym c.size_refusal.ensures ∙ c.in_default.is) (refl) (c.resize.ensures.moments (asks client (calls.SetSize c.args.containers)) c.self.inside.log.state.value)
+
+pub size_refusal-requires : goal.size_refusal-requires
+size_refusal-requires g c = record { sound = (intact_managed (g.D.Disk.state c.self.inside.disk) c.self.inside.log c.self.invariant c.if-self.false).sound }
