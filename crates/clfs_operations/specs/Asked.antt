@@ -5,6 +5,6 @@ use Rattle.clfs_operations.specs.declared.asking.Asked.TheVariants.{Step, Reopen
 
 -- what it asks for
 abbrev pub request : Asked → Request
-request (Step client call) = asks client call
+request (Step client call) = asks client call.now
 request (Reopen client) = reopens client
 request (Nothing at) = bad_line at

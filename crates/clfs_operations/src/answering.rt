@@ -9,15 +9,15 @@ ghost use Rattle.clfs_operations.specs.Answered.{AnswersOne, AnswersLine, Answer
 ghost use Rattle.clfs_operations.specs.Asked.{request};
 ghost use Rattle.clfs_race.specs.Meets.{Meets};
 
-use crate::asking::{Asked, read_line};
+use crate::asking::{Asked, asked_of};
 use clfs_disk::Disk;
 use clfs_laws::{broken_stays, faults_break};
 use clfs_lines::Answering;
 use clfs_lsn::{Bytes, Lsn};
 use clfs_manager::Manager;
 use clfs_model::{Refusal, Reply};
-use clfs_race::without_return;
-use clfs_script::write_reply;
+use clfs_race::{lines_meet_their_conditions, without_return};
+use clfs_script::{Language, parse_line, write_reply};
 use std::alloc::{AllocError, Global};
 
 // What opening the log again answered, as a reply.
@@ -40,17 +40,17 @@ fn reopened<D: Disk>(manager: &mut Manager<D>, client: u16) -> Reply
 }
 
 // The reply to what a line asks for.
-fn reply_to<D: Disk>(manager: &mut Manager<D>, asked: &Asked) -> Reply
-    requires { Meets (request asked.now) }
-    ensures { AnswersOne manager.old.0 (D.state manager.old.1) (request asked.now) result manager.new.0 (D.state manager.new.1) }
+fn reply_to<D: Disk>(manager: &mut Manager<D>, asked: Asked) -> Reply
+    requires { Meets (request asked) }
+    ensures { AnswersOne manager.old.0 (D.state manager.old.1) (request asked.entry) result manager.new.0 (D.state manager.new.1) }
 {
     faults_break();
     broken_stays();
     manager.stored();
     match asked {
-        Asked::Step { client, call } => manager.step(*client, call),
-        Asked::Reopen { client } => reopened(manager, *client),
-        Asked::Nothing { at } => Reply::Refused(Refusal::BadLine { at: *at }),
+        Asked::Step { client, call } => manager.step(client, call),
+        Asked::Reopen { client } => reopened(manager, client),
+        Asked::Nothing { at } => Reply::Refused(Refusal::BadLine { at }),
     }
 }
 
@@ -64,8 +64,10 @@ pub fn reply_to_line<D: Disk>(
     ensures { IfOk result (λ reply. AnswersOne manager.old.0 (D.state manager.old.1) (line_request (without_return line.now)) reply
         manager.new.0 (D.state manager.new.1)) }
 {
-    let asked = read_line(alloc, without_return(line))?;
-    Ok(reply_to(manager, &asked))
+    lines_meet_their_conditions();
+    let read = parse_line(alloc, Language::CallsAndReopening, without_return(line));
+    let asked = asked_of(&read)?;
+    Ok(reply_to(manager, asked))
 }
 
 /// Answers one line.
@@ -79,10 +81,11 @@ pub fn answer_line<D: Disk>(
     ensures ok { OnOk result (AnswersLine manager.old.0 (D.state manager.old.1) line.now out.old out.new manager.new.0 (D.state manager.new.1)) }
     ensures err { OnErr result ((manager.new ≡ manager.old) ⊎ AnswersUnwritten manager.old.0 (D.state manager.old.1) line.now manager.new.0 (D.state manager.new.1)) }
 {
-    let asked = read_line(alloc, without_return(line))?;
-    let client = asked.client();
-    let reply = reply_to(manager, &asked);
-    write_reply(client, &reply, out)
+    lines_meet_their_conditions();
+    let read = parse_line(alloc, Language::CallsAndReopening, without_return(line));
+    let asked = asked_of(&read)?;
+    let reply = reply_to(manager, asked);
+    write_reply(asked.client(), &reply, out)
 }
 
 /// A log that answers the lines of a script.

@@ -1,25 +1,23 @@
 // What a line asks for, as it is answered.
-ghost use Rattle.std.specs.Prelude.{◌≡◌, ◌≤◌, IfOk, length};
-ghost use Rattle.clfs_model.specs.Script.{line_request};
+ghost use Rattle.std.specs.Prelude.{◌≡◌, IfOk};
+ghost use Rattle.clfs_model.specs.Run as run;
 ghost use Rattle.clfs_model.specs.Text.{client_of};
 ghost use Rattle.clfs_operations.specs.Asked.{request};
-ghost use Rattle.clfs_script.specs.Asked as script;
-ghost use Rattle.clfs_race.specs.Meets.{Meets};
+ghost use Rattle.clfs_script.specs.Asked.{AnswersLine};
 
 use clfs_model::Call;
-use clfs_race::lines_meet_their_conditions;
-use clfs_script::{Language, LineRefusal, Request, ScriptLine, parse_line};
-use std::alloc::{AllocError, Global};
+use clfs_script::{LineRefusal, Request, ScriptLine};
+use std::alloc::AllocError;
 
-/// What a line asks for.
-#[derive(Drop)]
-pub enum Asked {
+/// What a line asks for. A call stays where it was read.
+#[derive(Clone, Copy)]
+pub enum Asked<'a> {
     /// A client's call.
     Step {
         /// The client.
         client: u16,
         /// The call.
-        call: Call,
+        call: &'a Call,
     },
     /// A client's opening of the log again.
     Reopen {
@@ -33,39 +31,40 @@ pub enum Asked {
     },
 }
 
-impl Asked {
+impl<'a> Asked<'a> {
     /// The client that the reply names: a bad line has none.
-    pub fn client(&self) -> u16
-        ensures { result ≡ client_of (request self.now) }
+    pub fn client(self) -> u16
+        ensures { result ≡ client_of (request self.entry) }
     {
         match self {
-            Asked::Step { client, .. } | Asked::Reopen { client } => *client,
+            Asked::Step { client, .. } | Asked::Reopen { client } => client,
             Asked::Nothing { .. } => 0,
         }
     }
 }
 
 // What a line that was read asks for.
-fn line_asked(line: ScriptLine) -> Asked
-    ensures { request result ≡ script.request_of line }
+fn line_asked(line: &ScriptLine) -> Asked
+    ensures { AnswersLine (Ok line.now) (request result) }
 {
-    let ScriptLine { client, request } = line;
-    match request {
-        Request::Step(call) => Asked::Step { client, call },
-        Request::Reopen => Asked::Reopen { client },
+    match &line.request {
+        Request::Step(call) => Asked::Step {
+            client: line.client,
+            call,
+        },
+        Request::Reopen => Asked::Reopen {
+            client: line.client,
+        },
     }
 }
 
-/// What a line asks for. The line comes without its carriage return.
-pub fn read_line(alloc: Global, line: &[u8]) -> Result<Asked, AllocError>
-    requires { length line.now ≤ 4294967295 }
-    ensures request { IfOk result (λ asked. request asked ≡ line_request line.now) }
-    ensures meets { IfOk result (λ asked. Meets (request asked)) }
+/// What a line asks for that was read, unless memory ran out.
+pub fn asked_of(read: &Result<ScriptLine, LineRefusal>) -> Result<Asked, AllocError>
+    ensures { IfOk result (λ asked. (defined : run.Request) → AnswersLine read.now defined → request asked ≡ defined) }
 {
-    lines_meet_their_conditions();
-    match parse_line(alloc, Language::CallsAndReopening, line) {
-        Ok(found) => Ok(line_asked(found)),
-        Err(LineRefusal::BadLine { at }) => Ok(Asked::Nothing { at }),
+    match read {
+        Ok(line) => Ok(line_asked(line)),
+        Err(LineRefusal::BadLine { at }) => Ok(Asked::Nothing { at: *at }),
         Err(LineRefusal::NoMemory) => Err(AllocError),
     }
 }

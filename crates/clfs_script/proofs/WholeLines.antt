@@ -7,10 +7,9 @@ use Rattle.clfs_model.specs.Lines.{words_of}
 use Rattle.clfs_model.specs.Run as run
 use Rattle.clfs_model.specs.Script.{Language, Verb, Rest, Word, Read, word, client_word, words_from, request_in, request_behind, request_or_bad, last_of, allowed_verb, ◌>>=◌}
 use Rattle.clfs_text.specs.Left.{Left, left_from}
-use Rattle.clfs_script.specs.Asked.{rest_of, Answers, ReadsVerb, AnswersRequest, AnswersLine, client_verb, request_of, asked}
+use Rattle.clfs_script.specs.Asked.{rest_of, Answers, ReadsVerb, AnswersRequest, AnswersLine, client_verb, request_of}
 use Rattle.clfs_script.specs.declared.verbs.Verb.{Verb as CodeVerb}
-use Rattle.clfs_model.specs.declared.call.Call.{Call}
-use Rattle.clfs_script.specs.declared.line.Request.TheVariants.{Step, Reopen}
+use Rattle.clfs_script.specs.declared.line.Request.TheVariants.{Reopen}
 use Rattle.clfs_script.specs.declared.line.ScriptLine.{ScriptLine}
 use Rattle.clfs_script.specs.declared.line.LineRefusal.{LineRefusal}
 use Rattle.clfs_script.specs.declared.line.LineRefusal.TheVariants.{NoMemory, BadLine}
@@ -75,16 +74,6 @@ line_ends line (Ok found) [] last = let same : line ≡ found = cc in rw same re
 line_ends line (Ok found) (w ∷ words) last = absurd (cc)
 line_ends line (Err (BadLine at)) [] last = absurd (cc)
 line_ends line (Err (BadLine at)) (w ∷ words) last = let same : w.at ≡ at = cc in ap Err same
-
-asked_last : (client : ℕ) (call : Call) (words : List Word) → asked client (last_of call words) ≡ last_of (run.asks client call) words
-asked_last client call [] = refl
-asked_last client call (w ∷ words) = refl
-
--- the line ends after a call
-pub call_ends : (client : ℕ) (call : Call) (result : Result ScriptLine LineRefusal) (words : List Word)
-    → Answers result (last_of (record { client = client; request = Step call }) words) → AnswersRequest result (asked client (last_of call words))
-call_ends client call result words last =
-    rw (asked_last client call words) (line_ends (record { client = client; request = Step call }) result words last)
 
 -- the line ends after `reopen`
 pub reopened : (client : ℕ) (result : Result ScriptLine LineRefusal) (words : List Word)

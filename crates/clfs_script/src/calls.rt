@@ -6,7 +6,7 @@ ghost use Rattle.clfs_script.specs.Verbs.{verb_of};
 
 use crate::line::{LineRefusal, Request, ScriptLine};
 use crate::reading::{
-    area, base, cursor, data, ending, kind, long, lsn, mode, name, short, stream, switch,
+    area, base, cursor, data, ending, kind, link, long, lsn, mode, name, short, stream, switch,
 };
 use crate::sizes::sizes;
 use crate::verbs::Verb;
@@ -29,8 +29,8 @@ fn asks(client: u16, call: Call) -> Result<ScriptLine, LineRefusal>
 fn ending_call(client: u16, call: Call, words: &mut Words) -> Result<ScriptLine, LineRefusal>
     ensures { AnswersRequest result (asked client (ends call (rest_of words.old))) }
 {
-    let request = Request::Step(call);
-    ending(ScriptLine { client, request }, words)
+    ending((), words)?;
+    asks(client, call)
 }
 
 fn area_line(client: u16, words: &mut Words) -> Result<ScriptLine, LineRefusal>
@@ -77,8 +77,8 @@ fn append_line(alloc: Global, client: u16, words: &mut Words) -> Result<ScriptLi
 {
     let area = area(words)?;
     let bytes = data(alloc, words)?;
-    let previous = lsn(words)?;
-    let undo_next = lsn(words)?;
+    let previous = link(words)?;
+    let undo_next = link(words)?;
     let reserved = words.skip(b"reserved");
     let seal = words.skip(b"seal");
     let flush = words.skip(b"flush");

@@ -13,6 +13,7 @@ use clfs_text::Words;
 use std::alloc::Global;
 
 // The verb that a word names, or none for `reopen`, where the language has that word.
+#[inline(always)]
 fn allowed_verb(language: Language, word: &[u8]) -> Option<Option<Verb>>
     ensures { option_map (option_map verb_of) result ≡ allowed_verb (language_of language) word.now }
 {

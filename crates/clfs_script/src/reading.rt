@@ -102,6 +102,27 @@ pub(crate) fn lsn(words: &mut Words) -> Result<Lsn, LineRefusal>
     }
 }
 
+// Most links are null, so that text comes first.
+fn link_of_word(word: &[u8]) -> Option<Lsn>
+    ensures { result ≡ lsn_of_word word.now }
+{
+    match word {
+        b"0:0:0" => Some(Lsn::null()),
+        _ => lsn_of_word(word),
+    }
+}
+
+// The LSN of a record that another names, or null.
+pub(crate) fn link(words: &mut Words) -> Result<Lsn, LineRefusal>
+    ensures { Reads lsn_of_word words.old result words.new }
+{
+    let word = words.take()?;
+    match link_of_word(word.bytes) {
+        Some(lsn) => Ok(lsn),
+        None => Err(LineRefusal::BadLine { at: word.at }),
+    }
+}
+
 fn base_of_word(word: &[u8]) -> Option<Lsn>
     ensures { result ≡ base_word word.now }
 {

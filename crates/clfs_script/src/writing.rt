@@ -1,8 +1,8 @@
 // The text of replies: one line each.
-ghost use Rattle.std.specs.Prelude.{◌≡◌, ◌≤◌, ◌++◌, ℕ, List, OnOk, codes, decimal, length};
+ghost use Rattle.std.specs.Prelude.{◌≡◌, ◌≤◌, [], ◌++◌, ℕ, List, OnOk, codes, decimal, length};
 ghost use Rattle.std.specs.List.{flat_map};
 ghost use Rattle.clfs_lsn.specs.Words.{lsn_text};
-ghost use Rattle.clfs_model.specs.declared.reply.Reply.TheVariants.{Placed, Found};
+ghost use Rattle.clfs_model.specs.declared.reply.Reply.TheVariants.{Placed, Found, Done};
 ghost use Rattle.clfs_model.specs.Text.{kind_text, entry_text, extent_text, archive_text, info_space_text, info_lsns_text, info_text, reply_text, reply_line};
 
 use crate::refusals::push_refusal;
@@ -37,12 +37,12 @@ fn kind_text(kind: Kind) -> &'static [u8]
     }
 }
 
-// What stands before an entry's data.
-fn entry_lead(entry: &LogEntry) -> Lead
-    ensures short { length result ≤ 136 }
-    ensures text { (text : List ℕ) → result ++ text ≡ codes "record " ++ (lsn_text entry.now.lsn ++ (codes " " ++ (kind_text entry.now.kind ++ (codes " " ++ (lsn_text entry.now.previous ++ (codes " " ++ (lsn_text entry.now.undo_next ++ (codes " " ++ (lsn_text entry.now.new_base ++ (codes " " ++ text)))))))))) }
+// Puts what stands before an entry's data.
+fn put_entry(entry: &LogEntry, lead: &mut Lead)
+    requires { lead.old ≡ [] }
+    ensures short { length lead.new ≤ 136 }
+    ensures text { (text : List ℕ) → lead.new ++ text ≡ codes "record " ++ (lsn_text entry.now.lsn ++ (codes " " ++ (kind_text entry.now.kind ++ (codes " " ++ (lsn_text entry.now.previous ++ (codes " " ++ (lsn_text entry.now.undo_next ++ (codes " " ++ (lsn_text entry.now.new_base ++ (codes " " ++ text)))))))))) }
 {
-    let mut lead = Lead::new();
     lead.put(b" ");
     lead.put_lsn(entry.new_base);
     lead.put(b" ");
@@ -52,13 +52,13 @@ fn entry_lead(entry: &LogEntry) -> Lead
     lead.put(kind_text(entry.kind));
     lead.put_lsn(entry.lsn);
     lead.put(b"record ");
-    lead
 }
 
 fn push_entry(entry: &LogEntry, out: &mut Bytes) -> Result<(), AllocError>
     ensures { OnOk result (out.new ≡ out.old ++ entry_text entry.now) }
 {
-    let lead = entry_lead(entry);
+    let mut lead = Lead::new();
+    put_entry(entry, &mut lead);
     out.extend_from_slice(lead.as_slice())?;
     push_data(entry.bytes.as_slice(), out)
 }
@@ -123,7 +123,8 @@ fn push_info(info: &LogInfo, out: &mut Bytes) -> Result<(), AllocError>
 fn push_found(cursor: u16, entry: &LogEntry, out: &mut Bytes) -> Result<(), AllocError>
     ensures { OnOk result (out.new ≡ out.old ++ (codes "cursor " ++ (decimal cursor ++ (codes " " ++ entry_text entry.now)))) }
 {
-    let mut lead = entry_lead(entry);
+    let mut lead = Lead::new();
+    put_entry(entry, &mut lead);
     lead.put(b" ");
     lead.put_decimal(cursor as u32);
     lead.put(b"cursor ");
@@ -176,6 +177,16 @@ fn push_placed(client: u16, lsn: Lsn, out: &mut Bytes) -> Result<(), AllocError>
     out.extend_from_slice(lead.as_slice())
 }
 
+// The whole line of a call that was made and tells nothing.
+fn push_done(client: u16, out: &mut Bytes) -> Result<(), AllocError>
+    ensures { OnOk result (out.new ≡ out.old ++ reply_line client Done) }
+{
+    let mut lead = Lead::new();
+    lead.put(b" ok\n");
+    lead.put_decimal(client as u32);
+    out.extend_from_slice(lead.as_slice())
+}
+
 // The whole line of a record that was found, and its cursor: all that stands before the data is added at once.
 fn push_found_line(
     client: u16,
@@ -185,7 +196,8 @@ fn push_found_line(
 ) -> Result<(), AllocError>
     ensures { OnOk result (out.new ≡ out.old ++ reply_line client (Found cursor entry.now)) }
 {
-    let mut lead = entry_lead(entry);
+    let mut lead = Lead::new();
+    put_entry(entry, &mut lead);
     lead.put(b" ");
     lead.put_decimal(cursor as u32);
     lead.put(b" cursor ");
@@ -214,6 +226,7 @@ pub fn write_reply(client: u16, reply: &Reply, out: &mut Bytes) -> Result<(), Al
     match reply {
         Reply::Placed(lsn) => push_placed(client, *lsn, out),
         Reply::Found { cursor, entry } => push_found_line(client, *cursor, entry, out),
+        Reply::Done => push_done(client, out),
         _ => push_line(client, reply, out),
     }
 }

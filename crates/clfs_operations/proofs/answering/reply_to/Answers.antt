@@ -13,7 +13,7 @@ returns-in-Step g c =
       writes = is.writes;
       crash = is.moments;
       stopped = λ broken. stands_as g.D.Disk.state old.1 after.1 (is.stopped broken);
-      faultless = faultless_step c.faults_break.ensures.fault c.broken_stays.ensures.calls (g.D.Disk.state old.1).nature.tells_contents old.0 c.in-Step.client c.in-Step.call
+      faultless = faultless_step c.faults_break.ensures.fault c.broken_stays.ensures.calls (g.D.Disk.state old.1).nature.tells_contents old.0 c.in-Step.client c.in-Step.call.now
           c.step.result after.0 is.step;
     })
 
