@@ -69,15 +69,21 @@ class Round:
     def kill(self):
         """Kills a program, and then `share`, each after a while, once a first record was flushed."""
         while not any(self.notes(number) for number in CLIENTS):
+            if self.share.poll() is not None:
+                self.end_programs(0)
+                sys.exit(f"share ended with status {self.share.returncode}")
             time.sleep(0.01)
         time.sleep(random.uniform(0, 0.5))
         random.choice(self.programs).kill()
         time.sleep(random.uniform(0, 0.5))
         self.share.kill()
         self.share.wait()
+        self.end_programs(2)
+
+    def end_programs(self, seconds):
+        """Waits so many seconds for each program. One that is still there waits for somebody to open its pipe."""
         for program in self.programs:
-            program.join(2)
-            # One that is still there waits for somebody to open its pipe.
+            program.join(seconds)
             program.kill()
             program.join()
 

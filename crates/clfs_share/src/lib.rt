@@ -1,4 +1,4 @@
-//! A client of a shared log is served as if it were alone: its lines are answered as they come, and when it leaves its areas are deleted.
+//! A client of a shared log is served by its own session: its lines are answered as they come, and when it leaves its areas are deleted.
 //!
 //! Each client has a session of the log, a source that gives its lines, and a sink that takes its replies. A line is in the language of a race, so none may
 //! open the log again, and it begins with the client's own number. The loop over the lines is that of `clfs_lines`, which answers a line when its line feed is

@@ -12,7 +12,8 @@
 //! to contracts alone, and memory doesn't grow with it.
 //!
 //! Nothing of a call lies under the lock while it waits, and the lock tells nothing of who comes next. `order.rt` lets calls that wait to the
-//! lock one at a time, those that flush after the others, so that one flush writes what several wait for; no clause rests on that.
+//! lock one at a time, by the rules of `waiting.rt`: those that flush after the others, so that one flush writes what several wait for; no clause rests
+//! on that.
 #![tactic(auto)]
 
 mod copies;
@@ -24,6 +25,7 @@ mod order;
 mod recorder;
 mod shared;
 mod told;
+mod waiting;
 
 pub use kept::KeptJournal;
 pub use opening::Opening;

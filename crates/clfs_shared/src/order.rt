@@ -2,32 +2,23 @@
 // one after the other, so that the first of them writes what all the others wait for. A kind is served for as many calls as waited when its turn
 // began, so that neither waits for ever while the other comes again and again. No clause rests on any of this.
 //
+// A client that flushes record after record comes again a moment after it was answered. So the first flush of a turn lets other threads run, a bounded number
+// of times, until those that the turn before served wait again, and then writes for all of them. It does so only if that turn served several, so
+// a client that is alone never waits, and one that stays away is waited for once.
+//
 // A thread that comes sleeps where its kind waits for as long as it must. Who leaves wakes one thread of the kind that comes next, if one of it waits.
 // Nobody's wake is lost. A thread counts itself among those that wait, and looks whether it must, under the same lock under which the one that leaves
 // counts them, and it stays counted while it sleeps. So who leaves and wakes nobody has seen none of the kind that comes next; then there is none of
 // the other kind either, since that one would come next, and nobody sleeps. Who comes after that finds no call being made, and needn't wait. If a
-// thread comes and is let in before the one that was woken looks, it is the next that leaves, and wakes again.
+// thread comes and is let in before the one that was woken looks, it is the next that leaves, and wakes again. While a flush gathers, it is awake itself, and
+// comes next when it has.
+use crate::waiting::{Clients, Kind, Waiting};
 use clfs_model::Call;
 use std::sync::{Condvar, Mutex, Wait};
+use std::thread::yield_now;
 
-/// The two kinds of calls.
-#[derive(Clone, Copy, PartialEq, Eq)]
-pub(crate) enum Kind {
-    /// Nothing that was appended before has to be on the disk for it.
-    Quick,
-    /// It writes all that waits.
-    Flushing,
-}
-
-// Who waits, and who is let in.
-#[derive(Drop)]
-struct Waiting {
-    busy: bool,
-    serves: Kind,
-    left: u32,
-    quick: u32,
-    flushing: u32,
-}
+// How often a flush lets other threads run, at most, before it writes.
+const MOST_YIELDS: u32 = 100;
 
 /// Calls that wait, and where each kind of them sleeps.
 #[derive(Drop)]
@@ -48,79 +39,11 @@ pub(crate) fn kind_of(call: &Call) -> Kind {
     }
 }
 
-// The other kind.
-fn other_than(kind: Kind) -> Kind {
-    match kind {
-        Kind::Quick => Kind::Flushing,
-        Kind::Flushing => Kind::Quick,
-    }
-}
-
-impl Waiting {
-    // How many calls of a kind wait.
-    fn count(&self, kind: Kind) -> u32 {
-        match kind {
-            Kind::Quick => self.quick,
-            Kind::Flushing => self.flushing,
-        }
-    }
-
-    // A call that comes now has to wait: a call is being made, or the other kind comes first.
-    fn must_wait(&self, kind: Kind) -> bool {
-        if self.busy {
-            return true;
-        }
-        let served = self.serves == kind;
-        let others = self.count(other_than(kind)) > 0;
-        others && served == (self.left == 0)
-    }
-
-    // A call of this kind waits.
-    fn come(&mut self, kind: Kind) {
-        match kind {
-            Kind::Quick => self.quick = self.quick.wrapping_add(1),
-            Kind::Flushing => self.flushing = self.flushing.wrapping_add(1),
-        }
-    }
-
-    // A call of this kind waits no more, and is made.
-    fn go_in(&mut self, kind: Kind) {
-        match kind {
-            Kind::Quick => self.quick = self.quick.wrapping_sub(1),
-            Kind::Flushing => self.flushing = self.flushing.wrapping_sub(1),
-        }
-        if self.serves == kind {
-            self.left = self.left.saturating_sub(1);
-        } else {
-            self.serves = kind;
-            self.left = self.count(kind);
-        }
-        self.busy = true;
-    }
-
-    // The kind of which one is let in next.
-    fn next(&self) -> Kind {
-        let others = self.count(other_than(self.serves)) > 0;
-        let more = self.left > 0 && self.count(self.serves) > 0;
-        if others && !more {
-            other_than(self.serves)
-        } else {
-            self.serves
-        }
-    }
-}
-
 impl Order {
     /// Nobody waits.
     pub fn new() -> Order {
         Order {
-            waiting: Mutex::new(Waiting {
-                busy: false,
-                serves: Kind::Quick,
-                left: 0,
-                quick: 0,
-                flushing: 0,
-            }),
+            waiting: Mutex::new(Waiting::new()),
             quick: Condvar::new(),
             flushing: Condvar::new(),
         }
@@ -134,23 +57,83 @@ impl Order {
         }
     }
 
-    /// Waits until a call of this kind may be made.
-    pub fn enter<R: Wait>(&self, rt: &R, kind: Kind) {
+    // Wakes a call of this kind, if one waits.
+    fn wake(&self, waiting: &Waiting, kind: Kind) {
+        if waiting.count(kind) > 0 {
+            self.place(kind).notify_one();
+        }
+    }
+
+    // Waits until a quick call may be made.
+    fn enter_quick<R: Wait>(&self, rt: &R) {
         let mut waiting = self.waiting.lock(rt);
-        waiting.come(kind);
+        waiting.come();
         let mut waiting = self
-            .place(kind)
-            .wait_while(rt, waiting, |w| w.must_wait(kind));
-        waiting.go_in(kind);
+            .quick
+            .wait_while(rt, waiting, |w| w.must_wait(Kind::Quick));
+        waiting.go_in();
+    }
+
+    // Waits until a flush of this client may be made. Says whether it gathers first; if not, it is let in.
+    fn begin_flush<R: Wait>(&self, rt: &R, client: Clients) -> bool {
+        let mut waiting = self.waiting.lock(rt);
+        waiting.come_to_flush(client);
+        let mut waiting = self
+            .flushing
+            .wait_while(rt, waiting, |w| w.must_wait(Kind::Flushing));
+        let gathers = waiting.begin_gathering();
+        if gathers {
+            self.wake(&waiting, Kind::Quick);
+        } else {
+            waiting.go_in_to_flush(client);
+        }
+        gathers
+    }
+
+    // Whether the flush that gathers should go on with it.
+    fn gains_by_waiting<R: Wait>(&self, rt: &R) -> bool {
+        self.waiting.lock(rt).gains_by_waiting()
+    }
+
+    // Lets other threads run until those that were served before wait again.
+    fn gather<R: Wait>(&self, rt: &R) {
+        for _ in 0..MOST_YIELDS {
+            yield_now();
+            if !self.gains_by_waiting(rt) {
+                return;
+            }
+        }
+    }
+
+    // Waits until the flush that gathered may be made.
+    fn end_gathering<R: Wait>(&self, rt: &R, client: Clients) {
+        let mut waiting = self.waiting.lock(rt);
+        waiting.end_gathering();
+        let mut waiting = self
+            .flushing
+            .wait_while(rt, waiting, |w| w.must_wait(Kind::Flushing));
+        waiting.go_in_to_flush(client);
+    }
+
+    /// Waits until a call of this kind may be made. The client's number is at most 64.
+    pub fn enter<R: Wait>(&self, rt: &R, client: u16, kind: Kind) {
+        match kind {
+            Kind::Quick => self.enter_quick(rt),
+            Kind::Flushing => {
+                let client = Clients::of(client);
+                if self.begin_flush(rt, client) {
+                    self.gather(rt);
+                    self.end_gathering(rt, client);
+                }
+            }
+        }
     }
 
     /// The call is made. One that waits is woken, if there is one.
     pub fn leave<R: Wait>(&self, rt: &R) {
         let mut waiting = self.waiting.lock(rt);
-        waiting.busy = false;
+        waiting.leave();
         let next = waiting.next();
-        if waiting.count(next) > 0 {
-            self.place(next).notify_one();
-        }
+        self.wake(&waiting, next);
     }
 }

@@ -216,7 +216,7 @@ impl<D: Disk, J: Recorder> SharedLog<D, J> {
         unbroken_stays();
         let _turn = &self.turn;
         let client = session.client();
-        self.order.enter(rt, kind_of(call));
+        self.order.enter(rt, client, kind_of(call));
         let reply = self.turn.call(rt, session, ClientCall { client, call });
         self.order.leave(rt);
         reply
