@@ -10,6 +10,8 @@ mod block;
 #[cfg(test)]
 mod command;
 #[cfg(test)]
+mod help;
+#[cfg(test)]
 mod lsn;
 #[cfg(test)]
 mod record;

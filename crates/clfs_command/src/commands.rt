@@ -198,7 +198,7 @@ const RESTORE: CommandForm = CommandForm {
 
 static SHARE: CommandForm = CommandForm {
     name: "share",
-    about: "Answers the lines of several programs over one log, each as if it were alone",
+    about: "Answers the lines of several programs at the same time, over one log",
     words: &[
         WRITE_BUFFERS,
         WordForm {

@@ -285,8 +285,8 @@ fn restore_disk<D: Disk>(
 
 /// Restores a log of one or more archives on a disk on which no log is, up to an LSN or as far as they reach. The disk is given back with it.
 ///
-/// Where no slot was open, a crash or a fault in it leaves no open slot or the whole restored log. In the first case it may be called again on the files
-/// as they are.
+/// Where no slot was open, a crash or a fault in it leaves no open slot or the whole restored log, once the base file has its length: while that grows,
+/// a crash may leave any bytes in what is added. Where no slot is open it may be called again on the files as they are.
 pub fn restore<D: Disk>(
     alloc: Global,
     disk: D,
