@@ -167,35 +167,52 @@ fn front_of(bytes: &[u8], count: usize) -> &[u8] {
 }
 
 #[test]
-fn lsns_outside_of_an_archive(rt: HostRuntime) -> Result<(), AllocError> {
-    let alloc = rt.alloc();
-    let archives = archived(&rt, alloc)?;
-    let outside = b"up-to outside 1:0:0 to 1:400:0\n";
-    for lsn in ["1:600:0", "0:fffffe00:1ff"] {
-        check_refused(&rt, alloc, Some(lsn), &archives, UP_TO_OUTSIDE, outside)?;
-    }
-    Ok(())
-}
-
-// These bytes are no archive, and the line says so.
-fn check_no_archive(
-    rt: &(impl Abort + Threads + Wait + Sync),
-    alloc: Global,
-    bytes: &[u8],
-    line: &[u8],
-) -> Result<(), AllocError> {
-    check_refused(rt, alloc, None, bytes, NOT_AN_ARCHIVE, line)
-}
-
-#[test]
 fn archives_that_are_none(rt: HostRuntime) -> Result<(), AllocError> {
     let alloc = rt.alloc();
     let archives = archived(&rt, alloc)?;
+    let outside = b"up-to outside 1:0:0 to 1:400:0\n";
+    check_refused(
+        &rt,
+        alloc,
+        Some("1:600:0"),
+        &archives,
+        UP_TO_OUTSIDE,
+        outside,
+    )?;
+    check_refused(
+        &rt,
+        alloc,
+        Some("0:fffffe00:1ff"),
+        &archives,
+        UP_TO_OUTSIDE,
+        outside,
+    )?;
     let cut = front_of(&archives, 17426);
-    check_no_archive(&rt, alloc, cut, b"not an archive: byte 17426\n")?;
-    check_no_archive(&rt, alloc, b"", b"not an archive: byte 0\n")?;
+    check_refused(
+        &rt,
+        alloc,
+        None,
+        cut,
+        NOT_AN_ARCHIVE,
+        b"not an archive: byte 17426\n",
+    )?;
+    check_refused(
+        &rt,
+        alloc,
+        None,
+        b"",
+        NOT_AN_ARCHIVE,
+        b"not an archive: byte 0\n",
+    )?;
     let more = joined(alloc, &archives, b"D")?;
-    check_no_archive(&rt, alloc, &more, b"not an archive: byte 17427\n")?;
+    check_refused(
+        &rt,
+        alloc,
+        None,
+        &more,
+        NOT_AN_ARCHIVE,
+        b"not an archive: byte 17427\n",
+    )?;
     Ok(())
 }
 
