@@ -145,12 +145,14 @@ pub fn copy_payload(out: &mut Vec<u8>, block: &[u8], from: usize, count: usize)
     requires room { vec_len out.old + count ≤ vec_capacity out.old }
     ensures { out.new.items ≡ out.old.items ++ payload_from from count block.now }
 {
-    let end = from + count;
-    let mut at = from;
-    while at < end {
-        let part = (end - at).min(PAYLOAD - at % PAYLOAD);
-        let place = SECTOR * (at / PAYLOAD) + at % PAYLOAD;
+    let mut rest = count;
+    let mut part = PAYLOAD - from % PAYLOAD;
+    let mut place = SECTOR * (from / PAYLOAD) + from % PAYLOAD;
+    while part < rest {
         push_reserved(out, &block[place..place + part]);
-        at += part;
+        rest -= part;
+        place += part + ADDRESS;
+        part = PAYLOAD;
     }
+    push_reserved(out, &block[place..place + rest]);
 }

@@ -25,7 +25,7 @@ pub const OPEN_GATE: u8 = 0xA5;
 pub fn size_of_record(len: u32) -> u64
     ensures { result ≡ size len }
 {
-    RECORD_HEADER as u64 + (len as u64).next_multiple_of(8)
+    RECORD_HEADER as u64 + (len as u64 + 7) / 8 * 8
 }
 
 /// The sectors that so many bytes of payload take, the last of them perhaps in part.

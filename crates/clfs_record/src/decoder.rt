@@ -203,7 +203,9 @@ fn is_no_kind(byte: u8) -> bool
 fn has_wrong_base(kind: u8, lsn: u64, base: u64) -> bool
     ensures { result ≡ is_wrong_base kind lsn base }
 {
-    if kind == 1 { base != 0 } else { lsn < base }
+    // The highest base that its kind may have.
+    let most = if kind == 1 { 0 } else { lsn };
+    most < base
 }
 
 // The first byte after the data that isn't 0.

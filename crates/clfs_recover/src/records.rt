@@ -60,6 +60,10 @@ fn raise_base(bases: &mut Vec<Lsn>, head: &Head)
     requires stream { (1 ≤ head.now.stream) × (head.now.stream ≤ vec_len bases.old) }
     ensures { bases.new.items ≡ raised bases.old.items head.now.stream head.now.new_base }
 {
+    // Nearly all records have none.
+    if head.new_base == Lsn::null() {
+        return;
+    }
     let at = head.stream as usize - 1;
     bases[at] = bases[at].max(head.new_base);
 }
@@ -108,6 +112,8 @@ pub(crate) fn gather_records<G: Gatherer>(
     ensures streams { vec_len bases.new ≡ vec_len bases.old }
     ensures no_fault { IsErrOf result LoadRefusal.DiskFault → ⊥ }
 {
+    // A copy, since the place would be read again for each record.
+    let place = *place;
     let mut at = BLOCK_HEADER as usize;
     if payload.len() < at {
         return Err(place.damaged(BLOCK_HEADER));

@@ -1,50 +1,90 @@
-use Rattle.std.proofs.Common.{◌≡◌, ◌+◌, ◌-◌, ◌<◌, ◌++◌, ℕ, List, length, take, drop, ◌∙◌, ap, arith, append_assoc, length-append}
+use Rattle.std.proofs.Common.{◌≡◌, ◌+◌, ◌-◌, ◌%◌, ◌≤◌, ◌++◌, ℕ, List, length, take, drop, ◌∙◌, ap, arith, append_assoc, length-append}
 use Rattle.std.proofs.lemmas.List.{length-take}
 use Rattle.clfs_block.specs.Frame.{place_of, payload_from}
 use Rattle.clfs_block.proofs.Frames.{length-payload_from, payload_more}
 use Rattle.clfs_block.proofs.framing.copy_payload.Goals as goal
 
+-- bytes of one sector, taken at their place, are the next bytes of the payload
+more_at : (first count part place : ℕ) (block : List ℕ) → place ≡ place_of (first + count) → (first + count) % 504 + part ≤ 504
+    → place + part ≤ length block
+    → payload_from first count block ++ take (place + part - place) (drop place block) ≡ payload_from first (count + part) block
+more_at first count part place block at few room =
+    let front = payload_from first count block in
+    let part_is : place + part - place ≡ part = omega arith in
+    ap (λ (k : ℕ). front ++ take k (drop place block)) part_is
+    ∙ ap (λ (k : ℕ). front ++ take part (drop k block)) at
+    ∙ payload_more first count part block few (omega (arith, at, room))
+
 pub push_reserved-requires : goal.push_reserved-requires
 push_reserved-requires c =
-    let at = c.loop-at.at in
     let first = c.args.from in
-    let kept = c.loop-at.invariant in
-    let until : at < first + c.args.count = c.loop-at-test.true in
+    let done = c.args.count - c.loop-part.rest in
+    let kept = c.loop-part.invariant in
+    let place = c.loop-part.place in
     omega (
       arith,
-      until,
-      kept.low,
+      kept.some,
       kept.room,
-      c.min-part.ensures,
+      c.loop-part-test.true,
       ap (λ (l : List ℕ). length l) kept.so_far,
-      length-append c.args.out.now.items (payload_from first (at - first) c.args.block.now),
-      length-payload_from first (at - first) c.args.block.now,
-      length-take (place_of at + c.min-part.result - place_of at) (drop (place_of at) c.args.block.now),
+      length-append c.args.out.now.items (payload_from first done c.args.block.now),
+      length-payload_from first done c.args.block.now,
+      length-take (place + c.loop-part.part - place) (drop place c.args.block.now),
     )
 
-pub loop-at-preserved : goal.loop-at-preserved
-loop-at-preserved c =
-    let at = c.loop-at.at in
+pub loop-part-preserved : goal.loop-part-preserved
+loop-part-preserved c =
     let first = c.args.from in
+    let rest = c.loop-part.rest in
+    let part = c.loop-part.part in
+    let place = c.loop-part.place in
+    let done = c.args.count - rest in
     let block = c.args.block.now in
-    let part = c.min-part.result in
-    let kept = c.loop-at.invariant in
-    let until : at < first + c.args.count = c.loop-at-test.true in
-    let n = at - first in
-    let index : first + n ≡ at = omega (arith, kept.low) in
-    let part_is : place_of at + part - place_of at ≡ part = omega arith in
-    let next : n + part ≡ at + part - first = omega (arith, kept.low) in
-    let more : payload_from first n block ++ take part (drop (place_of (first + n)) block) ≡ payload_from first (n + part) block =
-    payload_more first n part block (omega (arith, c.min-part.ensures, index)) (omega (arith, c.min-part.ensures, index, until, c.requires.place)) in
+    let kept = c.loop-part.invariant in
+    let until = c.loop-part-test.true in
+    let next : done + part ≡ c.args.count - (rest - part) = omega (arith, kept.some, until) in
     record {
-      low = omega (arith, kept.low);
-      high = omega (arith, until, c.min-part.ensures);
+      some = omega (arith, kept.some);
+      place = omega (arith, kept.place, kept.sector, kept.some, until);
+      sector = omega (arith, kept.sector, kept.some, until);
       so_far = c.push_reserved.ensures.items
-          ∙ ap (λ (k : ℕ). c.loop-at.out.items ++ take k (drop (place_of at) block)) part_is
-          ∙ ap (λ (l : List ℕ). l ++ take part (drop (place_of at) block)) kept.so_far
-          ∙ append_assoc c.args.out.now.items (payload_from first n block) (take part (drop (place_of at) block))
-          ∙ ap (λ (k : ℕ). c.args.out.now.items ++ (payload_from first n block ++ take part (drop (place_of k) block))) (omega (arith, index))
-          ∙ ap (λ (l : List ℕ). c.args.out.now.items ++ l) more
+          ∙ ap (λ (l : List ℕ). l ++ take (place + part - place) (drop place block)) kept.so_far
+          ∙ append_assoc c.args.out.now.items (payload_from first done block) (take (place + part - place) (drop place block))
+          ∙ ap (λ (l : List ℕ). c.args.out.now.items ++ l)
+          (more_at first done part place block kept.place (omega (arith, kept.sector)) (omega (arith, kept.place, kept.sector, kept.some, until, c.requires.place)))
           ∙ ap (λ (k : ℕ). c.args.out.now.items ++ payload_from first k block) next;
       room = omega (arith, kept.room, c.push_reserved.ensures.capacity);
     }
+
+pub push_reserved-requires-2 : goal.push_reserved-requires-2
+push_reserved-requires-2 c =
+    let first = c.args.from in
+    let done = c.args.count - c.loop-part.rest in
+    let kept = c.loop-part.invariant in
+    let place = c.loop-part.place in
+    omega (
+      arith,
+      kept.some,
+      kept.room,
+      ap (λ (l : List ℕ). length l) kept.so_far,
+      length-append c.args.out.now.items (payload_from first done c.args.block.now),
+      length-payload_from first done c.args.block.now,
+      length-take (place + c.loop-part.rest - place) (drop place c.args.block.now),
+    )
+
+pub returns : goal.returns
+returns c =
+    let first = c.args.from in
+    let rest = c.loop-part.rest in
+    let place = c.loop-part.place in
+    let done = c.args.count - rest in
+    let block = c.args.block.now in
+    let kept = c.loop-part.invariant in
+    let last = c.loop-part-test.false in
+    let all : done + rest ≡ c.args.count = omega (arith, kept.some) in
+    c.push_reserved-2.ensures.items
+    ∙ ap (λ (l : List ℕ). l ++ take (place + rest - place) (drop place block)) kept.so_far
+    ∙ append_assoc c.args.out.now.items (payload_from first done block) (take (place + rest - place) (drop place block))
+    ∙ ap (λ (l : List ℕ). c.args.out.now.items ++ l)
+    (more_at first done rest place block kept.place (omega (arith, kept.sector, last)) (omega (arith, kept.place, all, c.requires.place)))
+    ∙ ap (λ (k : ℕ). c.args.out.now.items ++ payload_from first k block) all

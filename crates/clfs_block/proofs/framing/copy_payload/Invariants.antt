@@ -1,14 +1,18 @@
-use Rattle.std.proofs.Common.{◌≡◌, ◌+◌, ◌-◌, ◌≤◌, ◌++◌, length, vec_capacity}
-use Rattle.clfs_block.specs.Frame.{payload_from}
+use Rattle.std.proofs.Common.{◌≡◌, ◌+◌, ◌-◌, ◌%◌, ◌≤◌, ◌++◌, length, vec_capacity}
+use Rattle.clfs_lsn.specs.Format.{sector_payload}
+use Rattle.clfs_block.specs.Frame.{place_of, payload_from}
 use Rattle.clfs_block.proofs.framing.copy_payload.Given as goal
 
-abbrev pub invariant-loop-at : goal.invariant-loop-at
-invariant-loop-at l = record {
-  low : l.fn.from ≤ l.at;
-  high : l.at ≤ l.fn.from + l.fn.count;
-  so_far : l.out.items ≡ l.fn.out.items ++ payload_from l.fn.from (l.at - l.fn.from) l.fn.block;
-  room : length l.fn.out.items + l.fn.count ≤ vec_capacity l.out;
-}
+abbrev pub invariant-loop-part : goal.invariant-loop-part
+invariant-loop-part l =
+    let done = l.fn.count - l.rest in
+    record {
+      some : l.rest ≤ l.fn.count;
+      place : l.place ≡ place_of (l.fn.from + done);
+      sector : (l.fn.from + done) % sector_payload + l.part ≡ sector_payload;
+      so_far : l.out.items ≡ l.fn.out.items ++ payload_from l.fn.from done l.fn.block;
+      room : length l.fn.out.items + l.fn.count ≤ vec_capacity l.out;
+    }
 
-abbrev pub decreases-loop-at : goal.decreases-loop-at
-decreases-loop-at l = l.fn.from + l.fn.count - l.at
+abbrev pub decreases-loop-part : goal.decreases-loop-part
+decreases-loop-part l = l.rest
