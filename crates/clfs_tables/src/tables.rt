@@ -256,6 +256,7 @@ impl Tables {
     }
 
     /// Makes room for one more record of a stream.
+    #[inline(always)]
     pub fn reserve(&mut self, stream: u16) -> Result<(), AllocError>
         requires there { IsNumber self.old.streams stream }
         ensures same { HasSame self.old self.new }
