@@ -18,14 +18,15 @@ none_of status k is no_three no_five no_six (inl e) = no_three (sym is ∙ e)
 none_of status k is no_three no_five no_six (inr (inl e)) = no_five (sym is ∙ e)
 none_of status k is no_three no_five no_six (inr (inr e)) = no_six (sym is ∙ e)
 
-module _ (Serves : Serving) (buffers : ℕ) (old new : DiskState) (s t : State) (kept : IsKeptOn t new)
-    (journal : List Entry) (from : IsTakenFrom buffers old new s t journal) (serves : Serves journal t) where
-  left_by_journal : IsHonest old → IsLeftByJournal old new from.taken.first journal from.taken.last
-  left_by_journal honest = subst (λ (first : State). IsLeftByJournal old new first journal from.taken.last) (sym from.first)
-      (subst (λ (last : State). IsLeftByJournal old new s journal last) (sym from.last) (from.crash honest))
+module _ {D : Type 0} (state : D → DiskState) (Serves : Serving) (buffers : ℕ) (old new : DiskState) (loaded : D) (s t : State) (kept : IsKeptOn t new)
+    (journal : List Entry) (from : IsTakenFrom buffers old (state loaded) new s t journal) (serves : Serves journal t) where
+  left_by_journal : IsHonest old → IsLeftByJournal old (state loaded) new from.taken.first journal from.taken.last
+  left_by_journal honest = subst (λ (first : State). IsLeftByJournal old (state loaded) new first journal from.taken.last) (sym from.first)
+      (subst (λ (last : State). IsLeftByJournal old (state loaded) new s journal last) (sym from.last) (from.crash honest))
 
-  pub is_shared : (broken : Bool) → t.broken ≡ broken → IsShared Serves buffers broken old new
+  pub is_shared : (broken : Bool) → t.broken ≡ broken → IsShared state Serves buffers broken old new
   is_shared broken is = record {
+    loaded = loaded;
     journal = journal;
     taken = from.taken;
     serves = subst (λ (last : State). Serves journal last) (sym from.last) serves;
@@ -38,13 +39,13 @@ module _ (Serves : Serving) (buffers : ℕ) (old new : DiskState) (s t : State) 
 
   -- the status says whether the log is broken, and the sink is told nothing
   pub shared_ends : (status ended : ℕ) (written : Option (List ℕ)) (sink : ℕ) → status ≡ (if t.broken then 4 else 0)
-      → EndsSharing Serves status buffers old new ended written written sink sink
+      → EndsSharing state Serves status buffers old new ended written written sink sink
   shared_ends status ended written sink is = by_end t.broken refl
     where
       own : (broken : Bool) → t.broken ≡ broken → status ≡ (if broken then 4 else 0)
       own broken at = is ∙ ap (λ (b : Bool). if b then 4 else 0) at
 
-      by_end : (broken : Bool) → t.broken ≡ broken → EndsSharing Serves status buffers old new ended written written sink sink
+      by_end : (broken : Bool) → t.broken ≡ broken → EndsSharing state Serves status buffers old new ended written written sink sink
       by_end false at = let zero = own false at in record {
         statuses = inl zero;
         done = λ e. is_shared false at;
@@ -80,9 +81,10 @@ not_done status (inr (inr (inl e))) f = omega (arith, e, f)
 not_done status (inr (inr (inr e))) f = omega (arith, e, f)
 
 -- the log wasn't opened
-pub share_refused : (Serves : Serving) (status buffers : ℕ) (old new : DiskState) (ended : ℕ) (written written' : Option (List ℕ)) (sink sink' : ℕ)
-    → EndsUnopened status old new written written' sink sink' → ended ≡ 0 → EndsSharing Serves status buffers old new ended written written' sink sink'
-share_refused Serves status buffers old new ended written written' sink sink' unopened none = record {
+pub share_refused : {D : Type 0} (state : D → DiskState) (Serves : Serving) (status buffers : ℕ) (old new : DiskState) (ended : ℕ)
+    (written written' : Option (List ℕ)) (sink sink' : ℕ)
+    → EndsUnopened status old new written written' sink sink' → ended ≡ 0 → EndsSharing state Serves status buffers old new ended written written' sink sink'
+share_refused state Serves status buffers old new ended written written' sink sink' unopened none = record {
   statuses = inr unopened.statuses;
   done = λ e. absurd (not_done status unopened.statuses e);
   done_silence = λ e. absurd (not_done status unopened.statuses e);
@@ -97,9 +99,11 @@ share_refused Serves status buffers old new ended written written' sink sink' un
 }
 
 -- memory ran out before a client was served
-pub share_without_memory : (Serves : Serving) (status buffers : ℕ) (old new : DiskState) (ended : ℕ) (written : Option (List ℕ)) (sink : ℕ)
-    → status ≡ 5 → Unchanged old.files new.files → Passes Unchanged old new → ended ≡ 0 → EndsSharing Serves status buffers old new ended written written sink sink
-share_without_memory Serves status buffers old new ended written sink five same time none = record {
+pub share_without_memory : {D : Type 0} (state : D → DiskState) (Serves : Serving) (status buffers : ℕ) (old new : DiskState) (ended : ℕ)
+    (written : Option (List ℕ)) (sink : ℕ)
+    → status ≡ 5 → Unchanged old.files new.files → Passes Unchanged old new → ended ≡ 0
+    → EndsSharing state Serves status buffers old new ended written written sink sink
+share_without_memory state Serves status buffers old new ended written sink five same time none = record {
   statuses = inr (inr (inr (inl five)));
   done = λ e. absurd (omega (arith, five, e));
   done_silence = λ e. absurd (omega (arith, five, e));
@@ -114,15 +118,17 @@ share_without_memory Serves status buffers old new ended written sink five same 
 }
 
 -- the same where the disk wasn't called
-pub share_ran_out : (Serves : Serving) (status buffers : ℕ) (disk : DiskState) (ended : ℕ) (written : Option (List ℕ)) (sink : ℕ) → LeavesFiles disk disk
-    → status ≡ 5 → ended ≡ 0 → EndsSharing Serves status buffers disk disk ended written written sink sink
-share_ran_out Serves status buffers disk ended written sink alone five none =
-    share_without_memory Serves status buffers disk disk ended written sink five alone.same alone.time none
+pub share_ran_out : {D : Type 0} (state : D → DiskState) (Serves : Serving) (status buffers : ℕ) (disk : DiskState) (ended : ℕ)
+    (written : Option (List ℕ)) (sink : ℕ) → LeavesFiles disk disk
+    → status ≡ 5 → ended ≡ 0 → EndsSharing state Serves status buffers disk disk ended written written sink sink
+share_ran_out state Serves status buffers disk ended written sink alone five none =
+    share_without_memory state Serves status buffers disk disk ended written sink five alone.same alone.time none
 
 -- what serves clients in one way serves them in another
-module _ (Serves Others : Serving) (also : (journal : List Entry) (last : State) → Serves journal last → Others journal last) where
-  shared_also : (buffers : ℕ) (broken : Bool) (old new : DiskState) → IsShared Serves buffers broken old new → IsShared Others buffers broken old new
+module _ {D : Type 0} (state : D → DiskState) (Serves Others : Serving) (also : (journal : List Entry) (last : State) → Serves journal last → Others journal last) where
+  shared_also : (buffers : ℕ) (broken : Bool) (old new : DiskState) → IsShared state Serves buffers broken old new → IsShared state Others buffers broken old new
   shared_also buffers broken old new shared = record {
+    loaded = shared.loaded;
     journal = shared.journal;
     taken = shared.taken;
     serves = also shared.journal shared.taken.last shared.serves;
@@ -134,7 +140,7 @@ module _ (Serves Others : Serving) (also : (journal : List Entry) (last : State)
   }
 
   pub ends_also : (status buffers : ℕ) (old new : DiskState) (ended : ℕ) (written written' : Option (List ℕ)) (sink sink' : ℕ)
-      → EndsSharing Serves status buffers old new ended written written' sink sink' → EndsSharing Others status buffers old new ended written written' sink sink'
+      → EndsSharing state Serves status buffers old new ended written written' sink sink' → EndsSharing state Others status buffers old new ended written written' sink sink'
   ends_also status buffers old new ended written written' sink sink' ends = record {
     statuses = ends.statuses;
     done = λ e. shared_also buffers false old new (ends.done e);

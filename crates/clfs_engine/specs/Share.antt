@@ -48,7 +48,9 @@ AreServedAt {P} makes opens left source_faults written sink_faults paths clients
     (openers : List P) × (AreOpeners makes 1 paths openers × AreServed opens left source_faults written sink_faults openers clients journal last)
 
 -- The log on a disk was opened with so many write buffers and shared among clients until all had ended, and it was closed, broken or not.
-pub record IsShared (Serves : Serving) (buffers : ℕ) (broken : Bool) (old new : DiskState) : Type 0 where
+pub record IsShared {D : Type 0} (state : D → DiskState) (Serves : Serving) (buffers : ℕ) (broken : Bool) (old new : DiskState) : Type 0 where
+  -- the disk when the log had been loaded
+  pub loaded : D
   -- the journal is legal, from the state for which the files stand to that which was left
   pub journal : List Entry
   pub taken : HasTaken buffers old new journal
@@ -59,7 +61,7 @@ pub record IsShared (Serves : Serving) (buffers : ℕ) (broken : Bool) (old new 
   -- if it isn't broken the files hold the flushed part of the last state, and nothing is pending
   pub files : broken ≡ false → TellsContents old → HoldsFlushed new.files taken.last
   pub settled : broken ≡ false → IsHonest old → IsSettled new
-  pub crash : IsHonest old → IsLeftByJournal old new taken.first journal taken.last
+  pub crash : IsHonest old → IsLeftByJournal old (state loaded) new taken.first journal taken.last
 
 -- the statuses of sharing
 abbrev pub IsShareStatus : ℕ → Type 0
@@ -67,17 +69,18 @@ IsShareStatus status = (status ≡ 0) ⊎ ((status ≡ 3) ⊎ ((status ≡ 4) �
 
 -- How sharing a log ends: what each status says of the log on the disk, before and after, of how many clients ended, of the bytes that the sink has taken
 -- that is told why the log wasn't opened, and of its count of faults.
-pub record EndsSharing (Serves : Serving) (status buffers : ℕ) (old new : DiskState) (ended : ℕ) (written written_after : Option (List ℕ)) (sink sink_after : ℕ) : Type 0 where
+pub record EndsSharing {D : Type 0} (state : D → DiskState) (Serves : Serving) (status buffers : ℕ) (old new : DiskState) (ended : ℕ)
+    (written written_after : Option (List ℕ)) (sink sink_after : ℕ) : Type 0 where
   -- there is no other status
   pub statuses : IsShareStatus status
   -- all clients have ended, and the log isn't broken
-  pub done : status ≡ 0 → IsShared Serves buffers false old new
+  pub done : status ≡ 0 → IsShared state Serves buffers false old new
   pub done_silence : status ≡ 0 → Appends written written_after []
   -- the sink failed in this call: a front of the line was written that says why the log wasn't opened
   pub sink_fault : status ≡ 3 → ports.Rises sink sink_after
   pub sink_fault_front : status ≡ 3 → WritesFront (IsRefusalText old new) written written_after
   -- all clients have ended, and the log is broken, or the disk failed in this call before the log was opened, and the line that says so was written
-  pub disk_fault : status ≡ 4 → (IsShared Serves buffers true old new × Appends written written_after [])
+  pub disk_fault : status ≡ 4 → (IsShared state Serves buffers true old new × Appends written written_after [])
       ⊎ (RefusesLog DiskFault old new × ((ended ≡ 0) × Appends written written_after disk_fault_text))
   -- memory ran out before a client was served, and no file has changed
   pub no_memory : status ≡ 5 → LeavesFiles old new

@@ -82,7 +82,7 @@ where
     requires at_most { write_buffers ≤ most_write_buffers }
     requires clients { 0 < length openers.items }
     requires few { length openers.items ≤ most_clients }
-    ensures { EndsSharing (AreServed P.opens S.left S.faults K.written K.faults openers.items result.clients.items) result.status write_buffers
+    ensures { EndsSharing D.state (AreServed P.opens S.left S.faults K.written K.faults openers.items result.clients.items) result.status write_buffers
         (D.state disk) (D.state result.disk) (length result.clients.items) (T.written sink.old) (T.written sink.new) (T.faults sink.old) (T.faults sink.new) }
 {
     journals_are_taken_from_logs::<D>();
@@ -172,7 +172,7 @@ where
     K: Sink + Send + Drop,
     T: Sink,
     requires { IsInRange share.now }
-    ensures { EndsSharing (AreServedAt (M.makes maker.now) P.opens S.left S.faults K.written K.faults (asked_of share.now).clients result.clients.items) result.status
+    ensures { EndsSharing D.state (AreServedAt (M.makes maker.now) P.opens S.left S.faults K.written K.faults (asked_of share.now).clients result.clients.items) result.status
         (asked_of share.now).buffers (D.state disk) (D.state result.disk) (length result.clients.items) (T.written sink.old) (T.written sink.new)
         (T.faults sink.old) (T.faults sink.new) }
 {
@@ -202,7 +202,7 @@ where
     K: Sink + Send + Drop,
     T: Sink,
     ensures shares { (asked : Asked) → share_of (map string_bytes words.now) ≡ Some asked
-        → EndsSharing (AreServedAt (M.makes maker.now) P.opens S.left S.faults K.written K.faults asked.clients result.clients.items) result.status asked.buffers
+        → EndsSharing D.state (AreServedAt (M.makes maker.now) P.opens S.left S.faults K.written K.faults asked.clients result.clients.items) result.status asked.buffers
         (D.state disk) (D.state result.disk) (length result.clients.items) (T.written sink.old) (T.written sink.new) (T.faults sink.old) (T.faults sink.new) }
     ensures usage { share_of (map string_bytes words.now) ≡ None
         → EndsByUsage result.status (T.written sink.old) (T.written sink.new) (T.faults sink.old) (T.faults sink.new) }

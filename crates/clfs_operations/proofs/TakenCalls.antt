@@ -113,17 +113,17 @@ module _ (buffers : ℕ) (old mid new : DiskState) (s t : State) (loaded : IsLoa
       by_fault true is = let rose = reached.fault is in omega (arith, rose, loaded.time.faults)
       by_fault false is = let fine = (unbroken told is).0 in let never : true ≡ false = sym broken ∙ fine in cc never
 
-  left_by_journal : IsHonest old → IsLeftByJournal old new s journal t
+  left_by_journal : IsHonest old → IsLeftByJournal old mid new s journal t
   left_by_journal honest = record {
-    from = mid.clock;
-    later = loaded.time.later;
+    same = loaded.same;
+    time = loaded.time;
     left = λ whole full. subst (λ (n : Nature). IsLeftByEntries n.tells_contents whole new.image_at mid.clock new.clock s journal t) loaded.time.nature
         (reached.crash (tells_mid honest.0)
         (subst (λ (n : Nature). IsTrue n.tells_images) (sym loaded.time.nature) honest.1) whole
         (λ is. laws.passes mid.files (whole_same old.files mid.files loaded.same (full is))));
   }
 
-  pub taken_from : IsTakenFrom buffers old new s t journal
+  pub taken_from : IsTakenFrom buffers old mid new s t journal
   unfolding has_taken
   taken_from = record {
     taken = has_taken;

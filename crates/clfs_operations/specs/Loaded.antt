@@ -31,16 +31,16 @@ pub record IsKeptOn (t : State) (new : DiskState) : Type 0 where
   pub files : t.broken ≡ false → TellsContents new → HoldsFlushed new.files t
   pub settled : t.broken ≡ false → IsHonest new → IsSettled new
 
--- From some moment on, at which the log was open, a crash leaves files that hold what survives the next call after a front of the journal, in files of full
--- length where they were so. Calls that ran out of memory, which aren't in the journal, may stand between those that are.
-pub record IsLeftByJournal (old new : DiskState) (first : State) (journal : List Entry) (last : State) : Type 0 where
-  pub from : ℕ
-  pub later : old.clock ≤ from
+-- While the log was loaded nothing was written. From then on a crash leaves files that hold what survives the next call after a front of the journal, in
+-- files of full length where they were so. Calls that ran out of memory, which aren't in the journal, may stand between those that are.
+pub record IsLeftByJournal (old loaded new : DiskState) (first : State) (journal : List Entry) (last : State) : Type 0 where
+  pub same : Unchanged old.files loaded.files
+  pub time : Passes Unchanged old loaded
   pub left : (whole : Bool) → (whole ≡ true → AreWholeFiles old.files)
-      → IsLeftByEntries old.nature.tells_contents whole new.image_at from new.clock first journal last
+      → IsLeftByEntries old.nature.tells_contents whole new.image_at loaded.clock new.clock first journal last
 
--- What is so of a journal that led a log from the state in which it was loaded to another one.
-pub record IsTakenFrom (buffers : ℕ) (old new : DiskState) (s t : State) (journal : List Entry) : Type 0 where
+-- What is so of a journal that led a log from the state in which it was loaded, when the disk was as `loaded`, to another one.
+pub record IsTakenFrom (buffers : ℕ) (old loaded new : DiskState) (s t : State) (journal : List Entry) : Type 0 where
   pub taken : HasTaken buffers old new journal
   pub first : taken.first ≡ s
   pub last : taken.last ≡ t
@@ -49,4 +49,4 @@ pub record IsTakenFrom (buffers : ℕ) (old new : DiskState) (s t : State) (jour
   pub honest : IsHonest old → IsHonest new
   -- over a disk that tells what its files hold only a fault breaks the log
   pub cause : t.broken ≡ true → TellsContents old → Rises old.faults new.faults
-  pub crash : IsHonest old → IsLeftByJournal old new s journal t
+  pub crash : IsHonest old → IsLeftByJournal old loaded new s journal t

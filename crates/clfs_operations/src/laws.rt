@@ -41,7 +41,7 @@ pub fn unopened_logs_are_told<D: Disk>()
 pub fn journals_are_taken_from_logs<D: Disk>()
     ensures { (buffers : ℕ) (old mid new : D) (s t : State) (journal : List Entry)
         → IsLoaded buffers (D.state old) (D.state mid) s → IsKeptOn t (D.state new)
-        → IsReached (opening_of s (D.state mid)) (D.state new) t journal → IsTakenFrom buffers (D.state old) (D.state new) s t journal }
+        → IsReached (opening_of s (D.state mid)) (D.state new) t journal → IsTakenFrom buffers (D.state old) (D.state mid) (D.state new) s t journal }
 {
     unbroken_stays();
     whole_files_pass_the_test();

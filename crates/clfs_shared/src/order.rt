@@ -17,8 +17,9 @@ use clfs_model::Call;
 use std::sync::{Condvar, Mutex, Wait};
 use std::thread::yield_now;
 
-// How often a flush lets other threads run, at most, before it writes.
-const MOST_YIELDS: u32 = 100;
+// How often a flush lets other threads run, at most, before it writes. It takes about half a millisecond, if nobody has work; a client that was answered sends its
+// next record and flush in less.
+const MOST_YIELDS: u32 = 1000;
 
 /// Calls that wait, and where each kind of them sleeps.
 #[derive(Drop)]

@@ -10,7 +10,7 @@ returns-in-Err g c =
     let old = g.D.Disk.state c.args.disk in
     let new = g.D.Disk.state c.in-Err.field-0.disk in
     rw (c.unserved.ensures.status, c.unserved.ensures.disk, c.unserved.ensures.clients)
-    (share_refused _ c.refused.result c.args.write_buffers old new 0 _ _ _ _
+    (share_refused g.D.Disk.state _ c.refused.result c.args.write_buffers old new 0 _ _ _ _
     (c.unopened_logs_are_told.ensures c.refused.result c.in-Err.field-0.cause c.args.disk c.in-Err.field-0.disk _ _ _ _
     (record {
       is = load.refused;
@@ -45,7 +45,7 @@ returns-in-Ok-share g c =
     let kept : IsKeptOn t new = record { files = c.stored-in-Ok-share.ensures.files; settled = c.stored-in-Ok-share.ensures.settled } in
     let from = c.journals_are_taken_from_logs.ensures c.args.write_buffers c.args.disk c.in-Ok.manager.1 shared.manager.1 s t shared.journal loaded kept c.in-Ok-share.ensures.reached in
     rw c.close.ensures
-    (shared_ends _ c.args.write_buffers old new s t kept shared.journal from (c.in-Ok-share.ensures.clients, c.in-Ok-share.ensures.others)
+    (shared_ends g.D.Disk.state _ c.args.write_buffers old new c.in-Ok.manager.1 s t kept shared.journal from (c.in-Ok-share.ensures.clients, c.in-Ok-share.ensures.others)
     c.end_status.result _ _ _ c.end_status.ensures)
 
 -- there was no memory to begin
@@ -53,4 +53,4 @@ pub returns : goal.returns
 returns g c =
     let load = c.in-Ok.ensures in
     rw (c.unserved-in-Err-share.ensures.status, c.unserved-in-Err-share.ensures.disk, c.close-in-Err-share.ensures, c.in-Err-share.ensures.refused.0, c.unserved-in-Err-share.ensures.clients)
-    (share_without_memory _ 5 c.args.write_buffers (g.D.Disk.state c.args.disk) (g.D.Disk.state c.in-Ok.manager.1) 0 _ _ refl load.same.0 load.same.1 refl)
+    (share_without_memory g.D.Disk.state _ 5 c.args.write_buffers (g.D.Disk.state c.args.disk) (g.D.Disk.state c.in-Ok.manager.1) 0 _ _ refl load.same.0 load.same.1 refl)
