@@ -15,7 +15,7 @@ use Rattle.clfs_model.specs.declared.state.State.{State}
 use Rattle.clfs_model.specs.Journals.{GoesOn, IsLegal}
 use Rattle.clfs_recover.specs.Files.{AreWholeFiles}
 use Rattle.clfs_recover.specs.Whole.{are_whole}
-use Rattle.clfs_shared.specs.Crashes.{IsLeftByEntries}
+use Rattle.clfs_shared.specs.Crashes.{IsLeftByEntries, since}
 use Rattle.clfs_shared.specs.Journal.{is_fault, is_damage, has_fault, has_damage}
 use Rattle.clfs_shared.specs.Reached.{opening_of, IsReached}
 use Rattle.clfs_operations.specs.Raced.{HasTaken, is_any_broken}
@@ -117,7 +117,8 @@ module _ (buffers : ℕ) (old mid new : DiskState) (s t : State) (loaded : IsLoa
   left_by_journal honest = record {
     same = loaded.same;
     time = loaded.time;
-    left = λ whole full. subst (λ (n : Nature). IsLeftByEntries n.tells_contents whole new.image_at mid.clock new.clock s journal t) loaded.time.nature
+    opened = loaded.left;
+    left = λ whole full. subst (λ (n : Nature). IsLeftByEntries n.tells_contents whole (since mid.clock new.image_at) mid.clock new.clock s journal t) loaded.time.nature
         (reached.crash (tells_mid honest.0)
         (subst (λ (n : Nature). IsTrue n.tells_images) (sym loaded.time.nature) honest.1) whole
         (λ is. laws.passes mid.files (whole_same old.files mid.files loaded.same (full is))));

@@ -11,7 +11,7 @@ use Rattle.clfs_model.specs.Valid.{IsValid}
 use Rattle.clfs_recover.specs.Files.{StandsFor, AreWholeFiles}
 use Rattle.clfs_manager.specs.Crashes.{CrashSurvives}
 use Rattle.clfs_manager.specs.Reopening.{HoldsFlushed}
-use Rattle.clfs_shared.specs.Crashes.{IsLeftByEntries}
+use Rattle.clfs_shared.specs.Crashes.{IsLeftByEntries, since}
 use Rattle.clfs_operations.specs.Raced.{HasTaken}
 
 -- what loading says of the state and the disk
@@ -31,13 +31,15 @@ pub record IsKeptOn (t : State) (new : DiskState) : Type 0 where
   pub files : t.broken ≡ false → TellsContents new → HoldsFlushed new.files t
   pub settled : t.broken ≡ false → IsHonest new → IsSettled new
 
--- While the log was loaded nothing was written. From then on a crash leaves files that hold what survives the next call after a front of the journal, in
--- files of full length where they were so. Calls that ran out of memory, which aren't in the journal, may stand between those that are.
+-- While the log was loaded nothing was written, and then a crash leaves its flushed part. After that it leaves files that hold what survives the next call
+-- after a front of the journal, in files of full length where they were so. Calls that ran out of memory, which aren't in the journal, may stand between
+-- those that are.
 pub record IsLeftByJournal (old loaded new : DiskState) (first : State) (journal : List Entry) (last : State) : Type 0 where
   pub same : Unchanged old.files loaded.files
   pub time : Passes Unchanged old loaded
+  pub opened : CrashSurvives (bad_line 0) first loaded loaded
   pub left : (whole : Bool) → (whole ≡ true → AreWholeFiles old.files)
-      → IsLeftByEntries old.nature.tells_contents whole new.image_at loaded.clock new.clock first journal last
+      → IsLeftByEntries old.nature.tells_contents whole (since loaded.clock new.image_at) loaded.clock new.clock first journal last
 
 -- What is so of a journal that led a log from the state in which it was loaded, when the disk was as `loaded`, to another one.
 pub record IsTakenFrom (buffers : ℕ) (old loaded new : DiskState) (s t : State) (journal : List Entry) : Type 0 where

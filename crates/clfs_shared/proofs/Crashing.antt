@@ -6,23 +6,15 @@ use Rattle.clfs_disk.specs.State.{DiskState, IsHonest}
 use Rattle.clfs_model.specs.declared.call.Call.{Call}
 use Rattle.clfs_model.specs.declared.journal.Entry.{Entry}
 use Rattle.clfs_model.specs.declared.state.State.{State}
-use Rattle.clfs_model.specs.Run.{asks}
+use Rattle.clfs_model.specs.Run.{asks, bad_line}
 use Rattle.clfs_model.specs.Step.{Step}
 use Rattle.clfs_recover.specs.Files.{AreWholeFiles}
 use Rattle.clfs_manager.specs.Crashes.{CrashSurvives, HoldSurvivor}
-use Rattle.clfs_shared.specs.Crashes.{Images, HoldsAfterCall, HoldsMeanwhile, RunsOutOfMemory, MakesCall, IsLeftByEntries}
+use Rattle.clfs_shared.specs.Crashes.{Images, since, HoldsAfterCall, HoldsMeanwhile, RunsOutOfMemory, MakesCall, IsLeftByEntries}
 
 -- ---- from one moment to another
 
 module _ (holds : Files → Type 0) (images : Images) where
-  -- from a moment to the same one nothing happens
-  pub holds_none : (at : ℕ) (s : State) → HoldsMeanwhile holds images at at s
-  holds_none at s = record {
-    later = omega arith;
-    still = λ _. refl;
-    leaves = λ intact moment image after before left. absurd (omega (arith, after, before));
-  }
-
   -- from one moment to another, and then to a third
   holds_longer : (from to end : ℕ) (s : State) → HoldsMeanwhile holds images from to s → HoldsMeanwhile holds images to end s
       → HoldsMeanwhile holds images from end s
@@ -30,7 +22,7 @@ module _ (holds : Files → Type 0) (images : Images) where
     later = let a = first.later in let b = second.later in omega (arith, a, b);
     still = λ broken. second.still broken ∙ first.still broken;
     leaves = λ intact moment image after before left. elim (cases_lt to moment) [
-      | inl above ↦ second.leaves intact moment image above before left
+      | inl above ↦ second.leaves intact moment image (omega (arith, above)) before left
       | inr not ↦ first.leaves intact moment image after (omega (arith, not)) left
     ];
   }
@@ -109,12 +101,12 @@ left_longer told whole images from to end s t (entry ∷ entries) is more =
 -- an entry stands after the others, while whose call a crash left what survives it
 pub left_more : (told whole : Bool) (images : Images) (from to end : ℕ) (s t u : State) (entries : List Entry) (entry : Entry)
     → IsLeftByEntries told whole images from to s entries t → MakesCall whole images to end t entry.client entry.call
-    → Step told t entry.client entry.call entry.happened entry.reply u → IsLeftByEntries told whole images from end s (entries ++ entry ∷ []) u
-left_more told whole images from to end s t u [] entry is makes step =
+    → Step told t entry.client entry.call entry.happened entry.reply u → RunsOutOfMemory whole images end end u → IsLeftByEntries told whole images from end s (entries ++ entry ∷ []) u
+left_more told whole images from to end s t u [] entry is makes step rests =
     let F : State → Type 0 = λ x. Step told x entry.client entry.call entry.happened entry.reply u in
     let G : State → Type 0 = λ x. MakesCall whole images to end x entry.client entry.call in
-    (to, (is.1, (end, (subst G is.0 makes, (u, (subst F is.0 step, (refl, holds_none (HoldsAfterCall whole u) images end u)))))))
-left_more told whole images from to end s t u (first ∷ entries) entry is makes step =
+    (to, (is.1, (end, (subst G is.0 makes, (u, (subst F is.0 step, (refl, rests)))))))
+left_more told whole images from to end s t u (first ∷ entries) entry is makes step rests =
     let done = is.1.1 in (
       is.0,
       (
@@ -127,7 +119,7 @@ left_more told whole images from to end s t u (first ∷ entries) entry is makes
               done.1.1.0,
               (
                 done.1.1.1.0,
-                left_more told whole images done.0 to end done.1.1.0 t u entries entry done.1.1.1.1 makes step,
+                left_more told whole images done.0 to end done.1.1.0 t u entries entry done.1.1.1.1 makes step rests,
               ),
             ),
           ),
@@ -146,18 +138,29 @@ pub record Spends (s : State) (client : ℕ) (call : Call) (old new : DiskState)
 
 -- what a crash left before the call is what it left then
 pub left_before : (told whole : Bool) (from : ℕ) (first s : State) (client : ℕ) (call : Call) (old new : DiskState) (entries : List Entry)
-    → Spends s client call old new → IsLeftByEntries told whole old.image_at from old.clock first entries s
-    → IsLeftByEntries told whole new.image_at from old.clock first entries s
+    → Spends s client call old new → IsLeftByEntries told whole (since from old.image_at) from old.clock first entries s
+    → IsLeftByEntries told whole (since from new.image_at) from old.clock first entries s
 left_before told whole from first s client call old new entries spends is =
-    left_past told whole old.image_at new.image_at from old.clock old.clock first s entries (omega arith) spends.past is
+    left_past told whole (since from old.image_at) (since from new.image_at) from old.clock old.clock first s entries (omega arith)
+    (λ moment image before left. (left.0, spends.past moment image before left.1)) is
 
 -- while the call was made a crash left what survives it
-pub made_call : (whole : Bool) (s : State) (client : ℕ) (call : Call) (old new : DiskState) → Spends s client call old new → IsHonest old
-    → (s.broken ≡ false → whole ≡ true → AreWholeFiles old.files) → MakesCall whole new.image_at old.clock new.clock s client call
-made_call whole s client call old new spends honest full = record {
+pub made_call : (whole : Bool) (from : ℕ) (s : State) (client : ℕ) (call : Call) (old new : DiskState) → Spends s client call old new → IsHonest old
+    → (s.broken ≡ false → whole ≡ true → AreWholeFiles old.files) → MakesCall whole (since from new.image_at) old.clock new.clock s client call
+made_call whole from s client call old new spends honest full = record {
   later = spends.later;
   still = spends.stopped;
-  leaves = λ intact moment image after before left. (spends.survives intact honest whole (full intact)).each moment image (omega (arith, after)) before left;
+  leaves = λ intact moment image after before left. (spends.survives intact honest whole (full intact)).each moment image after before left.1;
+}
+
+-- at a moment at which no call is made it left the flushed part of the state
+pub at_rest : (whole : Bool) (from : ℕ) (s : State) (disk : DiskState) → CrashSurvives (bad_line 0) s disk disk → IsHonest disk
+    → (s.broken ≡ false → whole ≡ true → AreWholeFiles disk.files) → RunsOutOfMemory whole (since from disk.image_at) disk.clock disk.clock s
+at_rest whole from s disk survives honest full = record {
+  later = omega arith;
+  still = λ _. refl;
+  leaves = λ intact moment image after before left.
+      record { asked = bad_line 0; holds = (survives intact honest whole (full intact)).each moment image after before left.1 };
 }
 
 -- so it left what survives some call
@@ -166,5 +169,5 @@ pub some_call : (whole : Bool) (images : Images) (from to : ℕ) (s : State) (cl
 some_call whole images from to s client call makes = record {
   later = makes.later;
   still = makes.still;
-  leaves = λ intact moment image after before left. record { client = client; call = call; holds = makes.leaves intact moment image after before left };
+  leaves = λ intact moment image after before left. record { asked = asks client call; holds = makes.leaves intact moment image after before left };
 }

@@ -19,7 +19,7 @@ use Rattle.clfs_model.specs.declared.reply.Reply.TheVariants as replies
 use Rattle.clfs_model.specs.declared.state.State.{State}
 use Rattle.clfs_model.specs.Happened.{happened_of, happened_of_refusal}
 use Rattle.clfs_model.specs.Journals.{GoesOn, IsLegal, mine}
-use Rattle.clfs_model.specs.Run.{asks}
+use Rattle.clfs_model.specs.Run.{asks, bad_line}
 use Rattle.clfs_model.specs.Step.{Step, IsBroken, IsDamaged}
 use Rattle.clfs_model.specs.Valid.{IsValid}
 use Rattle.clfs_recover.specs.Files.{AreWholeFiles}
@@ -28,12 +28,12 @@ use Rattle.clfs_manager.specs.Crashes.{CrashSurvives}
 use Rattle.clfs_manager.specs.Written.{WritesDisk}
 use Rattle.clfs_manager.specs.Calls.{IsSmall}
 use Rattle.clfs_shared.specs.declared.opening.Opening.{Opening}
-use Rattle.clfs_shared.specs.Crashes.{IsLeftByEntries, MakesCall}
+use Rattle.clfs_shared.specs.Crashes.{IsLeftByEntries, MakesCall, RunsOutOfMemory, since}
 use Rattle.clfs_shared.specs.Journal.{entry_of, is_fault, is_damage, has_fault, is_out_of_memory}
 use Rattle.clfs_shared.specs.Reached.{IsReached, is_calm}
 use Rattle.clfs_shared.specs.Rooms.{FitsSpare}
 use Rattle.clfs_shared.specs.Sessions.{HasRun}
-use Rattle.clfs_shared.proofs.Crashing.{Spends, left_before, left_longer, left_more, made_call, some_call}
+use Rattle.clfs_shared.proofs.Crashing.{Spends, at_rest, left_before, left_longer, left_more, made_call, some_call}
 
 -- ---- what replies tell
 
@@ -97,15 +97,18 @@ pub record Calls (old new : DiskState) (s t : State) (client : ℕ) (call : Call
   pub writes : WritesDisk (reply ≡ replies.Refused refusals.DiskFault) old new
   pub damage : TellsContents old → IsDamaged reply → ⊥
   pub spends : Spends s client call old new
+  -- and what a crash leaves after it
+  pub rests : CrashSurvives (bad_line 0) t new new
 
 pub calls_by : (old new : DiskState) (s t : State) (client : ℕ) (call : Call) (reply : Reply) → Step old.nature.tells_contents s client call (happened_of reply) reply t
     → WritesDisk (reply ≡ replies.Refused refusals.DiskFault) old new → (TellsContents old → IsDamaged reply → ⊥) → CrashSurvives (asks client call) s old new
-    → (s.broken ≡ true → new.clock ≡ old.clock) → Calls old new s t client call reply
-calls_by old new s t client call reply step writes damage survives stopped = record {
+    → (s.broken ≡ true → new.clock ≡ old.clock) → CrashSurvives (bad_line 0) t new new → Calls old new s t client call reply
+calls_by old new s t client call reply step writes damage survives stopped rests = record {
   step = step;
   writes = writes;
   damage = damage;
   spends = record { later = writes.time.later; past = writes.time.past; stopped = stopped; survives = survives };
+  rests = rests;
 }
 
 -- one disk has one time
@@ -185,16 +188,24 @@ module _ (laws : Laws) (o : Opening) (old new : DiskState) (s t : State) (before
 
   -- what a crash left up to the call
   before_call : o.tells_contents ≡ true → o.tells_images ≡ true → (whole : Bool) → (whole ≡ true → o.is_whole ≡ true)
-      → IsLeftByEntries o.tells_contents whole new.image_at o.moment old.clock o.state before s
+      → IsLeftByEntries o.tells_contents whole (since o.moment new.image_at) o.moment old.clock o.state before s
   before_call tells images whole has =
       left_before o.tells_contents whole o.moment o.state s client call old new before calls.spends (r.crash tells images whole has)
 
   -- what it left during the call
   in_call : o.tells_contents ≡ true → o.tells_images ≡ true → (whole : Bool) → (whole ≡ true → o.is_whole ≡ true)
-      → MakesCall whole new.image_at old.clock new.clock s client call
+      → MakesCall whole (since o.moment new.image_at) old.clock new.clock s client call
   in_call tells images whole has =
-      made_call whole s client call old new calls.spends (r.contents ∙ tells, r.images ∙ images)
+      made_call whole o.moment s client call old new calls.spends (r.contents ∙ tells, r.images ∙ images)
       (λ intact_log is. laws.tells old.files (r.whole tells (has is) intact_log))
+
+  -- and what it leaves after it
+  after_call : o.tells_contents ≡ true → o.tells_images ≡ true → (whole : Bool) → (whole ≡ true → o.is_whole ≡ true)
+      → RunsOutOfMemory whole (since o.moment new.image_at) new.clock new.clock t
+  after_call tells images whole has =
+      at_rest whole o.moment t new calls.rests
+      (ap (λ (n : Nature). n.tells_contents) nature ∙ r.contents ∙ tells, ap (λ (n : Nature). n.tells_images) nature ∙ r.images ∙ images)
+      (λ intact_log is. laws.tells new.files (full tells (has is) intact_log))
 
   -- a call that ran out of memory added no entry and left the state as it was
   pub reached_still : t ≡ s → IsReached o new t before
@@ -209,8 +220,8 @@ module _ (laws : Laws) (o : Opening) (old new : DiskState) (s t : State) (before
     calm = r.calm;
     whole = λ tells whole whole_log. full tells whole (ap (λ (x : State). x.broken) same ∙ whole_log);
     crash = λ tells images whole has.
-        left_longer o.tells_contents whole new.image_at o.moment old.clock new.clock o.state s before (before_call tells images whole has)
-        (some_call whole new.image_at old.clock new.clock s client call (in_call tells images whole has));
+        left_longer o.tells_contents whole (since o.moment new.image_at) o.moment old.clock new.clock o.state s before (before_call tells images whole has)
+        (some_call whole (since o.moment new.image_at) old.clock new.clock s client call (in_call tells images whole has));
   })
 
   -- the entry of the call
@@ -247,8 +258,8 @@ module _ (laws : Laws) (o : Opening) (old new : DiskState) (s t : State) (before
     calm = λ calm. none_more (λ (e : Entry). is_fault e.happened) before entry (r.calm calm) (calm_reply calm);
     whole = full;
     crash = λ tells images whole has.
-        left_more o.tells_contents whole new.image_at o.moment old.clock new.clock o.state s t before entry
-        (before_call tells images whole has) (in_call tells images whole has) step_told;
+        left_more o.tells_contents whole (since o.moment new.image_at) o.moment old.clock new.clock o.state s t before entry
+        (before_call tells images whole has) (in_call tells images whole has) step_told (after_call tells images whole has);
   })
 
 -- the same where the list has another name

@@ -4,7 +4,7 @@ use Rattle.clfs_disk.specs.Files.{Files}
 use Rattle.clfs_model.specs.declared.call.Call.{Call}
 use Rattle.clfs_model.specs.declared.journal.Entry.{Entry}
 use Rattle.clfs_model.specs.declared.state.State.{State}
-use Rattle.clfs_model.specs.Run.{asks}
+use Rattle.clfs_model.specs.Run.{Request, asks}
 use Rattle.clfs_model.specs.Step.{Step}
 use Rattle.clfs_manager.specs.Crashes.{HoldSurvivor}
 
@@ -12,18 +12,21 @@ use Rattle.clfs_manager.specs.Crashes.{HoldSurvivor}
 abbrev pub Images : Type 1
 Images = ℕ → Files → Type 0
 
--- Files hold what survives some call that was under way from a state. With `whole` they are at full length.
-pub record HoldsAfterCall (whole : Bool) (s : State) (files : Files) : Type 0 where
-  pub client : ℕ
-  pub call : Call
-  pub holds : HoldSurvivor whole (asks client call) s files
+-- what it leaves at the moments after one
+abbrev pub since : ℕ → Images → Images
+since from images moment image = (from < moment) × images moment image
 
--- A crash at a moment after the first, up to the second, leaves files of which this holds. A broken log makes no call on the disk, so that no time
--- passes.
+-- Files hold what survives some request that was under way from a state, or none. With `whole` they are at full length.
+pub record HoldsAfterCall (whole : Bool) (s : State) (files : Files) : Type 0 where
+  pub asked : Request
+  pub holds : HoldSurvivor whole asked s files
+
+-- A crash at a moment from the first to the second, at these too, leaves files of which this holds. A broken log makes no call on the disk, so that no
+-- time passes.
 pub record HoldsMeanwhile (holds : Files → Type 0) (images : Images) (from to : ℕ) (s : State) : Type 0 where
   pub later : from ≤ to
   pub still : s.broken ≡ true → to ≡ from
-  pub leaves : s.broken ≡ false → (moment : ℕ) (image : Files) → from < moment → moment ≤ to → images moment image → holds image
+  pub leaves : s.broken ≡ false → (moment : ℕ) (image : Files) → from ≤ moment → moment ≤ to → images moment image → holds image
 
 -- from one moment to another at most such calls were made from this state as ran out of memory, which changed nothing
 abbrev pub RunsOutOfMemory : Bool → Images → ℕ → ℕ → State → Type 0
@@ -34,7 +37,8 @@ abbrev pub MakesCall : Bool → Images → ℕ → ℕ → State → ℕ → Cal
 MakesCall whole images from to s client call = HoldsMeanwhile (HoldSurvivor whole (asks client call) s) images from to s
 
 -- The calls of these entries were made one after the other, each a step of the log machine. Before each of them, and after the last, at most such
--- calls were made as ran out of memory.
+-- calls were made as ran out of memory. At the moment at which a call has ended, a crash leaves both what survives the call and what survives a request
+-- from the state after it.
 abbrev pub IsLeftByEntries : Bool → Bool → Images → ℕ → ℕ → State → List Entry → State → Type 0
 IsLeftByEntries told whole images from to s [] t = (t ≡ s) × RunsOutOfMemory whole images from to s
 IsLeftByEntries told whole images from to s (entry ∷ entries) t =

@@ -9,7 +9,7 @@ use Rattle.clfs_model.specs.declared.state.State.{State}
 use Rattle.clfs_model.specs.Journals.{IsLegal}
 use Rattle.clfs_recover.specs.Whole.{are_whole}
 use Rattle.clfs_shared.specs.declared.opening.Opening.{Opening}
-use Rattle.clfs_shared.specs.Crashes.{IsLeftByEntries}
+use Rattle.clfs_shared.specs.Crashes.{IsLeftByEntries, since}
 use Rattle.clfs_shared.specs.Journal.{has_fault, has_damage}
 
 -- a log in this state over this disk, as an opening
@@ -42,7 +42,7 @@ pub record IsReached (o : Opening) (disk : DiskState) (s : State) (journal : Lis
   pub calm : is_calm o ≡ true → has_fault journal ≡ false
   pub whole : o.tells_contents ≡ true → o.is_whole ≡ true → s.broken ≡ false → are_whole disk.files ≡ true
   pub crash : o.tells_contents ≡ true → o.tells_images ≡ true → (whole : Bool) → (whole ≡ true → o.is_whole ≡ true)
-      → IsLeftByEntries o.tells_contents whole disk.image_at o.moment disk.clock o.state journal s
+      → IsLeftByEntries o.tells_contents whole (since o.moment disk.image_at) o.moment disk.clock o.state journal s
 
 -- (cited by the lock's own law) a log without entries is at its opening
 pub reached_at_once : (s : State) (disk : DiskState) (journal : List Entry) → journal ≡ [] → IsReached (opening_of s disk) disk s journal
@@ -61,7 +61,7 @@ reached_at_once s disk journal none = let F : List Entry → Type 0 = λ j. IsRe
     record {
       later = le_refl disk.clock;
       still = λ _. refl;
-      leaves = λ _ moment image after before _. absurd (lt_irrefl disk.clock (lt_of_lt_of_le after before));
+      leaves = λ _ moment image _ before left. absurd (lt_irrefl disk.clock (lt_of_lt_of_le left.0 before));
     },
   );
 })

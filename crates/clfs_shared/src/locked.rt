@@ -128,6 +128,7 @@ fn make_call<D: Disk, J: Recorder>(
     };
     value.manager.stored();
     let reply = value.manager.step(client, call);
+    value.manager.stored();
     if is_out_of_memory(&reply) {
         return reply;
     }
