@@ -10,15 +10,18 @@ use Rattle.clfs_disk.specs.State.{DiskState, Nature, TellsContents, IsHonest, Is
 use Rattle.clfs_base.specs.declared.image.BaseImage.{BaseImage}
 use Rattle.clfs_base.specs.declared.refusal.NewestRefusal.{NewestRefusal}
 use Rattle.clfs_base.specs.Slots.{newest_of}
+use Rattle.clfs_model.specs.declared.call.Call.TheVariants as calls
 use Rattle.clfs_model.specs.declared.refusal.Refusal.TheVariants as log_refusals
 use Rattle.clfs_model.specs.declared.state.State.{State}
 use Rattle.clfs_model.specs.Flush.{cut, flushed, IsSame}
+use Rattle.clfs_model.specs.Run.{asks}
 use Rattle.clfs_recover.specs.Files.{StandsFor, FindsBehind, AreListed}
 use Rattle.clfs_recover.specs.Stored.{HaveBlocks}
 use Rattle.clfs_recover.specs.Walk.{Container}
 use Rattle.clfs_recover.specs.declared.parts.Parts.{Parts}
 use Rattle.clfs_recover.specs.declared.refusal.LoadRefusal.{LoadRefusal}
 use Rattle.clfs_recover.specs.declared.refusal.LoadRefusal.TheVariants as loading
+use Rattle.clfs_manager.specs.Crashes.{CrashSurvives}
 use Rattle.clfs_manager.specs.Reopening.{HoldsFlushed}
 use Rattle.clfs_manager.specs.Written.{WritesDisk}
 use Rattle.clfs_archive_form.specs.Form.{IsArchiveOf}
@@ -27,11 +30,13 @@ use Rattle.clfs_restore.specs.Archiving.{IsCause, IsJustLoaded, all_archived}
 use Rattle.clfs_restore.specs.declared.refusal.ArchiveRefusal.{ArchiveRefusal}
 use Rattle.clfs_restore.specs.declared.refusal.ArchiveRefusal.TheVariants as refusals
 use Rattle.clfs_lines.specs.Ends.{AppendsFront}
-use Rattle.clfs_operations.specs.Archiving.{EndsArchive, IsArchiveStatus, IsArchiveText, FailsToMove, IsUnarchived, HasLongArchive, TakesArchive, TellsUnarchived, IsArchiveOutput, NothingFailsArchiving, IsArchivingDone, unarchived_line, unarchived_status}
+use Rattle.clfs_operations.specs.Archiving.{EndsArchive, IsLeftByMove, IsArchiveStatus, IsArchiveText, FailsToMove, IsUnarchived, HasLongArchive, TakesArchive, TellsUnarchived, IsArchiveOutput, NothingFailsArchiving, IsArchivingDone, unarchived_line, unarchived_status}
 use Rattle.clfs_operations.specs.Ends.{disk_fault_text}
 use Rattle.clfs_operations.specs.Opened.{RefusesLog, IsRefusalText, IsNoLogText, TellsRefusal, refusal_line}
 use Rattle.clfs_lines.specs.Answering.{Writes, WritesFront}
 use Rattle.clfs_operations.specs.Loaded.{IsLoaded}
+use Rattle.clfs_operations.specs.Txn.{IsOpenedLog}
+use Rattle.clfs_operations.proofs.Loaded.{left_before}
 use Rattle.clfs_operations.proofs.OnlyRead.{unchanged_later, whole_same}
 use Rattle.clfs_operations.proofs.ServingEnds.{refused_statuses, fault_by, no_log_by, no_log_line, refusal_text}
 use Rattle.clfs_operations.proofs.SoFar.{later_then, stands_still}
@@ -138,6 +143,14 @@ archive_ran_out disk written sink = record {
   no_log = λ e. absurd (omega (arith, e));
   off = λ e. absurd (omega (arith, e));
   too_long = λ e. absurd (omega (arith, e));
+  crash = λ honest. inl (record {
+    later = omega arith;
+    past = λ moment image le at. at;
+    kept = λ moment image le at. at;
+    images = λ moment image after until at. absurd (omega (arith, after, until));
+    faults = omega arith;
+    nature = refl;
+  });
   time = stands_still disk;
   sink_count = omega arith;
 }
@@ -163,6 +176,7 @@ log_refusal_ends status refusal old new written written' sink sink' refuses tell
       (refusal_line refusal, record { refusal = refusal; no_log = is; refuses = refuses; line = no_log_line refusal is }, line);
   off = λ e. absurd (none 11 e refl);
   too_long = λ e. absurd (none 15 e refl);
+  crash = λ honest. inl refuses.time;
   time = unchanged_later old new refuses.time;
   sink_count = tells.sink_count;
 }
@@ -313,6 +327,7 @@ module _ (cause : ArchiveRefusal) (old mid new : DiskState) (first : State) (loa
           (was_off by, subst (λ (c : ArchiveRefusal). Appends written written' (unarchived_line c)) by (said 11 e refl));
       too_long = λ e. let by = is_long cause refl (own 15 e refl) in
           (was_long by.0 by.1, subst (λ (c : ArchiveRefusal). Appends written written' (unarchived_line c)) by.1 (said 15 e refl));
+      crash = λ honest. inl time;
       time = unchanged_later old new time;
       sink_count = told.sink_count;
     }
@@ -334,16 +349,29 @@ cut_ends old new first bytes written written' sink sink' archive same time front
   no_log = λ e. absurd (omega (arith, e));
   off = λ e. absurd (omega (arith, e));
   too_long = λ e. absurd (omega (arith, e));
+  crash = λ honest. inl time;
   time = unchanged_later old new time;
   sink_count = later;
+}
+
+-- what a crash leaves while the tail moves
+moving_left : (old reads new : DiskState) (first : State) → IsOpenedLog old first → Unchanged old.files reads.files → Passes Unchanged old reads → Later reads new
+    → CrashSurvives (asks 1 (calls.SetArchiveTail (flushed first))) first reads new → IsHonest old → IsLeftByMove old new
+moving_left old reads new first opened same time move survives honest = record {
+  first = first;
+  opened = opened;
+  from = reads.clock;
+  later = time.later;
+  before = λ moment image after until is. left_before old reads time moment image after until (move.past moment image (omega (arith, until)) is);
+  moving = λ whole full. (survives opened.begins (honest_later old reads time.nature honest) whole (λ e. whole_same old.files reads.files same (full e))).each;
 }
 
 -- all of it was taken, and the tail moved
 pub moved_ends : (old mid reads new : DiskState) (first last : State) (bytes : List ℕ) (written written' : Option (List ℕ)) (sink sink' : ℕ)
     → IsArchiveText old first bytes → IsLoaded 4 old mid first → Unchanged old.files reads.files → Passes Unchanged old reads → last ≡ all_archived first
     → (last.broken ≡ false → TellsContents new → HoldsFlushed new.files last) → (last.broken ≡ false → IsHonest new → IsSettled new) → WritesDisk ⊥ reads new
-    → Appends written written' bytes → sink ≤ sink' → EndsArchive 0 old new written written' sink sink'
-moved_ends old mid reads new first last bytes written written' sink sink' archive loaded same time is files settled writes taken later = record {
+    → CrashSurvives (asks 1 (calls.SetArchiveTail (flushed first))) first reads new → Appends written written' bytes → sink ≤ sink' → EndsArchive 0 old new written written' sink sink'
+moved_ends old mid reads new first last bytes written written' sink sink' archive loaded same time is files settled writes survives taken later = record {
   statuses = inl refl;
   done = λ e. (
     bytes,
@@ -357,7 +385,7 @@ moved_ends old mid reads new first last bytes written written' sink sink' archiv
     },
     taken,
   );
-  kept = inr (record { first = first; bytes = bytes; archive = archive; rest = []; taken = subst (Appends written written') (sym (append-nil bytes)) taken });
+  kept = inr taken_all;
   sink_fault = λ e. absurd (omega (arith, e));
   sink_fault_front = λ e. absurd (omega (arith, e));
   disk_fault = λ e. absurd (omega (arith, e));
@@ -365,10 +393,14 @@ moved_ends old mid reads new first last bytes written written' sink sink' archiv
   no_log = λ e. absurd (omega (arith, e));
   off = λ e. absurd (omega (arith, e));
   too_long = λ e. absurd (omega (arith, e));
+  crash = λ honest. inr (taken_all, moving_left old reads new first archive.opened same time writes.time survives honest);
   time = later_all;
   sink_count = later;
 }
   where
+    taken_all : TakesArchive old written written'
+    taken_all = record { first = first; bytes = bytes; archive = archive; rest = []; taken = subst (Appends written written') (sym (append-nil bytes)) taken }
+
     later_all : Later old new
     later_all = later_then old reads new (unchanged_later old reads time) writes.time
 
@@ -382,10 +414,10 @@ moved_ends old mid reads new first last bytes written written' sink sink' archiv
 -- all of it was taken, and the disk failed where the tail moves; the line that says so was written, or the sink failed in it
 pub unmoved_ends : (status : ℕ) (old reads new : DiskState) (first : State) (bytes : List ℕ) (written mid written' : Option (List ℕ)) (sink between sink' : ℕ)
     → IsArchiveText old first bytes → Unchanged old.files reads.files → Passes Unchanged old reads → WritesDisk (Unit {0}) reads new
-    → Appends written mid bytes → sink ≤ between → (status ≡ 4) ⊎ (status ≡ 3) → (status ≡ 4 → Appends mid written' disk_fault_text)
+    → CrashSurvives (asks 1 (calls.SetArchiveTail (flushed first))) first reads new → Appends written mid bytes → sink ≤ between → (status ≡ 4) ⊎ (status ≡ 3) → (status ≡ 4 → Appends mid written' disk_fault_text)
     → (status ≡ 3 → AppendsFront mid written' disk_fault_text) → (status ≡ 3 → ports.Rises between sink') → between ≤ sink'
     → EndsArchive status old new written written' sink sink'
-unmoved_ends status old reads new first bytes written mid written' sink between sink' archive same time writes taken before ends line front rose later = record {
+unmoved_ends status old reads new first bytes written mid written' sink between sink' archive same time writes survives taken before ends line front rose later = record {
   statuses = statuses ends;
   done = λ e. absurd (none 0 e refl);
   kept = inr kept_by;
@@ -396,6 +428,7 @@ unmoved_ends status old reads new first bytes written mid written' sink between 
   no_log = λ e. absurd (none 6 e refl);
   off = λ e. absurd (none 11 e refl);
   too_long = λ e. absurd (none 15 e refl);
+  crash = λ honest. inr (kept_by, moving_left old reads new first archive.opened same time writes.time survives honest);
   time = later_then old reads new (unchanged_later old reads time) writes.time;
   sink_count = omega (arith, before, later);
 }

@@ -1,15 +1,18 @@
 -- How archiving a log ends.
-use Rattle.std.specs.Prelude.{◌≡◌, ◌≢◌, ◌⊎◌, ℕ, ◌<◌, ◌≤◌, List, [], ◌++◌, codes, length, Option, None}
+use Rattle.std.specs.Prelude.{◌≡◌, ◌≢◌, ◌⊎◌, ℕ, ◌<◌, ◌≤◌, Bool, true, List, [], ◌++◌, codes, length, Option, None}
 use Rattle.std.specs.Io.KnownBytes.{Appends}
 use Rattle.clfs_ports.specs.Cause as ports
 use Rattle.clfs_disk.specs.Files.{Files, Unchanged}
-use Rattle.clfs_disk.specs.State.{DiskState, TellsContents, IsHonest, IsSettled, IsSteady, Later, Rises}
+use Rattle.clfs_disk.specs.State.{DiskState, TellsContents, IsHonest, IsSettled, IsSteady, Later, MayLeave, Passes, Rises}
+use Rattle.clfs_model.specs.declared.call.Call.TheVariants as calls
 use Rattle.clfs_model.specs.declared.refusal.Refusal.TheVariants.{Ephemeral, Damaged}
 use Rattle.clfs_model.specs.declared.state.State.{State}
-use Rattle.clfs_model.specs.Flush.{IsSame}
+use Rattle.clfs_model.specs.Flush.{IsSame, flushed}
+use Rattle.clfs_model.specs.Run.{asks}
 use Rattle.clfs_recover.specs.Files.{StandsFor, AreWholeFiles}
 use Rattle.clfs_recover.specs.declared.refusal.LoadRefusal.TheVariants.{DiskFault}
 use Rattle.clfs_recover.specs.declared.refusal.LoadRefusal.TheVariants as loading
+use Rattle.clfs_manager.specs.Crashes.{HoldSurvivor}
 use Rattle.clfs_archive_form.specs.Form.{IsArchiveOf}
 use Rattle.clfs_archive_form.specs.Drafting.{most_archive}
 use Rattle.clfs_restore.specs.Archiving.{all_archived}
@@ -113,6 +116,19 @@ pub record TakesArchive (old : DiskState) (written written_after : Option (List 
   pub rest : List ℕ
   pub taken : Appends written written_after (bytes ++ rest)
 
+-- Nothing was written until the archive tail of a log that was opened began to move to its flushed LSN: till then a crash leaves what it would have left at
+-- first, and from then on what survives that move, in files of full length where they were so.
+pub record IsLeftByMove (old new : DiskState) : Type 0 where
+  pub first : State
+  pub opened : IsOpenedLog old first
+  pub from : ℕ
+  pub later : old.clock ≤ from
+  pub before : (moment : ℕ) (image : Files) → old.clock ≤ moment → moment < from → new.image_at moment image
+      → (left : Files) × (MayLeave old left × Unchanged left image)
+  pub moving : (whole : Bool) → (whole ≡ true → AreWholeFiles old.files)
+      → (moment : ℕ) (image : Files) → from ≤ moment → moment ≤ new.clock → new.image_at moment image
+      → HoldSurvivor whole (asks 1 (calls.SetArchiveTail (flushed first))) first image
+
 -- the statuses of archiving: done; a sink fault, a disk fault, no memory, no log; archiving is off, or the archive is too long
 abbrev pub IsArchiveStatus : ℕ → Type 0
 IsArchiveStatus status =
@@ -140,6 +156,8 @@ pub record EndsArchive (status : ℕ) (old new : DiskState) (written written_aft
   pub off : status ≡ 11 → IsUnarchived old × Appends written written_after archiving_off_text
   -- the archive has more bytes than it may have, and the line that says so was written
   pub too_long : status ≡ 15 → HasLongArchive old × Appends written written_after archive_too_long_text
+  -- a crash leaves what it would have left before, or, once the sink has taken the whole archive, what survives the move of the tail
+  pub crash : IsHonest old → Passes Unchanged old new ⊎ (TakesArchive old written written_after × IsLeftByMove old new)
   -- time only goes on, and the count of the sink's faults never falls
   pub time : Later old new
   pub sink_count : sink ≤ sink_after

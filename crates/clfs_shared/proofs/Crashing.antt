@@ -7,7 +7,7 @@ use Rattle.clfs_model.specs.declared.call.Call.{Call}
 use Rattle.clfs_model.specs.declared.journal.Entry.{Entry}
 use Rattle.clfs_model.specs.declared.state.State.{State}
 use Rattle.clfs_model.specs.Run.{asks, bad_line}
-use Rattle.clfs_model.specs.Step.{Step}
+use Rattle.clfs_model.specs.Step.{Step, takes_memory}
 use Rattle.clfs_recover.specs.Files.{AreWholeFiles}
 use Rattle.clfs_manager.specs.Crashes.{CrashSurvives, HoldSurvivor}
 use Rattle.clfs_shared.specs.Crashes.{Images, since, HoldsAfterCall, HoldsMeanwhile, RunsOutOfMemory, MakesCall, IsLeftByEntries}
@@ -160,14 +160,14 @@ at_rest whole from s disk survives honest full = record {
   later = omega arith;
   still = λ _. refl;
   leaves = λ intact moment image after before left.
-      record { asked = bad_line 0; holds = (survives intact honest whole (full intact)).each moment image after before left.1 };
+      record { asked = bad_line 0; without = refl; holds = (survives intact honest whole (full intact)).each moment image after before left.1 };
 }
 
--- so it left what survives some call
-pub some_call : (whole : Bool) (images : Images) (from to : ℕ) (s : State) (client : ℕ) (call : Call) → MakesCall whole images from to s client call
-    → RunsOutOfMemory whole images from to s
-some_call whole images from to s client call makes = record {
+-- so it left what survives some call, if the call takes memory
+pub some_call : (whole : Bool) (images : Images) (from to : ℕ) (s : State) (client : ℕ) (call : Call) → takes_memory call ≡ true
+    → MakesCall whole images from to s client call → RunsOutOfMemory whole images from to s
+some_call whole images from to s client call takes makes = record {
   later = makes.later;
   still = makes.still;
-  leaves = λ intact moment image after before left. record { asked = asks client call; holds = makes.leaves intact moment image after before left };
+  leaves = λ intact moment image after before left. record { asked = asks client call; without = takes; holds = makes.leaves intact moment image after before left };
 }

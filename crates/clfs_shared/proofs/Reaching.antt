@@ -20,8 +20,9 @@ use Rattle.clfs_model.specs.declared.state.State.{State}
 use Rattle.clfs_model.specs.Happened.{happened_of, happened_of_refusal}
 use Rattle.clfs_model.specs.Journals.{GoesOn, IsLegal, mine}
 use Rattle.clfs_model.specs.Run.{asks, bad_line}
-use Rattle.clfs_model.specs.Step.{Step, IsBroken, IsDamaged}
+use Rattle.clfs_model.specs.Step.{Step, IsBroken, IsDamaged, takes_memory}
 use Rattle.clfs_model.specs.Valid.{IsValid}
+use Rattle.clfs_laws.specs.ReplyKinds.{is_reply_of}
 use Rattle.clfs_recover.specs.Files.{AreWholeFiles}
 use Rattle.clfs_recover.specs.Whole.{are_whole}
 use Rattle.clfs_manager.specs.Crashes.{CrashSurvives}
@@ -90,6 +91,8 @@ pub record Laws : Type 0 where
       → s.broken ≡ true → Step told s client call happened reply t → IsBroken s reply t
   pub keeps : (told : Bool) (s : State) (client : ℕ) (call : Call) (happened : Happened) (refusal : Refusal) (t : State)
       → Step told s client call happened (replies.Refused refusal) t → happened_of_refusal refusal ≡ Fine → t ≡ s
+  pub own : (told : Bool) (s : State) (client : ℕ) (call : Call) (happened : Happened) (reply : Reply) (t : State)
+      → Step told s client call happened reply t → is_reply_of call reply ≡ true
 
 -- a call of the manager: its step, and what it does to the disk
 pub record Calls (old new : DiskState) (s t : State) (client : ℕ) (call : Call) (reply : Reply) : Type 0 where
@@ -175,6 +178,12 @@ memory_leaves laws told s t client call reply step wanting =
     let F : Reply → Type 0 = λ r. Step told s client call (happened_of reply) r t in
     laws.keeps told s client call (happened_of reply) refusals.NoMemory t (subst F (memory_is reply wanting) step) refl
 
+-- a call that ran out of memory takes some
+takes_some : Laws → (told : Bool) (s t : State) (client : ℕ) (call : Call) (reply : Reply) → Step told s client call (happened_of reply) reply t
+    → is_out_of_memory reply ≡ true → takes_memory call ≡ true
+takes_some laws told s t client call reply step wanting =
+    subst (λ (r : Reply). is_reply_of call r ≡ true) (memory_is reply wanting) (laws.own told s client call (happened_of reply) reply t step)
+
 module _ (laws : Laws) (o : Opening) (old new : DiskState) (s t : State) (before : List Entry) (client : ℕ) (call : Call) (reply : Reply)
     (calls : Calls old new s t client call reply) (r : IsReached o old s before) where
   nature : new.nature ≡ old.nature
@@ -208,8 +217,8 @@ module _ (laws : Laws) (o : Opening) (old new : DiskState) (s t : State) (before
       (λ intact_log is. laws.tells new.files (full tells (has is) intact_log))
 
   -- a call that ran out of memory added no entry and left the state as it was
-  pub reached_still : t ≡ s → IsReached o new t before
-  reached_still same = let F : State → Type 0 = λ u. IsReached o new u before in subst F (sym same) (record {
+  pub reached_still : takes_memory call ≡ true → t ≡ s → IsReached o new t before
+  reached_still takes same = let F : State → Type 0 = λ u. IsReached o new u before in subst F (sym same) (record {
     legal = r.legal;
     contents = ap (λ (n : Nature). n.tells_contents) nature ∙ r.contents;
     images = ap (λ (n : Nature). n.tells_images) nature ∙ r.images;
@@ -221,7 +230,7 @@ module _ (laws : Laws) (o : Opening) (old new : DiskState) (s t : State) (before
     whole = λ tells whole whole_log. full tells whole (ap (λ (x : State). x.broken) same ∙ whole_log);
     crash = λ tells images whole has.
         left_longer o.tells_contents whole (since o.moment new.image_at) o.moment old.clock new.clock o.state s before (before_call tells images whole has)
-        (some_call whole (since o.moment new.image_at) old.clock new.clock s client call (in_call tells images whole has));
+        (some_call whole (since o.moment new.image_at) old.clock new.clock s client call takes (in_call tells images whole has));
   })
 
   -- the entry of the call
@@ -268,4 +277,5 @@ pub still_at : (laws : Laws) (o : Opening) (old new : DiskState) (s t : State) (
 still_at laws o old new s t before now client call reply calls r wanting same =
     let F : List Entry → Type 0 = λ j. IsReached o new t j in
     subst F (sym same) (reached_still laws o old new s t before client call reply calls r
+    (takes_some laws old.nature.tells_contents s t client call reply calls.step wanting)
     (memory_leaves laws old.nature.tells_contents s t client call reply calls.step wanting))

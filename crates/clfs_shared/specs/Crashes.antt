@@ -4,8 +4,8 @@ use Rattle.clfs_disk.specs.Files.{Files}
 use Rattle.clfs_model.specs.declared.call.Call.{Call}
 use Rattle.clfs_model.specs.declared.journal.Entry.{Entry}
 use Rattle.clfs_model.specs.declared.state.State.{State}
-use Rattle.clfs_model.specs.Run.{Request, asks}
-use Rattle.clfs_model.specs.Step.{Step}
+use Rattle.clfs_model.specs.Run.{Request, asks, reopens, bad_line}
+use Rattle.clfs_model.specs.Step.{Step, takes_memory}
 use Rattle.clfs_manager.specs.Crashes.{HoldSurvivor}
 
 -- what a crash leaves at each moment
@@ -16,9 +16,16 @@ Images = ℕ → Files → Type 0
 abbrev pub since : ℕ → Images → Images
 since from images moment image = (from < moment) × images moment image
 
--- Files hold what survives some request that was under way from a state, or none. With `whole` they are at full length.
+-- a request that may leave no entry: it takes memory, or it asks for nothing
+abbrev pub may_leave_none : Request → Bool
+may_leave_none (asks client call) = takes_memory call
+may_leave_none (reopens client) = false
+may_leave_none (bad_line at) = true
+
+-- Files hold what survives some such request that was under way from a state. With `whole` they are at full length.
 pub record HoldsAfterCall (whole : Bool) (s : State) (files : Files) : Type 0 where
   pub asked : Request
+  pub without : may_leave_none asked ≡ true
   pub holds : HoldSurvivor whole asked s files
 
 -- A crash at a moment from the first to the second, at these too, leaves files of which this holds. A broken log makes no call on the disk, so that no
@@ -37,7 +44,7 @@ abbrev pub MakesCall : Bool → Images → ℕ → ℕ → State → ℕ → Cal
 MakesCall whole images from to s client call = HoldsMeanwhile (HoldSurvivor whole (asks client call) s) images from to s
 
 -- The calls of these entries were made one after the other, each a step of the log machine. Before each of them, and after the last, at most such
--- calls were made as ran out of memory. At the moment at which a call has ended, a crash leaves both what survives the call and what survives a request
+-- calls were made as ran out of memory. At the moment at which a call has ended, a crash leaves both what survives the call and what survives such a request
 -- from the state after it.
 abbrev pub IsLeftByEntries : Bool → Bool → Images → ℕ → ℕ → State → List Entry → State → Type 0
 IsLeftByEntries told whole images from to s [] t = (t ≡ s) × RunsOutOfMemory whole images from to s

@@ -13,6 +13,7 @@ use crate::recorder::Recorder;
 use clfs_disk::Disk;
 use clfs_laws::{
     broken_stays, extents_are_few, faults_break, journals_join, refusals_change_nothing,
+    replies_are_of_their_calls,
 };
 use clfs_manager::Manager;
 use clfs_model::{Call, Entry, Refusal, Reply};
@@ -122,6 +123,7 @@ fn make_call<D: Disk, J: Recorder>(
     faults_break();
     journals_join();
     refusals_change_nothing();
+    replies_are_of_their_calls();
     whole_files_pass_the_test();
     let Ok(prepared) = value.journal.prepare(call) else {
         return Reply::Refused(Refusal::NoMemory);

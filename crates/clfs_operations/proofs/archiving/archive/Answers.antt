@@ -1,6 +1,12 @@
 use Rattle.std.proofs.Common.{◌≡◌, sym, ap, subst, ◌∙◌, None, arith}
 use Rattle.std.specs.Prelude.{Err, IsTrue}
 use Rattle.clfs_disk.specs.Files.{Unchanged}
+use Rattle.clfs_disk.specs.State.{DiskState}
+use Rattle.clfs_model.specs.declared.call.Call.TheVariants as calls
+use Rattle.clfs_model.specs.declared.state.State.{State}
+use Rattle.clfs_model.specs.Flush.{flushed}
+use Rattle.clfs_model.specs.Run.{asks}
+use Rattle.clfs_manager.specs.Crashes.{CrashSurvives}
 use Rattle.clfs_restore.specs.Archiving.{all_archived}
 use Rattle.clfs_operations.proofs.ArchiveEnds.{just_loaded, archive_text, log_refusal_ends, unarchived_ends, cut_ends, moved_ends, unmoved_ends, archiving_is_done, not_off, not_long}
 use Rattle.clfs_operations.specs.Loaded.{IsLoaded}
@@ -87,6 +93,11 @@ returns-in-Err-write_all-clause-ends g c =
     rw c.close-disk-in-Err-write_all.ensures (cut_ends old after first c.write_archive.new.out _ _ _ _ archive same time (rw c.as_slice.ensures at front)
     c.in-Err-write_all.ensures.cause.failed c.write_all.ensures.cause.later)
 
+-- what survives the move of the tail, by the state that was opened
+survives_move : (old new : DiskState) (s first : State) → s ≡ first → CrashSurvives (asks 1 (calls.SetArchiveTail (flushed s))) s old new
+    → CrashSurvives (asks 1 (calls.SetArchiveTail (flushed first))) first old new
+survives_move old new s first still survives = subst (λ (u : State). CrashSurvives (asks 1 (calls.SetArchiveTail (flushed u))) u old new) still survives
+
 pub returns-clause-ends : goal.returns-clause-ends
 returns-clause-ends g c =
     let old = g.D.Disk.state c.args.disk in
@@ -116,10 +127,11 @@ returns-clause-ends g c =
     rw c.close-disk-2.ensures (elim c.match-move_tail.branch [
       | in-Ok-move_tail w ↦ rw (w.status-is, w.sink-is) (moved_ends old mid after new first c.move_tail.new.manager.0 c.write_archive.new.out _ _ _ _
           archive opened same time (w.in-Ok-move_tail.ensures.moved ∙ ap all_archived still) c.stored-2.ensures.files c.stored-2.ensures.settled
-          (writes_as _ ⊥ after new (λ e. absurd (cc e)) (λ f. absurd f) w.in-Ok-move_tail.ensures.writes) taken c.write_all.ensures.cause.later)
+          (writes_as _ ⊥ after new (λ e. absurd (cc e)) (λ f. absurd f) w.in-Ok-move_tail.ensures.writes)
+          (survives_move after new _ first still (w.in-Ok-move_tail.ensures.moments 1)) taken c.write_all.ensures.cause.later)
       | in-Err-move_tail w ↦ rw (w.status-is, w.sink-is) (unmoved_ends w.printed-status.result old after new first c.write_archive.new.out _ _ _ _ _ _
           archive same time (writes_as _ (Unit {0}) after new (λ f. tt) (λ u. ap Err w.in-Err-move_tail.ensures.refused.0) w.in-Err-move_tail.ensures.writes)
-          taken c.write_all.ensures.cause.later w.printed-status.ensures.status w.printed-status.ensures.whole w.printed-status.ensures.front
+          (survives_move after new _ first still (w.in-Err-move_tail.ensures.moments 1)) taken c.write_all.ensures.cause.later w.printed-status.ensures.status w.printed-status.ensures.whole w.printed-status.ensures.front
           w.printed-status.ensures.cause w.printed-status.ensures.later)
     ])
 

@@ -17,6 +17,7 @@ returns-clause-lawful g c = λ o reached.
       breaks = c.faults_break.ensures.fault;
       stays = c.broken_stays.ensures.calls;
       keeps = c.refusals_change_nothing.ensures.calls;
+      own = c.replies_are_of_their_calls.ensures.kind;
     }) o (disk x.manager.1) (disk next.1) x.manager.0 next.0 (entries x.journal) c.args.client c.args.call.now reply
     (calls_by (disk x.manager.1) (disk next.1) x.manager.0 next.0 c.args.client c.args.call.now reply c.step-reply.ensures.step c.step-reply.ensures.writes
     c.step-reply.ensures.damage c.step-reply.ensures.moments (λ broken. same_clock disk next.1 x.manager.1 (c.step-reply.ensures.stopped broken)) (c.stored-2.ensures.survives_nothing 0))
@@ -37,6 +38,7 @@ returns-then-is_out_of_memory-clause-lawful g c = λ o reached.
       breaks = c.faults_break.ensures.fault;
       stays = c.broken_stays.ensures.calls;
       keeps = c.refusals_change_nothing.ensures.calls;
+      own = c.replies_are_of_their_calls.ensures.kind;
     }) o (disk x.manager.1) (disk next.1) x.manager.0 next.0 (entries x.journal) (entries c.prepare.new.self) c.args.client c.args.call.now reply
     (calls_by (disk x.manager.1) (disk next.1) x.manager.0 next.0 c.args.client c.args.call.now reply c.step-reply.ensures.step c.step-reply.ensures.writes
     c.step-reply.ensures.damage c.step-reply.ensures.moments (λ broken. same_clock disk next.1 x.manager.1 (c.step-reply.ensures.stopped broken)) (c.stored-2.ensures.survives_nothing 0))
@@ -58,6 +60,7 @@ returns-then-is_out_of_memory-clause-ran g c =
       breaks = c.faults_break.ensures.fault;
       stays = c.broken_stays.ensures.calls;
       keeps = c.refusals_change_nothing.ensures.calls;
+      own = c.replies_are_of_their_calls.ensures.kind;
     }) told x.manager.0 next.0 c.args.client c.args.call.now reply c.step-reply.ensures.step wanting)
 
 pub record-requires-clause-small : goal.record-requires-clause-small
