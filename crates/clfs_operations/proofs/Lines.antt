@@ -16,7 +16,7 @@ use Rattle.clfs_lines.specs.Through as through
 use Rattle.clfs_lines.specs.Through.{AnswersEach, AnswersThrough}
 use Rattle.clfs_operations.specs.Answered.{requests_of, AnswersText, AnswersLines, AnswersInPart}
 use Rattle.clfs_operations.proofs.UnderWay.{none_lines, line_more}
-use Rattle.clfs_operations.proofs.WholeSteps.{AreOwn}
+use Rattle.clfs_operations.proofs.WholeSteps.{StayUnbroken}
 
 -- ---- the replies as texts
 
@@ -69,15 +69,15 @@ record AreTold (s : State) (old : DiskState) (t : State) (new : DiskState) (line
 none_told : (s : State) (old : DiskState) → AreTold s old s old [] []
 none_told s old = record { text = []; given = none_lines s old; texts = refl; all = refl }
 
-one_told : AreOwn → (s : State) (old : DiskState) (done before : List (List ℕ)) (line reply : List ℕ) (mid : State) (between : DiskState) (t : State) (new : DiskState)
+one_told : StayUnbroken → (s : State) (old : DiskState) (done before : List (List ℕ)) (line reply : List ℕ) (mid : State) (between : DiskState) (t : State) (new : DiskState)
     → AreTold s old mid between done before → AnswersText mid between line reply t new → AreTold s old t new (done ++ line ∷ []) (before ++ reply ∷ [])
 unfolding line_more
-one_told own s old done before line reply mid between t new so_far one =
+one_told stay s old done before line reply mid between t new so_far one =
     let request : Request = line_request (without_return line) in
     let requests : requests_of (done ++ line ∷ []) ≡ requests_of done ++ request ∷ [] = map-append (λ (l : List ℕ). line_request (without_return l)) done (line ∷ []) in
     let given = so_far.given in record {
       text = so_far.text ++ reply_line (client_of request) one.reply;
-      given = line_more own s old done line mid between so_far.text t new one.reply given one.answered;
+      given = line_more stay s old done line mid between so_far.text t new one.reply given one.answered;
       texts = ap (λ (rs : List Request). texts_of rs (given.answers ++ one.reply ∷ [])) requests
           ∙ texts_more old.nature.tells_contents s (requests_of done) given.answers mid request one.reply given.answered.run
           ∙ ap (λ (texts : List (List ℕ)). texts ++ reply_line (client_of request) one.reply ∷ []) so_far.texts
@@ -89,36 +89,36 @@ one_told own s old done before line reply mid between t new so_far one =
 
 module _ (A : Type 0) (state : A → State) (disk : A → DiskState) where
   -- lines more
-  told_more : AreOwn → (s : State) (old : DiskState) (done before lines replies : List (List ℕ)) (a b : A) → AreTold s old (state a) (disk a) done before
+  told_more : StayUnbroken → (s : State) (old : DiskState) (done before lines replies : List (List ℕ)) (a b : A) → AreTold s old (state a) (disk a) done before
       → AnswersEach (λ (x : A) (line reply : List ℕ) (y : A). AnswersText (state x) (disk x) line reply (state y) (disk y)) a lines replies b
       → AreTold s old (state b) (disk b) (done ++ lines) (before ++ replies)
-  told_more own s old done before [] [] a b so_far each =
+  told_more stay s old done before [] [] a b so_far each =
       subst (λ (x : A). AreTold s old (state x) (disk x) (done ++ []) (before ++ [])) (sym each)
       (subst (λ (ls : List (List ℕ)). AreTold s old (state a) (disk a) ls (before ++ [])) (sym (append-nil done))
       (subst (λ (rs : List (List ℕ)). AreTold s old (state a) (disk a) done rs) (sym (append-nil before)) so_far))
-  told_more own s old done before [] (reply ∷ replies) a b so_far each = absurd each
-  told_more own s old done before (line ∷ lines) [] a b so_far each = absurd each
-  told_more own s old done before (line ∷ lines) (reply ∷ replies) a b so_far each =
+  told_more stay s old done before [] (reply ∷ replies) a b so_far each = absurd each
+  told_more stay s old done before (line ∷ lines) [] a b so_far each = absurd each
+  told_more stay s old done before (line ∷ lines) (reply ∷ replies) a b so_far each =
       let mid : A = each.0 in
-      let more = told_more own s old (done ++ line ∷ []) (before ++ reply ∷ []) lines replies mid b
-      (one_told own s old done before line reply (state a) (disk a) (state mid) (disk mid) so_far each.1.0) each.1.1 in
+      let more = told_more stay s old (done ++ line ∷ []) (before ++ reply ∷ []) lines replies mid b
+      (one_told stay s old done before line reply (state a) (disk a) (state mid) (disk mid) so_far each.1.0) each.1.1 in
       subst (λ (ls : List (List ℕ)). AreTold s old (state b) (disk b) ls (before ++ reply ∷ replies)) (append_assoc done (line ∷ []) lines)
       (subst (λ (rs : List (List ℕ)). AreTold s old (state b) (disk b) ((done ++ line ∷ []) ++ lines) rs) (append_assoc before (reply ∷ []) replies) more)
 
   -- all replies as one text
-  pub answered_lines : AreOwn → (a b : A) (lines : List (List ℕ)) (text : List ℕ)
+  pub answered_lines : StayUnbroken → (a b : A) (lines : List (List ℕ)) (text : List ℕ)
       → AnswersThrough (λ (x : A) (line reply : List ℕ) (y : A). AnswersText (state x) (disk x) line reply (state y) (disk y)) a b lines text
       → AnswersLines (state a) (disk a) (state b) (disk b) lines text
-  answered_lines own a b lines text given =
-      let told = told_more own (state a) (disk a) [] [] lines given.replies a b (none_told (state a) (disk a)) given.each in
+  answered_lines stay a b lines text given =
+      let told = told_more stay (state a) (disk a) [] [] lines given.replies a b (none_told (state a) (disk a)) given.each in
       subst (λ (bytes : List ℕ). AnswersLines (state a) (disk a) (state b) (disk b) lines bytes) (told.all ∙ sym given.is) told.given
 
   -- or all but the last, and a front of it
-  pub answered_in_part : AreOwn → (a b : A) (torn : Bool) (lines : List (List ℕ)) (text : List ℕ)
+  pub answered_in_part : StayUnbroken → (a b : A) (torn : Bool) (lines : List (List ℕ)) (text : List ℕ)
       → through.AnswersInPart (λ (x : A) (line reply : List ℕ) (y : A). AnswersText (state x) (disk x) line reply (state y) (disk y)) a b torn lines text
       → AnswersInPart (state a) (disk a) (state b) (disk b) torn lines text
-  answered_in_part own a b torn lines text part =
-      let told = told_more own (state a) (disk a) [] [] lines part.replies a b (none_told (state a) (disk a)) part.each in
+  answered_in_part stay a b torn lines text part =
+      let told = told_more stay (state a) (disk a) [] [] lines part.replies a b (none_told (state a) (disk a)) part.each in
       let answers = told.given.answers in
       let count : ℕ = length part.whole in
       let split : texts_of (requests_of lines) answers ≡ part.whole ++ part.others = told.texts ∙ sym part.all in

@@ -17,7 +17,7 @@ use Rattle.clfs_operations.specs.Answered.{AnswersOne, AnswersAll}
 use Rattle.clfs_operations.specs.Crashed.{CrashLeavesRun, nothing_asked}
 use Rattle.clfs_operations.specs.Told.{tells_fault, tells_damage, tells_broken, has_fault}
 use Rattle.clfs_operations.proofs.Crashing.{left_more}
-use Rattle.clfs_operations.proofs.WholeSteps.{AreOwn, request_whole}
+use Rattle.clfs_operations.proofs.WholeSteps.{StayUnbroken, request_whole}
 
 -- ---- time
 
@@ -116,10 +116,10 @@ none_answered s disk = record {
 }
 
 -- one more
-pub one_answered : AreOwn → (s : State) (old : DiskState) (requests : List Request) (answers : List Reply) (mid : State) (between : DiskState) (request : Request)
+pub one_answered : StayUnbroken → (s : State) (old : DiskState) (requests : List Request) (answers : List Reply) (mid : State) (between : DiskState) (request : Request)
     (reply : Reply) (t : State) (new : DiskState) → AnswersAll s old requests answers mid between → AnswersOne mid between request reply t new
     → AnswersAll s old (requests ++ request ∷ []) (answers ++ reply ∷ []) t new
-one_answered own s old requests answers mid between request reply t new all one = record {
+one_answered stay s old requests answers mid between request reply t new all one = record {
   run = run_more old.nature.tells_contents s requests answers mid request reply t all.run
       (subst (λ (n : Nature). RequestStep n.tells_contents mid request (happened_of reply) reply t) all.time.nature one.step);
   time = later_then old between new all.time one.writes.time;
@@ -128,7 +128,7 @@ one_answered own s old requests answers mid between request reply t new all one 
   unbroken = λ told whole none.
       let before = neither tells_fault answers reply none in
       let was = all.unbroken told whole before.0 in
-      let left = request_whole own between.nature.tells_contents mid request (happened_of reply) reply t was.0 before.1
+      let left = request_whole stay between.nature.tells_contents mid request (happened_of reply) reply t was.0 before.1
       (no_damage_is reply (one.damage (tells_on told))) one.step in
       (left.whole, none_more tells_broken answers reply was.1 left.says_nothing);
   whole = λ told none are.

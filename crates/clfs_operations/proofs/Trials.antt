@@ -30,7 +30,7 @@ use Rattle.clfs_operations.specs.Told.{tells_fault, tells_damage, has_fault, has
 use Rattle.clfs_operations.specs.Trial.{told_lsn, is_refusal, tally_of, counted, lines_of_trial, HasTried, trial_log, trial_text, IsTrialText}
 use Rattle.clfs_operations.specs.declared.tally.Tally.{Tally}
 use Rattle.clfs_operations.proofs.SoFar.{none_answered, one_answered}
-use Rattle.clfs_operations.proofs.WholeSteps.{AreOwn}
+use Rattle.clfs_operations.proofs.WholeSteps.{StayUnbroken}
 
 -- ---- the lines so far
 
@@ -109,12 +109,12 @@ next_line s old number lines tally generator mid between line before way empty i
     let many : length told ≡ lines = length-map way.tried.answers told_lsn ∙ way.tried.many in
     is number told way.stage ∙ ap (λ b. b ++ line_at number (length told) told) empty ∙ ap (λ k. line_at number k told) many
 
-pub one_tried : AreOwn → (s : State) (old : DiskState) (number lines : ℕ) (tally : Tally) (generator : Stage) (mid : State) (between : DiskState)
+pub one_tried : StayUnbroken → (s : State) (old : DiskState) (number lines : ℕ) (tally : Tally) (generator : Stage) (mid : State) (between : DiskState)
     (way : IsUnderWay s old number lines tally generator mid between) (line : List ℕ) (reply : Reply) (t : State) (new : DiskState) (after : Stage) (more : Tally)
     → line ≡ line_at number lines (map told_lsn way.tried.answers) → AnswersOne mid between (line_request (without_return line)) reply t new
     → ((n : ℕ) (told : List (Option ℕ)) → generator ≡ stage_after n told → after ≡ stage_after n (told ++ told_lsn reply ∷ []))
     → more ≡ counted tally reply → IsUnderWay s old number (lines + 1) more after t new
-one_tried own s old number lines tally generator mid between way line reply t new after more is one moves counts =
+one_tried stay s old number lines tally generator mid between way line reply t new after more is one moves counts =
     let answers = way.tried.answers in
     let told = map told_lsn answers in
     let many : length told ≡ lines = length-map answers told_lsn ∙ way.tried.many in
@@ -131,7 +131,7 @@ one_tried own s old number lines tally generator mid between way line reply t ne
         answers = answers ++ reply ∷ [];
         many = all;
         answered = subst (λ (rs : List Request). AnswersAll s old rs (answers ++ reply ∷ []) t new) (sym requests)
-            (one_answered own s old (requests_of (lines_of_trial number lines answers)) answers mid between (line_request (without_return line)) reply t new way.tried.answered one);
+            (one_answered stay s old (requests_of (lines_of_trial number lines answers)) answers mid between (line_request (without_return line)) reply t new way.tried.answered one);
         sums = sums;
       };
       stage = moves number told way.stage ∙ ap (stage_after number) (sym tells);

@@ -10,7 +10,7 @@ use crate::answering::ScriptLog;
 use crate::refusing::refused;
 use crate::status::Outcome;
 use clfs_disk::Disk;
-use clfs_laws::refusals_are_the_calls_own;
+use clfs_laws::unbroken_stays;
 use clfs_lines::answered;
 use clfs_manager::{LoadRefused, Manager};
 use clfs_ports::{Sink, Source};
@@ -45,7 +45,7 @@ pub fn serve_within<S: Source, K: Sink, D: Disk + Drop>(
         (D.state disk) (D.state result.disk) (S.left source.old) (S.left source.new) (K.written sink.old) (K.written sink.new) }
 {
     files_have_one_meaning();
-    refusals_are_the_calls_own();
+    unbroken_stays();
     match Manager::load_with(alloc, disk, write_buffers, read_buffers) {
         Ok(manager) => {
             let mut log = ScriptLog { manager };

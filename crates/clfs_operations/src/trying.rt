@@ -15,7 +15,7 @@ use crate::making::made_log;
 use crate::refusing::push_number;
 use crate::tally::{Tally, told_lsn};
 use clfs_disk::{Disk, Steady};
-use clfs_laws::refusals_are_the_calls_own;
+use clfs_laws::unbroken_stays;
 use clfs_lines::{DONE, NO_MEMORY, cleared, printed};
 use clfs_lsn::{Bytes, Lsn, Shape};
 use clfs_manager::Manager;
@@ -40,7 +40,7 @@ fn answer_lines<D: Disk>(
     ensures { IfOk result (λ tally. HasTried manager.old.0 (D.state manager.old.1) number (opening_lines + count) tally
         manager.new.0 (D.state manager.new.1)) }
 {
-    refusals_are_the_calls_own();
+    unbroken_stays();
     let mut generator = Generator::new(number);
     let mut line = Bytes::new(alloc);
     let mut tally = Tally::new();

@@ -4,6 +4,7 @@ use Rattle.clfs_operations.proofs.Loaded.{is_answered, is_answered_in_part}
 use Rattle.clfs_operations.specs.Loaded.{IsLoaded, IsKeptOn}
 use Rattle.clfs_operations.proofs.ServingEnds.{answering_serves, refusal_serves}
 use Rattle.clfs_operations.proofs.Through.{AreOne, comes_through}
+use Rattle.clfs_operations.proofs.WholeSteps.{StayUnbroken}
 use Rattle.clfs_operations.proofs.serving.serve_within.Goals as goal
 
 pub returns-in-Ok-clause-ends : goal.returns-in-Ok-clause-ends
@@ -25,12 +26,12 @@ returns-in-Ok-clause-ends g c =
       left = c.stored.ensures.survives_nothing 0;
     } in
     let kept : IsKeptOn t new = record { files = c.stored-in-Ok.ensures.files; settled = c.stored-in-Ok.ensures.settled } in
-    let own = c.refusals_are_the_calls_own.ensures.own in
+    let stay : StayUnbroken = record { calls = c.unbroken_stays.ensures.calls; reopening = c.unbroken_stays.ensures.reopening } in
     rw c.close.ensures (answering_serves (script_limits c.args.most) _ _ c.answered-status.result c.args.write_buffers old new _ _ _ _ _ _ _ _
     (λ lines text is. is_answered c.args.write_buffers old mid new s t loaded kept lines text
-    (answered_lines _ (λ log. log.manager.0) (λ log. g.D.Disk.state log.manager.1) own _ _ lines text is))
+    (answered_lines _ (λ log. log.manager.0) (λ log. g.D.Disk.state log.manager.1) stay _ _ lines text is))
     (λ torn lines text is. is_answered_in_part c.args.write_buffers old mid new s t loaded kept torn lines text
-    (answered_in_part _ (λ log. log.manager.0) (λ log. g.D.Disk.state log.manager.1) own _ _ torn lines text is))
+    (answered_in_part _ (λ log. log.manager.0) (λ log. g.D.Disk.state log.manager.1) stay _ _ torn lines text is))
     c.answered-status.ensures)
 
 pub returns-in-Err-clause-ends : goal.returns-in-Err-clause-ends

@@ -20,7 +20,7 @@ loop-preserved g c =
     let line : c.push_line.new.out ≡ line_at c.args.number c.loop.counter (map told_lsn way.tried.answers) =
     next_line s old c.args.number c.loop.counter c.loop.tally c.loop.generator mid between c.push_line.new.out c.cleared-line.result way c.cleared-line.ensures
     c.in_ok-push_line.ensures.line in
-    one_tried c.refusals_are_the_calls_own.ensures.own s old c.args.number c.loop.counter c.loop.tally c.loop.generator mid between way c.as_slice.result.now
+    one_tried (record { calls = c.unbroken_stays.ensures.calls; reopening = c.unbroken_stays.ensures.reopening }) s old c.args.number c.loop.counter c.loop.tally c.loop.generator mid between way c.as_slice.result.now
     c.in_ok-reply.reply c.reply_to_line.new.manager.0 (g.D.Disk.state c.reply_to_line.new.manager.1) c.told.new.self c.counting-tally.result (c.as_slice.ensures ∙ line)
     c.in_ok-reply.ensures
     (λ n told at. c.told.ensures n told at ∙ ap (λ lsn. stage_after n (told ++ lsn ∷ [])) c.told_lsn.ensures)
