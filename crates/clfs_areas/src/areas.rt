@@ -10,6 +10,7 @@ ghost use Rattle.clfs_model.specs.State.{area_of, areas_of, change_first, is_are
 ghost use Rattle.clfs_model.specs.Answers.{unused_area, new_area};
 ghost use Rattle.clfs_model.specs.Put.{with_less_held, with_more_held};
 ghost use Rattle.clfs_model.specs.Reading.{cursor_of, record_cursor, restart_cursor, with_cursor, with_cursor_at, without_cursor};
+ghost use Rattle.clfs_model.specs.Refusals.{too_many_cursors};
 ghost use Rattle.clfs_lsn.specs.Cursors.{unused_cursor};
 ghost use Rattle.clfs_model.specs.Space.{reserved};
 ghost use Rattle.clfs_model.specs.Valid.{AreDifferentAreas};
@@ -19,7 +20,7 @@ use crate::row::{AreaInfo, AreaName, AreaRow, count_of, least_unused, place_of};
 use clfs_cursor::Cursors;
 use clfs_ledger::Reservations;
 use clfs_lsn::Lsn;
-use clfs_model::{Cursor, CursorKind};
+use clfs_model::{Cursor, CursorKind, Refusal};
 use indexmap::IndexSet;
 use std::alloc::{AllocError, Global};
 use std::marker::Model;
@@ -195,6 +196,19 @@ impl Areas {
         ensures { result ≡ length (area_at place self.now.areas).cursors }
     {
         self.cursors.count(place)
+    }
+
+    /// That the area at a place has as many cursors as it may, where it has.
+    pub fn cursor_limit(&self, place: usize) -> Option<Refusal>
+        requires there { place < length self.now.areas }
+        requires few { length (area_at place self.now.areas).cursors < 2 ^ 32 }
+        ensures { result ≡ too_many_cursors (area_at place self.now.areas) }
+    {
+        if !self.is_full(place) {
+            return None;
+        }
+        let open_now = self.cursor_count(place) as u32;
+        Some(Refusal::CursorLimit { open_now })
     }
 
     /// The cursor of a number of the area at a place, whatever it goes over.

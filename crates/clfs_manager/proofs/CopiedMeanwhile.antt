@@ -40,7 +40,7 @@ use Rattle.clfs_manager.proofs.AddedStream.{added, stream_stored}
 use Rattle.clfs_manager.proofs.ArchivedLog.{archived, archived_image, archived_stored, cut_ends, tail_few, tail_fits}
 use Rattle.clfs_manager.proofs.CopiedLog.{copy_stored, hold_kept, policies_stored, stored_among, valid_holds}
 use Rattle.clfs_manager.proofs.Crashes.{crash_stored, meanwhile_of}
-use Rattle.clfs_manager.proofs.FilesHold.{StandByBlocks, HaveByFile}
+use Rattle.clfs_manager.specs.CallLaws.{StandByBlocks, HaveByFile}
 use Rattle.clfs_manager.proofs.MovedBase.{base_stored, moved, moved_below, moved_image}
 use Rattle.clfs_manager.proofs.Reached.{number_there}
 use Rattle.clfs_manager.proofs.Sized.{sized_stored}

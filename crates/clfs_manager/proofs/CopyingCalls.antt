@@ -21,22 +21,15 @@ use Rattle.clfs_model.specs.Storable.{IsStorable}
 use Rattle.clfs_model.specs.Survivors.{Survives}
 use Rattle.clfs_model.specs.Valid.{IsValid}
 use Rattle.clfs_model.specs.Ways.{GoesTheseWays}
+use Rattle.clfs_manager.specs.CallLaws.{CallLaws}
 use Rattle.clfs_manager.specs.Crashes.{CrashLeavesSurvivor, CrashSurvives, StoredMeanwhile}
 use Rattle.clfs_manager.specs.OnDisk.{IsManaged}
 use Rattle.clfs_manager.specs.declared.log.Log.{Log}
 use Rattle.clfs_manager.proofs.AreasChange.{KeepsValid}
 use Rattle.clfs_manager.proofs.CopiedLog.{valid_holds}
-use Rattle.clfs_manager.proofs.Crashes.{SurvivesAfter, after_survives, crash_managed, crash_seen, crash_stored}
-use Rattle.clfs_manager.proofs.FilesHold.{StandByBlocks, HaveByFile}
+use Rattle.clfs_manager.proofs.Crashes.{after_survives, crash_managed, crash_seen, crash_stored}
 
 -- ---- the laws
-
--- what files stand for, and that the flushed parts of the states before and after a call survive it
-pub record CallLaws : Type 0 where
-  pub stands : StandByBlocks
-  pub by_file : HaveByFile
-  pub before : (s : State) (client : ℕ) (call : Call) → IsValid s → Survives (asks client call) s (cut s)
-  pub after : SurvivesAfter
 
 -- the states between those of a reservation
 abbrev pub ReserveSurvives : Type 0

@@ -21,7 +21,7 @@ use Rattle.clfs_manager.specs.declared.log.Log.{Log}
 use Rattle.clfs_manager.proofs.ClosedPlace.{flush_is}
 use Rattle.clfs_manager.proofs.CopiedLog.{laid_holds, valid_holds}
 use Rattle.clfs_manager.proofs.Crashes.{crash_stored, meanwhile_of}
-use Rattle.clfs_manager.proofs.FilesHold.{StandByBlocks, HaveByFile}
+use Rattle.clfs_manager.specs.CallLaws.{StandByBlocks, HaveByFile}
 use Rattle.clfs_manager.proofs.FlushedLog.{done, stored_with}
 use Rattle.clfs_manager.proofs.Restarted.{finished, hold_finished, rebased_is, state_of_group, GroupLaws}
 

@@ -41,7 +41,8 @@ use Rattle.clfs_manager.specs.declared.log.Log.{Log}
 use Rattle.clfs_manager.proofs.ClosedPlace.{flush_is}
 use Rattle.clfs_manager.proofs.FlushedLog.{done, stored_done}
 use Rattle.clfs_manager.proofs.CopiedLog.{valid_holds}
-use Rattle.clfs_manager.proofs.FilesHold.{StandByBlocks, HaveByFile, files_have}
+use Rattle.clfs_manager.specs.CallLaws.{StandByBlocks, HaveByFile, SurvivesAfter}
+use Rattle.clfs_manager.proofs.FilesHold.{files_have}
 use Rattle.clfs_manager.proofs.Intact.{intact_managed, made_of_whole, stores_whole, whole_of_stores}
 use Rattle.clfs_manager.proofs.Joining.{leaves_then, leaves_weaker}
 use Rattle.clfs_manager.proofs.ReadKeeps.{still}
@@ -229,11 +230,6 @@ fine_is s client call whole none =
     else option_map_or (λ first. outcome (replies.Refused first) s) (refusal s client call) (answer s client call)).state in
     let by_refusal : Option Refusal → State = λ o. (option_map_or (λ first. outcome (replies.Refused first) s) o (answer s client call)).state in
     ap by_broken whole ∙ ap by_refusal none
-
--- that the flushed part of what a call leaves survives it
-abbrev pub SurvivesAfter : Type 0
-SurvivesAfter = (s : State) (client : ℕ) (call : Call) → IsValid s → IsStorable s
-    → Survives (asks client call) s (cut (fine_outcome s (asks client call)).state)
 
 pub after_survives : SurvivesAfter → (s t : State) (client : ℕ) (call : Call) → IsValid s → IsStorable s → s.broken ≡ false → refusal s client call ≡ None
     → (answer s client call).state ≡ t → Survives (asks client call) s (cut t)

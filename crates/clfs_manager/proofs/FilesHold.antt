@@ -22,23 +22,13 @@ use Rattle.clfs_physical.specs.Stored.{Newest, Blocks, Stores}
 use Rattle.clfs_recover.specs.Files.{StandsFor}
 use Rattle.clfs_recover.specs.Logs.{IsLogWith, stored_state}
 use Rattle.clfs_recover.specs.Stored.{HasLog}
+use Rattle.clfs_manager.specs.CallLaws.{StandByBlocks, HaveByFile}
 use Rattle.clfs_manager.specs.OnDisk.{IsStored}
 use Rattle.clfs_manager.specs.Reopening.{HoldsFlushed}
 use Rattle.clfs_manager.proofs.Reached.{hold_below_live}
 use Rattle.clfs_manager.proofs.SameCut.{same_from}
 
 -- ---- the laws
-
--- a log of a copy and blocks stands for its state
-abbrev pub StandByBlocks : Type 0
-StandByBlocks = (slot : ℕ) (image : BaseImage) (blocks : List (List (List ℕ))) (entries : List LogEntry) (files : Files) (buffers : ℕ)
-    → HasLog slot image blocks files → IsLogWith image blocks entries → StandsFor files (stored_state image blocks entries buffers)
-
--- files that have a copy and blocks by their numbers have the log of these
-abbrev pub HaveByFile : Type 0
-HaveByFile = (slot : ℕ) (image : BaseImage) (blocks : ℕ → List (List ℕ)) (files : Files) → newest_of (files 0) ≡ Ok (slot, image)
-    → ((i : ℕ) → i < length image.files → AreWhole image.container_sectors (files (slice_index image.files i)) (blocks (slice_index image.files i)))
-    → HasLog slot image (map blocks image.files) files
 
 -- opening again may come to the flushed part
 abbrev pub ComesToCut : Type 0

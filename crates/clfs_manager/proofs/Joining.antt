@@ -1,20 +1,8 @@
 -- How calls on a disk are joined.
-use Rattle.std.proofs.Common.{◌≡◌, ⊎_elim, ℕ, zero, suc, ◌+◌, ◌<◌, ◌≤◌, ◌∙◌, ap, length, subst, arith}
+use Rattle.std.proofs.Common.{◌≡◌, ⊎_elim, ℕ, ◌<◌, ◌≤◌, ◌∙◌, subst, arith}
 use Rattle.std.proofs.lemmas.Bool.{cases_lt}
-use Rattle.clfs_disk.specs.Files.{Files, TornIn}
-use Rattle.clfs_disk.specs.State.{DiskState, Passes, Later, Leaves, Rises, raised}
-use Rattle.clfs_physical.specs.Joined.{SameLengths}
-
--- a call that says what changes lets time go on
-pub later_from : (R : Files → Files → Type 0) (a b : DiskState) → Passes R a b → Later a b
-later_from R a b p = record {
-  later = p.later;
-  past = p.past;
-  kept = p.kept;
-  images = λ moment image after until at. let from = p.images moment image after until at in (from.0, from.1, tt);
-  faults = p.faults;
-  nature = p.nature;
-}
+use Rattle.clfs_disk.specs.Files.{Files}
+use Rattle.clfs_disk.specs.State.{DiskState, Later, Leaves}
 
 -- one call after another
 pub later_then : (a b c : DiskState) → Later a b → Later b c → Later a c
@@ -55,16 +43,3 @@ leaves_weaker P Q a b weaker p = record {
   past = p.past;
   each = λ moment image from until at. weaker image (p.each moment image from until at);
 }
-
--- writes to one range of the base file change no length
-pub torn_lengths : (at n : ℕ) (old new : Files) → TornIn 0 at n old new → SameLengths old new
-torn_lengths at n old new torn zero = torn.here.same_length
-torn_lengths at n old new torn (suc file) = ap length (torn.elsewhere (suc file) (λ same. cc same))
-
--- a count after some more, and after more again
-pub raised_twice : (first more old mid new : ℕ) → mid ≡ raised first old → new ≡ raised more mid → new ≡ raised (first + more) old
-raised_twice first more old mid new once twice = omega (arith, once, twice)
-
--- the count of faults rose in the second of two calls
-pub rises_then : (old mid new : ℕ) → old ≤ mid → Rises mid new → Rises old new
-rises_then old mid new no_less rises = omega (arith, no_less, rises)

@@ -1,7 +1,6 @@
 pub mod Joining
 pub mod KeptHeads
 pub mod Settled
-pub mod Copies
 pub mod Made
 pub mod Heads
 pub mod Holding
@@ -21,7 +20,6 @@ pub mod ReadKeeps
 pub mod Reached
 pub mod ReadSteps
 pub mod Numbers
-pub mod Grown
 pub mod Holds
 pub mod Extents
 pub mod CopiedLog
@@ -51,6 +49,7 @@ mod PreparedCall
 mod AppendCall
 pub mod Crashes
 pub mod Stages
+pub mod Changing
 pub mod CrashedRestart
 mod CopiedMeanwhile
 mod CopyingCalls

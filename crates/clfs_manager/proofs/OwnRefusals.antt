@@ -1,6 +1,6 @@
 -- Refusals that are a call's own: none of them is a fault of the disk, and they change nothing.
 use Rattle.std.proofs.Common.{◌≡◌, ℕ, Bool, true, false, refl, sym, ap, subst}
-use Rattle.std.specs.Prelude.{Ok, Err, IsErrAnd, IsErrOf, OnErr, Result, Some}
+use Rattle.std.specs.Prelude.{Ok, Err, IsErrAnd, IsErrOf, Result, Some}
 use Rattle.clfs_disk.specs.State.{DiskState}
 use Rattle.clfs_laws.specs.Refused.{is_of_call}
 use Rattle.clfs_model.specs.declared.call.Call.{Call}
@@ -42,8 +42,3 @@ refused_step ways told s client call given whole own first =
 pub error_of : {A : Type 0} (result : Result A Refusal) (given : Refusal) → IsErrAnd result (λ (error : Refusal). error ≡ given) → result ≡ Err given
 error_of (Ok value) given is = absurd is
 error_of (Err error) given is = ap (λ (e : Refusal). Err e) is
-
--- what is said of any answer
-pub in_err : {A E : Type 0} (result : Result A E) (P : Type 0) → P → OnErr result P
-in_err (Ok value) P is = tt
-in_err (Err error) P is = is

@@ -25,7 +25,7 @@ use Rattle.clfs_model.specs.Reading.{entry_at, next, newest_restart, restart_are
 use Rattle.clfs_model.specs.State.{area_of}
 use Rattle.clfs_model.specs.Storable.{IsAreaWithinLimits, IsCursor}
 use Rattle.clfs_model.specs.Valid.{IsArea}
-use Rattle.clfs_tables.specs.Tables.{IsNumber}
+use Rattle.clfs_tables.specs.Tables.{IsKnown, IsNumber}
 use Rattle.clfs_areas.specs.Table.{area_at, no_area}
 use Rattle.clfs_manager.specs.Memory.{IsSound}
 use Rattle.clfs_manager.specs.Fetching.{IsNeeded, IsNeededHead, Reaches}
@@ -159,9 +159,9 @@ stream_there log place sound within =
     (number_there log.state.value.streams (area_at place log.areas.areas).stream (area_holds (IsArea log.state.value) log.areas.areas place within all).stream)
 
 -- the record that a cursor gave last is known by its head
-pub last_known : (log : Log) (place : ℕ) (cursor : Cursor) → IsSound log → place < length log.areas.areas → Contains (area_at place log.areas.areas).cursors cursor
+last_known : (log : Log) (place : ℕ) (cursor : Cursor) → IsSound log → place < length log.areas.areas → Contains (area_at place log.areas.areas).cursors cursor
     → ((s : State) (lsn : ℕ) → option_map head_of (entry_at s lsn) ≡ head_at lsn (heads_of s))
-    → (x : Head) × (head_at cursor.last log.tables.heads ≡ Some x) × (x.stream ≡ (area_at place log.areas.areas).stream)
+    → IsKnown log.tables.heads (area_at place log.areas.areas).stream cursor.last
 last_known log place cursor sound within has as_heads =
     let s : State = log.state.value in
     let all : All (IsAreaWithinLimits s) log.areas.areas = subst (All (IsAreaWithinLimits s)) (sym sound.holds.areas) sound.storable.limits.areas in
@@ -171,6 +171,15 @@ last_known log place cursor sound within has as_heads =
       ap (head_at cursor.last) sound.holds.heads ∙ sym (as_heads s cursor.last) ∙ ap (option_map head_of) known.there,
       known.stream,
     )
+
+-- and so is the one of a cursor that was found
+pub found_known : (log : Log) (place stream : ℕ) (found : Option Cursor) → IsSound log → place < length log.areas.areas → stream ≡ (area_at place log.areas.areas).stream
+    → IfSome found (λ cursor. Contains (area_at place log.areas.areas).cursors cursor)
+    → ((s : State) (lsn : ℕ) → option_map head_of (entry_at s lsn) ≡ head_at lsn (heads_of s))
+    → IfSome found (λ cursor. IsKnown log.tables.heads stream cursor.last)
+found_known log place stream None sound within same has as_heads = tt
+found_known log place stream (Some cursor) sound within same has as_heads =
+    subst (λ (number : ℕ). IsKnown log.tables.heads number cursor.last) (sym same) (last_known log place cursor sound within has as_heads)
 
 -- a cursor that is found is one of its area's
 pub found_among : {X : Type 0} (p : X → Bool) (xs : List X) (o : Option X) → o ≡ find p xs → IfSome o (λ x. Contains xs x)

@@ -9,12 +9,13 @@ use Rattle.clfs_areas.specs.Table.{all_held, area_at, no_area}
 use Rattle.clfs_model.specs.declared.state.Area.{Area}
 use Rattle.clfs_model.specs.declared.state.State.{State}
 use Rattle.clfs_model.specs.Put.{hold_sizes, with_more_held}
+use Rattle.clfs_model.specs.declared.refusal.Refusal.{Refusal}
 use Rattle.clfs_model.specs.declared.refusal.Refusal.TheVariants as refusals
 use Rattle.clfs_model.specs.declared.call.Call.TheVariants as calls
 use Rattle.clfs_model.specs.declared.reply.Happened.TheVariants.{Fine}
 use Rattle.clfs_model.specs.declared.reply.Reply.TheVariants as replies
 use Rattle.clfs_model.specs.Answers.{Outcome, answer, outcome, reserved_for}
-use Rattle.clfs_model.specs.Refusals.{refused_if, refusal, size_refusal}
+use Rattle.clfs_model.specs.Refusals.{full, refused_if, refusal, size_refusal, too_long}
 use Rattle.clfs_model.specs.Space.{free, grown, grown_if, own_sum, reserved, size_limit, with_containers}
 use Rattle.clfs_model.specs.State.{area_of, change_area}
 use Rattle.clfs_model.specs.Step.{Step}
@@ -38,6 +39,19 @@ grown_sized s need = by_test (s.automatic && nat_lt (free s) (reserved s + need)
 -- so the state with as many containers is that of growth
 pub grown_is_sized : (s : State) (need containers : ℕ) → containers ≡ (grown s need).containers → with_containers containers s ≡ grown s need
 grown_is_sized s need containers is = ap (λ (n : ℕ). with_containers n s) is ∙ sym (grown_sized s need)
+
+-- a log that may not grow stays as it is
+pub not_growing : (s : State) (need : ℕ) → s.automatic ≡ false → grown s need ≡ s
+unfolding grown
+not_growing s need off = rw off refl
+
+-- why a reservation is refused, by the space and the area that were looked at
+pub reserve_judged : (s looked : State) (client number : ℕ) (area : Area) (greatest : ℕ) (given sizes : List ℕ) (told : Option Refusal)
+    → refusal s client (calls.Reserve number sizes) ≡ too_long area.largest sizes (full s (own_sum sizes))
+    → told ≡ too_long greatest given (full looked (own_sum given)) → looked ≡ s → greatest ≡ area.largest → given ≡ sizes
+    → refusal s client (calls.Reserve number sizes) ≡ told
+reserve_judged s looked client number area greatest given sizes told found is of_space of_area of_sizes =
+    found ∙ sym (rw (← of_space, ← of_area, ← of_sizes) is)
 
 -- a larger size within the limit isn't refused
 pub size_allowed : (s : State) (asked : ℕ) → s.containers < asked → asked ≤ size_limit s → size_refusal s asked ≡ None

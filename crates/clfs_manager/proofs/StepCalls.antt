@@ -1,6 +1,6 @@
 -- What a call by name tells, by its step.
 use Rattle.std.proofs.Common.{◌≡◌, ◌≢◌, ℕ, Bool, true, false, sym, ap, subst, ◌∙◌, inl, inr, Ok, Err}
-use Rattle.std.specs.Prelude.{◌⊎◌, Result, MatchBool, IsTrue, IfErr, IsErrOf}
+use Rattle.std.specs.Prelude.{◌⊎◌, Result, MatchBool, MatchResult, IsTrue, IfErr, IsErrOf}
 use Rattle.clfs_laws.specs.Refused.{is_of_call}
 use Rattle.clfs_disk.specs.State.{DiskState}
 use Rattle.clfs_model.specs.declared.call.Call.{Call}
@@ -14,6 +14,17 @@ use Rattle.clfs_model.specs.Step.{Step, IsBroken, IsOutOfMemory, IsDamaged, read
 use Rattle.clfs_manager.specs.Calls.{IsRefused, replied, Steps}
 use Rattle.clfs_manager.specs.Written.{WritesDisk}
 use Rattle.clfs_manager.proofs.Intact.{writes_as, writes_nothing}
+
+-- an answer's reply, by the reply that has its value
+pub said : {A : Type 0} (answer : A → Reply) (result : Result A Refusal) (reply : Reply)
+    → MatchResult result (λ value. reply ≡ answer value) (λ refusal. reply ≡ replies.Refused refusal) → reply ≡ replied answer result
+said answer (Ok value) reply is = is
+said answer (Err refusal) reply is = is
+
+-- a call by name is a step as the call is
+pub stepped : {A : Type 0} (told : Bool) (s : State) (client : ℕ) (call : Call) (answer : A → Reply) (result : Result A Refusal) (reply : Reply) (t : State)
+    → reply ≡ replied answer result → Steps told s client call answer result t → Step told s client call (happened_of reply) reply t
+stepped told s client call answer result reply t is step = subst (λ (r : Reply). Step told s client call (happened_of r) r t) (sym is) step
 
 -- a reply that is neither that the log is broken nor out of memory comes of a step that goes on
 goes_on : (broken : Bool) (P : Type 0) (s : State) (reply : Reply) (t : State) (Q : Type 0) → reply ≢ replies.Refused refusals.Broken → reply ≢ replies.Refused refusals.NoMemory

@@ -10,9 +10,11 @@ pub mod Fetching
 pub mod Settings
 pub mod Written
 pub mod Crashes
+pub mod Changing
 pub mod Reopening
 pub mod Sizes
 pub mod Base
 pub mod Streams
 pub mod Putting
 pub mod Opened
+pub mod CallLaws

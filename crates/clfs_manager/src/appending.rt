@@ -2,7 +2,7 @@
 // the area spends what a reserved record takes, the log is made ready, and the record joins it in memory: an append that asks for nothing more makes
 // no call on the disk unless its record begins a container or seals the last block that may wait. Last, the area holds sectors for records to come,
 // and the block is sealed and the log flushed where that is asked for.
-ghost use Rattle.std.specs.Prelude.{◌≡◌, ◌+◌, ◌-◌, ◌<◌, ◌≤◌, ◌^◌, [], ℕ, Bool, IsOk, IsErr, IsErrOf, IsSome, IfOk, IfErr, OnOk, OnErr, None, Some, false, true, length, slice_index, vec_capacity};
+ghost use Rattle.std.specs.Prelude.{◌≡◌, ◌+◌, ◌-◌, ◌<◌, ◌≤◌, ◌^◌, ◌∷◌, [], ℕ, Bool, IsOk, IsErr, IsErrOf, IsSome, IfOk, IfErr, OnOk, OnErr, None, Some, false, true, length, slice_index, vec_capacity};
 ghost use Rattle.clfs_lsn.specs.Limits.{most_containers};
 ghost use Rattle.clfs_lsn.specs.Place.{joins, begins_here};
 ghost use Rattle.clfs_lsn.specs.Size.{longest};
@@ -27,6 +27,7 @@ ghost use Rattle.clfs_areas.specs.Table.{area_at};
 ghost use Rattle.clfs_laws.specs.Between.{MayPut, TakesThrough};
 ghost use Rattle.clfs_laws.specs.Refused.{is_of_call};
 ghost use Rattle.clfs_manager.specs.Calls.{Steps};
+ghost use Rattle.clfs_manager.specs.Changing.{ChangesLog};
 ghost use Rattle.clfs_manager.specs.Crashes.{CrashLeavesSurvivor, CrashSurvives, ReadyingSurvives};
 ghost use Rattle.clfs_manager.specs.Fetching.{IsLeft};
 ghost use Rattle.clfs_manager.specs.Memory.{ChangesAreas, IsSound};
@@ -34,9 +35,7 @@ ghost use Rattle.clfs_manager.specs.OnDisk.{IsOpen};
 ghost use Rattle.clfs_manager.specs.Putting.{HasSameLog, unplaced};
 ghost use Rattle.clfs_manager.specs.Written.{IsIntact, WritesDisk};
 
-use crate::arguments::need_of;
-use crate::flushing::broken;
-use crate::log::Log;
+use crate::log::{Log, broken};
 use crate::manager::Manager;
 use clfs_disk::{Disk, Failed};
 use clfs_laws::{
@@ -50,6 +49,7 @@ use clfs_model::{Draft, Refusal, State, ways_of_a_step};
 use clfs_queue::{Placing, the_next_lsn_is_above_all};
 use clfs_record::Fields;
 use clfs_recover::logs_are_copies_and_blocks;
+use clfs_room::need_of;
 use clfs_told::Told;
 use std::alloc::AllocError;
 
@@ -150,13 +150,8 @@ impl Log {
     // Seals the open block where that is asked for. After a fault the log is broken.
     fn seal_if<D: Disk>(&mut self, disk: &mut D, asked: bool) -> Result<(), Failed>
         requires intact { IsIntact (D.state disk.old) self.old }
-        ensures state { OnOk result (self.new.state.value ≡ seal_if asked self.old.state.value) }
-        ensures intact { OnOk result (IsIntact (D.state disk.new) self.new) }
-        ensures broken { OnErr result (self.new.broken ≡ true) }
+        ensures change { ChangesLog IsIntact result (self.old.state.value ∷ []) (seal_if asked self.old.state.value) (D.state disk.old) (D.state disk.new) self.new }
         ensures quiet { (asked ≡ true → fills_buffers self.old.state.value ≡ false) → IsOk result × (disk.new ≡ disk.old) }
-        ensures writes { WritesDisk (IsErr result) (D.state disk.old) (D.state disk.new) }
-        ensures moments { (request : Request) (s : State) → Survives request s (cut self.old.state.value)
-            → Survives request s (cut (seal_if asked self.old.state.value)) → CrashLeavesSurvivor request s (D.state disk.old) (D.state disk.new) }
     {
         logs_are_copies_and_blocks();
         if asked {
@@ -168,13 +163,8 @@ impl Log {
     // Writes all that waits where that is asked for. After a fault the log is broken.
     fn flush_if<D: Disk>(&mut self, disk: &mut D, asked: bool) -> Result<(), Failed>
         requires intact { IsIntact (D.state disk.old) self.old }
-        ensures state { OnOk result (self.new.state.value ≡ flush_if asked self.old.state.value) }
-        ensures intact { OnOk result (IsIntact (D.state disk.new) self.new) }
-        ensures broken { OnErr result (self.new.broken ≡ true) }
+        ensures change { ChangesLog IsIntact result (self.old.state.value ∷ []) (flush_if asked self.old.state.value) (D.state disk.old) (D.state disk.new) self.new }
         ensures quiet { asked ≡ false → IsOk result × (disk.new ≡ disk.old) }
-        ensures writes { WritesDisk (IsErr result) (D.state disk.old) (D.state disk.new) }
-        ensures moments { (request : Request) (s : State) → Survives request s (cut self.old.state.value)
-            → Survives request s (cut (flush_if asked self.old.state.value)) → CrashLeavesSurvivor request s (D.state disk.old) (D.state disk.new) }
     {
         logs_are_copies_and_blocks();
         if asked {
@@ -186,14 +176,9 @@ impl Log {
     // Seals the open block and writes all that waits, each where it is asked for. After a fault the log is broken.
     fn finish<D: Disk>(&mut self, disk: &mut D, seal: bool, flush: bool) -> Result<(), Failed>
         requires intact { IsIntact (D.state disk.old) self.old }
-        ensures state { OnOk result (self.new.state.value ≡ flush_if flush (seal_if seal self.old.state.value)) }
-        ensures intact { OnOk result (IsIntact (D.state disk.new) self.new) }
-        ensures broken { OnErr result (self.new.broken ≡ true) }
+        ensures change { ChangesLog IsIntact result (self.old.state.value ∷ seal_if seal self.old.state.value ∷ [])
+            (flush_if flush (seal_if seal self.old.state.value)) (D.state disk.old) (D.state disk.new) self.new }
         ensures quiet { (seal ≡ true → fills_buffers self.old.state.value ≡ false) → flush ≡ false → IsOk result × (disk.new ≡ disk.old) }
-        ensures writes { WritesDisk (IsErr result) (D.state disk.old) (D.state disk.new) }
-        ensures moments { (asked : Request) (s : State) → Survives asked s (cut self.old.state.value)
-            → Survives asked s (cut (seal_if seal self.old.state.value)) → Survives asked s (cut (flush_if flush (seal_if seal self.old.state.value)))
-            → CrashLeavesSurvivor asked s (D.state disk.old) (D.state disk.new) }
     {
         self.seal_if(disk, seal)?;
         self.flush_if(disk, flush)

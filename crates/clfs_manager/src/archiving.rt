@@ -20,21 +20,19 @@ ghost use Rattle.clfs_manager.specs.Memory.{HasForgotten, Holds, IsSound};
 ghost use Rattle.clfs_manager.specs.Settings.{KeepsQueue, KeepsTables, archive_change, with_archive};
 ghost use Rattle.clfs_manager.specs.Written.{WritesDisk};
 
-use crate::flushing::broken;
 use crate::log::Log;
 use crate::manager::Manager;
+use crate::survivors::crashes_leave_survivors;
 use clfs_archive::Archive;
 use clfs_disk::{Disk, Failed};
 use clfs_laws::{
-    numbers_fit_their_types, states_between_survive, steps_keep_a_state_storable,
-    steps_keep_a_state_valid, the_holds_container_never_falls,
+    numbers_fit_their_types, steps_keep_a_state_storable, steps_keep_a_state_valid,
+    the_holds_container_never_falls,
 };
 use clfs_lsn::Lsn;
 use clfs_model::{Refusal, State, records_are_as_their_heads, ways_of_a_step};
 use clfs_physical::Change;
-use clfs_recover::{
-    logs_are_copies_and_blocks, low_containers_are_left_out, settings_leave_the_records,
-};
+use clfs_recover::{low_containers_are_left_out, settings_leave_the_records};
 use clfs_told::Told;
 
 // The state with archiving off, or on with this tail.
@@ -109,8 +107,7 @@ impl Log {
         let needed = self.tables.hold(tail, &place);
         let change = archive_change(&tail);
         if let Err(failed) = self.physical.write_copy(disk, needed.container(), &change) {
-            self.broken = true;
-            self.state = broken(&self.state);
+            self.break_log();
             return Err(failed);
         }
         set_tail(&mut self.archive, &tail, before);
@@ -157,8 +154,7 @@ impl<D: Disk> Manager<D> {
         steps_keep_a_state_storable();
         the_holds_container_never_falls();
         ways_of_a_step();
-        states_between_survive();
-        logs_are_copies_and_blocks();
+        crashes_leave_survivors();
         if self.log.broken {
             return Err(Refusal::Broken);
         }
@@ -185,8 +181,7 @@ impl<D: Disk> Manager<D> {
         steps_keep_a_state_storable();
         the_holds_container_never_falls();
         ways_of_a_step();
-        states_between_survive();
-        logs_are_copies_and_blocks();
+        crashes_leave_survivors();
         if self.log.broken {
             return Err(Refusal::Broken);
         }

@@ -16,13 +16,13 @@ ghost use Rattle.clfs_model.specs.State.{area_of};
 ghost use Rattle.clfs_manager.specs.Calls.{Steps};
 ghost use Rattle.clfs_manager.specs.Memory.{ChangesAreas, IsSound};
 
-use crate::arguments::{longer, own_sum};
 use crate::log::Log;
 use crate::manager::Manager;
 use clfs_disk::Disk;
 use clfs_laws::{steps_keep_a_state_storable, steps_keep_a_state_valid};
 use clfs_lsn::{Sizes, longest};
 use clfs_model::{Refusal, State, ways_of_a_step};
+use clfs_room::{longer, own_sum};
 use clfs_told::Told;
 
 /// The most areas of a client.

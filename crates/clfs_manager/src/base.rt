@@ -1,33 +1,32 @@
 // Moving the base of a stream: the records below it are needed no more. The log is flushed first, so that the base lies at or below what is on the
 // disk, and then the base copy that follows is written, which lists the containers from the hold's on as it is after the new base. So a crash leaves
 // the old base or the new one. Where the hold came to a further container nothing below that is asked for any more, and memory forgets it.
-ghost use Rattle.std.specs.Prelude.{◌≡◌, ◌≤◌, Bool, true, None, Some, IsErr, IsErrOf, IsSome, IfOk, IfErr, OnOk, OnErr};
+ghost use Rattle.std.specs.Prelude.{◌≡◌, ◌≤◌, ◌∷◌, [], Bool, true, None, Some, IsErrOf, IsSome, IfOk, IfErr, OnErr};
 ghost use Rattle.clfs_lsn.specs.Lsn.{container_of};
 ghost use Rattle.clfs_model.specs.declared.call.Call.TheVariants as calls;
 ghost use Rattle.clfs_model.specs.declared.reply.Reply.TheVariants as replies;
 ghost use Rattle.clfs_model.specs.Answers.{answer, outcome};
 ghost use Rattle.clfs_model.specs.Conditions.{IsClient};
-ghost use Rattle.clfs_model.specs.declared.state.State.{State};
-ghost use Rattle.clfs_model.specs.Flush.{cut, flush};
+ghost use Rattle.clfs_model.specs.Flush.{flush};
 ghost use Rattle.clfs_model.specs.Live.{hold};
 ghost use Rattle.clfs_model.specs.Refusals.{is_base, refusal};
-ghost use Rattle.clfs_model.specs.Run.{Request, asks};
+ghost use Rattle.clfs_model.specs.Run.{asks};
 ghost use Rattle.clfs_model.specs.State.{base_of, stream_at};
 ghost use Rattle.clfs_model.specs.Storable.{IsStorable};
-ghost use Rattle.clfs_model.specs.Survivors.{Survives};
 ghost use Rattle.clfs_model.specs.Valid.{IsValid};
 ghost use Rattle.clfs_laws.specs.Refused.{is_of_call};
 ghost use Rattle.clfs_manager.specs.Base.{KeepsAllButTables, with_base};
 ghost use Rattle.clfs_manager.specs.Calls.{Steps};
-ghost use Rattle.clfs_manager.specs.Crashes.{CrashLeavesSurvivor, CrashSurvives};
+ghost use Rattle.clfs_manager.specs.Changing.{ChangesLog};
+ghost use Rattle.clfs_manager.specs.Crashes.{CrashSurvives};
 ghost use Rattle.clfs_manager.specs.Flushing.{IsBroken};
 ghost use Rattle.clfs_manager.specs.Memory.{HasForgotten, IsSound};
 ghost use Rattle.clfs_manager.specs.Putting.{KeepsRoom};
 ghost use Rattle.clfs_manager.specs.Written.{IsIntact, IsYetToForget, WritesDisk};
 
-use crate::flushing::broken;
-use crate::log::Log;
+use crate::log::{Log, broken};
 use crate::manager::Manager;
+use crate::survivors::crashes_leave_survivors;
 use clfs_disk::{Disk, Failed};
 use clfs_laws::{
     numbers_fit_their_types, refusals_are_the_calls_own, states_between_survive,
@@ -77,12 +76,8 @@ impl Log {
         requires valid { IsValid (with_base stream base self.old.state.value) }
         requires storable { IsStorable (with_base stream base self.old.state.value) }
         requires held { container_of (hold self.old.state.value) ≤ container_of (hold (with_base stream base self.old.state.value)) }
-        ensures state { OnOk result (self.new.state.value ≡ with_base stream base self.old.state.value) }
-        ensures intact { OnOk result (IsYetToForget (D.state disk.new) self.new) }
+        ensures change { ChangesLog IsYetToForget result (self.old.state.value ∷ []) (with_base stream base self.old.state.value) (D.state disk.old) (D.state disk.new) self.new }
         ensures broken { OnErr result (IsBroken self.old self.new) }
-        ensures writes { WritesDisk (IsErr result) (D.state disk.old) (D.state disk.new) }
-        ensures moments { (asked : Request) (s : State) → Survives asked s (cut self.old.state.value)
-            → Survives asked s (cut (with_base stream base self.old.state.value)) → CrashLeavesSurvivor asked s (D.state disk.old) (D.state disk.new) }
     {
         bases_of_rows_move();
         low_containers_are_left_out();
@@ -96,8 +91,7 @@ impl Log {
         let needed = self.tables.hold(self.archive.tail(), &place);
         let change = Change::Base { stream, base };
         if let Err(failed) = self.physical.write_copy(disk, needed.container(), &change) {
-            self.broken = true;
-            self.state = broken(&self.state);
+            self.break_log();
             return Err(failed);
         }
         self.state = with_base(&self.state, stream, base);
@@ -113,12 +107,9 @@ impl Log {
         requires storable { IsStorable (with_base stream base (flush self.old.state.value)) }
         requires held { container_of (hold self.old.state.value)
             ≤ container_of (hold (with_base stream base (flush self.old.state.value))) }
-        ensures state { OnOk result (self.new.state.value ≡ with_base stream base (flush self.old.state.value)) }
-        ensures intact { OnOk result (IsIntact (D.state disk.new) self.new) }
+        ensures change { ChangesLog IsIntact result (self.old.state.value ∷ flush self.old.state.value ∷ [])
+            (with_base stream base (flush self.old.state.value)) (D.state disk.old) (D.state disk.new) self.new }
         ensures broken { OnErr result (IsBroken self.old self.new) }
-        ensures writes { WritesDisk (IsErr result) (D.state disk.old) (D.state disk.new) }
-        ensures moments { (asked : Request) (s : State) → Survives asked s (cut self.old.state.value) → Survives asked s (cut (flush self.old.state.value))
-            → Survives asked s (cut (with_base stream base (flush self.old.state.value))) → CrashLeavesSurvivor asked s (D.state disk.old) (D.state disk.new) }
     {
         let faulted = broken(&self.state);
         self.write_all(disk)?;
@@ -141,9 +132,10 @@ impl Log {
             ≡ outcome (replies.Base lsn) (with_base stream lsn (flush self.now.state.value))) }
     {
         let place = self.area_place(client, area)?;
-        match self.base_refusal(place, lsn) {
+        let stream = self.area_stream(place);
+        match self.tables.base_refusal(stream, lsn) {
             Some(refusal) => Err(refusal),
-            None => Ok(self.area_stream(place)),
+            None => Ok(stream),
         }
     }
 }
@@ -167,8 +159,8 @@ impl<D: Disk> Manager<D> {
         the_holds_container_never_falls();
         refusals_are_the_calls_own();
         ways_of_a_step();
+        crashes_leave_survivors();
         states_between_survive();
-        logs_are_copies_and_blocks();
         if self.log.broken {
             return Err(Refusal::Broken);
         }

@@ -12,7 +12,6 @@ ghost use Rattle.clfs_disk.specs.Files.{Unchanged};
 ghost use Rattle.clfs_disk.specs.State.{TellsContents, IsSteady, Passes, Rises, raised};
 ghost use Rattle.clfs_base.specs.Spelling.{IsImage};
 ghost use Rattle.clfs_model.specs.Flush.{flushed};
-ghost use Rattle.clfs_model.specs.Step.{with_broken};
 ghost use Rattle.clfs_buffers.specs.Buffered.{kept_at};
 ghost use Rattle.clfs_buffers.specs.Reading.{Gives, TellsByte, block_place};
 ghost use Rattle.clfs_recover.specs.Reading.{file_of};
@@ -28,26 +27,9 @@ use clfs_buffers::{ReadRefusal, changes_keep_blocks};
 use clfs_disk::Disk;
 use clfs_laws::numbers_fit_their_types;
 use clfs_lsn::{Bytes, Head, LogEntry, Lsn};
-use clfs_model::{Refusal, State};
+use clfs_model::Refusal;
 use clfs_recover::stored_records_are_read;
-use clfs_told::Told;
 use std::alloc::AllocError;
-
-// The state after a fault of the disk or damage.
-fn broken(state: &Told<State>) -> Told<State>
-    ensures { result.value ≡ with_broken state.now.value }
-{
-    state.next(state)
-}
-
-// The log is broken from now on.
-pub(crate) fn break_log(log: &mut Log)
-    ensures state { log.new.state.value ≡ with_broken log.old.state.value }
-    ensures broken { log.new.broken ≡ true }
-{
-    log.state = broken(&log.state);
-    log.broken = true;
-}
 
 // Tells why a block wasn't read. Where the disk failed or gave what isn't a log's, the log is broken.
 fn refuse(log: &mut Log, lsn: Lsn, refusal: ReadRefusal) -> Refusal
@@ -59,11 +41,11 @@ fn refuse(log: &mut Log, lsn: Lsn, refusal: ReadRefusal) -> Refusal
     match refusal {
         ReadRefusal::NoMemory => Refusal::NoMemory,
         ReadRefusal::DiskFault => {
-            break_log(log);
+            log.break_log();
             Refusal::DiskFault
         }
         ReadRefusal::Damaged { at } => {
-            break_log(log);
+            log.break_log();
             Refusal::Damaged {
                 container: lsn.container(),
                 offset: lsn.offset(),

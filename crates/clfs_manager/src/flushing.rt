@@ -8,7 +8,7 @@ ghost use Rattle.clfs_lsn.specs.Place.{IsClosed, IsSmall, block_end, frontier};
 ghost use Rattle.clfs_model.specs.Flush.{flush, flushed};
 ghost use Rattle.clfs_model.specs.Refusals.{refusal};
 ghost use Rattle.clfs_model.specs.Run.{asks};
-ghost use Rattle.clfs_model.specs.Step.{calls_disk, is_pending, with_broken};
+ghost use Rattle.clfs_model.specs.Step.{calls_disk, is_pending};
 ghost use Rattle.clfs_physical.specs.Joined.{SameLengths};
 ghost use Rattle.clfs_physical.specs.Stored.{AreMade};
 ghost use Rattle.clfs_model.specs.declared.call.Call.TheVariants as calls;
@@ -24,11 +24,12 @@ ghost use Rattle.clfs_manager.specs.Written.{WritesDisk};
 
 use crate::log::Log;
 use crate::manager::Manager;
+use crate::survivors::crashes_leave_survivors;
 use clfs_archive::{BlockEnd, ends_of_blocks_go_on};
 use clfs_disk::{Disk, Failed};
 use clfs_laws::{
-    laid_blocks_end_at_the_place, seals_and_flushes_keep_a_log, states_between_survive,
-    steps_keep_a_state_storable, steps_keep_a_state_valid,
+    laid_blocks_end_at_the_place, seals_and_flushes_keep_a_log, steps_keep_a_state_storable,
+    steps_keep_a_state_valid,
 };
 use clfs_lsn::{Lsn, Place, frontier, sealed};
 use clfs_model::{Refusal, State, ways_of_a_step};
@@ -53,13 +54,6 @@ fn end_of_open(place: &Place) -> BlockEnd
 // The state once all is on the disk.
 fn flushed(state: &Told<State>) -> Told<State>
     ensures { result.value ≡ flush state.now.value }
-{
-    state.next(&())
-}
-
-// The state after a fault of the disk.
-pub(crate) fn broken(state: &Told<State>) -> Told<State>
-    ensures { result.value ≡ with_broken state.now.value }
 {
     state.next(&())
 }
@@ -160,8 +154,7 @@ impl Log {
     {
         self.end_block();
         if let Err(failed) = self.send_group(disk) {
-            self.broken = true;
-            self.state = broken(&self.state);
+            self.break_log();
             return Err(failed);
         }
         self.queue.written();
@@ -188,8 +181,7 @@ impl<D: Disk> Manager<D> {
         }
         steps_keep_a_state_valid();
         steps_keep_a_state_storable();
-        states_between_survive();
-        logs_are_copies_and_blocks();
+        crashes_leave_survivors();
         self.log.area_place(client, area)?;
         if self.log.write_out(&mut self.disk).is_err() {
             return Err(Refusal::DiskFault);
@@ -214,8 +206,7 @@ impl<D: Disk> Manager<D> {
         }
         steps_keep_a_state_valid();
         steps_keep_a_state_storable();
-        states_between_survive();
-        logs_are_copies_and_blocks();
+        crashes_leave_survivors();
         let found = self.log.flushed_above(client, area, lsn)?;
         if let Some(stable) = found {
             return Ok(stable);

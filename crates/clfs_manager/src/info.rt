@@ -1,10 +1,8 @@
 // What the log and a stream are like, and what is to be archived: two calls that change nothing and make no call on the disk.
-ghost use Rattle.std.specs.Prelude.{◌≡◌, ℕ, Bool, IfOk, IsSome, false};
+ghost use Rattle.std.specs.Prelude.{◌≡◌, ℕ, Bool, IfOk};
 ghost use Rattle.clfs_model.specs.declared.call.Call.TheVariants as calls;
 ghost use Rattle.clfs_model.specs.declared.reply.Reply.TheVariants as replies;
-ghost use Rattle.clfs_model.specs.Answers.{info_of};
 ghost use Rattle.clfs_model.specs.Archive.{extents};
-ghost use Rattle.clfs_model.specs.State.{stream_at, base_of};
 ghost use Rattle.clfs_manager.specs.Calls.{Steps};
 ghost use Rattle.clfs_manager.specs.Memory.{IsSound};
 
@@ -12,7 +10,6 @@ use crate::log::Log;
 use crate::manager::Manager;
 use clfs_archive::ends_of_blocks_go_on;
 use clfs_disk::Disk;
-use clfs_lsn::Lsn;
 use clfs_model::{Extents, LogInfo, Refusal, records_are_as_their_heads, ways_of_a_step};
 use std::alloc::AllocError;
 
@@ -23,31 +20,23 @@ impl Log {
         ensures step { (told : Bool) (client : ℕ) → Steps told self.now.state.value client (calls.Info stream) replies.Info result self.now.state.value }
     {
         ways_of_a_step();
-        let Some(base) = self.base(stream) else {
+        let Some(base) = self.tables.base(stream) else {
             return Err(Refusal::NoSuchStream);
         };
-        Ok(self.info_with(stream, base))
-    }
-
-    // What the log is like, and the stream with this base.
-    fn info_with(&self, stream: u16, base: Lsn) -> LogInfo
-        requires sound { IsSound self.now }
-        requires there { IsSome (stream_at self.now.state.value stream) }
-        requires base { base ≡ base_of self.now.state.value stream }
-        ensures { result ≡ info_of self.now.state.value stream }
-    {
-        LogInfo {
-            containers: self.containers(),
-            free_containers: self.containers() - self.active(),
+        let space = self.space();
+        let containers = space.containers();
+        Ok(LogInfo {
+            containers,
+            free_containers: containers - space.active(),
             container_sectors: self.shape().container_sectors,
-            free_sectors: self.free(),
-            reserved: self.reserved(),
+            free_sectors: space.free(),
+            reserved: space.reserved(),
             base,
-            last: self.last_live(stream),
+            last: self.tables.last_live(stream),
             flushed: self.flushed(),
-            restart: self.last_restart(stream),
+            restart: self.tables.last_restart(stream),
             archive: self.archive.tail(),
-        }
+        })
     }
 
     // The answer to a call for the extents to be archived.

@@ -5,55 +5,10 @@ ghost use Rattle.clfs_lsn.specs.Heads.{heads_from, stream_heads};
 ghost use Rattle.clfs_model.specs.Heads.{heads_of};
 ghost use Rattle.clfs_model.specs.State.{stream_at};
 ghost use Rattle.clfs_tables.specs.Tables.{restarts_of};
-ghost use Rattle.clfs_manager.specs.Memory.{HasForgotten, IsSound, hold_start, lasts_needed};
+ghost use Rattle.clfs_manager.specs.Memory.{hold_start, lasts_needed};
 
-use crate::log::Log;
 use crate::manager::Manager;
 use clfs_disk::Disk;
-
-impl Log {
-    // How many heads of a stream's records are kept, where there is such a stream.
-    fn records_kept(&self, stream: u16) -> Option<usize>
-        requires sound { IsSound self.now }
-        requires forgotten { HasForgotten self.now.state.value self.now }
-        ensures there { is_some result ≡ is_some (stream_at self.now.state.value stream) }
-        ensures all { let s = self.now.state.value in
-            IfSome result (λ count. length (heads_from (hold_start s) (stream_heads stream (heads_of s))) ≤ count) }
-        ensures few { let s = self.now.state.value in
-            IfSome result (λ count. count ≤ 2 * length (heads_from (hold_start s) (stream_heads stream (heads_of s)))) }
-    {
-        let Some(_) = self.base(stream) else {
-            return None;
-        };
-        Some(self.tables.records_kept(stream))
-    }
-
-    // How many heads of a stream's restart areas are kept beside those, where there is such a stream.
-    fn restarts_kept(&self, stream: u16) -> Option<usize>
-        requires sound { IsSound self.now }
-        requires forgotten { HasForgotten self.now.state.value self.now }
-        ensures there { is_some result ≡ is_some (stream_at self.now.state.value stream) }
-        ensures all { let s = self.now.state.value in
-            IfSome result (λ count. length (heads_from (hold_start s) (restarts_of (stream_heads stream (heads_of s)))) ≤ count) }
-        ensures few { let s = self.now.state.value in
-            IfSome result (λ count. count ≤ 2 * length (heads_from (hold_start s) (restarts_of (stream_heads stream (heads_of s))))) }
-    {
-        let Some(_) = self.base(stream) else {
-            return None;
-        };
-        Some(self.tables.restarts_kept(stream))
-    }
-
-    // How many ends of blocks are kept.
-    fn ends_kept(&self) -> usize
-        requires sound { IsSound self.now }
-        requires forgotten { HasForgotten self.now.state.value self.now }
-        ensures all { length (lasts_needed self.now.state.value) ≤ result }
-        ensures few { result ≤ 2 * length (lasts_needed self.now.state.value) }
-    {
-        self.archive.len()
-    }
-}
 
 impl<D: Disk> Manager<D> {
     /// How many heads of a stream's records are kept in memory, dead ones among them: those of all records in the container of the least LSN that the log
@@ -69,7 +24,10 @@ impl<D: Disk> Manager<D> {
         if self.log.broken {
             return None;
         }
-        self.log.records_kept(stream)
+        let Some(_) = self.log.tables.base(stream) else {
+            return None;
+        };
+        Some(self.log.tables.records_kept(stream))
     }
 
     /// How many heads of a stream's restart areas are kept in memory beside those of its records: those of all restart areas there, and at most as many
@@ -85,7 +43,10 @@ impl<D: Disk> Manager<D> {
         if self.log.broken {
             return None;
         }
-        self.log.restarts_kept(stream)
+        let Some(_) = self.log.tables.base(stream) else {
+            return None;
+        };
+        Some(self.log.tables.restarts_kept(stream))
     }
 
     /// How many ends of blocks are kept in memory: those of all blocks there that take no more records, and at most as many more. `None` if the log
@@ -99,6 +60,6 @@ impl<D: Disk> Manager<D> {
         if self.log.broken {
             return None;
         }
-        Some(self.log.ends_kept())
+        Some(self.log.archive.len())
     }
 }

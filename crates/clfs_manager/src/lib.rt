@@ -1,10 +1,10 @@
 //! The log manager over a disk.
 //!
 //! It makes a log, opens one and closes it: `Manager::format`, `load`, `close`; `reopen` opens it again. What files stand for is said by
-//! `clfs_recover`, and how a base copy and a closed gate come to be there by `clfs_base` and `clfs_disk`. A manager stands for a state of the
-//! log machine, which opening finds: it keeps the heads of the records, and their data stay on the disk. Neither opening nor closing writes
-//! anything, so a crash in them leaves what it would have left before. `step` makes any call, by its value; `stored` says of a log between two
-//! calls what its files stand for, and what a crash leaves of it.
+//! `clfs_recover`, how a log is made by `clfs_format`, and how a base copy and a closed gate come to be there by `clfs_base` and `clfs_disk`. A
+//! manager stands for a state of the log machine, which opening finds: it keeps the heads of the records, and their data stay on the disk.
+//! Neither opening nor closing writes anything, so a crash in them leaves what it would have left before. `step` makes any call, by its value;
+//! `stored` says of a log between two calls what its files stand for, and what a crash leaves of it.
 //!
 //! `create_area`, `delete_area`, `release`, `align` and `end_read` are calls on areas, which no disk has. `flush` and `flush_to` write what
 //! waits as one group of blocks, so that a crash leaves all of it or none. `open_stream`, `advance`, which moves the base of a stream, and the
@@ -29,12 +29,9 @@
 mod appending;
 mod archiving;
 mod areas;
-mod arguments;
 mod base;
 mod fetching;
-mod first_copy;
 mod flushing;
-mod format;
 mod info;
 mod kept;
 mod log;
@@ -46,7 +43,6 @@ mod putting;
 mod raw;
 mod reaching;
 mod reading;
-mod refusal;
 mod refusals;
 mod reopening;
 mod replies;
@@ -56,7 +52,8 @@ mod settings;
 mod sizes;
 mod step;
 mod stored;
+mod survivors;
 
+pub use clfs_format::FormatRefusal;
 pub use clfs_recover::LoadRefusal;
 pub use manager::{FormatRefused, LoadRefused, Manager};
-pub use refusal::FormatRefusal;

@@ -1,16 +1,18 @@
 // A log as a manager has it in memory: tables of its records by their heads, the areas of clients, what is set, the newest base copy, what waits to
 // be written, and blocks that were read. The state for which all this stands is told, for clauses alone.
-ghost use Rattle.std.specs.Prelude.{◌≡◌, ◌≤◌, ◌<◌, ◌^◌, [], map, if◌then◌else◌, Some, None, IfOk};
+ghost use Rattle.std.specs.Prelude.{◌≡◌, ◌≤◌, ◌<◌, ◌^◌, [], map, if◌then◌else◌, Some, None, IfOk, true};
 ghost use Rattle.clfs_base.specs.Spelling.{IsImage};
 ghost use Rattle.clfs_lsn.specs.Head.{head_of};
 ghost use Rattle.clfs_lsn.specs.Limits.{most_write_buffers};
 ghost use Rattle.clfs_lsn.specs.Place.{IsClosed, IsWithin};
 ghost use Rattle.clfs_lsn.specs.Size.{IsShape};
 ghost use Rattle.clfs_model.specs.Flush.{block_start};
+ghost use Rattle.clfs_model.specs.Step.{with_broken};
 ghost use Rattle.clfs_recover.specs.Files.{policy_of, state_of};
 ghost use Rattle.clfs_recover.specs.Walk.{shape_of};
 ghost use Rattle.clfs_recover.specs.KnownLogs.{IsLogOf};
 ghost use Rattle.clfs_recover.specs.Opening.{told_parts};
+ghost use Rattle.clfs_manager.specs.Flushing.{IsBroken};
 ghost use Rattle.clfs_manager.specs.Memory.{policies_in};
 ghost use Rattle.clfs_manager.specs.Opened.{FitTables, FitsMemory, HaveRecords, IsOpened};
 
@@ -46,6 +48,24 @@ pub(crate) struct Log {
     pub buffers: Buffers,
     pub broken: bool,
     pub state: Told<State>,
+}
+
+// The state after a fault of the disk or damage.
+pub(crate) fn broken(state: &Told<State>) -> Told<State>
+    ensures { result.value ≡ with_broken state.now.value }
+{
+    state.next(&())
+}
+
+impl Log {
+    // The log is broken from now on.
+    pub(crate) fn break_log(&mut self)
+        ensures broken { IsBroken self.old self.new }
+        ensures same { self.new ≡ record self.old { broken = true; state = self.new.state } }
+    {
+        self.broken = true;
+        self.state = broken(&self.state);
+    }
 }
 
 // The state of what was opened.

@@ -12,12 +12,12 @@ ghost use Rattle.clfs_model.specs.Valid.{IsValid};
 ghost use Rattle.clfs_recover.specs.Files.{StandsFor, AreWholeFiles, state_of};
 ghost use Rattle.clfs_recover.specs.Opening.{IsRefused, told_parts};
 ghost use Rattle.clfs_recover.specs.Telling.{TellsOpening};
-ghost use Rattle.clfs_manager.specs.Formatting.{open_slot_of, ComesAtOnce, KeepsLog, making_calls};
+ghost use Rattle.clfs_format.specs.Making.{open_slot_of, KeepsLog, making_calls};
+ghost use Rattle.clfs_manager.specs.Formatting.{ComesAtOnce};
 
-use crate::format::format_disk;
 use crate::log::{Log, open_log};
-use crate::refusal::FormatRefusal;
 use clfs_disk::Disk;
+use clfs_format::{FormatRefusal, make_log};
 use clfs_lsn::Shape;
 use clfs_recover::{
     LoadRefusal, copies_without_fault_fit, load_heads, logs_are_copies_and_blocks,
@@ -118,7 +118,7 @@ impl<D: Disk> Manager<D> {
         ensures steady { IsSteady (D.state disk) → IfErr result (λ refused. refused.cause ≢ FormatRefusal.DiskFault) }
     {
         let mut disk = disk;
-        match format_disk(alloc, &mut disk, &shape, dedicated, containers as u16) {
+        match make_log(alloc, &mut disk, &shape, dedicated, containers as u16) {
             Ok(()) => Ok(disk),
             Err(cause) => Err(FormatRefused { disk, cause }),
         }

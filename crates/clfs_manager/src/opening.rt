@@ -21,14 +21,14 @@ ghost use Rattle.clfs_manager.specs.Crashes.{CrashLeavesSurvivor, CrashSurvives}
 ghost use Rattle.clfs_manager.specs.Streams.{IsNotAdded, with_stream};
 ghost use Rattle.clfs_manager.specs.Written.{IsIntact, WritesDisk};
 
-use crate::flushing::broken;
 use crate::log::Log;
 use crate::manager::Manager;
+use crate::survivors::crashes_leave_survivors;
 use clfs_base::Row;
 use clfs_disk::Disk;
 use clfs_laws::{
-    refusals_are_the_calls_own, states_between_survive, steps_keep_a_state_storable,
-    steps_keep_a_state_valid, the_holds_container_never_falls,
+    refusals_are_the_calls_own, steps_keep_a_state_storable, steps_keep_a_state_valid,
+    the_holds_container_never_falls,
 };
 use clfs_lsn::{Lsn, Name};
 use clfs_model::{Refusal, State, ways_of_a_step};
@@ -108,8 +108,7 @@ impl Log {
             Ok(()) => {}
             Err(PhysicalRefusal::NoMemory) => return Err(Refusal::NoMemory),
             Err(PhysicalRefusal::DiskFault) => {
-                self.broken = true;
-                self.state = broken(&self.state);
+                self.break_log();
                 return Err(Refusal::DiskFault);
             }
         }
@@ -143,12 +142,13 @@ impl<D: Disk> Manager<D> {
         steps_keep_a_state_storable();
         the_holds_container_never_falls();
         refusals_are_the_calls_own();
-        states_between_survive();
-        logs_are_copies_and_blocks();
-        if let Some(refusal) = self.log.open_refusal(name) {
+        crashes_leave_survivors();
+        let bytes = name.as_slice();
+        let dedicated = self.log.physical.image().dedicated;
+        if let Some(refusal) = self.log.tables.open_refusal(bytes, dedicated) {
             return Err(refusal);
         }
-        if let Some(number) = self.log.tables.number(name.as_slice()) {
+        if let Some(number) = self.log.tables.number(bytes) {
             return Ok(number);
         }
         self.log.add_stream(&mut self.disk, name)

@@ -1,6 +1,6 @@
 // The small changes of which an append and a restart area are made: the open block is sealed, the log goes on in the next container, a record joins
 // it. Each leaves a log that is as good as any: what is on the disk then is what a crash leaves. All memory that these want was taken before.
-ghost use Rattle.std.specs.Prelude.{◌≡◌, List, slice_index, ◌-◌, ◌+◌, ◌<◌, ◌≤◌, ◌^◌, [], ℕ, IsOk, IsErr, OnOk, OnErr, false, true, length, vec_capacity};
+ghost use Rattle.std.specs.Prelude.{◌≡◌, ◌∷◌, List, slice_index, ◌-◌, ◌+◌, ◌<◌, ◌≤◌, ◌^◌, [], ℕ, IsOk, IsErr, OnOk, OnErr, false, true, length, vec_capacity};
 ghost use Rattle.clfs_lsn.specs.Head.{head_of};
 ghost use Rattle.clfs_lsn.specs.Limits.{most_containers};
 ghost use Rattle.clfs_lsn.specs.Size.{longest};
@@ -9,18 +9,18 @@ ghost use Rattle.clfs_record.specs.Fields.{placed_record};
 ghost use Rattle.clfs_lsn.specs.Lsn.{container_of};
 ghost use Rattle.clfs_lsn.specs.Place.{IsClosed, joins, begins_here};
 ghost use Rattle.clfs_lsn.specs.declared.entry.LogEntry.{LogEntry};
-ghost use Rattle.clfs_model.specs.Flush.{cut, flush, seal};
+ghost use Rattle.clfs_model.specs.Flush.{flush, seal};
 ghost use Rattle.clfs_model.specs.Live.{hold};
 ghost use Rattle.clfs_model.specs.Put.{next_lsn, put};
 ghost use Rattle.clfs_model.specs.Run.{Request};
 ghost use Rattle.clfs_model.specs.Step.{is_pending, making_ready_writes};
 ghost use Rattle.clfs_model.specs.Storable.{IsStorable};
-ghost use Rattle.clfs_model.specs.Survivors.{Survives};
 ghost use Rattle.clfs_model.specs.declared.state.State.{State};
 ghost use Rattle.clfs_model.specs.Valid.{IsValid};
 ghost use Rattle.clfs_laws.specs.Between.{MayPut, IsReadyFor, readied, turned};
 ghost use Rattle.clfs_disk.specs.State.{IsSettled, IsSteady, Later, Rises};
 ghost use Rattle.clfs_physical.specs.Stored.{AreMade};
+ghost use Rattle.clfs_manager.specs.Changing.{ChangesLog};
 ghost use Rattle.clfs_manager.specs.Crashes.{CrashLeavesSurvivor, ReadyingSurvives, StoredMeanwhile};
 ghost use Rattle.clfs_manager.specs.Flushing.{IsBroken, StoredAfter};
 ghost use Rattle.clfs_manager.specs.Memory.{Holds, IsSound};
@@ -94,14 +94,10 @@ impl Log {
     // Writes all that isn't on the disk, where there is such. After a fault the log is broken.
     pub fn write_all<D: Disk>(&mut self, disk: &mut D) -> Result<(), Failed>
         requires intact { IsIntact (D.state disk.old) self.old }
-        ensures state { OnOk result (self.new.state.value ≡ flush self.old.state.value) }
-        ensures intact { OnOk result (IsIntact (D.state disk.new) self.new) }
+        ensures change { ChangesLog IsIntact result (self.old.state.value ∷ []) (flush self.old.state.value) (D.state disk.old) (D.state disk.new) self.new }
         ensures room { OnOk result (KeepsRoom 1 self.old self.new) }
         ensures broken { OnErr result (IsBroken self.old self.new) }
         ensures quiet { is_pending self.old.state.value ≡ false → IsOk result × (disk.new ≡ disk.old) }
-        ensures writes { WritesDisk (IsErr result) (D.state disk.old) (D.state disk.new) }
-        ensures moments { (asked : Request) (s : State) → Survives asked s (cut self.old.state.value)
-            → Survives asked s (cut (flush self.old.state.value)) → CrashLeavesSurvivor asked s (D.state disk.old) (D.state disk.new) }
     {
         seals_and_flushes_keep_a_log();
         logs_are_copies_and_blocks();
@@ -112,14 +108,10 @@ impl Log {
     // log is broken.
     pub fn seal<D: Disk>(&mut self, disk: &mut D) -> Result<(), Failed>
         requires intact { IsIntact (D.state disk.old) self.old }
-        ensures state { OnOk result (self.new.state.value ≡ seal self.old.state.value) }
-        ensures intact { OnOk result (IsIntact (D.state disk.new) self.new) }
+        ensures change { ChangesLog IsIntact result (self.old.state.value ∷ []) (seal self.old.state.value) (D.state disk.old) (D.state disk.new) self.new }
         ensures room { OnOk result (KeepsRoom 1 self.old self.new) }
         ensures broken { OnErr result (IsBroken self.old self.new) }
         ensures quiet { sealing_writes self.old.state.value ≡ false → IsOk result × (disk.new ≡ disk.old) }
-        ensures writes { WritesDisk (IsErr result) (D.state disk.old) (D.state disk.new) }
-        ensures moments { (asked : Request) (s : State) → Survives asked s (cut self.old.state.value)
-            → Survives asked s (cut (seal self.old.state.value)) → CrashLeavesSurvivor asked s (D.state disk.old) (D.state disk.new) }
     {
         seals_and_flushes_keep_a_log();
         logs_are_copies_and_blocks();
@@ -166,19 +158,14 @@ impl Log {
         requires may { MayTurnTo self.old.state.value }
         requires empty { room.items ≡ [] }
         requires capacity { most_containers ≤ vec_capacity room }
-        ensures state { OnOk result (self.new.state.value ≡ turned self.old.state.value) }
-        ensures intact { OnOk result (IsYetToForget (D.state disk.new) self.new) }
+        ensures change { ChangesLog IsYetToForget result (self.old.state.value ∷ []) (turned self.old.state.value) (D.state disk.old) (D.state disk.new) self.new }
         ensures room { OnOk result (KeepsRoom 0 self.old self.new) }
         ensures broken { OnErr result (IsBroken self.old self.new) }
-        ensures writes { WritesDisk (IsErr result) (D.state disk.old) (D.state disk.new) }
-        ensures moments { (asked : Request) (s : State) → Survives asked s (cut self.old.state.value)
-            → Survives asked s (cut (turned self.old.state.value)) → CrashLeavesSurvivor asked s (D.state disk.old) (D.state disk.new) }
     {
         ends_of_blocks_go_on();
         logs_are_copies_and_blocks();
         if let Err(failed) = self.take_container(disk, room) {
-            self.broken = true;
-            self.state = crate::flushing::broken(&self.state);
+            self.break_log();
             return Err(failed);
         }
         self.queue.turn();
@@ -192,14 +179,9 @@ impl Log {
         requires may { MayTurnTo (flush self.old.state.value) }
         requires empty { room.items ≡ [] }
         requires capacity { most_containers ≤ vec_capacity room }
-        ensures state { OnOk result (self.new.state.value ≡ turned (flush self.old.state.value)) }
-        ensures intact { OnOk result (IsIntact (D.state disk.new) self.new) }
+        ensures change { ChangesLog IsIntact result (self.old.state.value ∷ flush self.old.state.value ∷ [])
+            (turned (flush self.old.state.value)) (D.state disk.old) (D.state disk.new) self.new }
         ensures room { OnOk result (KeepsRoom 1 self.old self.new) }
-        ensures broken { OnErr result (self.new.broken ≡ true) }
-        ensures writes { WritesDisk (IsErr result) (D.state disk.old) (D.state disk.new) }
-        ensures moments { (asked : Request) (s : State) → Survives asked s (cut self.old.state.value)
-            → Survives asked s (cut (flush self.old.state.value)) → Survives asked s (cut (turned (flush self.old.state.value)))
-            → CrashLeavesSurvivor asked s (D.state disk.old) (D.state disk.new) }
     {
         self.write_all(disk)?;
         self.turn(disk, room)?;

@@ -9,7 +9,6 @@ ghost use Rattle.clfs_model.specs.Step.{with_broken};
 ghost use Rattle.clfs_model.specs.declared.refusal.Refusal.TheVariants as refusals;
 ghost use Rattle.clfs_manager.specs.Crashes.{CrashSurvives};
 
-use crate::fetching::break_log;
 use crate::manager::Manager;
 use clfs_disk::Disk;
 use clfs_laws::{steps_keep_a_state_storable, steps_keep_a_state_valid};
@@ -55,7 +54,7 @@ impl<D: Disk> Manager<D> {
         match self.disk.read(file, at, out) {
             Ok(count) => Ok(count),
             Err(_) => {
-                break_log(&mut self.log);
+                self.log.break_log();
                 Err(Refusal::DiskFault)
             }
         }

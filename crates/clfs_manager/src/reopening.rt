@@ -18,7 +18,6 @@ ghost use Rattle.clfs_manager.specs.Fetching.{LeavesState, OnlyReads};
 ghost use Rattle.clfs_manager.specs.OnDisk.{IsManaged};
 ghost use Rattle.clfs_manager.specs.Reopening.{TellsPlace, refused_as};
 
-use crate::fetching::break_log;
 use crate::log::{Log, open_log};
 use crate::manager::Manager;
 use clfs_disk::Disk;
@@ -80,11 +79,11 @@ fn refuse(log: &mut Log, refusal: LoadRefusal) -> Refusal
     match refusal {
         LoadRefusal::NoMemory => Refusal::NoMemory,
         LoadRefusal::DiskFault => {
-            break_log(log);
+            log.break_log();
             Refusal::DiskFault
         }
         LoadRefusal::NoBase => {
-            break_log(log);
+            log.break_log();
             Refusal::Damaged {
                 container: 0,
                 offset: 0,
@@ -96,7 +95,7 @@ fn refuse(log: &mut Log, refusal: LoadRefusal) -> Refusal
             offset,
             at,
         } => {
-            break_log(log);
+            log.break_log();
             Refusal::Damaged {
                 container,
                 offset,

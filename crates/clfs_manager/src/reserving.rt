@@ -16,9 +16,9 @@ ghost use Rattle.clfs_manager.specs.Crashes.{CrashSurvives};
 ghost use Rattle.clfs_manager.specs.Memory.{ChangesAreas, IsSound};
 ghost use Rattle.clfs_manager.specs.Written.{WritesDisk};
 
-use crate::arguments::own_sum;
 use crate::log::Log;
 use crate::manager::Manager;
+use crate::survivors::crashes_leave_survivors;
 use clfs_disk::Disk;
 use clfs_laws::{
     refusals_are_the_calls_own, states_between_survive, steps_keep_a_state_storable,
@@ -27,7 +27,7 @@ use clfs_laws::{
 use clfs_lsn::Sizes;
 use clfs_model::{Refusal, State, ways_of_a_step};
 use clfs_physical::PhysicalRefusal;
-use clfs_recover::logs_are_copies_and_blocks;
+use clfs_room::own_sum;
 use clfs_told::Told;
 
 // The state once a client's area holds so many sectors more.
@@ -79,18 +79,19 @@ impl<D: Disk> Manager<D> {
         steps_keep_a_state_valid();
         steps_keep_a_state_storable();
         refusals_are_the_calls_own();
+        crashes_leave_survivors();
         states_between_survive();
-        logs_are_copies_and_blocks();
         let place = self.log.area_for_records(client, area)?;
-        if let Some(refusal) = self.log.reserve_refusal(place, sizes) {
+        let lengths = sizes.as_slice();
+        let row = self.log.areas.area(place);
+        if let Some(refusal) = self.log.space().reserve_refusal(row.largest, lengths) {
             return Err(refusal);
         }
-        let held = self.log.areas.area(place).held;
-        let need = own_sum(sizes.as_slice());
+        let need = own_sum(lengths);
         match self.log.grow(&mut self.disk, need) {
             Ok(()) => {
                 self.log.hold_sizes(place, sizes);
-                Ok(held + need)
+                Ok(row.held + need)
             }
             Err(PhysicalRefusal::DiskFault) => Err(Refusal::DiskFault),
             Err(PhysicalRefusal::NoMemory) => Err(Refusal::NoMemory),

@@ -1,7 +1,7 @@
 // Writing a restart area: the newest data by which the owner of a stream restarts, and with it, in one step, the new base of the stream. The restart area
 // is a record, which joins the log as any other, and then the log is flushed. Its record carries the new base, so that a crash leaves both of them or
 // none; no base copy is written. Until the flush is done the base stays where it was, in memory too.
-ghost use Rattle.std.specs.Prelude.{◌≡◌, ◌+◌, ◌-◌, ◌<◌, ◌≤◌, ◌^◌, ◌==◌, ℕ, Bool, List, [], None, Some, false, true, length, slice_index, vec_capacity, IfErr, IfOk, IsErr, IsErrOf, OnOk, OnErr};
+ghost use Rattle.std.specs.Prelude.{◌≡◌, ◌+◌, ◌-◌, ◌<◌, ◌≤◌, ◌^◌, ◌==◌, ◌∷◌, ℕ, Bool, List, [], None, Some, false, true, length, slice_index, vec_capacity, IfErr, IfOk, IsErr, IsErrOf, IsSome, OnOk, OnErr};
 ghost use Rattle.clfs_lsn.specs.Limits.{most_containers};
 ghost use Rattle.clfs_lsn.specs.Lsn.{null_lsn};
 ghost use Rattle.clfs_lsn.specs.Place.{begins_here, joins};
@@ -14,11 +14,9 @@ ghost use Rattle.clfs_model.specs.Conditions.{IsClient};
 ghost use Rattle.clfs_model.specs.Flush.{cut, flush};
 ghost use Rattle.clfs_model.specs.Run.{Request, asks};
 ghost use Rattle.clfs_model.specs.Survivors.{Survives};
-ghost use Rattle.clfs_model.specs.Live.{lsn_or_null};
 ghost use Rattle.clfs_model.specs.Put.{next_lsn, put, spend_if, spent_of};
-ghost use Rattle.clfs_model.specs.Reading.{newest_restart};
 ghost use Rattle.clfs_model.specs.Refusals.{refusal, restart_refusal};
-ghost use Rattle.clfs_model.specs.State.{area_of, base_of};
+ghost use Rattle.clfs_model.specs.State.{area_of, base_of, stream_at};
 ghost use Rattle.clfs_model.specs.Storable.{IsStorable};
 ghost use Rattle.clfs_model.specs.Valid.{IsValid};
 ghost use Rattle.clfs_areas.specs.Table.{area_at};
@@ -26,6 +24,7 @@ ghost use Rattle.clfs_laws.specs.Between.{MayMove, TakesThrough};
 ghost use Rattle.clfs_tables.specs.Tables.{IsNumber, base_in};
 ghost use Rattle.clfs_laws.specs.Refused.{is_of_call};
 ghost use Rattle.clfs_manager.specs.Calls.{Steps};
+ghost use Rattle.clfs_manager.specs.Changing.{ChangesLog};
 ghost use Rattle.clfs_manager.specs.Crashes.{CrashLeavesSurvivor, CrashSurvives, ReadyingSurvives};
 ghost use Rattle.clfs_manager.specs.Fetching.{IsLeft};
 ghost use Rattle.clfs_manager.specs.Flushing.{IsBroken};
@@ -37,9 +36,7 @@ ghost use Rattle.clfs_manager.specs.Restarts.{EndsInRestart, rebased_streams};
 ghost use Rattle.clfs_manager.specs.Written.{IsIntact, IsYetToForget, WritesDisk};
 
 use crate::appending::kept;
-use crate::arguments::need_of;
-use crate::flushing::broken;
-use crate::log::Log;
+use crate::log::{Log, broken};
 use crate::manager::Manager;
 use clfs_disk::{Disk, Failed};
 use clfs_laws::{
@@ -52,6 +49,7 @@ use clfs_model::{Refusal, State, ways_of_a_step};
 use clfs_queue::the_next_lsn_is_above_all;
 use clfs_record::Fields;
 use clfs_recover::{groups_come_behind_the_last_block, logs_are_copies_and_blocks};
+use clfs_room::need_of;
 use clfs_tables::Tables;
 use clfs_told::Told;
 
@@ -75,23 +73,24 @@ fn move_base(tables: &mut Tables, stream: u16, base: Lsn)
     }
 }
 
-// What a restart area's record says beside its data: the link goes to the one before it.
-fn restart_fields(stream: u16, previous: Lsn, base: Lsn) -> Fields
-    ensures stream { result.stream ≡ stream }
-    ensures base { result.new_base ≡ base }
-    ensures record { (s : State) (area : Area) (bytes : List ℕ) → area.stream ≡ stream → lsn_or_null (newest_restart s stream) ≡ previous
-        → unplaced result bytes ≡ restart_record s area bytes base }
-{
-    Fields {
-        stream,
-        kind: Kind::Restart,
-        previous,
-        undo_next: Lsn::null(),
-        new_base: base,
-    }
-}
-
 impl Log {
+    // What the record of a restart area of a stream says beside its data: the link goes to the one before it.
+    fn restart_fields(&self, stream: u16, base: Lsn) -> Fields
+        requires sound { IsSound self.now }
+        requires there { IsSome (stream_at self.now.state.value stream) }
+        ensures stream { result.stream ≡ stream }
+        ensures base { result.new_base ≡ base }
+        ensures record { (area : Area) (bytes : List ℕ) → area.stream ≡ stream → unplaced result bytes ≡ restart_record self.now.state.value area bytes base }
+    {
+        Fields {
+            stream,
+            kind: Kind::Restart,
+            previous: self.tables.last_restart(stream),
+            undo_next: Lsn::null(),
+            new_base: base,
+        }
+    }
+
     // The log ends in a restart area, which isn't on the disk yet: all that waits is written, and then the base moves, where there is a new one. What
     // lies below the hold is yet to be forgotten. After a fault the log is broken.
     fn store_restart<D: Disk>(&mut self, disk: &mut D, stream: u16, base: Lsn) -> Result<(), Failed>
@@ -102,12 +101,8 @@ impl Log {
         requires up { (base == null_lsn) ≡ false → base_of self.old.state.value stream ≤ base }
         requires valid { IsValid (rebased stream base (flush self.old.state.value)) }
         requires storable { IsStorable (rebased stream base (flush self.old.state.value)) }
-        ensures state { OnOk result (self.new.state.value ≡ rebased stream base (flush self.old.state.value)) }
-        ensures intact { OnOk result (IsYetToForget (D.state disk.new) self.new) }
+        ensures change { ChangesLog IsYetToForget result (self.old.state.value ∷ []) (rebased stream base (flush self.old.state.value)) (D.state disk.old) (D.state disk.new) self.new }
         ensures broken { OnErr result (IsBroken self.old self.new) }
-        ensures writes { WritesDisk (IsErr result) (D.state disk.old) (D.state disk.new) }
-        ensures moments { (asked : Request) (s : State) → Survives asked s (cut self.old.state.value)
-            → Survives asked s (cut (rebased stream base (flush self.old.state.value))) → CrashLeavesSurvivor asked s (D.state disk.old) (D.state disk.new) }
     {
         seals_and_flushes_keep_a_log();
         groups_come_behind_the_last_block();
@@ -133,12 +128,8 @@ impl Log {
         requires up { (base == null_lsn) ≡ false → base_of self.old.state.value stream ≤ base }
         requires valid { IsValid (rebased stream base (flush self.old.state.value)) }
         requires storable { IsStorable (rebased stream base (flush self.old.state.value)) }
-        ensures state { OnOk result (self.new.state.value ≡ rebased stream base (flush self.old.state.value)) }
-        ensures intact { OnOk result (IsIntact (D.state disk.new) self.new) }
+        ensures change { ChangesLog IsIntact result (self.old.state.value ∷ []) (rebased stream base (flush self.old.state.value)) (D.state disk.old) (D.state disk.new) self.new }
         ensures broken { OnErr result (IsBroken self.old self.new) }
-        ensures writes { WritesDisk (IsErr result) (D.state disk.old) (D.state disk.new) }
-        ensures moments { (asked : Request) (s : State) → Survives asked s (cut self.old.state.value)
-            → Survives asked s (cut (rebased stream base (flush self.old.state.value))) → CrashLeavesSurvivor asked s (D.state disk.old) (D.state disk.new) }
     {
         self.store_restart(disk, stream, base)?;
         self.forget_low();
@@ -247,7 +238,7 @@ impl Log {
         let len = data.len() as u32;
         let place = self.area_to_restart(client, area, data, base, reserved)?;
         let stream = self.areas.area(place).stream;
-        let fields = restart_fields(stream, self.last_restart(stream), base);
+        let fields = self.restart_fields(stream, base);
         let before = kept(&self.state);
         let room = self.prepare(disk, stream, len, need_of(reserved, len, &[]))?;
         match self.restart_grown(disk, place, &fields, data, reserved, room) {

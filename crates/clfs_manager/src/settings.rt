@@ -16,18 +16,16 @@ ghost use Rattle.clfs_manager.specs.Memory.{Holds, IsSound};
 ghost use Rattle.clfs_manager.specs.Settings.{KeepsTables, change_to, with_policies};
 ghost use Rattle.clfs_manager.specs.Written.{WritesDisk};
 
-use crate::flushing::broken;
 use crate::log::Log;
 use crate::manager::Manager;
+use crate::survivors::crashes_leave_survivors;
 use clfs_disk::{Disk, Failed};
-use clfs_laws::{states_between_survive, steps_keep_a_state_storable, steps_keep_a_state_valid};
+use clfs_laws::{steps_keep_a_state_storable, steps_keep_a_state_valid};
 use clfs_lsn::{Policy, PolicyKind};
 use clfs_model::{Refusal, State, ways_of_a_step};
 use clfs_physical::Change;
 use clfs_policy::Policies;
-use clfs_recover::{
-    logs_are_copies_and_blocks, low_containers_are_left_out, settings_leave_the_records,
-};
+use clfs_recover::{low_containers_are_left_out, settings_leave_the_records};
 use clfs_told::Told;
 
 // The state with these policies.
@@ -102,8 +100,7 @@ impl Log {
         let _newest = self.physical.image();
         let first = self.hold().container();
         if let Err(failed) = self.physical.write_copy(disk, first, &change_to(&policies)) {
-            self.broken = true;
-            self.state = broken(&self.state);
+            self.break_log();
             return Err(failed);
         }
         self.state = with_policies(&self.state, &policies);
@@ -128,8 +125,7 @@ impl<D: Disk> Manager<D> {
         }
         steps_keep_a_state_valid();
         steps_keep_a_state_storable();
-        states_between_survive();
-        logs_are_copies_and_blocks();
+        crashes_leave_survivors();
         if let Some(refusal) = self.log.policy_refusal(policy) {
             return Err(refusal);
         }
@@ -154,8 +150,7 @@ impl<D: Disk> Manager<D> {
         }
         steps_keep_a_state_valid();
         steps_keep_a_state_storable();
-        states_between_survive();
-        logs_are_copies_and_blocks();
+        crashes_leave_survivors();
         let Some(policies) = self.log.policies_without(kind) else {
             return Err(Refusal::PolicyNotInstalled);
         };

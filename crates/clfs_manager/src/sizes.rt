@@ -18,13 +18,12 @@ ghost use Rattle.clfs_manager.specs.Flushing.{IsBroken};
 ghost use Rattle.clfs_manager.specs.Sizes.{ChangesSize};
 ghost use Rattle.clfs_manager.specs.Written.{IsIntact, WritesDisk};
 
-use crate::flushing::broken;
 use crate::log::Log;
 use crate::manager::Manager;
+use crate::survivors::crashes_leave_survivors;
 use clfs_disk::Disk;
 use clfs_laws::{
-    refusals_are_the_calls_own, states_between_survive, steps_keep_a_state_storable,
-    steps_keep_a_state_valid,
+    refusals_are_the_calls_own, steps_keep_a_state_storable, steps_keep_a_state_valid,
 };
 use clfs_model::{Refusal, State, ways_of_a_step};
 use clfs_physical::PhysicalRefusal;
@@ -68,8 +67,7 @@ impl Log {
                 Ok(())
             }
             Err(PhysicalRefusal::DiskFault) => {
-                self.broken = true;
-                self.state = broken(&self.state);
+                self.break_log();
                 Err(PhysicalRefusal::DiskFault)
             }
             Err(PhysicalRefusal::NoMemory) => Err(PhysicalRefusal::NoMemory),
@@ -97,7 +95,7 @@ impl Log {
         if !self.policies.automatic {
             return Ok(());
         }
-        let room = self.room_for(need);
+        let room = self.space().room_for(need);
         if room.containers == self.containers() {
             return Ok(());
         }
@@ -125,9 +123,8 @@ impl<D: Disk> Manager<D> {
         steps_keep_a_state_valid();
         steps_keep_a_state_storable();
         refusals_are_the_calls_own();
-        states_between_survive();
-        logs_are_copies_and_blocks();
-        if let Some(refusal) = self.log.size_refusal(containers) {
+        crashes_leave_survivors();
+        if let Some(refusal) = self.log.space().size_refusal(containers) {
             return Err(refusal);
         }
         if containers == self.log.containers() {

@@ -12,11 +12,7 @@ ghost use Rattle.clfs_manager.specs.Crashes.{CrashSurvives};
 ghost use Rattle.clfs_manager.specs.Written.{WritesDisk};
 
 use crate::manager::Manager;
-use crate::replies::{
-    area_reply, base_reply, containers_reply, done_reply, extents_reply, flushed_reply,
-    found_reply, held_reply, info_reply, next_reply, placed_reply, sectors_reply, stream_reply,
-    tail_reply,
-};
+use crate::replies::{done, found, reply_of};
 use clfs_disk::Disk;
 use clfs_model::{Call, Reply};
 
@@ -47,45 +43,70 @@ impl<D: Disk> Manager<D> {
     {
         self.stored();
         match call {
-            Call::OpenStream { name } => stream_reply(self.open_stream(client, name)),
+            Call::OpenStream { name } => reply_of(self.open_stream(client, name), Reply::Stream),
             Call::CreateArea {
                 stream,
                 largest,
                 reads,
-            } => area_reply(self.create_area(client, *stream, *largest, *reads)),
-            Call::DeleteArea { area } => done_reply(self.delete_area(client, *area)),
-            Call::Reserve { area, sizes } => held_reply(self.reserve(client, *area, sizes)),
-            Call::Release { area, sectors } => held_reply(self.release(client, *area, *sectors)),
-            Call::Align { area, sizes } => sectors_reply(self.align(client, *area, sizes)),
+            } => reply_of(
+                self.create_area(client, *stream, *largest, *reads),
+                Reply::Area,
+            ),
+            Call::DeleteArea { area } => reply_of(self.delete_area(client, *area), done),
+            Call::Reserve { area, sizes } => {
+                reply_of(self.reserve(client, *area, sizes), Reply::Held)
+            }
+            Call::Release { area, sectors } => {
+                reply_of(self.release(client, *area, *sectors), Reply::Held)
+            }
+            Call::Align { area, sizes } => {
+                reply_of(self.align(client, *area, sizes), Reply::Sectors)
+            }
             Call::Append {
                 area,
                 draft,
                 reserved,
                 sizes,
-            } => placed_reply(self.append(client, *area, draft, *reserved, sizes)),
-            Call::Flush { area } => flushed_reply(self.flush(client, *area)),
-            Call::FlushTo { area, lsn } => flushed_reply(self.flush_to(client, *area, *lsn)),
-            Call::Read { area, lsn, mode } => found_reply(self.read(client, *area, *lsn, *mode)),
-            Call::ReadNext { area, cursor } => next_reply(self.read_next(client, *area, *cursor)),
-            Call::EndRead { area, cursor } => done_reply(self.end_read(client, *area, *cursor)),
+            } => reply_of(
+                self.append(client, *area, draft, *reserved, sizes),
+                Reply::Placed,
+            ),
+            Call::Flush { area } => reply_of(self.flush(client, *area), Reply::Flushed),
+            Call::FlushTo { area, lsn } => {
+                reply_of(self.flush_to(client, *area, *lsn), Reply::Flushed)
+            }
+            Call::Read { area, lsn, mode } => {
+                reply_of(self.read(client, *area, *lsn, *mode), found)
+            }
+            Call::ReadNext { area, cursor } => {
+                reply_of(self.read_next(client, *area, *cursor), Reply::Next)
+            }
+            Call::EndRead { area, cursor } => {
+                reply_of(self.end_read(client, *area, *cursor), done)
+            }
             Call::WriteRestart {
                 area,
                 bytes,
                 base,
                 reserved,
-            } => placed_reply(self.write_restart(client, *area, bytes, *base, *reserved)),
-            Call::ReadRestart { area } => found_reply(self.read_restart(client, *area)),
-            Call::PreviousRestart { area, cursor } => next_reply(self.previous_restart(
-                client, *area, *cursor,
-            )),
-            Call::Advance { area, lsn } => base_reply(self.advance(client, *area, *lsn)),
-            Call::SetArchive { on } => done_reply(self.set_archive(*on)),
-            Call::SetArchiveTail { lsn } => tail_reply(self.set_archive_tail(*lsn)),
-            Call::ListExtents => extents_reply(self.extents()),
-            Call::InstallPolicy { policy } => done_reply(self.install_policy(*policy)),
-            Call::RemovePolicy { kind } => done_reply(self.remove_policy(*kind)),
-            Call::SetSize { containers } => containers_reply(self.set_size(*containers)),
-            Call::Info { stream } => info_reply(self.info(*stream)),
+            } => reply_of(
+                self.write_restart(client, *area, bytes, *base, *reserved),
+                Reply::Placed,
+            ),
+            Call::ReadRestart { area } => reply_of(self.read_restart(client, *area), found),
+            Call::PreviousRestart { area, cursor } => {
+                reply_of(self.previous_restart(client, *area, *cursor), Reply::Next)
+            }
+            Call::Advance { area, lsn } => reply_of(self.advance(client, *area, *lsn), Reply::Base),
+            Call::SetArchive { on } => reply_of(self.set_archive(*on), done),
+            Call::SetArchiveTail { lsn } => reply_of(self.set_archive_tail(*lsn), Reply::Tail),
+            Call::ListExtents => reply_of(self.extents(), Reply::Extents),
+            Call::InstallPolicy { policy } => reply_of(self.install_policy(*policy), done),
+            Call::RemovePolicy { kind } => reply_of(self.remove_policy(*kind), done),
+            Call::SetSize { containers } => {
+                reply_of(self.set_size(*containers), Reply::Containers)
+            }
+            Call::Info { stream } => reply_of(self.info(*stream), Reply::Info),
         }
     }
 }

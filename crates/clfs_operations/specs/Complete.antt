@@ -9,7 +9,7 @@ use Rattle.clfs_model.specs.declared.reply.Reply.{Reply}
 use Rattle.clfs_model.specs.declared.journal.Entry.{Entry}
 use Rattle.clfs_model.specs.Accepted.{Limits, serve_limits, race_limits, is_within}
 use Rattle.clfs_recover.specs.Files.{StandsFor, AreWholeFiles}
-use Rattle.clfs_manager.specs.Formatting.{open_slot_of}
+use Rattle.clfs_format.specs.Making.{open_slot_of}
 use Rattle.clfs_operations.specs.Answered.{IsAnswered, IsAnsweredInPart}
 use Rattle.clfs_operations.specs.Race.{LeavesFiles}
 use Rattle.clfs_operations.specs.Raced.{IsRaced, IsRacedInPart}

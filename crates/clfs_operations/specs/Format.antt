@@ -7,7 +7,8 @@ use Rattle.clfs_disk.specs.Files.{Unchanged}
 use Rattle.clfs_disk.specs.State.{DiskState, TellsContents, IsHonest, IsSteady, IsSettled, Later, Passes}
 use Rattle.clfs_model.specs.State.{fresh}
 use Rattle.clfs_recover.specs.Files.{StandsFor, AreWholeFiles}
-use Rattle.clfs_manager.specs.Formatting.{open_slot_of, ComesAtOnce, KeepsLog}
+use Rattle.clfs_format.specs.Making.{open_slot_of, KeepsLog}
+use Rattle.clfs_manager.specs.Formatting.{ComesAtOnce}
 use Rattle.clfs_lines.specs.Ends.{AppendsFront}
 use Rattle.clfs_operations.specs.Ends.{disk_fault_text}
 

@@ -6,7 +6,7 @@ use Rattle.clfs_ports.specs.Cause as ports
 use Rattle.clfs_disk.specs.Files.{Unchanged}
 use Rattle.clfs_disk.specs.State as disks
 use Rattle.clfs_disk.specs.State.{DiskState, TellsContents, IsSteady, Later, Passes}
-use Rattle.clfs_manager.specs.Formatting.{open_slot_of, KeepsLog}
+use Rattle.clfs_format.specs.Making.{open_slot_of, KeepsLog}
 use Rattle.clfs_archive_form.specs.Drafting.{most_archive}
 use Rattle.clfs_restore.specs.declared.refusal.RestoreRefusal.{RestoreRefusal}
 use Rattle.clfs_restore.specs.declared.refusal.RestoreRefusal.TheVariants.{Exists, NotAnArchive, Gap, UpToInvalid, DiskFault, NoMemory}

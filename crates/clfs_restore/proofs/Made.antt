@@ -1,14 +1,13 @@
 -- What restoring leaves once its base copy is written, and why it is refused for what its input is.
-use Rattle.std.proofs.Common.{inl, inr, ⊎_elim, ◌≡◌, ◌⊎◌, ℕ, zero, suc, ◌*◌, ◌≤◌, Bool, true, false, cond, ltb, eqb, ◌||◌, List, length, Option, Some, None, Result, Ok, Err, refl, sym, ◌∙◌, ap, subst, arith}
+use Rattle.std.proofs.Common.{inl, inr, ⊎_elim, ◌≡◌, ◌⊎◌, ℕ, zero, suc, ◌*◌, ◌≤◌, Bool, true, false, cond, ltb, ◌||◌, List, length, Option, Some, None, Result, Ok, Err, refl, sym, subst, arith}
 use Rattle.clfs_lsn.specs.Lsn.{lsn_number, container_of}
-use Rattle.clfs_disk.specs.Files.{Files, TornIn}
+use Rattle.clfs_disk.specs.Files.{Files}
 use Rattle.clfs_disk.specs.State.{DiskState}
 use Rattle.clfs_base.specs.declared.image.BaseImage.{BaseImage}
 use Rattle.clfs_base.specs.Slots.{is_open_slot}
-use Rattle.clfs_base.specs.Spelling.{IsImage, spelled}
-use Rattle.clfs_base.specs.Writing.{body_of, HasNewest, IsFirst, HasNoCopy, NoneOrFirst}
+use Rattle.clfs_base.specs.Writing.{HasNewest, HasNoCopy, NoneOrFirst}
 use Rattle.clfs_recover.specs.Files.{StandsFor, AreWholeFiles}
-use Rattle.clfs_manager.specs.Formatting.{open_slot_of}
+use Rattle.clfs_format.specs.Making.{open_slot_of}
 use Rattle.clfs_archive_form.specs.declared.archive.Archive.{Archive}
 use Rattle.clfs_archive_form.specs.declared.refusal.InputRefusal.{InputRefusal}
 use Rattle.clfs_archive_form.specs.declared.refusal.InputRefusal.TheVariants as inputs
@@ -20,38 +19,6 @@ use Rattle.clfs_restore.specs.Restoring.{base_bytes, of_input, IsChosen, AreChos
 use Rattle.clfs_restore.specs.declared.refusal.RestoreRefusal.{RestoreRefusal}
 use Rattle.clfs_restore.specs.declared.refusal.RestoreRefusal.TheVariants as refusals
 use Rattle.clfs_restore.proofs.Kept.{filled_still}
-
--- ---- the base copy
-
--- bytes after the gate of slot 0 leave both gates
-pub gates_stay : (old new : Files) → HasNoCopy old → TornIn 0 1 16383 old new → HasNoCopy new
-gates_stay old new none torn zero le = ap (λ (k : ℕ). eqb k 165) (torn.here.below 0 (omega arith)) ∙ none 0 (omega arith)
-gates_stay old new none torn (suc zero) le = ap (λ (k : ℕ). eqb k 165) (torn.here.above 16384 (omega arith)) ∙ none 1 (omega arith)
-gates_stay old new none torn (suc (suc n)) le = absurd (omega (arith, le))
-
--- after the closed gates the copy stands whole
-pub first_is : (image : BaseImage) (body : List ℕ) (old mid : Files) → IsImage image → body ≡ spelled image
-    → HasNoCopy old → TornIn 0 1 16383 old mid → body_of (mid 0) 0 ≡ body → IsFirst 0 image mid
-first_is image body old mid fits is none torn stands = record {
-  next_image = fits;
-  closed = gates_stay old mid none torn;
-  body = stands ∙ is;
-}
-
--- the copy is the newest, and the other files are as they were before its bytes were written
-pub newest_from : (image : BaseImage) (old mid new : Files) → TornIn 0 1 16383 old mid → HasNewest 0 image mid new → HasNewest 0 image old new
-newest_from image old mid new torn has = record {
-  newest = has.newest;
-  same_length = has.same_length ∙ torn.here.same_length;
-  elsewhere = λ file apart. has.elsewhere file apart ∙ torn.elsewhere file apart;
-}
-
-pub none_yet : (image : BaseImage) (old files : Files) → HasNoCopy old → TornIn 0 1 16383 old files → NoneOrFirst 0 image old files
-none_yet image old files none torn = inl (gates_stay old files none torn)
-
-pub none_or_first : (image : BaseImage) (old mid files : Files) → TornIn 0 1 16383 old mid → NoneOrFirst 0 image mid files → NoneOrFirst 0 image old files
-none_or_first image old mid files torn either = ⊎_elim (λ (none : HasNoCopy files). inl none)
-    (λ (has : HasNewest 0 image mid files). inr (newest_from image old mid files torn has)) either
 
 -- ---- the whole log
 

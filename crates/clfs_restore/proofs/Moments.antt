@@ -6,8 +6,8 @@ use Rattle.clfs_disk.specs.Files.{Files, Unchanged, Grown, GrownIn, TornIn}
 use Rattle.clfs_disk.specs.State.{DiskState, Nature, TellsContents, IsSteady, IsHonest, IsSettled, MayLeave, Passes, Later, Leaves, Rises}
 use Rattle.clfs_base.specs.Slots.{is_open_slot}
 use Rattle.clfs_base.specs.Writing.{HasNoCopy}
-use Rattle.clfs_manager.specs.Formatting.{KnowsLengths}
-use Rattle.clfs_restore.specs.Restoring.{base_bytes, GrowsBase, ComesAtOnce, BaseStays}
+use Rattle.clfs_format.specs.Making.{BaseStays, KnowsLengths}
+use Rattle.clfs_restore.specs.Restoring.{base_bytes, GrowsBase, ComesAtOnce}
 
 abbrev pub Change : Type 1
 Change = Files → Files → Type 0

@@ -4,7 +4,7 @@ use Rattle.clfs_disk.specs.Files.{Files, Unchanged}
 use Rattle.clfs_disk.specs.State.{DiskState, TellsContents, IsSteady, IsHonest, IsSettled, Leaves, Later, Passes, Rises}
 use Rattle.clfs_base.specs.Writing.{HasNoCopy}
 use Rattle.clfs_recover.specs.Files.{AreWholeFiles}
-use Rattle.clfs_manager.specs.Formatting.{open_slot_of, KeepsLog}
+use Rattle.clfs_format.specs.Making.{open_slot_of, KeepsLog}
 use Rattle.clfs_restore.specs.declared.refusal.RestoreRefusal.{RestoreRefusal}
 use Rattle.clfs_restore.specs.declared.refusal.RestoreRefusal.TheVariants.{DiskFault}
 use Rattle.clfs_restore.specs.Restoring.{AreChosen, StandForRestored, RestoresAtOnce, GrowsBase, base_bytes, IsFreeCause, IsRestoreCause, IsOfMaking}

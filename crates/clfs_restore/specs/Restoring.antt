@@ -13,7 +13,7 @@ use Rattle.clfs_base.specs.Writing.{HasNoCopy}
 use Rattle.clfs_recover.specs.Files.{StandsFor}
 use Rattle.clfs_recover.specs.Stored.{stored_in}
 use Rattle.clfs_recover.specs.Walk.{shape_of}
-use Rattle.clfs_manager.specs.Formatting.{open_slot_of}
+use Rattle.clfs_format.specs.Making.{open_slot_of}
 use Rattle.clfs_archive_form.specs.declared.archive.Archive.{Archive}
 use Rattle.clfs_archive_form.specs.declared.refusal.InputRefusal.{InputRefusal}
 use Rattle.clfs_archive_form.specs.declared.refusal.InputRefusal.TheVariants as inputs
@@ -69,10 +69,6 @@ pub record ComesAtOnce (P : Files → Type 0) (old new : DiskState) : Type 0 whe
 -- The restored log comes to be there at once.
 abbrev pub RestoresAtOnce : List ℕ → Option ℕ → DiskState → DiskState → Type 0
 RestoresAtOnce bytes up_to old new = ComesAtOnce (StandForRestored bytes up_to) old new
-
--- The base file is as it was.
-abbrev pub BaseStays : Files → Files → Type 0
-BaseStays old new = new 0 ≡ old 0
 
 -- The files of the listed containers hold what is left of these up to an LSN, the last one up to a byte.
 pub record AreFilled (bytes : List ℕ) (archive : Archive) (up_to : ℕ) (files : Files) (end : ℕ) : Type 0 where

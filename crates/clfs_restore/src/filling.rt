@@ -1,38 +1,21 @@
 // The files of a restored log besides its base file: all of them at full length, and in those of the listed containers the blocks that are left.
 ghost use Rattle.std.specs.Prelude.{◌≡◌, ◌≢◌, ◌+◌, ◌-◌, ◌*◌, ◌≤◌, ◌<◌, ℕ, length, OnOk, IfOk, IfErr, IsErrOf};
 ghost use Rattle.clfs_lsn.specs.Format.{sector_bytes};
-ghost use Rattle.clfs_lsn.specs.Limits.{most_containers};
 ghost use Rattle.clfs_lsn.specs.Lsn.{container_of};
 ghost use Rattle.clfs_disk.specs.State.{TellsContents, IsSteady, IsHonest, IsSettled, Passes, Rises};
 ghost use Rattle.clfs_base.specs.Spelling.{IsImage};
-ghost use Rattle.clfs_manager.specs.Formatting.{KnowsLengths, SameLengths};
+ghost use Rattle.clfs_format.specs.Making.{BaseStays, KnowsLengths, SameLengths};
 ghost use Rattle.clfs_archive_form.specs.Reading.{CanBeRead};
 ghost use Rattle.clfs_archive_form.specs.Written.{IsReadable, HoldsKept, CanBeRestored};
-ghost use Rattle.clfs_restore.specs.Restoring.{BaseStays, AreFilled, IsOfMaking};
+ghost use Rattle.clfs_restore.specs.Restoring.{AreFilled, IsOfMaking};
 
 use crate::piece::fill_piece;
 use crate::refusal::RestoreRefusal;
 use clfs_archive_form::Archive;
-use clfs_disk::{Disk, GrowRefusal, overwritten_bytes_stand_in_place};
+use clfs_disk::{Disk, overwritten_bytes_stand_in_place};
+use clfs_format::make_containers;
 use clfs_lsn::{Lsn, SECTOR};
 use std::alloc::Global;
-
-// Makes the files of so many containers, each at least so long.
-fn make_files<D: Disk>(disk: &mut D, containers: u16, len: u64) -> Result<(), GrowRefusal>
-    requires { containers ≤ most_containers }
-    ensures long { OnOk result (KnowsLengths (D.state disk.old)
-        → (file : ℕ) → 1 ≤ file → file ≤ containers → len ≤ length ((D.state disk.new).files file)) }
-    ensures base { BaseStays (D.state disk.old).files (D.state disk.new).files }
-    ensures time { Passes BaseStays (D.state disk.old) (D.state disk.new) }
-    ensures cause { IsErrOf result GrowRefusal.Failed → Rises (D.state disk.old).faults (D.state disk.new).faults }
-    ensures steady { IsSteady (D.state disk.old) → (IsErrOf result GrowRefusal.Failed → ⊥)
-        × ((D.state disk.new).faults ≡ (D.state disk.old).faults) }
-{
-    for file in 1..containers + 1 {
-        disk.grow(file, len)?;
-    }
-    Ok(())
-}
 
 // Writes the blocks that are left of the listed container so many after the first, and answers where they end.
 fn write_container<D: Disk>(
@@ -117,7 +100,7 @@ pub(crate) fn fill_files<D: Disk>(
     ensures only { IfErr result IsOfMaking }
 {
     let len = SECTOR as u64 * archive.image.container_sectors as u64;
-    make_files(disk, archive.image.containers, len)?;
+    make_containers(disk, archive.image.containers, len)?;
     let end = write_containers(alloc, disk, archives, archive, up_to)?;
     disk.sync()?;
     Ok(end)

@@ -23,7 +23,8 @@ mod refusal;
 mod restoring;
 
 pub use archiving::write_archive;
+pub use clfs_format::first_open_slot;
 pub use laws::{a_log_restored_of_its_archive_is_the_same, reads_may_come_first};
 pub use moving::move_tail;
 pub use refusal::{ArchiveRefusal, RestoreRefusal};
-pub use restoring::{RestoreRefused, cause_after_fault, first_open_slot, restore};
+pub use restoring::{RestoreRefused, cause_after_fault, restore};

@@ -1,18 +1,17 @@
 // Restoring a log of archives on a disk on which none is: the base file at full length, with no gate open; then all other files; and then the base copy,
 // whose gate is opened last. No gate of the base file is ever written but that one: both are closed already, and a byte that is being written may hold
 // anything after a crash.
-ghost use Rattle.std.specs.Prelude.{◌≡◌, ◌≢◌, ◌⊎◌, ◌+◌, ◌-◌, ◌*◌, ◌≤◌, ◌<◌, ℕ, None, Some, Ok, length, OnOk, OnErr, IfOk, IfErr, IsOk, IsErrOf};
+ghost use Rattle.std.specs.Prelude.{◌≡◌, ◌≢◌, ◌⊎◌, ◌+◌, ◌-◌, ◌*◌, ◌≤◌, ◌<◌, ℕ, None, Some, Ok, length, OnOk, IfOk, IfErr, IsErrOf};
 ghost use Rattle.clfs_lsn.specs.Format.{sector_bytes};
 ghost use Rattle.clfs_lsn.specs.Lsn.{lsn_number, container_of};
 ghost use Rattle.clfs_disk.specs.Files.{Files, Unchanged, GrownIn};
 ghost use Rattle.clfs_disk.specs.State.{TellsContents, IsSteady, IsHonest, IsSettled, Later, Leaves, Passes, Rises};
-ghost use Rattle.clfs_base.specs.declared.image.BaseImage.{BaseImage};
 ghost use Rattle.clfs_base.specs.Layout.{slot_bytes};
 ghost use Rattle.clfs_base.specs.Slots.{newest_of};
 ghost use Rattle.clfs_base.specs.Spelling.{IsImage, spelled};
-ghost use Rattle.clfs_base.specs.Writing.{HasNewest, HasNoCopy, NoneOrFirst};
+ghost use Rattle.clfs_base.specs.Writing.{HasNoCopy};
 ghost use Rattle.clfs_recover.specs.Files.{StandsFor, AreWholeFiles};
-ghost use Rattle.clfs_manager.specs.Formatting.{open_slot_of, KnowsLengths, SameLengths, KeepsLog};
+ghost use Rattle.clfs_format.specs.Making.{open_slot_of, KnowsLengths, KeepsLog};
 ghost use Rattle.clfs_archive_form.specs.declared.archive.Archive.{Archive};
 ghost use Rattle.clfs_archive_form.specs.Reading.{CanBeRead};
 ghost use Rattle.clfs_archive_form.specs.Restoring.{restored};
@@ -25,10 +24,9 @@ use clfs_archive_form::{
     Archive, archives_can_be_restored, choose_up_to, read_archives, restored_copy,
     restored_files_stand_for_the_log,
 };
-use clfs_base::{
-    BaseImage, SLOT_BYTES, copies_are_read_as_written, encode, has_open_gate, open_slot, write_body,
-};
-use clfs_disk::{Disk, Failed, calls_join};
+use clfs_base::{BaseImage, SLOT_BYTES, copies_are_read_as_written, encode};
+use clfs_disk::Disk;
+use clfs_format::{first_open_slot, write_first_copy};
 use clfs_lsn::Lsn;
 use std::alloc::{AllocError, Global};
 
@@ -39,24 +37,6 @@ pub struct RestoreRefused<D> {
     pub disk: D,
     /// Why.
     pub cause: RestoreRefusal,
-}
-
-/// The lowest slot of the base file whose gate is open: who finds one need not ask for archives.
-pub fn first_open_slot<D: Disk>(disk: &mut D) -> Result<Option<u32>, Failed>
-    ensures open { IfOk result (λ slot. TellsContents (D.state disk.old) → slot ≡ open_slot_of ((D.state disk.old).files 0)) }
-    ensures same { Unchanged (D.state disk.old).files (D.state disk.new).files }
-    ensures time { Passes Unchanged (D.state disk.old) (D.state disk.new) }
-    ensures cause { OnErr result (Rises (D.state disk.old).faults (D.state disk.new).faults) }
-    ensures steady { IsSteady (D.state disk.old) → IsOk result × ((D.state disk.new).faults ≡ (D.state disk.old).faults) }
-{
-    calls_join::<D>();
-    if has_open_gate(disk, 0)? {
-        return Ok(Some(0));
-    }
-    if has_open_gate(disk, 1)? {
-        return Ok(Some(1));
-    }
-    Ok(None)
 }
 
 // The archives taken together, and up to where the log is restored of them.
@@ -143,30 +123,6 @@ fn copy_bytes(alloc: Global, image: BaseImage, up_to: Lsn, end: u32) -> Result<V
     Ok(body)
 }
 
-// Writes the base copy after the closed gate of slot 0, syncs it, and opens the gate.
-fn write_copy<D: Disk>(disk: &mut D, body: &[u8]) -> Result<(), Failed>
-    requires { length body.now ≡ slot_bytes - 1 }
-    ensures written { OnOk result (TellsContents (D.state disk.old) → (image : BaseImage) → IsImage image
-        → body.now ≡ spelled image → HasNoCopy (D.state disk.old).files
-        → HasNewest 0 image (D.state disk.old).files (D.state disk.new).files) }
-    ensures settled { OnOk result (IsHonest (D.state disk.old) → IsSettled (D.state disk.new)) }
-
-    // Whatever the answer, a crash at any moment leaves no open slot or this copy.
-    ensures moments { IsSettled (D.state disk.old) → (image : BaseImage) → IsImage image
-        → body.now ≡ spelled image → HasNoCopy (D.state disk.old).files
-        → Leaves (NoneOrFirst 0 image (D.state disk.old).files) (D.state disk.old) (D.state disk.new) }
-
-    ensures lengths { SameLengths (D.state disk.old).files (D.state disk.new).files }
-    ensures time { Later (D.state disk.old) (D.state disk.new) }
-    ensures cause { OnErr result (Rises (D.state disk.old).faults (D.state disk.new).faults) }
-    ensures steady { IsSteady (D.state disk.old) → base_bytes ≤ length ((D.state disk.old).files 0)
-        → IsOk result × ((D.state disk.new).faults ≡ (D.state disk.old).faults) }
-{
-    calls_join::<D>();
-    write_body(disk, 0, body)?;
-    open_slot(disk, 0)
-}
-
 // Makes the log.
 fn make_log<D: Disk>(
     alloc: Global,
@@ -198,7 +154,7 @@ fn make_log<D: Disk>(
     let end = prepare(alloc, disk, archives, &archive, up_to)?;
     let Archive { image, .. } = archive;
     let body = copy_bytes(alloc, image, up_to, end)?;
-    write_copy(disk, &body)?;
+    write_first_copy(disk, &body)?;
     Ok(())
 }
 

@@ -1,11 +1,13 @@
 -- The tables of the records: what contracts see of them, and what they keep.
-use Rattle.std.specs.Prelude.{◌≡◌, ℕ, ◌-◌, ◌*◌, ◌<◌, ◌≤◌, ◌^◌, min, map, List, length, take, drop, filter, All, slice_index_or}
+use Rattle.std.specs.Prelude.{◌≡◌, ℕ, ◌-◌, ◌*◌, ◌<◌, ◌≤◌, ◌^◌, min, map, List, length, take, drop, filter, All, Some, slice_index_or}
 use Rattle.std.specs.Option.{option_map_or}
 use Rattle.clfs_lsn.specs.Lsn.{null_lsn}
 use Rattle.clfs_lsn.specs.Streams.{stream_in}
 use Rattle.clfs_lsn.specs.declared.entry.Head.{Head}
 use Rattle.clfs_lsn.specs.declared.stream.Stream.{Stream}
-use Rattle.clfs_lsn.specs.Heads.{heads_from, stream_heads, is_restart}
+use Rattle.clfs_lsn.specs.Heads.{head_at, heads_from, stream_heads, is_restart}
+use Rattle.clfs_model.specs.declared.state.State.{State}
+use Rattle.clfs_model.specs.Heads.{heads_of}
 use Rattle.clfs_tail.specs.Firsts.{AreFirsts}
 use Rattle.clfs_tables.specs.declared.tables.StreamRow.{StreamRow}
 use Rattle.clfs_tables.specs.declared.tables.Tables.TheInside.{Inside}
@@ -26,6 +28,14 @@ base_in streams number = option_map_or (λ (stream : Stream). stream.base) (stre
 -- the number of a stream that is there
 abbrev pub IsNumber : List Stream → ℕ → Type 0
 IsNumber streams stream = (1 ≤ stream) × (stream ≤ length streams)
+
+-- A fact of every state whose streams and records the tables have.
+abbrev pub OfStates : Tabled → (State → Type 0) → Type 0
+OfStates tables fact = (s : State) → s.streams ≡ tables.streams → heads_of s ≡ tables.heads → fact s
+
+-- There is or was a record of a stream at an LSN.
+abbrev pub IsKnown : List Head → ℕ → ℕ → Type 0
+IsKnown heads stream lsn = (head : Head) × (head_at lsn heads ≡ Some head) × (head.stream ≡ stream)
 
 -- The tables show the same streams and records, and forget no more.
 pub record HasSame (old new : Tabled) : Type 0 where

@@ -3,20 +3,24 @@
 // reading forward from there begins at the first live record, so no answer needs them. The list of all heads is told and not kept.
 ghost use Rattle.std.specs.Prelude.{◌≡◌, ℕ, min, ◌+◌, ◌-◌, ◌*◌, ◌^◌, ◌<◌, ◌≤◌, [], ◌∷◌, ◌++◌, length, All, Option, Some, None, OnOk, slice_get, slice_index};
 ghost use Rattle.std.specs.Option.{option_map};
+ghost use Rattle.clfs_lsn.specs.Head.{head_of};
 ghost use Rattle.clfs_lsn.specs.Lsn.{null_lsn};
 ghost use Rattle.clfs_lsn.specs.Place.{IsSmall, frontier};
 ghost use Rattle.clfs_lsn.specs.declared.entry.Head.{Head};
 ghost use Rattle.clfs_model.specs.declared.state.State.{State};
 ghost use Rattle.clfs_lsn.specs.declared.stream.Stream.{Stream};
+ghost use Rattle.clfs_model.specs.Live.{live_at};
+ghost use Rattle.clfs_model.specs.Reading.{newest_restart};
 ghost use Rattle.clfs_model.specs.State.{stream_at};
 ghost use Rattle.clfs_lsn.specs.Streams.{set_base, stream_number_from};
 ghost use Rattle.clfs_lsn.specs.Heads.{live_head_at, last_live_head, head_at, head_above, heads_from, live_heads, next_head, stream_heads, restart_heads, restarts_among, head_below, hold_of};
 ghost use Rattle.clfs_model.specs.Refusals.{stream_number};
-ghost use Rattle.clfs_tables.specs.Tables.{HasSame, IsKept, IsNumber, base_in, restarts_of};
+ghost use Rattle.clfs_tables.specs.Tables.{HasSame, IsKept, IsKnown, IsNumber, OfStates, base_in, restarts_of};
 
 use clfs_cursor::{Search, search_from};
 use clfs_index::StreamIndex;
 use clfs_lsn::{Head, Kind, Lsn, Mode, Name, Place};
+use clfs_model::records_are_as_their_heads;
 use clfs_restart::RestartAreas;
 use clfs_streams::Streams;
 use clfs_tail::LogTail;
@@ -134,8 +138,10 @@ impl Tables {
     /// The live record of a stream at an LSN, by its head.
     pub fn live_at(&self, stream: u16, lsn: Lsn) -> Option<Head>
         requires there { IsNumber self.now.streams stream }
-        ensures { result ≡ live_head_at (base_in self.now.streams stream) stream lsn self.now.heads }
+        ensures head { result ≡ live_head_at (base_in self.now.streams stream) stream lsn self.now.heads }
+        ensures state { OfStates self.now (λ s. result ≡ option_map head_of (live_at s stream lsn)) }
     {
+        records_are_as_their_heads();
         let found = self.row(stream).index.live_at(lsn)?;
         Some(found.head)
     }
@@ -171,7 +177,7 @@ impl Tables {
     /// The record where reading goes next from the one of a stream at an LSN, live or not.
     pub fn next(&self, stream: u16, mode: Mode, last: Lsn) -> Option<Head>
         requires there { IsNumber self.now.streams stream }
-        requires known { (head : Head) × (head_at last self.now.heads ≡ Some head) × (head.stream ≡ stream) }
+        requires known { IsKnown self.now.heads stream last }
         ensures { result ≡ next_head (base_in self.now.streams stream) stream mode last self.now.heads }
     {
         if let Mode::Forward = mode {
@@ -206,8 +212,10 @@ impl Tables {
     /// The newest live restart area of a stream, by its head.
     pub fn newest_restart(&self, stream: u16) -> Option<Head>
         requires there { IsNumber self.now.streams stream }
-        ensures { result ≡ slice_get (restart_heads (base_in self.now.streams stream) stream self.now.heads) 0 }
+        ensures head { result ≡ slice_get (restart_heads (base_in self.now.streams stream) stream self.now.heads) 0 }
+        ensures state { OfStates self.now (λ s. result ≡ option_map head_of (newest_restart s stream)) }
     {
+        records_are_as_their_heads();
         self.row(stream).restarts.newest()
     }
 

@@ -1,8 +1,7 @@
 use Rattle.std.proofs.Common.{◌≡◌, ℕ, ◌-◌, ◌*◌, ◌<◌, ◌≤◌, length}
 use Rattle.clfs_disk.specs.State.{TellsContents, IsSteady, Passes}
-use Rattle.clfs_manager.specs.Formatting.{SameLengths}
+use Rattle.clfs_format.specs.Making.{BaseStays, SameLengths}
 use Rattle.clfs_archive_form.specs.Written.{HoldsKept}
-use Rattle.clfs_restore.specs.Restoring.{BaseStays}
 use Rattle.clfs_restore.proofs.filling.write_containers.Given as goal
 
 abbrev pub invariant-loop-i : goal.invariant-loop-i

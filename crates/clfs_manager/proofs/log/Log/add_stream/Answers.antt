@@ -84,7 +84,7 @@ returns-in-Err-DiskFault-clause-writes g c =
     writes_failed _ (g.D.Disk.state c.args.disk.now) (g.D.Disk.state c.add_stream.new.disk) old.state.value old refl c.requires.intact.opened
     c.add_stream.ensures.time (c.add_stream.ensures.cause fault) (λ calm made. (c.add_stream.ensures.steady calm made).0 fault)
 
-module _ (g : Over) (c : goal.After-self-2-1 g) where
+module _ (g : Over) (c : goal.After-self-1 g) where
   abbrev old : Log
   old = c.args.self.now
 

@@ -1,8 +1,8 @@
 use Rattle.clfs_model.specs.Flush.{cut}
 use Rattle.clfs_model.specs.Survivors.{Survives}
 use Rattle.clfs_manager.proofs.Crashes.{crash_after}
-use Rattle.std.proofs.Common.{◌≡◌, false, refl, sym, ap, subst, ◌∙◌, length}
-use Rattle.std.specs.Prelude.{IsErr, IsOk}
+use Rattle.std.proofs.Common.{◌≡◌, [], ◌∷◌, false, refl, sym, ap, subst, ◌∙◌, length}
+use Rattle.std.specs.Prelude.{All, IsErr, IsOk}
 use Rattle.clfs_areas.specs.Table.{area_at}
 use Rattle.clfs_laws.specs.Between.{IsWhole}
 use Rattle.clfs_model.specs.declared.state.Area.{Area}
@@ -11,6 +11,7 @@ use Rattle.clfs_model.specs.Put.{flush_if, hold_sizes, plain_record, put, seal_i
 use Rattle.clfs_model.specs.Step.{fills_buffers}
 use Rattle.clfs_model.specs.Valid.{IsValid}
 use Rattle.clfs_manager.proofs.AppendCall.{hold_named}
+use Rattle.clfs_manager.proofs.Changing.{Survive, two_survive}
 use Rattle.clfs_manager.proofs.Intact.{writes_as}
 use Rattle.clfs_manager.proofs.Reserved.{intact_after}
 use Rattle.clfs_manager.proofs.Sealed.{writes_after}
@@ -45,7 +46,7 @@ returns-clause-state g c =
     c.hold_sizes.ensures.state
     ∙ hold_named here area sizes c.put_draft.new.self.state.value c.in_ok-lsn.ensures.client c.in_ok-lsn.ensures.number
     ∙ ap (λ (t : State). hold_sizes area sizes t) c.in_ok-lsn.ensures.state in
-    c.in_ok-finish.ensures.state ∙ ap (λ (t : State). flush_if draft.flush (seal_if draft.seal t)) same
+    c.in_ok-finish.ensures.change.state ∙ ap (λ (t : State). flush_if draft.flush (seal_if draft.seal t)) same
 
 pub returns-in_err-finish-clause-quiet : goal.returns-in_err-finish-clause-quiet
 returns-in_err-finish-clause-quiet g c = λ ready seal flush.
@@ -80,13 +81,13 @@ returns-in_err-finish-clause-writes g c =
     writes_after c.put_draft.result _ _ (g.D.Disk.state c.args.disk.now) (g.D.Disk.state c.put_draft.new.disk) (g.D.Disk.state c.finish.new.disk)
     c.in_ok-lsn.was c.put_draft.ensures.writes
     (writes_as (IsErr c.finish.result) _ _ _ (λ _. c.from_residual-in_err-finish.ensures.0)
-    (λ _. subst (λ r. IsErr r) (sym c.in_err-finish.was) refl) c.finish.ensures.writes)
+    (λ _. subst (λ r. IsErr r) (sym c.in_err-finish.was) refl) c.finish.ensures.change.writes)
 
 pub returns-clause-writes : goal.returns-clause-writes
 returns-clause-writes g c =
     writes_after c.put_draft.result _ _ (g.D.Disk.state c.args.disk.now) (g.D.Disk.state c.put_draft.new.disk) (g.D.Disk.state c.finish.new.disk)
     c.in_ok-lsn.was c.put_draft.ensures.writes
-    (writes_as (IsErr c.finish.result) _ _ _ (λ fault. subst (λ r. IsErr r) c.in_ok-finish.was fault) (λ fault. absurd (cc fault)) c.finish.ensures.writes)
+    (writes_as (IsErr c.finish.result) _ _ _ (λ fault. subst (λ r. IsErr r) c.in_ok-finish.was fault) (λ fault. absurd (cc fault)) c.finish.ensures.change.writes)
 
 pub returns-in_err-finish-clause-moments : goal.returns-in_err-finish-clause-moments
 returns-in_err-finish-clause-moments g c = λ asked s ready held sealed flushed.
@@ -101,8 +102,9 @@ returns-in_err-finish-clause-moments g c = λ asked s ready held sealed flushed.
     ∙ ap (λ (t : State). hold_sizes area sizes t) c.in_ok-lsn.ensures.state in
     crash_after c.put_draft.result _ asked s (g.D.Disk.state c.args.disk.now) (g.D.Disk.state c.put_draft.new.disk) (g.D.Disk.state c.finish.new.disk)
     c.in_ok-lsn.was c.put_draft.ensures.writes (c.put_draft.ensures.moments asked s ready)
-    (c.finish.ensures.moments asked s (subst (λ (t : State). Survives asked s (cut t)) (sym same) held)
-    (subst (λ (t : State). Survives asked s (cut (seal_if draft.seal t))) (sym same) sealed)
+    (c.finish.ensures.change.moments asked s
+    (subst (λ (t : State). All (Survive asked s) (t ∷ seal_if draft.seal t ∷ [])) (sym same)
+    (two_survive asked s (hold_sizes area sizes (put u (plain_record area draft))) _ held sealed))
     (subst (λ (t : State). Survives asked s (cut (flush_if draft.flush (seal_if draft.seal t)))) (sym same) flushed))
 
 pub returns-in_err-lsn-clause-moments : goal.returns-in_err-lsn-clause-moments
@@ -121,6 +123,7 @@ returns-clause-moments g c = λ asked s ready held sealed flushed.
     ∙ ap (λ (t : State). hold_sizes area sizes t) c.in_ok-lsn.ensures.state in
     crash_after c.put_draft.result _ asked s (g.D.Disk.state c.args.disk.now) (g.D.Disk.state c.put_draft.new.disk) (g.D.Disk.state c.finish.new.disk)
     c.in_ok-lsn.was c.put_draft.ensures.writes (c.put_draft.ensures.moments asked s ready)
-    (c.finish.ensures.moments asked s (subst (λ (t : State). Survives asked s (cut t)) (sym same) held)
-    (subst (λ (t : State). Survives asked s (cut (seal_if draft.seal t))) (sym same) sealed)
+    (c.finish.ensures.change.moments asked s
+    (subst (λ (t : State). All (Survive asked s) (t ∷ seal_if draft.seal t ∷ [])) (sym same)
+    (two_survive asked s (hold_sizes area sizes (put u (plain_record area draft))) _ held sealed))
     (subst (λ (t : State). Survives asked s (cut (flush_if draft.flush (seal_if draft.seal t)))) (sym same) flushed))

@@ -1,24 +1,22 @@
-use Rattle.std.proofs.Common.{sym, subst}
-use Rattle.clfs_model.specs.declared.state.State.{State}
-use Rattle.clfs_model.specs.Flush.{cut}
-use Rattle.clfs_model.specs.Put.{flush_if}
-use Rattle.clfs_model.specs.Survivors.{Survives}
-use Rattle.clfs_manager.proofs.Crashes.{crash_after}
+use Rattle.std.proofs.Common.{refl, sym, subst, [], ◌∷◌}
 use Rattle.std.specs.Prelude.{IsErr}
-use Rattle.clfs_manager.proofs.Sealed.{writes_after}
+use Rattle.clfs_model.specs.declared.state.State.{State}
+use Rattle.clfs_model.specs.Put.{flush_if, seal_if}
+use Rattle.clfs_manager.specs.Changing.{ChangesLog}
+use Rattle.clfs_manager.specs.Written.{IsIntact}
+use Rattle.clfs_manager.proofs.Changing.{changes_failed, changes_then}
 use Rattle.clfs_manager.proofs.log.Log.finish.Goals as goal
 
-pub returns-clause-writes : goal.returns-clause-writes
-returns-clause-writes g c = writes_after c.seal_if.result _ (IsErr c.flush_if.result) (g.D.Disk.state c.args.disk.now) (g.D.Disk.state c.seal_if.new.disk)
-    (g.D.Disk.state c.flush_if.new.disk) c.in_ok-seal_if.was c.seal_if.ensures.writes c.flush_if.ensures.writes
+pub returns-in_err-seal_if-clause-change : goal.returns-in_err-seal_if-clause-change
+returns-in_err-seal_if-clause-change g c =
+    let s : State = c.args.self.now.state.value in
+    changes_failed c.seal_if.result c.from_residual.result (s ∷ []) [] (seal_if c.args.seal s) _ _ _ _ c.seal_if.new.self
+    (subst (λ r. IsErr r) (sym c.in_err-seal_if.was) refl) c.from_residual.ensures.0 c.in_err-seal_if.ensures.change.broken c.seal_if.ensures.change
 
-pub returns-in_err-seal_if-clause-moments : goal.returns-in_err-seal_if-clause-moments
-returns-in_err-seal_if-clause-moments g c = λ asked s before sealed flushed. c.seal_if.ensures.moments asked s before sealed
-
-pub returns-clause-moments : goal.returns-clause-moments
-returns-clause-moments g c = λ asked s before sealed flushed.
-    let at = c.in_ok-seal_if.ensures.state in
-    crash_after c.seal_if.result _ asked s (g.D.Disk.state c.args.disk.now) (g.D.Disk.state c.seal_if.new.disk) (g.D.Disk.state c.flush_if.new.disk)
-    c.in_ok-seal_if.was c.seal_if.ensures.writes (c.seal_if.ensures.moments asked s before sealed)
-    (c.flush_if.ensures.moments asked s (subst (λ (t : State). Survives asked s (cut t)) (sym at) sealed)
-    (subst (λ (t : State). Survives asked s (cut (flush_if c.args.flush t))) (sym at) flushed))
+pub returns-clause-change : goal.returns-clause-change
+returns-clause-change g c =
+    let s : State = c.args.self.now.state.value in
+    changes_then _ c.flush_if.result (s ∷ []) [] (seal_if c.args.seal s) (flush_if c.args.flush (seal_if c.args.seal s)) (g.D.Disk.state c.args.disk.now)
+    (g.D.Disk.state c.seal_if.new.disk) (g.D.Disk.state c.flush_if.new.disk) c.seal_if.new.self c.flush_if.new.self c.in_ok-seal_if.ensures.change
+    (subst (λ (v : State). ChangesLog IsIntact c.flush_if.result (v ∷ []) (flush_if c.args.flush v) (g.D.Disk.state c.seal_if.new.disk) (g.D.Disk.state c.flush_if.new.disk)
+    c.flush_if.new.self) c.in_ok-seal_if.ensures.change.state c.flush_if.ensures.change)

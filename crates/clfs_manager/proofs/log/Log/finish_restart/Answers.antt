@@ -1,19 +1,20 @@
-use Rattle.std.proofs.Common.{refl, sym, subst}
+use Rattle.std.proofs.Common.{refl, sym, subst, [], ◌∷◌}
 use Rattle.std.specs.Prelude.{IsErr}
-use Rattle.clfs_manager.proofs.Intact.{intact_forgot, writes_as}
+use Rattle.clfs_model.specs.declared.state.State.{State}
+use Rattle.clfs_model.specs.Answers.{rebased}
+use Rattle.clfs_model.specs.Flush.{flush}
+use Rattle.clfs_manager.proofs.Changing.{changes_forgot, changes_refused}
 use Rattle.clfs_manager.proofs.log.Log.finish_restart.Goals as goal
 
-pub returns-in_err-store_restart-clause-writes : goal.returns-in_err-store_restart-clause-writes
-returns-in_err-store_restart-clause-writes g c =
-    writes_as _ _ (g.D.Disk.state c.args.disk.now) (g.D.Disk.state c.store_restart.new.disk) (λ _. c.from_residual.ensures.0)
-    (λ _. subst (λ r. IsErr r) (sym c.in_err-store_restart.was) refl) c.store_restart.ensures.writes
+pub returns-in_err-store_restart-clause-change : goal.returns-in_err-store_restart-clause-change
+returns-in_err-store_restart-clause-change g c =
+    let s : State = c.args.self.now.state.value in
+    changes_refused c.store_restart.result c.from_residual.result (s ∷ []) (rebased c.args.stream c.args.base (flush s)) _ _ c.store_restart.new.self
+    c.store_restart.new.self (subst (λ r. IsErr r) (sym c.in_err-store_restart.was) refl) c.from_residual.ensures.0
+    c.in_err-store_restart.ensures.change.broken c.store_restart.ensures.change
 
-pub returns-clause-intact : goal.returns-clause-intact
-returns-clause-intact g c =
-    intact_forgot (g.D.Disk.state c.store_restart.new.disk) c.store_restart.new.self c.forget_low.new.self c.in_ok-store_restart.ensures.intact
-    c.forget_low.ensures.sound c.forget_low.ensures.same c.forget_low.ensures.forgotten
-
-pub returns-clause-writes : goal.returns-clause-writes
-returns-clause-writes g c =
-    writes_as _ _ (g.D.Disk.state c.args.disk.now) (g.D.Disk.state c.store_restart.new.disk) (λ fault. subst (λ r. IsErr r) c.in_ok-store_restart.was fault)
-    (λ fault. absurd (cc fault)) c.store_restart.ensures.writes
+pub returns-clause-change : goal.returns-clause-change
+returns-clause-change g c =
+    let s : State = c.args.self.now.state.value in
+    changes_forgot c.store_restart.result _ tt (s ∷ []) (rebased c.args.stream c.args.base (flush s)) _ _ c.store_restart.new.self c.forget_low.new.self
+    c.in_ok-store_restart.was c.store_restart.ensures.change c.forget_low.ensures.sound c.forget_low.ensures.same c.forget_low.ensures.forgotten

@@ -1,3 +1,4 @@
+use Rattle.clfs_manager.proofs.Changing.{one_survives, two_survive}
 use Rattle.clfs_manager.proofs.Crashes.{crash_still, survives_as}
 use Rattle.std.proofs.Common.{◌≡◌, ℕ, length, refl, sym, subst, ◌∙◌, false}
 use Rattle.clfs_laws.specs.Between.{readied, turned}
@@ -9,7 +10,7 @@ use Rattle.clfs_model.specs.Storable.{IsStorable}
 use Rattle.clfs_model.specs.Valid.{IsValid}
 use Rattle.clfs_manager.specs.Putting.{sealing_writes}
 use Rattle.clfs_manager.proofs.ReadyLog.{it_joins, it_begins, it_turns, may_turn}
-use Rattle.clfs_manager.proofs.Sealed.{on_ok_by, on_err_by}
+use Rattle.clfs_manager.proofs.Sealed.{on_ok_by}
 use Rattle.clfs_manager.proofs.log.Log.make_ready.Goals as goal
 
 pub returns-in-Joins-clause-state : goal.returns-in-Joins-clause-state
@@ -23,10 +24,10 @@ returns-in-BeginsBlock-clause-state g c =
     let s : State = c.args.self.now.state.value in
     let begin = it_begins s.shape s.place c.args.len (sym c.placing.ensures ∙ c.in-BeginsBlock.is) in
     let same : readied s c.args.len ≡ seal s = rw (begin.0, begin.1) refl in
-    on_ok_by c.seal.result (λ is. is ∙ sym same) c.seal.ensures.state
+    on_ok_by c.seal.result (λ is. is ∙ sym same) c.seal.ensures.change.state
 
 pub returns-in-BeginsBlock-clause-broken : goal.returns-in-BeginsBlock-clause-broken
-returns-in-BeginsBlock-clause-broken g c = on_err_by c.seal.result (λ is. is.broken) c.seal.ensures.broken
+returns-in-BeginsBlock-clause-broken g c = c.seal.ensures.change.broken
 
 pub returns-in-BeginsBlock-clause-quiet : goal.returns-in-BeginsBlock-clause-quiet
 returns-in-BeginsBlock-clause-quiet g c = λ quiet.
@@ -64,7 +65,7 @@ returns-in-BeginsContainer-clause-state g c =
     let s : State = c.args.self.now.state.value in
     let turns = it_turns s.shape s.place c.args.len (sym c.placing.ensures ∙ c.in-BeginsContainer.is) in
     let same : readied s c.args.len ≡ turned (flush s) = rw (turns.0, turns.1) refl in
-    on_ok_by c.begin_container.result (λ is. is ∙ sym same) c.begin_container.ensures.state
+    on_ok_by c.begin_container.result (λ is. is ∙ sym same) c.begin_container.ensures.change.state
 
 pub returns-in-BeginsContainer-clause-quiet : goal.returns-in-BeginsContainer-clause-quiet
 returns-in-BeginsContainer-clause-quiet g c = λ quiet.
@@ -81,11 +82,12 @@ returns-in-BeginsBlock-clause-moments g c = λ asked t is.
     let s : State = c.args.self.now.state.value in
     let begin = it_begins s.shape s.place c.args.len (sym c.placing.ensures ∙ c.in-BeginsBlock.is) in
     let same : seal s ≡ readied s c.args.len = rw (begin.0, begin.1) refl in
-    c.seal.ensures.moments asked t is.before (survives_as asked t (seal s) (readied s c.args.len) same is.ready)
+    c.seal.ensures.change.moments asked t (one_survives asked t s is.before) (survives_as asked t (seal s) (readied s c.args.len) same is.ready)
 
 pub returns-in-BeginsContainer-clause-moments : goal.returns-in-BeginsContainer-clause-moments
 returns-in-BeginsContainer-clause-moments g c = λ asked t is.
     let s : State = c.args.self.now.state.value in
     let turns = it_turns s.shape s.place c.args.len (sym c.placing.ensures ∙ c.in-BeginsContainer.is) in
     let same : turned (flush s) ≡ readied s c.args.len = rw (turns.0, turns.1) refl in
-    c.begin_container.ensures.moments asked t is.before (is.flushed turns.0 turns.1) (survives_as asked t (turned (flush s)) (readied s c.args.len) same is.ready)
+    c.begin_container.ensures.change.moments asked t
+    (two_survive asked t s (flush s) is.before (is.flushed turns.0 turns.1)) (survives_as asked t (turned (flush s)) (readied s c.args.len) same is.ready)

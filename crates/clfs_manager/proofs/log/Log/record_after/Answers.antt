@@ -7,12 +7,14 @@ use Rattle.clfs_lsn.specs.declared.cursor.Cursor.{Cursor}
 use Rattle.clfs_model.specs.Reading.{record_cursor, next_of_cursor}
 use Rattle.clfs_lsn.specs.Cursors.{is_over_restarts}
 use Rattle.clfs_areas.specs.Table.{area_at}
-use Rattle.clfs_manager.proofs.Reached.{reaches, after_is_live, found_among}
+use Rattle.clfs_manager.proofs.Reached.{reaches, after_is_live, found_among, found_known}
 use Rattle.clfs_manager.proofs.log.Log.record_after.Goals as goal
 
-pub head_after-requires-clause-cursor : goal.head_after-requires-clause-cursor
-head_after-requires-clause-cursor c = found_among (λ (cursor : Cursor). (cursor.number == c.args.cursor) && not (is_over_restarts cursor.kind))
-    (area_at c.in-Some.place c.args.self.now.areas.areas).cursors c.over_records.result c.over_records.ensures
+pub after-requires-clause-known : goal.after-requires-clause-known
+after-requires-clause-known c = found_known c.args.self.now c.in-Some.place c.area_stream-stream.result c.over_records-found.result c.requires.sound c.in-Some.ensures.within
+    c.area_stream-stream.ensures.value
+    (found_among (λ (cursor : Cursor). (cursor.number == c.args.cursor) && not (is_over_restarts cursor.kind)) (area_at c.in-Some.place c.args.self.now.areas.areas).cursors c.over_records-found.result c.over_records-found.ensures)
+    c.records_are_as_their_heads.ensures.entry_at
 
 pub returns-in-Ok-clause-reaches : goal.returns-in-Ok-clause-reaches
 returns-in-Ok-clause-reaches c = reaches c.args.self.now.state.value c.args.self.now.areas.areas c.args.client c.args.area c.in-Some.place c.in-Ok.head
@@ -21,4 +23,6 @@ returns-in-Ok-clause-reaches c = reaches c.args.self.now.state.value c.args.self
     (after_is_live c.args.self.now.state.value (area_at c.in-Some.place c.args.self.now.areas.areas)
     (record_cursor (area_at c.in-Some.place c.args.self.now.areas.areas) c.args.cursor))
     (ap (λ (o : Option Cursor). option_map head_of (option_and_then (next_of_cursor c.args.self.now.state.value (area_at c.in-Some.place c.args.self.now.areas.areas)) o))
-    (sym c.over_records.ensures) ∙ c.in-Ok.ensures.head)
+    (sym c.over_records-found.ensures)
+    ∙ c.in-Ok.ensures.head c.args.self.now.state.value (sym c.requires.sound.holds.streams) (sym c.requires.sound.holds.heads)
+    (area_at c.in-Some.place c.args.self.now.areas.areas) (sym c.area_stream-stream.ensures.value))

@@ -1,6 +1,7 @@
 use Rattle.clfs_model.specs.Flush.{cut}
 use Rattle.clfs_model.specs.Survivors.{Survives}
 use Rattle.clfs_manager.specs.Crashes.{ReadyingSurvives}
+use Rattle.clfs_manager.proofs.Changing.{one_survives}
 use Rattle.clfs_manager.proofs.Crashes.{crash_after}
 use Rattle.std.proofs.Common.{refl, sym, ap, subst, ◌∙◌, length}
 use Rattle.std.specs.Prelude.{IsErr}
@@ -69,12 +70,12 @@ returns-in_err-finish_restart-clause-writes g c =
     writes_then (IsErr c.put_record.result) _ (g.D.Disk.state c.args.disk.now) (g.D.Disk.state c.put_record.new.disk) (g.D.Disk.state c.finish_restart.new.disk)
     (λ fault. let wrong = subst (λ r. IsErr r) c.in_ok-lsn.was fault in cc wrong) c.put_record.ensures.writes
     (writes_as (IsErr c.finish_restart.result) _ _ _ (λ _. c.from_residual-in_err-finish_restart.ensures.0)
-    (λ _. subst (λ r. IsErr r) (sym c.in_err-finish_restart.was) refl) c.finish_restart.ensures.writes)
+    (λ _. subst (λ r. IsErr r) (sym c.in_err-finish_restart.was) refl) c.finish_restart.ensures.change.writes)
 
 pub returns-clause-state : goal.returns-clause-state
 returns-clause-state g c =
     let e : LogEntry = unplaced c.args.fields.now c.args.bytes.now in
-    c.in_ok-finish_restart.ensures.state
+    c.in_ok-finish_restart.ensures.change.state
     ∙ ap (λ (p : State). rebased c.args.fields.now.stream c.args.fields.now.new_base (flush p))
     (c.in_ok-lsn.ensures.state ∙ ap (λ (v : State). put v e) c.spend.ensures.state)
 
@@ -83,7 +84,7 @@ returns-clause-writes g c =
     writes_then (IsErr c.put_record.result) _ (g.D.Disk.state c.args.disk.now) (g.D.Disk.state c.put_record.new.disk) (g.D.Disk.state c.finish_restart.new.disk)
     (λ fault. let wrong = subst (λ r. IsErr r) c.in_ok-lsn.was fault in cc wrong) c.put_record.ensures.writes
     (writes_as (IsErr c.finish_restart.result) _ _ _ (λ fault. subst (λ r. IsErr r) c.in_ok-finish_restart.was fault) (λ fault. absurd (cc fault))
-    c.finish_restart.ensures.writes)
+    c.finish_restart.ensures.change.writes)
 
 pub returns-in_err-lsn-clause-moments : goal.returns-in_err-lsn-clause-moments
 returns-in_err-lsn-clause-moments g c = λ asked s ready joined based.
@@ -96,7 +97,8 @@ returns-in_err-finish_restart-clause-moments g c = λ asked s ready joined based
     crash_after c.put_record.result _ asked s (g.D.Disk.state c.args.disk.now) (g.D.Disk.state c.put_record.new.disk) (g.D.Disk.state c.finish_restart.new.disk)
     c.in_ok-lsn.was c.put_record.ensures.writes
     (c.put_record.ensures.moments asked s (subst (λ (u : State). ReadyingSurvives asked s u (length c.args.bytes.now)) (sym c.spend.ensures.state) ready))
-    (c.finish_restart.ensures.moments asked s (subst (λ (p : State). Survives asked s (cut p)) (sym at) joined)
+    (c.finish_restart.ensures.change.moments asked s
+    (one_survives asked s c.put_record.new.self.state.value (subst (λ (p : State). Survives asked s (cut p)) (sym at) joined))
     (subst (λ (p : State). Survives asked s (cut (rebased c.args.fields.now.stream c.args.fields.now.new_base (flush p)))) (sym at) based))
 
 pub returns-clause-moments : goal.returns-clause-moments
@@ -106,5 +108,6 @@ returns-clause-moments g c = λ asked s ready joined based.
     crash_after c.put_record.result _ asked s (g.D.Disk.state c.args.disk.now) (g.D.Disk.state c.put_record.new.disk) (g.D.Disk.state c.finish_restart.new.disk)
     c.in_ok-lsn.was c.put_record.ensures.writes
     (c.put_record.ensures.moments asked s (subst (λ (u : State). ReadyingSurvives asked s u (length c.args.bytes.now)) (sym c.spend.ensures.state) ready))
-    (c.finish_restart.ensures.moments asked s (subst (λ (p : State). Survives asked s (cut p)) (sym at) joined)
+    (c.finish_restart.ensures.change.moments asked s
+    (one_survives asked s c.put_record.new.self.state.value (subst (λ (p : State). Survives asked s (cut p)) (sym at) joined))
     (subst (λ (p : State). Survives asked s (cut (rebased c.args.fields.now.stream c.args.fields.now.new_base (flush p)))) (sym at) based))

@@ -1,4 +1,6 @@
-use Rattle.std.proofs.Common.{sym, ◌∙◌}
+use Rattle.std.proofs.Common.{ℕ, ap, sym, ◌∙◌}
+use Rattle.std.specs.Option.{option_map}
+use Rattle.clfs_lsn.specs.Head.{head_of}
 use Rattle.clfs_model.specs.declared.state.Area.{Area}
 use Rattle.clfs_model.specs.Reading.{newest_restart}
 use Rattle.clfs_areas.specs.Table.{area_at}
@@ -10,4 +12,5 @@ returns-in-None-clause-reaches c = reaches c.args.self.now.state.value c.args.se
     (λ (here : Area). newest_restart c.args.self.now.state.value here.stream) c.in-Some.ensures.within
     (c.in-Some.ensures.area c.args.self.now.state.value (sym c.requires.sound.holds.areas))
     (newest_is_live c.args.self.now.state.value (area_at c.in-Some.place c.args.self.now.areas.areas).stream)
-    (sym c.newest_restart.ensures ∙ c.in-Some-newest_restart.is)
+    (ap (λ (stream : ℕ). option_map head_of (newest_restart c.args.self.now.state.value stream)) (sym c.area_stream-stream.ensures.value)
+    ∙ sym (c.newest_restart.ensures.state c.args.self.now.state.value (sym c.requires.sound.holds.streams) (sym c.requires.sound.holds.heads)) ∙ c.in-Some-newest_restart.is)

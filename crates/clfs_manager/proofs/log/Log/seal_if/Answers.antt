@@ -1,10 +1,11 @@
-use Rattle.clfs_manager.proofs.Crashes.{crash_still}
+use Rattle.std.proofs.Common.{refl, []}
+use Rattle.clfs_model.specs.Put.{seal_if}
+use Rattle.clfs_manager.proofs.Changing.{changes_nothing}
 use Rattle.clfs_manager.proofs.log.Log.seal_if.Goals as goal
 
-pub returns-then-asked-clause-moments : goal.returns-then-asked-clause-moments
-returns-then-asked-clause-moments g c = λ request s before after. c.seal.ensures.moments request s before
-    (rw c.if-asked.true at after)
+pub returns-then-asked-clause-change : goal.returns-then-asked-clause-change
+returns-then-asked-clause-change g c = rw c.if-asked.true c.seal.ensures.change
 
-pub returns-clause-moments : goal.returns-clause-moments
-returns-clause-moments g c = λ request s before after. crash_still c.logs_are_copies_and_blocks.ensures.stands c.logs_are_copies_and_blocks.ensures.by_file
-    (g.D.Disk.state c.args.disk.now) c.args.self.now c.requires.intact request s before
+pub returns-clause-change : goal.returns-clause-change
+returns-clause-change g c = changes_nothing tt c.logs_are_copies_and_blocks.ensures.stands c.logs_are_copies_and_blocks.ensures.by_file (g.D.Disk.state c.args.disk.now)
+    c.args.self.now [] (seal_if c.args.asked c.args.self.now.state.value) c.requires.intact (rw c.if-asked.false refl)

@@ -1,5 +1,6 @@
-use Rattle.std.proofs.Common.{◌≡◌, ℕ, ◌+◌, ◌-◌, false, refl, sym, ap, subst, ◌∙◌, length, arith}
+use Rattle.std.proofs.Common.{◌≡◌, [], true, ℕ, ◌+◌, ◌-◌, false, refl, sym, ap, subst, ◌∙◌, length, arith}
 use Rattle.std.specs.Prelude.{IsOk}
+use Rattle.std.proofs.lemmas.List.Elements.{All-head}
 use Rattle.std.proofs.lemmas.List.{length-drop, length-set}
 use Rattle.clfs_lsn.specs.Lsn.{container_of}
 use Rattle.clfs_archive.specs.Blocks.{AreSealed}
@@ -22,6 +23,7 @@ use Rattle.clfs_manager.specs.Flushing.{StoredAfter}
 use Rattle.clfs_manager.specs.Memory.{Holds}
 use Rattle.clfs_manager.specs.OnDisk.{IsStored, AreKept}
 use Rattle.clfs_manager.specs.declared.log.Log.{Log}
+use Rattle.clfs_manager.proofs.Changing.{Survive}
 use Rattle.clfs_manager.proofs.CopiedMeanwhile.{base_copied, crash_copied}
 use Rattle.clfs_manager.proofs.Holds.{hold_is}
 use Rattle.clfs_manager.proofs.Intact.{writes_failed, writes_fine}
@@ -66,15 +68,8 @@ write_copy-requires-clause-change g c =
     let below = moved_below (flushed t) c.args.stream c.args.base s.streams number.0 number.1 c.requires.valid.stable.bases in
     (number.0, omega (arith, number.1, sound.holds.rows), omega (arith, below, c.numbers_fit_their_types.ensures.flushed s sound.valid sound.storable))
 
-pub returns-in-Err-clause-writes : goal.returns-in-Err-clause-writes
-returns-in-Err-clause-writes g c =
-    let old = c.args.self.now in
-    writes_failed _ (g.D.Disk.state c.args.disk.now) (g.D.Disk.state c.write_copy.new.disk) old.state.value old refl c.requires.intact.opened
-    c.write_copy.ensures.time c.in-Err.ensures.cause
-    (λ calm made. let fine = (c.write_copy.ensures.steady calm made).0 in let wrong = subst (λ r. IsOk r) c.in-Err.is fine in cc wrong)
-
-pub returns-in-Err-clause-moments : goal.returns-in-Err-clause-moments
-returns-in-Err-clause-moments g c =
+pub returns-in-Err-clause-change : goal.returns-in-Err-clause-change
+returns-in-Err-clause-change g c =
     let old = c.args.self.now in
     let s : State = old.state.value in
     let t : State = with_base c.args.stream c.args.base s in
@@ -87,7 +82,7 @@ returns-in-Err-clause-moments g c =
     (hold_is t c.place-place.result c.tail.result c.set_base.new.self.streams c.set_base.new.self.heads c.hold-needed.result c.hold-needed.ensures
     (c.records_are_as_their_heads.ensures.hold t) c.place-place.ensures.value (c.tail.ensures ∙ holds.archive)
     (c.set_base.ensures.streams ∙ ap (set_base c.args.stream c.args.base) holds.streams) (c.set_base.ensures.heads ∙ holds.heads)) in
-    crash_copied c.logs_are_copies_and_blocks.ensures.stands c.logs_are_copies_and_blocks.ensures.by_file (g.D.Disk.state c.args.disk.now)
+    let copied = crash_copied c.logs_are_copies_and_blocks.ensures.stands c.logs_are_copies_and_blocks.ensures.by_file (g.D.Disk.state c.args.disk.now)
     (g.D.Disk.state c.write_copy.new.disk) t
     (record { slot = older_of old.physical.slot; image = next_copy c.container.result (changes.Base c.args.stream c.args.base) old.physical.image })
     old c.requires.intact c.requires.valid
@@ -96,9 +91,18 @@ returns-in-Err-clause-moments g c =
     c.args.stream c.args.base c.container.result old.physical blocks sound.valid c.requires.valid
     (c.numbers_fit_their_types.ensures.flushed s sound.valid sound.storable) c.requires.there c.requires.up c.requires.held holds.rows
     c.image-newest.ensures.current first_is stored)
-    c.write_copy.ensures.moments
+    c.write_copy.ensures.moments in
+    record {
+      state = tt;
+      left = tt;
+      broken = c.break_log.ensures.broken.broken;
+      writes = writes_failed (true ≡ true) (g.D.Disk.state c.args.disk.now) (g.D.Disk.state c.write_copy.new.disk) s old refl c.requires.intact.opened
+          c.write_copy.ensures.time c.in-Err.ensures.cause
+          (λ calm made. let wrong = subst (λ r. IsOk r) c.in-Err.is (c.write_copy.ensures.steady calm made).0 in cc wrong);
+      moments = λ asked survived all last. copied asked survived (All-head (Survive asked survived) s [] all) last;
+    }
 
-module _ (g : Over) (c : goal.After-self-2-1 g) where
+module _ (g : Over) (c : goal.After-self-1 g) where
   -- the container from which on the copy lists is that of the hold after the new base
   first_then : c.container.result ≡ container_of (hold (with_base c.args.stream c.args.base c.args.self.now.state.value))
   first_then =
@@ -174,8 +178,8 @@ module _ (g : Over) (c : goal.After-self-2-1 g) where
   stored_then = λ blocks stored.
       (blocks, (rw newest_is (copied blocks stored), λ tells whole stores. c.in_default.ensures.written tells whole blocks stores))
 
-pub returns-clause-intact : goal.returns-clause-intact
-returns-clause-intact g c =
+pub returns-clause-change : goal.returns-clause-change
+returns-clause-change g c =
     let s : State = c.args.self.now.state.value in
     let t : State = with_base c.args.stream c.args.base s in
     let old = c.args.self.now in
@@ -185,34 +189,28 @@ returns-clause-intact g c =
     let intact = c.requires.intact in
     let is = stored_then g c intact.opened.blocks intact.opened.stored in
     let nature = c.write_copy.ensures.time.nature in
-    record {
-      sound = record {
-        valid = subst IsValid (sym state) c.requires.valid;
-        storable = subst IsStorable (sym state) c.requires.storable;
-        unbroken = intact.sound.unbroken;
-        whole = ap (λ (u : State). u.broken) state ∙ intact.sound.whole;
-        holds = subst (λ (u : State). Holds u (record old { tables = c.set_base.new.self; physical = c.write_copy.new.self; state = c.with_base-self.result })) (sym state) (holds_then g c);
-      };
-      blocks = is.0;
-      stored = subst (λ (u : State). IsStored u c.write_copy.new.self is.0) (sym state) is.1.0;
-      files = λ tells. let earlier = tells_before before after nature tells in is.1.1 earlier false (intact.opened.files earlier);
-      kept = λ tells. subst (λ (u : State). AreKept u old.buffers) (sym state)
-          (kept_moved s c.args.stream c.args.base old.buffers (intact.opened.kept (tells_before before after nature tells)));
-      settled = stays_settled before after nature c.in_default.ensures.settled intact.opened.settled;
-    }
-
-pub returns-clause-writes : goal.returns-clause-writes
-returns-clause-writes g c =
-    let old = c.args.self.now in
-    writes_fine _ (g.D.Disk.state c.args.disk.now) (g.D.Disk.state c.write_copy.new.disk) old.state.value
-    (with_base c.args.stream c.args.base old.state.value) old
-    (record old { tables = c.set_base.new.self; physical = c.write_copy.new.self; state = c.with_base-self.result }) (λ f. cc f) c.requires.intact.opened
-    (stored_then g c) c.write_copy.ensures.time (λ calm made. (c.write_copy.ensures.steady calm made).1)
-
-pub returns-clause-moments : goal.returns-clause-moments
-returns-clause-moments g c =
-    let old = c.args.self.now in
-    crash_copied c.logs_are_copies_and_blocks.ensures.stands c.logs_are_copies_and_blocks.ensures.by_file (g.D.Disk.state c.args.disk.now)
-    (g.D.Disk.state c.write_copy.new.disk) (with_base c.args.stream c.args.base old.state.value)
+    let crashes = crash_copied c.logs_are_copies_and_blocks.ensures.stands c.logs_are_copies_and_blocks.ensures.by_file before after t
     (record { slot = older_of old.physical.slot; image = next_copy c.container.result (changes.Base c.args.stream c.args.base) old.physical.image })
-    old c.requires.intact c.requires.valid (copied g c) c.write_copy.ensures.moments
+    old intact c.requires.valid (copied g c) c.write_copy.ensures.moments in
+    record {
+      state = state;
+      left = record {
+        sound = record {
+          valid = subst IsValid (sym state) c.requires.valid;
+          storable = subst IsStorable (sym state) c.requires.storable;
+          unbroken = intact.sound.unbroken;
+          whole = ap (λ (u : State). u.broken) state ∙ intact.sound.whole;
+          holds = subst (λ (u : State). Holds u (record old { tables = c.set_base.new.self; physical = c.write_copy.new.self; state = c.with_base-self.result })) (sym state) (holds_then g c);
+        };
+        blocks = is.0;
+        stored = subst (λ (u : State). IsStored u c.write_copy.new.self is.0) (sym state) is.1.0;
+        files = λ tells. let earlier = tells_before before after nature tells in is.1.1 earlier false (intact.opened.files earlier);
+        kept = λ tells. subst (λ (u : State). AreKept u old.buffers) (sym state)
+            (kept_moved s c.args.stream c.args.base old.buffers (intact.opened.kept (tells_before before after nature tells)));
+        settled = stays_settled before after nature c.in_default.ensures.settled intact.opened.settled;
+      };
+      broken = tt;
+      writes = writes_fine (false ≡ true) before after s t old (record old { tables = c.set_base.new.self; physical = c.write_copy.new.self; state = c.with_base-self.result })
+          (λ f. cc f) intact.opened (stored_then g c) c.write_copy.ensures.time (λ calm made. (c.write_copy.ensures.steady calm made).1);
+      moments = λ asked survived all last. crashes asked survived (All-head (Survive asked survived) s [] all) last;
+    }

@@ -99,7 +99,7 @@ pub returns-in-Err-clause-cause : goal.returns-in-Err-clause-cause
 returns-in-Err-clause-cause g c = c.in-Err.ensures.cause
 
 pub returns-in-Err-clause-broken : goal.returns-in-Err-clause-broken
-returns-in-Err-clause-broken g c = record { broken = refl; state = c.broken-self.ensures }
+returns-in-Err-clause-broken g c = record { broken = c.break_log.ensures.broken.broken; state = c.break_log.ensures.broken.state }
 
 pub returns-clause-steady : goal.returns-clause-steady
 returns-clause-steady g c = λ calm made. (refl, (c.write_copy.ensures.steady calm made).1)

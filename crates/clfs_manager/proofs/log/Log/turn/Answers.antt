@@ -1,20 +1,22 @@
-use Rattle.std.proofs.Common.{◌≡◌, ap, ◌∙◌, true, false, arith}
-use Rattle.std.specs.Prelude.{slice_index}
+use Rattle.std.proofs.Common.{◌≡◌, refl, ap, subst, ◌∙◌, true, false, arith, []}
+use Rattle.std.proofs.lemmas.List.Elements.{All-head}
+use Rattle.std.specs.Prelude.{slice_index, IsOk}
 use Rattle.clfs_laws.specs.Between.{turned}
 use Rattle.clfs_model.specs.declared.state.State.{State}
 use Rattle.clfs_queue.specs.Queued as queues
 use Rattle.clfs_manager.specs.Memory.{Holds}
 use Rattle.clfs_manager.specs.declared.log.Log.{Log}
+use Rattle.clfs_manager.proofs.Changing.{Survive}
 use Rattle.clfs_manager.proofs.CopiedLog.{valid_holds}
 use Rattle.clfs_manager.proofs.Crashes.{crash_stored}
-use Rattle.clfs_manager.proofs.Intact.{writes_fine}
+use Rattle.clfs_manager.proofs.Intact.{writes_failed, writes_fine}
 use Rattle.clfs_manager.proofs.ReadKeeps.{tells_before}
 use Rattle.clfs_manager.proofs.Settled.{stays_settled}
 use Rattle.clfs_manager.proofs.TurnedLog.{kept_turned, holds_turned}
 use Rattle.clfs_manager.proofs.log.Log.turn.Goals as goal
 
-pub returns-clause-intact : goal.returns-clause-intact
-returns-clause-intact g c =
+pub returns-clause-change : goal.returns-clause-change
+returns-clause-change g c =
     let old = c.args.self.now in
     let s : State = old.state.value in
     let sound = c.requires.intact.sound in
@@ -34,18 +36,43 @@ returns-clause-intact g c =
     let behind = g.D.Disk.state c.take_container.new.disk in
     let nature = c.take_container.ensures.time.nature in
     record {
-      sound = record {
-        valid = rw to may.valid;
-        storable = rw to may.storable;
-        unbroken = ap (λ (l : Log). l.broken) same ∙ sound.unbroken;
-        whole = ap (λ (u : State). u.broken) to ∙ sound.whole;
-        holds = memory;
+      state = to;
+      left = record {
+        sound = record {
+          valid = rw to may.valid;
+          storable = rw to may.storable;
+          unbroken = ap (λ (l : Log). l.broken) same ∙ sound.unbroken;
+          whole = ap (λ (u : State). u.broken) to ∙ sound.whole;
+          holds = memory;
+        };
+        blocks = is.0;
+        stored = rw to is.1.0;
+        files = λ tells. let earlier = tells_before before behind nature tells in is.1.1 earlier false (opened.files earlier);
+        kept = λ tells. rw (to, ap (λ (l : Log). l.buffers) same) (kept_turned s old.buffers sound.valid may (opened.kept (tells_before before behind nature tells)));
+        settled = stays_settled before behind nature c.in_default.ensures.settled opened.settled;
       };
-      blocks = is.0;
-      stored = rw to is.1.0;
-      files = λ tells. let earlier = tells_before before behind nature tells in is.1.1 earlier false (opened.files earlier);
-      kept = λ tells. rw (to, ap (λ (l : Log). l.buffers) same) (kept_turned s old.buffers sound.valid may (opened.kept (tells_before before behind nature tells)));
-      settled = stays_settled before behind nature c.in_default.ensures.settled opened.settled;
+      broken = tt;
+      writes = writes_fine (false ≡ true) before behind s (turned s) old taken (λ f. cc f) opened c.in_default.ensures.stored c.take_container.ensures.time
+          (λ calm made. (c.take_container.ensures.steady calm made).1);
+      moments = λ asked t all last. crash_stored c.logs_are_copies_and_blocks.ensures.stands c.logs_are_copies_and_blocks.ensures.by_file before behind s (turned s) old
+          opened c.take_container.ensures.meanwhile (valid_holds s sound.valid) (valid_holds (turned s) may.valid) asked t (All-head (Survive asked t) s [] all) last;
+    }
+
+pub returns-in-Err-clause-change : goal.returns-in-Err-clause-change
+returns-in-Err-clause-change g c =
+    let old = c.args.self.now in
+    let s : State = old.state.value in
+    let before = g.D.Disk.state c.args.disk.now in
+    let behind = g.D.Disk.state c.take_container.new.disk in
+    record {
+      state = tt;
+      left = tt;
+      broken = c.break_log.ensures.broken.broken;
+      writes = writes_failed (true ≡ true) before behind s old refl c.requires.intact.opened c.take_container.ensures.time c.in-Err.ensures.cause
+          (λ calm made. let wrong = subst (λ r. IsOk r) c.in-Err.is (c.take_container.ensures.steady calm made).0 in cc wrong);
+      moments = λ asked t all last. crash_stored c.logs_are_copies_and_blocks.ensures.stands c.logs_are_copies_and_blocks.ensures.by_file before behind s (turned s) old
+          c.requires.intact.opened c.take_container.ensures.meanwhile (valid_holds s c.requires.intact.sound.valid) (valid_holds (turned s) c.requires.may.valid)
+          asked t (All-head (Survive asked t) s [] all) last;
     }
 
 pub returns-clause-room : goal.returns-clause-room
@@ -56,24 +83,3 @@ returns-clause-room g c =
       areas = ap (λ (l : Log). l.areas) same;
       ends = omega (arith, ap (λ (l : Log). l.archive.room) same);
     }
-
-pub returns-clause-writes : goal.returns-clause-writes
-returns-clause-writes g c =
-    let old = c.args.self.now in
-    writes_fine (false ≡ true) (g.D.Disk.state c.args.disk.now) (g.D.Disk.state c.take_container.new.disk) old.state.value (turned old.state.value) old
-    c.take_container.new.self (λ f. cc f) c.requires.intact.opened
-    c.in_default.ensures.stored c.take_container.ensures.time (λ calm made. (c.take_container.ensures.steady calm made).1)
-
-pub returns-in-Err-clause-moments : goal.returns-in-Err-clause-moments
-returns-in-Err-clause-moments g c =
-    let old = c.args.self.now in
-    crash_stored c.logs_are_copies_and_blocks.ensures.stands c.logs_are_copies_and_blocks.ensures.by_file (g.D.Disk.state c.args.disk.now)
-    (g.D.Disk.state c.take_container.new.disk) old.state.value (turned old.state.value) old c.requires.intact.opened c.take_container.ensures.meanwhile
-    (valid_holds old.state.value c.requires.intact.sound.valid) (valid_holds (turned old.state.value) c.requires.may.valid)
-
-pub returns-clause-moments : goal.returns-clause-moments
-returns-clause-moments g c =
-    let old = c.args.self.now in
-    crash_stored c.logs_are_copies_and_blocks.ensures.stands c.logs_are_copies_and_blocks.ensures.by_file (g.D.Disk.state c.args.disk.now)
-    (g.D.Disk.state c.take_container.new.disk) old.state.value (turned old.state.value) old c.requires.intact.opened c.take_container.ensures.meanwhile
-    (valid_holds old.state.value c.requires.intact.sound.valid) (valid_holds (turned old.state.value) c.requires.may.valid)

@@ -92,7 +92,10 @@ returns-clause-same g c =
     }
 
 pub returns-in-Err-clause-broken : goal.returns-in-Err-clause-broken
-returns-in-Err-clause-broken g c = record { broken = refl; state = c.broken-self.ensures ∙ ap (λ t. with_broken t.value) c.end_block.ensures.ended.state }
+returns-in-Err-clause-broken g c = record {
+  broken = c.break_log.ensures.broken.broken;
+  state = c.break_log.ensures.broken.state ∙ ap (λ t. with_broken t.value) c.end_block.ensures.ended.state;
+}
 
 pub returns-clause-lengths : goal.returns-clause-lengths
 returns-clause-lengths g c = c.send_group.ensures.lengths

@@ -94,7 +94,7 @@ restart_grown-requires-clause-takes g c =
     c.calls_that_pass_find_room.ensures.restart s c.args.client c.args.area area read c.args.base c.args.reserved sound.valid sound.storable
     c.in_ok-place.ensures.two c.in_ok-place.ensures.there c.in_ok-place.ensures.passes in
     let entry : unplaced c.restart_fields-fields.result read ≡ restart_record s area read c.args.base =
-    c.restart_fields-fields.ensures.record s area read (sym c.area-stream.ensures.stream) (sym c.last_restart.ensures) in
+    c.restart_fields-fields.ensures.record area read (sym c.area-stream.ensures.stream) in
     let state : c.prepare.new.self.state.value ≡ grown s need = c.in_ok-room.ensures.state ∙ ap (grown s) c.need_of.ensures.value in
     subst (λ (t : AreaTable). TakesThrough (spend_if c.args.reserved (area_at place t.areas) (length read) c.prepare.new.self.state.value) (area_at place t.areas)
     (unplaced c.restart_fields-fields.result read) 0) (sym c.in_ok-room.ensures.areas)
@@ -124,7 +124,7 @@ returns-in-Ok-clause-step g c = λ told.
     let v : State = c.prepare.new.self.state.value in
     let e : LogEntry = unplaced fields read in
     let entry : e ≡ restart_record s area read c.args.base =
-    c.restart_fields-fields.ensures.record s area read (sym c.area-stream.ensures.stream) (sym c.last_restart.ensures) in
+    c.restart_fields-fields.ensures.record area read (sym c.area-stream.ensures.stream) in
     let state : v ≡ grown s need = c.in_ok-room.ensures.state ∙ ap (grown s) c.need_of.ensures.value in
     let spent : spend_if c.args.reserved (area_at place c.prepare.new.self.areas.areas) n v ≡ spend_if c.args.reserved area n (grown s need) =
     ap (λ (t : AreaTable). spend_if c.args.reserved (area_at place t.areas) n v) c.in_ok-room.ensures.areas ∙ ap (spend_if c.args.reserved area n) state in
@@ -218,7 +218,7 @@ returns-in-Ok-clause-moments g c =
     (survives_as request s (grown s c.need_of.result) (grown s need) (ap (grown s) c.need_of.ensures.value) while.grown_is) in
     let fields = c.restart_fields-fields.result in
     let entry : unplaced fields read ≡ restart_record s area read c.args.base =
-    c.restart_fields-fields.ensures.record s area read (sym c.area-stream.ensures.stream) (sym c.last_restart.ensures) in
+    c.restart_fields-fields.ensures.record area read (sym c.area-stream.ensures.stream) in
     let state : c.prepare.new.self.state.value ≡ grown s need = c.in_ok-room.ensures.state ∙ ap (grown s) c.need_of.ensures.value in
     let stream : fields.stream ≡ area.stream = c.restart_fields-fields.ensures.stream ∙ c.area-stream.ensures.stream in
     let spent : AreaTable → State → State = λ t v. spend_if c.args.reserved (area_at place t.areas) n v in
@@ -258,7 +258,7 @@ returns-in-Err-clause-moments g c =
     (survives_as request s (grown s c.need_of.result) (grown s need) (ap (grown s) c.need_of.ensures.value) while.grown_is) in
     let fields = c.restart_fields-fields.result in
     let entry : unplaced fields read ≡ restart_record s area read c.args.base =
-    c.restart_fields-fields.ensures.record s area read (sym c.area-stream.ensures.stream) (sym c.last_restart.ensures) in
+    c.restart_fields-fields.ensures.record area read (sym c.area-stream.ensures.stream) in
     let state : c.prepare.new.self.state.value ≡ grown s need = c.in_ok-room.ensures.state ∙ ap (grown s) c.need_of.ensures.value in
     let stream : fields.stream ≡ area.stream = c.restart_fields-fields.ensures.stream ∙ c.area-stream.ensures.stream in
     let spent : AreaTable → State → State = λ t v. spend_if c.args.reserved (area_at place t.areas) n v in

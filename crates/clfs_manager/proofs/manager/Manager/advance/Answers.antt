@@ -1,6 +1,7 @@
 use Rattle.std.proofs.Common.{ap}
 use Rattle.clfs_model.specs.Answers.{Outcome}
 use Rattle.clfs_model.specs.Run.{asks}
+use Rattle.clfs_manager.proofs.Changing.{two_survive}
 use Rattle.clfs_manager.proofs.CopyingCalls.{crash_answered, crash_untouched, flush_survives}
 use Rattle.std.proofs.Common.{◌≡◌, refl, sym, ◌∙◌, true, false}
 use Rattle.clfs_model.specs.declared.call.Call.TheVariants as calls
@@ -59,60 +60,42 @@ pub returns-then-is_err-clause-writes : goal.returns-then-is_err-clause-writes
 returns-then-is_err-clause-writes g c =
     let err = sym c.is_err.ensures.value ∙ c.if-is_err.true in
     writes_seen g.D.Disk.state (c.self.inside.log.state.value, c.self.inside.disk) c.args.self.now c.self.view_is _ (g.D.Disk.state c.advance.new.disk)
-    (writes_as _ _ (g.D.Disk.state c.self.inside.disk) (g.D.Disk.state c.advance.new.disk) (λ f. refl) (λ f. err) c.advance.ensures.writes)
+    (writes_as _ _ (g.D.Disk.state c.self.inside.disk) (g.D.Disk.state c.advance.new.disk) (λ f. refl) (λ f. err) c.advance.ensures.change.writes)
 
 pub invariant_of-self-2 : goal.invariant_of-self-2
 invariant_of-self-2 g c =
     managed_intact (g.D.Disk.state c.advance.new.disk) c.advance.new.self
-    (on_ok c.advance.result (sym c.is_err.ensures.value ∙ c.if-is_err.false) c.advance.ensures.intact)
+    (on_ok c.advance.result (sym c.is_err.ensures.value ∙ c.if-is_err.false) c.advance.ensures.change.left)
 
 pub returns-clause-writes : goal.returns-clause-writes
 returns-clause-writes g c =
     let ok = sym c.is_err.ensures.value ∙ c.if-is_err.false in
     writes_seen g.D.Disk.state (c.self.inside.log.state.value, c.self.inside.disk) c.args.self.now c.self.view_is _ (g.D.Disk.state c.advance.new.disk)
     (writes_as _ _ (g.D.Disk.state c.self.inside.disk) (g.D.Disk.state c.advance.new.disk)
-    (λ f. absurd (let clash : false ≡ true = sym ok ∙ f in cc clash)) (λ f. absurd (cc f)) c.advance.ensures.writes)
+    (λ f. absurd (let clash : false ≡ true = sym ok ∙ f in cc clash)) (λ f. absurd (cc f)) c.advance.ensures.change.writes)
 
 pub returns-then-self-clause-moments : goal.returns-then-self-clause-moments
-returns-then-self-clause-moments g c = crash_untouched (record {
-  stands = c.logs_are_copies_and_blocks.ensures.stands;
-  by_file = c.logs_are_copies_and_blocks.ensures.by_file;
-  before = c.states_between_survive.ensures.before;
-  after = c.states_between_survive.ensures.after;
-}) g.D.Disk.state c.self.inside.log c.self.inside.disk c.args.self.now c.self.view_is c.self.invariant c.args.client (calls.Advance c.args.area c.args.lsn)
+returns-then-self-clause-moments g c = crash_untouched c.crashes_leave_survivors.ensures g.D.Disk.state c.self.inside.log c.self.inside.disk c.args.self.now c.self.view_is c.self.invariant c.args.client (calls.Advance c.args.area c.args.lsn)
 
 pub returns-in-Err-clause-moments : goal.returns-in-Err-clause-moments
-returns-in-Err-clause-moments g c = crash_untouched (record {
-  stands = c.logs_are_copies_and_blocks.ensures.stands;
-  by_file = c.logs_are_copies_and_blocks.ensures.by_file;
-  before = c.states_between_survive.ensures.before;
-  after = c.states_between_survive.ensures.after;
-}) g.D.Disk.state c.self.inside.log c.self.inside.disk c.args.self.now c.self.view_is c.self.invariant c.args.client (calls.Advance c.args.area c.args.lsn)
+returns-in-Err-clause-moments g c = crash_untouched c.crashes_leave_survivors.ensures g.D.Disk.state c.self.inside.log c.self.inside.disk c.args.self.now c.self.view_is c.self.invariant c.args.client (calls.Advance c.args.area c.args.lsn)
 
 pub returns-then-is_err-clause-moments : goal.returns-then-is_err-clause-moments
 returns-then-is_err-clause-moments g c =
     let s : State = c.self.inside.log.state.value in
     let managed = c.self.invariant in
-    crash_answered (record {
-      stands = c.logs_are_copies_and_blocks.ensures.stands;
-      by_file = c.logs_are_copies_and_blocks.ensures.by_file;
-      before = c.states_between_survive.ensures.before;
-      after = c.states_between_survive.ensures.after;
-    }) g.D.Disk.state c.self.inside.log c.self.inside.disk c.args.self.now c.self.view_is c.self.invariant c.args.client (calls.Advance c.args.area c.args.lsn)
-    (with_base c.in-Ok.stream c.args.lsn (flush s)) (g.D.Disk.state c.advance.new.disk) c.in-Ok.ensures.allowed (ap (λ (o : Outcome). o.state) c.in-Ok.ensures.answer) (λ before moved. c.advance.ensures.moments (asks c.args.client (calls.Advance c.args.area c.args.lsn)) s before
+    crash_answered c.crashes_leave_survivors.ensures g.D.Disk.state c.self.inside.log c.self.inside.disk c.args.self.now c.self.view_is c.self.invariant c.args.client (calls.Advance c.args.area c.args.lsn)
+    (with_base c.in-Ok.stream c.args.lsn (flush s)) (g.D.Disk.state c.advance.new.disk) c.in-Ok.ensures.allowed (ap (λ (o : Outcome). o.state) c.in-Ok.ensures.answer) (λ before moved. c.advance.ensures.change.moments (asks c.args.client (calls.Advance c.args.area c.args.lsn)) s
+    (two_survive (asks c.args.client (calls.Advance c.args.area c.args.lsn)) s s (flush s) before
     (flush_survives c.states_between_survive.ensures.advance s c.args.client c.args.area c.args.lsn managed.valid managed.storable
-    (managed.broken ∙ c.if-self.false) c.in-Ok.ensures.allowed) moved)
+    (managed.broken ∙ c.if-self.false) c.in-Ok.ensures.allowed)) moved)
 
 pub returns-clause-moments : goal.returns-clause-moments
 returns-clause-moments g c =
     let s : State = c.self.inside.log.state.value in
     let managed = c.self.invariant in
-    crash_answered (record {
-      stands = c.logs_are_copies_and_blocks.ensures.stands;
-      by_file = c.logs_are_copies_and_blocks.ensures.by_file;
-      before = c.states_between_survive.ensures.before;
-      after = c.states_between_survive.ensures.after;
-    }) g.D.Disk.state c.self.inside.log c.self.inside.disk c.args.self.now c.self.view_is c.self.invariant c.args.client (calls.Advance c.args.area c.args.lsn)
-    (with_base c.in-Ok.stream c.args.lsn (flush s)) (g.D.Disk.state c.advance.new.disk) c.in-Ok.ensures.allowed (ap (λ (o : Outcome). o.state) c.in-Ok.ensures.answer) (λ before moved. c.advance.ensures.moments (asks c.args.client (calls.Advance c.args.area c.args.lsn)) s before
+    crash_answered c.crashes_leave_survivors.ensures g.D.Disk.state c.self.inside.log c.self.inside.disk c.args.self.now c.self.view_is c.self.invariant c.args.client (calls.Advance c.args.area c.args.lsn)
+    (with_base c.in-Ok.stream c.args.lsn (flush s)) (g.D.Disk.state c.advance.new.disk) c.in-Ok.ensures.allowed (ap (λ (o : Outcome). o.state) c.in-Ok.ensures.answer) (λ before moved. c.advance.ensures.change.moments (asks c.args.client (calls.Advance c.args.area c.args.lsn)) s
+    (two_survive (asks c.args.client (calls.Advance c.args.area c.args.lsn)) s s (flush s) before
     (flush_survives c.states_between_survive.ensures.advance s c.args.client c.args.area c.args.lsn managed.valid managed.storable
-    (managed.broken ∙ c.if-self.false) c.in-Ok.ensures.allowed) moved)
+    (managed.broken ∙ c.if-self.false) c.in-Ok.ensures.allowed)) moved)

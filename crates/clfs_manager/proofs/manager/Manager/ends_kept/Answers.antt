@@ -1,15 +1,54 @@
-use Rattle.std.proofs.Common.{◌*◌, ◌≤◌, length}
+use Rattle.std.proofs.Common.{◌≡◌, ℕ, ◌*◌, ◌≤◌, arith, length, subst}
+use Rattle.std.specs.Prelude.{nat_le}
+use Rattle.std.proofs.lemmas.List.Sums.{count_by-le-length, length-filter}
+use Rattle.clfs_lsn.specs.Heads.{heads_from}
 use Rattle.clfs_model.specs.declared.state.State.{State}
-use Rattle.clfs_manager.specs.Memory.{lasts_needed}
+use Rattle.clfs_model.specs.Flush.{block_start}
+use Rattle.clfs_model.specs.Heads.{heads_of}
+use Rattle.clfs_archive.specs.Blocks.{blocks_from, sealed_lasts}
+use Rattle.clfs_archive.specs.declared.block.BlockEnd.{BlockEnd}
+use Rattle.clfs_manager.specs.Memory.{HasForgotten, Holds, hold_start, lasts_needed}
+use Rattle.clfs_manager.specs.declared.log.Log.{Log}
 use Rattle.clfs_manager.proofs.KeptHeads.{seen}
 use Rattle.clfs_manager.proofs.manager.Manager.ends_kept.Goals as goal
 
+low_is : (s : State) (log : Log) → Holds s log → HasForgotten s log → log.tables.low ≡ hold_start s
+low_is s log holds forgotten = omega (arith, holds.low, forgotten.low)
+
+-- the ends from the hold's container on are just those that are needed
+needed : (s : State) (log : Log) → Holds s log → HasForgotten s log
+    → length (blocks_from log.tables.low log.archive.blocks) ≡ length (heads_from log.tables.low (sealed_lasts (block_start s.place) (heads_of s)))
+    → length (blocks_from log.tables.low log.archive.blocks) ≡ length (lasts_needed s)
+needed s log holds forgotten are =
+    subst (λ (n : ℕ). length (blocks_from log.tables.low log.archive.blocks) ≡ length (heads_from n (sealed_lasts (block_start s.place) (heads_of s))))
+    (low_is s log holds forgotten) are
+
+few : (s : State) (log : Log) (count : ℕ) → HasForgotten s log → count ≡ length log.archive.blocks
+    → length (blocks_from log.tables.low log.archive.blocks) ≡ length (lasts_needed s) → count ≤ 2 * length (lasts_needed s)
+few s log count forgotten is are = omega (arith, is, forgotten.ends, are)
+
+all : (s : State) (log : Log) (count : ℕ) → count ≡ length log.archive.blocks
+    → length (blocks_from log.tables.low log.archive.blocks) ≡ length (lasts_needed s) → length (lasts_needed s) ≤ count
+all s log count is are =
+    let test : BlockEnd → _ = λ (block : BlockEnd). nat_le log.tables.low block.last in
+    omega (arith, is, are, length-filter test log.archive.blocks, count_by-le-length test log.archive.blocks)
+
 pub returns-clause-few : goal.returns-clause-few
 returns-clause-few g c =
-    seen (λ (s : State). c.ends_kept.result ≤ 2 * length (lasts_needed s)) (c.self.inside.log.state.value, c.self.inside.disk) c.args.self.now c.self.view_is
-    c.ends_kept.ensures.few
+    let log : Log = c.self.inside.log in
+    let s : State = log.state.value in
+    let opened = c.self.invariant.whole c.if-self.false in
+    seen (λ (t : State). c.len.result ≤ 2 * length (lasts_needed t)) (s, c.self.inside.disk) c.args.self.now c.self.view_is
+    (few s log c.len.result opened.forgotten c.len.ensures.value
+    (needed s log opened.memory opened.forgotten
+    (c.len.ensures.sealed log.tables.low log.tables.low (block_start s.place) (heads_of s) (omega arith) opened.memory.sealed)))
 
 pub returns-clause-all : goal.returns-clause-all
 returns-clause-all g c =
-    seen (λ (s : State). length (lasts_needed s) ≤ c.ends_kept.result) (c.self.inside.log.state.value, c.self.inside.disk) c.args.self.now c.self.view_is
-    c.ends_kept.ensures.all
+    let log : Log = c.self.inside.log in
+    let s : State = log.state.value in
+    let opened = c.self.invariant.whole c.if-self.false in
+    seen (λ (t : State). length (lasts_needed t) ≤ c.len.result) (s, c.self.inside.disk) c.args.self.now c.self.view_is
+    (all s log c.len.result c.len.ensures.value
+    (needed s log opened.memory opened.forgotten
+    (c.len.ensures.sealed log.tables.low log.tables.low (block_start s.place) (heads_of s) (omega arith) opened.memory.sealed)))

@@ -72,9 +72,9 @@ returns-in-Some-clause-step g c = λ told.
     c.in_ok-found.ensures.allowed (rw is.0 (ap (λ (n : ℕ). replies.Flushed n) is.1)) (rw is.0 refl))
 
 pub returns-in-Some-clause-moments : goal.returns-in-Some-clause-moments
-returns-in-Some-clause-moments g c = rw (← c.self.view_is) (crash_managed c.logs_are_copies_and_blocks.ensures.stands c.logs_are_copies_and_blocks.ensures.by_file
+returns-in-Some-clause-moments g c = rw (← c.self.view_is) (crash_managed c.crashes_leave_survivors.ensures.stands c.crashes_leave_survivors.ensures.by_file
     (g.D.Disk.state c.self.inside.disk) c.self.inside.log c.self.invariant (asks c.args.client (calls.FlushTo c.args.area c.args.lsn))
-    (c.states_between_survive.ensures.before c.self.inside.log.state.value c.args.client (calls.FlushTo c.args.area c.args.lsn) c.self.invariant.valid))
+    (c.crashes_leave_survivors.ensures.before c.self.inside.log.state.value c.args.client (calls.FlushTo c.args.area c.args.lsn) c.self.invariant.valid))
 
 pub returns-clause-writes : goal.returns-clause-writes
 returns-clause-writes g c =
@@ -89,9 +89,9 @@ pub returns-then-self-clause-moments : goal.returns-then-self-clause-moments
 returns-then-self-clause-moments g c = crash_broken _ _ _ _ (rw (← c.self.view_is) (c.self.invariant.broken ∙ c.if-self.true))
 
 pub returns-in_err-found-clause-moments : goal.returns-in_err-found-clause-moments
-returns-in_err-found-clause-moments g c = rw (← c.self.view_is) (crash_managed c.logs_are_copies_and_blocks.ensures.stands c.logs_are_copies_and_blocks.ensures.by_file
+returns-in_err-found-clause-moments g c = rw (← c.self.view_is) (crash_managed c.crashes_leave_survivors.ensures.stands c.crashes_leave_survivors.ensures.by_file
     (g.D.Disk.state c.self.inside.disk) c.self.inside.log c.self.invariant (asks c.args.client (calls.FlushTo c.args.area c.args.lsn))
-    (c.states_between_survive.ensures.before c.self.inside.log.state.value c.args.client (calls.FlushTo c.args.area c.args.lsn) c.self.invariant.valid))
+    (c.crashes_leave_survivors.ensures.before c.self.inside.log.state.value c.args.client (calls.FlushTo c.args.area c.args.lsn) c.self.invariant.valid))
 
 pub returns-then-is_err-clause-moments : goal.returns-then-is_err-clause-moments
 returns-then-is_err-clause-moments g c =
@@ -103,9 +103,9 @@ returns-then-is_err-clause-moments g c =
     let none = c.in_ok-found.ensures.allowed in
     let step = c.ways_of_a_step.ensures.answered false s c.args.client (calls.FlushTo c.args.area c.args.lsn) (replies.Flushed (flushed (flush s))) (flush s) whole none (rw later refl) (rw later refl) in
     let valid = c.steps_keep_a_state_valid.ensures.step false s c.args.client (calls.FlushTo c.args.area c.args.lsn) Fine (replies.Flushed (flushed (flush s))) (flush s) managed.valid step in
-    let laws = c.states_between_survive.ensures in
+    let laws = c.crashes_leave_survivors.ensures in
     crash_seen g.D.Disk.state (s, c.self.inside.disk) c.args.self.now c.self.view_is (asks c.args.client (calls.FlushTo c.args.area c.args.lsn)) (g.D.Disk.state c.write_out.new.disk)
-    (crash_flush c.logs_are_copies_and_blocks.ensures.stands c.logs_are_copies_and_blocks.ensures.by_file (g.D.Disk.state c.self.inside.disk) (g.D.Disk.state c.write_out.new.disk)
+    (crash_flush c.crashes_leave_survivors.ensures.stands c.crashes_leave_survivors.ensures.by_file (g.D.Disk.state c.self.inside.disk) (g.D.Disk.state c.write_out.new.disk)
     old managed c.if-self.false valid c.write_out.ensures.meanwhile (asks c.args.client (calls.FlushTo c.args.area c.args.lsn)) (laws.before s c.args.client (calls.FlushTo c.args.area c.args.lsn) managed.valid)
     (after_survives laws.after s (flush s) c.args.client (calls.FlushTo c.args.area c.args.lsn) managed.valid managed.storable whole none (rw later refl)))
 
@@ -119,9 +119,9 @@ returns-clause-moments g c =
     let none = c.in_ok-found.ensures.allowed in
     let step = c.ways_of_a_step.ensures.answered false s c.args.client (calls.FlushTo c.args.area c.args.lsn) (replies.Flushed (flushed (flush s))) (flush s) whole none (rw later refl) (rw later refl) in
     let valid = c.steps_keep_a_state_valid.ensures.step false s c.args.client (calls.FlushTo c.args.area c.args.lsn) Fine (replies.Flushed (flushed (flush s))) (flush s) managed.valid step in
-    let laws = c.states_between_survive.ensures in
+    let laws = c.crashes_leave_survivors.ensures in
     crash_seen g.D.Disk.state (s, c.self.inside.disk) c.args.self.now c.self.view_is (asks c.args.client (calls.FlushTo c.args.area c.args.lsn)) (g.D.Disk.state c.write_out.new.disk)
-    (crash_flush c.logs_are_copies_and_blocks.ensures.stands c.logs_are_copies_and_blocks.ensures.by_file (g.D.Disk.state c.self.inside.disk) (g.D.Disk.state c.write_out.new.disk)
+    (crash_flush c.crashes_leave_survivors.ensures.stands c.crashes_leave_survivors.ensures.by_file (g.D.Disk.state c.self.inside.disk) (g.D.Disk.state c.write_out.new.disk)
     old managed c.if-self.false valid c.write_out.ensures.meanwhile (asks c.args.client (calls.FlushTo c.args.area c.args.lsn)) (laws.before s c.args.client (calls.FlushTo c.args.area c.args.lsn) managed.valid)
     (after_survives laws.after s (flush s) c.args.client (calls.FlushTo c.args.area c.args.lsn) managed.valid managed.storable whole none (rw later refl)))
 

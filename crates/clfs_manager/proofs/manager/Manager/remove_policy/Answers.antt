@@ -48,29 +48,14 @@ pub returns-then-self-clause-moments : goal.returns-then-self-clause-moments
 returns-then-self-clause-moments g c = λ client. crash_broken _ _ _ _ (rw (← c.self.view_is) (c.self.invariant.broken ∙ c.if-self.true))
 
 pub returns-in_default-clause-moments : goal.returns-in_default-clause-moments
-returns-in_default-clause-moments g c = λ client. crash_untouched (record {
-  stands = c.logs_are_copies_and_blocks.ensures.stands;
-  by_file = c.logs_are_copies_and_blocks.ensures.by_file;
-  before = c.states_between_survive.ensures.before;
-  after = c.states_between_survive.ensures.after;
-}) g.D.Disk.state c.self.inside.log c.self.inside.disk c.args.self.now c.self.view_is c.self.invariant client (calls.RemovePolicy c.args.kind)
+returns-in_default-clause-moments g c = λ client. crash_untouched c.crashes_leave_survivors.ensures g.D.Disk.state c.self.inside.log c.self.inside.disk c.args.self.now c.self.view_is c.self.invariant client (calls.RemovePolicy c.args.kind)
 
 pub returns-then-is_err-clause-moments : goal.returns-then-is_err-clause-moments
-returns-then-is_err-clause-moments g c = λ client. crash_written (record {
-  stands = c.logs_are_copies_and_blocks.ensures.stands;
-  by_file = c.logs_are_copies_and_blocks.ensures.by_file;
-  before = c.states_between_survive.ensures.before;
-  after = c.states_between_survive.ensures.after;
-}) c.ways_of_a_step.ensures c.steps_keep_a_state_valid.ensures.step g.D.Disk.state c.self.inside.log c.self.inside.disk c.args.self.now c.self.view_is c.self.invariant c.if-self.false client (calls.RemovePolicy c.args.kind)
+returns-then-is_err-clause-moments g c = λ client. crash_written c.crashes_leave_survivors.ensures c.ways_of_a_step.ensures c.steps_keep_a_state_valid.ensures.step g.D.Disk.state c.self.inside.log c.self.inside.disk c.args.self.now c.self.view_is c.self.invariant c.if-self.false client (calls.RemovePolicy c.args.kind)
     (with_policies c.in-Some.policies c.self.inside.log.state.value) (g.D.Disk.state c.store_policies.new.disk) (rw c.in-Some.ensures.some refl) (sym c.in-Some.ensures.state) c.store_policies.ensures.meanwhile
 
 pub returns-clause-moments : goal.returns-clause-moments
-returns-clause-moments g c = λ client. crash_written (record {
-  stands = c.logs_are_copies_and_blocks.ensures.stands;
-  by_file = c.logs_are_copies_and_blocks.ensures.by_file;
-  before = c.states_between_survive.ensures.before;
-  after = c.states_between_survive.ensures.after;
-}) c.ways_of_a_step.ensures c.steps_keep_a_state_valid.ensures.step g.D.Disk.state c.self.inside.log c.self.inside.disk c.args.self.now c.self.view_is c.self.invariant c.if-self.false client (calls.RemovePolicy c.args.kind)
+returns-clause-moments g c = λ client. crash_written c.crashes_leave_survivors.ensures c.ways_of_a_step.ensures c.steps_keep_a_state_valid.ensures.step g.D.Disk.state c.self.inside.log c.self.inside.disk c.args.self.now c.self.view_is c.self.invariant c.if-self.false client (calls.RemovePolicy c.args.kind)
     (with_policies c.in-Some.policies c.self.inside.log.state.value) (g.D.Disk.state c.store_policies.new.disk) (rw c.in-Some.ensures.some refl) (sym c.in-Some.ensures.state) c.store_policies.ensures.meanwhile
 
 pub returns-then-is_err-clause-writes : goal.returns-then-is_err-clause-writes

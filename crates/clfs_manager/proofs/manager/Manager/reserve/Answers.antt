@@ -25,7 +25,7 @@ use Rattle.clfs_manager.proofs.FlushKeeps.{managed_broken}
 use Rattle.clfs_manager.proofs.Intact.{intact_managed, managed_intact, writes_as, writes_seen}
 use Rattle.clfs_manager.proofs.Numbers.{free_is_small}
 use Rattle.clfs_manager.proofs.OwnRefusals.{error_of, refused_step, writes_refused}
-use Rattle.clfs_manager.proofs.Reserved.{fault_grows, held_within, intact_after, reserve_step}
+use Rattle.clfs_manager.proofs.Reserved.{fault_grows, held_within, intact_after, reserve_judged, reserve_step}
 use Rattle.clfs_manager.proofs.manager.Manager.reserve.Goals as goal
 
 pub grow-requires-clause-intact : goal.grow-requires-clause-intact
@@ -49,8 +49,9 @@ returns-in-Some-clause-step g c = λ told.
     let s : State = c.self.inside.log.state.value in
     let call = calls.Reserve c.args.area c.args.sizes.now in
     let first : refusal s c.args.client call ≡ Some c.in-Some.refusal =
-    c.in_ok-place.ensures.found (λ (area : Area). too_long area.largest c.args.sizes.now (full s (own_sum c.args.sizes.now)))
-    ∙ sym c.reserve_refusal.ensures ∙ c.in-Some.is in
+    reserve_judged s _ c.args.client c.args.area (area_at c.in_ok-place.place c.self.inside.log.areas.areas) _ _ c.args.sizes.now _
+    (c.in_ok-place.ensures.found (λ (area : Area). too_long area.largest c.args.sizes.now (full s (own_sum c.args.sizes.now))))
+    c.reserve_refusal.ensures c.space.ensures c.area-row.ensures.largest c.as_slice-lengths.ensures.value ∙ c.in-Some.is in
     let own = c.refusals_are_the_calls_own.ensures.own s c.args.client call c.in-Some.refusal first in
     subst (λ v. Step told v.0 c.args.client call (happened_of_refusal c.in-Some.refusal) (replies.Refused c.in-Some.refusal) v.0) c.self.view_is
     (refused_step c.ways_of_a_step.ensures told s c.args.client call c.in-Some.refusal (c.self.invariant.broken ∙ c.if-self.false) own first)
@@ -65,11 +66,13 @@ hold_sizes-requires-clause-valid g c =
     let area : Area = area_at place old.areas.areas in
     let call = calls.Reserve c.args.area sizes in
     let none : refusal s c.args.client call ≡ None =
-    c.in_ok-place.ensures.found (λ (a : Area). too_long a.largest sizes (full s (own_sum sizes))) ∙ sym c.reserve_refusal.ensures ∙ c.in_default.is in
+    reserve_judged s _ c.args.client c.args.area (area_at c.in_ok-place.place c.self.inside.log.areas.areas) _ _ c.args.sizes.now _
+    (c.in_ok-place.ensures.found (λ (a : Area). too_long a.largest sizes (full s (own_sum sizes))))
+    c.reserve_refusal.ensures c.space.ensures c.area-row.ensures.largest c.as_slice-lengths.ensures.value ∙ c.in_default.is in
     let step = reserve_step c.ways_of_a_step.ensures false s c.args.client c.args.area area sizes (c.self.invariant.broken ∙ c.if-self.false) none c.in_ok-place.ensures.there in
     let valid = c.steps_keep_a_state_valid.ensures.step false s c.args.client call Fine (replies.Held (area.held + own_sum sizes))
     (hold_sizes area sizes (grown s (own_sum sizes))) c.self.invariant.valid step in
-    let need : c.own_sum-need.result ≡ own_sum sizes = c.own_sum-need.ensures.value ∙ ap own_sum c.as_slice.ensures.value in
+    let need : c.own_sum-need.result ≡ own_sum sizes = c.own_sum-need.ensures.value ∙ ap own_sum c.as_slice-lengths.ensures.value in
     let state : new.state.value ≡ grown s (own_sum sizes) = c.in-Ok.ensures.state ∙ ap (λ (n : ℕ). grown s n) need in
     let areas : area_at place new.areas.areas ≡ area = ap (λ (t : AreaTable). area_at place t.areas) c.in-Ok.ensures.same.areas in
     subst (λ (a : Area). IsValid (hold_sizes a sizes new.state.value)) (sym areas)
@@ -83,7 +86,7 @@ overflow_add-result g c =
     let areas = (c.self.invariant.whole c.if-self.false).memory.areas in
     omega (
       arith,
-      c.area-held.ensures.held,
+      c.area-row.ensures.held,
       held_within old.areas.areas c.in_ok-place.place c.in_ok-place.ensures.within,
       ap all_held areas,
       valid.space.room,
@@ -131,8 +134,10 @@ returns-in-Err-DiskFault-clause-step g c = λ told.
     let call = calls.Reserve c.args.area sizes in
     let done = rw c.in-Err-DiskFault.field-0-is at c.in-Err-DiskFault.ensures in
     let none : refusal s c.args.client call ≡ None =
-    c.in_ok-place.ensures.found (λ (a : Area). too_long a.largest sizes (full s (own_sum sizes))) ∙ sym c.reserve_refusal.ensures ∙ c.in_default.is in
-    let need : c.own_sum-need.result ≡ own_sum sizes = c.own_sum-need.ensures.value ∙ ap own_sum c.as_slice.ensures.value in
+    reserve_judged s _ c.args.client c.args.area (area_at c.in_ok-place.place c.self.inside.log.areas.areas) _ _ c.args.sizes.now _
+    (c.in_ok-place.ensures.found (λ (a : Area). too_long a.largest sizes (full s (own_sum sizes))))
+    c.reserve_refusal.ensures c.space.ensures c.area-row.ensures.largest c.as_slice-lengths.ensures.value ∙ c.in_default.is in
+    let need : c.own_sum-need.result ≡ own_sum sizes = c.own_sum-need.ensures.value ∙ ap own_sum c.as_slice-lengths.ensures.value in
     let asks : grows s c.own_sum-need.result ≡ true = fault_grows (grows s c.own_sum-need.result) c.grow.result c.in-Err-DiskFault.field-0 _ c.grow.ensures.quiet c.in-Err-DiskFault.is in
     let calls_it : calls_disk s call ≡ true = ap (λ (n : ℕ). grows s n) (sym need) ∙ asks in
     let step = c.ways_of_a_step.ensures.faulted told s c.args.client call (c.self.invariant.broken ∙ c.if-self.false) none calls_it in
@@ -153,20 +158,10 @@ pub returns-then-self-clause-moments : goal.returns-then-self-clause-moments
 returns-then-self-clause-moments g c = crash_broken _ _ _ _ (rw (← c.self.view_is) (c.self.invariant.broken ∙ c.if-self.true))
 
 pub returns-in_err-place-clause-moments : goal.returns-in_err-place-clause-moments
-returns-in_err-place-clause-moments g c = crash_untouched (record {
-  stands = c.logs_are_copies_and_blocks.ensures.stands;
-  by_file = c.logs_are_copies_and_blocks.ensures.by_file;
-  before = c.states_between_survive.ensures.before;
-  after = c.states_between_survive.ensures.after;
-}) g.D.Disk.state c.self.inside.log c.self.inside.disk c.args.self.now c.self.view_is c.self.invariant c.args.client (calls.Reserve c.args.area c.args.sizes.now)
+returns-in_err-place-clause-moments g c = crash_untouched c.crashes_leave_survivors.ensures g.D.Disk.state c.self.inside.log c.self.inside.disk c.args.self.now c.self.view_is c.self.invariant c.args.client (calls.Reserve c.args.area c.args.sizes.now)
 
 pub returns-in-Some-clause-moments : goal.returns-in-Some-clause-moments
-returns-in-Some-clause-moments g c = crash_untouched (record {
-  stands = c.logs_are_copies_and_blocks.ensures.stands;
-  by_file = c.logs_are_copies_and_blocks.ensures.by_file;
-  before = c.states_between_survive.ensures.before;
-  after = c.states_between_survive.ensures.after;
-}) g.D.Disk.state c.self.inside.log c.self.inside.disk c.args.self.now c.self.view_is c.self.invariant c.args.client (calls.Reserve c.args.area c.args.sizes.now)
+returns-in-Some-clause-moments g c = crash_untouched c.crashes_leave_survivors.ensures g.D.Disk.state c.self.inside.log c.self.inside.disk c.args.self.now c.self.view_is c.self.invariant c.args.client (calls.Reserve c.args.area c.args.sizes.now)
 
 pub returns-in-Ok-clause-moments : goal.returns-in-Ok-clause-moments
 returns-in-Ok-clause-moments g c =
@@ -175,12 +170,14 @@ returns-in-Ok-clause-moments g c =
     let managed = c.self.invariant in
     let asked : Request = asks c.args.client (calls.Reserve c.args.area sizes) in
     let none : refusal s c.args.client (calls.Reserve c.args.area sizes) ≡ None =
-    c.in_ok-place.ensures.found (λ (a : Area). too_long a.largest sizes (full s (own_sum sizes))) ∙ sym c.reserve_refusal.ensures ∙ c.in_default.is in
-    let need : c.own_sum-need.result ≡ own_sum sizes = c.own_sum-need.ensures.value ∙ ap own_sum c.as_slice.ensures.value in
+    reserve_judged s _ c.args.client c.args.area (area_at c.in_ok-place.place c.self.inside.log.areas.areas) _ _ c.args.sizes.now _
+    (c.in_ok-place.ensures.found (λ (a : Area). too_long a.largest sizes (full s (own_sum sizes))))
+    c.reserve_refusal.ensures c.space.ensures c.area-row.ensures.largest c.as_slice-lengths.ensures.value ∙ c.in_default.is in
+    let need : c.own_sum-need.result ≡ own_sum sizes = c.own_sum-need.ensures.value ∙ ap own_sum c.as_slice-lengths.ensures.value in
     let larger = growth_survives c.states_between_survive.ensures.reserve s c.args.client c.args.area _ sizes managed.valid managed.storable
     (managed.broken ∙ c.if-self.false) none c.in_ok-place.ensures.there in
     crash_seen g.D.Disk.state (s, c.self.inside.disk) c.args.self.now c.self.view_is asked (g.D.Disk.state c.grow.new.disk)
-    (λ whole. c.grow.ensures.moments asked s (c.states_between_survive.ensures.before s c.args.client (calls.Reserve c.args.area sizes) managed.valid)
+    (λ whole. c.grow.ensures.moments asked s (c.crashes_leave_survivors.ensures.before s c.args.client (calls.Reserve c.args.area sizes) managed.valid)
     (survives_as asked s (grown s c.own_sum-need.result) (grown s (own_sum sizes)) (ap (λ (n : ℕ). grown s n) need) larger))
 
 pub returns-in-Err-DiskFault-clause-moments : goal.returns-in-Err-DiskFault-clause-moments
@@ -190,12 +187,14 @@ returns-in-Err-DiskFault-clause-moments g c =
     let managed = c.self.invariant in
     let asked : Request = asks c.args.client (calls.Reserve c.args.area sizes) in
     let none : refusal s c.args.client (calls.Reserve c.args.area sizes) ≡ None =
-    c.in_ok-place.ensures.found (λ (a : Area). too_long a.largest sizes (full s (own_sum sizes))) ∙ sym c.reserve_refusal.ensures ∙ c.in_default.is in
-    let need : c.own_sum-need.result ≡ own_sum sizes = c.own_sum-need.ensures.value ∙ ap own_sum c.as_slice.ensures.value in
+    reserve_judged s _ c.args.client c.args.area (area_at c.in_ok-place.place c.self.inside.log.areas.areas) _ _ c.args.sizes.now _
+    (c.in_ok-place.ensures.found (λ (a : Area). too_long a.largest sizes (full s (own_sum sizes))))
+    c.reserve_refusal.ensures c.space.ensures c.area-row.ensures.largest c.as_slice-lengths.ensures.value ∙ c.in_default.is in
+    let need : c.own_sum-need.result ≡ own_sum sizes = c.own_sum-need.ensures.value ∙ ap own_sum c.as_slice-lengths.ensures.value in
     let larger = growth_survives c.states_between_survive.ensures.reserve s c.args.client c.args.area _ sizes managed.valid managed.storable
     (managed.broken ∙ c.if-self.false) none c.in_ok-place.ensures.there in
     crash_seen g.D.Disk.state (s, c.self.inside.disk) c.args.self.now c.self.view_is asked (g.D.Disk.state c.grow.new.disk)
-    (λ whole. c.grow.ensures.moments asked s (c.states_between_survive.ensures.before s c.args.client (calls.Reserve c.args.area sizes) managed.valid)
+    (λ whole. c.grow.ensures.moments asked s (c.crashes_leave_survivors.ensures.before s c.args.client (calls.Reserve c.args.area sizes) managed.valid)
     (survives_as asked s (grown s c.own_sum-need.result) (grown s (own_sum sizes)) (ap (λ (n : ℕ). grown s n) need) larger))
 
 pub returns-in-Err-NoMemory-clause-moments : goal.returns-in-Err-NoMemory-clause-moments
@@ -205,16 +204,18 @@ returns-in-Err-NoMemory-clause-moments g c =
     let managed = c.self.invariant in
     let asked : Request = asks c.args.client (calls.Reserve c.args.area sizes) in
     let none : refusal s c.args.client (calls.Reserve c.args.area sizes) ≡ None =
-    c.in_ok-place.ensures.found (λ (a : Area). too_long a.largest sizes (full s (own_sum sizes))) ∙ sym c.reserve_refusal.ensures ∙ c.in_default.is in
-    let need : c.own_sum-need.result ≡ own_sum sizes = c.own_sum-need.ensures.value ∙ ap own_sum c.as_slice.ensures.value in
+    reserve_judged s _ c.args.client c.args.area (area_at c.in_ok-place.place c.self.inside.log.areas.areas) _ _ c.args.sizes.now _
+    (c.in_ok-place.ensures.found (λ (a : Area). too_long a.largest sizes (full s (own_sum sizes))))
+    c.reserve_refusal.ensures c.space.ensures c.area-row.ensures.largest c.as_slice-lengths.ensures.value ∙ c.in_default.is in
+    let need : c.own_sum-need.result ≡ own_sum sizes = c.own_sum-need.ensures.value ∙ ap own_sum c.as_slice-lengths.ensures.value in
     let larger = growth_survives c.states_between_survive.ensures.reserve s c.args.client c.args.area _ sizes managed.valid managed.storable
     (managed.broken ∙ c.if-self.false) none c.in_ok-place.ensures.there in
     crash_seen g.D.Disk.state (s, c.self.inside.disk) c.args.self.now c.self.view_is asked (g.D.Disk.state c.grow.new.disk)
-    (λ whole. c.grow.ensures.moments asked s (c.states_between_survive.ensures.before s c.args.client (calls.Reserve c.args.area sizes) managed.valid)
+    (λ whole. c.grow.ensures.moments asked s (c.crashes_leave_survivors.ensures.before s c.args.client (calls.Reserve c.args.area sizes) managed.valid)
     (survives_as asked s (grown s c.own_sum-need.result) (grown s (own_sum sizes)) (ap (λ (n : ℕ). grown s n) need) larger))
 
 pub area_for_records-requires : goal.area_for_records-requires
 area_for_records-requires g c = record { sound = (intact_managed (g.D.Disk.state c.self.inside.disk) c.self.inside.log c.self.invariant c.if-self.false).sound }
 
-pub reserve_refusal-requires-clause-sound : goal.reserve_refusal-requires-clause-sound
-reserve_refusal-requires-clause-sound g c = (intact_managed (g.D.Disk.state c.self.inside.disk) c.self.inside.log c.self.invariant c.if-self.false).sound
+pub space-requires : goal.space-requires
+space-requires g c = record { sound = (intact_managed (g.D.Disk.state c.self.inside.disk) c.self.inside.log c.self.invariant c.if-self.false).sound }

@@ -59,35 +59,15 @@ returns-clause-writes g c =
     (λ calm made. (c.change_archive.ensures.steady calm made).1))
 
 pub returns-then-self-clause-moments : goal.returns-then-self-clause-moments
-returns-then-self-clause-moments g c = λ client. crash_untouched (record {
-  stands = c.logs_are_copies_and_blocks.ensures.stands;
-  by_file = c.logs_are_copies_and_blocks.ensures.by_file;
-  before = c.states_between_survive.ensures.before;
-  after = c.states_between_survive.ensures.after;
-}) g.D.Disk.state c.self.inside.log c.self.inside.disk c.args.self.now c.self.view_is c.self.invariant client (calls.SetArchiveTail c.args.lsn)
+returns-then-self-clause-moments g c = λ client. crash_untouched c.crashes_leave_survivors.ensures g.D.Disk.state c.self.inside.log c.self.inside.disk c.args.self.now c.self.view_is c.self.invariant client (calls.SetArchiveTail c.args.lsn)
 
 pub returns-in-Some-clause-moments : goal.returns-in-Some-clause-moments
-returns-in-Some-clause-moments g c = λ client. crash_untouched (record {
-  stands = c.logs_are_copies_and_blocks.ensures.stands;
-  by_file = c.logs_are_copies_and_blocks.ensures.by_file;
-  before = c.states_between_survive.ensures.before;
-  after = c.states_between_survive.ensures.after;
-}) g.D.Disk.state c.self.inside.log c.self.inside.disk c.args.self.now c.self.view_is c.self.invariant client (calls.SetArchiveTail c.args.lsn)
+returns-in-Some-clause-moments g c = λ client. crash_untouched c.crashes_leave_survivors.ensures g.D.Disk.state c.self.inside.log c.self.inside.disk c.args.self.now c.self.view_is c.self.invariant client (calls.SetArchiveTail c.args.lsn)
 
 pub returns-then-is_err-clause-moments : goal.returns-then-is_err-clause-moments
-returns-then-is_err-clause-moments g c = λ client. crash_written (record {
-  stands = c.logs_are_copies_and_blocks.ensures.stands;
-  by_file = c.logs_are_copies_and_blocks.ensures.by_file;
-  before = c.states_between_survive.ensures.before;
-  after = c.states_between_survive.ensures.after;
-}) c.ways_of_a_step.ensures c.steps_keep_a_state_valid.ensures.step g.D.Disk.state c.self.inside.log c.self.inside.disk c.args.self.now c.self.view_is c.self.invariant c.if-self.false client (calls.SetArchiveTail c.args.lsn)
+returns-then-is_err-clause-moments g c = λ client. crash_written c.crashes_leave_survivors.ensures c.ways_of_a_step.ensures c.steps_keep_a_state_valid.ensures.step g.D.Disk.state c.self.inside.log c.self.inside.disk c.args.self.now c.self.view_is c.self.invariant c.if-self.false client (calls.SetArchiveTail c.args.lsn)
     (with_archive (Some c.args.lsn) c.self.inside.log.state.value) (g.D.Disk.state c.change_archive.new.disk) (sym c.tail_refusal.ensures ∙ c.in_default.is) (refl) c.change_archive.ensures.meanwhile
 
 pub returns-clause-moments : goal.returns-clause-moments
-returns-clause-moments g c = λ client. crash_written (record {
-  stands = c.logs_are_copies_and_blocks.ensures.stands;
-  by_file = c.logs_are_copies_and_blocks.ensures.by_file;
-  before = c.states_between_survive.ensures.before;
-  after = c.states_between_survive.ensures.after;
-}) c.ways_of_a_step.ensures c.steps_keep_a_state_valid.ensures.step g.D.Disk.state c.self.inside.log c.self.inside.disk c.args.self.now c.self.view_is c.self.invariant c.if-self.false client (calls.SetArchiveTail c.args.lsn)
+returns-clause-moments g c = λ client. crash_written c.crashes_leave_survivors.ensures c.ways_of_a_step.ensures c.steps_keep_a_state_valid.ensures.step g.D.Disk.state c.self.inside.log c.self.inside.disk c.args.self.now c.self.view_is c.self.invariant c.if-self.false client (calls.SetArchiveTail c.args.lsn)
     (with_archive (Some c.args.lsn) c.self.inside.log.state.value) (g.D.Disk.state c.change_archive.new.disk) (sym c.tail_refusal.ensures ∙ c.in_default.is) (refl) c.change_archive.ensures.meanwhile

@@ -4,122 +4,122 @@ use Rattle.clfs_disk.specs.Files.{Unchanged}
 use Rattle.clfs_disk.specs.State.{Passes}
 use Rattle.clfs_model.specs.declared.reply.Reply.TheVariants as replies
 use Rattle.clfs_manager.proofs.ReadKeeps.{still as still_passes}
-use Rattle.clfs_manager.proofs.StepCalls.{undamaged, still, written, refused_by}
+use Rattle.clfs_manager.proofs.StepCalls.{said, stepped, undamaged, still, written, refused_by}
 use Rattle.clfs_manager.proofs.manager.Manager.step.Goals as goal
 
 pub returns-in-OpenStream-clause-damage : goal.returns-in-OpenStream-clause-damage
-returns-in-OpenStream-clause-damage g c = λ tells. undamaged _ _ _ _ replies.Stream _ _ _ refl c.stream_reply.ensures.exact (c.open_stream.ensures.step (g.D.Disk.state c.args.self.now.1).nature.tells_contents)
+returns-in-OpenStream-clause-damage g c = λ tells. undamaged _ _ _ _ replies.Stream _ _ _ refl (said _ _ _ c.reply_of.ensures.exact) (c.open_stream.ensures.step (g.D.Disk.state c.args.self.now.1).nature.tells_contents)
 
 pub returns-in-OpenStream-clause-writes : goal.returns-in-OpenStream-clause-writes
-returns-in-OpenStream-clause-writes g c = written replies.Stream _ _ _ _ (λ x e. cc e) c.stream_reply.ensures.exact c.open_stream.ensures.writes
+returns-in-OpenStream-clause-writes g c = written replies.Stream _ _ _ _ (λ x e. cc e) (said _ _ _ c.reply_of.ensures.exact) c.open_stream.ensures.writes
 
 pub returns-in-CreateArea-clause-damage : goal.returns-in-CreateArea-clause-damage
-returns-in-CreateArea-clause-damage g c = λ tells. undamaged _ _ _ _ replies.Area _ _ _ refl c.area_reply.ensures.exact (c.create_area.ensures.step (g.D.Disk.state c.args.self.now.1).nature.tells_contents)
+returns-in-CreateArea-clause-damage g c = λ tells. undamaged _ _ _ _ replies.Area _ _ _ refl (said _ _ _ c.reply_of-in-CreateArea.ensures.exact) (c.create_area.ensures.step (g.D.Disk.state c.args.self.now.1).nature.tells_contents)
 
 pub returns-in-CreateArea-clause-writes : goal.returns-in-CreateArea-clause-writes
-returns-in-CreateArea-clause-writes g c = rw c.create_area.ensures.disk (still _ _ _ _ replies.Area _ _ _ _ refl c.area_reply.ensures.exact (c.create_area.ensures.step (g.D.Disk.state c.args.self.now.1).nature.tells_contents))
+returns-in-CreateArea-clause-writes g c = rw c.create_area.ensures.disk (still _ _ _ _ replies.Area _ _ _ _ refl (said _ _ _ c.reply_of-in-CreateArea.ensures.exact) (c.create_area.ensures.step (g.D.Disk.state c.args.self.now.1).nature.tells_contents))
 
 pub returns-in-DeleteArea-clause-damage : goal.returns-in-DeleteArea-clause-damage
-returns-in-DeleteArea-clause-damage g c = λ tells. undamaged _ _ _ _ (λ _. replies.Done) _ _ _ refl c.done_reply.ensures.exact (c.delete_area.ensures.step (g.D.Disk.state c.args.self.now.1).nature.tells_contents)
+returns-in-DeleteArea-clause-damage g c = λ tells. undamaged _ _ _ _ (λ _. replies.Done) _ _ _ refl (said _ _ _ c.reply_of-in-DeleteArea.ensures.exact) (c.delete_area.ensures.step (g.D.Disk.state c.args.self.now.1).nature.tells_contents)
 
 pub returns-in-DeleteArea-clause-writes : goal.returns-in-DeleteArea-clause-writes
-returns-in-DeleteArea-clause-writes g c = rw c.delete_area.ensures.disk (still _ _ _ _ (λ _. replies.Done) _ _ _ _ refl c.done_reply.ensures.exact (c.delete_area.ensures.step (g.D.Disk.state c.args.self.now.1).nature.tells_contents))
+returns-in-DeleteArea-clause-writes g c = rw c.delete_area.ensures.disk (still _ _ _ _ (λ _. replies.Done) _ _ _ _ refl (said _ _ _ c.reply_of-in-DeleteArea.ensures.exact) (c.delete_area.ensures.step (g.D.Disk.state c.args.self.now.1).nature.tells_contents))
 
 pub returns-in-Reserve-clause-damage : goal.returns-in-Reserve-clause-damage
-returns-in-Reserve-clause-damage g c = λ tells. undamaged _ _ _ _ replies.Held _ _ _ refl c.held_reply.ensures.exact (c.reserve.ensures.step (g.D.Disk.state c.args.self.now.1).nature.tells_contents)
+returns-in-Reserve-clause-damage g c = λ tells. undamaged _ _ _ _ replies.Held _ _ _ refl (said _ _ _ c.reply_of-in-Reserve.ensures.exact) (c.reserve.ensures.step (g.D.Disk.state c.args.self.now.1).nature.tells_contents)
 
 pub returns-in-Reserve-clause-writes : goal.returns-in-Reserve-clause-writes
-returns-in-Reserve-clause-writes g c = written replies.Held _ _ _ _ (λ x e. cc e) c.held_reply.ensures.exact c.reserve.ensures.writes
+returns-in-Reserve-clause-writes g c = written replies.Held _ _ _ _ (λ x e. cc e) (said _ _ _ c.reply_of-in-Reserve.ensures.exact) c.reserve.ensures.writes
 
 pub returns-in-Release-clause-damage : goal.returns-in-Release-clause-damage
-returns-in-Release-clause-damage g c = λ tells. undamaged _ _ _ _ replies.Held _ _ _ refl c.held_reply-in-Release.ensures.exact (c.release.ensures.step (g.D.Disk.state c.args.self.now.1).nature.tells_contents)
+returns-in-Release-clause-damage g c = λ tells. undamaged _ _ _ _ replies.Held _ _ _ refl (said _ _ _ c.reply_of-in-Release.ensures.exact) (c.release.ensures.step (g.D.Disk.state c.args.self.now.1).nature.tells_contents)
 
 pub returns-in-Release-clause-writes : goal.returns-in-Release-clause-writes
-returns-in-Release-clause-writes g c = rw c.release.ensures.disk (still _ _ _ _ replies.Held _ _ _ _ refl c.held_reply-in-Release.ensures.exact (c.release.ensures.step (g.D.Disk.state c.args.self.now.1).nature.tells_contents))
+returns-in-Release-clause-writes g c = rw c.release.ensures.disk (still _ _ _ _ replies.Held _ _ _ _ refl (said _ _ _ c.reply_of-in-Release.ensures.exact) (c.release.ensures.step (g.D.Disk.state c.args.self.now.1).nature.tells_contents))
 
 pub returns-in-Align-clause-damage : goal.returns-in-Align-clause-damage
-returns-in-Align-clause-damage g c = λ tells. undamaged _ _ _ _ replies.Sectors _ _ _ refl c.sectors_reply.ensures.exact (c.align.ensures.step (g.D.Disk.state c.args.self.now.1).nature.tells_contents)
+returns-in-Align-clause-damage g c = λ tells. undamaged _ _ _ _ replies.Sectors _ _ _ refl (said _ _ _ c.reply_of-in-Align.ensures.exact) (c.align.ensures.step (g.D.Disk.state c.args.self.now.1).nature.tells_contents)
 
 pub returns-in-Align-clause-writes : goal.returns-in-Align-clause-writes
-returns-in-Align-clause-writes g c = still _ _ _ _ replies.Sectors _ _ _ _ refl c.sectors_reply.ensures.exact (c.align.ensures.step (g.D.Disk.state c.args.self.now.1).nature.tells_contents)
+returns-in-Align-clause-writes g c = still _ _ _ _ replies.Sectors _ _ _ _ refl (said _ _ _ c.reply_of-in-Align.ensures.exact) (c.align.ensures.step (g.D.Disk.state c.args.self.now.1).nature.tells_contents)
 
 pub returns-in-Append-clause-damage : goal.returns-in-Append-clause-damage
-returns-in-Append-clause-damage g c = λ tells. undamaged _ _ _ _ replies.Placed _ _ _ refl c.placed_reply.ensures.exact (c.append.ensures.step (g.D.Disk.state c.args.self.now.1).nature.tells_contents)
+returns-in-Append-clause-damage g c = λ tells. undamaged _ _ _ _ replies.Placed _ _ _ refl (said _ _ _ c.reply_of-in-Append.ensures.exact) (c.append.ensures.step (g.D.Disk.state c.args.self.now.1).nature.tells_contents)
 
 pub returns-in-Append-clause-writes : goal.returns-in-Append-clause-writes
-returns-in-Append-clause-writes g c = written replies.Placed _ _ _ _ (λ x e. cc e) c.placed_reply.ensures.exact c.append.ensures.writes
+returns-in-Append-clause-writes g c = written replies.Placed _ _ _ _ (λ x e. cc e) (said _ _ _ c.reply_of-in-Append.ensures.exact) c.append.ensures.writes
 
 pub returns-in-Flush-clause-damage : goal.returns-in-Flush-clause-damage
-returns-in-Flush-clause-damage g c = λ tells. undamaged _ _ _ _ replies.Flushed _ _ _ refl c.flushed_reply.ensures.exact (c.flush.ensures.step (g.D.Disk.state c.args.self.now.1).nature.tells_contents)
+returns-in-Flush-clause-damage g c = λ tells. undamaged _ _ _ _ replies.Flushed _ _ _ refl (said _ _ _ c.reply_of-in-Flush.ensures.exact) (c.flush.ensures.step (g.D.Disk.state c.args.self.now.1).nature.tells_contents)
 
 pub returns-in-Flush-clause-writes : goal.returns-in-Flush-clause-writes
-returns-in-Flush-clause-writes g c = written replies.Flushed _ _ _ _ (λ x e. cc e) c.flushed_reply.ensures.exact c.flush.ensures.writes
+returns-in-Flush-clause-writes g c = written replies.Flushed _ _ _ _ (λ x e. cc e) (said _ _ _ c.reply_of-in-Flush.ensures.exact) c.flush.ensures.writes
 
 pub returns-in-FlushTo-clause-damage : goal.returns-in-FlushTo-clause-damage
-returns-in-FlushTo-clause-damage g c = λ tells. undamaged _ _ _ _ replies.Flushed _ _ _ refl c.flushed_reply-in-FlushTo.ensures.exact (c.flush_to.ensures.step (g.D.Disk.state c.args.self.now.1).nature.tells_contents)
+returns-in-FlushTo-clause-damage g c = λ tells. undamaged _ _ _ _ replies.Flushed _ _ _ refl (said _ _ _ c.reply_of-in-FlushTo.ensures.exact) (c.flush_to.ensures.step (g.D.Disk.state c.args.self.now.1).nature.tells_contents)
 
 pub returns-in-FlushTo-clause-writes : goal.returns-in-FlushTo-clause-writes
-returns-in-FlushTo-clause-writes g c = written replies.Flushed _ _ _ _ (λ x e. cc e) c.flushed_reply-in-FlushTo.ensures.exact c.flush_to.ensures.writes
+returns-in-FlushTo-clause-writes g c = written replies.Flushed _ _ _ _ (λ x e. cc e) (said _ _ _ c.reply_of-in-FlushTo.ensures.exact) c.flush_to.ensures.writes
 
 pub returns-in-EndRead-clause-damage : goal.returns-in-EndRead-clause-damage
-returns-in-EndRead-clause-damage g c = λ tells. undamaged _ _ _ _ (λ _. replies.Done) _ _ _ refl c.done_reply-in-EndRead.ensures.exact (c.end_read.ensures.step (g.D.Disk.state c.args.self.now.1).nature.tells_contents)
+returns-in-EndRead-clause-damage g c = λ tells. undamaged _ _ _ _ (λ _. replies.Done) _ _ _ refl (said _ _ _ c.reply_of-in-EndRead.ensures.exact) (c.end_read.ensures.step (g.D.Disk.state c.args.self.now.1).nature.tells_contents)
 
 pub returns-in-EndRead-clause-writes : goal.returns-in-EndRead-clause-writes
-returns-in-EndRead-clause-writes g c = rw c.end_read.ensures.disk (still _ _ _ _ (λ _. replies.Done) _ _ _ _ refl c.done_reply-in-EndRead.ensures.exact (c.end_read.ensures.step (g.D.Disk.state c.args.self.now.1).nature.tells_contents))
+returns-in-EndRead-clause-writes g c = rw c.end_read.ensures.disk (still _ _ _ _ (λ _. replies.Done) _ _ _ _ refl (said _ _ _ c.reply_of-in-EndRead.ensures.exact) (c.end_read.ensures.step (g.D.Disk.state c.args.self.now.1).nature.tells_contents))
 
 pub returns-in-WriteRestart-clause-damage : goal.returns-in-WriteRestart-clause-damage
-returns-in-WriteRestart-clause-damage g c = λ tells. undamaged _ _ _ _ replies.Placed _ _ _ refl c.placed_reply-in-WriteRestart.ensures.exact (c.write_restart.ensures.step (g.D.Disk.state c.args.self.now.1).nature.tells_contents)
+returns-in-WriteRestart-clause-damage g c = λ tells. undamaged _ _ _ _ replies.Placed _ _ _ refl (said _ _ _ c.reply_of-in-WriteRestart.ensures.exact) (c.write_restart.ensures.step (g.D.Disk.state c.args.self.now.1).nature.tells_contents)
 
 pub returns-in-WriteRestart-clause-writes : goal.returns-in-WriteRestart-clause-writes
-returns-in-WriteRestart-clause-writes g c = written replies.Placed _ _ _ _ (λ x e. cc e) c.placed_reply-in-WriteRestart.ensures.exact c.write_restart.ensures.writes
+returns-in-WriteRestart-clause-writes g c = written replies.Placed _ _ _ _ (λ x e. cc e) (said _ _ _ c.reply_of-in-WriteRestart.ensures.exact) c.write_restart.ensures.writes
 
 pub returns-in-Advance-clause-damage : goal.returns-in-Advance-clause-damage
-returns-in-Advance-clause-damage g c = λ tells. undamaged _ _ _ _ replies.Base _ _ _ refl c.base_reply.ensures.exact (c.advance.ensures.step (g.D.Disk.state c.args.self.now.1).nature.tells_contents)
+returns-in-Advance-clause-damage g c = λ tells. undamaged _ _ _ _ replies.Base _ _ _ refl (said _ _ _ c.reply_of-in-Advance.ensures.exact) (c.advance.ensures.step (g.D.Disk.state c.args.self.now.1).nature.tells_contents)
 
 pub returns-in-Advance-clause-writes : goal.returns-in-Advance-clause-writes
-returns-in-Advance-clause-writes g c = written replies.Base _ _ _ _ (λ x e. cc e) c.base_reply.ensures.exact c.advance.ensures.writes
+returns-in-Advance-clause-writes g c = written replies.Base _ _ _ _ (λ x e. cc e) (said _ _ _ c.reply_of-in-Advance.ensures.exact) c.advance.ensures.writes
 
 pub returns-in-SetArchive-clause-damage : goal.returns-in-SetArchive-clause-damage
-returns-in-SetArchive-clause-damage g c = λ tells. undamaged _ _ _ _ (λ _. replies.Done) _ _ _ refl c.done_reply-in-SetArchive.ensures.exact (c.set_archive.ensures.step (g.D.Disk.state c.args.self.now.1).nature.tells_contents c.args.client)
+returns-in-SetArchive-clause-damage g c = λ tells. undamaged _ _ _ _ (λ _. replies.Done) _ _ _ refl (said _ _ _ c.reply_of-in-SetArchive.ensures.exact) (c.set_archive.ensures.step (g.D.Disk.state c.args.self.now.1).nature.tells_contents c.args.client)
 
 pub returns-in-SetArchive-clause-writes : goal.returns-in-SetArchive-clause-writes
-returns-in-SetArchive-clause-writes g c = written (λ _. replies.Done) _ _ _ _ (λ x e. cc e) c.done_reply-in-SetArchive.ensures.exact c.set_archive.ensures.writes
+returns-in-SetArchive-clause-writes g c = written (λ _. replies.Done) _ _ _ _ (λ x e. cc e) (said _ _ _ c.reply_of-in-SetArchive.ensures.exact) c.set_archive.ensures.writes
 
 pub returns-in-SetArchiveTail-clause-damage : goal.returns-in-SetArchiveTail-clause-damage
-returns-in-SetArchiveTail-clause-damage g c = λ tells. undamaged _ _ _ _ replies.Tail _ _ _ refl c.tail_reply.ensures.exact (c.set_archive_tail.ensures.step (g.D.Disk.state c.args.self.now.1).nature.tells_contents c.args.client)
+returns-in-SetArchiveTail-clause-damage g c = λ tells. undamaged _ _ _ _ replies.Tail _ _ _ refl (said _ _ _ c.reply_of-in-SetArchiveTail.ensures.exact) (c.set_archive_tail.ensures.step (g.D.Disk.state c.args.self.now.1).nature.tells_contents c.args.client)
 
 pub returns-in-SetArchiveTail-clause-writes : goal.returns-in-SetArchiveTail-clause-writes
-returns-in-SetArchiveTail-clause-writes g c = written replies.Tail _ _ _ _ (λ x e. cc e) c.tail_reply.ensures.exact c.set_archive_tail.ensures.writes
+returns-in-SetArchiveTail-clause-writes g c = written replies.Tail _ _ _ _ (λ x e. cc e) (said _ _ _ c.reply_of-in-SetArchiveTail.ensures.exact) c.set_archive_tail.ensures.writes
 
 pub returns-in-ListExtents-clause-damage : goal.returns-in-ListExtents-clause-damage
-returns-in-ListExtents-clause-damage g c = λ tells. undamaged _ _ _ _ replies.Extents _ _ _ refl c.extents_reply.ensures.exact (c.extents.ensures.step (g.D.Disk.state c.args.self.now.1).nature.tells_contents c.args.client)
+returns-in-ListExtents-clause-damage g c = λ tells. undamaged _ _ _ _ replies.Extents _ _ _ refl (said _ _ _ c.reply_of-in-ListExtents.ensures.exact) (c.extents.ensures.step (g.D.Disk.state c.args.self.now.1).nature.tells_contents c.args.client)
 
 pub returns-in-ListExtents-clause-writes : goal.returns-in-ListExtents-clause-writes
-returns-in-ListExtents-clause-writes g c = still _ _ _ _ replies.Extents _ _ _ _ refl c.extents_reply.ensures.exact (c.extents.ensures.step (g.D.Disk.state c.args.self.now.1).nature.tells_contents c.args.client)
+returns-in-ListExtents-clause-writes g c = still _ _ _ _ replies.Extents _ _ _ _ refl (said _ _ _ c.reply_of-in-ListExtents.ensures.exact) (c.extents.ensures.step (g.D.Disk.state c.args.self.now.1).nature.tells_contents c.args.client)
 
 pub returns-in-InstallPolicy-clause-damage : goal.returns-in-InstallPolicy-clause-damage
-returns-in-InstallPolicy-clause-damage g c = λ tells. undamaged _ _ _ _ (λ _. replies.Done) _ _ _ refl c.done_reply-in-InstallPolicy.ensures.exact (c.install_policy.ensures.step (g.D.Disk.state c.args.self.now.1).nature.tells_contents c.args.client)
+returns-in-InstallPolicy-clause-damage g c = λ tells. undamaged _ _ _ _ (λ _. replies.Done) _ _ _ refl (said _ _ _ c.reply_of-in-InstallPolicy.ensures.exact) (c.install_policy.ensures.step (g.D.Disk.state c.args.self.now.1).nature.tells_contents c.args.client)
 
 pub returns-in-InstallPolicy-clause-writes : goal.returns-in-InstallPolicy-clause-writes
-returns-in-InstallPolicy-clause-writes g c = written (λ _. replies.Done) _ _ _ _ (λ x e. cc e) c.done_reply-in-InstallPolicy.ensures.exact c.install_policy.ensures.writes
+returns-in-InstallPolicy-clause-writes g c = written (λ _. replies.Done) _ _ _ _ (λ x e. cc e) (said _ _ _ c.reply_of-in-InstallPolicy.ensures.exact) c.install_policy.ensures.writes
 
 pub returns-in-RemovePolicy-clause-damage : goal.returns-in-RemovePolicy-clause-damage
-returns-in-RemovePolicy-clause-damage g c = λ tells. undamaged _ _ _ _ (λ _. replies.Done) _ _ _ refl c.done_reply-in-RemovePolicy.ensures.exact (c.remove_policy.ensures.step (g.D.Disk.state c.args.self.now.1).nature.tells_contents c.args.client)
+returns-in-RemovePolicy-clause-damage g c = λ tells. undamaged _ _ _ _ (λ _. replies.Done) _ _ _ refl (said _ _ _ c.reply_of-in-RemovePolicy.ensures.exact) (c.remove_policy.ensures.step (g.D.Disk.state c.args.self.now.1).nature.tells_contents c.args.client)
 
 pub returns-in-RemovePolicy-clause-writes : goal.returns-in-RemovePolicy-clause-writes
-returns-in-RemovePolicy-clause-writes g c = written (λ _. replies.Done) _ _ _ _ (λ x e. cc e) c.done_reply-in-RemovePolicy.ensures.exact c.remove_policy.ensures.writes
+returns-in-RemovePolicy-clause-writes g c = written (λ _. replies.Done) _ _ _ _ (λ x e. cc e) (said _ _ _ c.reply_of-in-RemovePolicy.ensures.exact) c.remove_policy.ensures.writes
 
 pub returns-in-SetSize-clause-damage : goal.returns-in-SetSize-clause-damage
-returns-in-SetSize-clause-damage g c = λ tells. undamaged _ _ _ _ replies.Containers _ _ _ refl c.containers_reply.ensures.exact (c.set_size.ensures.step (g.D.Disk.state c.args.self.now.1).nature.tells_contents c.args.client)
+returns-in-SetSize-clause-damage g c = λ tells. undamaged _ _ _ _ replies.Containers _ _ _ refl (said _ _ _ c.reply_of-in-SetSize.ensures.exact) (c.set_size.ensures.step (g.D.Disk.state c.args.self.now.1).nature.tells_contents c.args.client)
 
 pub returns-in-SetSize-clause-writes : goal.returns-in-SetSize-clause-writes
-returns-in-SetSize-clause-writes g c = written replies.Containers _ _ _ _ (λ x e. cc e) c.containers_reply.ensures.exact c.set_size.ensures.writes
+returns-in-SetSize-clause-writes g c = written replies.Containers _ _ _ _ (λ x e. cc e) (said _ _ _ c.reply_of-in-SetSize.ensures.exact) c.set_size.ensures.writes
 
 pub returns-in-Info-clause-damage : goal.returns-in-Info-clause-damage
-returns-in-Info-clause-damage g c = λ tells. undamaged _ _ _ _ replies.Info _ _ _ refl c.info_reply.ensures.exact (c.info.ensures.step (g.D.Disk.state c.args.self.now.1).nature.tells_contents c.args.client)
+returns-in-Info-clause-damage g c = λ tells. undamaged _ _ _ _ replies.Info _ _ _ refl (said _ _ _ c.reply_of-in-Info.ensures.exact) (c.info.ensures.step (g.D.Disk.state c.args.self.now.1).nature.tells_contents c.args.client)
 
 pub returns-in-Info-clause-writes : goal.returns-in-Info-clause-writes
-returns-in-Info-clause-writes g c = still _ _ _ _ replies.Info _ _ _ _ refl c.info_reply.ensures.exact (c.info.ensures.step (g.D.Disk.state c.args.self.now.1).nature.tells_contents c.args.client)
+returns-in-Info-clause-writes g c = still _ _ _ _ replies.Info _ _ _ _ refl (said _ _ _ c.reply_of-in-Info.ensures.exact) (c.info.ensures.step (g.D.Disk.state c.args.self.now.1).nature.tells_contents c.args.client)
 
 pub returns-in-OpenStream-clause-moments : goal.returns-in-OpenStream-clause-moments
 returns-in-OpenStream-clause-moments g c = rw c.in-OpenStream.is (c.open_stream.ensures.moments)
@@ -264,49 +264,118 @@ pub returns-in-Info-clause-stopped : goal.returns-in-Info-clause-stopped
 returns-in-Info-clause-stopped g c = λ _. refl
 
 pub returns-in-OpenStream-clause-refused : goal.returns-in-OpenStream-clause-refused
-returns-in-OpenStream-clause-refused g c = refused_by replies.Stream _ _ (λ x e. e) c.stream_reply.ensures.exact c.open_stream.ensures.refused
+returns-in-OpenStream-clause-refused g c = refused_by replies.Stream _ _ (λ x e. e) (said _ _ _ c.reply_of.ensures.exact) c.open_stream.ensures.refused
 
 pub returns-in-Reserve-clause-refused : goal.returns-in-Reserve-clause-refused
-returns-in-Reserve-clause-refused g c = refused_by replies.Held _ _ (λ x e. e) c.held_reply.ensures.exact c.reserve.ensures.refused
+returns-in-Reserve-clause-refused g c = refused_by replies.Held _ _ (λ x e. e) (said _ _ _ c.reply_of-in-Reserve.ensures.exact) c.reserve.ensures.refused
 
 pub returns-in-Append-clause-refused : goal.returns-in-Append-clause-refused
-returns-in-Append-clause-refused g c = refused_by replies.Placed _ _ (λ x e. e) c.placed_reply.ensures.exact c.append.ensures.refused
+returns-in-Append-clause-refused g c = refused_by replies.Placed _ _ (λ x e. e) (said _ _ _ c.reply_of-in-Append.ensures.exact) c.append.ensures.refused
 
 pub returns-in-Flush-clause-refused : goal.returns-in-Flush-clause-refused
-returns-in-Flush-clause-refused g c = refused_by replies.Flushed _ _ (λ x e. e) c.flushed_reply.ensures.exact c.flush.ensures.refused
+returns-in-Flush-clause-refused g c = refused_by replies.Flushed _ _ (λ x e. e) (said _ _ _ c.reply_of-in-Flush.ensures.exact) c.flush.ensures.refused
 
 pub returns-in-FlushTo-clause-refused : goal.returns-in-FlushTo-clause-refused
-returns-in-FlushTo-clause-refused g c = refused_by replies.Flushed _ _ (λ x e. e) c.flushed_reply-in-FlushTo.ensures.exact c.flush_to.ensures.refused
+returns-in-FlushTo-clause-refused g c = refused_by replies.Flushed _ _ (λ x e. e) (said _ _ _ c.reply_of-in-FlushTo.ensures.exact) c.flush_to.ensures.refused
 
 pub returns-in-Read-clause-refused : goal.returns-in-Read-clause-refused
-returns-in-Read-clause-refused g c = refused_by (λ (found : ℕ × LogEntry). replies.Found found.0 found.1) _ _ (λ x e. e) c.found_reply.ensures.exact c.read.ensures.refused
+returns-in-Read-clause-refused g c = refused_by (λ (found : ℕ × LogEntry). replies.Found found.0 found.1) _ _ (λ x e. e) (said _ _ _ c.reply_of-in-Read.ensures.exact) c.read.ensures.refused
 
 pub returns-in-ReadNext-clause-refused : goal.returns-in-ReadNext-clause-refused
-returns-in-ReadNext-clause-refused g c = refused_by replies.Next _ _ (λ x e. e) c.next_reply.ensures.exact c.read_next.ensures.refused
+returns-in-ReadNext-clause-refused g c = refused_by replies.Next _ _ (λ x e. e) (said _ _ _ c.reply_of-in-ReadNext.ensures.exact) c.read_next.ensures.refused
 
 pub returns-in-WriteRestart-clause-refused : goal.returns-in-WriteRestart-clause-refused
-returns-in-WriteRestart-clause-refused g c = refused_by replies.Placed _ _ (λ x e. e) c.placed_reply-in-WriteRestart.ensures.exact c.write_restart.ensures.refused
+returns-in-WriteRestart-clause-refused g c = refused_by replies.Placed _ _ (λ x e. e) (said _ _ _ c.reply_of-in-WriteRestart.ensures.exact) c.write_restart.ensures.refused
 
 pub returns-in-ReadRestart-clause-refused : goal.returns-in-ReadRestart-clause-refused
-returns-in-ReadRestart-clause-refused g c = refused_by (λ (found : ℕ × LogEntry). replies.Found found.0 found.1) _ _ (λ x e. e) c.found_reply-in-ReadRestart.ensures.exact c.read_restart.ensures.refused
+returns-in-ReadRestart-clause-refused g c = refused_by (λ (found : ℕ × LogEntry). replies.Found found.0 found.1) _ _ (λ x e. e) (said _ _ _ c.reply_of-in-ReadRestart.ensures.exact) c.read_restart.ensures.refused
 
 pub returns-in-PreviousRestart-clause-refused : goal.returns-in-PreviousRestart-clause-refused
-returns-in-PreviousRestart-clause-refused g c = refused_by replies.Next _ _ (λ x e. e) c.next_reply-in-PreviousRestart.ensures.exact c.previous_restart.ensures.refused
+returns-in-PreviousRestart-clause-refused g c = refused_by replies.Next _ _ (λ x e. e) (said _ _ _ c.reply_of-in-PreviousRestart.ensures.exact) c.previous_restart.ensures.refused
 
 pub returns-in-Advance-clause-refused : goal.returns-in-Advance-clause-refused
-returns-in-Advance-clause-refused g c = refused_by replies.Base _ _ (λ x e. e) c.base_reply.ensures.exact c.advance.ensures.refused
+returns-in-Advance-clause-refused g c = refused_by replies.Base _ _ (λ x e. e) (said _ _ _ c.reply_of-in-Advance.ensures.exact) c.advance.ensures.refused
 
 pub returns-in-SetArchive-clause-refused : goal.returns-in-SetArchive-clause-refused
-returns-in-SetArchive-clause-refused g c = refused_by (λ _. replies.Done) _ _ (λ x e. e) c.done_reply-in-SetArchive.ensures.exact c.set_archive.ensures.refused
+returns-in-SetArchive-clause-refused g c = refused_by (λ _. replies.Done) _ _ (λ x e. e) (said _ _ _ c.reply_of-in-SetArchive.ensures.exact) c.set_archive.ensures.refused
 
 pub returns-in-SetArchiveTail-clause-refused : goal.returns-in-SetArchiveTail-clause-refused
-returns-in-SetArchiveTail-clause-refused g c = refused_by replies.Tail _ _ (λ x e. e) c.tail_reply.ensures.exact c.set_archive_tail.ensures.refused
+returns-in-SetArchiveTail-clause-refused g c = refused_by replies.Tail _ _ (λ x e. e) (said _ _ _ c.reply_of-in-SetArchiveTail.ensures.exact) c.set_archive_tail.ensures.refused
 
 pub returns-in-InstallPolicy-clause-refused : goal.returns-in-InstallPolicy-clause-refused
-returns-in-InstallPolicy-clause-refused g c = refused_by (λ _. replies.Done) _ _ (λ x e. e) c.done_reply-in-InstallPolicy.ensures.exact c.install_policy.ensures.refused
+returns-in-InstallPolicy-clause-refused g c = refused_by (λ _. replies.Done) _ _ (λ x e. e) (said _ _ _ c.reply_of-in-InstallPolicy.ensures.exact) c.install_policy.ensures.refused
 
 pub returns-in-RemovePolicy-clause-refused : goal.returns-in-RemovePolicy-clause-refused
-returns-in-RemovePolicy-clause-refused g c = refused_by (λ _. replies.Done) _ _ (λ x e. e) c.done_reply-in-RemovePolicy.ensures.exact c.remove_policy.ensures.refused
+returns-in-RemovePolicy-clause-refused g c = refused_by (λ _. replies.Done) _ _ (λ x e. e) (said _ _ _ c.reply_of-in-RemovePolicy.ensures.exact) c.remove_policy.ensures.refused
 
 pub returns-in-SetSize-clause-refused : goal.returns-in-SetSize-clause-refused
-returns-in-SetSize-clause-refused g c = refused_by replies.Containers _ _ (λ x e. e) c.containers_reply.ensures.exact c.set_size.ensures.refused
+returns-in-SetSize-clause-refused g c = refused_by replies.Containers _ _ (λ x e. e) (said _ _ _ c.reply_of-in-SetSize.ensures.exact) c.set_size.ensures.refused
+
+pub returns-in-OpenStream-clause-step : goal.returns-in-OpenStream-clause-step
+returns-in-OpenStream-clause-step g c = rw c.in-OpenStream.is (stepped _ _ _ _ replies.Stream _ _ _ (said _ _ _ c.reply_of.ensures.exact) (c.open_stream.ensures.step (g.D.Disk.state c.args.self.now.1).nature.tells_contents))
+
+pub returns-in-CreateArea-clause-step : goal.returns-in-CreateArea-clause-step
+returns-in-CreateArea-clause-step g c = rw c.in-CreateArea.is (stepped _ _ _ _ replies.Area _ _ _ (said _ _ _ c.reply_of-in-CreateArea.ensures.exact) (c.create_area.ensures.step (g.D.Disk.state c.args.self.now.1).nature.tells_contents))
+
+pub returns-in-DeleteArea-clause-step : goal.returns-in-DeleteArea-clause-step
+returns-in-DeleteArea-clause-step g c = rw c.in-DeleteArea.is (stepped _ _ _ _ (λ _. replies.Done) _ _ _ (said _ _ _ c.reply_of-in-DeleteArea.ensures.exact) (c.delete_area.ensures.step (g.D.Disk.state c.args.self.now.1).nature.tells_contents))
+
+pub returns-in-Reserve-clause-step : goal.returns-in-Reserve-clause-step
+returns-in-Reserve-clause-step g c = rw c.in-Reserve.is (stepped _ _ _ _ replies.Held _ _ _ (said _ _ _ c.reply_of-in-Reserve.ensures.exact) (c.reserve.ensures.step (g.D.Disk.state c.args.self.now.1).nature.tells_contents))
+
+pub returns-in-Release-clause-step : goal.returns-in-Release-clause-step
+returns-in-Release-clause-step g c = rw c.in-Release.is (stepped _ _ _ _ replies.Held _ _ _ (said _ _ _ c.reply_of-in-Release.ensures.exact) (c.release.ensures.step (g.D.Disk.state c.args.self.now.1).nature.tells_contents))
+
+pub returns-in-Align-clause-step : goal.returns-in-Align-clause-step
+returns-in-Align-clause-step g c = rw c.in-Align.is (stepped _ _ _ _ replies.Sectors _ _ _ (said _ _ _ c.reply_of-in-Align.ensures.exact) (c.align.ensures.step (g.D.Disk.state c.args.self.now.1).nature.tells_contents))
+
+pub returns-in-Append-clause-step : goal.returns-in-Append-clause-step
+returns-in-Append-clause-step g c = rw c.in-Append.is (stepped _ _ _ _ replies.Placed _ _ _ (said _ _ _ c.reply_of-in-Append.ensures.exact) (c.append.ensures.step (g.D.Disk.state c.args.self.now.1).nature.tells_contents))
+
+pub returns-in-Flush-clause-step : goal.returns-in-Flush-clause-step
+returns-in-Flush-clause-step g c = rw c.in-Flush.is (stepped _ _ _ _ replies.Flushed _ _ _ (said _ _ _ c.reply_of-in-Flush.ensures.exact) (c.flush.ensures.step (g.D.Disk.state c.args.self.now.1).nature.tells_contents))
+
+pub returns-in-FlushTo-clause-step : goal.returns-in-FlushTo-clause-step
+returns-in-FlushTo-clause-step g c = rw c.in-FlushTo.is (stepped _ _ _ _ replies.Flushed _ _ _ (said _ _ _ c.reply_of-in-FlushTo.ensures.exact) (c.flush_to.ensures.step (g.D.Disk.state c.args.self.now.1).nature.tells_contents))
+
+pub returns-in-Read-clause-step : goal.returns-in-Read-clause-step
+returns-in-Read-clause-step g c = rw c.in-Read.is (stepped _ _ _ _ (λ (found : ℕ × LogEntry). replies.Found found.0 found.1) _ _ _ (said _ _ _ c.reply_of-in-Read.ensures.exact) c.read.ensures.step)
+
+pub returns-in-ReadNext-clause-step : goal.returns-in-ReadNext-clause-step
+returns-in-ReadNext-clause-step g c = rw c.in-ReadNext.is (stepped _ _ _ _ replies.Next _ _ _ (said _ _ _ c.reply_of-in-ReadNext.ensures.exact) c.read_next.ensures.step)
+
+pub returns-in-EndRead-clause-step : goal.returns-in-EndRead-clause-step
+returns-in-EndRead-clause-step g c = rw c.in-EndRead.is (stepped _ _ _ _ (λ _. replies.Done) _ _ _ (said _ _ _ c.reply_of-in-EndRead.ensures.exact) (c.end_read.ensures.step (g.D.Disk.state c.args.self.now.1).nature.tells_contents))
+
+pub returns-in-WriteRestart-clause-step : goal.returns-in-WriteRestart-clause-step
+returns-in-WriteRestart-clause-step g c = rw c.in-WriteRestart.is (stepped _ _ _ _ replies.Placed _ _ _ (said _ _ _ c.reply_of-in-WriteRestart.ensures.exact) (c.write_restart.ensures.step (g.D.Disk.state c.args.self.now.1).nature.tells_contents))
+
+pub returns-in-ReadRestart-clause-step : goal.returns-in-ReadRestart-clause-step
+returns-in-ReadRestart-clause-step g c = rw c.in-ReadRestart.is (stepped _ _ _ _ (λ (found : ℕ × LogEntry). replies.Found found.0 found.1) _ _ _ (said _ _ _ c.reply_of-in-ReadRestart.ensures.exact) c.read_restart.ensures.step)
+
+pub returns-in-PreviousRestart-clause-step : goal.returns-in-PreviousRestart-clause-step
+returns-in-PreviousRestart-clause-step g c = rw c.in-PreviousRestart.is (stepped _ _ _ _ replies.Next _ _ _ (said _ _ _ c.reply_of-in-PreviousRestart.ensures.exact) c.previous_restart.ensures.step)
+
+pub returns-in-Advance-clause-step : goal.returns-in-Advance-clause-step
+returns-in-Advance-clause-step g c = rw c.in-Advance.is (stepped _ _ _ _ replies.Base _ _ _ (said _ _ _ c.reply_of-in-Advance.ensures.exact) (c.advance.ensures.step (g.D.Disk.state c.args.self.now.1).nature.tells_contents))
+
+pub returns-in-SetArchive-clause-step : goal.returns-in-SetArchive-clause-step
+returns-in-SetArchive-clause-step g c = rw c.in-SetArchive.is (stepped _ _ _ _ (λ _. replies.Done) _ _ _ (said _ _ _ c.reply_of-in-SetArchive.ensures.exact) (c.set_archive.ensures.step (g.D.Disk.state c.args.self.now.1).nature.tells_contents c.args.client))
+
+pub returns-in-SetArchiveTail-clause-step : goal.returns-in-SetArchiveTail-clause-step
+returns-in-SetArchiveTail-clause-step g c = rw c.in-SetArchiveTail.is (stepped _ _ _ _ replies.Tail _ _ _ (said _ _ _ c.reply_of-in-SetArchiveTail.ensures.exact) (c.set_archive_tail.ensures.step (g.D.Disk.state c.args.self.now.1).nature.tells_contents c.args.client))
+
+pub returns-in-ListExtents-clause-step : goal.returns-in-ListExtents-clause-step
+returns-in-ListExtents-clause-step g c = rw c.in-ListExtents.is (stepped _ _ _ _ replies.Extents _ _ _ (said _ _ _ c.reply_of-in-ListExtents.ensures.exact) (c.extents.ensures.step (g.D.Disk.state c.args.self.now.1).nature.tells_contents c.args.client))
+
+pub returns-in-InstallPolicy-clause-step : goal.returns-in-InstallPolicy-clause-step
+returns-in-InstallPolicy-clause-step g c = rw c.in-InstallPolicy.is (stepped _ _ _ _ (λ _. replies.Done) _ _ _ (said _ _ _ c.reply_of-in-InstallPolicy.ensures.exact) (c.install_policy.ensures.step (g.D.Disk.state c.args.self.now.1).nature.tells_contents c.args.client))
+
+pub returns-in-RemovePolicy-clause-step : goal.returns-in-RemovePolicy-clause-step
+returns-in-RemovePolicy-clause-step g c = rw c.in-RemovePolicy.is (stepped _ _ _ _ (λ _. replies.Done) _ _ _ (said _ _ _ c.reply_of-in-RemovePolicy.ensures.exact) (c.remove_policy.ensures.step (g.D.Disk.state c.args.self.now.1).nature.tells_contents c.args.client))
+
+pub returns-in-SetSize-clause-step : goal.returns-in-SetSize-clause-step
+returns-in-SetSize-clause-step g c = rw c.in-SetSize.is (stepped _ _ _ _ replies.Containers _ _ _ (said _ _ _ c.reply_of-in-SetSize.ensures.exact) (c.set_size.ensures.step (g.D.Disk.state c.args.self.now.1).nature.tells_contents c.args.client))
+
+pub returns-in-Info-clause-step : goal.returns-in-Info-clause-step
+returns-in-Info-clause-step g c = rw c.in-Info.is (stepped _ _ _ _ replies.Info _ _ _ (said _ _ _ c.reply_of-in-Info.ensures.exact) (c.info.ensures.step (g.D.Disk.state c.args.self.now.1).nature.tells_contents c.args.client))

@@ -14,7 +14,7 @@ returns-in-At c =
     let heads = c.args.self.now.heads in
     let base = base_in c.args.self.now.streams c.args.stream in
     let known = known_head c.args.stream c.args.last heads c.in_ok-head.head c.requires.known.0 c.in_ok-head.ensures c.requires.known.1 c.requires.known.2 in
-    c.live_at.ensures ∙ c.in-At.ensures base c.args.stream heads known.1 ∙ ap (λ lsn. next_head base c.args.stream c.args.mode lsn heads) known.0
+    c.live_at.ensures.head ∙ c.in-At.ensures base c.args.stream heads known.1 ∙ ap (λ lsn. next_head base c.args.stream c.args.mode lsn heads) known.0
 
 pub returns-in-Above : goal.returns-in-Above
 returns-in-Above c =

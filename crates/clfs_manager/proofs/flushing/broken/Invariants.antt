@@ -1,5 +1,0 @@
-use Rattle.clfs_model.specs.Step.{with_broken}
-use Rattle.clfs_manager.proofs.flushing.broken.Given as goal
-
-abbrev pub ghost-next : goal.ghost-next
-ghost-next a = with_broken a.self.now.value
