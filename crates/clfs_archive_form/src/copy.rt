@@ -1,6 +1,7 @@
 // The base copy of a log that is restored.
 ghost use Rattle.std.specs.Prelude.{◌≡◌, ◌+◌, ◌^◌, ◌<◌, ◌≤◌, min, [], length, IfOk};
 ghost use Rattle.std.specs.List.{range_with_len};
+ghost use Rattle.clfs_lsn.specs.Limits.{most_containers};
 ghost use Rattle.clfs_lsn.specs.Lsn.{lsn_number, container_of};
 ghost use Rattle.clfs_base.specs.Spelling.{IsImage};
 ghost use Rattle.clfs_archive_form.specs.Written.{lowered_rows, restored_copy};
@@ -11,13 +12,13 @@ use std::alloc::{AllocError, Global};
 use std::mem;
 
 // The files of so many containers: 1, 2 and so on.
-fn first_files(alloc: Global, count: u16) -> Result<Vec<u16>, AllocError>
-    requires { count < 2 ^ 15 }
-    ensures { IfOk result (λ files. files.items ≡ range_with_len 1 count) }
+fn first_files(alloc: Global, count: u16) -> Result<Files, AllocError>
+    requires { count ≤ most_containers }
+    ensures { IfOk result (λ files. files ≡ range_with_len 1 count) }
 {
-    let mut files = Vec::new(alloc);
+    let mut files = Files::new(alloc)?;
     for number in 1..count + 1 {
-        files.push(number)?;
+        files.push(number);
     }
     Ok(files)
 }
@@ -70,7 +71,7 @@ pub fn restored_copy(
     copy.turn = 0;
     copy.files_made = copy.containers;
     copy.tail = lowered(copy.tail, end);
-    copy.files = Files::from_vec(files);
+    copy.files = files;
     copy.streams = Rows::from_vec(lower_bases(rows, end));
     Ok(copy)
 }

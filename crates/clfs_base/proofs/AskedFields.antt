@@ -15,6 +15,7 @@ use Rattle.clfs_base.specs.declared.layout.Numbers.{Numbers}
 use Rattle.clfs_base.specs.declared.refusal.BaseRefusal.{BaseRefusal}
 use Rattle.clfs_base.specs.declared.refusal.BaseRefusal.TheVariants as refusals
 use Rattle.clfs_lsn.specs.Checks.{unless_wrong}
+use Rattle.clfs_lsn.specs.Limits.{most_containers}
 use Rattle.clfs_base.specs.Layout.{numbers_of, layout_in, fields}
 use Rattle.clfs_base.specs.Spelling.{flag}
 use Rattle.clfs_base.specs.Checks.{is_wrong_field, wrong_field, behind_fields, row_of, slot_fault, image_of, image_at}
@@ -22,7 +23,7 @@ use Rattle.clfs_base.specs.Decoding.{Gives}
 use Rattle.clfs_base.specs.Demands.{anything, asked, is_asked, is_wrong_within, wrong_within, fault_within, IsAsked, Meets}
 use Rattle.clfs_base.proofs.Searches.{both_none, goes_on}
 use Rattle.clfs_base.proofs.Ranges.{all_pass, pass_right}
-use Rattle.clfs_base.proofs.Taken.{flag_back}
+use Rattle.clfs_base.proofs.Taken.{few_listed, flag_back}
 use Rattle.clfs_base.proofs.Images.{image_is}
 
 -- each field's number is asked for
@@ -182,6 +183,11 @@ module _ (demands : Demands) (layout : Layout) (bytes : List ℕ) where
   only none m =
       let parts = both_none _ _ none in
       goes_on _ _ _ (asked_pass bytes (fields layout n) (asked demands) parts.0 (are_asked parts.0 m)) parts.1
+
+-- no more containers are listed than a log can have
+pub few_asked : (demands : Demands) (layout : Layout) (bytes : List ℕ) → fault_within demands layout bytes ≡ None
+    → (numbers_of bytes).listed ≤ most_containers
+few_asked demands layout bytes none = few_listed layout bytes (found demands layout bytes none).0
 
 -- ---- what a decoder answers
 

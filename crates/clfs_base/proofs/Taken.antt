@@ -13,6 +13,7 @@ use Rattle.std.specs.List.{flat_map, list_any, list_all}
 use Rattle.std.specs.Str.{bytes_eq}
 use Rattle.byteorder.specs.Endian.{little_bytes, little_number}
 use Rattle.byteorder.specs.Numbers.{little_from-lt}
+use Rattle.clfs_lsn.specs.Limits.{most_containers}
 use Rattle.clfs_base.specs.declared.image.Row.{Row}
 use Rattle.clfs_base.specs.declared.layout.Layout.{Layout}
 use Rattle.clfs_base.specs.declared.layout.Numbers.{Numbers}
@@ -290,6 +291,14 @@ limits_hold layout bytes none =
       record { some_sectors = r.block.0; largest_block = r.block.1; two_blocks = r.container.0; largest_container = r.container.1 },
       omega (arith, files_size, r.listed.1, r.first.1),
     )
+
+-- and no more containers listed than a log can have
+pub few_listed : (layout : Layout) (bytes : List ℕ) → slot_fault layout bytes ≡ None → (numbers_of bytes).listed ≤ most_containers
+few_listed layout bytes none =
+    let n = numbers_of bytes in
+    let a = both_none _ _ (sym (chained layout bytes n refl) ∙ none) in
+    let r = (pass_right layout n bytes (all_pass bytes (fields layout n) a.0)).0 in
+    omega (arith, r.listed.1, r.containers.1)
 
 one_at_most : (layout : Layout) (streams number : ℕ) → number ≤ most_dedicated layout streams → number ≤ 1
 one_at_most layout streams number le = small (layout.has_dedicated && leb streams 1) le

@@ -1,5 +1,6 @@
 // Reading a base copy from the bytes of its slot. It is judged first, and memory is taken for a copy that is right alone.
-ghost use Rattle.std.specs.Prelude.{◌≡◌, ◌+◌, ◌-◌, ◌^◌, ◌<◌, ℕ, List, [], ◌∷◌, ◌++◌, IfOk, OnOk, Ok, None, drop, take};
+ghost use Rattle.std.specs.Prelude.{◌≡◌, ◌+◌, ◌-◌, ◌^◌, ◌<◌, ◌≤◌, ℕ, List, [], ◌∷◌, ◌++◌, IfOk, OnOk, Ok, None, drop, take};
+ghost use Rattle.clfs_lsn.specs.Limits.{most_containers};
 ghost use Rattle.clfs_base.specs.declared.image.BaseImage.{BaseImage};
 ghost use Rattle.clfs_base.specs.Layout.{layout_in, number_at, slot_bytes};
 ghost use Rattle.clfs_base.specs.Spelling.{IsImage, spelled};
@@ -74,13 +75,14 @@ fn decode_as(
 
 // The file numbers of so many listed containers.
 fn read_files(alloc: Global, bytes: &[u8], listed: u16) -> Result<Files, AllocError>
+    requires { listed ≤ most_containers }
     ensures { IfOk result (λ files. files ≡ files_in bytes.now listed) }
 {
-    let mut numbers = Vec::with_capacity(alloc, listed as usize)?;
+    let mut files = Files::new(alloc)?;
     for i in 0..listed {
-        push(&mut numbers, number_2(bytes, file_place(i)))?;
+        files.push(number_2(bytes, file_place(i)));
     }
-    Ok(Files::from_vec(numbers))
+    Ok(files)
 }
 
 // Adds a value at the end.

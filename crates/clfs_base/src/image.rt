@@ -1,38 +1,54 @@
 // What a base copy says of its log.
-ghost use Rattle.std.specs.Prelude.{◌≡◌, length};
+ghost use Rattle.std.specs.Prelude.{◌≡◌, ◌<◌, ◌≤◌, ◌∷◌, ◌++◌, [], drop, length, IfOk};
+ghost use Rattle.clfs_lsn.specs.Limits.{most_containers};
 
-use clfs_lsn::{Lsn, Name};
+use clfs_lsn::{Lsn, MOST_CONTAINERS, Name};
 use std::alloc::{AllocError, Global};
 use std::marker::Model;
 
-/// The numbers of the files that hold the listed containers, in the order of the containers.
+/// The numbers of the files that hold the listed containers, in the order of the containers. The memory for as many as a log can have is taken at
+/// first, so that none is wanted when a container is listed.
 #[derive(Debug, Drop)]
 pub struct Files {
     numbers: Vec<u16>,
 }
 
 impl Model for Files {
-    ghost use Rattle.std.specs.Prelude.{ℕ, List};
+    ghost use Rattle.std.specs.Prelude.{ℕ, List, ◌≤◌, vec_capacity};
+    ghost use Rattle.clfs_lsn.specs.Limits.{most_containers};
 
     ghost Value = { List ℕ };
 
     ghost view = { λ a. a.numbers.items };
+
+    ghost invariant = { λ a. most_containers ≤ vec_capacity a.numbers };
 }
 
 impl Files {
-    /// These numbers, which stay where they are.
-    pub fn from_vec(numbers: Vec<u16>) -> Files
-        ensures { result ≡ numbers.items }
+    /// No files.
+    pub fn new(alloc: Global) -> Result<Files, AllocError>
+        ensures { IfOk result (λ files. files ≡ []) }
     {
-        Files { numbers }
+        let numbers = Vec::with_capacity(alloc, MOST_CONTAINERS as usize)?;
+        Ok(Files { numbers })
     }
 
-    /// The numbers given back, where they are.
-    pub fn into_vec(self) -> Vec<u16>
-        ensures { result.items ≡ self }
+    /// Lists a file after the others.
+    pub fn push(&mut self, file: u16)
+        requires { length self.old < most_containers }
+        ensures { self.new ≡ self.old ++ file ∷ [] }
     {
-        let Files { numbers } = self;
-        numbers
+        self.numbers.push_reserved(file);
+    }
+
+    /// Lists so many of the first files no more.
+    pub fn drop_first(&mut self, count: usize)
+        requires { count ≤ length self.old }
+        ensures { self.new ≡ drop count self.old }
+    {
+        let len = self.numbers.len();
+        self.numbers.rotate_left(count);
+        self.numbers.truncate(len - count);
     }
 
     /// The numbers in order.

@@ -70,10 +70,7 @@ fn turned<D: Disk>(physical: &mut Physical, disk: &mut D) -> bool
     requires listed { length physical.old.image.files ≡ 2 }
     requires containers { physical.old.image.containers ≡ 2 }
 {
-    match physical.room_for_turn() {
-        Ok(room) => physical.turn(disk, 2, room).is_ok(),
-        Err(_) => false,
-    }
+    physical.turn(disk, 2).is_ok()
 }
 
 // Whether it was written.

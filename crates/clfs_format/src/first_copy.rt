@@ -23,8 +23,8 @@ fn first_image(
 ) -> Result<BaseImage, AllocError>
     ensures { IfOk result (λ image. image ≡ first_image shape.now dedicated containers) }
 {
-    let mut files = Vec::with_capacity(alloc, 1)?;
-    files.push(1)?;
+    let mut files = Files::new(alloc)?;
+    files.push(1);
     Ok(BaseImage {
         version: VERSION,
         turn: 0,
@@ -40,7 +40,7 @@ fn first_image(
         growth: 0,
         tail: Lsn::of_number(0),
         dedicated,
-        files: Files::from_vec(files),
+        files,
         streams: Rows::from_vec(Vec::new(alloc)),
     })
 }

@@ -1,13 +1,15 @@
 -- Calls that change the areas alone: what memory has besides, and what the disk has, is the state's as before, since no part of it speaks of areas.
-use Rattle.std.proofs.Common.{◌≡◌, ◌∙◌, ap, subst, sym, ℕ, Bool, false, List}
-use Rattle.std.specs.Prelude.{Result}
+use Rattle.std.proofs.Common.{◌≡◌, ◌∙◌, ap, refl, subst, sym, ℕ, Bool, false, List}
+use Rattle.std.specs.Prelude.{None}
+use Rattle.clfs_areas.specs.Table.{AreaTable}
 use Rattle.clfs_disk.specs.State.{DiskState, TellsContents}
 use Rattle.clfs_model.specs.declared.call.Call.{Call}
-use Rattle.clfs_model.specs.declared.refusal.Refusal.{Refusal}
 use Rattle.clfs_model.specs.declared.reply.Happened.{Happened}
 use Rattle.clfs_model.specs.declared.reply.Reply.{Reply}
 use Rattle.clfs_model.specs.declared.state.State.{State}
 use Rattle.clfs_model.specs.declared.state.Area.{Area}
+use Rattle.clfs_model.specs.Answers.{answer}
+use Rattle.clfs_model.specs.Refusals.{refusal}
 use Rattle.clfs_model.specs.Conditions.{MeetsCondition}
 use Rattle.clfs_model.specs.Step.{Step}
 use Rattle.clfs_model.specs.Storable.{IsStorable}
@@ -16,7 +18,8 @@ use Rattle.clfs_buffers.specs.Buffered.{Buffered}
 use Rattle.clfs_physical.specs.Stored.{Newest, Blocks}
 use Rattle.clfs_queue.specs.Queued.{Queued}
 use Rattle.clfs_tables.specs.Tables.{Tabled}
-use Rattle.clfs_manager.specs.Calls.{Steps}
+use Rattle.clfs_told.specs.declared.told.Told.{Told}
+use Rattle.clfs_manager.specs.ManagerLaws.{ManagerLaws}
 use Rattle.clfs_manager.specs.declared.log.Log.{Log}
 use Rattle.clfs_manager.specs.Memory.{ChangesAreas, HasForgotten, Holds}
 use Rattle.clfs_manager.specs.OnDisk.{IsStored, AreKept, IsOpen, IsManaged}
@@ -90,13 +93,29 @@ abbrev pub KeepsStorable : Type 0
 KeepsStorable = (told : Bool) (s : State) (client : ℕ) (call : Call) (happened : Happened) (reply : Reply) (t : State)
     → IsValid s → IsStorable s → MeetsCondition client call → Step told s client call happened reply t → IsStorable t
 
--- A manager's step that changes the areas alone leaves a manager.
-pub managed_after : {A : Type 0} (disk : DiskState) (old new : Log) (client : ℕ) (call : Call) (answer : A → Reply) (result : Result A Refusal) (told : Bool)
-    → KeepsValid → KeepsStorable → MeetsCondition client call → old.broken ≡ false → IsManaged disk old → ChangesAreas old new
-    → Steps told old.state.value client call answer result new.state.value → IsManaged disk new
-managed_after disk old new client call answer result told valid storable meets unbroken managed changes step = record {
-  valid = valid told old.state.value client call _ _ new.state.value managed.valid step;
-  storable = storable told old.state.value client call _ _ new.state.value managed.valid managed.storable meets step;
-  broken = ap (λ (t : State). t.broken) changes.state ∙ managed.broken ∙ sym changes.broken;
-  whole = λ _. open_after disk old new changes (managed.whole unbroken);
-}
+-- A manager's call whose answer changes the areas alone leaves a manager, once memory and the state have changed so.
+pub managed_answered : (disk : DiskState) (log : Log) (areas : AreaTable) (state : Told State) (client : ℕ) (call : Call) (change : List Area → List Area)
+    → ManagerLaws → MeetsCondition client call → log.broken ≡ false → IsManaged disk log → refusal log.state.value client call ≡ None
+    → (answer log.state.value client call).state ≡ with_areas log.state.value (change log.state.value.areas)
+    → state.value ≡ (answer log.state.value client call).state → areas.areas ≡ change log.areas.areas → IsManaged disk (record log { areas = areas; state = state })
+managed_answered disk log areas state client call change laws meets unbroken managed none answers is changed =
+    let s = log.state.value in
+    let whole = managed.whole unbroken in
+    let step = laws.ways.answered false s client call _ state.value (managed.broken ∙ unbroken) none refl is in
+    let to = is ∙ answers in
+    record {
+      valid = laws.valid false s client call _ _ state.value managed.valid step;
+      storable = laws.storable false s client call _ _ state.value managed.valid managed.storable meets step;
+      broken = ap (λ (t : State). t.broken) to ∙ managed.broken;
+      whole = λ _. open_after disk log (record log { areas = areas; state = state }) (record {
+        state = to ∙ ap (λ (t : State). with_areas s t.areas) (sym to);
+        areas = changed ∙ ap change whole.memory.areas ∙ ap (λ (t : State). t.areas) (sym to);
+        tables = refl;
+        archive = refl;
+        policies = refl;
+        physical = refl;
+        queue = refl;
+        buffers = refl;
+        broken = refl;
+      }) whole;
+    }

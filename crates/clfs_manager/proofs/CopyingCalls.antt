@@ -1,5 +1,5 @@
 -- Calls of a manager that write base copies, by what a crash leaves while they are under way.
-use Rattle.std.proofs.Common.{◌≡◌, ℕ, false, refl, subst, ◌∙◌, List, [], ◌∷◌}
+use Rattle.std.proofs.Common.{◌≡◌, ℕ, false, refl, ap, subst, ◌∙◌, List, [], ◌∷◌}
 use Rattle.std.specs.Option.{option_map_or}
 use Rattle.std.specs.Prelude.{All, Option, Some, None}
 use Rattle.std.proofs.lemmas.List.Elements.{All-head, All-tail}
@@ -14,7 +14,7 @@ use Rattle.clfs_model.specs.declared.state.State.{State}
 use Rattle.clfs_model.specs.Answers.{advanced, answer}
 use Rattle.clfs_model.specs.Flush.{cut, flush}
 use Rattle.clfs_model.specs.Refusals.{invalid_base, refusal}
-use Rattle.clfs_model.specs.Run.{asks}
+use Rattle.clfs_model.specs.Run.{Request, asks}
 use Rattle.clfs_model.specs.Space.{grown, own_sum}
 use Rattle.clfs_model.specs.State.{area_of}
 use Rattle.clfs_model.specs.Storable.{IsStorable}
@@ -27,7 +27,7 @@ use Rattle.clfs_manager.specs.OnDisk.{IsManaged}
 use Rattle.clfs_manager.specs.declared.log.Log.{Log}
 use Rattle.clfs_manager.proofs.AreasChange.{KeepsValid}
 use Rattle.clfs_manager.proofs.CopiedLog.{valid_holds}
-use Rattle.clfs_manager.proofs.Crashes.{after_survives, crash_managed, crash_seen, crash_stored}
+use Rattle.clfs_manager.proofs.Crashes.{after_survives, crash_managed, crash_seen, crash_stored, survives_as}
 
 -- ---- the laws
 
@@ -104,3 +104,16 @@ crash_written {D} laws ways keeps state log disk seen view managed unbroken clie
     crash_answered laws state log disk seen view managed client call t new none is
     (crash_stored laws.stands laws.by_file (state disk) new s t log (managed.whole unbroken) meanwhile (valid_holds s managed.valid) (valid_holds t valid)
     (asks client call) s)
+
+-- one that lets the log grow for sectors that an area is to hold
+pub crash_reserved : {D : Type 0} → CallLaws → ReserveSurvives → (state : D → DiskState) (log : Log) (disk : D) (seen : State × D) → (log.state.value, disk) ≡ seen
+    → IsManaged (state disk) log → log.broken ≡ false → (client number : ℕ) (area : Area) (sizes : List ℕ) (need : ℕ) (new : DiskState) → need ≡ own_sum sizes
+    → refusal log.state.value client (calls.Reserve number sizes) ≡ None → area_of log.state.value client number ≡ Some area
+    → ((asked : Request) (s : State) → Survives asked s (cut log.state.value) → Survives asked s (cut (grown log.state.value need)) → CrashLeavesSurvivor asked s (state disk) new)
+    → CrashSurvives (asks client (calls.Reserve number sizes)) seen.0 (state seen.1) new
+crash_reserved {D} laws law state log disk seen view managed unbroken client number area sizes need new is none there moments =
+    let s : State = log.state.value in
+    let asked : Request = asks client (calls.Reserve number sizes) in
+    crash_seen state (s, disk) seen view asked new (λ whole. moments asked s (laws.before s client (calls.Reserve number sizes) managed.valid)
+    (survives_as asked s (grown s need) (grown s (own_sum sizes)) (ap (λ (n : ℕ). grown s n) is)
+    (growth_survives law s client number area sizes managed.valid managed.storable (managed.broken ∙ unbroken) none there)))

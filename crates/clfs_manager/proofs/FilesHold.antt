@@ -1,12 +1,10 @@
 -- What the files of a manager's log stand for: the flushed part of its state.
-use Rattle.std.proofs.Common.{◌≡◌, ℕ, ◌<◌, ◌≤◌, Bool, true, false, refl, sym, ap, subst, ◌∙◌, inl, inr, List, [], length, map, arith}
-use Rattle.std.specs.Prelude.{◌⊎◌, Ok, slice_index, MatchBool}
+use Rattle.std.proofs.Common.{◌≡◌, ◌≤◌, Bool, true, false, refl, sym, ap, subst, ◌∙◌, inl, inr, List, [], map, arith}
+use Rattle.std.specs.Prelude.{◌⊎◌, slice_index, MatchBool}
 use Rattle.clfs_lsn.specs.Lsn.{container_of}
 use Rattle.clfs_lsn.specs.declared.entry.LogEntry.{LogEntry}
 use Rattle.clfs_disk.specs.Files.{Files}
-use Rattle.clfs_container.specs.OpenBlocks.{AreWhole}
 use Rattle.clfs_base.specs.declared.image.BaseImage.{BaseImage}
-use Rattle.clfs_base.specs.Slots.{newest_of}
 use Rattle.clfs_model.specs.declared.refusal.Refusal.TheVariants as refusals
 use Rattle.clfs_model.specs.declared.reply.Happened.{Happened}
 use Rattle.clfs_model.specs.declared.reply.Happened.TheVariants.{Fine}
@@ -20,8 +18,6 @@ use Rattle.clfs_model.specs.Storable.{IsStorable}
 use Rattle.clfs_model.specs.Valid.{IsValid}
 use Rattle.clfs_physical.specs.Stored.{Newest, Blocks, Stores}
 use Rattle.clfs_recover.specs.Files.{StandsFor}
-use Rattle.clfs_recover.specs.Logs.{IsLogWith, stored_state}
-use Rattle.clfs_recover.specs.Stored.{HasLog}
 use Rattle.clfs_manager.specs.CallLaws.{StandByBlocks, HaveByFile}
 use Rattle.clfs_manager.specs.OnDisk.{IsStored}
 use Rattle.clfs_manager.specs.Reopening.{HoldsFlushed}

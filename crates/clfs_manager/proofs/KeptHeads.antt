@@ -1,6 +1,6 @@
 -- How much of a log is kept in memory, by what memory holds and has forgotten.
-use Rattle.std.proofs.Common.{◌≡◌, ℕ, ◌*◌, ◌≤◌, refl, sym, ap, subst, ◌∙◌, arith, List, length}
-use Rattle.std.specs.Prelude.{Option, Some, None, IsSome}
+use Rattle.std.proofs.Common.{◌≡◌, ℕ, ◌*◌, ◌≤◌, refl, sym, ap, subst, ◌∙◌, arith, true, false, List, length}
+use Rattle.std.specs.Prelude.{Option, Some, None, IsSome, is_some}
 use Rattle.std.specs.Option.{option_map}
 use Rattle.clfs_lsn.specs.Heads.{heads_from}
 use Rattle.clfs_lsn.specs.declared.entry.Head.{Head}
@@ -9,6 +9,7 @@ use Rattle.clfs_model.specs.declared.state.State.{State}
 use Rattle.clfs_model.specs.Heads.{heads_of}
 use Rattle.clfs_model.specs.State.{stream_at}
 use Rattle.clfs_tables.specs.Tables.{IsNumber}
+use Rattle.clfs_manager.specs.Keeping.{KeepsFew}
 use Rattle.clfs_manager.specs.Memory.{HasForgotten, Holds, hold_start}
 use Rattle.clfs_manager.specs.declared.log.Log.{Log}
 use Rattle.clfs_manager.proofs.Reached.{number_there}
@@ -43,3 +44,18 @@ all_by_state s log count of holds forgotten all =
 -- and so it is seen
 pub seen : {D : Type 0} (P : State → Type 0) (inside shown : State × D) → inside ≡ shown → P inside.0 → P shown.0
 seen {D} P inside shown same is = subst (λ (v : State × D). P v.0) same is
+
+-- So a stream's heads are counted, where the tables have the stream.
+pub counted : {D : Type 0} (log : Log) (shown : State × D) (disk : D) (of : List Head → List Head) (count stream base : ℕ) (found : Option ℕ)
+    → (log.state.value, disk) ≡ shown → Holds log.state.value log → HasForgotten log.state.value log → log.state.value.broken ≡ false
+    → found ≡ option_map (λ (row : Stream). row.base) (stream_at log.state.value stream) → found ≡ Some base
+    → length (heads_from log.tables.low (of log.tables.heads)) ≤ count → count ≤ 2 * length (heads_from log.tables.low (of log.tables.heads))
+    → KeepsFew shown.0 (is_some (stream_at shown.0 stream)) (length (heads_from (hold_start shown.0) (of (heads_of shown.0)))) (Some count)
+counted log shown disk of count stream base found same holds forgotten whole is some all few =
+    let s = log.state.value in
+    seen (λ (t : State). KeepsFew t (is_some (stream_at t stream)) (length (heads_from (hold_start t) (of (heads_of t)))) (Some count)) (s, disk) shown same (record {
+      there = λ _. sym (some_there (stream_at s stream) base (sym is ∙ some));
+      all = all_by_state s log count of holds forgotten all;
+      few = few_by_state s log count of holds forgotten few;
+      broken = λ broken. let wrong : false ≡ true = sym whole ∙ broken in absurd (cc wrong);
+    })

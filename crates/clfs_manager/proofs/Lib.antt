@@ -17,8 +17,10 @@ pub mod FlushKeeps
 pub mod Among
 pub mod Fetched
 pub mod ReadKeeps
+pub mod Gotten
 pub mod Reached
 pub mod ReadSteps
+pub mod ReadCalls
 pub mod Numbers
 pub mod Holds
 pub mod Extents
@@ -48,9 +50,12 @@ mod RestartCall
 mod PreparedCall
 mod AppendCall
 pub mod Crashes
-pub mod Stages
 pub mod Changing
+mod Called
+pub mod Through
+pub mod Stages
 pub mod CrashedRestart
 mod CopiedMeanwhile
 mod CopyingCalls
 pub mod Placed
+pub mod WritingCalls

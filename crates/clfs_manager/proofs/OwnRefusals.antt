@@ -39,6 +39,6 @@ refused_step ways told s client call given whole own first =
     subst (λ (h : Happened). Step told s client call h (replies.Refused given) s) (sym (is_fine given own)) (ways.refused told s client call given whole first)
 
 -- an answer that hands a refusal on
-pub error_of : {A : Type 0} (result : Result A Refusal) (given : Refusal) → IsErrAnd result (λ (error : Refusal). error ≡ given) → result ≡ Err given
+pub error_of : {A E : Type 0} (result : Result A E) (given : E) → IsErrAnd result (λ (error : E). error ≡ given) → result ≡ Err given
 error_of (Ok value) given is = absurd is
-error_of (Err error) given is = ap (λ (e : Refusal). Err e) is
+error_of (Err error) given is = ap Err is

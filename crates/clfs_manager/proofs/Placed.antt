@@ -1,6 +1,6 @@
 -- Where damage is told.
 use Rattle.std.proofs.Common.{◌≡◌, ℕ, List, length, Result, Ok, Err, refl, ap, subst, true}
-use Rattle.std.specs.Prelude.{Option, Some, IfErr}
+use Rattle.std.specs.Prelude.{Option, IfErr}
 use Rattle.clfs_lsn.specs.declared.entry.Head.{Head}
 use Rattle.clfs_lsn.specs.declared.entry.LogEntry.{LogEntry}
 use Rattle.clfs_lsn.specs.declared.shape.Shape.{Shape}

@@ -1,13 +1,9 @@
 -- A call that puts a record into a log: what it finds once the log has grown and its area has spent, and how it is a step.
-use Rattle.std.proofs.Common.{◌≡◌, ℕ, ◌+◌, ◌<◌, ◌≤◌, ◌^◌, Bool, true, false, refl, sym, ap, subst, ◌∙◌, List, [], ◌∷◌, length, arith}
+use Rattle.std.proofs.Common.{◌≡◌, ℕ, ◌≤◌, Bool, true, false, refl, sym, ap, subst, ◌∙◌, List, [], ◌∷◌, length}
 use Rattle.std.specs.Prelude.{Option, Some, None, Err, IsErrOf, ◌==◌, find, if◌then◌else◌, nat_lt}
 use Rattle.std.specs.Option.{option_map_or}
 use Rattle.std.proofs.lemmas.Bool.{ltb-false}
 use Rattle.clfs_lsn.specs.Lsn.{null_lsn}
-use Rattle.clfs_lsn.specs.Place.{begins_here, joins}
-use Rattle.clfs_lsn.specs.declared.place.Place.{Place}
-use Rattle.clfs_lsn.specs.declared.shape.Shape.{Shape}
-use Rattle.clfs_laws.specs.Between.{MayTurn}
 use Rattle.clfs_model.specs.declared.call.Call.{Call}
 use Rattle.clfs_model.specs.declared.call.Call.TheVariants as calls
 use Rattle.clfs_model.specs.declared.refusal.Refusal.{Refusal}
@@ -35,23 +31,6 @@ shape_spent false area n s = refl
 pub place_spent : (reserved : Bool) (area : Area) (n : ℕ) (s : State) → (spend_if reserved area n s).place ≡ s.place
 place_spent true area n s = refl
 place_spent false area n s = refl
-
--- whether a record joins or begins is so by the shape and the place
-pub fits_as : (s u : State) (n : ℕ) → u.shape ≡ s.shape → u.place ≡ s.place → joins s.shape s.place n ≡ false → begins_here s.shape s.place n ≡ false
-    → (joins u.shape u.place n ≡ false) × (begins_here u.shape u.place n ≡ false)
-fits_as s u n shape place apart here = (
-  subst (λ (sh : Shape). joins sh u.place n ≡ false) (sym shape) (subst (λ (p : Place). joins s.shape p n ≡ false) (sym place) apart),
-  subst (λ (sh : Shape). begins_here sh u.place n ≡ false) (sym shape) (subst (λ (p : Place). begins_here s.shape p n ≡ false) (sym place) here),
-)
-
--- so a further container has an id
-pub has_id : (s u : State) (n : ℕ) → u.shape ≡ s.shape → u.place ≡ s.place
-    → (joins u.shape u.place n ≡ false → begins_here u.shape u.place n ≡ false → MayTurn u)
-    → joins s.shape s.place n ≡ false → begins_here s.shape s.place n ≡ false → s.place.container + 1 < 2 ^ 32
-has_id s u n shape place may apart here =
-    let both = fits_as s u n shape place apart here in
-    let turn = may both.0 both.1 in
-    omega (arith, turn.id, ap (λ (p : Place). p.container) place)
 
 -- ---- refusals
 

@@ -1,6 +1,6 @@
 -- A record that was put into a log that is ready for it: what memory has of it, and that the disk has what it had.
 use Rattle.std.proofs.Common.{◌≡◌, ℕ, ◌+◌, ◌-◌, ◌*◌, ◌<◌, ◌≤◌, Bool, true, false, refl, sym, ap, subst, ◌∙◌, inl, inr, ⊎_elim, arith, List, [], ◌∷◌, ◌++◌, length}
-use Rattle.std.specs.Prelude.{All, Contains, Option, Some, None, Result, Ok, Err, OnOk, filter, fold, map, min, nat_lt, nat_le, slice_get, ◌==◌}
+use Rattle.std.specs.Prelude.{All, Contains, Option, Some, None, filter, fold, map, min, nat_lt, nat_le, slice_get, ◌==◌}
 use Rattle.std.specs.Option.{option_map_or, option_to_list}
 use Rattle.std.proofs.lemmas.Bool.{cases_Bool, le-leb, le-ltb}
 use Rattle.std.proofs.lemmas.Bool.Decides.{nat_tests}
@@ -16,11 +16,11 @@ use Rattle.clfs_lsn.specs.declared.entry.Head.{Head}
 use Rattle.clfs_lsn.specs.declared.entry.LogEntry.{LogEntry}
 use Rattle.clfs_lsn.specs.declared.place.Place.{Place}
 use Rattle.clfs_lsn.specs.declared.shape.Shape.{Shape}
+use Rattle.clfs_areas.specs.Table.{AreaTable}
 use Rattle.clfs_archive.specs.Blocks.{AreSealed, BlocksGoOn}
 use Rattle.clfs_buffers.specs.Buffered.{Buffered}
 use Rattle.clfs_buffers.specs.Reading.{block_place, first_lsn}
 use Rattle.clfs_disk.specs.State.{DiskState}
-use Rattle.clfs_disk.specs.declared.disk.Failed.{Failed}
 use Rattle.clfs_laws.specs.Between.{IsReadyFor, IsWhole, KeepsTables}
 use Rattle.clfs_model.specs.declared.state.State.{State}
 use Rattle.clfs_lsn.specs.declared.stream.Stream.{Stream}
@@ -39,7 +39,7 @@ use Rattle.clfs_recover.specs.Walk.{shape_of}
 use Rattle.clfs_manager.specs.Memory.{Holds, unflushed}
 use Rattle.clfs_manager.specs.OnDisk.{IsStored, AreKept, IsOpen}
 use Rattle.clfs_manager.specs.Putting.{IsPutInMemory, unplaced}
-use Rattle.clfs_manager.specs.Written.{IsIntact}
+use Rattle.clfs_manager.specs.Written.{IsIntact, IsOpenWith}
 use Rattle.clfs_manager.specs.declared.log.Log.{Log}
 use Rattle.clfs_manager.proofs.Ending.{parts_at}
 use Rattle.clfs_manager.proofs.Numbers.{flushed_below, small_place}
@@ -329,21 +329,16 @@ put_whole s entry = elim (cases_Bool (joins s.shape s.place (length entry.bytes)
   ]
 ]
 
--- A log that is open with a record that leaves it valid is intact, by what putting it answers.
-pub intact_put : {V : Type 0} (result : Result V Failed) (disk : DiskState) (u : State) (before after : Log) (fields : Fields) (bytes : List ℕ)
-    → before.state.value ≡ u → u.broken ≡ false → IsWhole (put u (unplaced fields bytes))
-    → OnOk result (after.state.value ≡ put before.state.value (unplaced fields bytes)) → OnOk result (IsOpen disk after.state.value after)
-    → OnOk result (after.broken ≡ false) → OnOk result (IsIntact disk after)
-intact_put (Ok value) disk u before after fields bytes is unbroken whole state opened fine =
-    let to : after.state.value ≡ put u (unplaced fields bytes) = state ∙ ap (λ (v : State). put v (unplaced fields bytes)) is in
-    record {
-      sound = record {
-        valid = subst IsValid (sym to) whole.valid;
-        storable = subst IsStorable (sym to) whole.storable;
-        unbroken = fine;
-        whole = ap (λ (v : State). v.broken) to ∙ put_whole u (unplaced fields bytes) ∙ unbroken;
-        holds = opened.memory;
-      };
-      opened = opened;
-    }
-intact_put (Err error) disk u before after fields bytes is unbroken whole state opened fine = tt
+-- A log that is open with a record that leaves it valid is intact.
+pub intact_put : (disk : DiskState) (u : State) (log : Log) (entry : LogEntry) (kept : AreaTable) → u.broken ≡ false → IsWhole (put u entry)
+    → log.state.value ≡ put u entry → IsOpenWith kept disk log → IsIntact disk log
+intact_put disk u log entry kept unbroken whole to is = record {
+  sound = record {
+    valid = subst IsValid (sym to) whole.valid;
+    storable = subst IsStorable (sym to) whole.storable;
+    unbroken = is.unbroken;
+    whole = ap (λ (v : State). v.broken) to ∙ put_whole u entry ∙ unbroken;
+    holds = is.opened.memory;
+  };
+  opened = is.opened;
+}

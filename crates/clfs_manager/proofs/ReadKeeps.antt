@@ -1,9 +1,9 @@
 -- A call that reads keeps a log open: the disk's files stay, and in memory the areas and the blocks that were read alone change.
 use Rattle.std.proofs.Common.{◌≡◌, ℕ, true, false, refl, sym, ap, ◌∙◌, subst, List, Ok, Err, arith}
-use Rattle.std.specs.Prelude.{IsErrOf}
+use Rattle.std.specs.Prelude.{◌≤◌, IsErrOf}
 use Rattle.clfs_lsn.specs.declared.entry.LogEntry.{LogEntry}
 use Rattle.clfs_disk.specs.Files.{Files, Unchanged}
-use Rattle.clfs_disk.specs.State.{DiskState, Nature, TellsContents, IsSteady, Passes, Rises}
+use Rattle.clfs_disk.specs.State.{DiskState, Nature, TellsContents, IsSteady, Passes, Rises, raised}
 use Rattle.clfs_container.specs.OpenBlocks.{AreWhole}
 use Rattle.clfs_base.specs.Slots.{newest_of}
 use Rattle.clfs_model.specs.declared.refusal.Refusal.{Refusal}
@@ -180,6 +180,10 @@ still disk = record {
   faults = omega arith;
   nature = refl;
 }
+
+-- and no call is made of it, so two at most
+pub none_called : (calls : ℕ) → raised 0 calls ≤ raised 2 calls
+none_called calls = omega arith
 
 -- the disk is left as it was by a refusal that tells nothing of it
 pub quiet : {A : Type 0} (refusal : Refusal) (disk : DiskState) → happened_of_refusal refusal ≡ Fine → OnlyReads {A = A} (Err refusal) disk disk

@@ -1,8 +1,8 @@
 -- The calls that read, as steps of the log machine.
-use Rattle.std.proofs.Common.{◌≡◌, ℕ, Bool, true, false, refl, sym, ap, ◌∙◌, subst, inr, Option, Some, None, Result, Ok, Err}
-use Rattle.std.specs.Prelude.{◌⊎◌, IsTrue, IfOk, IfErr, MatchBool, MatchOption}
+use Rattle.std.proofs.Common.{◌≡◌, ℕ, Bool, true, false, refl, sym, ap, ◌∙◌, subst, inr, List, Option, Some, None, Result, Ok, Err}
+use Rattle.std.specs.Prelude.{◌⊎◌, IsTrue, IfOk, MatchBool, MatchOption}
 use Rattle.std.specs.Option.{option_map_or, option_and_then}
-use Rattle.clfs_lsn.specs.Head.{head_of}
+use Rattle.clfs_disk.specs.State.{DiskState}
 use Rattle.clfs_lsn.specs.declared.entry.Head.{Head}
 use Rattle.clfs_lsn.specs.declared.entry.LogEntry.{LogEntry}
 use Rattle.clfs_model.specs.declared.call.Call.{Call}
@@ -31,7 +31,11 @@ use Rattle.clfs_model.specs.Step.{Step, IsReply, Comes, Goes, IsBroken, IsOutOfM
 use Rattle.clfs_model.specs.Ways.{GoesTheseWays}
 use Rattle.clfs_laws.specs.Refused.{is_of_call}
 use Rattle.clfs_manager.specs.Calls.{Steps}
-use Rattle.clfs_manager.specs.Fetching.{IsNeeded, IsReadAs, LeavesState}
+use Rattle.clfs_areas.specs.Table.{area_at}
+use Rattle.clfs_manager.specs.Fetching.{IsReadAs, LeavesState, Reaches}
+use Rattle.clfs_manager.specs.Reading.{GetsRecord}
+use Rattle.clfs_manager.specs.declared.log.Log.{Log}
+use Rattle.clfs_manager.proofs.Reached.{live_is_needed}
 
 -- ---- refusals
 
@@ -87,34 +91,36 @@ next_reply : (told : Bool) (stable : ℕ) (entry read : LogEntry) → IsReadAs t
 next_reply true stable entry read is = ap replies.Next is
 next_reply false stable entry read is = (read, (is, refl))
 
-module _ (ways : GoesTheseWays) (told : Bool) (s t : State) (client : ℕ) (call : Call) (area : Area) (head : Head) (entry : LogEntry)
-    (whole : s.broken ≡ false) (memory : takes_memory call ≡ true) (disk : calls_disk s call ≡ true) (reads : reads_disk call ≡ true)
-    (none : refusal s client call ≡ None) (needed : IsNeeded s entry) (head_is : head_of entry ≡ head) where
+module _ {D : Type 0} {shown : D → DiskState} {client number : ℕ} {record_in : Area → Option LogEntry} {areas : List Area} {place : ℕ} {head : Head} {after : Log} {old new : D}
+    (ways : GoesTheseWays) (s : State) (call : Call) (whole : s.broken ≡ false) (none : refusal s client call ≡ None) (memory : takes_memory call ≡ true)
+    (disk : calls_disk s call ≡ true) (reads : reads_disk call ≡ true) (there : Reaches s areas client number place head record_in) where
   -- a call that makes a cursor
-  pub found_result : (kind : CursorKind) (result : Result (ℕ × LogEntry) Refusal) → answer s client call ≡ found_with_cursor s area kind entry
-      → IfOk result (λ found. (entry : LogEntry) → IsNeeded s entry → head_of entry ≡ head → IsReadAs told (flushed s) entry found.1)
-      → IfOk result (λ found. found.0 ≡ unused_cursor area.cursors)
-      → IfOk result (λ found. t ≡ change_area (with_cursor (record { number = found.0; kind = kind; last = head.lsn })) area.client area.number s)
-      → IfErr result (λ given. LeavesState given s t)
-      → Steps told s client call (λ (found : ℕ × LogEntry). replies.Found found.0 found.1) result t
-  found_result kind (Err given) answers read number state refused = failed_step ways told s t client call given whole none memory disk reads refused
-  found_result kind (Ok found) answers read number state refused =
-      given_step told s t client call (found_with_cursor s area kind entry) (replies.Found found.0 found.1) whole none answers
-      (found_reply told (flushed s) (unused_cursor area.cursors) found.0 entry found.1 number (read entry needed head_is))
-      (state ∙ (λ i. change_area (with_cursor (record { number = number i; kind = kind; last = (sym head_is i).lsn })) area.client area.number s))
+  pub found_step : (kind : CursorKind) (result : Result (ℕ × LogEntry) Refusal) → answer s client call ≡ found_with_cursor s (area_at place areas) kind there.entry
+      → GetsRecord shown (λ (found : ℕ × LogEntry). found.1) s head result after old new → IfOk result (λ found. found.0 ≡ unused_cursor (area_at place areas).cursors)
+      → IfOk result (λ found. after.state.value
+      ≡ change_area (with_cursor (record { number = found.0; kind = kind; last = head.lsn })) (area_at place areas).client (area_at place areas).number s)
+      → Steps (shown old).nature.tells_contents s client call (λ (found : ℕ × LogEntry). replies.Found found.0 found.1) result after.state.value
+  found_step kind (Err given) answers gets number state = failed_step ways _ s after.state.value client call given whole none memory disk reads gets.state
+  found_step kind (Ok found) answers gets number state =
+      let here = area_at place areas in
+      given_step (shown old).nature.tells_contents s after.state.value client call (found_with_cursor s here kind there.entry) (replies.Found found.0 found.1) whole none answers
+      (found_reply (shown old).nature.tells_contents (flushed s) (unused_cursor here.cursors) found.0 there.entry found.1 number
+      (gets.read there.entry (live_is_needed s here.stream there.entry there.live) there.head_is))
+      (state ∙ (λ i. change_area (with_cursor (record { number = number i; kind = kind; last = (sym there.head_is i).lsn })) here.client here.number s))
 
   -- a call that moves one
-  pub next_result : (cursor : ℕ) (result : Result LogEntry Refusal)
-      → answer s client call ≡ outcome (replies.Next entry) (change_area (with_cursor_at cursor entry.lsn) area.client area.number s)
-      → IfOk result (λ found. (entry : LogEntry) → IsNeeded s entry → head_of entry ≡ head → IsReadAs told (flushed s) entry found)
-      → IfOk result (λ found. t ≡ change_area (with_cursor_at cursor head.lsn) area.client area.number s)
-      → IfErr result (λ given. LeavesState given s t)
-      → Steps told s client call replies.Next result t
-  next_result cursor (Err given) answers read state refused = failed_step ways told s t client call given whole none memory disk reads refused
-  next_result cursor (Ok found) answers read state refused =
-      given_step told s t client call (outcome (replies.Next entry) (change_area (with_cursor_at cursor entry.lsn) area.client area.number s)) (replies.Next found) whole none answers
-      (next_reply told (flushed s) entry found (read entry needed head_is))
-      (state ∙ (λ i. change_area (with_cursor_at cursor (sym head_is i).lsn) area.client area.number s))
+  pub next_step : (cursor : ℕ) (result : Result LogEntry Refusal)
+      → answer s client call ≡ outcome (replies.Next there.entry) (change_area (with_cursor_at cursor there.entry.lsn) (area_at place areas).client (area_at place areas).number s)
+      → GetsRecord shown (λ (found : LogEntry). found) s head result after old new
+      → IfOk result (λ found. after.state.value ≡ change_area (with_cursor_at cursor head.lsn) (area_at place areas).client (area_at place areas).number s)
+      → Steps (shown old).nature.tells_contents s client call replies.Next result after.state.value
+  next_step cursor (Err given) answers gets state = failed_step ways _ s after.state.value client call given whole none memory disk reads gets.state
+  next_step cursor (Ok found) answers gets state =
+      let here = area_at place areas in
+      given_step (shown old).nature.tells_contents s after.state.value client call
+      (outcome (replies.Next there.entry) (change_area (with_cursor_at cursor there.entry.lsn) here.client here.number s)) (replies.Next found) whole none answers
+      (next_reply (shown old).nature.tells_contents (flushed s) there.entry found (gets.read there.entry (live_is_needed s here.stream there.entry there.live) there.head_is))
+      (state ∙ (λ i. change_area (with_cursor_at cursor (sym there.head_is i).lsn) here.client here.number s))
 
 -- ---- what the machine answers
 

@@ -1,18 +1,16 @@
 -- What a restart area finds that isn't refused, and the log that ends in it.
 use Rattle.std.proofs.Common.{inl, inr, ◌≡◌, ℕ, ◌≤◌, Bool, true, false, refl, sym, ap, subst, ◌∙◌, List, length, arith}
-use Rattle.std.specs.Prelude.{All, Option, None, ◌==◌, filter, nat_le, nat_lt}
+use Rattle.std.specs.Prelude.{All, Option, None, filter, nat_le, nat_lt}
 use Rattle.std.proofs.lemmas.Bool.{cases_Bool, ltb-false}
 use Rattle.std.proofs.lemmas.List.Elements.{All-filter}
 use Rattle.clfs_disk.specs.State.{DiskState}
-use Rattle.clfs_lsn.specs.Lsn.{null_lsn}
 use Rattle.clfs_lsn.specs.Place.{begins_here, frontier, joins}
 use Rattle.clfs_lsn.specs.declared.entry.LogEntry.{LogEntry}
-use Rattle.clfs_laws.specs.Between.{IsLaid, IsReadiedFor, IsWhole, KeepsTables, MayMove, MayPut}
+use Rattle.clfs_laws.specs.Between.{IsReadiedFor, IsWhole, KeepsTables, MayMove, MayPut}
 use Rattle.clfs_model.specs.declared.refusal.Refusal.{Refusal}
 use Rattle.clfs_model.specs.declared.state.State.{State}
 use Rattle.clfs_lsn.specs.declared.stream.Stream.{Stream}
 use Rattle.clfs_model.specs.Answers.{rebased}
-use Rattle.clfs_model.specs.State.{base_of}
 use Rattle.clfs_tables.specs.Tables.{IsNumber, base_in}
 use Rattle.clfs_model.specs.Flush.{flush, flushed, seal}
 use Rattle.clfs_model.specs.Put.{next_lsn, put}
@@ -23,7 +21,7 @@ use Rattle.clfs_recover.specs.Walk.{shape_of}
 use Rattle.clfs_manager.specs.Fetching.{IsLeft}
 use Rattle.clfs_manager.specs.Memory.{Holds}
 use Rattle.clfs_manager.specs.Putting.{HasSameLog}
-use Rattle.clfs_manager.specs.Restarts.{EndsInRestart}
+use Rattle.clfs_manager.specs.Restarts.{EndsInRestart, MayFinish}
 use Rattle.clfs_manager.specs.Written.{IsIntact}
 use Rattle.clfs_manager.specs.declared.log.Log.{Log}
 use Rattle.clfs_manager.proofs.MovedBase.{base_is_up}
@@ -136,24 +134,17 @@ put_broken s entry = elim (cases_Bool (joins s.shape s.place (length entry.bytes
   ]
 ]
 
--- What is asked of a state whose last record is a restart area that isn't on the disk.
-pub record MayFinish (p : State) (stream base : ℕ) : Type 0 where
-  pub laid : IsLaid p
-  pub last : EndsInRestart p stream base
-  pub there : IsNumber p.streams stream
-  pub up : (base == null_lsn) ≡ false → base_of p stream ≤ base
-  pub whole : IsWhole (rebased stream base (flush p))
-
+-- a record of a restart area that was put last
 pub may_finish : (v r : State) (entry : LogEntry) → MayPut v entry → MayMove v entry.stream entry.new_base → IsReadiedFor v r entry
-    → frontier r.place ≤ next_lsn r (length entry.bytes) → IsLaid (put v entry)
+    → frontier r.place ≤ next_lsn r (length entry.bytes)
     → IsWhole (rebased entry.stream entry.new_base (flush (put v entry))) → KeepsTables v (put v entry)
     → All (λ (other : LogEntry). flushed (put v entry) ≤ other.lsn → other.new_base ≡ 0) v.records
     → MayFinish (put v entry) entry.stream entry.new_base
-may_finish v r entry may move readied above laid whole keeps older = record {
-  laid = laid;
+may_finish v r entry may move readied above whole keeps older = record {
   last = ends_in v r entry readied above older;
   there = subst (λ (streams : List Stream). IsNumber streams entry.stream) (sym keeps.streams) (number_there v.streams entry.stream may.stream);
   up = λ some. subst (λ (streams : List Stream). base_in streams entry.stream ≤ entry.new_base) (sym keeps.streams)
       (base_is_up v entry.stream entry.new_base (move some));
-  whole = whole;
+  valid = whole.valid;
+  storable = whole.storable;
 }

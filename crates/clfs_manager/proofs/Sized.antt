@@ -1,5 +1,6 @@
 -- A log whose number of containers was changed, in memory and on the disk.
-use Rattle.std.proofs.Common.{◌≡◌, ℕ, ◌+◌, ◌-◌, true, false, max, sym, ap, subst, ◌∙◌, map, length, arith}
+use Rattle.std.proofs.Common.{◌≡◌, ℕ, ◌+◌, ◌-◌, true, false, max, refl, sym, ap, subst, ◌∙◌, map, length, arith}
+use Rattle.std.specs.Prelude.{Ok}
 use Rattle.std.proofs.lemmas.List.{length-drop}
 use Rattle.clfs_lsn.specs.Lsn.{container_of}
 use Rattle.clfs_disk.specs.State.{DiskState, TellsContents, IsSettled, IsSteady, Later, Rises}
@@ -17,12 +18,14 @@ use Rattle.clfs_queue.specs.Queued.{Queued}
 use Rattle.clfs_recover.specs.Logs.{IsLogWith, stored_state}
 use Rattle.clfs_recover.specs.Walk.{shape_of}
 use Rattle.clfs_tables.specs.Tables.{Tabled}
+use Rattle.clfs_manager.specs.CallLaws.{StandByBlocks, HaveByFile}
 use Rattle.clfs_manager.specs.Memory.{Holds}
 use Rattle.clfs_manager.specs.OnDisk.{IsStored, IsOpen, AreKept}
-use Rattle.clfs_manager.specs.Sizes.{ChangesSize}
+use Rattle.clfs_manager.specs.Sizes.{ChangesSize, ResizesLog}
 use Rattle.clfs_manager.specs.Written.{IsIntact, WritesDisk}
 use Rattle.clfs_manager.specs.declared.log.Log.{Log}
-use Rattle.clfs_manager.proofs.Intact.{made_in, stores_whole, whole_of_stores}
+use Rattle.clfs_manager.proofs.Crashes.{crash_still}
+use Rattle.clfs_manager.proofs.Intact.{made_in, stores_whole, whole_of_stores, writes_nothing}
 use Rattle.clfs_manager.proofs.Numbers.{hold_within}
 use Rattle.clfs_manager.proofs.ReadKeeps.{tells_before}
 use Rattle.clfs_manager.proofs.Settled.{stays_settled}
@@ -108,4 +111,18 @@ intact_grown old new log intact nature settled stores = record {
     settled = stays_settled old new nature settled intact.opened.settled;
     forgotten = intact.opened.forgotten;
   };
+}
+
+-- a log that has its size already
+pub resizes_nothing : {A : Type 0} (value : A) → StandByBlocks → HaveByFile → (disk : DiskState) (log : Log) (further : State) → IsIntact disk log
+    → log.state.value ≡ further → ResizesLog (Ok value) further disk disk log log
+resizes_nothing value stands by_file disk log further intact same = record {
+  state = same;
+  intact = intact;
+  same = record { tables = refl; areas = refl; archive = refl; policies = refl; queue = refl; buffers = refl; broken = refl };
+  broken = λ f. absurd (cc f);
+  no_memory = λ f. absurd (cc f);
+  kept = λ f. absurd (cc f);
+  writes = writes_nothing _ disk (λ f. cc f);
+  moments = λ asked s before behind. crash_still stands by_file disk log intact asked s before;
 }

@@ -1,77 +1,33 @@
--- The states between the small changes of an append and of a restart area, one by one.
-use Rattle.std.proofs.Common.{◌≡◌, ℕ, Bool, true, false, refl, sym, subst, ◌∙◌, List, [], ◌∷◌, ◌++◌, length}
+-- The states between the small changes of an append and of a restart area: the first, the one that has grown, and those after it.
+use Rattle.std.proofs.Common.{ℕ, Bool, List, [], ◌∷◌, ◌++◌, length}
 use Rattle.std.specs.Prelude.{All}
 use Rattle.std.proofs.lemmas.List.Elements.{All-head, All-tail}
-use Rattle.clfs_laws.specs.Between.{readied, turned}
 use Rattle.clfs_laws.specs.Stages.{ready_stages, append_stages, restart_stages}
-use Rattle.clfs_lsn.specs.Place.{joins, begins_here}
+use Rattle.clfs_lsn.specs.declared.entry.LogEntry.{LogEntry}
 use Rattle.clfs_model.specs.declared.call.Draft.{Draft}
 use Rattle.clfs_model.specs.declared.state.Area.{Area}
 use Rattle.clfs_model.specs.declared.state.State.{State}
 use Rattle.clfs_model.specs.Answers.{rebased, restart_record}
-use Rattle.clfs_model.specs.Flush.{flush, seal}
+use Rattle.clfs_model.specs.Flush.{flush}
 use Rattle.clfs_model.specs.Put.{flush_if, hold_sizes, need_of, plain_record, put, seal_if, spend_if}
 use Rattle.clfs_model.specs.Space.{grown}
+use Rattle.clfs_manager.proofs.Through.{all_without}
 
--- What is true of each state while a log is made ready for a record.
-pub record WhileReadied (P : State → Type 0) (u : State) (n : ℕ) : Type 0 where
-  pub before : P u
-  pub flushed : joins u.shape u.place n ≡ false → begins_here u.shape u.place n ≡ false → P (flush u)
-  pub ready : P (readied u n)
-
--- those of making a log ready, and others after them
-readied_apart : (P : State → Type 0) (u : State) (n : ℕ) (rest : List State) → All P (ready_stages u n ++ rest) → WhileReadied P u n × All P rest
-readied_apart P u n rest = by_case (joins u.shape u.place n) (begins_here u.shape u.place n) refl refl
-  where
-    by_case : (joined begun : Bool) → joins u.shape u.place n ≡ joined → begins_here u.shape u.place n ≡ begun
-        → All P (ready_stages u n ++ rest) → WhileReadied P u n × All P rest
-    by_case true begun j b =
-        let same : u ≡ readied u n = rw j refl in
-        rw j (λ all. (
-          record {
-            before = All-head P u rest all;
-            flushed = λ apart here. absurd (let clash = sym j ∙ apart in cc clash);
-            ready = subst P same (All-head P u rest all);
-          },
-          All-tail P u rest all,
-        ))
-    by_case false true j b =
-        let same : seal u ≡ readied u n = rw (j, b) refl in
-        rw (j, b) (λ all.
-        let behind = All-tail P u (seal u ∷ rest) all in (
-          record {
-            before = All-head P u (seal u ∷ rest) all;
-            flushed = λ apart here. absurd (let clash = sym b ∙ here in cc clash);
-            ready = subst P same (All-head P (seal u) rest behind);
-          },
-          All-tail P (seal u) rest behind,
-        ))
-    by_case false false j b =
-        let same : turned (flush u) ≡ readied u n = rw (j, b) refl in
-        rw (j, b) (λ all.
-        let behind = All-tail P u (flush u ∷ turned (flush u) ∷ rest) all in
-        let last = All-tail P (flush u) (turned (flush u) ∷ rest) behind in (
-          record {
-            before = All-head P u (flush u ∷ turned (flush u) ∷ rest) all;
-            flushed = λ apart here. All-head P (flush u) (turned (flush u) ∷ rest) behind;
-            ready = subst P same (All-head P (turned (flush u)) rest last);
-          },
-          All-tail P (turned (flush u)) rest last,
-        ))
-
--- What is true of each state of an append.
-pub record WhileAppended (P : State → Type 0) (s : State) (area : Area) (draft : Draft) (reserved : Bool) (sizes : List ℕ) : Type 0 where
+-- What is true of the first state, of the one that has grown, and of all that come after it.
+pub record WhileGrown (P : State → Type 0) (s larger : State) (more : List State) : Type 0 where
   pub before : P s
-  pub grown_is : P (grown s (need_of reserved (length draft.bytes) sizes))
-  pub readied_is : WhileReadied P (spend_if reserved area (length draft.bytes) (grown s (need_of reserved (length draft.bytes) sizes))) (length draft.bytes)
-  pub held : P (hold_sizes area sizes (put (spend_if reserved area (length draft.bytes) (grown s (need_of reserved (length draft.bytes) sizes))) (plain_record area draft)))
-  pub sealed : P (seal_if draft.seal (hold_sizes area sizes
-      (put (spend_if reserved area (length draft.bytes) (grown s (need_of reserved (length draft.bytes) sizes))) (plain_record area draft))))
-  pub flushed : P (flush_if draft.flush (seal_if draft.seal (hold_sizes area sizes
-      (put (spend_if reserved area (length draft.bytes) (grown s (need_of reserved (length draft.bytes) sizes))) (plain_record area draft)))))
+  pub grown_is : P larger
+  pub behind : All P more
 
-pub while_appended : (P : State → Type 0) (s : State) (area : Area) (draft : Draft) (reserved : Bool) (sizes : List ℕ)
-    → All P (append_stages s area draft reserved sizes) → WhileAppended P s area draft reserved sizes
+-- the states of an append after its log has grown, but for that whose area is yet to hold more: of that no crash leaves anything of its own
+abbrev pub appended_stages : State → Area → Draft → List ℕ → List State
+appended_stages u area draft sizes =
+    let held = hold_sizes area sizes (put u (plain_record area draft)) in
+    ready_stages u (length draft.bytes) ++ held ∷ seal_if draft.seal held ∷ flush_if draft.flush (seal_if draft.seal held) ∷ []
+
+pub while_appended : (P : State → Type 0) (s : State) (area : Area) (draft : Draft) (reserved : Bool) (sizes : List ℕ) → All P (append_stages s area draft reserved sizes)
+    → WhileGrown P s (grown s (need_of reserved (length draft.bytes) sizes))
+    (appended_stages (spend_if reserved area (length draft.bytes) (grown s (need_of reserved (length draft.bytes) sizes))) area draft sizes)
 while_appended P s area draft reserved sizes all =
     let n = length draft.bytes in
     let g : State = grown s (need_of reserved n sizes) in
@@ -79,46 +35,24 @@ while_appended P s area draft reserved sizes all =
     let p : State = put u (plain_record area draft) in
     let h : State = hold_sizes area sizes p in
     let l : State = seal_if draft.seal h in
-    let f : State = flush_if draft.flush l in
-    let end : List State = p ∷ h ∷ l ∷ f ∷ [] in
-    let first = All-tail P s (g ∷ (ready_stages u n ++ end)) all in
-    let apart = readied_apart P u n end (All-tail P g (ready_stages u n ++ end) first) in
-    let behind = All-tail P p (h ∷ l ∷ f ∷ []) apart.1 in
-    let last = All-tail P h (l ∷ f ∷ []) behind in
+    let end : List State = h ∷ l ∷ flush_if draft.flush l ∷ [] in
+    let first = All-tail P s (g ∷ (ready_stages u n ++ p ∷ end)) all in
     record {
-      before = All-head P s (g ∷ (ready_stages u n ++ end)) all;
-      grown_is = All-head P g (ready_stages u n ++ end) first;
-      readied_is = apart.0;
-      held = All-head P h (l ∷ f ∷ []) behind;
-      sealed = All-head P l (f ∷ []) last;
-      flushed = All-head P f [] (All-tail P l (f ∷ []) last);
+      before = All-head P s (g ∷ (ready_stages u n ++ p ∷ end)) all;
+      grown_is = All-head P g (ready_stages u n ++ p ∷ end) first;
+      behind = all_without P (ready_stages u n) p end (All-tail P g (ready_stages u n ++ p ∷ end) first);
     }
 
--- What is true of each state of a restart area.
-pub record WhileRestarted (P : State → Type 0) (s : State) (area : Area) (bytes : List ℕ) (base : ℕ) (reserved : Bool) : Type 0 where
-  pub before : P s
-  pub grown_is : P (grown s (need_of reserved (length bytes) []))
-  pub readied_is : WhileReadied P (spend_if reserved area (length bytes) (grown s (need_of reserved (length bytes) []))) (length bytes)
-  pub joined : P (put (spend_if reserved area (length bytes) (grown s (need_of reserved (length bytes) []))) (restart_record s area bytes base))
-  pub rebased_is : P (rebased area.stream base (flush
-      (put (spend_if reserved area (length bytes) (grown s (need_of reserved (length bytes) []))) (restart_record s area bytes base))))
+-- the same of a restart area
+abbrev pub restarted_stages : State → ℕ → LogEntry → ℕ → ℕ → List State
+restarted_stages u n entry stream base = ready_stages u n ++ put u entry ∷ rebased stream base (flush (put u entry)) ∷ []
 
-pub while_restarted : (P : State → Type 0) (s : State) (area : Area) (bytes : List ℕ) (base : ℕ) (reserved : Bool)
-    → All P (restart_stages s area bytes base reserved) → WhileRestarted P s area bytes base reserved
+pub while_restarted : (P : State → Type 0) (s : State) (area : Area) (bytes : List ℕ) (base : ℕ) (reserved : Bool) → All P (restart_stages s area bytes base reserved)
+    → WhileGrown P s (grown s (need_of reserved (length bytes) []))
+    (restarted_stages (spend_if reserved area (length bytes) (grown s (need_of reserved (length bytes) []))) (length bytes) (restart_record s area bytes base) area.stream base)
 while_restarted P s area bytes base reserved all =
     let n = length bytes in
     let g : State = grown s (need_of reserved n []) in
-    let u : State = spend_if reserved area n g in
-    let p : State = put u (restart_record s area bytes base) in
-    let t : State = rebased area.stream base (flush p) in
-    let end : List State = p ∷ t ∷ [] in
-    let first = All-tail P s (g ∷ (ready_stages u n ++ end)) all in
-    let apart = readied_apart P u n end (All-tail P g (ready_stages u n ++ end) first) in
-    let behind = All-tail P p (t ∷ []) apart.1 in
-    record {
-      before = All-head P s (g ∷ (ready_stages u n ++ end)) all;
-      grown_is = All-head P g (ready_stages u n ++ end) first;
-      readied_is = apart.0;
-      joined = All-head P p (t ∷ []) apart.1;
-      rebased_is = All-head P t [] behind;
-    }
+    let more : List State = restarted_stages (spend_if reserved area n g) n (restart_record s area bytes base) area.stream base in
+    let first = All-tail P s (g ∷ more) all in
+    record { before = All-head P s (g ∷ more) all; grown_is = All-head P g more first; behind = All-tail P g more first }

@@ -1,13 +1,16 @@
--- What files stand for, and what a crash leaves of a call: laws of lower crates that each call which writes cites together.
-use Rattle.std.specs.Prelude.{◌≡◌, ℕ, ◌<◌, List, Ok, length, map, slice_index}
+-- What files stand for, and what a crash leaves of a call: laws of lower crates that most calls which write cite together.
+use Rattle.std.specs.Prelude.{◌≡◌, ℕ, ◌<◌, true, List, Ok, Some, length, map, slice_index}
 use Rattle.clfs_lsn.specs.declared.entry.LogEntry.{LogEntry}
 use Rattle.clfs_disk.specs.Files.{Files}
 use Rattle.clfs_container.specs.OpenBlocks.{AreWhole}
 use Rattle.clfs_base.specs.declared.image.BaseImage.{BaseImage}
 use Rattle.clfs_base.specs.Slots.{newest_of}
 use Rattle.clfs_model.specs.declared.call.Call.{Call}
+use Rattle.clfs_laws.specs.Refused.{is_of_call}
+use Rattle.clfs_model.specs.declared.refusal.Refusal.{Refusal}
 use Rattle.clfs_model.specs.declared.state.State.{State}
 use Rattle.clfs_model.specs.Flush.{cut}
+use Rattle.clfs_model.specs.Refusals.{refusal}
 use Rattle.clfs_model.specs.Run.{asks, fine_outcome}
 use Rattle.clfs_model.specs.Storable.{IsStorable}
 use Rattle.clfs_model.specs.Survivors.{Survives}
@@ -32,9 +35,10 @@ abbrev pub SurvivesAfter : Type 0
 SurvivesAfter = (s : State) (client : ℕ) (call : Call) → IsValid s → IsStorable s
     → Survives (asks client call) s (cut (fine_outcome s (asks client call)).state)
 
--- what files stand for, and that the flushed parts of the states before and after a call survive it
+-- what files stand for, that the flushed parts of the states before and after a call survive it, and that a call's refusals are its own
 pub record CallLaws : Type 0 where
   pub stands : StandByBlocks
   pub by_file : HaveByFile
   pub before : (s : State) (client : ℕ) (call : Call) → IsValid s → Survives (asks client call) s (cut s)
   pub after : SurvivesAfter
+  pub own : (s : State) (client : ℕ) (call : Call) (given : Refusal) → refusal s client call ≡ Some given → is_of_call given ≡ true

@@ -18,3 +18,11 @@ pub record ChangesLog {A E : Type 0} (IsLeft : DiskState → Log → Type 0) (re
   pub writes : WritesDisk (IsErr result) old new
   pub moments : (asked : Request) (s : State) → All (λ (stage : State). Survives asked s (cut stage)) stages → Survives asked s (cut last)
       → CrashLeavesSurvivor asked s old new
+
+-- The same of a log whose stages are all that a crash may leave: the last state is one of them, or has the flushed part of one.
+pub record GoesThrough {A E : Type 0} (IsLeft : DiskState → Log → Type 0) (result : Result A E) (stages : List State) (last : State) (old new : DiskState) (log : Log) : Type 0 where
+  pub state : OnOk result (log.state.value ≡ last)
+  pub left : OnOk result (IsLeft new log)
+  pub broken : OnErr result (log.broken ≡ true)
+  pub writes : WritesDisk (IsErr result) old new
+  pub moments : (asked : Request) (s : State) → All (λ (stage : State). Survives asked s (cut stage)) stages → CrashLeavesSurvivor asked s old new

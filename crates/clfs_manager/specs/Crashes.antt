@@ -1,11 +1,9 @@
 -- What a crash leaves while a call is under way.
-use Rattle.std.specs.Prelude.{◌≡◌, ◌⊎◌, ℕ, Bool, true, false}
-use Rattle.clfs_lsn.specs.Place.{joins, begins_here}
+use Rattle.std.specs.Prelude.{◌≡◌, ◌⊎◌, Bool, true, false}
 use Rattle.clfs_disk.specs.Files.{Files}
 use Rattle.clfs_disk.specs.State.{DiskState, IsHonest, IsSettled, Leaves}
-use Rattle.clfs_laws.specs.Between.{readied}
 use Rattle.clfs_model.specs.declared.state.State.{State}
-use Rattle.clfs_model.specs.Flush.{IsSame, cut, flush}
+use Rattle.clfs_model.specs.Flush.{IsSame}
 use Rattle.clfs_model.specs.Run.{Request}
 use Rattle.clfs_model.specs.Survivors.{Survives}
 use Rattle.clfs_physical.specs.Stored.{Newest, Blocks, Stores}
@@ -31,13 +29,6 @@ CrashLeavesSurvivor asked s old new =
 -- the same for a log that isn't broken: one that is makes no call on the disk
 abbrev pub CrashSurvives : Request → State → DiskState → DiskState → Type 0
 CrashSurvives asked s old new = s.broken ≡ false → CrashLeavesSurvivor asked s old new
-
--- What a log may be left as while it is made ready for a record of n bytes: as it is, with all of it on the disk where the record begins a container,
--- and ready.
-pub record ReadyingSurvives (asked : Request) (s u : State) (n : ℕ) : Type 0 where
-  pub before : Survives asked s (cut u)
-  pub flushed : joins u.shape u.place n ≡ false → begins_here u.shape u.place n ≡ false → Survives asked s (cut (flush u))
-  pub ready : Survives asked s (cut (readied u n))
 
 -- Files store a state, in the containers that some base copy lists.
 pub record HaveStored (whole : Bool) (s : State) (files : Files) : Type 0 where

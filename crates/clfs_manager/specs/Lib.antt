@@ -1,4 +1,6 @@
+pub mod Machine
 pub mod Formatting
+pub mod Keeping
 pub mod Memory
 pub mod OnDisk
 pub mod Calls
@@ -7,10 +9,12 @@ pub mod Laid
 pub mod Restarts
 pub mod Preparing
 pub mod Fetching
+pub mod Reading
 pub mod Settings
 pub mod Written
 pub mod Crashes
 pub mod Changing
+pub mod Storing
 pub mod Reopening
 pub mod Sizes
 pub mod Base
@@ -18,3 +22,5 @@ pub mod Streams
 pub mod Putting
 pub mod Opened
 pub mod CallLaws
+pub mod Loading
+pub mod ManagerLaws

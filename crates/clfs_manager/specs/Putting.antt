@@ -1,11 +1,16 @@
 -- What the small changes of which an append is made leave in memory.
-use Rattle.std.specs.Prelude.{◌≡◌, ℕ, ◌+◌, ◌<◌, ◌≤◌, ◌^◌, ◌&&◌, nat_lt, Bool, List, [], length, slice_index}
+use Rattle.std.specs.Prelude.{◌≡◌, ℕ, ◌+◌, ◌-◌, ◌<◌, ◌≤◌, ◌^◌, ◌&&◌, nat_lt, Bool, List, [], length, slice_index, Result, Some, None, IfErr, IfOk, OnOk}
 use Rattle.clfs_lsn.specs.Lsn.{null_lsn, container_of}
 use Rattle.clfs_lsn.specs.Place.{IsClosed}
 use Rattle.clfs_lsn.specs.declared.entry.LogEntry.{LogEntry}
+use Rattle.clfs_areas.specs.Table.{area_at}
 use Rattle.clfs_base.specs.declared.image.BaseImage.{BaseImage}
+use Rattle.clfs_model.specs.declared.call.Call.{Call}
+use Rattle.clfs_model.specs.declared.refusal.Refusal.{Refusal}
 use Rattle.clfs_model.specs.declared.state.State.{State}
 use Rattle.clfs_model.specs.Live.{hold}
+use Rattle.clfs_model.specs.Refusals.{refusal}
+use Rattle.clfs_model.specs.State.{area_of}
 use Rattle.clfs_model.specs.Step.{fills_buffers}
 use Rattle.clfs_model.specs.Storable.{IsStorable}
 use Rattle.clfs_model.specs.Valid.{IsValid}
@@ -21,6 +26,25 @@ pub record KeepsRoom (used : ℕ) (old new : Log) : Type 0 where
   pub heads : (place : ℕ) → slice_index old.tables.room place ≤ slice_index new.tables.room place
   pub areas : new.areas ≡ old.areas
   pub ends : old.archive.room ≤ new.archive.room + used
+
+-- For a record of this stream there is memory: for its head, and for the ends of two blocks.
+pub record HasMemory (stream : ℕ) (log : Log) : Type 0 where
+  pub heads : 1 ≤ slice_index log.tables.room (stream - 1)
+  pub ends : 2 ≤ log.archive.room
+
+-- The area at a place stays the same one, whatever it holds.
+pub record KeepsArea (at : ℕ) (old new : Log) : Type 0 where
+  pub place : at < length new.areas.areas
+  pub client : (area_at at new.areas.areas).client ≡ (area_at at old.areas.areas).client
+  pub number : (area_at at new.areas.areas).number ≡ (area_at at old.areas.areas).number
+
+-- The place of a client's area of a number through which a call puts a record, or why the call is refused.
+pub record FindsArea (log : Log) (client number : ℕ) (call : Call) (result : Result ℕ Refusal) : Type 0 where
+  pub refused : IfErr result (λ first. refusal log.state.value client call ≡ Some first)
+  pub allowed : IfOk result (λ _. refusal log.state.value client call ≡ None)
+  pub within : IfOk result (λ place. place < length log.areas.areas)
+  pub there : IfOk result (λ place. area_of log.state.value client number ≡ Some (area_at place log.areas.areas))
+  pub two : OnOk result (2 ≤ log.state.value.containers)
 
 -- Sealing writes: a block is open, and with it as many wait as there are write buffers.
 abbrev pub sealing_writes : State → Bool

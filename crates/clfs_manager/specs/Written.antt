@@ -1,5 +1,6 @@
 -- How calls that write leave a log and its disk.
 use Rattle.std.specs.Prelude.{◌≡◌, false}
+use Rattle.clfs_areas.specs.Table.{AreaTable}
 use Rattle.clfs_disk.specs.State.{DiskState, TellsContents, IsHonest, IsSettled, IsSteady, Later, Rises}
 use Rattle.clfs_physical.specs.Stored.{Blocks, Stores}
 use Rattle.clfs_recover.specs.Files.{AreWholeFiles}
@@ -11,6 +12,12 @@ use Rattle.clfs_manager.specs.declared.log.Log.{Log}
 pub record IsIntact (disk : DiskState) (log : Log) : Type 0 where
   pub sound : IsSound log
   pub opened : IsOpen disk log.state.value log
+
+-- A log that isn't broken and has these areas: memory has its state, and the disk the flushed part of it. Whether a log can be in that state isn't said.
+pub record IsOpenWith (kept : AreaTable) (disk : DiskState) (log : Log) : Type 0 where
+  pub opened : IsOpen disk log.state.value log
+  pub unbroken : log.broken ≡ false
+  pub areas : log.areas ≡ kept
 
 -- A log that is intact once memory forgets what is needed no more.
 pub record IsYetToForget (disk : DiskState) (log : Log) : Type 0 where

@@ -2,47 +2,27 @@
 // the area spends what a reserved record takes, the log is made ready, and the record joins it in memory: an append that asks for nothing more makes
 // no call on the disk unless its record begins a container or seals the last block that may wait. Last, the area holds sectors for records to come,
 // and the block is sealed and the log flushed where that is asked for.
-ghost use Rattle.std.specs.Prelude.{◌≡◌, ◌+◌, ◌-◌, ◌<◌, ◌≤◌, ◌^◌, ◌∷◌, [], ℕ, Bool, IsOk, IsErr, IsErrOf, IsSome, IfOk, IfErr, OnOk, OnErr, None, Some, false, true, length, slice_index, vec_capacity};
-ghost use Rattle.clfs_lsn.specs.Limits.{most_containers};
-ghost use Rattle.clfs_lsn.specs.Place.{joins, begins_here};
-ghost use Rattle.clfs_lsn.specs.Size.{longest};
-ghost use Rattle.clfs_lsn.specs.declared.entry.Kind.TheVariants.{Plain};
+ghost use Rattle.std.specs.Prelude.{◌≡◌, ◌<◌, ◌≤◌, ◌^◌, ◌∷◌, ◌++◌, [], Bool, IsOk, IsErrOf, IsSome, IfOk, IfErr, OnOk, None, Some, false, true, length};
+ghost use Rattle.clfs_manager.specs.Machine.{append_refusal, Area, asks, calls_disk, change_area, fills_buffers, flush_if, hold_sizes, is_of_call, IsClient, IsStorable, IsValid, making_ready_writes, MayPut, next_lsn, own, own_sum, Plain, plain_record, put, ready_stages, refusal, seal_if, spend_if, spent_of, stream_at, TakesThrough, with_less_held};
 ghost use Rattle.clfs_model.specs.declared.call.Call.TheVariants as calls;
-ghost use Rattle.clfs_model.specs.declared.state.State.{State};
 ghost use Rattle.clfs_model.specs.declared.reply.Reply.TheVariants as replies;
-ghost use Rattle.clfs_model.specs.Conditions.{IsClient};
-ghost use Rattle.clfs_model.specs.declared.state.Area.{Area};
-ghost use Rattle.clfs_lsn.specs.Size.{own};
-ghost use Rattle.clfs_model.specs.Flush.{cut};
-ghost use Rattle.clfs_model.specs.Run.{Request, asks};
-ghost use Rattle.clfs_model.specs.Survivors.{Survives};
-ghost use Rattle.clfs_model.specs.Put.{flush_if, hold_sizes, next_lsn, plain_record, put, seal_if, spend_if, spent_of, with_less_held};
-ghost use Rattle.clfs_model.specs.Space.{own_sum};
-ghost use Rattle.clfs_model.specs.Refusals.{append_refusal, refusal};
-ghost use Rattle.clfs_model.specs.State.{area_of, change_area, stream_at};
-ghost use Rattle.clfs_model.specs.Step.{calls_disk, fills_buffers, making_ready_writes};
-ghost use Rattle.clfs_model.specs.Storable.{IsStorable};
-ghost use Rattle.clfs_model.specs.Valid.{IsValid};
 ghost use Rattle.clfs_areas.specs.Table.{area_at};
-ghost use Rattle.clfs_laws.specs.Between.{MayPut, TakesThrough};
-ghost use Rattle.clfs_laws.specs.Refused.{is_of_call};
-ghost use Rattle.clfs_manager.specs.Calls.{Steps};
-ghost use Rattle.clfs_manager.specs.Changing.{ChangesLog};
-ghost use Rattle.clfs_manager.specs.Crashes.{CrashLeavesSurvivor, CrashSurvives, ReadyingSurvives};
+ghost use Rattle.clfs_manager.specs.Calls.{Steps, WritesAs};
+ghost use Rattle.clfs_manager.specs.Changing.{ChangesLog, GoesThrough};
+ghost use Rattle.clfs_manager.specs.Crashes.{CrashLeavesSurvivor};
 ghost use Rattle.clfs_manager.specs.Fetching.{IsLeft};
 ghost use Rattle.clfs_manager.specs.Memory.{ChangesAreas, IsSound};
-ghost use Rattle.clfs_manager.specs.OnDisk.{IsOpen};
-ghost use Rattle.clfs_manager.specs.Putting.{HasSameLog, unplaced};
-ghost use Rattle.clfs_manager.specs.Written.{IsIntact, WritesDisk};
+ghost use Rattle.clfs_manager.specs.Putting.{FindsArea, HasMemory, HasSameLog, KeepsArea, unplaced};
+ghost use Rattle.clfs_manager.specs.Written.{IsIntact, IsOpenWith, WritesDisk};
 
 use crate::log::{Log, broken};
 use crate::manager::Manager;
+use crate::survivors::calls_follow_laws;
 use clfs_disk::{Disk, Failed};
 use clfs_laws::{
     areas_hold_sectors, calls_that_pass_find_room, growth_keeps_a_log_whole, logs_are_made_ready,
     quiet_appends_want_no_disk, records_are_put, refusals_are_the_calls_own,
-    small_changes_make_the_calls, states_between_survive, steps_keep_a_state_storable,
-    steps_keep_a_state_valid,
+    small_changes_make_the_calls, states_between_survive,
 };
 use clfs_lsn::{Kind, Lsn, Sizes, own};
 use clfs_model::{Draft, Refusal, State, ways_of_a_step};
@@ -68,28 +48,16 @@ pub(crate) fn kept(state: &Told<State>) -> Told<State>
 }
 
 impl Log {
-    // Takes all memory that a record of so many bytes of data wants, of the stream of this number: for its head, for the ends of two blocks, and where it
-    // begins a container for the files of the copy that lists this one.
-    pub fn take_memory(&mut self, stream: u16, len: u32) -> Result<Vec<u16>, AllocError>
+    // Takes all memory that a record of the stream of this number wants: for its head, and for the ends of two blocks.
+    pub fn take_memory(&mut self, stream: u16) -> Result<(), AllocError>
         requires sound { IsSound self.old }
         requires there { IsSome (stream_at self.old.state.value stream) }
-        requires short { len ≤ longest self.old.state.value.shape }
-        requires id { joins self.old.state.value.shape self.old.state.value.place len ≡ false
-            → begins_here self.old.state.value.shape self.old.state.value.place len ≡ false → self.old.state.value.place.container + 1 < 2 ^ 32 }
         ensures same { HasSameLog self.old self.new }
-        ensures heads { OnOk result (1 ≤ slice_index self.new.tables.room (stream - 1)) }
-        ensures ends { OnOk result (2 ≤ self.new.archive.room) }
-        ensures empty { IfOk result (λ room. room.items ≡ []) }
-        ensures capacity { IfOk result (λ room. joins self.old.state.value.shape self.old.state.value.place len ≡ false
-            → begins_here self.old.state.value.shape self.old.state.value.place len ≡ false → most_containers ≤ vec_capacity room) }
+        ensures memory { OnOk result (HasMemory stream self.new) }
     {
-        let placing = self.placing(len);
         self.tables.reserve(stream)?;
         self.archive.reserve(2)?;
-        match placing {
-            Placing::BeginsContainer => self.physical.room_for_turn(),
-            Placing::Joins | Placing::BeginsBlock => Ok(Vec::new(self.alloc)),
-        }
+        Ok(())
     }
 
     // The area at a place spends the sectors of a record of so many bytes of data, where this is a reserved one.
@@ -102,9 +70,7 @@ impl Log {
         ensures state { self.new.state.value ≡ spend_if reserved (area_at place self.old.areas.areas) len self.old.state.value }
         ensures sound { IsSound self.new }
         ensures areas { ChangesAreas self.old self.new }
-        ensures place { place < length self.new.areas.areas }
-        ensures client { (area_at place self.new.areas.areas).client ≡ (area_at place self.old.areas.areas).client }
-        ensures number { (area_at place self.new.areas.areas).number ≡ (area_at place self.old.areas.areas).number }
+        ensures area { KeepsArea place self.old self.new }
     {
         if !reserved {
             return;
@@ -120,30 +86,19 @@ impl Log {
         disk: &mut D,
         fields: &Fields,
         bytes: &[u8],
-        room: Vec<u16>,
     ) -> Result<Lsn, Failed>
         requires intact { IsIntact (D.state disk.old) self.old }
         requires may { MayPut self.old.state.value (unplaced fields.now bytes.now) }
-        requires heads { 1 ≤ slice_index self.old.tables.room (fields.now.stream - 1) }
-        requires ends { 2 ≤ self.old.archive.room }
-        requires empty { room.items ≡ [] }
-        requires capacity { joins self.old.state.value.shape self.old.state.value.place (length bytes.now) ≡ false
-            → begins_here self.old.state.value.shape self.old.state.value.place (length bytes.now) ≡ false → most_containers ≤ vec_capacity room }
+        requires memory { HasMemory fields.now.stream self.old }
         ensures lsn { IfOk result (λ lsn. lsn ≡ next_lsn self.old.state.value (length bytes.now)) }
-        ensures state { OnOk result (self.new.state.value ≡ put self.old.state.value (unplaced fields.now bytes.now)) }
-        ensures opened { OnOk result (IsOpen (D.state disk.new) self.new.state.value self.new) }
-        ensures unbroken { OnOk result (self.new.broken ≡ false) }
-        ensures areas { OnOk result (self.new.areas ≡ self.old.areas) }
-        ensures broken { OnErr result (self.new.broken ≡ true) }
+        ensures change { GoesThrough (IsOpenWith self.old.areas) result (ready_stages self.old.state.value (length bytes.now))
+            (put self.old.state.value (unplaced fields.now bytes.now)) (D.state disk.old) (D.state disk.new) self.new }
         ensures quiet { making_ready_writes self.old.state.value (length bytes.now) ≡ false → IsOk result × (disk.new ≡ disk.old) }
-        ensures writes { WritesDisk (IsErr result) (D.state disk.old) (D.state disk.new) }
-        ensures moments { (asked : Request) (s : State) → ReadyingSurvives asked s self.old.state.value (length bytes.now)
-            → CrashLeavesSurvivor asked s (D.state disk.old) (D.state disk.new) }
     {
         logs_are_made_ready();
         records_are_put();
         the_next_lsn_is_above_all();
-        self.make_ready(disk, bytes.len() as u32, room)?;
+        self.make_ready(disk, bytes.len() as u32)?;
         Ok(self.put(fields, bytes))
     }
 
@@ -192,7 +147,6 @@ impl Log {
         place: usize,
         draft: &Draft,
         reserved: bool,
-        room: Vec<u16>,
     ) -> Result<Lsn, Failed>
         requires intact { IsIntact (D.state disk.old) self.old }
         requires place { place < length self.old.areas.areas }
@@ -201,32 +155,21 @@ impl Log {
         requires storable { IsStorable (spend_if reserved (area_at place self.old.areas.areas) (length draft.now.bytes) self.old.state.value) }
         requires may { let area = area_at place self.old.areas.areas in
             MayPut (spend_if reserved area (length draft.now.bytes) self.old.state.value) (plain_record area draft.now) }
-        requires heads { 1 ≤ slice_index self.old.tables.room ((area_at place self.old.areas.areas).stream - 1) }
-        requires ends { 2 ≤ self.old.archive.room }
-        requires empty { room.items ≡ [] }
-        requires capacity { joins self.old.state.value.shape self.old.state.value.place (length draft.now.bytes) ≡ false
-            → begins_here self.old.state.value.shape self.old.state.value.place (length draft.now.bytes) ≡ false → most_containers ≤ vec_capacity room }
+        requires memory { HasMemory (area_at place self.old.areas.areas).stream self.old }
         ensures lsn { let area = area_at place self.old.areas.areas in
             IfOk result (λ lsn. lsn ≡ next_lsn (spend_if reserved area (length draft.now.bytes) self.old.state.value) (length draft.now.bytes)) }
-        ensures state { let area = area_at place self.old.areas.areas in OnOk result (self.new.state.value
-            ≡ put (spend_if reserved area (length draft.now.bytes) self.old.state.value) (plain_record area draft.now)) }
-        ensures intact { OnOk result (IsIntact (D.state disk.new) self.new) }
-        ensures place { OnOk result (place < length self.new.areas.areas) }
-        ensures client { OnOk result ((area_at place self.new.areas.areas).client ≡ (area_at place self.old.areas.areas).client) }
-        ensures number { OnOk result ((area_at place self.new.areas.areas).number ≡ (area_at place self.old.areas.areas).number) }
-        ensures broken { OnErr result (self.new.broken ≡ true) }
+        ensures change { let area = area_at place self.old.areas.areas in
+            let u = spend_if reserved area (length draft.now.bytes) self.old.state.value in
+            GoesThrough IsIntact result (ready_stages u (length draft.now.bytes)) (put u (plain_record area draft.now)) (D.state disk.old) (D.state disk.new) self.new }
+        ensures area { OnOk result (KeepsArea place self.old self.new) }
         ensures quiet { let area = area_at place self.old.areas.areas in
             making_ready_writes (spend_if reserved area (length draft.now.bytes) self.old.state.value) (length draft.now.bytes) ≡ false
             → IsOk result × (disk.new ≡ disk.old) }
-        ensures writes { WritesDisk (IsErr result) (D.state disk.old) (D.state disk.new) }
-        ensures moments { let area = area_at place self.old.areas.areas in (asked : Request) (s : State)
-            → ReadyingSurvives asked s (spend_if reserved area (length draft.now.bytes) self.old.state.value) (length draft.now.bytes)
-            → CrashLeavesSurvivor asked s (D.state disk.old) (D.state disk.new) }
     {
         records_are_put();
         let fields = plain_fields(self.areas.area(place).stream, draft);
         self.spend(place, reserved, draft.bytes.len() as u32);
-        self.put_record(disk, &fields, draft.bytes.as_slice(), room)
+        self.put_record(disk, &fields, draft.bytes.as_slice())
     }
 
     // Appends the record of a draft through the area at a place to a log that has grown for it, and for which all memory was taken. After a fault the
@@ -238,39 +181,28 @@ impl Log {
         draft: &Draft,
         reserved: bool,
         sizes: &Sizes,
-        room: Vec<u16>,
     ) -> Result<Lsn, Failed>
         requires intact { IsIntact (D.state disk.old) self.old }
         requires place { place < length self.old.areas.areas }
         requires enough { spent_of reserved (length draft.now.bytes) ≤ (area_at place self.old.areas.areas).held }
         requires takes { let area = area_at place self.old.areas.areas in
             TakesThrough (spend_if reserved area (length draft.now.bytes) self.old.state.value) area (plain_record area draft.now) (own_sum sizes.now) }
-        requires heads { 1 ≤ slice_index self.old.tables.room ((area_at place self.old.areas.areas).stream - 1) }
-        requires ends { 2 ≤ self.old.archive.room }
-        requires empty { room.items ≡ [] }
-        requires capacity { joins self.old.state.value.shape self.old.state.value.place (length draft.now.bytes) ≡ false
-            → begins_here self.old.state.value.shape self.old.state.value.place (length draft.now.bytes) ≡ false → most_containers ≤ vec_capacity room }
+        requires memory { HasMemory (area_at place self.old.areas.areas).stream self.old }
         ensures lsn { let area = area_at place self.old.areas.areas in
             IfOk result (λ lsn. lsn ≡ next_lsn (spend_if reserved area (length draft.now.bytes) self.old.state.value) (length draft.now.bytes)) }
-        ensures state { let area = area_at place self.old.areas.areas in
-            OnOk result (self.new.state.value ≡ flush_if draft.now.flush (seal_if draft.now.seal (hold_sizes area sizes.now
-            (put (spend_if reserved area (length draft.now.bytes) self.old.state.value) (plain_record area draft.now))))) }
-        ensures intact { OnOk result (IsIntact (D.state disk.new) self.new) }
-        ensures broken { OnErr result (self.new.broken ≡ true) }
+        ensures change { let area = area_at place self.old.areas.areas in
+            let u = spend_if reserved area (length draft.now.bytes) self.old.state.value in
+            let held = hold_sizes area sizes.now (put u (plain_record area draft.now)) in
+            let last = flush_if draft.now.flush (seal_if draft.now.seal held) in
+            GoesThrough IsIntact result (ready_stages u (length draft.now.bytes) ++ held ∷ seal_if draft.now.seal held ∷ last ∷ []) last (D.state disk.old) (D.state disk.new) self.new }
         ensures quiet { let area = area_at place self.old.areas.areas in
             let t = spend_if reserved area (length draft.now.bytes) self.old.state.value in
             making_ready_writes t (length draft.now.bytes) ≡ false
             → (draft.now.seal ≡ true → fills_buffers (hold_sizes area sizes.now (put t (plain_record area draft.now))) ≡ false) → draft.now.flush ≡ false
             → IsOk result × (disk.new ≡ disk.old) }
-        ensures writes { WritesDisk (IsErr result) (D.state disk.old) (D.state disk.new) }
-        ensures moments { let area = area_at place self.old.areas.areas in
-            let u = spend_if reserved area (length draft.now.bytes) self.old.state.value in
-            let held = hold_sizes area sizes.now (put u (plain_record area draft.now)) in (asked : Request) (s : State)
-            → ReadyingSurvives asked s u (length draft.now.bytes) → Survives asked s (cut held) → Survives asked s (cut (seal_if draft.now.seal held))
-            → Survives asked s (cut (flush_if draft.now.flush (seal_if draft.now.seal held))) → CrashLeavesSurvivor asked s (D.state disk.old) (D.state disk.new) }
     {
         areas_hold_sectors();
-        let lsn = self.put_draft(disk, place, draft, reserved, room)?;
+        let lsn = self.put_draft(disk, place, draft, reserved)?;
         self.hold_sizes(place, sizes);
         self.finish(disk, draft.seal, draft.flush)?;
         Ok(lsn)
@@ -287,11 +219,7 @@ impl Log {
     ) -> Result<usize, Refusal>
         requires sound { IsSound self.now }
         requires len { length draft.now.bytes < 2 ^ 32 }
-        ensures refused { IfErr result (λ first. refusal self.now.state.value client (calls.Append area draft.now reserved sizes.now) ≡ Some first) }
-        ensures allowed { IfOk result (λ _. refusal self.now.state.value client (calls.Append area draft.now reserved sizes.now) ≡ None) }
-        ensures within { IfOk result (λ place. place < length self.now.areas.areas) }
-        ensures there { IfOk result (λ place. area_of self.now.state.value client area ≡ Some (area_at place self.now.areas.areas)) }
-        ensures two { OnOk result (2 ≤ self.now.state.value.containers) }
+        ensures finds { FindsArea self.now client area (calls.Append area draft.now reserved sizes.now) result }
         ensures passes { IfOk result (λ place. append_refusal self.now.state.value (area_at place self.now.areas.areas) draft.now reserved sizes.now ≡ None) }
     {
         let place = self.area_for_records(client, area)?;
@@ -334,8 +262,8 @@ impl Log {
         let stream = self.areas.area(place).stream;
         let len = draft.bytes.len() as u32;
         let before = kept(&self.state);
-        let room = self.prepare(disk, stream, len, need_of(reserved, len, sizes.as_slice()))?;
-        match self.append_grown(disk, place, draft, reserved, sizes, room) {
+        self.prepare(disk, stream, need_of(reserved, len, sizes.as_slice()))?;
+        match self.append_grown(disk, place, draft, reserved, sizes) {
             Ok(lsn) => Ok(lsn),
             Err(Failed) => {
                 self.state = broken(&before);
@@ -377,20 +305,13 @@ impl<D: Disk> Manager<D> {
     ) -> Result<Lsn, Refusal>
         requires client { IsClient client }
         requires len { length draft.now.bytes < 2 ^ 32 }
-        ensures step { (told : Bool)
-            → Steps told self.old.0 client (calls.Append area draft.now reserved sizes.now) replies.Placed result self.new.0 }
+        ensures call { WritesAs D.state client (calls.Append area draft.now reserved sizes.now) replies.Placed result self.old self.new }
         ensures quiet { calls_disk self.old.0 (calls.Append area draft.now reserved sizes.now) ≡ false → self.new.1 ≡ self.old.1 }
-        ensures writes { WritesDisk (IsErrOf result Refusal.DiskFault) (D.state self.old.1) (D.state self.new.1) }
-        ensures moments { CrashSurvives (asks client (calls.Append area draft.now reserved sizes.now)) self.old.0 (D.state self.old.1) (D.state self.new.1) }
-        ensures stopped { self.old.0.broken ≡ true → self.new.1 ≡ self.old.1 }
-        ensures refused { IfErr result (λ refusal. is_of_call refusal ≡ true → self.new.1 ≡ self.old.1) }
     {
-        ways_of_a_step();
+        calls_follow_laws();
         if self.log.broken {
             return Err(Refusal::Broken);
         }
-        steps_keep_a_state_valid();
-        steps_keep_a_state_storable();
         self.log
             .append(&mut self.disk, client, area, draft, reserved, sizes)
     }

@@ -1,36 +1,22 @@
 // Archiving: whether it is on, and its tail. A change writes the base copy that follows the newest one, with the containers from the new state's hold
 // on, so that a crash leaves the old setting or the new one. Memory forgets what only the old tail held. No call here takes memory.
-ghost use Rattle.std.specs.Prelude.{◌≡◌, ◌≤◌, ℕ, Bool, true, false, not, Some, is_some, OnOk, OnErr, IsErrOf, IsOk, IfErr};
-ghost use Rattle.clfs_lsn.specs.Lsn.{container_of};
-ghost use Rattle.clfs_disk.specs.State.{IsSettled, IsSteady, Later, Rises};
+ghost use Rattle.std.specs.Prelude.{◌≡◌, ◌≤◌, ℕ, true, false, not, Some, is_some, OnOk};
+ghost use Rattle.clfs_manager.specs.Machine.{archiving, calls_disk, container_of, hold, IsValid, State};
 ghost use Rattle.clfs_model.specs.declared.call.Call.TheVariants as calls;
 ghost use Rattle.clfs_model.specs.declared.reply.Reply.TheVariants as replies;
-ghost use Rattle.clfs_model.specs.declared.state.State.{State};
-ghost use Rattle.clfs_model.specs.Answers.{archiving};
-ghost use Rattle.clfs_model.specs.Live.{hold};
-ghost use Rattle.clfs_model.specs.Run.{asks};
-ghost use Rattle.clfs_model.specs.Step.{calls_disk};
-ghost use Rattle.clfs_model.specs.Valid.{IsValid};
-ghost use Rattle.clfs_physical.specs.Stored.{AreMade};
-ghost use Rattle.clfs_laws.specs.Refused.{is_of_call};
-ghost use Rattle.clfs_manager.specs.Calls.{Steps};
-ghost use Rattle.clfs_manager.specs.Crashes.{CrashSurvives, StoredMeanwhile};
-ghost use Rattle.clfs_manager.specs.Flushing.{IsBroken, StoredAfter};
-ghost use Rattle.clfs_manager.specs.Memory.{HasForgotten, Holds, IsSound};
+ghost use Rattle.clfs_manager.specs.Calls.{WritesAs};
+ghost use Rattle.clfs_manager.specs.Memory.{HasForgotten, IsSound};
 ghost use Rattle.clfs_manager.specs.Settings.{KeepsQueue, KeepsTables, archive_change, with_archive};
-ghost use Rattle.clfs_manager.specs.Written.{WritesDisk};
+ghost use Rattle.clfs_manager.specs.Storing.{StoresState};
 
 use crate::log::Log;
 use crate::manager::Manager;
-use crate::survivors::crashes_leave_survivors;
+use crate::survivors::calls_follow_laws;
 use clfs_archive::Archive;
 use clfs_disk::{Disk, Failed};
-use clfs_laws::{
-    numbers_fit_their_types, steps_keep_a_state_storable, steps_keep_a_state_valid,
-    the_holds_container_never_falls,
-};
+use clfs_laws::{numbers_fit_their_types, the_holds_container_never_falls};
 use clfs_lsn::Lsn;
-use clfs_model::{Refusal, State, records_are_as_their_heads, ways_of_a_step};
+use clfs_model::{Refusal, State, records_are_as_their_heads};
 use clfs_physical::Change;
 use clfs_recover::{low_containers_are_left_out, settings_leave_the_records};
 use clfs_told::Told;
@@ -85,17 +71,8 @@ impl Log {
         requires sound { IsSound self.old }
         requires valid { IsValid (with_archive tail self.old.state.value) }
         requires up { container_of (hold self.old.state.value) ≤ container_of (hold (with_archive tail self.old.state.value)) }
-        ensures state { OnOk result (self.new.state.value ≡ with_archive tail self.old.state.value) }
-        ensures holds { OnOk result (Holds self.new.state.value self.new) }
+        ensures change { StoresState result (with_archive tail self.old.state.value) (D.state disk.old) (D.state disk.new) self.old self.new }
         ensures same { OnOk result (KeepsTables self.old self.new) }
-        ensures stored { OnOk result (StoredAfter (D.state disk.old) (D.state disk.new) self.old.state.value self.new.state.value self.old.physical self.new.physical) }
-        ensures meanwhile { StoredMeanwhile (D.state disk.old) (D.state disk.new) self.old.state.value (with_archive tail self.old.state.value) self.old.physical }
-        ensures broken { OnErr result (IsBroken self.old self.new) }
-        ensures settled { OnOk result (IsSettled (D.state disk.old) → IsSettled (D.state disk.new)) }
-        ensures time { Later (D.state disk.old) (D.state disk.new) }
-        ensures cause { OnErr result (Rises (D.state disk.old).faults (D.state disk.new).faults) }
-        ensures steady { IsSteady (D.state disk.old) → AreMade self.old.physical.image (D.state disk.old).files
-            → IsOk result × ((D.state disk.new).faults ≡ (D.state disk.old).faults) }
     {
         settings_leave_the_records();
         low_containers_are_left_out();
@@ -120,18 +97,9 @@ impl Log {
         requires sound { IsSound self.old }
         requires valid { IsValid (with_archive tail self.old.state.value) }
         requires up { container_of (hold self.old.state.value) ≤ container_of (hold (with_archive tail self.old.state.value)) }
-        ensures state { OnOk result (self.new.state.value ≡ with_archive tail self.old.state.value) }
-        ensures holds { OnOk result (Holds self.new.state.value self.new) }
+        ensures change { StoresState result (with_archive tail self.old.state.value) (D.state disk.old) (D.state disk.new) self.old self.new }
         ensures forgotten { OnOk result (HasForgotten self.new.state.value self.new) }
         ensures same { OnOk result (KeepsQueue self.old self.new) }
-        ensures stored { OnOk result (StoredAfter (D.state disk.old) (D.state disk.new) self.old.state.value self.new.state.value self.old.physical self.new.physical) }
-        ensures meanwhile { StoredMeanwhile (D.state disk.old) (D.state disk.new) self.old.state.value (with_archive tail self.old.state.value) self.old.physical }
-        ensures broken { OnErr result (IsBroken self.old self.new) }
-        ensures settled { OnOk result (IsSettled (D.state disk.old) → IsSettled (D.state disk.new)) }
-        ensures time { Later (D.state disk.old) (D.state disk.new) }
-        ensures cause { OnErr result (Rises (D.state disk.old).faults (D.state disk.new).faults) }
-        ensures steady { IsSteady (D.state disk.old) → AreMade self.old.physical.image (D.state disk.old).files
-            → IsOk result × ((D.state disk.new).faults ≡ (D.state disk.old).faults) }
     {
         self.store_archive(disk, tail)?;
         self.forget_low();
@@ -143,18 +111,11 @@ impl<D: Disk> Manager<D> {
     /// Turns archiving on or off, on the disk too. It begins at the least LSN that the log still needs. Where it is so already nothing changes, and
     /// the disk isn't called.
     pub fn set_archive(&mut self, on: bool) -> Result<(), Refusal>
-        ensures step { (told : Bool) (client : ℕ) → Steps told self.old.0 client (calls.SetArchive on) (λ _. replies.Done) result self.new.0 }
+        ensures call { (client : ℕ) → WritesAs D.state client (calls.SetArchive on) (λ _. replies.Done) result self.old self.new }
         ensures quiet { calls_disk self.old.0 (calls.SetArchive on) ≡ false → self.new.1 ≡ self.old.1 }
-        ensures stopped { self.old.0.broken ≡ true → self.new.1 ≡ self.old.1 }
-        ensures writes { WritesDisk (IsErrOf result Refusal.DiskFault) (D.state self.old.1) (D.state self.new.1) }
-        ensures moments { (client : ℕ) → CrashSurvives (asks client (calls.SetArchive on)) self.old.0 (D.state self.old.1) (D.state self.new.1) }
-        ensures refused { IfErr result (λ refusal. is_of_call refusal ≡ true → self.new.1 ≡ self.old.1) }
     {
-        steps_keep_a_state_valid();
-        steps_keep_a_state_storable();
+        calls_follow_laws();
         the_holds_container_never_falls();
-        ways_of_a_step();
-        crashes_leave_survivors();
         if self.log.broken {
             return Err(Refusal::Broken);
         }
@@ -171,17 +132,10 @@ impl<D: Disk> Manager<D> {
     /// Moves the archive tail, on the disk too: what lies below it was archived. Refused where archiving is off, and where the tail isn't from the
     /// old one up to the LSN below which all is on the disk; the three LSNs are told.
     pub fn set_archive_tail(&mut self, lsn: Lsn) -> Result<Lsn, Refusal>
-        ensures step { (told : Bool) (client : ℕ) → Steps told self.old.0 client (calls.SetArchiveTail lsn) replies.Tail result self.new.0 }
-        ensures stopped { self.old.0.broken ≡ true → self.new.1 ≡ self.old.1 }
-        ensures writes { WritesDisk (IsErrOf result Refusal.DiskFault) (D.state self.old.1) (D.state self.new.1) }
-        ensures moments { (client : ℕ) → CrashSurvives (asks client (calls.SetArchiveTail lsn)) self.old.0 (D.state self.old.1) (D.state self.new.1) }
-        ensures refused { IfErr result (λ refusal. is_of_call refusal ≡ true → self.new.1 ≡ self.old.1) }
+        ensures call { (client : ℕ) → WritesAs D.state client (calls.SetArchiveTail lsn) replies.Tail result self.old self.new }
     {
-        steps_keep_a_state_valid();
-        steps_keep_a_state_storable();
+        calls_follow_laws();
         the_holds_container_never_falls();
-        ways_of_a_step();
-        crashes_leave_survivors();
         if self.log.broken {
             return Err(Refusal::Broken);
         }

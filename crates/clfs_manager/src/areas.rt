@@ -2,59 +2,24 @@
 // changes is the table of areas, which no disk has: no call of these reaches the disk, and a crash in one leaves what the disk had. Making an
 // area takes memory, before anything changes; no other call here does.
 ghost use Rattle.std.specs.Prelude.{◌≡◌, ◌<◌, ◌≤◌, Bool, length, Option, Some, None, IfOk, IfErr};
-ghost use Rattle.clfs_lsn.specs.Limits.{most_cursors};
+ghost use Rattle.clfs_manager.specs.Machine.{Area, area_of, create_refusal, in_area, IsClient, most_cursors, Refusal};
 ghost use Rattle.clfs_areas.specs.Table.{area_at};
 ghost use Rattle.clfs_model.specs.declared.call.Call.TheVariants as calls;
 ghost use Rattle.clfs_model.specs.declared.refusal.Refusal.TheVariants as refusals;
 ghost use Rattle.clfs_model.specs.declared.reply.Reply.TheVariants as replies;
-ghost use Rattle.clfs_model.specs.Answers.{answer};
-ghost use Rattle.clfs_model.specs.Conditions.{IsClient};
-ghost use Rattle.clfs_model.specs.declared.refusal.Refusal.{Refusal};
-ghost use Rattle.clfs_model.specs.declared.state.Area.{Area};
-ghost use Rattle.clfs_model.specs.Refusals.{create_refusal, in_area};
-ghost use Rattle.clfs_model.specs.State.{area_of};
 ghost use Rattle.clfs_manager.specs.Calls.{Steps};
-ghost use Rattle.clfs_manager.specs.Memory.{ChangesAreas, IsSound};
+ghost use Rattle.clfs_manager.specs.Memory.{IsSound};
 
 use crate::log::Log;
 use crate::manager::Manager;
+use crate::survivors::calls_follow_laws;
 use clfs_disk::Disk;
-use clfs_laws::{steps_keep_a_state_storable, steps_keep_a_state_valid};
 use clfs_lsn::{Sizes, longest};
-use clfs_model::{Refusal, State, ways_of_a_step};
+use clfs_model::{Refusal, ways_of_a_step};
 use clfs_room::{longer, own_sum};
-use clfs_told::Told;
 
 /// The most areas of a client.
 const MOST_AREAS: usize = 16;
-
-// The state with a client's new area.
-fn created(state: &Told<State>, client: u16, stream: u16, largest: u32, reads: u16) -> Told<State>
-    ensures { result.value ≡ (answer state.now.value client (calls.CreateArea stream largest reads)).state }
-{
-    state.next(&(client, stream, largest, reads))
-}
-
-// The state without a client's area.
-fn deleted(state: &Told<State>, client: u16, area: u16) -> Told<State>
-    ensures { result.value ≡ (answer state.now.value client (calls.DeleteArea area)).state }
-{
-    state.next(&(client, area))
-}
-
-// The state once a client's area holds so many sectors fewer.
-fn released(state: &Told<State>, client: u16, area: u16, sectors: u32) -> Told<State>
-    ensures { result.value ≡ (answer state.now.value client (calls.Release area sectors)).state }
-{
-    state.next(&(client, area, sectors))
-}
-
-// The state without a cursor of a client's area.
-fn ended(state: &Told<State>, client: u16, area: u16, cursor: u16) -> Told<State>
-    ensures { result.value ≡ (answer state.now.value client (calls.EndRead area cursor)).state }
-{
-    state.next(&(client, area, cursor))
-}
 
 impl Log {
     /// Where the client's area of a number stands in the table.
@@ -97,95 +62,6 @@ impl Log {
         }
         None
     }
-
-    /// A new area of a client on a stream, without sectors and cursors; its number.
-    pub(crate) fn create_area(
-        &mut self,
-        client: u16,
-        stream: u16,
-        largest: u32,
-        reads: u16,
-    ) -> Result<u16, Refusal>
-        requires sound { IsSound self.old }
-        ensures step { (told : Bool)
-            → Steps told self.old.state.value client (calls.CreateArea stream largest reads) replies.Area result self.new.state.value }
-        ensures areas { ChangesAreas self.old self.new }
-    {
-        ways_of_a_step();
-        if let Some(refusal) = self.create_refusal(client, stream, largest) {
-            return Err(refusal);
-        }
-        let number = self.areas.create(client, stream, largest, reads)?;
-        self.state = created(&self.state, client, stream, largest, reads);
-        Ok(number)
-    }
-
-    /// The client's area of a number goes, with what it holds and its cursors.
-    pub(crate) fn delete_area(&mut self, client: u16, area: u16) -> Result<(), Refusal>
-        requires sound { IsSound self.old }
-        ensures step { (told : Bool)
-            → Steps told self.old.state.value client (calls.DeleteArea area) (λ _. replies.Done) result self.new.state.value }
-        ensures areas { ChangesAreas self.old self.new }
-    {
-        ways_of_a_step();
-        self.area_place(client, area)?;
-        self.areas.delete(client, area);
-        self.state = deleted(&self.state, client, area);
-        Ok(())
-    }
-
-    /// The client's area of a number gives up so many sectors; those that it holds then.
-    pub(crate) fn release(&mut self, client: u16, area: u16, sectors: u32) -> Result<u32, Refusal>
-        requires sound { IsSound self.old }
-        ensures step { (told : Bool)
-            → Steps told self.old.state.value client (calls.Release area sectors) replies.Held result self.new.state.value }
-        ensures areas { ChangesAreas self.old self.new }
-    {
-        ways_of_a_step();
-        let place = self.area_place(client, area)?;
-        let held = self.areas.area(place).held;
-        if held < sectors {
-            return Err(Refusal::ReservationShort {
-                held,
-                need: sectors,
-            });
-        }
-        self.areas.spend(place, sectors);
-        self.state = released(&self.state, client, area, sectors);
-        Ok(held - sectors)
-    }
-
-    /// The sectors that records of these lengths would take in the client's area of a number, each in a block of its own.
-    pub(crate) fn align(&self, client: u16, area: u16, sizes: &Sizes) -> Result<u32, Refusal>
-        requires sound { IsSound self.now }
-        ensures step { (told : Bool)
-            → Steps told self.now.state.value client (calls.Align area sizes.now) replies.Sectors result self.now.state.value }
-    {
-        ways_of_a_step();
-        let place = self.area_place(client, area)?;
-        let max = self.areas.area(place).largest;
-        if let Some(len) = longer(max, sizes.as_slice()) {
-            return Err(Refusal::RecordTooLong { len, max });
-        }
-        Ok(own_sum(sizes.as_slice()))
-    }
-
-    /// The cursor of a number of a client's area ends.
-    pub(crate) fn end_read(&mut self, client: u16, area: u16, cursor: u16) -> Result<(), Refusal>
-        requires sound { IsSound self.old }
-        ensures step { (told : Bool)
-            → Steps told self.old.state.value client (calls.EndRead area cursor) (λ _. replies.Done) result self.new.state.value }
-        ensures areas { ChangesAreas self.old self.new }
-    {
-        ways_of_a_step();
-        let place = self.area_place(client, area)?;
-        if self.areas.cursor(place, cursor).is_none() {
-            return Err(Refusal::NoSuchCursor);
-        }
-        self.areas.end_cursor(place, cursor);
-        self.state = ended(&self.state, client, area, cursor);
-        Ok(())
-    }
 }
 
 impl<D: Disk> Manager<D> {
@@ -206,13 +82,16 @@ impl<D: Disk> Manager<D> {
         ensures step { (told : Bool) → Steps told self.old.0 client (calls.CreateArea stream largest reads) replies.Area result self.new.0 }
         ensures disk { self.new.1 ≡ self.old.1 }
     {
-        steps_keep_a_state_valid();
-        steps_keep_a_state_storable();
-        ways_of_a_step();
+        calls_follow_laws();
         if self.log.broken {
             return Err(Refusal::Broken);
         }
-        self.log.create_area(client, stream, largest, reads)
+        if let Some(refusal) = self.log.create_refusal(client, stream, largest) {
+            return Err(refusal);
+        }
+        let number = self.log.areas.create(client, stream, largest, reads)?;
+        self.log.state = self.log.state.next(&(client, stream, largest, reads));
+        Ok(number)
     }
 
     /// Ends the client's area of a number, with the sectors that it holds and its cursors.
@@ -223,13 +102,14 @@ impl<D: Disk> Manager<D> {
         ensures step { (told : Bool) → Steps told self.old.0 client (calls.DeleteArea area) (λ _. replies.Done) result self.new.0 }
         ensures disk { self.new.1 ≡ self.old.1 }
     {
-        steps_keep_a_state_valid();
-        steps_keep_a_state_storable();
-        ways_of_a_step();
+        calls_follow_laws();
         if self.log.broken {
             return Err(Refusal::Broken);
         }
-        self.log.delete_area(client, area)
+        self.log.area_place(client, area)?;
+        self.log.areas.delete(client, area);
+        self.log.state = self.log.state.next(&(client, area));
+        Ok(())
     }
 
     /// Lets the client's area of a number give up so many of the sectors that it holds, and gives the number of those that it holds then.
@@ -240,13 +120,21 @@ impl<D: Disk> Manager<D> {
         ensures step { (told : Bool) → Steps told self.old.0 client (calls.Release area sectors) replies.Held result self.new.0 }
         ensures disk { self.new.1 ≡ self.old.1 }
     {
-        steps_keep_a_state_valid();
-        steps_keep_a_state_storable();
-        ways_of_a_step();
+        calls_follow_laws();
         if self.log.broken {
             return Err(Refusal::Broken);
         }
-        self.log.release(client, area, sectors)
+        let place = self.log.area_place(client, area)?;
+        let held = self.log.areas.area(place).held;
+        if held < sectors {
+            return Err(Refusal::ReservationShort {
+                held,
+                need: sectors,
+            });
+        }
+        self.log.areas.spend(place, sectors);
+        self.log.state = self.log.state.next(&(client, area, sectors));
+        Ok(held - sectors)
     }
 
     /// The sectors that records of these lengths, in bytes of data, would take in the client's area of a number, each in a block of its own.
@@ -260,7 +148,12 @@ impl<D: Disk> Manager<D> {
         if self.log.broken {
             return Err(Refusal::Broken);
         }
-        self.log.align(client, area, sizes)
+        let place = self.log.area_place(client, area)?;
+        let max = self.log.areas.area(place).largest;
+        if let Some(len) = longer(max, sizes.as_slice()) {
+            return Err(Refusal::RecordTooLong { len, max });
+        }
+        Ok(own_sum(sizes.as_slice()))
     }
 
     /// Ends the cursor of a number of a client's area, whatever it goes over.
@@ -271,12 +164,16 @@ impl<D: Disk> Manager<D> {
         ensures step { (told : Bool) → Steps told self.old.0 client (calls.EndRead area cursor) (λ _. replies.Done) result self.new.0 }
         ensures disk { self.new.1 ≡ self.old.1 }
     {
-        steps_keep_a_state_valid();
-        steps_keep_a_state_storable();
-        ways_of_a_step();
+        calls_follow_laws();
         if self.log.broken {
             return Err(Refusal::Broken);
         }
-        self.log.end_read(client, area, cursor)
+        let place = self.log.area_place(client, area)?;
+        if self.log.areas.cursor(place, cursor).is_none() {
+            return Err(Refusal::NoSuchCursor);
+        }
+        self.log.areas.end_cursor(place, cursor);
+        self.log.state = self.log.state.next(&(client, area, cursor));
+        Ok(())
     }
 }

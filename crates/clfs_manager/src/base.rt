@@ -1,39 +1,25 @@
 // Moving the base of a stream: the records below it are needed no more. The log is flushed first, so that the base lies at or below what is on the
 // disk, and then the base copy that follows is written, which lists the containers from the hold's on as it is after the new base. So a crash leaves
 // the old base or the new one. Where the hold came to a further container nothing below that is asked for any more, and memory forgets it.
-ghost use Rattle.std.specs.Prelude.{◌≡◌, ◌≤◌, ◌∷◌, [], Bool, true, None, Some, IsErrOf, IsSome, IfOk, IfErr, OnErr};
-ghost use Rattle.clfs_lsn.specs.Lsn.{container_of};
+ghost use Rattle.std.specs.Prelude.{◌≡◌, ◌≤◌, ◌∷◌, [], true, None, Some, IsSome, IfOk, IfErr, OnErr};
+ghost use Rattle.clfs_manager.specs.Machine.{answer, base_of, container_of, flush, hold, is_base, IsClient, IsStorable, IsValid, outcome, refusal, stream_at};
 ghost use Rattle.clfs_model.specs.declared.call.Call.TheVariants as calls;
 ghost use Rattle.clfs_model.specs.declared.reply.Reply.TheVariants as replies;
-ghost use Rattle.clfs_model.specs.Answers.{answer, outcome};
-ghost use Rattle.clfs_model.specs.Conditions.{IsClient};
-ghost use Rattle.clfs_model.specs.Flush.{flush};
-ghost use Rattle.clfs_model.specs.Live.{hold};
-ghost use Rattle.clfs_model.specs.Refusals.{is_base, refusal};
-ghost use Rattle.clfs_model.specs.Run.{asks};
-ghost use Rattle.clfs_model.specs.State.{base_of, stream_at};
-ghost use Rattle.clfs_model.specs.Storable.{IsStorable};
-ghost use Rattle.clfs_model.specs.Valid.{IsValid};
-ghost use Rattle.clfs_laws.specs.Refused.{is_of_call};
 ghost use Rattle.clfs_manager.specs.Base.{KeepsAllButTables, with_base};
-ghost use Rattle.clfs_manager.specs.Calls.{Steps};
+ghost use Rattle.clfs_manager.specs.Calls.{WritesAs};
 ghost use Rattle.clfs_manager.specs.Changing.{ChangesLog};
-ghost use Rattle.clfs_manager.specs.Crashes.{CrashSurvives};
 ghost use Rattle.clfs_manager.specs.Flushing.{IsBroken};
 ghost use Rattle.clfs_manager.specs.Memory.{HasForgotten, IsSound};
 ghost use Rattle.clfs_manager.specs.Putting.{KeepsRoom};
-ghost use Rattle.clfs_manager.specs.Written.{IsIntact, IsYetToForget, WritesDisk};
+ghost use Rattle.clfs_manager.specs.Written.{IsIntact, IsYetToForget};
 
 use crate::log::{Log, broken};
 use crate::manager::Manager;
-use crate::survivors::crashes_leave_survivors;
+use crate::survivors::calls_follow_laws;
 use clfs_disk::{Disk, Failed};
-use clfs_laws::{
-    numbers_fit_their_types, refusals_are_the_calls_own, states_between_survive,
-    steps_keep_a_state_storable, steps_keep_a_state_valid, the_holds_container_never_falls,
-};
+use clfs_laws::{numbers_fit_their_types, states_between_survive, the_holds_container_never_falls};
 use clfs_lsn::Lsn;
-use clfs_model::{Refusal, State, records_are_as_their_heads, ways_of_a_step};
+use clfs_model::{Refusal, State, records_are_as_their_heads};
 use clfs_physical::Change;
 use clfs_recover::{
     bases_of_rows_move, logs_are_copies_and_blocks, low_containers_are_left_out,
@@ -148,18 +134,10 @@ impl<D: Disk> Manager<D> {
     /// the last; the base and the last live record are told then.
     pub fn advance(&mut self, client: u16, area: u16, lsn: Lsn) -> Result<Lsn, Refusal>
         requires client { IsClient client }
-        ensures step { (told : Bool) → Steps told self.old.0 client (calls.Advance area lsn) replies.Base result self.new.0 }
-        ensures stopped { self.old.0.broken ≡ true → self.new.1 ≡ self.old.1 }
-        ensures writes { WritesDisk (IsErrOf result Refusal.DiskFault) (D.state self.old.1) (D.state self.new.1) }
-        ensures moments { CrashSurvives (asks client (calls.Advance area lsn)) self.old.0 (D.state self.old.1) (D.state self.new.1) }
-        ensures refused { IfErr result (λ refusal. is_of_call refusal ≡ true → self.new.1 ≡ self.old.1) }
+        ensures call { WritesAs D.state client (calls.Advance area lsn) replies.Base result self.old self.new }
     {
-        steps_keep_a_state_valid();
-        steps_keep_a_state_storable();
+        calls_follow_laws();
         the_holds_container_never_falls();
-        refusals_are_the_calls_own();
-        ways_of_a_step();
-        crashes_leave_survivors();
         states_between_survive();
         if self.log.broken {
             return Err(Refusal::Broken);

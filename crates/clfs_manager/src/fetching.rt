@@ -3,22 +3,17 @@
 // it, and all containers from there on are listed. A block that was read is kept, and serves the records beside it.
 //
 // A fault of the disk and damage break the log: its state is broken from then on, and so is the log.
-ghost use Rattle.std.specs.Prelude.{◌≡◌, ◌+◌, ◌<◌, ◌≤◌, nat_lt, true, length, Ok, IfOk, IfErr, IsSome, OnOk, OnErr, IsErrOf};
-ghost use Rattle.clfs_lsn.specs.Head.{head_of};
-ghost use Rattle.clfs_lsn.specs.Lsn.{container_of};
-ghost use Rattle.clfs_lsn.specs.Size.{most_data};
-ghost use Rattle.clfs_lsn.specs.declared.entry.LogEntry.{LogEntry};
-ghost use Rattle.clfs_disk.specs.Files.{Unchanged};
-ghost use Rattle.clfs_disk.specs.State.{TellsContents, IsSteady, Passes, Rises, raised};
+ghost use Rattle.std.specs.Prelude.{◌≡◌, ◌+◌, ◌<◌, ◌≤◌, nat_lt, true, length, Ok, IfOk, IsSome, OnOk, OnErr};
+ghost use Rattle.clfs_manager.specs.Machine.{container_of, flushed, head_of, LogEntry, most_data};
+ghost use Rattle.clfs_disk.specs.State.{TellsContents};
 ghost use Rattle.clfs_base.specs.Spelling.{IsImage};
-ghost use Rattle.clfs_model.specs.Flush.{flushed};
 ghost use Rattle.clfs_buffers.specs.Buffered.{kept_at};
-ghost use Rattle.clfs_buffers.specs.Reading.{Gives, TellsByte, block_place};
+ghost use Rattle.clfs_buffers.specs.Reading.{Gives, block_place};
 ghost use Rattle.clfs_recover.specs.Reading.{file_of};
-ghost use Rattle.clfs_laws.specs.Refused.{is_of_call};
 ghost use Rattle.clfs_manager.specs.Memory.{IsSound};
-ghost use Rattle.clfs_manager.specs.OnDisk.{IsOpen, AreKept};
-ghost use Rattle.clfs_manager.specs.Fetching.{IsNeeded, IsNeededHead, IsReadAs, LeavesState, IsLeft, OnlyReads, TellsOf, refused_as};
+ghost use Rattle.clfs_manager.specs.OnDisk.{IsOpen};
+ghost use Rattle.clfs_manager.specs.Fetching.{IsNeeded, IsNeededHead, LeavesState, refused_as};
+ghost use Rattle.clfs_manager.specs.Reading.{GetsRecord, ReadsBlock};
 
 use crate::log::{Log, shape_of};
 use clfs_archive::Archive;
@@ -119,19 +114,8 @@ fn entry_on_disk<D: Disk>(log: &mut Log, disk: &mut D, lsn: Lsn) -> Result<LogEn
     requires there { (entry : LogEntry) × IsNeeded log.old.state.value entry × (entry.lsn ≡ lsn) }
     requires stable { lsn < flushed log.old.state.value }
     ensures exact { TellsContents (D.state disk.old) → (entry : LogEntry) → IsNeeded log.old.state.value entry → entry.lsn ≡ lsn → Gives result (Ok entry) }
-    ensures told { IfErr result (λ refusal. TellsByte log.old.state.value.shape (length log.old.state.value.streams) lsn refusal) }
-    ensures lsn { IfOk result (λ read. read.lsn ≡ lsn) }
-    ensures small { IfOk result (λ read. length read.bytes ≤ most_data) }
-    ensures log { log.new ≡ record log.old { buffers = log.new.buffers } }
-    ensures kept { TellsContents (D.state disk.old) → AreKept log.old.state.value log.new.buffers }
+    ensures reads { ReadsBlock D.state lsn result log.old log.new disk.old disk.new }
     ensures refused { OnErr result (log.new ≡ log.old) }
-    ensures same { Unchanged (D.state disk.old).files (D.state disk.new).files }
-    ensures time { Passes Unchanged (D.state disk.old) (D.state disk.new) }
-    ensures cause { IsErrOf result ReadRefusal.DiskFault → Rises (D.state disk.old).faults (D.state disk.new).faults }
-    ensures steady { IsSteady (D.state disk.old) → (IsErrOf result ReadRefusal.DiskFault → ⊥)
-        × ((D.state disk.new).faults ≡ (D.state disk.old).faults) }
-    ensures quiet { IsSome (kept_at (block_place lsn) log.old.buffers) → disk.new ≡ disk.old }
-    ensures calls_at_most { raised 0 (D.state disk.new).calls ≤ raised 2 (D.state disk.old).calls }
 {
     stored_records_are_read();
     changes_keep_blocks();
@@ -151,18 +135,7 @@ fn stored_entry<D: Disk>(log: &mut Log, disk: &mut D, head: Head) -> Result<LogE
     requires there { IsNeededHead log.old.state.value head }
     requires stable { head.lsn < flushed log.old.state.value }
     ensures exact { TellsContents (D.state disk.old) → (entry : LogEntry) → IsNeeded log.old.state.value entry → head_of entry ≡ head → Gives result (Ok entry) }
-    ensures told { IfErr result (λ refusal. TellsByte log.old.state.value.shape (length log.old.state.value.streams) head.lsn refusal) }
-    ensures lsn { IfOk result (λ read. read.lsn ≡ head.lsn) }
-    ensures small { IfOk result (λ read. length read.bytes ≤ most_data) }
-    ensures log { log.new ≡ record log.old { buffers = log.new.buffers } }
-    ensures kept { TellsContents (D.state disk.old) → AreKept log.old.state.value log.new.buffers }
-    ensures same { Unchanged (D.state disk.old).files (D.state disk.new).files }
-    ensures time { Passes Unchanged (D.state disk.old) (D.state disk.new) }
-    ensures cause { IsErrOf result ReadRefusal.DiskFault → Rises (D.state disk.old).faults (D.state disk.new).faults }
-    ensures steady { IsSteady (D.state disk.old) → (IsErrOf result ReadRefusal.DiskFault → ⊥)
-        × ((D.state disk.new).faults ≡ (D.state disk.old).faults) }
-    ensures quiet { IsSome (kept_at (block_place head.lsn) log.old.buffers) → disk.new ≡ disk.old }
-    ensures calls_at_most { raised 0 (D.state disk.new).calls ≤ raised 2 (D.state disk.old).calls }
+    ensures reads { ReadsBlock D.state head.lsn result log.old log.new disk.old disk.new }
 {
     changes_keep_blocks();
     match log.buffers.kept_data(head.lsn)? {
@@ -176,20 +149,11 @@ pub(crate) fn fetch<D: Disk>(log: &mut Log, disk: &mut D, head: Head) -> Result<
     requires sound { IsSound log.old }
     requires open { IsOpen (D.state disk.old) log.old.state.value log.old }
     requires there { IsNeededHead log.old.state.value head }
-    ensures read { IfOk result (λ read. (entry : LogEntry) → IsNeeded log.old.state.value entry → head_of entry ≡ head
-        → IsReadAs (D.state disk.old).nature.tells_contents (flushed log.old.state.value) entry read) }
-    ensures small { IfOk result (λ read. length read.bytes ≤ most_data) }
+    ensures gets { GetsRecord D.state (λ (read : LogEntry). read) log.old.state.value head result log.new disk.old disk.new }
     ensures log { OnOk result (log.new ≡ record log.old { buffers = log.new.buffers }) }
-    ensures state { IfErr result (λ refusal. LeavesState refusal log.old.state.value log.new.state.value) }
-    ensures place { IfErr result (λ refusal. TellsOf log.old.state.value head.lsn refusal) }
-    ensures left { IsLeft (D.state disk.new) log.new }
-    ensures reads { OnlyReads result (D.state disk.old) (D.state disk.new) }
-    ensures refused { IfErr result (λ refusal. is_of_call refusal ≡ true → disk.new ≡ disk.old) }
-    ensures waits { IfOk result (λ read. flushed log.old.state.value ≤ read.lsn → disk.new ≡ disk.old) }
 
-    // Nor is the disk called where the record's block is kept.
+    // The disk isn't called where the record's block is kept.
     ensures quiet { IsSome (kept_at (block_place head.lsn) log.old.buffers) → disk.new ≡ disk.old }
-    ensures calls_at_most { raised 0 (D.state disk.new).calls ≤ raised 2 (D.state disk.old).calls }
 {
     if !is_stable(log, head.lsn) {
         return Ok(waiting_entry(log, head)?);

@@ -1,38 +1,25 @@
 // Writing what waits. The open block ends, so that all records stand in blocks that wait, and these are written as one group after the blocks that
 // are on the disk: a crash leaves all of the group or none of it. No memory is taken: the group's bytes stand in the queue's buffer, and there is
 // room for the end of the open block since its first record was appended.
-ghost use Rattle.std.specs.Prelude.{◌≡◌, [], Bool, IsOk, IsErrOf, ◌+◌, ◌*◌, ◌<◌, ◌≤◌, false, true, if◌then◌else◌, nat_lt, Some, None, OnOk, OnErr, IfOk, IfErr};
-ghost use Rattle.clfs_disk.specs.State.{IsSettled, IsSteady, Later, Rises};
-ghost use Rattle.clfs_lsn.specs.Format.{sector_bytes};
-ghost use Rattle.clfs_lsn.specs.Place.{IsClosed, IsSmall, block_end, frontier};
-ghost use Rattle.clfs_model.specs.Flush.{flush, flushed};
-ghost use Rattle.clfs_model.specs.Refusals.{refusal};
-ghost use Rattle.clfs_model.specs.Run.{asks};
-ghost use Rattle.clfs_model.specs.Step.{calls_disk, is_pending};
+ghost use Rattle.std.specs.Prelude.{◌≡◌, [], IsOk, ◌+◌, ◌*◌, ◌<◌, ◌≤◌, false, true, if◌then◌else◌, nat_lt, Some, None, OnOk, OnErr, IfOk, IfErr};
+ghost use Rattle.clfs_manager.specs.Machine.{block_end, calls_disk, flush, flushed, frontier, is_of_call, is_pending, IsClient, IsClosed, IsSmall, refusal, sector_bytes};
 ghost use Rattle.clfs_physical.specs.Joined.{SameLengths};
-ghost use Rattle.clfs_physical.specs.Stored.{AreMade};
 ghost use Rattle.clfs_model.specs.declared.call.Call.TheVariants as calls;
 ghost use Rattle.clfs_model.specs.declared.reply.Reply.TheVariants as replies;
-ghost use Rattle.clfs_model.specs.Conditions.{IsClient};
-ghost use Rattle.clfs_laws.specs.Refused.{is_of_call};
-ghost use Rattle.clfs_manager.specs.Calls.{Steps};
-ghost use Rattle.clfs_manager.specs.Flushing.{EndsBlock, IsBroken, KeepsOthers, StoredAfter};
-ghost use Rattle.clfs_manager.specs.Crashes.{CrashSurvives, StoredMeanwhile};
+ghost use Rattle.clfs_manager.specs.Calls.{WritesAs};
+ghost use Rattle.clfs_manager.specs.Flushing.{EndsBlock, IsBroken, KeepsOthers};
 ghost use Rattle.clfs_manager.specs.Laid.{IsLaidLog, IsEndedLog, SendsGroup, WrittenAfter};
 ghost use Rattle.clfs_manager.specs.Memory.{Holds, IsSound};
-ghost use Rattle.clfs_manager.specs.Written.{WritesDisk};
+ghost use Rattle.clfs_manager.specs.Storing.{CallsDisk, StoresState};
 
 use crate::log::Log;
 use crate::manager::Manager;
-use crate::survivors::crashes_leave_survivors;
+use crate::survivors::calls_follow_laws;
 use clfs_archive::{BlockEnd, ends_of_blocks_go_on};
 use clfs_disk::{Disk, Failed};
-use clfs_laws::{
-    laid_blocks_end_at_the_place, seals_and_flushes_keep_a_log, steps_keep_a_state_storable,
-    steps_keep_a_state_valid,
-};
+use clfs_laws::{laid_blocks_end_at_the_place, seals_and_flushes_keep_a_log};
 use clfs_lsn::{Lsn, Place, frontier, sealed};
-use clfs_model::{Refusal, State, ways_of_a_step};
+use clfs_model::{Refusal, State};
 use clfs_recover::{
     blocks_are_read_in_order, groups_come_behind_the_last_block, logs_are_copies_and_blocks,
 };
@@ -78,19 +65,10 @@ impl Log {
     // Writes all that isn't on the disk, where there is such. After a fault the log is broken.
     pub fn write_out<D: Disk>(&mut self, disk: &mut D) -> Result<(), Failed>
         requires sound { IsSound self.old }
-        ensures state { OnOk result (self.new.state.value ≡ flush self.old.state.value) }
-        ensures holds { OnOk result (Holds self.new.state.value self.new) }
+        ensures change { StoresState result (flush self.old.state.value) (D.state disk.old) (D.state disk.new) self.old self.new }
         ensures same { OnOk result (KeepsOthers self.old self.new) }
-        ensures stored { OnOk result (StoredAfter (D.state disk.old) (D.state disk.new) self.old.state.value self.new.state.value self.old.physical self.new.physical) }
-        ensures meanwhile { StoredMeanwhile (D.state disk.old) (D.state disk.new) self.old.state.value (flush self.old.state.value) self.old.physical }
-        ensures broken { OnErr result (IsBroken self.old self.new) }
-        ensures settled { OnOk result (IsSettled (D.state disk.old) → IsSettled (D.state disk.new)) }
         ensures quiet { is_pending self.old.state.value ≡ false → IsOk result × (disk.new ≡ disk.old) }
         ensures lengths { SameLengths (D.state disk.old).files (D.state disk.new).files }
-        ensures time { Later (D.state disk.old) (D.state disk.new) }
-        ensures cause { OnErr result (Rises (D.state disk.old).faults (D.state disk.new).faults) }
-        ensures steady { IsSteady (D.state disk.old) → AreMade self.old.physical.image (D.state disk.old).files
-            → IsOk result × ((D.state disk.new).faults ≡ (D.state disk.old).faults) }
     {
         seals_and_flushes_keep_a_log();
         groups_come_behind_the_last_block();
@@ -102,13 +80,9 @@ impl Log {
     fn send_group<D: Disk>(&self, disk: &mut D) -> Result<(), Failed>
         requires ended { IsEndedLog self.now }
         ensures group { SendsGroup (IsOk result) (D.state disk.old) (D.state disk.new) self.now.state.value self.now.physical }
-        ensures settled { OnOk result (IsSettled (D.state disk.old) → IsSettled (D.state disk.new)) }
+        ensures calls { CallsDisk result self.now.physical.image (D.state disk.old) (D.state disk.new) }
         ensures quiet { self.now.queue.waiting ≡ [] → IsOk result × (disk.new ≡ disk.old) }
         ensures lengths { SameLengths (D.state disk.old).files (D.state disk.new).files }
-        ensures time { Later (D.state disk.old) (D.state disk.new) }
-        ensures cause { OnErr result (Rises (D.state disk.old).faults (D.state disk.new).faults) }
-        ensures steady { IsSteady (D.state disk.old) → AreMade self.now.physical.image (D.state disk.old).files
-            → IsOk result × ((D.state disk.new).faults ≡ (D.state disk.old).faults) }
     {
         blocks_are_read_in_order();
         groups_come_behind_the_last_block();
@@ -144,13 +118,9 @@ impl Log {
         ensures group { SendsGroup (IsOk result) (D.state disk.old) (D.state disk.new) self.old.state.value self.old.physical }
         ensures written { OnOk result (WrittenAfter (D.state disk.old) (D.state disk.new) self.old.state.value self.old.physical self.new.physical) }
         ensures broken { OnErr result (IsBroken self.old self.new) }
-        ensures settled { OnOk result (IsSettled (D.state disk.old) → IsSettled (D.state disk.new)) }
+        ensures calls { CallsDisk result self.old.physical.image (D.state disk.old) (D.state disk.new) }
         ensures quiet { is_pending self.old.state.value ≡ false → IsOk result × (disk.new ≡ disk.old) }
         ensures lengths { SameLengths (D.state disk.old).files (D.state disk.new).files }
-        ensures time { Later (D.state disk.old) (D.state disk.new) }
-        ensures cause { OnErr result (Rises (D.state disk.old).faults (D.state disk.new).faults) }
-        ensures steady { IsSteady (D.state disk.old) → AreMade self.old.physical.image (D.state disk.old).files
-            → IsOk result × ((D.state disk.new).faults ≡ (D.state disk.old).faults) }
     {
         self.end_block();
         if let Err(failed) = self.send_group(disk) {
@@ -168,20 +138,13 @@ impl<D: Disk> Manager<D> {
     /// be. Refused where the client has no area of the number.
     pub fn flush(&mut self, client: u16, area: u16) -> Result<Lsn, Refusal>
         requires client { IsClient client }
-        ensures step { (told : Bool) → Steps told self.old.0 client (calls.Flush area) replies.Flushed result self.new.0 }
+        ensures call { WritesAs D.state client (calls.Flush area) replies.Flushed result self.old self.new }
         ensures quiet { is_pending self.old.0 ≡ false → self.new.1 ≡ self.old.1 }
-        ensures writes { WritesDisk (IsErrOf result Refusal.DiskFault) (D.state self.old.1) (D.state self.new.1) }
-        ensures moments { CrashSurvives (asks client (calls.Flush area)) self.old.0 (D.state self.old.1) (D.state self.new.1) }
-        ensures stopped { self.old.0.broken ≡ true → self.new.1 ≡ self.old.1 }
-        ensures refused { IfErr result (λ refusal. is_of_call refusal ≡ true → self.new.1 ≡ self.old.1) }
     {
-        ways_of_a_step();
+        calls_follow_laws();
         if self.log.broken {
             return Err(Refusal::Broken);
         }
-        steps_keep_a_state_valid();
-        steps_keep_a_state_storable();
-        crashes_leave_survivors();
         self.log.area_place(client, area)?;
         if self.log.write_out(&mut self.disk).is_err() {
             return Err(Refusal::DiskFault);
@@ -193,20 +156,13 @@ impl<D: Disk> Manager<D> {
     /// where the client has no area of the number, or where no record can have the LSN yet.
     pub fn flush_to(&mut self, client: u16, area: u16, lsn: Lsn) -> Result<Lsn, Refusal>
         requires client { IsClient client }
-        ensures step { (told : Bool) → Steps told self.old.0 client (calls.FlushTo area lsn) replies.Flushed result self.new.0 }
+        ensures call { WritesAs D.state client (calls.FlushTo area lsn) replies.Flushed result self.old self.new }
         ensures quiet { calls_disk self.old.0 (calls.FlushTo area lsn) ≡ false → self.new.1 ≡ self.old.1 }
-        ensures writes { WritesDisk (IsErrOf result Refusal.DiskFault) (D.state self.old.1) (D.state self.new.1) }
-        ensures moments { CrashSurvives (asks client (calls.FlushTo area lsn)) self.old.0 (D.state self.old.1) (D.state self.new.1) }
-        ensures stopped { self.old.0.broken ≡ true → self.new.1 ≡ self.old.1 }
-        ensures refused { IfErr result (λ refusal. is_of_call refusal ≡ true → self.new.1 ≡ self.old.1) }
     {
-        ways_of_a_step();
+        calls_follow_laws();
         if self.log.broken {
             return Err(Refusal::Broken);
         }
-        steps_keep_a_state_valid();
-        steps_keep_a_state_storable();
-        crashes_leave_survivors();
         let found = self.log.flushed_above(client, area, lsn)?;
         if let Some(stable) = found {
             return Ok(stable);

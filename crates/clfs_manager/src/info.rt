@@ -14,44 +14,6 @@ use clfs_model::{Extents, LogInfo, Refusal, records_are_as_their_heads, ways_of_
 use std::alloc::AllocError;
 
 impl Log {
-    // The answer to a call for what the log and a stream are like.
-    fn info(&self, stream: u16) -> Result<LogInfo, Refusal>
-        requires sound { IsSound self.now }
-        ensures step { (told : Bool) (client : ℕ) → Steps told self.now.state.value client (calls.Info stream) replies.Info result self.now.state.value }
-    {
-        ways_of_a_step();
-        let Some(base) = self.tables.base(stream) else {
-            return Err(Refusal::NoSuchStream);
-        };
-        let space = self.space();
-        let containers = space.containers();
-        Ok(LogInfo {
-            containers,
-            free_containers: containers - space.active(),
-            container_sectors: self.shape().container_sectors,
-            free_sectors: space.free(),
-            reserved: space.reserved(),
-            base,
-            last: self.tables.last_live(stream),
-            flushed: self.flushed(),
-            restart: self.tables.last_restart(stream),
-            archive: self.archive.tail(),
-        })
-    }
-
-    // The answer to a call for the extents to be archived.
-    fn extents(&self) -> Result<Extents, Refusal>
-        requires sound { IsSound self.now }
-        ensures step { (told : Bool) (client : ℕ) → Steps told self.now.state.value client calls.ListExtents replies.Extents result self.now.state.value }
-    {
-        ways_of_a_step();
-        if self.archive.tail().is_none() {
-            return Err(Refusal::Ephemeral);
-        }
-        let extents = self.all_extents()?;
-        Ok(extents)
-    }
-
     // The extents to be archived, none where archiving is off.
     fn all_extents(&self) -> Result<Extents, AllocError>
         requires sound { IsSound self.now }
@@ -74,7 +36,23 @@ impl<D: Disk> Manager<D> {
         if self.log.broken {
             return Err(Refusal::Broken);
         }
-        self.log.info(stream)
+        let Some(base) = self.log.tables.base(stream) else {
+            return Err(Refusal::NoSuchStream);
+        };
+        let space = self.log.space();
+        let containers = space.containers();
+        Ok(LogInfo {
+            containers,
+            free_containers: containers - space.active(),
+            container_sectors: self.log.shape().container_sectors,
+            free_sectors: space.free(),
+            reserved: space.reserved(),
+            base,
+            last: self.log.tables.last_live(stream),
+            flushed: self.log.flushed(),
+            restart: self.log.tables.last_restart(stream),
+            archive: self.log.archive.tail(),
+        })
     }
 
     /// The parts of containers that are to be archived, in the order of the containers: the blocks on the disk that have a record at or above the
@@ -86,6 +64,10 @@ impl<D: Disk> Manager<D> {
         if self.log.broken {
             return Err(Refusal::Broken);
         }
-        self.log.extents()
+        if self.log.archive.tail().is_none() {
+            return Err(Refusal::Ephemeral);
+        }
+        let extents = self.log.all_extents()?;
+        Ok(extents)
     }
 }

@@ -2,13 +2,8 @@
 // be written, and blocks that were read. The state for which all this stands is told, for clauses alone.
 ghost use Rattle.std.specs.Prelude.{◌≡◌, ◌≤◌, ◌<◌, ◌^◌, [], map, if◌then◌else◌, Some, None, IfOk, true};
 ghost use Rattle.clfs_base.specs.Spelling.{IsImage};
-ghost use Rattle.clfs_lsn.specs.Head.{head_of};
-ghost use Rattle.clfs_lsn.specs.Limits.{most_write_buffers};
-ghost use Rattle.clfs_lsn.specs.Place.{IsClosed, IsWithin};
-ghost use Rattle.clfs_lsn.specs.Size.{IsShape};
-ghost use Rattle.clfs_model.specs.Flush.{block_start};
-ghost use Rattle.clfs_model.specs.Step.{with_broken};
-ghost use Rattle.clfs_recover.specs.Files.{policy_of, state_of};
+ghost use Rattle.clfs_manager.specs.Machine.{block_start, head_of, IsClosed, IsShape, IsWithin, most_write_buffers, with_broken};
+ghost use Rattle.clfs_recover.specs.Files.{policy_of};
 ghost use Rattle.clfs_recover.specs.Walk.{shape_of};
 ghost use Rattle.clfs_recover.specs.KnownLogs.{IsLogOf};
 ghost use Rattle.clfs_recover.specs.Opening.{told_parts};
@@ -66,13 +61,6 @@ impl Log {
         self.broken = true;
         self.state = broken(&self.state);
     }
-}
-
-// The state of what was opened.
-fn state_of(opened: &HeadParts, write_buffers: u32) -> Told<State>
-    ensures { result.value ≡ state_of (told_parts opened.now) write_buffers }
-{
-    Told::pick(&(opened, write_buffers))
 }
 
 // The number of a policy, or none where it is 0.
@@ -212,7 +200,7 @@ pub(crate) fn open_log(
     ensures { IfOk result (λ log. IsOpened (told_parts opened) write_buffers read_buffers log) }
 {
     opened_parts_fit(&opened, write_buffers);
-    let state = state_of(&opened, write_buffers);
+    let state = Told::pick(&(&opened, write_buffers));
     let policies = policies_in(&opened.image);
     let records = open_records(alloc, &opened)?;
     let blocks = open_blocks(alloc, &opened, write_buffers, read_buffers)?;

@@ -1,30 +1,21 @@
 // The manager of a log over any disk: making a log, and opening and closing one. The state that a manager stands for is told, for clauses
 // alone: what it holds of the log are the heads of its records, and their data are on the disk.
 ghost use Rattle.std.specs.Prelude.{◌≡◌, ◌≢◌, ◌≤◌, ℕ, Some, None, IfOk, IfErr};
-ghost use Rattle.clfs_lsn.specs.Limits.{most_containers, most_write_buffers};
-ghost use Rattle.clfs_lsn.specs.Size.{IsShape};
+ghost use Rattle.clfs_manager.specs.Machine.{fresh, IsShape, most_containers, most_write_buffers};
 ghost use Rattle.clfs_disk.specs.Files.{Unchanged};
 ghost use Rattle.clfs_disk.specs.State.{TellsContents, IsSteady, IsHonest, IsSettled, Passes, Later, Rises, raised};
-ghost use Rattle.clfs_model.specs.State.{fresh};
-ghost use Rattle.clfs_model.specs.Flush.{cut};
-ghost use Rattle.clfs_model.specs.Storable.{IsStorable};
-ghost use Rattle.clfs_model.specs.Valid.{IsValid};
-ghost use Rattle.clfs_recover.specs.Files.{StandsFor, AreWholeFiles, state_of};
-ghost use Rattle.clfs_recover.specs.Opening.{IsRefused, told_parts};
-ghost use Rattle.clfs_recover.specs.Telling.{TellsOpening};
+ghost use Rattle.clfs_recover.specs.Files.{StandsFor, AreWholeFiles};
 ghost use Rattle.clfs_format.specs.Making.{open_slot_of, KeepsLog, making_calls};
 ghost use Rattle.clfs_manager.specs.Formatting.{ComesAtOnce};
+ghost use Rattle.clfs_manager.specs.Loading.{Opens};
 
-use crate::log::{Log, open_log};
+use crate::log::Log;
+use crate::reopening::read_log;
 use clfs_disk::Disk;
 use clfs_format::{FormatRefusal, make_log};
 use clfs_lsn::Shape;
-use clfs_recover::{
-    LoadRefusal, copies_without_fault_fit, load_heads, logs_are_copies_and_blocks,
-    logs_are_found_in_files, opened_copies_fit, opened_records_lie_in_order, opened_states_are_cut,
-    opened_states_are_valid,
-};
-use std::alloc::{AllocError, Global};
+use clfs_recover::LoadRefusal;
+use std::alloc::Global;
 use std::marker::Model;
 
 // How many blocks that are read are kept, unless another number is asked for.
@@ -128,32 +119,7 @@ impl<D: Disk> Manager<D> {
     pub fn load(alloc: Global, disk: D, write_buffers: u32) -> Result<Manager<D>, LoadRefused<D>>
         requires some { 1 ≤ write_buffers }
         requires few { write_buffers ≤ most_write_buffers }
-
-        // The state is the one for which the files stand, with so many write buffers, and one that a log can be in; over a disk that doesn't
-        // tell what its files hold it is some such state.
-        ensures loaded { IfOk result (λ manager. TellsContents (D.state disk) → StandsFor (D.state disk).files manager.0) }
-        ensures buffers { IfOk result (λ manager. manager.0.buffers ≡ write_buffers) }
-        ensures valid { IfOk result (λ manager. IsValid manager.0) }
-        ensures storable { IfOk result (λ manager. IsStorable manager.0) }
-        ensures stable { IfOk result (λ manager. cut manager.0 ≡ manager.0) }
-        ensures settled { IfOk result (λ manager. IsHonest (D.state disk) → IsSettled (D.state manager.1)) }
-
-        // A refusal is what opening finds in the files: that no slot is open, or the first place of damage.
-        ensures refused { IfErr result (λ refused. TellsContents (D.state disk) → IsRefused (D.state disk).files refused.cause) }
-
-        // Whatever the disk, damage is told of some bytes that fail at just that place: of a base copy, or of a block of a container that it lists.
-        ensures place { IfErr result (λ refused. TellsOpening refused.cause) }
-
-        // No file changes.
-        ensures same { IfOk result (λ manager. Unchanged (D.state disk).files (D.state manager.1).files
-            × Passes Unchanged (D.state disk) (D.state manager.1)) }
-        ensures same_refused { IfErr result (λ refused. Unchanged (D.state disk).files (D.state refused.disk).files
-            × Passes Unchanged (D.state disk) (D.state refused.disk)) }
-
-        // A fault is told only where the disk failed in the call, and never over a steady disk.
-        ensures cause { IfErr result (λ refused. refused.cause ≡ LoadRefusal.DiskFault
-            → Rises (D.state disk).faults (D.state refused.disk).faults) }
-        ensures steady { IsSteady (D.state disk) → IfErr result (λ refused. refused.cause ≢ LoadRefusal.DiskFault) }
+        ensures { Opens D.state write_buffers disk result }
     {
         Manager::load_with(alloc, disk, write_buffers, READ_BUFFERS)
     }
@@ -169,51 +135,12 @@ impl<D: Disk> Manager<D> {
         requires some { 1 ≤ write_buffers }
         requires few { write_buffers ≤ most_write_buffers }
         requires reads { 1 ≤ read_buffers }
-
-        // The state is the one for which the files stand, with so many write buffers, and one that a log can be in; over a disk that doesn't
-        // tell what its files hold it is some such state.
-        ensures loaded { IfOk result (λ manager. TellsContents (D.state disk) → StandsFor (D.state disk).files manager.0) }
-        ensures buffers { IfOk result (λ manager. manager.0.buffers ≡ write_buffers) }
-        ensures valid { IfOk result (λ manager. IsValid manager.0) }
-        ensures storable { IfOk result (λ manager. IsStorable manager.0) }
-        ensures stable { IfOk result (λ manager. cut manager.0 ≡ manager.0) }
-        ensures settled { IfOk result (λ manager. IsHonest (D.state disk) → IsSettled (D.state manager.1)) }
-
-        // A refusal is what opening finds in the files: that no slot is open, or the first place of damage.
-        ensures refused { IfErr result (λ refused. TellsContents (D.state disk) → IsRefused (D.state disk).files refused.cause) }
-
-        // Whatever the disk, damage is told of some bytes that fail at just that place: of a base copy, or of a block of a container that it lists.
-        ensures place { IfErr result (λ refused. TellsOpening refused.cause) }
-
-        // No file changes.
-        ensures same { IfOk result (λ manager. Unchanged (D.state disk).files (D.state manager.1).files
-            × Passes Unchanged (D.state disk) (D.state manager.1)) }
-        ensures same_refused { IfErr result (λ refused. Unchanged (D.state disk).files (D.state refused.disk).files
-            × Passes Unchanged (D.state disk) (D.state refused.disk)) }
-
-        // A fault is told only where the disk failed in the call, and never over a steady disk.
-        ensures cause { IfErr result (λ refused. refused.cause ≡ LoadRefusal.DiskFault
-            → Rises (D.state disk).faults (D.state refused.disk).faults) }
-        ensures steady { IsSteady (D.state disk) → IfErr result (λ refused. refused.cause ≢ LoadRefusal.DiskFault) }
+        ensures { Opens D.state write_buffers disk result }
     {
-        logs_are_found_in_files();
-        logs_are_copies_and_blocks();
-        copies_without_fault_fit();
-        opened_states_are_valid();
-        opened_states_are_cut();
-        opened_copies_fit();
-        opened_records_lie_in_order();
         let mut disk = disk;
-        let opened = match load_heads(alloc, &mut disk) {
-            Ok(opened) => opened,
-            Err(cause) => return Err(LoadRefused { disk, cause }),
-        };
-        match open_log(alloc, opened, write_buffers, read_buffers) {
+        match read_log(alloc, &mut disk, write_buffers, read_buffers) {
             Ok(log) => Ok(Manager { disk, log }),
-            Err(AllocError) => Err(LoadRefused {
-                disk,
-                cause: LoadRefusal::NoMemory,
-            }),
+            Err(cause) => Err(LoadRefused { disk, cause }),
         }
     }
 

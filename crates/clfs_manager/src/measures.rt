@@ -1,12 +1,7 @@
 // What the log is like, as numbers: what it still needs, how much of it is on the disk, and what it has of space, of which `clfs_room` computes. Each is
 // what the machine's definition says of the state, and each comes from the tables in memory; no call is made on the disk, and nothing is kept.
 ghost use Rattle.std.specs.Prelude.{◌≡◌, ◌≤◌};
-ghost use Rattle.clfs_lsn.specs.Limits.{most_containers};
-ghost use Rattle.clfs_lsn.specs.Lsn.{container_of};
-ghost use Rattle.clfs_lsn.specs.Place.{IsSmall};
-ghost use Rattle.clfs_lsn.specs.Size.{IsShape};
-ghost use Rattle.clfs_model.specs.Flush.{flushed};
-ghost use Rattle.clfs_model.specs.Live.{hold};
+ghost use Rattle.clfs_manager.specs.Machine.{container_of, flushed, hold, IsShape, IsSmall, most_containers};
 ghost use Rattle.clfs_manager.specs.Memory.{IsSound};
 
 use crate::log::Log;

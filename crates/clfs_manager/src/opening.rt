@@ -1,37 +1,23 @@
 // Opening a stream by its name: the one of that name, or a new one after the others. A new stream is in the base copy that follows the newest one, so
 // that a crash leaves it or not. Its memory is taken first, and it joins the tables once it is on the disk, which takes none.
-ghost use Rattle.std.specs.Prelude.{◌≡◌, ◌+◌, ◌<◌, ◌≤◌, ◌^◌, Bool, true, false, None, IsErrOf, IfOk, IfErr, OnOk, length};
-ghost use Rattle.clfs_lsn.specs.Lsn.{container_of, null_lsn};
+ghost use Rattle.std.specs.Prelude.{◌≡◌, ◌+◌, ◌<◌, ◌≤◌, ◌^◌, false, None, IsErrOf, IfOk, IfErr, OnOk, length};
+ghost use Rattle.clfs_manager.specs.Machine.{calls_disk, container_of, cut, hold, IsClient, IsStorable, IsValid, null_lsn, open_refusal, Request, State, stream_number, Survives};
 ghost use Rattle.clfs_model.specs.declared.call.Call.TheVariants as calls;
 ghost use Rattle.clfs_model.specs.declared.reply.Reply.TheVariants as replies;
-ghost use Rattle.clfs_model.specs.declared.state.State.{State};
-ghost use Rattle.clfs_model.specs.Conditions.{IsClient};
-ghost use Rattle.clfs_model.specs.Flush.{cut};
-ghost use Rattle.clfs_model.specs.Live.{hold};
-ghost use Rattle.clfs_model.specs.Refusals.{open_refusal, stream_number};
-ghost use Rattle.clfs_model.specs.Run.{Request, asks};
-ghost use Rattle.clfs_model.specs.Step.{calls_disk};
-ghost use Rattle.clfs_model.specs.Storable.{IsStorable};
-ghost use Rattle.clfs_model.specs.Survivors.{Survives};
-ghost use Rattle.clfs_model.specs.Valid.{IsValid};
-ghost use Rattle.clfs_laws.specs.Refused.{is_of_call};
 ghost use Rattle.clfs_tables.specs.Tables.{HasSame};
-ghost use Rattle.clfs_manager.specs.Calls.{Steps};
-ghost use Rattle.clfs_manager.specs.Crashes.{CrashLeavesSurvivor, CrashSurvives};
+ghost use Rattle.clfs_manager.specs.Calls.{WritesAs};
+ghost use Rattle.clfs_manager.specs.Crashes.{CrashLeavesSurvivor};
 ghost use Rattle.clfs_manager.specs.Streams.{IsNotAdded, with_stream};
 ghost use Rattle.clfs_manager.specs.Written.{IsIntact, WritesDisk};
 
 use crate::log::Log;
 use crate::manager::Manager;
-use crate::survivors::crashes_leave_survivors;
+use crate::survivors::calls_follow_laws;
 use clfs_base::Row;
 use clfs_disk::Disk;
-use clfs_laws::{
-    refusals_are_the_calls_own, steps_keep_a_state_storable, steps_keep_a_state_valid,
-    the_holds_container_never_falls,
-};
+use clfs_laws::the_holds_container_never_falls;
 use clfs_lsn::{Lsn, Name};
-use clfs_model::{Refusal, State, ways_of_a_step};
+use clfs_model::{Refusal, State};
 use clfs_physical::PhysicalRefusal;
 use clfs_recover::{
     logs_are_copies_and_blocks, low_containers_are_left_out, settings_leave_the_records,
@@ -127,22 +113,14 @@ impl<D: Disk> Manager<D> {
     pub fn open_stream(&mut self, client: u16, name: &Name) -> Result<u16, Refusal>
         requires client { IsClient client }
         requires name { length name.now < 2 ^ 32 }
-        ensures step { (told : Bool) → Steps told self.old.0 client (calls.OpenStream name.now) replies.Stream result self.new.0 }
+        ensures call { WritesAs D.state client (calls.OpenStream name.now) replies.Stream result self.old self.new }
         ensures quiet { calls_disk self.old.0 (calls.OpenStream name.now) ≡ false → self.new.1 ≡ self.old.1 }
-        ensures stopped { self.old.0.broken ≡ true → self.new.1 ≡ self.old.1 }
-        ensures writes { WritesDisk (IsErrOf result Refusal.DiskFault) (D.state self.old.1) (D.state self.new.1) }
-        ensures moments { CrashSurvives (asks client (calls.OpenStream name.now)) self.old.0 (D.state self.old.1) (D.state self.new.1) }
-        ensures refused { IfErr result (λ refusal. is_of_call refusal ≡ true → self.new.1 ≡ self.old.1) }
     {
-        ways_of_a_step();
+        calls_follow_laws();
         if self.log.broken {
             return Err(Refusal::Broken);
         }
-        steps_keep_a_state_valid();
-        steps_keep_a_state_storable();
         the_holds_container_never_falls();
-        refusals_are_the_calls_own();
-        crashes_leave_survivors();
         let bytes = name.as_slice();
         let dedicated = self.log.physical.image().dedicated;
         if let Some(refusal) = self.log.tables.open_refusal(bytes, dedicated) {

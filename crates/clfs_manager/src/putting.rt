@@ -1,31 +1,16 @@
 // The small changes of which an append and a restart area are made: the open block is sealed, the log goes on in the next container, a record joins
 // it. Each leaves a log that is as good as any: what is on the disk then is what a crash leaves. All memory that these want was taken before.
-ghost use Rattle.std.specs.Prelude.{◌≡◌, ◌∷◌, List, slice_index, ◌-◌, ◌+◌, ◌<◌, ◌≤◌, ◌^◌, [], ℕ, IsOk, IsErr, OnOk, OnErr, false, true, length, vec_capacity};
-ghost use Rattle.clfs_lsn.specs.Head.{head_of};
-ghost use Rattle.clfs_lsn.specs.Limits.{most_containers};
-ghost use Rattle.clfs_lsn.specs.Size.{longest};
+ghost use Rattle.std.specs.Prelude.{◌≡◌, ◌∷◌, List, slice_index, ◌-◌, ◌+◌, ◌<◌, ◌≤◌, ◌^◌, [], ℕ, IsOk, OnOk, OnErr, false, length};
+ghost use Rattle.clfs_manager.specs.Machine.{begins_here, flush, head_of, hold, is_pending, IsReadyFor, joins, LogEntry, longest, making_ready_writes, MayPut, next_lsn, put, readied, ready_stages, seal, turned};
 ghost use Rattle.clfs_queue.specs.Queued.{placing};
 ghost use Rattle.clfs_record.specs.Fields.{placed_record};
-ghost use Rattle.clfs_lsn.specs.Lsn.{container_of};
-ghost use Rattle.clfs_lsn.specs.Place.{IsClosed, joins, begins_here};
-ghost use Rattle.clfs_lsn.specs.declared.entry.LogEntry.{LogEntry};
-ghost use Rattle.clfs_model.specs.Flush.{flush, seal};
-ghost use Rattle.clfs_model.specs.Live.{hold};
-ghost use Rattle.clfs_model.specs.Put.{next_lsn, put};
-ghost use Rattle.clfs_model.specs.Run.{Request};
-ghost use Rattle.clfs_model.specs.Step.{is_pending, making_ready_writes};
-ghost use Rattle.clfs_model.specs.Storable.{IsStorable};
-ghost use Rattle.clfs_model.specs.declared.state.State.{State};
-ghost use Rattle.clfs_model.specs.Valid.{IsValid};
-ghost use Rattle.clfs_laws.specs.Between.{MayPut, IsReadyFor, readied, turned};
-ghost use Rattle.clfs_disk.specs.State.{IsSettled, IsSteady, Later, Rises};
-ghost use Rattle.clfs_physical.specs.Stored.{AreMade};
-ghost use Rattle.clfs_manager.specs.Changing.{ChangesLog};
-ghost use Rattle.clfs_manager.specs.Crashes.{CrashLeavesSurvivor, ReadyingSurvives, StoredMeanwhile};
+ghost use Rattle.clfs_manager.specs.Changing.{ChangesLog, GoesThrough};
+ghost use Rattle.clfs_manager.specs.Crashes.{StoredMeanwhile};
 ghost use Rattle.clfs_manager.specs.Flushing.{IsBroken, StoredAfter};
 ghost use Rattle.clfs_manager.specs.Memory.{Holds, IsSound};
 ghost use Rattle.clfs_manager.specs.Putting.{IsPutInMemory, KeepsRoom, MayTurnTo, TakesContainer, sealing_writes, unplaced};
-ghost use Rattle.clfs_manager.specs.Written.{IsIntact, IsYetToForget, WritesDisk};
+ghost use Rattle.clfs_manager.specs.Storing.{CallsDisk};
+ghost use Rattle.clfs_manager.specs.Written.{IsIntact, IsYetToForget};
 
 use crate::log::Log;
 use clfs_archive::ends_of_blocks_go_on;
@@ -128,43 +113,35 @@ impl Log {
 
     // Takes a file for the next container, where all is on the disk, and drops the containers below the hold's from the newest copy. In memory that
     // alone changes.
-    fn take_container<D: Disk>(&mut self, disk: &mut D, room: Vec<u16>) -> Result<(), Failed>
+    fn take_container<D: Disk>(&mut self, disk: &mut D) -> Result<(), Failed>
         requires intact { IsIntact (D.state disk.old) self.old }
         requires may { MayTurnTo self.old.state.value }
-        requires empty { room.items ≡ [] }
-        requires capacity { most_containers ≤ vec_capacity room }
         ensures takes { OnOk result (TakesContainer self.old.state.value self.new.physical.image) }
         ensures stored { OnOk result (StoredAfter (D.state disk.old) (D.state disk.new) self.old.state.value (turned self.old.state.value) self.old.physical self.new.physical) }
         ensures meanwhile { StoredMeanwhile (D.state disk.old) (D.state disk.new) self.old.state.value (turned self.old.state.value) self.old.physical }
         ensures same { self.new ≡ record self.old { physical = self.new.physical } }
-        ensures settled { OnOk result (IsSettled (D.state disk.old) → IsSettled (D.state disk.new)) }
-        ensures time { Later (D.state disk.old) (D.state disk.new) }
-        ensures cause { OnErr result (Rises (D.state disk.old).faults (D.state disk.new).faults) }
-        ensures steady { IsSteady (D.state disk.old) → AreMade self.old.physical.image (D.state disk.old).files
-            → IsOk result × ((D.state disk.new).faults ≡ (D.state disk.old).faults) }
+        ensures calls { CallsDisk result self.old.physical.image (D.state disk.old) (D.state disk.new) }
     {
         settings_leave_the_records();
         low_containers_are_left_out();
         further_containers_begin_empty();
         let _newest = self.physical.image();
         let first = self.hold().container();
-        self.physical.turn(disk, first, room)
+        self.physical.turn(disk, first)
     }
 
     // Goes on in the next container, where all is on the disk: takes a file for it. Where nothing is needed that was there the hold goes on with the log,
     // and what lies below it is yet to be forgotten. After a fault the log is broken.
-    fn turn<D: Disk>(&mut self, disk: &mut D, room: Vec<u16>) -> Result<(), Failed>
+    fn turn<D: Disk>(&mut self, disk: &mut D) -> Result<(), Failed>
         requires intact { IsIntact (D.state disk.old) self.old }
         requires may { MayTurnTo self.old.state.value }
-        requires empty { room.items ≡ [] }
-        requires capacity { most_containers ≤ vec_capacity room }
         ensures change { ChangesLog IsYetToForget result (self.old.state.value ∷ []) (turned self.old.state.value) (D.state disk.old) (D.state disk.new) self.new }
         ensures room { OnOk result (KeepsRoom 0 self.old self.new) }
         ensures broken { OnErr result (IsBroken self.old self.new) }
     {
         ends_of_blocks_go_on();
         logs_are_copies_and_blocks();
-        if let Err(failed) = self.take_container(disk, room) {
+        if let Err(failed) = self.take_container(disk) {
             self.break_log();
             return Err(failed);
         }
@@ -174,42 +151,27 @@ impl Log {
     }
 
     // Writes all that waits and goes on in the next container. Where the hold goes on too memory forgets what lies below it. After a fault the log is broken.
-    fn begin_container<D: Disk>(&mut self, disk: &mut D, room: Vec<u16>) -> Result<(), Failed>
+    fn begin_container<D: Disk>(&mut self, disk: &mut D) -> Result<(), Failed>
         requires intact { IsIntact (D.state disk.old) self.old }
         requires may { MayTurnTo (flush self.old.state.value) }
-        requires empty { room.items ≡ [] }
-        requires capacity { most_containers ≤ vec_capacity room }
         ensures change { ChangesLog IsIntact result (self.old.state.value ∷ flush self.old.state.value ∷ [])
             (turned (flush self.old.state.value)) (D.state disk.old) (D.state disk.new) self.new }
         ensures room { OnOk result (KeepsRoom 1 self.old self.new) }
     {
         self.write_all(disk)?;
-        self.turn(disk, room)?;
+        self.turn(disk)?;
         self.forget_low();
         Ok(())
     }
 
     // Makes the log ready for a record of so many bytes of data: where that doesn't join the open block, this is sealed, and where it doesn't fit after
-    // it either, all is written and the log goes on in the next container, with room that was taken for it. After a fault the log is broken.
-    pub fn make_ready<D: Disk>(
-        &mut self,
-        disk: &mut D,
-        len: u32,
-        room: Vec<u16>,
-    ) -> Result<(), Failed>
+    // it either, all is written and the log goes on in the next container. After a fault the log is broken.
+    pub fn make_ready<D: Disk>(&mut self, disk: &mut D, len: u32) -> Result<(), Failed>
         requires intact { IsIntact (D.state disk.old) self.old }
         requires may { (entry : LogEntry) × MayPut self.old.state.value entry × (length entry.bytes ≡ len) }
-        requires empty { room.items ≡ [] }
-        requires capacity { joins self.old.state.value.shape self.old.state.value.place len ≡ false
-            → begins_here self.old.state.value.shape self.old.state.value.place len ≡ false → most_containers ≤ vec_capacity room }
-        ensures state { OnOk result (self.new.state.value ≡ readied self.old.state.value len) }
-        ensures intact { OnOk result (IsIntact (D.state disk.new) self.new) }
+        ensures change { GoesThrough IsIntact result (ready_stages self.old.state.value len) (readied self.old.state.value len) (D.state disk.old) (D.state disk.new) self.new }
         ensures room { OnOk result (KeepsRoom 1 self.old self.new) }
-        ensures broken { OnErr result (self.new.broken ≡ true) }
         ensures quiet { making_ready_writes self.old.state.value len ≡ false → IsOk result × (disk.new ≡ disk.old) }
-        ensures writes { WritesDisk (IsErr result) (D.state disk.old) (D.state disk.new) }
-        ensures moments { (asked : Request) (s : State) → ReadyingSurvives asked s self.old.state.value len
-            → CrashLeavesSurvivor asked s (D.state disk.old) (D.state disk.new) }
     {
         logs_are_made_ready();
         seals_and_flushes_keep_a_log();
@@ -217,7 +179,7 @@ impl Log {
         match self.placing(len) {
             Placing::Joins => Ok(()),
             Placing::BeginsBlock => self.seal(disk),
-            Placing::BeginsContainer => self.begin_container(disk, room),
+            Placing::BeginsContainer => self.begin_container(disk),
         }
     }
 

@@ -4,8 +4,7 @@
 ghost use Rattle.std.specs.Prelude.{◌≡◌, ◌≤◌, ℕ, true, false, length, take, drop, Err, IfOk, IfErr, IsErrOf};
 ghost use Rattle.clfs_disk.specs.Files.{Unchanged, found_count};
 ghost use Rattle.clfs_disk.specs.State.{TellsContents, IsSteady, Passes, Rises};
-ghost use Rattle.clfs_model.specs.Run.{reopens};
-ghost use Rattle.clfs_model.specs.Step.{with_broken};
+ghost use Rattle.clfs_manager.specs.Machine.{reopens, with_broken};
 ghost use Rattle.clfs_model.specs.declared.refusal.Refusal.TheVariants as refusals;
 ghost use Rattle.clfs_manager.specs.Crashes.{CrashSurvives};
 

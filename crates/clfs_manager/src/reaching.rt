@@ -3,10 +3,7 @@
 ghost use Rattle.std.specs.Prelude.{◌≡◌, ◌<◌, length, Some, None, IfOk, IfErr};
 ghost use Rattle.std.specs.Option.{option_and_then};
 ghost use Rattle.clfs_model.specs.declared.call.Call.TheVariants as calls;
-ghost use Rattle.clfs_lsn.specs.declared.cursor.Mode.{Mode};
-ghost use Rattle.clfs_model.specs.Live.{live_at};
-ghost use Rattle.clfs_model.specs.Reading.{newest_restart, record_cursor, restart_cursor, next_of_cursor};
-ghost use Rattle.clfs_model.specs.Refusals.{refusal};
+ghost use Rattle.clfs_manager.specs.Machine.{live_at, Mode, newest_restart, next_of_cursor, record_cursor, refusal, restart_cursor};
 ghost use Rattle.clfs_areas.specs.Table.{area_at};
 ghost use Rattle.clfs_manager.specs.Memory.{IsSound};
 ghost use Rattle.clfs_manager.specs.Fetching.{Reaches};
@@ -30,9 +27,7 @@ impl Log {
             (λ here. live_at self.now.state.value here.stream lsn)) }
         ensures few { IfOk result (λ found. let here = area_at found.0 self.now.areas.areas in length here.cursors < here.reads) }
     {
-        let Some(place) = self.areas.place(client, area) else {
-            return Err(Refusal::NoSuchArea);
-        };
+        let place = self.area_place(client, area)?;
         let stream = self.area_stream(place);
         let Some(head) = self.tables.live_at(stream, lsn) else {
             return Err(Refusal::RecordNonexistent { lsn });
@@ -52,9 +47,7 @@ impl Log {
             (λ here. newest_restart self.now.state.value here.stream)) }
         ensures few { IfOk result (λ found. let here = area_at found.0 self.now.areas.areas in length here.cursors < here.reads) }
     {
-        let Some(place) = self.areas.place(client, area) else {
-            return Err(Refusal::NoSuchArea);
-        };
+        let place = self.area_place(client, area)?;
         let stream = self.area_stream(place);
         let Some(head) = self.tables.newest_restart(stream) else {
             return Err(Refusal::NoRestart);
@@ -78,16 +71,12 @@ impl Log {
         ensures reaches { IfOk result (λ found. Reaches self.now.state.value self.now.areas.areas client area found.0 found.1
             (λ here. option_and_then (next_of_cursor self.now.state.value here) (record_cursor here cursor))) }
     {
-        let Some(place) = self.areas.place(client, area) else {
-            return Err(Refusal::NoSuchArea);
-        };
+        let place = self.area_place(client, area)?;
         records_are_as_their_heads();
         let stream = self.area_stream(place);
         let found = self.areas.over_records(place, cursor);
-        match self.tables.after(stream, found) {
-            Ok(head) => Ok((place, head)),
-            Err(refusal) => Err(refusal),
-        }
+        let head = self.tables.after(stream, found)?;
+        Ok((place, head))
     }
 
     // The same of `previous_restart`.
@@ -103,15 +92,11 @@ impl Log {
         ensures reaches { IfOk result (λ found. Reaches self.now.state.value self.now.areas.areas client area found.0 found.1
             (λ here. option_and_then (next_of_cursor self.now.state.value here) (restart_cursor here cursor))) }
     {
-        let Some(place) = self.areas.place(client, area) else {
-            return Err(Refusal::NoSuchArea);
-        };
+        let place = self.area_place(client, area)?;
         records_are_as_their_heads();
         let stream = self.area_stream(place);
         let found = self.areas.over_restarts(place, cursor);
-        match self.tables.after(stream, found) {
-            Ok(head) => Ok((place, head)),
-            Err(refusal) => Err(refusal),
-        }
+        let head = self.tables.after(stream, found)?;
+        Ok((place, head))
     }
 }

@@ -1,11 +1,7 @@
 // Which refusal a call meets first: each function is the chain of tests that the machine's definition makes of one call or of one part of
 // several, in its order. A call that is refused has changed nothing yet, and none of the tests makes a call on the disk.
 ghost use Rattle.std.specs.Prelude.{◌≡◌, ◌<◌, ◌^◌, Option, IsSome, IfOk, IfErr, Some, None, length};
-ghost use Rattle.clfs_model.specs.declared.refusal.Refusal.{Refusal};
-ghost use Rattle.clfs_model.specs.declared.state.Area.{Area};
-ghost use Rattle.clfs_model.specs.State.{area_of, stream_at};
-ghost use Rattle.clfs_model.specs.Policies.{policy_refusal};
-ghost use Rattle.clfs_model.specs.Refusals.{append_refusal, in_area, restart_refusal, tail_refusal, unless_two_containers};
+ghost use Rattle.clfs_manager.specs.Machine.{append_refusal, Area, area_of, in_area, policy_refusal, Refusal, restart_refusal, stream_at, tail_refusal, unless_two_containers};
 ghost use Rattle.clfs_areas.specs.Table.{area_at};
 ghost use Rattle.clfs_manager.specs.Memory.{IsSound};
 

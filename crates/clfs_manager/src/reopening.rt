@@ -3,12 +3,8 @@
 ghost use Rattle.std.specs.Prelude.{◌≡◌, ◌≤◌, ℕ, false, true, Err, IfOk, IfErr, IsErrOf};
 ghost use Rattle.clfs_disk.specs.Files.{Unchanged};
 ghost use Rattle.clfs_disk.specs.State.{TellsContents, IsSteady, Passes, Rises};
-ghost use Rattle.clfs_lsn.specs.Limits.{most_write_buffers};
+ghost use Rattle.clfs_manager.specs.Machine.{cut, happened_of, most_write_buffers, reopens, ReopenStep};
 ghost use Rattle.clfs_model.specs.declared.reply.Reply.TheVariants as replies;
-ghost use Rattle.clfs_model.specs.Flush.{cut};
-ghost use Rattle.clfs_model.specs.Happened.{happened_of};
-ghost use Rattle.clfs_model.specs.Run.{reopens};
-ghost use Rattle.clfs_model.specs.Step.{ReopenStep};
 ghost use Rattle.clfs_recover.specs.Files.{StandsFor};
 ghost use Rattle.clfs_recover.specs.Opening.{IsRefused};
 ghost use Rattle.clfs_recover.specs.Telling.{TellsOpening};

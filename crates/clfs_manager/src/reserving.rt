@@ -1,41 +1,22 @@
 // Reserving: sectors that an area holds for records to come, so that these are never refused for room. What areas hold is in memory alone; the disk is
 // called only where the log grows for it.
-ghost use Rattle.std.specs.Prelude.{◌≡◌, ◌<◌, Bool, true, false, length, IsErrOf, IfErr};
+ghost use Rattle.std.specs.Prelude.{◌≡◌, ◌<◌, false, length};
 ghost use Rattle.clfs_areas.specs.Table.{area_at};
 ghost use Rattle.clfs_model.specs.declared.call.Call.TheVariants as calls;
 ghost use Rattle.clfs_model.specs.declared.reply.Reply.TheVariants as replies;
-ghost use Rattle.clfs_model.specs.Conditions.{IsClient};
-ghost use Rattle.clfs_model.specs.Put.{hold_sizes, with_more_held};
-ghost use Rattle.clfs_model.specs.Run.{asks};
-ghost use Rattle.clfs_model.specs.State.{change_area};
-ghost use Rattle.clfs_model.specs.Step.{calls_disk};
-ghost use Rattle.clfs_model.specs.Valid.{IsValid};
-ghost use Rattle.clfs_laws.specs.Refused.{is_of_call};
-ghost use Rattle.clfs_manager.specs.Calls.{Steps};
-ghost use Rattle.clfs_manager.specs.Crashes.{CrashSurvives};
+ghost use Rattle.clfs_manager.specs.Machine.{calls_disk, hold_sizes, IsClient, IsValid};
+ghost use Rattle.clfs_manager.specs.Calls.{WritesAs};
 ghost use Rattle.clfs_manager.specs.Memory.{ChangesAreas, IsSound};
-ghost use Rattle.clfs_manager.specs.Written.{WritesDisk};
 
 use crate::log::Log;
 use crate::manager::Manager;
-use crate::survivors::crashes_leave_survivors;
+use crate::survivors::calls_follow_laws;
 use clfs_disk::Disk;
-use clfs_laws::{
-    refusals_are_the_calls_own, states_between_survive, steps_keep_a_state_storable,
-    steps_keep_a_state_valid,
-};
+use clfs_laws::states_between_survive;
 use clfs_lsn::Sizes;
-use clfs_model::{Refusal, State, ways_of_a_step};
+use clfs_model::Refusal;
 use clfs_physical::PhysicalRefusal;
 use clfs_room::own_sum;
-use clfs_told::Told;
-
-// The state once a client's area holds so many sectors more.
-fn with_more_held(state: &Told<State>, client: u16, area: u16, sectors: u32) -> Told<State>
-    ensures { result.value ≡ change_area (with_more_held sectors) client area state.now.value }
-{
-    state.next(&(client, area, sectors))
-}
 
 impl Log {
     // The area at a place holds the sectors for records of these lengths besides, where there are such.
@@ -53,7 +34,7 @@ impl Log {
         let area = self.areas.area(place);
         let sectors = own_sum(sizes.as_slice());
         self.areas.hold(place, sectors);
-        self.state = with_more_held(&self.state, area.client, area.number, sectors);
+        self.state = self.state.next(&(area.client, area.number, sectors));
     }
 }
 
@@ -65,21 +46,13 @@ impl<D: Disk> Manager<D> {
     /// where there is no room, not even after growth.
     pub fn reserve(&mut self, client: u16, area: u16, sizes: &Sizes) -> Result<u32, Refusal>
         requires client { IsClient client }
-        ensures step { (told : Bool) → Steps told self.old.0 client (calls.Reserve area sizes.now) replies.Held result self.new.0 }
+        ensures call { WritesAs D.state client (calls.Reserve area sizes.now) replies.Held result self.old self.new }
         ensures quiet { calls_disk self.old.0 (calls.Reserve area sizes.now) ≡ false → self.new.1 ≡ self.old.1 }
-        ensures stopped { self.old.0.broken ≡ true → self.new.1 ≡ self.old.1 }
-        ensures writes { WritesDisk (IsErrOf result Refusal.DiskFault) (D.state self.old.1) (D.state self.new.1) }
-        ensures moments { CrashSurvives (asks client (calls.Reserve area sizes.now)) self.old.0 (D.state self.old.1) (D.state self.new.1) }
-        ensures refused { IfErr result (λ refusal. is_of_call refusal ≡ true → self.new.1 ≡ self.old.1) }
     {
-        ways_of_a_step();
+        calls_follow_laws();
         if self.log.broken {
             return Err(Refusal::Broken);
         }
-        steps_keep_a_state_valid();
-        steps_keep_a_state_storable();
-        refusals_are_the_calls_own();
-        crashes_leave_survivors();
         states_between_survive();
         let place = self.log.area_for_records(client, area)?;
         let lengths = sizes.as_slice();

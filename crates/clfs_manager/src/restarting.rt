@@ -1,48 +1,33 @@
 // Writing a restart area: the newest data by which the owner of a stream restarts, and with it, in one step, the new base of the stream. The restart area
 // is a record, which joins the log as any other, and then the log is flushed. Its record carries the new base, so that a crash leaves both of them or
 // none; no base copy is written. Until the flush is done the base stays where it was, in memory too.
-ghost use Rattle.std.specs.Prelude.{◌≡◌, ◌+◌, ◌-◌, ◌<◌, ◌≤◌, ◌^◌, ◌==◌, ◌∷◌, ℕ, Bool, List, [], None, Some, false, true, length, slice_index, vec_capacity, IfErr, IfOk, IsErr, IsErrOf, IsSome, OnOk, OnErr};
-ghost use Rattle.clfs_lsn.specs.Limits.{most_containers};
-ghost use Rattle.clfs_lsn.specs.Lsn.{null_lsn};
-ghost use Rattle.clfs_lsn.specs.Place.{begins_here, joins};
+ghost use Rattle.std.specs.Prelude.{◌≡◌, ◌<◌, ◌≤◌, ◌^◌, ◌==◌, ◌∷◌, ◌++◌, ℕ, Bool, List, [], None, Some, false, true, length, IfErr, IfOk, IsErrOf, IsSome, OnErr};
+ghost use Rattle.clfs_manager.specs.Machine.{Area, asks, flush, is_of_call, IsClient, MayMove, next_lsn, null_lsn, put, ready_stages, rebased, refusal, restart_record, restart_refusal, spend_if, spent_of, stream_at, TakesThrough};
 ghost use Rattle.clfs_model.specs.declared.call.Call.TheVariants as calls;
-ghost use Rattle.clfs_model.specs.declared.state.State.{State};
 ghost use Rattle.clfs_model.specs.declared.reply.Reply.TheVariants as replies;
-ghost use Rattle.clfs_model.specs.declared.state.Area.{Area};
-ghost use Rattle.clfs_model.specs.Answers.{rebased, restart_record};
-ghost use Rattle.clfs_model.specs.Conditions.{IsClient};
-ghost use Rattle.clfs_model.specs.Flush.{cut, flush};
-ghost use Rattle.clfs_model.specs.Run.{Request, asks};
-ghost use Rattle.clfs_model.specs.Survivors.{Survives};
-ghost use Rattle.clfs_model.specs.Put.{next_lsn, put, spend_if, spent_of};
-ghost use Rattle.clfs_model.specs.Refusals.{refusal, restart_refusal};
-ghost use Rattle.clfs_model.specs.State.{area_of, base_of, stream_at};
-ghost use Rattle.clfs_model.specs.Storable.{IsStorable};
-ghost use Rattle.clfs_model.specs.Valid.{IsValid};
 ghost use Rattle.clfs_areas.specs.Table.{area_at};
-ghost use Rattle.clfs_laws.specs.Between.{MayMove, TakesThrough};
 ghost use Rattle.clfs_tables.specs.Tables.{IsNumber, base_in};
-ghost use Rattle.clfs_laws.specs.Refused.{is_of_call};
-ghost use Rattle.clfs_manager.specs.Calls.{Steps};
-ghost use Rattle.clfs_manager.specs.Changing.{ChangesLog};
-ghost use Rattle.clfs_manager.specs.Crashes.{CrashLeavesSurvivor, CrashSurvives, ReadyingSurvives};
+ghost use Rattle.clfs_manager.specs.Calls.{Steps, WritesAs};
+ghost use Rattle.clfs_manager.specs.Changing.{ChangesLog, GoesThrough};
+ghost use Rattle.clfs_manager.specs.Crashes.{CrashLeavesSurvivor};
 ghost use Rattle.clfs_manager.specs.Fetching.{IsLeft};
 ghost use Rattle.clfs_manager.specs.Flushing.{IsBroken};
 ghost use Rattle.clfs_manager.specs.Laid.{IsLaidLog};
 ghost use Rattle.clfs_manager.specs.Memory.{IsSound};
 ghost use Rattle.clfs_manager.specs.OnDisk.{IsOpen};
-ghost use Rattle.clfs_manager.specs.Putting.{unplaced};
-ghost use Rattle.clfs_manager.specs.Restarts.{EndsInRestart, rebased_streams};
+ghost use Rattle.clfs_manager.specs.Putting.{FindsArea, HasMemory, unplaced};
+ghost use Rattle.clfs_manager.specs.Restarts.{MayFinish, rebased_streams};
 ghost use Rattle.clfs_manager.specs.Written.{IsIntact, IsYetToForget, WritesDisk};
 
 use crate::appending::kept;
 use crate::log::{Log, broken};
 use crate::manager::Manager;
+use crate::survivors::calls_follow_laws;
 use clfs_disk::{Disk, Failed};
 use clfs_laws::{
     calls_that_pass_find_room, growth_keeps_a_log_whole, logs_are_made_ready, records_are_put,
     refusals_are_the_calls_own, seals_and_flushes_keep_a_log, small_changes_make_the_calls,
-    states_between_survive, steps_keep_a_state_storable, steps_keep_a_state_valid,
+    states_between_survive,
 };
 use clfs_lsn::{Bytes, Kind, Lsn};
 use clfs_model::{Refusal, State, ways_of_a_step};
@@ -96,11 +81,7 @@ impl Log {
     fn store_restart<D: Disk>(&mut self, disk: &mut D, stream: u16, base: Lsn) -> Result<(), Failed>
         requires laid { IsLaidLog self.old }
         requires opened { IsOpen (D.state disk.old) self.old.state.value self.old }
-        requires last { EndsInRestart self.old.state.value stream base }
-        requires there { IsNumber self.old.state.value.streams stream }
-        requires up { (base == null_lsn) ≡ false → base_of self.old.state.value stream ≤ base }
-        requires valid { IsValid (rebased stream base (flush self.old.state.value)) }
-        requires storable { IsStorable (rebased stream base (flush self.old.state.value)) }
+        requires may { MayFinish self.old.state.value stream base }
         ensures change { ChangesLog IsYetToForget result (self.old.state.value ∷ []) (rebased stream base (flush self.old.state.value)) (D.state disk.old) (D.state disk.new) self.new }
         ensures broken { OnErr result (IsBroken self.old self.new) }
     {
@@ -123,11 +104,7 @@ impl Log {
     ) -> Result<(), Failed>
         requires laid { IsLaidLog self.old }
         requires opened { IsOpen (D.state disk.old) self.old.state.value self.old }
-        requires last { EndsInRestart self.old.state.value stream base }
-        requires there { IsNumber self.old.state.value.streams stream }
-        requires up { (base == null_lsn) ≡ false → base_of self.old.state.value stream ≤ base }
-        requires valid { IsValid (rebased stream base (flush self.old.state.value)) }
-        requires storable { IsStorable (rebased stream base (flush self.old.state.value)) }
+        requires may { MayFinish self.old.state.value stream base }
         ensures change { ChangesLog IsIntact result (self.old.state.value ∷ []) (rebased stream base (flush self.old.state.value)) (D.state disk.old) (D.state disk.new) self.new }
         ensures broken { OnErr result (IsBroken self.old self.new) }
     {
@@ -145,7 +122,6 @@ impl Log {
         fields: &Fields,
         bytes: &[u8],
         reserved: bool,
-        room: Vec<u16>,
     ) -> Result<Lsn, Failed>
         requires intact { IsIntact (D.state disk.old) self.old }
         requires place { place < length self.old.areas.areas }
@@ -154,30 +130,20 @@ impl Log {
             TakesThrough (spend_if reserved area (length bytes.now) self.old.state.value) area (unplaced fields.now bytes.now) 0 }
         requires base { let area = area_at place self.old.areas.areas in
             MayMove (spend_if reserved area (length bytes.now) self.old.state.value) fields.now.stream fields.now.new_base }
-        requires heads { 1 ≤ slice_index self.old.tables.room (fields.now.stream - 1) }
-        requires ends { 2 ≤ self.old.archive.room }
-        requires empty { room.items ≡ [] }
-        requires capacity { joins self.old.state.value.shape self.old.state.value.place (length bytes.now) ≡ false
-            → begins_here self.old.state.value.shape self.old.state.value.place (length bytes.now) ≡ false → most_containers ≤ vec_capacity room }
+        requires memory { HasMemory fields.now.stream self.old }
         ensures lsn { let area = area_at place self.old.areas.areas in
             IfOk result (λ lsn. lsn ≡ next_lsn (spend_if reserved area (length bytes.now) self.old.state.value) (length bytes.now)) }
-        ensures state { let area = area_at place self.old.areas.areas in
-            OnOk result (self.new.state.value ≡ rebased fields.now.stream fields.now.new_base
-            (flush (put (spend_if reserved area (length bytes.now) self.old.state.value) (unplaced fields.now bytes.now)))) }
-        ensures intact { OnOk result (IsIntact (D.state disk.new) self.new) }
-        ensures broken { OnErr result (self.new.broken ≡ true) }
-        ensures writes { WritesDisk (IsErr result) (D.state disk.old) (D.state disk.new) }
-        ensures moments { let area = area_at place self.old.areas.areas in
+        ensures change { let area = area_at place self.old.areas.areas in
             let u = spend_if reserved area (length bytes.now) self.old.state.value in
-            let joined = put u (unplaced fields.now bytes.now) in (asked : Request) (s : State)
-            → ReadyingSurvives asked s u (length bytes.now) → Survives asked s (cut joined)
-            → Survives asked s (cut (rebased fields.now.stream fields.now.new_base (flush joined))) → CrashLeavesSurvivor asked s (D.state disk.old) (D.state disk.new) }
+            let joined = put u (unplaced fields.now bytes.now) in
+            let last = rebased fields.now.stream fields.now.new_base (flush joined) in
+            GoesThrough IsIntact result (ready_stages u (length bytes.now) ++ joined ∷ last ∷ []) last (D.state disk.old) (D.state disk.new) self.new }
     {
         records_are_put();
         logs_are_made_ready();
         the_next_lsn_is_above_all();
         self.spend(place, reserved, bytes.len() as u32);
-        let lsn = self.put_record(disk, fields, bytes, room)?;
+        let lsn = self.put_record(disk, fields, bytes)?;
         self.finish_restart(disk, fields.stream, fields.new_base)?;
         Ok(lsn)
     }
@@ -193,11 +159,7 @@ impl Log {
     ) -> Result<usize, Refusal>
         requires sound { IsSound self.now }
         requires len { length bytes.now < 2 ^ 32 }
-        ensures refused { IfErr result (λ first. refusal self.now.state.value client (calls.WriteRestart area bytes.now base reserved) ≡ Some first) }
-        ensures allowed { IfOk result (λ _. refusal self.now.state.value client (calls.WriteRestart area bytes.now base reserved) ≡ None) }
-        ensures within { IfOk result (λ place. place < length self.now.areas.areas) }
-        ensures there { IfOk result (λ place. area_of self.now.state.value client area ≡ Some (area_at place self.now.areas.areas)) }
-        ensures two { OnOk result (2 ≤ self.now.state.value.containers) }
+        ensures finds { FindsArea self.now client area (calls.WriteRestart area bytes.now base reserved) result }
         ensures passes { IfOk result (λ place. restart_refusal self.now.state.value (area_at place self.now.areas.areas) bytes.now base reserved ≡ None) }
     {
         let place = self.area_for_records(client, area)?;
@@ -240,8 +202,8 @@ impl Log {
         let stream = self.areas.area(place).stream;
         let fields = self.restart_fields(stream, base);
         let before = kept(&self.state);
-        let room = self.prepare(disk, stream, len, need_of(reserved, len, &[]))?;
-        match self.restart_grown(disk, place, &fields, data, reserved, room) {
+        self.prepare(disk, stream, need_of(reserved, len, &[]))?;
+        match self.restart_grown(disk, place, &fields, data, reserved) {
             Ok(lsn) => Ok(lsn),
             Err(Failed) => {
                 self.state = broken(&before);
@@ -268,19 +230,12 @@ impl<D: Disk> Manager<D> {
     ) -> Result<Lsn, Refusal>
         requires client { IsClient client }
         requires len { length bytes.now < 2 ^ 32 }
-        ensures step { (told : Bool)
-            → Steps told self.old.0 client (calls.WriteRestart area bytes.now base reserved) replies.Placed result self.new.0 }
-        ensures writes { WritesDisk (IsErrOf result Refusal.DiskFault) (D.state self.old.1) (D.state self.new.1) }
-        ensures moments { CrashSurvives (asks client (calls.WriteRestart area bytes.now base reserved)) self.old.0 (D.state self.old.1) (D.state self.new.1) }
-        ensures stopped { self.old.0.broken ≡ true → self.new.1 ≡ self.old.1 }
-        ensures refused { IfErr result (λ refusal. is_of_call refusal ≡ true → self.new.1 ≡ self.old.1) }
+        ensures call { WritesAs D.state client (calls.WriteRestart area bytes.now base reserved) replies.Placed result self.old self.new }
     {
-        ways_of_a_step();
+        calls_follow_laws();
         if self.log.broken {
             return Err(Refusal::Broken);
         }
-        steps_keep_a_state_valid();
-        steps_keep_a_state_storable();
         self.log
             .write_restart(&mut self.disk, client, area, bytes, base, reserved)
     }

@@ -1,28 +1,21 @@
 // What is set: the policies of a log. A change of these writes the base copy that follows the newest one, with the containers from the hold's on, so
 // that a crash leaves the old settings or the new ones. No call here takes memory.
-ghost use Rattle.std.specs.Prelude.{◌≡◌, ℕ, Bool, true, false, None, IfSome, IfNone, OnOk, OnErr, IsErrOf, IsOk, IfErr};
-ghost use Rattle.clfs_disk.specs.State.{IsSettled, IsSteady, Later, Rises};
+ghost use Rattle.std.specs.Prelude.{◌≡◌, ℕ, true, false, None, IfSome, IfNone, OnOk};
 ghost use Rattle.clfs_model.specs.declared.call.Call.TheVariants as calls;
 ghost use Rattle.clfs_model.specs.declared.reply.Reply.TheVariants as replies;
 ghost use Rattle.clfs_model.specs.Policies.{is_installed, policy_refusal, with_policy, without_policy};
-ghost use Rattle.clfs_model.specs.Run.{asks};
-ghost use Rattle.clfs_physical.specs.Stored.{AreMade};
-ghost use Rattle.clfs_laws.specs.Refused.{is_of_call};
-ghost use Rattle.clfs_manager.specs.Calls.{Steps};
+ghost use Rattle.clfs_manager.specs.Calls.{WritesAs};
 ghost use Rattle.clfs_policy.specs.Ranges.{AreAllowed};
-ghost use Rattle.clfs_manager.specs.Crashes.{CrashSurvives, StoredMeanwhile};
-ghost use Rattle.clfs_manager.specs.Flushing.{IsBroken, StoredAfter};
-ghost use Rattle.clfs_manager.specs.Memory.{Holds, IsSound};
+ghost use Rattle.clfs_manager.specs.Memory.{IsSound};
 ghost use Rattle.clfs_manager.specs.Settings.{KeepsTables, change_to, with_policies};
-ghost use Rattle.clfs_manager.specs.Written.{WritesDisk};
+ghost use Rattle.clfs_manager.specs.Storing.{StoresState};
 
 use crate::log::Log;
 use crate::manager::Manager;
-use crate::survivors::crashes_leave_survivors;
+use crate::survivors::calls_follow_laws;
 use clfs_disk::{Disk, Failed};
-use clfs_laws::{steps_keep_a_state_storable, steps_keep_a_state_valid};
 use clfs_lsn::{Policy, PolicyKind};
-use clfs_model::{Refusal, State, ways_of_a_step};
+use clfs_model::{Refusal, State};
 use clfs_physical::Change;
 use clfs_policy::Policies;
 use clfs_recover::{low_containers_are_left_out, settings_leave_the_records};
@@ -83,17 +76,8 @@ impl Log {
     ) -> Result<(), Failed>
         requires sound { IsSound self.old }
         requires allowed { AreAllowed policies }
-        ensures state { OnOk result (self.new.state.value ≡ with_policies policies self.old.state.value) }
-        ensures holds { OnOk result (Holds self.new.state.value self.new) }
+        ensures change { StoresState result (with_policies policies self.old.state.value) (D.state disk.old) (D.state disk.new) self.old self.new }
         ensures same { OnOk result (KeepsTables self.old self.new) }
-        ensures stored { OnOk result (StoredAfter (D.state disk.old) (D.state disk.new) self.old.state.value self.new.state.value self.old.physical self.new.physical) }
-        ensures meanwhile { StoredMeanwhile (D.state disk.old) (D.state disk.new) self.old.state.value (with_policies policies self.old.state.value) self.old.physical }
-        ensures broken { OnErr result (IsBroken self.old self.new) }
-        ensures settled { OnOk result (IsSettled (D.state disk.old) → IsSettled (D.state disk.new)) }
-        ensures time { Later (D.state disk.old) (D.state disk.new) }
-        ensures cause { OnErr result (Rises (D.state disk.old).faults (D.state disk.new).faults) }
-        ensures steady { IsSteady (D.state disk.old) → AreMade self.old.physical.image (D.state disk.old).files
-            → IsOk result × ((D.state disk.new).faults ≡ (D.state disk.old).faults) }
     {
         settings_leave_the_records();
         low_containers_are_left_out();
@@ -113,19 +97,12 @@ impl<D: Disk> Manager<D> {
     /// Installs a policy in place of one of its kind, on the disk too. It changes no size. Refused where the value is outside its range, which is
     /// told.
     pub fn install_policy(&mut self, policy: Policy) -> Result<(), Refusal>
-        ensures step { (told : Bool) (client : ℕ) → Steps told self.old.0 client (calls.InstallPolicy policy) (λ _. replies.Done) result self.new.0 }
-        ensures stopped { self.old.0.broken ≡ true → self.new.1 ≡ self.old.1 }
-        ensures writes { WritesDisk (IsErrOf result Refusal.DiskFault) (D.state self.old.1) (D.state self.new.1) }
-        ensures moments { (client : ℕ) → CrashSurvives (asks client (calls.InstallPolicy policy)) self.old.0 (D.state self.old.1) (D.state self.new.1) }
-        ensures refused { IfErr result (λ refusal. is_of_call refusal ≡ true → self.new.1 ≡ self.old.1) }
+        ensures call { (client : ℕ) → WritesAs D.state client (calls.InstallPolicy policy) (λ _. replies.Done) result self.old self.new }
     {
-        ways_of_a_step();
+        calls_follow_laws();
         if self.log.broken {
             return Err(Refusal::Broken);
         }
-        steps_keep_a_state_valid();
-        steps_keep_a_state_storable();
-        crashes_leave_survivors();
         if let Some(refusal) = self.log.policy_refusal(policy) {
             return Err(refusal);
         }
@@ -138,19 +115,12 @@ impl<D: Disk> Manager<D> {
 
     /// Takes the policy of a kind away, on the disk too. Refused where there is none.
     pub fn remove_policy(&mut self, kind: PolicyKind) -> Result<(), Refusal>
-        ensures step { (told : Bool) (client : ℕ) → Steps told self.old.0 client (calls.RemovePolicy kind) (λ _. replies.Done) result self.new.0 }
-        ensures stopped { self.old.0.broken ≡ true → self.new.1 ≡ self.old.1 }
-        ensures writes { WritesDisk (IsErrOf result Refusal.DiskFault) (D.state self.old.1) (D.state self.new.1) }
-        ensures moments { (client : ℕ) → CrashSurvives (asks client (calls.RemovePolicy kind)) self.old.0 (D.state self.old.1) (D.state self.new.1) }
-        ensures refused { IfErr result (λ refusal. is_of_call refusal ≡ true → self.new.1 ≡ self.old.1) }
+        ensures call { (client : ℕ) → WritesAs D.state client (calls.RemovePolicy kind) (λ _. replies.Done) result self.old self.new }
     {
-        ways_of_a_step();
+        calls_follow_laws();
         if self.log.broken {
             return Err(Refusal::Broken);
         }
-        steps_keep_a_state_valid();
-        steps_keep_a_state_storable();
-        crashes_leave_survivors();
         let Some(policies) = self.log.policies_without(kind) else {
             return Err(Refusal::PolicyNotInstalled);
         };

@@ -2,10 +2,7 @@
 ghost use Rattle.std.specs.Prelude.{◌≡◌, ℕ, false};
 ghost use Rattle.clfs_disk.specs.Files.{Unchanged};
 ghost use Rattle.clfs_disk.specs.State.{TellsContents, IsHonest, IsSettled, Passes};
-ghost use Rattle.clfs_model.specs.declared.call.Call.{Call};
-ghost use Rattle.clfs_model.specs.Run.{asks, reopens, bad_line};
-ghost use Rattle.clfs_model.specs.Storable.{IsStorable};
-ghost use Rattle.clfs_model.specs.Valid.{IsValid};
+ghost use Rattle.clfs_manager.specs.Machine.{asks, bad_line, Call, IsStorable, IsValid, reopens};
 ghost use Rattle.clfs_manager.specs.Crashes.{CrashSurvives};
 ghost use Rattle.clfs_manager.specs.Reopening.{HoldsFlushed};
 

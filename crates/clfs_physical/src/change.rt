@@ -4,7 +4,7 @@ ghost use Rattle.clfs_base.specs.Spelling.{IsImage};
 ghost use Rattle.clfs_physical.specs.Changes.{with_next_turn, with_file, listed_from, with_base, with_stream, with_containers, changed, next_copy, Suits, CanHave, IsNewRow};
 ghost use Rattle.clfs_physical.specs.Taking.{IsNextFile, HasRoom};
 
-use clfs_base::{BaseImage, Files, Row, Rows, VERSION, copies_are_read_as_written};
+use clfs_base::{BaseImage, Row, Rows, VERSION, copies_are_read_as_written};
 use clfs_lsn::Lsn;
 use std::alloc::{AllocError, Global};
 use std::mem;
@@ -45,14 +45,13 @@ pub fn apply(alloc: Global, image: &mut BaseImage, first: u32, change: &Change)
 {
     copies_are_read_as_written();
     follow(image);
-    list_from(alloc, image, first);
+    list_from(image, first);
     change_fields(alloc, image, change);
 }
 
-/// Makes a copy the one that follows it, with a free file after the listed ones. `files` are all of these.
-pub fn apply_file(image: &mut BaseImage, file: u16, files: Vec<u16>)
+/// Makes a copy the one that follows it, with a free file after the listed ones.
+pub fn apply_file(image: &mut BaseImage, file: u16)
     requires free { IsNextFile image.old file }
-    requires files { files.items ≡ image.old.files ++ file ∷ [] }
     requires room { HasRoom image.old }
     requires image { IsImage image.old }
     ensures exact { image.new ≡ with_file file (with_next_turn image.old) }
@@ -61,7 +60,7 @@ pub fn apply_file(image: &mut BaseImage, file: u16, files: Vec<u16>)
 {
     copies_are_read_as_written();
     follow(image);
-    image.files = Files::from_vec(files);
+    image.files.push(file);
 }
 
 // Gives a copy the turn that follows, and the version in which copies are written.
@@ -74,26 +73,13 @@ fn follow(image: &mut BaseImage)
 }
 
 // Lists no container below this one.
-fn list_from(alloc: Global, image: &mut BaseImage, first: u32)
+fn list_from(image: &mut BaseImage, first: u32)
     requires first { image.old.first ≤ first }
     requires listed { first - image.old.first ≤ length image.old.files }
     ensures { image.new ≡ listed_from first image.old }
 {
-    let gone = (first - image.first) as usize;
-    let mut numbers = take_files(alloc, image);
-    let len = numbers.len();
-    numbers.rotate_left(gone);
-    numbers.truncate(len - gone);
-    image.files = Files::from_vec(numbers);
+    image.files.drop_first((first - image.first) as usize);
     image.first = first;
-}
-
-// Takes the numbers out of a copy.
-fn take_files(alloc: Global, image: &mut BaseImage) -> Vec<u16>
-    ensures result { result.items ≡ image.old.files }
-    ensures image { image.new ≡ record image.old { files = [] } }
-{
-    mem::replace(&mut image.files, Files::from_vec(Vec::new(alloc))).into_vec()
 }
 
 // Takes the rows out of a copy.
@@ -158,7 +144,7 @@ pub fn apply_stream(
     copies_are_read_as_written();
     push_stream(alloc, image, row)?;
     follow(image);
-    list_from(alloc, image, first);
+    list_from(image, first);
     Ok(())
 }
 

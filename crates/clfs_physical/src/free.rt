@@ -1,5 +1,5 @@
 // Which file the next container takes.
-ghost use Rattle.std.specs.Prelude.{◌≡◌, ◌+◌, ◌<◌, ◌≤◌, ◌∷◌, ◌++◌, [], length, true, false, vec_capacity};
+ghost use Rattle.std.specs.Prelude.{◌≡◌, ◌<◌, length, true, false};
 ghost use Rattle.clfs_physical.specs.Stored.{IsIn};
 ghost use Rattle.clfs_physical.specs.Taking.{IsFree};
 
@@ -21,18 +21,4 @@ pub fn free_file(made: u16, files: &[u16]) -> u16
         file += 1;
     }
     file
-}
-
-/// These files and another one after them, in memory that was taken before.
-pub fn with_one_more(room: Vec<u16>, files: &[u16], file: u16) -> Vec<u16>
-    requires empty { room.items ≡ [] }
-    requires capacity { length files.now + 1 ≤ vec_capacity room }
-    ensures { result.items ≡ files.now ++ file ∷ [] }
-{
-    let mut all = room;
-    for listed in files {
-        all.push_reserved(*listed);
-    }
-    all.push_reserved(file);
-    all
 }

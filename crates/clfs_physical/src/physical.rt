@@ -1,7 +1,7 @@
 // The newest base copy of a log, with the slot that it is in, and the calls that write a group or a copy. The copy that follows is made of
 // it where it stands, so that no memory is wanted when the disk is written. What a crash leaves is said of two values: the one
 // before the call, and the one after an Ok.
-ghost use Rattle.std.specs.Prelude.{◌≡◌, ◌⊎◌, ◌+◌, ◌-◌, ◌*◌, ◌%◌, ◌≤◌, ◌∷◌, ◌++◌, [], List, Bool, ℕ, true, false, length, IfOk, OnOk, OnErr, IsOk, IsErrOf};
+ghost use Rattle.std.specs.Prelude.{◌≡◌, ◌⊎◌, ◌+◌, ◌-◌, ◌*◌, ◌%◌, ◌≤◌, [], List, Bool, ℕ, true, false, length, IfOk, OnOk, OnErr, IsOk, IsErrOf};
 ghost use Rattle.clfs_lsn.specs.Format.{sector_bytes};
 ghost use Rattle.clfs_disk.specs.State.{TellsContents, IsHonest, IsSettled, IsSteady, Later, Leaves, Rises, raised};
 ghost use Rattle.clfs_base.specs.declared.image.BaseImage.{BaseImage};
@@ -184,15 +184,9 @@ impl Physical {
     }
 
     /// Takes a file for the container that follows the last listed one: closes the first gate in it, and then writes the copy that
-    /// lists it. `files` are those of the newest copy and this one, which the next copy keeps.
-    pub fn take_file<D: Disk>(
-        &mut self,
-        disk: &mut D,
-        file: u16,
-        files: Vec<u16>,
-    ) -> Result<(), Failed>
+    /// lists it.
+    pub fn take_file<D: Disk>(&mut self, disk: &mut D, file: u16) -> Result<(), Failed>
         requires free { IsNextFile self.old.image file }
-        requires files { files.items ≡ self.old.image.files ++ file ∷ [] }
         requires room { HasRoom self.old.image }
         ensures now { OnOk result (self.new ≡ taken_of file self.old) }
         ensures written { OnOk result (TellsContents (D.state disk.old) → (whole : Bool) (blocks : Blocks)
@@ -217,7 +211,7 @@ impl Physical {
         ensures steady { IsSteady (D.state disk.old) → AreMade self.old.image (D.state disk.old).files
             → IsOk result × ((D.state disk.new).faults ≡ (D.state disk.old).faults) }
     {
-        apply_file(&mut self.image, file, files);
+        apply_file(&mut self.image, file);
         open_blocks_are_one_list();
         close_first(disk, file)?;
         self.slot = store_copy(disk, self.slot, &self.image, &mut self.bytes)?;

@@ -1,36 +1,23 @@
 // A turn to the next container, once all is on the disk that waited, in two parts: a copy without the low containers is written, and a file is
-// taken. All memory is taken before. What waits lies in the container that the log leaves, and so it is on the disk before a copy
+// taken. It takes no memory. What waits lies in the container that the log leaves, and so it is on the disk before a copy
 // lists the next one: a crash never leaves a later container beside an earlier one that has lost blocks.
-ghost use Rattle.std.specs.Prelude.{◌≡◌, ◌⊎◌, ◌+◌, ◌≤◌, ◌∷◌, ◌++◌, Bool, ℕ, [], length, vec_capacity, IfOk, OnOk, OnErr, IsOk};
-ghost use Rattle.clfs_lsn.specs.Limits.{most_containers};
+ghost use Rattle.std.specs.Prelude.{◌≡◌, ◌⊎◌, ◌+◌, ◌≤◌, Bool, ℕ, [], length, OnOk, OnErr, IsOk};
 ghost use Rattle.clfs_disk.specs.State.{TellsContents, IsSettled, IsSteady, Later, Leaves, Rises, raised};
 ghost use Rattle.clfs_physical.specs.Joined.{SameLengths};
 ghost use Rattle.clfs_physical.specs.Stored.{Blocks, AreMade, Stores, with_blocks};
 ghost use Rattle.clfs_physical.specs.Taking.{IsNextFile, HasRoom, low_of, taken_of, InTurn};
 
-use crate::free::{free_file, with_one_more};
+use crate::free::free_file;
 use crate::physical::Physical;
 use clfs_disk::{Disk, Failed};
-use clfs_lsn::MOST_CONTAINERS;
-use std::alloc::AllocError;
 
 impl Physical {
-    /// Memory for the files that the copy of a turn lists.
-    pub fn room_for_turn(&self) -> Result<Vec<u16>, AllocError>
-        ensures empty { IfOk result (λ room. room.items ≡ []) }
-        ensures capacity { IfOk result (λ room. most_containers ≤ vec_capacity room) }
-    {
-        Vec::with_capacity(self.alloc, MOST_CONTAINERS as usize)
-    }
-
     /// Turns the log to its next container, where nothing waits any more: lists the containers from `first` on, and takes the least file that isn't
-    /// listed. It takes no memory: `room` was taken by `room_for_turn`, and the next copy keeps it.
-    pub fn turn<D: Disk>(&mut self, disk: &mut D, first: u32, room: Vec<u16>) -> Result<(), Failed>
+    /// listed. It takes no memory.
+    pub fn turn<D: Disk>(&mut self, disk: &mut D, first: u32) -> Result<(), Failed>
         requires first { self.old.image.first ≤ first }
         requires listed { first + 1 ≤ self.old.image.first + length self.old.image.files }
         requires room { HasRoom (low_of first self.old).image }
-        requires empty { room.items ≡ [] }
-        requires capacity { most_containers ≤ vec_capacity room }
         ensures now { OnOk result ((file : ℕ) → IsNextFile (low_of first self.old).image file → self.new ≡ taken_of file (low_of first self.old)) }
         ensures file { (file : ℕ) × IsNextFile (low_of first self.old).image file }
         ensures written { OnOk result (TellsContents (D.state disk.old) → (whole : Bool) (file : ℕ) (blocks : Blocks)
@@ -51,8 +38,7 @@ impl Physical {
             → IsOk result × ((D.state disk.new).faults ≡ (D.state disk.old).faults) }
     {
         let file = self.next_file(first);
-        let files = self.next_files(room, first, file);
-        self.turn_to(disk, first, file, files)
+        self.turn_to(disk, first, file)
     }
 
     // The file that the next container takes.
@@ -71,37 +57,12 @@ impl Physical {
         free_file(image.files_made, listed)
     }
 
-    // The files that are listed from this container on, and another one.
-    fn next_files(&self, room: Vec<u16>, first: u32, file: u16) -> Vec<u16>
-        requires first { self.now.image.first ≤ first }
-        requires listed { first + 1 ≤ self.now.image.first + length self.now.image.files }
-        requires room { HasRoom (low_of first self.now).image }
-        requires empty { room.items ≡ [] }
-        requires capacity { most_containers ≤ vec_capacity room }
-        ensures { result.items ≡ (low_of first self.now).image.files ++ file ∷ [] }
-    {
-        let image = self.image();
-        let listed = image
-            .files
-            .as_slice()
-            .split_at((first - image.first) as usize)
-            .1;
-        with_one_more(room, listed, file)
-    }
-
     // Turns the log to its next container, which takes this file.
-    fn turn_to<D: Disk>(
-        &mut self,
-        disk: &mut D,
-        first: u32,
-        file: u16,
-        files: Vec<u16>,
-    ) -> Result<(), Failed>
+    fn turn_to<D: Disk>(&mut self, disk: &mut D, first: u32, file: u16) -> Result<(), Failed>
         requires first { self.old.image.first ≤ first }
         requires listed { first + 1 ≤ self.old.image.first + length self.old.image.files }
         requires room { HasRoom (low_of first self.old).image }
         requires free { IsNextFile (low_of first self.old).image file }
-        requires files { files.items ≡ (low_of first self.old).image.files ++ file ∷ [] }
         ensures now { OnOk result (self.new ≡ taken_of file (low_of first self.old)) }
         ensures written { OnOk result (TellsContents (D.state disk.old) → (whole : Bool) (blocks : Blocks)
             → Stores whole self.old blocks (D.state disk.old).files
@@ -117,6 +78,6 @@ impl Physical {
             → IsOk result × ((D.state disk.new).faults ≡ (D.state disk.old).faults) }
     {
         self.drop_low(disk, first)?;
-        self.take_file(disk, file, files)
+        self.take_file(disk, file)
     }
 }

@@ -1,7 +1,7 @@
 -- What moving the archive tail says of a log in which archiving is on: the tail is there, or the disk failed; and a tail above the flushed LSN is refused
 -- by telling that one.
-use Rattle.std.specs.Prelude.{MatchBool, MatchOption, IsTrue, IfSome, is_none}
-use Rattle.std.proofs.Common.{inl, inr, ⊎_elim, ◌≡◌, ◌⊎◌, ℕ, ◌<◌, ◌≤◌, ◌-◌, Bool, true, false, ltb, ◌||◌, cond, Option, Some, None, refl, sym, ◌∙◌, ap, subst, arith}
+use Rattle.std.specs.Prelude.{MatchBool, MatchOption, IsTrue, IfSome}
+use Rattle.std.proofs.Common.{inl, inr, ⊎_elim, ◌≡◌, ◌⊎◌, ℕ, ◌<◌, ◌≤◌, Bool, true, false, ltb, ◌||◌, Option, Some, None, refl, ◌∙◌, ap, subst, arith}
 use Rattle.std.proofs.lemmas.Bool.{cases_lt}
 use Rattle.clfs_model.specs.declared.call.Call.TheVariants as calls
 use Rattle.clfs_model.specs.declared.refusal.Refusal.{Refusal}

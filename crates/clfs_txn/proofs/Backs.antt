@@ -14,8 +14,7 @@ use Rattle.clfs_txn.specs.Calls.{Carries, IsFound, Leads, TxnSteps, replied}
 use Rattle.clfs_txn.proofs.Carried.{as_plan, met, passed, refused_at_once, step_is}
 use Rattle.clfs_txn.proofs.Sets.{goes_on, over}
 use Rattle.clfs_disk.specs.State.{DiskState}
-use Rattle.clfs_cells_laws.specs.Crashes.{LeavesEither}
-use Rattle.clfs_txn.specs.Crashes.{CrashLeavesTable, Meanwhile}
+use Rattle.clfs_txn.specs.Crashes.{Meanwhile}
 use Rattle.clfs_txn.proofs.Moments.{meanwhile_as, meanwhile_by, meanwhile_then}
 
 -- more are to be kept than stand

@@ -1,5 +1,5 @@
 -- What a crash leaves while a table is loaded.
-use Rattle.std.proofs.Common.{◌≡◌, ◌⊎◌, ℕ, Bool, true, false, List, length, sym, subst, ap, ◌∙◌, inl, inr}
+use Rattle.std.proofs.Common.{◌≡◌, ℕ, Bool, true, false, List, length, sym, subst, ap, ◌∙◌, inl}
 use Rattle.clfs_lsn.specs.Lsn.{null_lsn}
 use Rattle.clfs_disk.specs.State.{DiskState}
 use Rattle.clfs_model.specs.declared.call.Call.TheVariants as log_calls

@@ -20,7 +20,7 @@ use Rattle.clfs_txn.proofs.Carried.{passed, met, one_call, step_is, refused_at_o
 use Rattle.clfs_disk.specs.State.{DiskState}
 use Rattle.clfs_cells_laws.specs.Crashes.{LeavesEither}
 use Rattle.clfs_txn.specs.Crashes.{CrashLeavesTable, Meanwhile}
-use Rattle.clfs_txn.proofs.Moments.{first_call, meanwhile_as}
+use Rattle.clfs_txn.proofs.Moments.{meanwhile_as}
 
 pub broken : (told : Bool) (s : Store) → s.log.broken ≡ true → TxnStep told s asked.Checkpoint (replies.Refused (refusals.Log log_refusals.Broken)) s
 broken told s e = refused_at_once told s asked.Checkpoint (refusals.Log log_refusals.Broken) (met s.log.broken _ s.memory _ e)

@@ -1,8 +1,15 @@
-use Rattle.std.proofs.Common.{ℕ, List, sym, ap, ◌∙◌}
+use Rattle.std.proofs.Common.{ℕ, ◌≤◌, List, sym, ap, subst, ◌∙◌}
 use Rattle.clfs_base.specs.declared.image.Row.{Row}
 use Rattle.clfs_base.specs.declared.layout.Numbers.{Numbers}
+use Rattle.clfs_lsn.specs.Limits.{most_containers}
 use Rattle.clfs_base.specs.Checks.{files_in, rows_of, image_with}
+use Rattle.clfs_base.proofs.AskedFields.{few_asked}
 use Rattle.clfs_base.proofs.decoder.decode_as.Goals as goal
+
+pub read_files-requires : goal.read_files-requires
+read_files-requires c =
+    subst (λ (n : Numbers). n.listed ≤ most_containers) (sym c.numbers_of-numbers.ensures)
+    (few_asked c.args.demands.now c.args.layout.now c.args.bytes.now (sym c.fault_within.ensures ∙ c.in_default.is))
 
 pub returns : goal.returns
 returns c =

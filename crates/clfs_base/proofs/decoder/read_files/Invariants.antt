@@ -4,4 +4,4 @@ use Rattle.clfs_base.proofs.decoder.read_files.Given as goal
 
 -- the numbers so far are read
 abbrev pub invariant-loop-i : goal.invariant-loop-i
-invariant-loop-i l = l.numbers.items ≡ files_in l.bytes l.i
+invariant-loop-i l = l.files ≡ files_in l.bytes l.i

@@ -52,19 +52,28 @@ returns-clause-exact g c tells entry needed at = by_kept (kept_at (block_place c
         (reads g c tells entry (is_stored c.args.log.now.state.value c.args.log.now.physical c.requires.open.blocks c.requires.open.stored entry needed stable))
         (c.read.ensures.read is tells)
 
-pub returns-clause-kept : goal.returns-clause-kept
-returns-clause-kept g c tells =
-    let there = c.requires.there in
-    kept_after (image g c) (g.D.Disk.state c.args.disk.now).files c.shape_of-shape.result (length c.as_slice.result.now) c.file_of-file.result c.args.lsn
-    (of_shape g c) (of_streams g c) (of_file g c) c.args.log.now.state.value (entries g c) c.args.log.now.buffers c.read.new.self
-    (TellsContents (g.D.Disk.state c.args.disk.now)) c.read.result tells c.requires.sound.valid c.requires.stable
-    (subst (λ (n : ℕ). container_of (hold c.args.log.now.state.value) ≤ container_of n) there.2 there.1.from_hold)
-    (is_stored c.args.log.now.state.value c.args.log.now.physical c.requires.open.blocks c.requires.open.stored)
-    (reads g c tells)
-    (c.changes_keep_blocks.ensures.used c.args.log.now.buffers (block_place c.args.lsn))
-    (λ records place found. c.changes_keep_blocks.ensures.joined c.args.log.now.buffers (block_place c.args.lsn) place records found)
-    c.read.ensures.used c.read.ensures.joins c.read.ensures.refused (c.requires.open.kept tells)
-
-pub returns-clause-told : goal.returns-clause-told
-returns-clause-told g c = told_byte c.args.log.now.state.value c.shape_of-shape.result (length c.as_slice.result.now) c.args.lsn c.read.result
-    (of_shape g c ∙ c.requires.sound.holds.image_shape) (of_streams g c ∙ c.requires.sound.holds.rows) c.read.ensures.told
+pub returns-clause-reads : goal.returns-clause-reads
+returns-clause-reads g c = record {
+  told = told_byte c.args.log.now.state.value c.shape_of-shape.result (length c.as_slice.result.now) c.args.lsn c.read.result
+      (of_shape g c ∙ c.requires.sound.holds.image_shape) (of_streams g c ∙ c.requires.sound.holds.rows) c.read.ensures.told;
+  lsn = c.read.ensures.lsn;
+  small = c.read.ensures.small;
+  log = refl;
+  kept = λ tells.
+      let there = c.requires.there in
+      kept_after (image g c) (g.D.Disk.state c.args.disk.now).files c.shape_of-shape.result (length c.as_slice.result.now) c.file_of-file.result c.args.lsn
+      (of_shape g c) (of_streams g c) (of_file g c) c.args.log.now.state.value (entries g c) c.args.log.now.buffers c.read.new.self
+      (TellsContents (g.D.Disk.state c.args.disk.now)) c.read.result tells c.requires.sound.valid c.requires.stable
+      (subst (λ (n : ℕ). container_of (hold c.args.log.now.state.value) ≤ container_of n) there.2 there.1.from_hold)
+      (is_stored c.args.log.now.state.value c.args.log.now.physical c.requires.open.blocks c.requires.open.stored)
+      (reads g c tells)
+      (c.changes_keep_blocks.ensures.used c.args.log.now.buffers (block_place c.args.lsn))
+      (λ records place found. c.changes_keep_blocks.ensures.joined c.args.log.now.buffers (block_place c.args.lsn) place records found)
+      c.read.ensures.used c.read.ensures.joins c.read.ensures.refused (c.requires.open.kept tells);
+  same = c.read.ensures.same;
+  time = c.read.ensures.time;
+  cause = c.read.ensures.cause;
+  steady = c.read.ensures.steady;
+  quiet = λ some. (c.read.ensures.quiet some).0;
+  calls_at_most = c.read.ensures.calls_at_most;
+}

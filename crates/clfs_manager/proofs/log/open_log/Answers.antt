@@ -1,4 +1,4 @@
-use Rattle.std.proofs.Common.{◌<◌, length, refl, sym, ap, ◌∙◌, arith}
+use Rattle.std.proofs.Common.{length, refl, sym, ap, ◌∙◌, arith}
 use Rattle.clfs_physical.specs.Stored.{Newest}
 use Rattle.clfs_queue.specs.Queued.{Queued}
 use Rattle.clfs_recover.specs.Walk.{shape_of}
@@ -9,7 +9,7 @@ open_records-requires-clause-fit c = c.opened_parts_fit.ensures.tables
 
 pub returns : goal.returns
 returns c = record {
-  state = ap (λ told. told.value) c.forget_low.ensures.same.state ∙ c.state_of-state.ensures;
+  state = ap (λ told. told.value) c.forget_low.ensures.same.state ∙ c.pick-state.ensures;
   holds = c.forget_low.ensures.sound.holds;
   newest = c.forget_low.ensures.same.physical ∙ c.in_ok-physical.ensures;
   kept = c.forget_low.ensures.same.buffers ∙ c.in_ok-blocks.ensures.kept;
@@ -22,7 +22,7 @@ forget_low-requires c =
     let fits = c.opened_parts_fit.ensures in
     let queue = c.in_ok-blocks.ensures.queue in
     let has = c.in_ok-records.ensures in
-    let told = c.state_of-state.ensures in
+    let told = c.pick-state.ensures in
     record {
       sound = record {
         valid = rw told fits.valid;

@@ -1,7 +1,5 @@
-use Rattle.std.proofs.Common.{◌≡◌, ⊎_elim, Option, Some, None, true, ap, sym, ◌∙◌}
-use Rattle.clfs_model.specs.declared.refusal.Refusal.{Refusal}
+use Rattle.std.proofs.Common.{◌≡◌, ⊎_elim, Some, None, true, ap, sym, ◌∙◌}
 use Rattle.clfs_model.specs.declared.refusal.Refusal.TheVariants as refusals
-use Rattle.clfs_model.specs.declared.state.State.{State}
 use Rattle.clfs_model.specs.Refusals.{tail_refusal}
 use Rattle.clfs_model.specs.Step.{with_broken}
 use Rattle.clfs_restore.proofs.Moved.{was_moved, was_refused, flushed_is_fine, writes_as}
@@ -10,11 +8,14 @@ use Rattle.clfs_restore.proofs.moving.move_to.Goals as goal
 pub returns-in-Ok-clause-moved : goal.returns-in-Ok-clause-moved
 returns-in-Ok-clause-moved g c =
     let s = c.args.manager.now.0 in
-    (was_moved s c.set_archive_tail.new.self.0 c.args.lsn c.requires.unbroken c.in-Ok.field-0 (c.in-Ok.ensures.step true 0)).1
+    (was_moved s c.set_archive_tail.new.self.0 c.args.lsn c.requires.unbroken c.in-Ok.field-0 ((c.in-Ok.ensures.call 0).step true)).1
     ∙ ap (λ n. record s { archive = Some n }) c.requires.stable
 
 pub returns-in-Ok-clause-moments : goal.returns-in-Ok-clause-moments
-returns-in-Ok-clause-moments g c client = let moments = c.set_archive_tail.ensures.moments client in rw c.requires.stable at moments
+returns-in-Ok-clause-moments g c client = let moments = (c.set_archive_tail.ensures.call client).moments in rw c.requires.stable at moments
+
+pub returns-in-Ok-clause-writes : goal.returns-in-Ok-clause-writes
+returns-in-Ok-clause-writes g c = writes_as _ _ _ _ (λ e. cc e) (λ e. cc e) (c.in-Ok.ensures.call 0).writes
 
 pub returns-in-Err-clause-refused : goal.returns-in-Err-clause-refused
 returns-in-Err-clause-refused g c =
@@ -24,10 +25,10 @@ returns-in-Err-clause-refused g c =
     let none : tail_refusal s c.args.lsn ≡ None = ap (tail_refusal s) c.requires.stable ∙ fine in
     ⊎_elim (λ (fault : (tail_refusal s c.args.lsn ≡ None) × ((c.in-Err.refusal ≡ refusals.DiskFault) × (t ≡ with_broken s))). fault.1)
     (λ (own : (tail_refusal s c.args.lsn ≡ Some c.in-Err.refusal) × (t ≡ s)). let never : None ≡ Some c.in-Err.refusal = sym none ∙ own.0 in absurd (cc never))
-    (was_refused s t c.args.lsn c.requires.unbroken c.in-Err.refusal (c.in-Err.ensures.step true 0))
+    (was_refused s t c.args.lsn c.requires.unbroken c.in-Err.refusal ((c.in-Err.ensures.call 0).step true))
 
 pub returns-in-Err-clause-writes : goal.returns-in-Err-clause-writes
-returns-in-Err-clause-writes g c = writes_as _ _ _ _ (λ e. cc e) (λ e. cc e) c.in-Err.ensures.writes
+returns-in-Err-clause-writes g c = writes_as _ _ _ _ (λ e. cc e) (λ e. cc e) (c.in-Err.ensures.call 0).writes
 
 pub returns-in-Err-clause-moments : goal.returns-in-Err-clause-moments
-returns-in-Err-clause-moments g c client = let moments = c.set_archive_tail.ensures.moments client in rw c.requires.stable at moments
+returns-in-Err-clause-moments g c client = let moments = (c.set_archive_tail.ensures.call client).moments in rw c.requires.stable at moments

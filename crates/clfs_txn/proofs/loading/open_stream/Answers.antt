@@ -1,4 +1,4 @@
-use Rattle.std.proofs.Common.{refl, ap, sym, ◌∙◌, ◌≡◌, false, true}
+use Rattle.std.proofs.Common.{refl, ap}
 use Rattle.clfs_model.specs.declared.call.Call.TheVariants as log_calls
 use Rattle.clfs_txn.proofs.Moments.{call_leaves, none_leaves}
 use Rattle.clfs_txn.proofs.loading.open_stream.Goals as goal
@@ -6,7 +6,7 @@ use Rattle.clfs_txn.proofs.loading.open_stream.Goals as goal
 pub returns-clause-moments : goal.returns-clause-moments
 returns-clause-moments g c = λ before after whole.
     call_leaves g.D.Disk.state before after _ _ _ _ _ _ _ _ _ c.the_same_log_has_the_same_table.ensures refl (ap (λ n. log_calls.OpenStream n) c.in_ok-name.ensures.name) refl refl whole
-    c.open_stream.ensures.moments
+    c.open_stream.ensures.call.moments
 
 pub returns-in_err-name-clause-moments : goal.returns-in_err-name-clause-moments
 returns-in_err-name-clause-moments g c = λ before after whole.

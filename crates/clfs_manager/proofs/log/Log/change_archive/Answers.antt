@@ -1,7 +1,10 @@
-use Rattle.std.proofs.Common.{ap, ◌∙◌, sym, subst}
+use Rattle.std.proofs.Common.{refl, ap, ◌∙◌, sym, subst}
+use Rattle.std.specs.Prelude.{IsErr, IsOk}
 use Rattle.clfs_model.specs.declared.state.State.{State}
 use Rattle.clfs_physical.specs.Stored.{Newest}
 use Rattle.clfs_manager.specs.Flushing.{StoredAfter}
+use Rattle.clfs_manager.specs.Settings.{with_archive}
+use Rattle.clfs_manager.proofs.Called.{calls_fine, stores_failed}
 use Rattle.clfs_manager.proofs.StillStorable.{storable_archived}
 use Rattle.clfs_manager.proofs.log.Log.change_archive.Goals as goal
 
@@ -9,19 +12,17 @@ pub forget_low-requires : goal.forget_low-requires
 forget_low-requires g c =
     let s : State = c.args.self.now.state.value in
     let sound = c.requires.sound in
-    let stored = c.in_ok-store_archive.ensures in
+    let same = c.in_ok-store_archive.ensures.same in
+    let stored = c.in_ok-store_archive.ensures.change in
     record {
       sound = record {
         valid = rw stored.state c.requires.valid;
         storable = rw stored.state (storable_archived s c.args.tail sound.storable);
-        unbroken = stored.same.broken ∙ sound.unbroken;
+        unbroken = same.broken ∙ sound.unbroken;
         whole = ap (λ (u : State). u.broken) stored.state ∙ sound.whole;
         holds = stored.holds;
       };
     }
-
-pub returns-clause-state : goal.returns-clause-state
-returns-clause-state g c = ap (λ told. told.value) c.forget_low.ensures.same.state ∙ c.in_ok-store_archive.ensures.state
 
 pub returns-clause-same : goal.returns-clause-same
 returns-clause-same g c =
@@ -34,11 +35,25 @@ returns-clause-same g c =
       broken = forgot.broken ∙ stored.broken;
     }
 
-pub returns-clause-stored : goal.returns-clause-stored
-returns-clause-stored g c =
+pub returns-in_err-store_archive-clause-change : goal.returns-in_err-store_archive-clause-change
+returns-in_err-store_archive-clause-change g c =
+    stores_failed c.store_archive.result c.from_residual.result (with_archive c.args.tail c.args.self.now.state.value) (g.D.Disk.state c.args.disk.now)
+    (g.D.Disk.state c.store_archive.new.disk) c.args.self.now c.store_archive.new.self
+    (subst (λ r. IsErr r) (sym c.in_err-store_archive.was) refl) c.from_residual.ensures.0 c.store_archive.ensures.change
+
+pub returns-clause-change : goal.returns-clause-change
+returns-clause-change g c =
     let s : State = c.args.self.now.state.value in
     let before = g.D.Disk.state c.args.disk.now in
     let after = g.D.Disk.state c.store_archive.new.disk in
     let forgot = c.forget_low.ensures.same in
-    subst (λ (t : State). StoredAfter before after s t c.args.self.now.physical c.forget_low.new.self.physical) (sym (ap (λ told. told.value) forgot.state))
-    (subst (λ (n : Newest). StoredAfter before after s c.store_archive.new.self.state.value c.args.self.now.physical n) (sym forgot.physical) c.in_ok-store_archive.ensures.stored)
+    record {
+      state = ap (λ told. told.value) forgot.state ∙ c.in_ok-store_archive.ensures.change.state;
+      holds = c.forget_low.ensures.sound.holds;
+      stored = subst (λ (t : State). StoredAfter before after s t c.args.self.now.physical c.forget_low.new.self.physical) (sym (ap (λ told. told.value) forgot.state))
+          (subst (λ (n : Newest). StoredAfter before after s c.store_archive.new.self.state.value c.args.self.now.physical n) (sym forgot.physical) c.in_ok-store_archive.ensures.change.stored);
+      meanwhile = c.store_archive.ensures.change.meanwhile;
+      broken = tt;
+      calls = calls_fine c.store_archive.result tt c.args.self.now.physical.image before after (subst (λ r. IsOk r) (sym c.in_ok-store_archive.was) refl)
+          c.store_archive.ensures.change.calls;
+    }

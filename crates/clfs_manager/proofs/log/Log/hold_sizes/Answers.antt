@@ -35,15 +35,15 @@ returns-clause-sound c =
     let area : Area = area_at c.args.place old.areas.areas in
     let info = c.area-area.result in
     let sectors = c.own_sum-sectors.result in
-    let told : State = c.with_more_held-self.result.value in
-    let made : told ≡ change_area (with_more_held sectors) area.client area.number s = c.with_more_held-self.ensures
+    let told : State = c.next-self.result.value in
+    let made : told ≡ change_area (with_more_held sectors) area.client area.number s = c.next-self.ensures
     ∙ ap (λ (n : ℕ). change_area (with_more_held sectors) n info.number s) c.area-area.ensures.client
     ∙ ap (λ (n : ℕ). change_area (with_more_held sectors) area.client n s) c.area-area.ensures.number in
     let sum : sectors ≡ own_sum sizes = c.own_sum-sectors.ensures.value ∙ ap own_sum c.as_slice-2.ensures.value in
     let is : told ≡ hold_sizes area sizes s = made ∙ ap (λ (n : ℕ). change_area (with_more_held n) area.client area.number s) sum
     ∙ sym (holds_more area sizes s (λ none.
     let wrong : false ≡ true = c.if-is_empty.ensures ∙ ap (λ (lengths : List ℕ). length lengths == 0) (c.as_slice.ensures.value ∙ none) in cc)) in
-    let changes : ChangesAreas old (record old { areas = c.hold.new.self; state = c.with_more_held-self.result }) = record {
+    let changes : ChangesAreas old (record old { areas = c.hold.new.self; state = c.next-self.result }) = record {
       state = made ∙ ap (λ (t : State). record s { areas = t.areas }) (sym made);
       areas = c.hold.ensures.areas ∙ ap (λ (areas : List Area). change_first (is_area area.client area.number) (with_more_held sectors) areas) sound.holds.areas
           ∙ sym (ap (λ (t : State). t.areas) made);

@@ -12,75 +12,68 @@ use Rattle.clfs_manager.proofs.log.Log.prepare.Goals as goal
 pub grow-requires-clause-intact : goal.grow-requires-clause-intact
 grow-requires-clause-intact g c = intact_same (g.D.Disk.state c.args.disk.now) c.args.self.now c.take_memory.new.self c.take_memory.ensures.same c.requires.intact
 
-pub returns-in_err-room-clause-left : goal.returns-in_err-room-clause-left
-returns-in_err-room-clause-left g c = left_intact (g.D.Disk.state c.args.disk.now) c.take_memory.new.self
+pub returns-in_err-take_memory-clause-left : goal.returns-in_err-take_memory-clause-left
+returns-in_err-take_memory-clause-left g c = left_intact (g.D.Disk.state c.args.disk.now) c.take_memory.new.self
     (intact_same (g.D.Disk.state c.args.disk.now) c.args.self.now c.take_memory.new.self c.take_memory.ensures.same c.requires.intact)
 
 pub returns-in-Ok-clause-state : goal.returns-in-Ok-clause-state
-returns-in-Ok-clause-state g c = c.in-Ok.ensures.state ∙ ap (λ t. grown t.value c.args.need) c.take_memory.ensures.same.state
+returns-in-Ok-clause-state g c = c.in-Ok.ensures.change.state ∙ ap (λ t. grown t.value c.args.need) c.take_memory.ensures.same.state
 
 pub returns-in-Ok-clause-intact : goal.returns-in-Ok-clause-intact
-returns-in-Ok-clause-intact g c = c.in-Ok.ensures.intact
+returns-in-Ok-clause-intact g c = c.in-Ok.ensures.change.intact
 
 pub returns-in-Ok-clause-areas : goal.returns-in-Ok-clause-areas
-returns-in-Ok-clause-areas g c = c.in-Ok.ensures.same.areas ∙ c.take_memory.ensures.same.areas
-
-pub returns-in-Ok-clause-heads : goal.returns-in-Ok-clause-heads
-returns-in-Ok-clause-heads g c = rw c.in-Ok.ensures.same.tables c.in_ok-room.ensures.heads
-
-pub returns-in-Ok-clause-ends : goal.returns-in-Ok-clause-ends
-returns-in-Ok-clause-ends g c = rw c.in-Ok.ensures.same.archive c.in_ok-room.ensures.ends
-
-pub returns-in-Ok-clause-empty : goal.returns-in-Ok-clause-empty
-returns-in-Ok-clause-empty g c = c.in_ok-room.ensures.empty
-
-pub returns-in-Ok-clause-capacity : goal.returns-in-Ok-clause-capacity
-returns-in-Ok-clause-capacity g c = c.in_ok-room.ensures.capacity
+returns-in-Ok-clause-areas g c = c.in-Ok.ensures.change.same.areas ∙ c.take_memory.ensures.same.areas
 
 pub returns-in-Ok-clause-left : goal.returns-in-Ok-clause-left
-returns-in-Ok-clause-left g c = left_intact (g.D.Disk.state c.grow.new.disk) c.grow.new.self c.in-Ok.ensures.intact
+returns-in-Ok-clause-left g c = left_intact (g.D.Disk.state c.grow.new.disk) c.grow.new.self c.in-Ok.ensures.change.intact
 
 pub returns-in-Ok-clause-quiet : goal.returns-in-Ok-clause-quiet
 returns-in-Ok-clause-quiet g c = λ none. (λ fault. cc fault, (c.grow.ensures.quiet (subst (λ t. grows t.value c.args.need ≡ false) (sym c.take_memory.ensures.same.state) none)).1.1)
 
 pub returns-in-Ok-clause-writes : goal.returns-in-Ok-clause-writes
-returns-in-Ok-clause-writes g c = writes_as (IsErrOf c.grow.result physical.DiskFault) _ _ _ (λ f. cc) (λ f. cc) c.grow.ensures.writes
+returns-in-Ok-clause-writes g c = writes_as (IsErrOf c.grow.result physical.DiskFault) _ _ _ (λ f. cc) (λ f. cc) c.grow.ensures.change.writes
 
 pub returns-in-Err-NoMemory-clause-left : goal.returns-in-Err-NoMemory-clause-left
 returns-in-Err-NoMemory-clause-left g c =
     let done = rw c.in-Err-NoMemory.field-0-is at c.in-Err-NoMemory.ensures in
-    left_intact (g.D.Disk.state c.grow.new.disk) c.grow.new.self (done.kept refl)
+    left_intact (g.D.Disk.state c.grow.new.disk) c.grow.new.self (done.change.kept refl)
 
 pub returns-in-Err-NoMemory-clause-writes : goal.returns-in-Err-NoMemory-clause-writes
-returns-in-Err-NoMemory-clause-writes g c = writes_as (IsErrOf c.grow.result physical.DiskFault) _ _ _ (λ f. cc) (λ f. cc) c.grow.ensures.writes
+returns-in-Err-NoMemory-clause-writes g c = writes_as (IsErrOf c.grow.result physical.DiskFault) _ _ _ (λ f. cc) (λ f. cc) c.grow.ensures.change.writes
 
-pub returns-clause-left : goal.returns-clause-left
-returns-clause-left g c =
+pub returns-in-Err-DiskFault-clause-left : goal.returns-in-Err-DiskFault-clause-left
+returns-in-Err-DiskFault-clause-left g c =
     let done = rw c.in-Err-DiskFault.field-0-is at c.in-Err-DiskFault.ensures in
-    let broken = done.broken refl in
+    let broken = done.change.broken refl in
     left_broken (g.D.Disk.state c.grow.new.disk) c.grow.new.self (ap (λ (s : State). s.broken) broken.state) broken.broken
 
-pub returns-clause-writes : goal.returns-clause-writes
-returns-clause-writes g c = writes_as (IsErrOf c.grow.result physical.DiskFault) _ _ _ (λ f. refl) (λ f. cc) c.grow.ensures.writes
+pub returns-in-Err-DiskFault-clause-writes : goal.returns-in-Err-DiskFault-clause-writes
+returns-in-Err-DiskFault-clause-writes g c = writes_as (IsErrOf c.grow.result physical.DiskFault) _ _ _ (λ f. refl) (λ f. cc) c.grow.ensures.change.writes
 
-pub returns-in_err-room-clause-moments : goal.returns-in_err-room-clause-moments
-returns-in_err-room-clause-moments g c = λ asked s before grows. crash_still c.logs_are_copies_and_blocks.ensures.stands c.logs_are_copies_and_blocks.ensures.by_file
+pub returns-in_err-take_memory-clause-moments : goal.returns-in_err-take_memory-clause-moments
+returns-in_err-take_memory-clause-moments g c = λ asked s before grows. crash_still c.logs_are_copies_and_blocks.ensures.stands c.logs_are_copies_and_blocks.ensures.by_file
     (g.D.Disk.state c.args.disk.now) c.args.self.now c.requires.intact asked s before
 
 pub returns-in-Ok-clause-moments : goal.returns-in-Ok-clause-moments
 returns-in-Ok-clause-moments g c = λ asked s before grows.
     let same = ap (λ t. t.value) c.take_memory.ensures.same.state in
-    c.grow.ensures.moments asked s (survives_as asked s _ c.args.self.now.state.value same before)
+    c.grow.ensures.change.moments asked s (survives_as asked s _ c.args.self.now.state.value same before)
     (survives_as asked s _ (grown c.args.self.now.state.value c.args.need) (ap (λ t. grown t c.args.need) same) grows)
 
 pub returns-in-Err-NoMemory-clause-moments : goal.returns-in-Err-NoMemory-clause-moments
 returns-in-Err-NoMemory-clause-moments g c = λ asked s before grows.
     let same = ap (λ t. t.value) c.take_memory.ensures.same.state in
-    c.grow.ensures.moments asked s (survives_as asked s _ c.args.self.now.state.value same before)
+    c.grow.ensures.change.moments asked s (survives_as asked s _ c.args.self.now.state.value same before)
     (survives_as asked s _ (grown c.args.self.now.state.value c.args.need) (ap (λ t. grown t c.args.need) same) grows)
 
-pub returns-clause-moments : goal.returns-clause-moments
-returns-clause-moments g c = λ asked s before grows.
+pub returns-in-Err-DiskFault-clause-moments : goal.returns-in-Err-DiskFault-clause-moments
+returns-in-Err-DiskFault-clause-moments g c = λ asked s before grows.
     let same = ap (λ t. t.value) c.take_memory.ensures.same.state in
-    c.grow.ensures.moments asked s (survives_as asked s _ c.args.self.now.state.value same before)
+    c.grow.ensures.change.moments asked s (survives_as asked s _ c.args.self.now.state.value same before)
     (survives_as asked s _ (grown c.args.self.now.state.value c.args.need) (ap (λ t. grown t c.args.need) same) grows)
+
+pub returns-in-Ok-clause-memory : goal.returns-in-Ok-clause-memory
+returns-in-Ok-clause-memory g c =
+    let taken = c.in_ok-take_memory.ensures.memory in
+    record { heads = rw c.in-Ok.ensures.change.same.tables taken.heads; ends = rw c.in-Ok.ensures.change.same.archive taken.ends }

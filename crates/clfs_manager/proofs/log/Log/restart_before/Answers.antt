@@ -11,18 +11,18 @@ use Rattle.clfs_manager.proofs.Reached.{reaches, after_is_live, found_among, fou
 use Rattle.clfs_manager.proofs.log.Log.restart_before.Goals as goal
 
 pub after-requires-clause-known : goal.after-requires-clause-known
-after-requires-clause-known c = found_known c.args.self.now c.in-Some.place c.area_stream-stream.result c.over_restarts-found.result c.requires.sound c.in-Some.ensures.within
+after-requires-clause-known c = found_known c.args.self.now c.in_ok-place.place c.area_stream-stream.result c.over_restarts-found.result c.requires.sound c.in_ok-place.ensures.within
     c.area_stream-stream.ensures.value
-    (found_among (λ (cursor : Cursor). (cursor.number == c.args.cursor) && is_over_restarts cursor.kind) (area_at c.in-Some.place c.args.self.now.areas.areas).cursors c.over_restarts-found.result c.over_restarts-found.ensures)
+    (found_among (λ (cursor : Cursor). (cursor.number == c.args.cursor) && is_over_restarts cursor.kind) (area_at c.in_ok-place.place c.args.self.now.areas.areas).cursors c.over_restarts-found.result c.over_restarts-found.ensures)
     c.records_are_as_their_heads.ensures.entry_at
 
-pub returns-in-Ok-clause-reaches : goal.returns-in-Ok-clause-reaches
-returns-in-Ok-clause-reaches c = reaches c.args.self.now.state.value c.args.self.now.areas.areas c.args.client c.args.area c.in-Some.place c.in-Ok.head
-    (λ (here : Area). option_and_then (next_of_cursor c.args.self.now.state.value here) (restart_cursor here c.args.cursor)) c.in-Some.ensures.within
-    (c.in-Some.ensures.area c.args.self.now.state.value (sym c.requires.sound.holds.areas))
-    (after_is_live c.args.self.now.state.value (area_at c.in-Some.place c.args.self.now.areas.areas)
-    (restart_cursor (area_at c.in-Some.place c.args.self.now.areas.areas) c.args.cursor))
-    (ap (λ (o : Option Cursor). option_map head_of (option_and_then (next_of_cursor c.args.self.now.state.value (area_at c.in-Some.place c.args.self.now.areas.areas)) o))
+pub returns-clause-reaches : goal.returns-clause-reaches
+returns-clause-reaches c = reaches c.args.self.now.state.value c.args.self.now.areas.areas c.args.client c.args.area c.in_ok-place.place c.in_ok-head.head
+    (λ (here : Area). option_and_then (next_of_cursor c.args.self.now.state.value here) (restart_cursor here c.args.cursor)) c.in_ok-place.ensures.within
+    c.in_ok-place.ensures.there
+    (after_is_live c.args.self.now.state.value (area_at c.in_ok-place.place c.args.self.now.areas.areas)
+    (restart_cursor (area_at c.in_ok-place.place c.args.self.now.areas.areas) c.args.cursor))
+    (ap (λ (o : Option Cursor). option_map head_of (option_and_then (next_of_cursor c.args.self.now.state.value (area_at c.in_ok-place.place c.args.self.now.areas.areas)) o))
     (sym c.over_restarts-found.ensures)
-    ∙ c.in-Ok.ensures.head c.args.self.now.state.value (sym c.requires.sound.holds.streams) (sym c.requires.sound.holds.heads)
-    (area_at c.in-Some.place c.args.self.now.areas.areas) (sym c.area_stream-stream.ensures.value))
+    ∙ c.in_ok-head.ensures.head c.args.self.now.state.value (sym c.requires.sound.holds.streams) (sym c.requires.sound.holds.heads)
+    (area_at c.in_ok-place.place c.args.self.now.areas.areas) (sym c.area_stream-stream.ensures.value))

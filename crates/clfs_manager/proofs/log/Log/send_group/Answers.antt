@@ -106,26 +106,22 @@ returns-clause-group g c =
       ),
     )))
 
-pub returns-clause-steady : goal.returns-clause-steady
-returns-clause-steady g c = λ steady made.
-    let ended = c.requires.ended.ended in
-    let firm = c.requires.ended.laid in
-    let old : Log = c.requires.ended.before in
-    let long : old.physical.image.container_sectors ≡ c.args.self.now.queue.shape.container_sectors =
-    ap (λ (n : Shape). n.container_sectors) (firm.holds.image_shape ∙ sym firm.holds.shape ∙ sym (is_ended old.queue).shape ∙ ap (λ (q : Queued). q.shape) (sym ended.queue)) in
-    elim c.group-at.ensures.bytes [
-      | inl none ↦ let nothing = c.flush.ensures.nothing none.0 in (nothing.0, ap (λ d. (g.D.Disk.state d).faults) nothing.1)
-      | inr some ↦ c.flush.ensures.steady steady made (rw ended.physical (omega (arith, some.within, long)))
-    ]
-
-pub returns-clause-settled : goal.returns-clause-settled
-returns-clause-settled g c = c.flush.ensures.settled
-
 pub returns-clause-lengths : goal.returns-clause-lengths
 returns-clause-lengths g c = c.flush.ensures.lengths
 
-pub returns-clause-time : goal.returns-clause-time
-returns-clause-time g c = c.flush.ensures.time
-
-pub returns-clause-cause : goal.returns-clause-cause
-returns-clause-cause g c = c.flush.ensures.cause
+pub returns-clause-calls : goal.returns-clause-calls
+returns-clause-calls g c = record {
+  settled = c.flush.ensures.settled;
+  time = c.flush.ensures.time;
+  cause = c.flush.ensures.cause;
+  steady = λ steady made.
+      let ended = c.requires.ended.ended in
+      let firm = c.requires.ended.laid in
+      let old : Log = c.requires.ended.before in
+      let long : old.physical.image.container_sectors ≡ c.args.self.now.queue.shape.container_sectors =
+      ap (λ (n : Shape). n.container_sectors) (firm.holds.image_shape ∙ sym firm.holds.shape ∙ sym (is_ended old.queue).shape ∙ ap (λ (q : Queued). q.shape) (sym ended.queue)) in
+      elim c.group-at.ensures.bytes [
+        | inl none ↦ let nothing = c.flush.ensures.nothing none.0 in (nothing.0, ap (λ d. (g.D.Disk.state d).faults) nothing.1)
+        | inr some ↦ c.flush.ensures.steady steady made (rw ended.physical (omega (arith, some.within, long)))
+      ];
+}

@@ -33,17 +33,17 @@ returns-in_err-write_group-clause-change g c =
       flushed = c.seals_and_flushes_keep_a_log.ensures.flush_laid s c.requires.laid.laid;
       some = is_image.some_listed;
       laws = group_laws;
-      last = c.requires.last;
-      number = c.requires.there;
-      up = c.requires.up;
-      valid = c.requires.valid;
+      last = c.requires.may.last;
+      number = c.requires.may.there;
+      up = c.requires.may.up;
+      valid = c.requires.may.valid;
       sends = c.write_group.ensures.group;
     }) in
     changes_broken c.from_residual.result (s ∷ []) (rebased c.args.stream c.args.base (flush s)) (g.D.Disk.state c.args.disk.now) (g.D.Disk.state c.write_group.new.disk)
     c.write_group.new.self c.from_residual.ensures.0 c.in_err-write_group.ensures.broken.broken
     (writes_failed _ (g.D.Disk.state c.args.disk.now) (g.D.Disk.state c.write_group.new.disk) old.state.value old c.from_residual.ensures.0 c.requires.opened
-    c.write_group.ensures.time c.in_err-write_group.ensures.cause
-    (λ calm made. let fine = (c.write_group.ensures.steady calm made).0 in let wrong = subst (λ r. IsOk r) c.in_err-write_group.was fine in cc wrong))
+    c.write_group.ensures.calls.time c.in_err-write_group.ensures.calls.cause
+    (λ calm made. let fine = (c.write_group.ensures.calls.steady calm made).0 in let wrong = subst (λ r. IsOk r) c.in_err-write_group.was fine in cc wrong))
     (λ asked t all last. crashes asked t (All-head (Survive asked t) s [] all) last)
 
 module _ (g : Over) (c : goal.After-self-1 g) where
@@ -70,9 +70,9 @@ module _ (g : Over) (c : goal.After-self-1 g) where
         flushed = c.seals_and_flushes_keep_a_log.ensures.flush_laid s c.requires.laid.laid;
         some = is_image.some_listed;
         laws = group_laws;
-        last = c.requires.last;
-        number = c.requires.there;
-        up = c.requires.up;
+        last = c.requires.may.last;
+        number = c.requires.may.there;
+        up = c.requires.may.up;
         state = c.in_ok-write_group.ensures.state;
         holds = c.in_ok-write_group.ensures.holds;
         same = c.in_ok-write_group.ensures.same;
@@ -82,9 +82,9 @@ module _ (g : Over) (c : goal.After-self-1 g) where
   moved : IsYetToForget (g.D.Disk.state c.write_group.new.disk) (record c.write_group.new.self { tables = c.move_base.new.tables; state = c.rebased-self.result })
   moved =
       moved_to_forget (g.D.Disk.state c.args.disk.now) (g.D.Disk.state c.write_group.new.disk) old written
-      (record written { tables = c.move_base.new.tables; state = c.rebased-self.result }) c.args.stream c.args.base is_finished c.requires.valid c.requires.storable
-      c.move_base.ensures.streams c.move_base.ensures.heads c.move_base.ensures.low refl c.rebased-self.ensures c.in_ok-write_group.ensures.settled
-      c.write_group.ensures.time.nature
+      (record written { tables = c.move_base.new.tables; state = c.rebased-self.result }) c.args.stream c.args.base is_finished c.requires.may.valid c.requires.may.storable
+      c.move_base.ensures.streams c.move_base.ensures.heads c.move_base.ensures.low refl c.rebased-self.ensures c.in_ok-write_group.ensures.calls.settled
+      c.write_group.ensures.calls.time.nature
 
 pub returns-clause-change : goal.returns-clause-change
 returns-clause-change g c =
@@ -106,10 +106,10 @@ returns-clause-change g c =
       flushed = c.seals_and_flushes_keep_a_log.ensures.flush_laid s c.requires.laid.laid;
       some = is_image.some_listed;
       laws = group_laws;
-      last = c.requires.last;
-      number = c.requires.there;
-      up = c.requires.up;
-      valid = c.requires.valid;
+      last = c.requires.may.last;
+      number = c.requires.may.there;
+      up = c.requires.may.up;
+      valid = c.requires.may.valid;
       sends = c.write_group.ensures.group;
     }) in
     record {
@@ -119,6 +119,6 @@ returns-clause-change g c =
       writes = writes_fine (false ≡ true) (g.D.Disk.state c.args.disk.now) (g.D.Disk.state c.write_group.new.disk) old.state.value
           (finished c.args.stream c.args.base old.state.value) old c.write_group.new.self (λ f. cc f) c.requires.opened
           (stored_by_group (g.D.Disk.state c.args.disk.now) (g.D.Disk.state c.write_group.new.disk) old c.write_group.new.self c.args.stream c.args.base (is_finished g c))
-          c.write_group.ensures.time (λ calm made. (c.write_group.ensures.steady calm made).1);
+          c.write_group.ensures.calls.time (λ calm made. (c.write_group.ensures.calls.steady calm made).1);
       moments = λ asked t all last. crashes asked t (All-head (Survive asked t) s [] all) last;
     }

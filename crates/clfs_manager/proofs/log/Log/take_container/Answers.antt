@@ -109,3 +109,7 @@ returns-clause-meanwhile g c = λ blocks stored settled whole stores.
     let two = both g c blocks stored in
     turned_meanwhile (g.D.Disk.state c.args.disk.now) (g.D.Disk.state c.turn.new.disk) (s g c) (turned (s g c)) (now g c) (first g c) (file g c) blocks whole stored two.0 two.1
     (c.turn.ensures.moments settled whole (file g c) blocks c.turn.ensures.file.1 stores)
+
+pub returns-clause-calls : goal.returns-clause-calls
+returns-clause-calls g c =
+    record { settled = c.turn.ensures.settled; time = c.turn.ensures.time; cause = c.turn.ensures.cause; steady = c.turn.ensures.steady }

@@ -34,7 +34,7 @@ returns-clause-change g c =
     takes.first takes.listed takes.containers takes.shape takes.dedicated takes.rows in
     let before = g.D.Disk.state c.args.disk.now in
     let behind = g.D.Disk.state c.take_container.new.disk in
-    let nature = c.take_container.ensures.time.nature in
+    let nature = c.take_container.ensures.calls.time.nature in
     record {
       state = to;
       left = record {
@@ -49,11 +49,11 @@ returns-clause-change g c =
         stored = rw to is.1.0;
         files = λ tells. let earlier = tells_before before behind nature tells in is.1.1 earlier false (opened.files earlier);
         kept = λ tells. rw (to, ap (λ (l : Log). l.buffers) same) (kept_turned s old.buffers sound.valid may (opened.kept (tells_before before behind nature tells)));
-        settled = stays_settled before behind nature c.in_default.ensures.settled opened.settled;
+        settled = stays_settled before behind nature c.in_default.ensures.calls.settled opened.settled;
       };
       broken = tt;
-      writes = writes_fine (false ≡ true) before behind s (turned s) old taken (λ f. cc f) opened c.in_default.ensures.stored c.take_container.ensures.time
-          (λ calm made. (c.take_container.ensures.steady calm made).1);
+      writes = writes_fine (false ≡ true) before behind s (turned s) old taken (λ f. cc f) opened c.in_default.ensures.stored c.take_container.ensures.calls.time
+          (λ calm made. (c.take_container.ensures.calls.steady calm made).1);
       moments = λ asked t all last. crash_stored c.logs_are_copies_and_blocks.ensures.stands c.logs_are_copies_and_blocks.ensures.by_file before behind s (turned s) old
           opened c.take_container.ensures.meanwhile (valid_holds s sound.valid) (valid_holds (turned s) may.valid) asked t (All-head (Survive asked t) s [] all) last;
     }
@@ -68,8 +68,8 @@ returns-in-Err-clause-change g c =
       state = tt;
       left = tt;
       broken = c.break_log.ensures.broken.broken;
-      writes = writes_failed (true ≡ true) before behind s old refl c.requires.intact.opened c.take_container.ensures.time c.in-Err.ensures.cause
-          (λ calm made. let wrong = subst (λ r. IsOk r) c.in-Err.is (c.take_container.ensures.steady calm made).0 in cc wrong);
+      writes = writes_failed (true ≡ true) before behind s old refl c.requires.intact.opened c.take_container.ensures.calls.time c.in-Err.ensures.calls.cause
+          (λ calm made. let wrong = subst (λ r. IsOk r) c.in-Err.is (c.take_container.ensures.calls.steady calm made).0 in cc wrong);
       moments = λ asked t all last. crash_stored c.logs_are_copies_and_blocks.ensures.stands c.logs_are_copies_and_blocks.ensures.by_file before behind s (turned s) old
           c.requires.intact.opened c.take_container.ensures.meanwhile (valid_holds s c.requires.intact.sound.valid) (valid_holds (turned s) c.requires.may.valid)
           asked t (All-head (Survive asked t) s [] all) last;

@@ -19,12 +19,12 @@ returns-clause-change g c =
     let after = g.D.Disk.state c.write_out.new.disk in
     let sound = c.requires.intact.sound in
     let whole = c.seals_and_flushes_keep_a_log.ensures.flush s sound.valid sound.storable in
-    let out = c.write_out.ensures in
+    let out = c.write_out.ensures.change in
     record {
       state = out.state;
-      left = flushed_intact c.write_out.result before after old new c.requires.intact whole out.state out.holds out.same out.stored out.settled out.time.nature;
+      left = flushed_intact c.write_out.result before after old new c.requires.intact whole out.state out.holds c.write_out.ensures.same out.stored out.calls.settled out.calls.time.nature;
       broken = on_err_by c.write_out.result (λ is. is.broken) out.broken;
-      writes = writes_stored c.write_out.result before after s new.state.value old new c.requires.intact.opened out.stored out.time out.cause out.steady;
+      writes = writes_stored c.write_out.result before after s new.state.value old new c.requires.intact.opened out.stored out.calls.time out.calls.cause out.calls.steady;
       moments = λ asked t all last. crash_stored c.logs_are_copies_and_blocks.ensures.stands c.logs_are_copies_and_blocks.ensures.by_file before after s (flush s) old
           c.requires.intact.opened out.meanwhile (valid_holds s sound.valid) (valid_holds (flush s) whole.valid) asked t (All-head (Survive asked t) s [] all) last;
     }

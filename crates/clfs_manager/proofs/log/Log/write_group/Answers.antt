@@ -9,9 +9,11 @@ use Rattle.clfs_model.specs.Step.{with_broken}
 use Rattle.clfs_physical.specs.Stored.{Newest}
 use Rattle.clfs_queue.specs.Queued.{Queued, seal}
 use Rattle.clfs_recover.specs.Walk.{shape_of}
+use Rattle.clfs_manager.specs.Storing.{CallsDisk}
 use Rattle.clfs_manager.proofs.ClosedPlace.{closed_place, flush_is, is_ended, is_closed_of}
 use Rattle.clfs_manager.proofs.Crashes.{written_by_group, group_of_answer}
 use Rattle.clfs_manager.proofs.FlushedLog.{done, hold_closed, none_unflushed}
+use Rattle.clfs_manager.proofs.Called.{calls_fine, calls_named}
 use Rattle.clfs_manager.proofs.log.Log.write_group.Goals as goal
 
 pub send_group-requires : goal.send_group-requires
@@ -100,11 +102,21 @@ returns-in-Err-clause-broken g c = record {
 pub returns-clause-lengths : goal.returns-clause-lengths
 returns-clause-lengths g c = c.send_group.ensures.lengths
 
-pub returns-clause-time : goal.returns-clause-time
-returns-clause-time g c = c.send_group.ensures.time
-
 pub returns-in-Err-clause-lengths : goal.returns-in-Err-clause-lengths
 returns-in-Err-clause-lengths g c = c.send_group.ensures.lengths
 
-pub returns-in-Err-clause-time : goal.returns-in-Err-clause-time
-returns-in-Err-clause-time g c = c.send_group.ensures.time
+pub returns-in-Err-clause-calls : goal.returns-in-Err-clause-calls
+returns-in-Err-clause-calls g c =
+    let image = c.end_block.new.self.physical.image in
+    let before = g.D.Disk.state c.args.disk.now in
+    let after = g.D.Disk.state c.send_group.new.disk in
+    calls_named _ c.end_block.new.self.physical c.args.self.now.physical before after c.end_block.ensures.ended.physical
+    (subst (λ r. CallsDisk r image before after) c.in-Err.is c.send_group.ensures.calls)
+
+pub returns-clause-calls : goal.returns-clause-calls
+returns-clause-calls g c =
+    let image = c.end_block.new.self.physical.image in
+    let before = g.D.Disk.state c.args.disk.now in
+    let after = g.D.Disk.state c.send_group.new.disk in
+    calls_named _ c.end_block.new.self.physical c.args.self.now.physical before after c.end_block.ensures.ended.physical
+    (calls_fine c.send_group.result tt image before after (subst (λ r. IsOk r) (sym c.in_default.is) refl) c.send_group.ensures.calls)

@@ -1,5 +1,5 @@
-use Rattle.std.proofs.Common.{◌≡◌, ℕ, ◌*◌, ◌≤◌, arith, length, subst}
-use Rattle.std.specs.Prelude.{nat_le}
+use Rattle.std.proofs.Common.{◌≡◌, ◌∙◌, ℕ, ◌*◌, ◌≤◌, arith, true, false, length, refl, subst, sym}
+use Rattle.std.specs.Prelude.{Some, nat_le}
 use Rattle.std.proofs.lemmas.List.Sums.{count_by-le-length, length-filter}
 use Rattle.clfs_lsn.specs.Heads.{heads_from}
 use Rattle.clfs_model.specs.declared.state.State.{State}
@@ -7,6 +7,7 @@ use Rattle.clfs_model.specs.Flush.{block_start}
 use Rattle.clfs_model.specs.Heads.{heads_of}
 use Rattle.clfs_archive.specs.Blocks.{blocks_from, sealed_lasts}
 use Rattle.clfs_archive.specs.declared.block.BlockEnd.{BlockEnd}
+use Rattle.clfs_manager.specs.Keeping.{KeepsFew}
 use Rattle.clfs_manager.specs.Memory.{HasForgotten, Holds, hold_start, lasts_needed}
 use Rattle.clfs_manager.specs.declared.log.Log.{Log}
 use Rattle.clfs_manager.proofs.KeptHeads.{seen}
@@ -33,22 +34,16 @@ all s log count is are =
     let test : BlockEnd → _ = λ (block : BlockEnd). nat_le log.tables.low block.last in
     omega (arith, is, are, length-filter test log.archive.blocks, count_by-le-length test log.archive.blocks)
 
-pub returns-clause-few : goal.returns-clause-few
-returns-clause-few g c =
+pub returns : goal.returns
+returns g c =
     let log : Log = c.self.inside.log in
     let s : State = log.state.value in
     let opened = c.self.invariant.whole c.if-self.false in
-    seen (λ (t : State). c.len.result ≤ 2 * length (lasts_needed t)) (s, c.self.inside.disk) c.args.self.now c.self.view_is
-    (few s log c.len.result opened.forgotten c.len.ensures.value
-    (needed s log opened.memory opened.forgotten
-    (c.len.ensures.sealed log.tables.low log.tables.low (block_start s.place) (heads_of s) (omega arith) opened.memory.sealed)))
-
-pub returns-clause-all : goal.returns-clause-all
-returns-clause-all g c =
-    let log : Log = c.self.inside.log in
-    let s : State = log.state.value in
-    let opened = c.self.invariant.whole c.if-self.false in
-    seen (λ (t : State). length (lasts_needed t) ≤ c.len.result) (s, c.self.inside.disk) c.args.self.now c.self.view_is
-    (all s log c.len.result c.len.ensures.value
-    (needed s log opened.memory opened.forgotten
-    (c.len.ensures.sealed log.tables.low log.tables.low (block_start s.place) (heads_of s) (omega arith) opened.memory.sealed)))
+    let are = needed s log opened.memory opened.forgotten
+    (c.len.ensures.sealed log.tables.low log.tables.low (block_start s.place) (heads_of s) (omega arith) opened.memory.sealed) in
+    seen (λ (t : State). KeepsFew t true (length (lasts_needed t)) (Some c.len.result)) (s, c.self.inside.disk) c.args.self.now c.self.view_is (record {
+      there = λ _. refl;
+      all = all s log c.len.result c.len.ensures.value are;
+      few = few s log c.len.result opened.forgotten c.len.ensures.value are;
+      broken = λ broken. let wrong : false ≡ true = sym (c.self.invariant.broken ∙ c.if-self.false) ∙ broken in absurd (cc wrong);
+    })

@@ -1,8 +1,13 @@
-use Rattle.clfs_model.specs.declared.reply.Happened.TheVariants.{Fine}
-use Rattle.clfs_manager.proofs.Crashes.{after_survives, crash_flush, crash_seen, never_ok}
-use Rattle.clfs_manager.proofs.Intact.{intact_managed, writes_failed}
-use Rattle.clfs_model.specs.Run.{asks}
-use Rattle.clfs_manager.proofs.Crashes.{crash_broken, crash_managed}
+use Rattle.std.proofs.Common.{ap}
+use Rattle.clfs_model.specs.declared.state.Area.{Area}
+use Rattle.clfs_model.specs.Step.{is_pending}
+use Rattle.std.specs.Prelude.{Result}
+use Rattle.std.proofs.Common.{ℕ, subst}
+use Rattle.clfs_model.specs.declared.refusal.Refusal.{Refusal}
+use Rattle.clfs_manager.specs.Calls.{WritesAs}
+use Rattle.clfs_manager.proofs.OwnRefusals.{error_of}
+use Rattle.clfs_manager.proofs.WritingCalls.{fault_calls, flushed_written, call_refused, call_stopped, stored_done, stored_faulted}
+use Rattle.clfs_manager.proofs.Intact.{intact_managed}
 use Rattle.std.proofs.Common.{◌≡◌, refl, sym, ◌∙◌, false}
 use Rattle.std.specs.Prelude.{None}
 use Rattle.clfs_model.specs.declared.call.Call.TheVariants as calls
@@ -11,14 +16,13 @@ use Rattle.clfs_model.specs.declared.state.State.{State}
 use Rattle.clfs_model.specs.Flush.{flush, flushed}
 use Rattle.clfs_model.specs.Refusals.{refusal}
 use Rattle.clfs_manager.proofs.FlushKeeps.{on_ok, on_err, managed_broken, managed_flushed}
-use Rattle.clfs_manager.proofs.Intact.{writes_fine, writes_seen}
 use Rattle.clfs_manager.proofs.manager.Manager.flush.Goals as goal
 
 pub invariant_of-self : goal.invariant_of-self
 invariant_of-self g c =
     managed_broken (g.D.Disk.state c.self.inside.disk) (g.D.Disk.state c.write_out.new.disk) c.self.inside.log c.write_out.new.self
-    c.steps_keep_a_state_valid.ensures.reopening c.steps_keep_a_state_storable.ensures.reopening c.self.invariant c.if-self.false
-    (on_err c.write_out.result (sym c.is_err.ensures.value ∙ c.if-is_err.true) c.write_out.ensures.broken)
+    c.calls_follow_laws.ensures.opened_valid c.calls_follow_laws.ensures.opened_storable c.self.invariant c.if-self.false
+    (on_err c.write_out.result (sym c.is_err.ensures.value ∙ c.if-is_err.true) c.write_out.ensures.change.broken)
 
 pub invariant_of-self-2 : goal.invariant_of-self-2
 invariant_of-self-2 g c =
@@ -28,71 +32,39 @@ invariant_of-self-2 g c =
     let ok = sym c.is_err.ensures.value ∙ c.if-is_err.false in
     let there = c.in_ok-area_place.ensures.there in
     let none : refusal s c.args.client (calls.Flush c.args.area) ≡ None = rw there refl in
-    let step = c.ways_of_a_step.ensures.answered false s c.args.client (calls.Flush c.args.area) (replies.Flushed (flushed (flush s))) (flush s) (managed.broken ∙ c.if-self.false)
+    let step = c.calls_follow_laws.ensures.ways.answered false s c.args.client (calls.Flush c.args.area) (replies.Flushed (flushed (flush s))) (flush s) (managed.broken ∙ c.if-self.false)
     none refl refl in
     managed_flushed (g.D.Disk.state c.self.inside.disk) (g.D.Disk.state c.write_out.new.disk) old c.write_out.new.self c.args.client (calls.Flush c.args.area) _
-    c.steps_keep_a_state_valid.ensures.step c.steps_keep_a_state_storable.ensures.step (record { is_client = c.requires.client; arguments = tt })
-    managed c.if-self.false (on_ok c.write_out.result ok c.write_out.ensures.state) step (on_ok c.write_out.result ok c.write_out.ensures.holds)
-    (on_ok c.write_out.result ok c.write_out.ensures.same) (on_ok c.write_out.result ok c.write_out.ensures.stored)
-    (on_ok c.write_out.result ok c.write_out.ensures.settled) c.write_out.ensures.time.nature
-
-pub returns-clause-writes : goal.returns-clause-writes
-returns-clause-writes g c =
-    let old = c.self.inside.log in
-    let ok = sym c.is_err.ensures.value ∙ c.if-is_err.false in
-    writes_seen g.D.Disk.state (old.state.value, c.self.inside.disk) c.args.self.now c.self.view_is _ (g.D.Disk.state c.write_out.new.disk)
-    (writes_fine _ (g.D.Disk.state c.self.inside.disk) (g.D.Disk.state c.write_out.new.disk) old.state.value c.write_out.new.self.state.value old c.write_out.new.self (λ f. cc f)
-    (c.self.invariant.whole c.if-self.false) (on_ok c.write_out.result ok c.write_out.ensures.stored) c.write_out.ensures.time
-    (λ calm made. (c.write_out.ensures.steady calm made).1))
-
-pub returns-then-self-clause-moments : goal.returns-then-self-clause-moments
-returns-then-self-clause-moments g c = crash_broken _ _ _ _ (rw (← c.self.view_is) (c.self.invariant.broken ∙ c.if-self.true))
-
-pub returns-in_err-area_place-clause-moments : goal.returns-in_err-area_place-clause-moments
-returns-in_err-area_place-clause-moments g c = rw (← c.self.view_is) (crash_managed c.crashes_leave_survivors.ensures.stands c.crashes_leave_survivors.ensures.by_file
-    (g.D.Disk.state c.self.inside.disk) c.self.inside.log c.self.invariant (asks c.args.client (calls.Flush c.args.area))
-    (c.crashes_leave_survivors.ensures.before c.self.inside.log.state.value c.args.client (calls.Flush c.args.area) c.self.invariant.valid))
-
-pub returns-then-is_err-clause-moments : goal.returns-then-is_err-clause-moments
-returns-then-is_err-clause-moments g c =
-    let old = c.self.inside.log in
-    let s : State = old.state.value in
-    let managed = c.self.invariant in
-    let whole = managed.broken ∙ c.if-self.false in
-    let none : refusal s c.args.client (calls.Flush c.args.area) ≡ None = rw c.in_ok-area_place.ensures.there refl in
-    let step = c.ways_of_a_step.ensures.answered false s c.args.client (calls.Flush c.args.area) (replies.Flushed (flushed (flush s))) (flush s) whole none refl refl in
-    let valid = c.steps_keep_a_state_valid.ensures.step false s c.args.client (calls.Flush c.args.area) Fine (replies.Flushed (flushed (flush s))) (flush s) managed.valid step in
-    let laws = c.crashes_leave_survivors.ensures in
-    crash_seen g.D.Disk.state (s, c.self.inside.disk) c.args.self.now c.self.view_is (asks c.args.client (calls.Flush c.args.area)) (g.D.Disk.state c.write_out.new.disk)
-    (crash_flush c.crashes_leave_survivors.ensures.stands c.crashes_leave_survivors.ensures.by_file (g.D.Disk.state c.self.inside.disk) (g.D.Disk.state c.write_out.new.disk)
-    old managed c.if-self.false valid c.write_out.ensures.meanwhile (asks c.args.client (calls.Flush c.args.area)) (laws.before s c.args.client (calls.Flush c.args.area) managed.valid)
-    (after_survives laws.after s (flush s) c.args.client (calls.Flush c.args.area) managed.valid managed.storable whole none refl))
-
-pub returns-clause-moments : goal.returns-clause-moments
-returns-clause-moments g c =
-    let old = c.self.inside.log in
-    let s : State = old.state.value in
-    let managed = c.self.invariant in
-    let whole = managed.broken ∙ c.if-self.false in
-    let none : refusal s c.args.client (calls.Flush c.args.area) ≡ None = rw c.in_ok-area_place.ensures.there refl in
-    let step = c.ways_of_a_step.ensures.answered false s c.args.client (calls.Flush c.args.area) (replies.Flushed (flushed (flush s))) (flush s) whole none refl refl in
-    let valid = c.steps_keep_a_state_valid.ensures.step false s c.args.client (calls.Flush c.args.area) Fine (replies.Flushed (flushed (flush s))) (flush s) managed.valid step in
-    let laws = c.crashes_leave_survivors.ensures in
-    crash_seen g.D.Disk.state (s, c.self.inside.disk) c.args.self.now c.self.view_is (asks c.args.client (calls.Flush c.args.area)) (g.D.Disk.state c.write_out.new.disk)
-    (crash_flush c.crashes_leave_survivors.ensures.stands c.crashes_leave_survivors.ensures.by_file (g.D.Disk.state c.self.inside.disk) (g.D.Disk.state c.write_out.new.disk)
-    old managed c.if-self.false valid c.write_out.ensures.meanwhile (asks c.args.client (calls.Flush c.args.area)) (laws.before s c.args.client (calls.Flush c.args.area) managed.valid)
-    (after_survives laws.after s (flush s) c.args.client (calls.Flush c.args.area) managed.valid managed.storable whole none refl))
-
-pub returns-then-is_err-clause-writes : goal.returns-then-is_err-clause-writes
-returns-then-is_err-clause-writes g c =
-    let old = c.self.inside.log in
-    let failed = sym c.is_err.ensures.value ∙ c.if-is_err.true in
-    writes_seen g.D.Disk.state (old.state.value, c.self.inside.disk) c.args.self.now c.self.view_is _ (g.D.Disk.state c.write_out.new.disk)
-    (writes_failed _ (g.D.Disk.state c.self.inside.disk) (g.D.Disk.state c.write_out.new.disk) old.state.value old refl (c.self.invariant.whole c.if-self.false)
-    c.write_out.ensures.time (on_err c.write_out.result failed c.write_out.ensures.cause) (λ calm made. never_ok c.write_out.result failed (c.write_out.ensures.steady calm made).0))
+    c.calls_follow_laws.ensures.valid c.calls_follow_laws.ensures.storable (record { is_client = c.requires.client; arguments = tt })
+    managed c.if-self.false (on_ok c.write_out.result ok c.write_out.ensures.change.state) step (on_ok c.write_out.result ok c.write_out.ensures.change.holds)
+    (on_ok c.write_out.result ok c.write_out.ensures.same) (on_ok c.write_out.result ok c.write_out.ensures.change.stored)
+    (on_ok c.write_out.result ok c.write_out.ensures.change.calls.settled) c.write_out.ensures.change.calls.time.nature
 
 pub area_place-requires : goal.area_place-requires
 area_place-requires g c = record { sound = (intact_managed (g.D.Disk.state c.self.inside.disk) c.self.inside.log c.self.invariant c.if-self.false).sound }
 
 pub write_out-requires : goal.write_out-requires
 write_out-requires g c = record { sound = (intact_managed (g.D.Disk.state c.self.inside.disk) c.self.inside.log c.self.invariant c.if-self.false).sound }
+
+pub returns-then-self-clause-call : goal.returns-then-self-clause-call
+returns-then-self-clause-call g c = call_stopped c.calls_follow_laws.ensures.ways g.D.Disk.state c.self.inside.log c.self.inside.disk c.args.self.now c.self.view_is c.self.invariant c.if-self.true c.args.client (calls.Flush c.args.area) replies.Flushed
+
+pub returns-in_err-area_place-clause-call : goal.returns-in_err-area_place-clause-call
+returns-in_err-area_place-clause-call g c =
+    subst (λ (r : Result ℕ Refusal). WritesAs g.D.Disk.state c.args.client (calls.Flush c.args.area) replies.Flushed r c.args.self.now c.args.self.now)
+    (sym (error_of c.from_residual.result c.in_err-area_place.field-0.0 c.from_residual.ensures.1))
+    (call_refused c.calls_follow_laws.ensures.crashes c.calls_follow_laws.ensures.ways g.D.Disk.state c.self.inside.log c.self.inside.disk c.args.self.now c.self.view_is c.self.invariant c.if-self.false c.args.client (calls.Flush c.args.area) replies.Flushed
+    c.in_err-area_place.field-0.0 (c.in_err-area_place.ensures.told (λ (area : Area). None)))
+
+pub returns-then-is_err-clause-call : goal.returns-then-is_err-clause-call
+returns-then-is_err-clause-call g c = stored_faulted c.calls_follow_laws.ensures.crashes c.calls_follow_laws.ensures.ways c.calls_follow_laws.ensures.valid g.D.Disk.state c.self.inside.log c.write_out.new.self c.self.inside.disk c.write_out.new.disk c.args.self.now c.self.view_is c.self.invariant c.if-self.false c.args.client
+    (calls.Flush c.args.area) replies.Flushed (flush c.self.inside.log.state.value) (rw c.in_ok-area_place.ensures.there refl) refl
+    (fault_calls (is_pending c.self.inside.log.state.value) c.write_out.result _ c.write_out.ensures.quiet (sym c.is_err.ensures.value ∙ c.if-is_err.true))
+    c.write_out.result (sym c.is_err.ensures.value ∙ c.if-is_err.true) c.write_out.ensures.change.broken c.write_out.ensures.change.meanwhile c.write_out.ensures.change.calls.time c.write_out.ensures.change.calls.cause c.write_out.ensures.change.calls.steady
+
+pub returns-clause-call : goal.returns-clause-call
+returns-clause-call g c = stored_done c.calls_follow_laws.ensures.crashes c.calls_follow_laws.ensures.ways c.calls_follow_laws.ensures.valid g.D.Disk.state c.self.inside.log c.write_out.new.self c.self.inside.disk c.write_out.new.disk c.args.self.now c.self.view_is c.self.invariant c.if-self.false c.args.client
+    (calls.Flush c.args.area) replies.Flushed c.flushed.result refl (flush c.self.inside.log.state.value) (rw c.in_ok-area_place.ensures.there refl)
+    (ap replies.Flushed (flushed_written c.self.inside.log.state.value c.write_out.new.self c.flushed.result (on_ok c.write_out.result (sym c.is_err.ensures.value ∙ c.if-is_err.false) c.write_out.ensures.change.state)
+    (on_ok c.write_out.result (sym c.is_err.ensures.value ∙ c.if-is_err.false) c.write_out.ensures.change.holds) c.flushed.ensures.none)) refl
+    c.write_out.result (sym c.is_err.ensures.value ∙ c.if-is_err.false) c.write_out.ensures.change.state c.write_out.ensures.change.stored c.write_out.ensures.change.meanwhile c.write_out.ensures.change.calls.time c.write_out.ensures.change.calls.steady

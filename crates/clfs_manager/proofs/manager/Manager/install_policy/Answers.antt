@@ -1,6 +1,5 @@
-use Rattle.clfs_manager.proofs.Crashes.{crash_broken}
+use Rattle.clfs_manager.proofs.WritingCalls.{stored_done, stored_faulted, call_stopped, call_refused}
 use Rattle.clfs_manager.specs.Settings.{with_policies}
-use Rattle.clfs_manager.proofs.CopyingCalls.{crash_untouched, crash_written}
 use Rattle.std.proofs.Common.{refl, sym, ◌∙◌, false, arith}
 use Rattle.clfs_model.specs.declared.call.Call.TheVariants as calls
 use Rattle.clfs_model.specs.declared.reply.Reply.TheVariants as replies
@@ -9,14 +8,14 @@ use Rattle.clfs_model.specs.Policies.{with_policy}
 use Rattle.clfs_manager.proofs.FlushKeeps.{on_ok, on_err, managed_broken}
 use Rattle.clfs_manager.proofs.SettingsKeep.{settings_done}
 use Rattle.clfs_manager.proofs.StoredKeeps.{managed_done}
-use Rattle.clfs_manager.proofs.Intact.{intact_managed, writes_fine, writes_seen}
+use Rattle.clfs_manager.proofs.Intact.{intact_managed}
 use Rattle.clfs_manager.proofs.manager.Manager.install_policy.Goals as goal
 
 pub invariant_of-self : goal.invariant_of-self
 invariant_of-self g c =
     managed_broken (g.D.Disk.state c.self.inside.disk) (g.D.Disk.state c.store_policies.new.disk) c.self.inside.log c.store_policies.new.self
-    c.steps_keep_a_state_valid.ensures.reopening c.steps_keep_a_state_storable.ensures.reopening c.self.invariant c.if-self.false
-    (on_err c.store_policies.result (sym c.is_err.ensures.value ∙ c.if-is_err.true) c.store_policies.ensures.broken)
+    c.calls_follow_laws.ensures.opened_valid c.calls_follow_laws.ensures.opened_storable c.self.invariant c.if-self.false
+    (on_err c.store_policies.result (sym c.is_err.ensures.value ∙ c.if-is_err.true) c.store_policies.ensures.change.broken)
 
 pub invariant_of-self-2 : goal.invariant_of-self-2
 invariant_of-self-2 g c =
@@ -25,38 +24,15 @@ invariant_of-self-2 g c =
     let managed = c.self.invariant in
     let ok = sym c.is_err.ensures.value ∙ c.if-is_err.false in
     let t : State = with_policy s c.args.policy in
-    let step = c.ways_of_a_step.ensures.answered false s 1 (calls.InstallPolicy c.args.policy) replies.Done t (managed.broken ∙ c.if-self.false)
+    let step = c.calls_follow_laws.ensures.ways.answered false s 1 (calls.InstallPolicy c.args.policy) replies.Done t (managed.broken ∙ c.if-self.false)
     (sym c.policy_refusal.ensures ∙ c.in_default.is) refl refl in
     managed_done (g.D.Disk.state c.self.inside.disk) (g.D.Disk.state c.store_policies.new.disk) old c.store_policies.new.self t 1 (calls.InstallPolicy c.args.policy) replies.Done
-    c.steps_keep_a_state_valid.ensures.step c.steps_keep_a_state_storable.ensures.step
+    c.calls_follow_laws.ensures.valid c.calls_follow_laws.ensures.storable
     (record { is_client = record { least = omega arith; greatest = omega arith }; arguments = tt }) managed c.if-self.false step
     (settings_done (g.D.Disk.state c.self.inside.disk) (g.D.Disk.state c.store_policies.new.disk) old c.store_policies.new.self c.policies_with-policies.result t
-    c.policies_with-policies.ensures.state (on_ok c.store_policies.result ok c.store_policies.ensures.state) (on_ok c.store_policies.result ok c.store_policies.ensures.holds)
-    (on_ok c.store_policies.result ok c.store_policies.ensures.same) (on_ok c.store_policies.result ok c.store_policies.ensures.stored)
-    (on_ok c.store_policies.result ok c.store_policies.ensures.settled) c.store_policies.ensures.time.nature)
-
-pub returns-clause-writes : goal.returns-clause-writes
-returns-clause-writes g c =
-    let old = c.self.inside.log in
-    let ok = sym c.is_err.ensures.value ∙ c.if-is_err.false in
-    writes_seen g.D.Disk.state (old.state.value, c.self.inside.disk) c.args.self.now c.self.view_is _ (g.D.Disk.state c.store_policies.new.disk)
-    (writes_fine _ (g.D.Disk.state c.self.inside.disk) (g.D.Disk.state c.store_policies.new.disk) old.state.value c.store_policies.new.self.state.value old c.store_policies.new.self (λ f. cc f)
-    (c.self.invariant.whole c.if-self.false) (on_ok c.store_policies.result ok c.store_policies.ensures.stored) c.store_policies.ensures.time
-    (λ calm made. (c.store_policies.ensures.steady calm made).1))
-
-pub returns-then-self-clause-moments : goal.returns-then-self-clause-moments
-returns-then-self-clause-moments g c = λ client. crash_broken _ _ _ _ (rw (← c.self.view_is) (c.self.invariant.broken ∙ c.if-self.true))
-
-pub returns-in-Some-clause-moments : goal.returns-in-Some-clause-moments
-returns-in-Some-clause-moments g c = λ client. crash_untouched c.crashes_leave_survivors.ensures g.D.Disk.state c.self.inside.log c.self.inside.disk c.args.self.now c.self.view_is c.self.invariant client (calls.InstallPolicy c.args.policy)
-
-pub returns-then-is_err-clause-moments : goal.returns-then-is_err-clause-moments
-returns-then-is_err-clause-moments g c = λ client. crash_written c.crashes_leave_survivors.ensures c.ways_of_a_step.ensures c.steps_keep_a_state_valid.ensures.step g.D.Disk.state c.self.inside.log c.self.inside.disk c.args.self.now c.self.view_is c.self.invariant c.if-self.false client (calls.InstallPolicy c.args.policy)
-    (with_policies c.policies_with-policies.result c.self.inside.log.state.value) (g.D.Disk.state c.store_policies.new.disk) (sym c.policy_refusal.ensures ∙ c.in_default.is) (sym c.policies_with-policies.ensures.state) c.store_policies.ensures.meanwhile
-
-pub returns-clause-moments : goal.returns-clause-moments
-returns-clause-moments g c = λ client. crash_written c.crashes_leave_survivors.ensures c.ways_of_a_step.ensures c.steps_keep_a_state_valid.ensures.step g.D.Disk.state c.self.inside.log c.self.inside.disk c.args.self.now c.self.view_is c.self.invariant c.if-self.false client (calls.InstallPolicy c.args.policy)
-    (with_policies c.policies_with-policies.result c.self.inside.log.state.value) (g.D.Disk.state c.store_policies.new.disk) (sym c.policy_refusal.ensures ∙ c.in_default.is) (sym c.policies_with-policies.ensures.state) c.store_policies.ensures.meanwhile
+    c.policies_with-policies.ensures.state (on_ok c.store_policies.result ok c.store_policies.ensures.change.state) (on_ok c.store_policies.result ok c.store_policies.ensures.change.holds)
+    (on_ok c.store_policies.result ok c.store_policies.ensures.same) (on_ok c.store_policies.result ok c.store_policies.ensures.change.stored)
+    (on_ok c.store_policies.result ok c.store_policies.ensures.change.calls.settled) c.store_policies.ensures.change.calls.time.nature)
 
 pub policy_refusal-requires : goal.policy_refusal-requires
 policy_refusal-requires g c = record { sound = (intact_managed (g.D.Disk.state c.self.inside.disk) c.self.inside.log c.self.invariant c.if-self.false).sound }
@@ -66,3 +42,26 @@ policies_with-policies-requires-clause-sound g c = (intact_managed (g.D.Disk.sta
 
 pub store_policies-requires-clause-sound : goal.store_policies-requires-clause-sound
 store_policies-requires-clause-sound g c = (intact_managed (g.D.Disk.state c.self.inside.disk) c.self.inside.log c.self.invariant c.if-self.false).sound
+
+pub returns-then-self : goal.returns-then-self
+returns-then-self g c = record { call = λ client. call_stopped c.calls_follow_laws.ensures.ways g.D.Disk.state c.self.inside.log c.self.inside.disk c.args.self.now c.self.view_is c.self.invariant c.if-self.true client (calls.InstallPolicy c.args.policy) (λ _. replies.Done) }
+
+pub returns-in-Some : goal.returns-in-Some
+returns-in-Some g c = record {
+  call = λ client. call_refused c.calls_follow_laws.ensures.crashes c.calls_follow_laws.ensures.ways g.D.Disk.state c.self.inside.log c.self.inside.disk c.args.self.now c.self.view_is c.self.invariant c.if-self.false client
+      (calls.InstallPolicy c.args.policy) (λ _. replies.Done) c.in-Some.refusal (sym c.policy_refusal.ensures ∙ c.in-Some.is);
+}
+
+pub returns-then-is_err : goal.returns-then-is_err
+returns-then-is_err g c = record {
+  call = λ client. stored_faulted c.calls_follow_laws.ensures.crashes c.calls_follow_laws.ensures.ways c.calls_follow_laws.ensures.valid g.D.Disk.state c.self.inside.log c.store_policies.new.self c.self.inside.disk c.store_policies.new.disk c.args.self.now c.self.view_is c.self.invariant c.if-self.false client
+      (calls.InstallPolicy c.args.policy) (λ _. replies.Done) (with_policies c.policies_with-policies.result c.self.inside.log.state.value) (sym c.policy_refusal.ensures ∙ c.in_default.is) (sym c.policies_with-policies.ensures.state) refl
+      c.store_policies.result (sym c.is_err.ensures.value ∙ c.if-is_err.true) c.store_policies.ensures.change.broken c.store_policies.ensures.change.meanwhile c.store_policies.ensures.change.calls.time c.store_policies.ensures.change.calls.cause c.store_policies.ensures.change.calls.steady;
+}
+
+pub returns : goal.returns
+returns g c = record {
+  call = λ client. stored_done c.calls_follow_laws.ensures.crashes c.calls_follow_laws.ensures.ways c.calls_follow_laws.ensures.valid g.D.Disk.state c.self.inside.log c.store_policies.new.self c.self.inside.disk c.store_policies.new.disk c.args.self.now c.self.view_is c.self.invariant c.if-self.false client
+      (calls.InstallPolicy c.args.policy) (λ _. replies.Done) tt refl (with_policies c.policies_with-policies.result c.self.inside.log.state.value) (sym c.policy_refusal.ensures ∙ c.in_default.is) refl (sym c.policies_with-policies.ensures.state)
+      c.store_policies.result (sym c.is_err.ensures.value ∙ c.if-is_err.false) c.store_policies.ensures.change.state c.store_policies.ensures.change.stored c.store_policies.ensures.change.meanwhile c.store_policies.ensures.change.calls.time c.store_policies.ensures.change.calls.steady;
+}

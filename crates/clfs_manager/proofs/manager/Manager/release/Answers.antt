@@ -1,11 +1,18 @@
-use Rattle.std.proofs.Common.{false}
+use Rattle.std.proofs.Common.{refl, rules}
 use Rattle.clfs_model.specs.declared.call.Call.TheVariants as calls
-use Rattle.clfs_model.specs.declared.reply.Reply.TheVariants as replies
-use Rattle.clfs_manager.proofs.AreasChange.{managed_after}
+use Rattle.clfs_model.specs.declared.state.Area.{Area}
+use Rattle.clfs_areas.specs.Table.{area_at}
+use Rattle.clfs_model.specs.Put.{with_less_held}
+use Rattle.clfs_model.specs.State.{change_first, is_area}
+use Rattle.clfs_manager.proofs.AreasChange.{managed_answered}
 use Rattle.clfs_manager.proofs.manager.Manager.release.Goals as goal
 
 pub invariant_of-self : goal.invariant_of-self
 invariant_of-self g c =
-    managed_after (g.D.Disk.state c.self.inside.disk) c.self.inside.log c.release.new.self c.args.client (calls.Release c.args.area c.args.sectors) replies.Held c.release.result false
-    c.steps_keep_a_state_valid.ensures.step c.steps_keep_a_state_storable.ensures.step (record { is_client = c.requires.client; arguments = tt })
-    c.if-self.false c.self.invariant c.release.ensures.areas (c.release.ensures.step false)
+    let log = c.self.inside.log in
+    let here : Area = area_at c.in_ok-place.place log.areas.areas in
+    managed_answered (g.D.Disk.state c.self.inside.disk) log _ c.next-self-inside.result c.args.client (calls.Release c.args.area c.args.sectors)
+    (change_first (is_area here.client here.number) (with_less_held c.args.sectors))
+    c.calls_follow_laws.ensures (record { is_client = c.requires.client; arguments = tt }) c.if-self.false c.self.invariant
+    (search rules)
+    (rw c.in_ok-place.ensures.there refl) c.next-self-inside.ensures (c.spend.ensures.areas)

@@ -1,4 +1,4 @@
-use Rattle.std.proofs.Common.{◌≡◌, false, true, ap, sym, subst, Bool}
+use Rattle.std.proofs.Common.{◌≡◌, true, ap, sym, subst, Bool}
 use Rattle.clfs_model.specs.declared.refusal.Refusal.{Refusal}
 use Rattle.clfs_cells.specs.declared.asked.TxnCall.TheVariants as asked
 use Rattle.clfs_cells.specs.declared.told.TxnReply.TheVariants as replies

@@ -1,4 +1,4 @@
-use Rattle.std.proofs.Common.{Bool, false, true, ap, refl, sym, subst, Ok}
+use Rattle.std.proofs.Common.{Bool, false, ap, refl, sym, subst, Ok}
 use Rattle.clfs_disk.specs.State.{Nature}
 use Rattle.clfs_cells_laws.specs.Stores.{IsKeptStore}
 use Rattle.clfs_txn.proofs.Tables.{loaded_kept, so_safe}

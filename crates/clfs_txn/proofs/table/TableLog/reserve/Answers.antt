@@ -10,18 +10,18 @@ invariant_of-self g c =
     let laws : Laws = record { fault = c.faults_break.ensures.fault; damage = c.faults_break.ensures.damage; unbroken = c.unbroken_stays.ensures.calls; adds = c.steps_only_add_records.ensures } in
     let whole : c.self.inside.manager.0.broken ≡ false = ap (λ v. v.0.log.broken) c.self.view_is ∙ c.requires.whole in
     kept_after laws _ _ _ replies.Held c.reserve-reply.result _ c.self.inside.memory c.self.inside.broken _ c.stored.ensures.valid c.self.invariant
-    (λ _. refl) whole (c.reserve-reply.ensures.step true) c.breaks-self-inside.ensures
+    (λ _. refl) whole (c.reserve-reply.ensures.call.step true) c.breaks-self-inside.ensures
 
 pub returns-clause-kept : goal.returns-clause-kept
 returns-clause-kept g c =
     unchanged c.refusals_change_nothing.ensures.calls true _ _ _ _ replies.Held c.reserve-reply.result _ (ap (λ v. v.0.log) c.self.view_is)
-    (c.reserve-reply.ensures.step true)
+    (c.reserve-reply.ensures.call.step true)
 
 pub returns-clause-moments : goal.returns-clause-moments
 returns-clause-moments g c = λ before after.
     call_leaves g.D.Disk.state before after _ _ _ _ _ _ _ _ _ c.the_same_log_has_the_same_table.ensures (c.client.ensures ∙ ap (λ v. v.0.memory.client) c.self.view_is)
     (reserve_is _ _ _ _ (c.area.ensures ∙ ap (λ v. v.0.memory.area) c.self.view_is) c.in_ok-sizes.ensures)
-    (ap (λ v. v.0.log) c.self.view_is) (ap (λ v. v.1) c.self.view_is) c.requires.whole c.reserve-reply.ensures.moments
+    (ap (λ v. v.0.log) c.self.view_is) (ap (λ v. v.1) c.self.view_is) c.requires.whole c.reserve-reply.ensures.call.moments
 
 pub returns-in_err-sizes-clause-moments : goal.returns-in_err-sizes-clause-moments
 returns-in_err-sizes-clause-moments g c = λ before after.

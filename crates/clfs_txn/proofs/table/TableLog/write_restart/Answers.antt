@@ -12,7 +12,7 @@ invariant_of-self g c =
     let laws : Laws = record { fault = c.faults_break.ensures.fault; damage = c.faults_break.ensures.damage; unbroken = c.unbroken_stays.ensures.calls; adds = c.steps_only_add_records.ensures } in
     let whole : c.self.inside.manager.0.broken ≡ false = ap (λ v. v.0.log.broken) c.self.view_is ∙ c.requires in
     kept_after laws _ _ _ replies.Placed c.write_restart-reply.result _ c.self.inside.memory c.self.inside.broken _ c.stored.ensures.valid c.self.invariant
-    (λ _. refl) whole (c.write_restart-reply.ensures.step true) c.breaks-self-inside.ensures
+    (λ _. refl) whole (c.write_restart-reply.ensures.call.step true) c.breaks-self-inside.ensures
 
 pub returns-clause-step : goal.returns-clause-step
 returns-clause-step g c = λ told.
@@ -20,19 +20,19 @@ returns-clause-step g c = λ told.
     (c.client.ensures ∙ ap (λ v. v.0.memory.client) c.self.view_is)
     (restart_is _ _ _ _ _ (c.area.ensures ∙ ap (λ v. v.0.memory.area) c.self.view_is)
     (c.in_ok-bytes.ensures.held ∙ ap checkpoint_bytes (c.checkpoint-checkpoint.ensures ∙ ap (λ v. checkpoint_of v.0.memory) c.self.view_is)))
-    (c.write_restart-reply.ensures.step told)
+    (c.write_restart-reply.ensures.call.step told)
 
 pub returns-clause-kept : goal.returns-clause-kept
 returns-clause-kept g c =
     unchanged c.refusals_change_nothing.ensures.calls true _ _ _ _ replies.Placed c.write_restart-reply.result _ (ap (λ v. v.0.log) c.self.view_is)
-    (c.write_restart-reply.ensures.step true)
+    (c.write_restart-reply.ensures.call.step true)
 
 pub returns-clause-moments : goal.returns-clause-moments
 returns-clause-moments g c = λ before after.
     call_leaves g.D.Disk.state before after _ _ _ _ _ _ _ _ _ c.the_same_log_has_the_same_table.ensures (c.client.ensures ∙ ap (λ v. v.0.memory.client) c.self.view_is)
     (restart_is _ _ _ _ _ (c.area.ensures ∙ ap (λ v. v.0.memory.area) c.self.view_is)
     (c.in_ok-bytes.ensures.held ∙ ap checkpoint_bytes (c.checkpoint-checkpoint.ensures ∙ ap (λ v. checkpoint_of v.0.memory) c.self.view_is)))
-    (ap (λ v. v.0.log) c.self.view_is) (ap (λ v. v.1) c.self.view_is) c.requires c.write_restart-reply.ensures.moments
+    (ap (λ v. v.0.log) c.self.view_is) (ap (λ v. v.1) c.self.view_is) c.requires c.write_restart-reply.ensures.call.moments
 
 pub returns-in_err-bytes-clause-moments : goal.returns-in_err-bytes-clause-moments
 returns-in_err-bytes-clause-moments g c = λ before after.

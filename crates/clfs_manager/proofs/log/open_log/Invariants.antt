@@ -1,6 +1,6 @@
 use Rattle.clfs_recover.specs.Files.{state_of}
 use Rattle.clfs_recover.specs.Opening.{told_parts}
-use Rattle.clfs_manager.proofs.log.state_of.Given as goal
+use Rattle.clfs_manager.proofs.log.open_log.Given as goal
 
 abbrev pub ghost-pick : goal.ghost-pick
 ghost-pick a = state_of (told_parts a.with.now.0.now) a.with.now.1

@@ -1,6 +1,0 @@
-use Rattle.clfs_model.specs.declared.call.Call.TheVariants as calls
-use Rattle.clfs_model.specs.Answers.{answer}
-use Rattle.clfs_manager.proofs.areas.created.Given as goal
-
-abbrev pub ghost-next : goal.ghost-next
-ghost-next a = (answer a.self.now.value a.with.now.0 (calls.CreateArea a.with.now.1 a.with.now.2 a.with.now.3)).state

@@ -1,6 +1,0 @@
-use Rattle.clfs_model.specs.Reading.{with_cursor}
-use Rattle.clfs_model.specs.State.{change_area}
-use Rattle.clfs_manager.proofs.reading.with_cursor.Given as goal
-
-abbrev pub ghost-next : goal.ghost-next
-ghost-next a = change_area (with_cursor a.with.now.2) a.with.now.0 a.with.now.1 a.self.now.value
