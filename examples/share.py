@@ -59,7 +59,9 @@ class Round:
             for path in pair:
                 os.mkfifo(path)
             paths += pair
-        self.share = subprocess.Popen([PROGRAM, folder, "share", *paths], stdin=subprocess.DEVNULL)
+        # That a program was killed is told here too.
+        self.errors = open(f"{place}/errors", "w+")
+        self.share = subprocess.Popen([PROGRAM, folder, "share", *paths], stdin=subprocess.DEVNULL, stderr=self.errors)
         self.programs = []
         for number in CLIENTS:
             words = (number, start, *paths[2 * number - 2 : 2 * number], self.told[number])
@@ -71,13 +73,15 @@ class Round:
         while not any(self.notes(number) for number in CLIENTS):
             if self.share.poll() is not None:
                 self.end_programs(0)
-                sys.exit(f"share ended with status {self.share.returncode}")
+                self.errors.seek(0)
+                sys.exit(f"share ended with status {self.share.returncode}: {self.errors.read()}")
             time.sleep(0.01)
         time.sleep(random.uniform(0, 0.5))
         random.choice(self.programs).kill()
         time.sleep(random.uniform(0, 0.5))
         self.share.kill()
         self.share.wait()
+        self.errors.close()
         self.end_programs(2)
 
     def end_programs(self, seconds):

@@ -2,14 +2,14 @@
  *
  * libclfs_read.a answers each call by the bytes that it is given. It takes no memory, opens no file and keeps nothing between two calls, so
  * its calls may be made in any thread at any time. It is proved for any values of the arguments. What C owes are pointers: each points to
- * as many bytes, or to such a struct, as the call is told; what is written to overlaps nothing else that the call is given; and a pointer
- * with a length isn't null, even where the length is 0.
+ * as many bytes, or to such a struct, aligned as C aligns it, as the call is told; what is written to overlaps nothing else that the call
+ * is given; and a pointer with a length isn't null, even where the length is 0.
  *
  * A log is read so: clfs_base_check judges the base file and says how large blocks and containers are; clfs_base_file says which file
  * holds which container. A container is a row of blocks, from its first byte on: clfs_block_check, clfs_block_gather, clfs_record_next
  * until CLFS_END, clfs_block_rest. The next block begins behind the sectors of this one, as long as the container has one left; at
- * CLFS_CLOSED the blocks of the container end. This is the order in which the log judges, so the first wrong byte that is told is the one
- * that the log tells too.
+ * CLFS_CLOSED the blocks of the container end. This is the order in which the log judges. Opening it also asks what no call here does: that
+ * no stream's base and no archive tail lies above the log's end, and no tail below the first container that the base file lists.
  *
  * An LSN is a number: container * 2^32 + offset of the block in bytes + position of the record in it. 0 is the LSN of no record. */
 #ifndef CLFS_READ_H
@@ -28,7 +28,7 @@ enum {
     CLFS_CLOSED = 1,   /* the gate is closed: nothing begins here, and nothing is wrong */
     CLFS_BAD = 2,      /* a byte is wrong: the struct's bad_at says which, counted as the call says */
     CLFS_END = 3,      /* no record is left in the block */
-    CLFS_ARGUMENT = 4, /* the arguments don't belong together, and nothing was judged */
+    CLFS_ARGUMENT = 4  /* the arguments don't belong together, and nothing was judged */
 };
 
 enum {
@@ -36,7 +36,7 @@ enum {
     CLFS_BLOCK_HEADER = 16,     /* of a block's header: the byte of its payload at which its first record begins */
     CLFS_MOST_PAYLOAD = 64512,  /* of the payload of a largest block, that of 128 sectors */
     CLFS_SLOT_BYTES = 16384,    /* of a slot of the base file, which has two */
-    CLFS_MOST_LSN_TEXT = 26,    /* of an LSN as text */
+    CLFS_MOST_LSN_TEXT = 26     /* of an LSN as text */
 };
 
 /* ---- LSNs ---- */

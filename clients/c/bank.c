@@ -84,7 +84,7 @@ static int commit(struct bank *bank, clfs_lsn last, uint32_t moves)
 }
 
 /* Reads the record that lies in the handle, as "move ACCOUNT AMOUNT". */
-static void read_change(const struct clfs_record *record, char word[8], int *account, int *amount)
+static void read_change(const struct clfs_found *record, char word[8], int *account, int *amount)
 {
     char text[A_RECORD + 1];
     snprintf(text, sizeof text, "%.*s", (int)record->size, (const char *)record->data);
@@ -97,7 +97,7 @@ static void read_change(const struct clfs_record *record, char word[8], int *acc
 static int undo(struct bank *bank, clfs_lsn last, bool reserved)
 {
     unsigned cursor;
-    struct clfs_record record;
+    struct clfs_found record;
     int answer = clfs_read(bank->log, ME, bank->area, last, CLFS_UNDO_NEXT, &cursor, &record);
     for (; !answer; answer = clfs_next(bank->log, ME, bank->area, cursor, &record)) {
         char word[8], text[A_RECORD];
@@ -133,7 +133,7 @@ struct unfinished {
 };
 
 /* Does again what a record says. The links tell which transfer it goes on with. */
-static void redo(struct bank *bank, const struct clfs_record *record, struct unfinished *unfinished)
+static void redo(struct bank *bank, const struct clfs_found *record, struct unfinished *unfinished)
 {
     char word[8];
     int account, amount, at = 0;
@@ -150,7 +150,7 @@ static void redo(struct bank *bank, const struct clfs_record *record, struct unf
 static int recover(struct bank *bank)
 {
     unsigned cursor;
-    struct clfs_record record;
+    struct clfs_found record;
     struct unfinished unfinished = {.count = 0};
     for (int at = 0; at < ACCOUNTS; at++) bank->balances[at] = MONEY;
     int answer = clfs_read_restart(bank->log, ME, bank->area, &cursor, &record);

@@ -2,24 +2,20 @@
  *
  * Lines are put together in `lines` and written from there; replies are read into `replies` and judged where they lie. `waiting` has the lines
  * under way, each with its client and the kind of reply that it wants. A write waits with poll for both pipes, so the program never waits for
- * room in its output while this side waits for room in its input. The input is a socket, since a write to one can be told to raise no signal.
+ * room in its output while this side waits for room in its input.
  */
 #define _GNU_SOURCE
+#include "clfs_program.h"
 #include "clfs_reply.h"
 
 #include <errno.h>
-#include <fcntl.h>
 #include <poll.h>
 #include <signal.h>
-#include <spawn.h>
 #include <stdio.h>
 #include <stdlib.h>
 #include <string.h>
 #include <sys/socket.h>
-#include <sys/wait.h>
 #include <unistd.h>
-
-extern char **environ;
 
 /* Words for `serve` that each start passes: a run may take any number of bytes. */
 #define SERVE_OPTIONS "--endless"
@@ -34,8 +30,7 @@ extern char **environ;
 #define MOST_LENGTHS 16
 
 struct clfs {
-    pid_t process;
-    int input, output;              /* this side's ends */
+    struct clfs_program program;
     bool over;                      /* whether the output has ended */
     int failed;                     /* the answer to every call from now on, or 0 */
     int answer, error;              /* the last answer that wasn't 0, and errno */
@@ -52,78 +47,6 @@ struct clfs {
     char replies[REPLIES_ROOM];
 };
 
-/* The program. */
-
-/* Moves a descriptor out of the way of the standard streams. */
-static int above_standard(int from)
-{
-    if (from < 0 || from > 2) return from;
-    int to = fcntl(from, F_DUPFD_CLOEXEC, 3);
-    close(from);
-    return to;
-}
-
-/* Starts a program in a process group of its own, so that no signal of the caller's terminal reaches it. */
-static int spawn(pid_t *process, char *const words[], int input, int output, int errors)
-{
-    posix_spawn_file_actions_t actions;
-    posix_spawnattr_t attributes;
-    int error = posix_spawn_file_actions_init(&actions);
-    if (error) return error;
-    error = posix_spawnattr_init(&attributes);
-    if (!error) {
-        error = posix_spawnattr_setflags(&attributes, POSIX_SPAWN_SETPGROUP);
-        if (!error) error = posix_spawnattr_setpgroup(&attributes, 0);
-        if (!error) error = posix_spawn_file_actions_adddup2(&actions, input, 0);
-        if (!error) error = posix_spawn_file_actions_adddup2(&actions, output, 1);
-        if (!error && errors) error = posix_spawn_file_actions_adddup2(&actions, errors, 2);
-        if (!error) error = posix_spawnp(process, words[0], &actions, &attributes, words, environ);
-        posix_spawnattr_destroy(&attributes);
-    }
-    posix_spawn_file_actions_destroy(&actions);
-    return error;
-}
-
-static int start(struct clfs *log, char *const words[], int errors)
-{
-    int sockets[2] = {-1, -1}, pipes[2] = {-1, -1};
-    int error = 0;
-    if (socketpair(AF_UNIX, SOCK_STREAM | SOCK_CLOEXEC, 0, sockets) || pipe2(pipes, O_CLOEXEC)) error = errno;
-    for (int end = 0; end < 2 && !error; end++) {
-        sockets[end] = above_standard(sockets[end]);
-        pipes[end] = above_standard(pipes[end]);
-        if (sockets[end] < 0 || pipes[end] < 0) error = errno;
-    }
-    if (!error && fcntl(sockets[0], F_SETFL, O_NONBLOCK)) error = errno;
-    if (!error) error = spawn(&log->process, words, sockets[1], pipes[1], errors);
-    if (sockets[1] >= 0) close(sockets[1]);
-    if (pipes[1] >= 0) close(pipes[1]);
-    log->input = sockets[0];
-    log->output = pipes[0];
-    return error;
-}
-
-static void close_pipes(struct clfs *log)
-{
-    if (log->input >= 0) close(log->input);
-    if (log->output >= 0) close(log->output);
-    log->input = log->output = -1;
-}
-
-/* Waits for the end of the program, and notes it. */
-static void reap(struct clfs *log)
-{
-    int status = 0;
-    pid_t reaped;
-    do reaped = waitpid(log->process, &status, 0);
-    while (reaped < 0 && errno == EINTR);
-    bool known = reaped == log->process;
-    log->ending.status = known && WIFEXITED(status) ? WEXITSTATUS(status) : -1;
-    log->ending.signal = known && WIFSIGNALED(status) ? WTERMSIG(status) : 0;
-    log->ending.unanswered = log->count;
-    close_pipes(log);
-}
-
 static int told(struct clfs *log, int answer)
 {
     log->answer = answer;
@@ -134,9 +57,11 @@ static int told(struct clfs *log, int answer)
 /* The handle is of no use any more. */
 static int fail(struct clfs *log, int answer)
 {
-    if (answer != CLFS_ENDED) kill(log->process, SIGKILL);
     int error = errno;
-    reap(log);
+    if (answer != CLFS_ENDED) kill(log->program.process, SIGKILL);
+    clfs_reap(&log->program, &log->ending);
+    if (answer == CLFS_ENDED) answer = clfs_answer_of_end(&log->program, &log->ending);
+    log->ending.unanswered = log->count;
     errno = error;
     log->count = 0;
     log->failed = answer;
@@ -148,10 +73,13 @@ static int fail(struct clfs *log, int answer)
 /* Reads what there is of the output, or waits for some. There has to be room. */
 static int take(struct clfs *log)
 {
-    ssize_t size;
-    do size = read(log->output, log->replies + log->filled, REPLIES_ROOM - log->filled);
-    while (size < 0 && errno == EINTR);
-    if (size < 0) return fail(log, CLFS_SYSTEM);
+    ssize_t size = 0;
+    int ready;
+    do {
+        ready = clfs_ready(&log->program, POLLIN);
+        if (ready > 0) size = read(log->program.output, log->replies + log->filled, REPLIES_ROOM - log->filled);
+    } while (ready == 0 || (ready > 0 && size < 0 && errno == EINTR));
+    if (ready < 0 || size < 0) return fail(log, CLFS_SYSTEM);
     log->over = size == 0;
     log->filled += (size_t)size;
     return 0;
@@ -171,18 +99,18 @@ static int wait_for_room(struct clfs *log)
 {
     if (log->filled == REPLIES_ROOM) make_room_for_replies(log);
     if (log->filled == REPLIES_ROOM) return told(log, CLFS_BUSY);
-    struct pollfd both[2] = {{.fd = log->input, .events = POLLOUT}, {.fd = log->over ? -1 : log->output, .events = POLLIN}};
-    int ready = poll(both, 1, 1);
-    if (ready == 0) ready = poll(both, 2, -1);
-    if (ready < 0) return errno == EINTR ? 0 : fail(log, CLFS_SYSTEM);
-    return both[1].revents ? take(log) : 0;
+    int ready = poll(&(struct pollfd){.fd = log->program.input, .events = POLLOUT}, 1, 1);
+    if (ready == 0) ready = clfs_ready(&log->program, log->over ? POLLOUT : POLLOUT | POLLIN);
+    else if (ready < 0 && errno == EINTR) return 0;
+    if (ready < 0) return fail(log, CLFS_SYSTEM);
+    return ready & POLLIN ? take(log) : 0;
 }
 
 /* Writes the lines that were gathered; up to the first wait for room, if it isn't to wait. */
 static int write_lines(struct clfs *log, bool waits)
 {
     while (log->written < log->gathered) {
-        ssize_t size = send(log->input, log->lines + log->written, log->gathered - log->written, MSG_NOSIGNAL);
+        ssize_t size = send(log->program.input, log->lines + log->written, log->gathered - log->written, MSG_NOSIGNAL);
         if (size >= 0) {
             log->written += (size_t)size;
         } else if (errno == EAGAIN || errno == EWOULDBLOCK) {
@@ -230,9 +158,9 @@ static int next_line(struct clfs *log, char **line, size_t *length)
 }
 
 /* The program wrote a line that is no reply: the last one before its end, or one that nobody knows. */
-static int last_line(struct clfs *log, const char *line)
+static int last_line(struct clfs *log, const char *line, size_t length)
 {
-    int status = clfs_status_after(line, &log->ending);
+    int status = clfs_status_after(line, length, &log->ending);
     snprintf(log->said, sizeof log->said, "%.*s", (int)sizeof log->said - 1, line);
     if (status < 0 || log->taken < log->filled) return fail(log, CLFS_UNKNOWN_REPLY);
     log->taken = log->looked = log->filled = 0;
@@ -243,7 +171,7 @@ static int last_line(struct clfs *log, const char *line)
     bool known = log->ending.status >= 0 || log->ending.signal;
     if (known && log->ending.status != status) return log->failed = told(log, CLFS_UNKNOWN_REPLY);
     log->ending.status = status;
-    return CLFS_ENDED;
+    return log->failed = told(log, clfs_answer_of_end(&log->program, &log->ending));
 }
 
 int clfs_await(struct clfs *log, struct clfs_reply *reply)
@@ -257,7 +185,7 @@ int clfs_await(struct clfs *log, struct clfs_reply *reply)
     if (!line) return fail(log, log->over ? CLFS_ENDED : CLFS_UNKNOWN_REPLY);
     struct clfs_answered into = {.reply = reply, .refusal = &log->refusal, .extents = log->extents};
     answer = clfs_judge(line, length, log->waiting[log->first], into);
-    if (answer == CLFS_UNKNOWN_REPLY) return last_line(log, line);
+    if (answer == CLFS_UNKNOWN_REPLY) return last_line(log, line, length);
     log->first = (log->first + 1) % CLFS_WINDOW;
     log->count--;
     return answer ? told(log, answer) : 0;
@@ -295,7 +223,7 @@ static void add_number(struct clfs *log, uint32_t number)
 static void add_lsn(struct clfs *log, clfs_lsn lsn)
 {
     char text[CLFS_LSN_ROOM];
-    clfs_lsn_text(lsn, text);
+    clfs_text_of_lsn(lsn, text);
     add_word(log, text);
 }
 
@@ -389,7 +317,7 @@ static int answer_lsn(struct clfs *log, int sent, clfs_lsn *lsn)
     return answer;
 }
 
-static int answer_record(struct clfs *log, int sent, unsigned *cursor, struct clfs_record *record)
+static int answer_record(struct clfs *log, int sent, unsigned *cursor, struct clfs_found *record)
 {
     struct clfs_reply reply;
     int answer = sent ? sent : clfs_await(log, &reply);
@@ -465,7 +393,7 @@ int clfs_send_read(struct clfs *log, unsigned client, unsigned area, clfs_lsn ls
     return finish(log, FOUND);
 }
 
-int clfs_read(struct clfs *log, unsigned client, unsigned area, clfs_lsn lsn, enum clfs_mode mode, unsigned *cursor, struct clfs_record *record)
+int clfs_read(struct clfs *log, unsigned client, unsigned area, clfs_lsn lsn, enum clfs_mode mode, unsigned *cursor, struct clfs_found *record)
 {
     int sent = alone(log);
     return answer_record(log, sent ? sent : clfs_send_read(log, client, area, lsn, mode), cursor, record);
@@ -479,7 +407,7 @@ int clfs_send_next(struct clfs *log, unsigned client, unsigned area, unsigned cu
     return finish(log, RECORD);
 }
 
-int clfs_next(struct clfs *log, unsigned client, unsigned area, unsigned cursor, struct clfs_record *record)
+int clfs_next(struct clfs *log, unsigned client, unsigned area, unsigned cursor, struct clfs_found *record)
 {
     int sent = alone(log);
     return answer_record(log, sent ? sent : clfs_send_next(log, client, area, cursor), NULL, record);
@@ -568,13 +496,13 @@ int clfs_restart(struct clfs *log, unsigned client, unsigned area, const void *d
     return answer_lsn(log, finish(log, LSN), lsn);
 }
 
-int clfs_read_restart(struct clfs *log, unsigned client, unsigned area, unsigned *cursor, struct clfs_record *record)
+int clfs_read_restart(struct clfs *log, unsigned client, unsigned area, unsigned *cursor, struct clfs_found *record)
 {
     int sent = begin_area_alone(log, client, "readrestart", area, 0);
     return sent ? sent : answer_record(log, finish(log, FOUND), cursor, record);
 }
 
-int clfs_previous_restart(struct clfs *log, unsigned client, unsigned area, unsigned cursor, struct clfs_record *record)
+int clfs_previous_restart(struct clfs *log, unsigned client, unsigned area, unsigned cursor, struct clfs_found *record)
 {
     int sent = begin_area_alone(log, client, "prevrestart", area, 0);
     if (sent) return sent;
@@ -679,20 +607,24 @@ static int meet(struct clfs *log)
 
 int clfs_start(struct clfs **log, const struct clfs_options *options)
 {
-    char number[12];
-    const char *words[8] = {options->program ? options->program : "clfs", options->folder, "serve", SERVE_OPTIONS};
+    char write_buffers[12], read_buffers[12];
+    const char *words[9] = {options->program ? options->program : "clfs", options->folder, "serve", SERVE_OPTIONS};
     size_t count = 3;
     while (words[count]) count++;
     if (options->write_buffers) {
-        snprintf(number, sizeof number, "%u", options->write_buffers);
+        snprintf(write_buffers, sizeof write_buffers, "%u", options->write_buffers);
         words[count++] = "--write-buffers";
-        words[count++] = number;
+        words[count++] = write_buffers;
+    }
+    if (options->read_buffers) {
+        snprintf(read_buffers, sizeof read_buffers, "%u", options->read_buffers);
+        words[count++] = "--read-buffers";
+        words[count++] = read_buffers;
     }
     *log = calloc(1, sizeof **log);
     if (!*log) return CLFS_SYSTEM;
-    int error = start(*log, (char *const *)words, options->errors);
+    int error = clfs_launch(&(*log)->program, (char *const *)words, options->errors);
     if (!error) return meet(*log);
-    close_pipes(*log);
     free(*log);
     *log = NULL;
     errno = error;
@@ -705,7 +637,7 @@ static int end_input(struct clfs *log)
     bool ended = false;
     while (!log->over) {
         int answer = ended ? 0 : write_lines(log, true);
-        if (!answer && !ended) ended = !shutdown(log->input, SHUT_WR) || errno != EINTR;
+        if (!answer && !ended) ended = !shutdown(log->program.input, SHUT_WR) || errno != EINTR;
         for (; log->taken < log->filled; log->taken++) log->count -= log->count && log->replies[log->taken] == '\n';
         log->taken = log->looked = log->filled = 0;
         if (!answer) answer = take(log);
@@ -724,22 +656,21 @@ int clfs_close(struct clfs *log, struct clfs_ending *ending)
     return answer;
 }
 
-pid_t clfs_process(const struct clfs *log) { return log->process; }
+pid_t clfs_process(const struct clfs *log) { return log->program.process; }
 
 unsigned clfs_under_way(const struct clfs *log) { return log->count; }
 
 /* Reads the output of a program to its end, at most as much as there is room for, and gives its status, or 256 and its signal. */
 static int status_after(struct clfs *log)
 {
-    while (!log->over && log->filled < sizeof log->message - 1) {
-        ssize_t size = read(log->output, log->message + log->filled, sizeof log->message - 1 - log->filled);
-        if (size < 0 && errno != EINTR) return CLFS_SYSTEM;
-        log->over = size == 0;
-        if (size > 0) log->filled += (size_t)size;
+    while (!log->over && log->filled < sizeof log->replies) {
+        int answer = take(log);
+        if (answer) return answer;
     }
-    if (log->filled && log->message[log->filled - 1] == '\n') log->filled--;
-    log->message[log->filled] = 0;
-    reap(log);
+    if (!log->over) kill(log->program.process, SIGKILL);
+    if (!log->over || (log->filled && log->replies[log->filled - 1] == '\n')) log->filled--;
+    log->replies[log->filled] = 0;
+    clfs_reap(&log->program, &log->ending);
     return log->ending.signal ? 256 + log->ending.signal : log->ending.status;
 }
 
@@ -755,12 +686,14 @@ int clfs_format(const struct clfs_sizes *sizes)
     };
     struct clfs *log = calloc(1, sizeof *log);
     if (!log) return CLFS_SYSTEM;
-    int error = start(log, (char *const *)words, 0);
+    int error = clfs_launch(&log->program, (char *const *)words, 0);
     int status = error ? CLFS_SYSTEM : status_after(log);
-    int said = !strcmp(log->message, "formatted") ? 0 : clfs_status_after(log->message, &log->ending);
-    if (status == CLFS_ENDED) status = said;
+    int said = !strcmp(log->replies, "formatted") ? 0 : clfs_status_after(log->replies, log->filled, &log->ending);
+    if (status == CLFS_ENDED) status = log->ending.status = said;
     bool known = status == said || (log->filled == 0 && status != 0);
-    close_pipes(log);
+    int cause = clfs_answer_of_end(&log->program, &log->ending);
+    if (known && cause != CLFS_ENDED) status = cause;
+    error = error ? error : log->error;
     free(log);
     errno = error;
     return known || status < 0 ? status : CLFS_UNKNOWN_REPLY;
@@ -784,6 +717,9 @@ const char *clfs_message(struct clfs *log)
     case CLFS_UNSAYABLE: snprintf(to, room, "no line of the language can say it"); break;
     case CLFS_BUSY: snprintf(to, room, "lines are under way: take a reply first"); break;
     case CLFS_NOTHING: snprintf(to, room, "no line is under way"); break;
+    case CLFS_LOCKED: snprintf(to, room, "locked: another process has the folder"); break;
+    case CLFS_NO_FOLDER: snprintf(to, room, "there is no such folder"); break;
+    case CLFS_NO_PERMISSION: snprintf(to, room, "no permission for the folder or a file of it"); break;
     case CLFS_DONE: snprintf(to, room, "done"); break;
     default: clfs_refusal_text(&log->refusal, to, room); break;
     }

@@ -39,7 +39,7 @@ typedef uint64_t clfs_lsn;
 
 /* Room for an LSN as text, as "1:400:0", with its zero. */
 #define CLFS_LSN_ROOM 24
-void clfs_lsn_text(clfs_lsn lsn, char text[CLFS_LSN_ROOM]);
+void clfs_text_of_lsn(clfs_lsn lsn, char text[CLFS_LSN_ROOM]);
 
 enum clfs_answer {
     CLFS_DONE = 0,
@@ -86,7 +86,13 @@ enum clfs_answer {
     /* Too much is under way, or a call that waits was made while lines were. Nothing was sent; take a reply by clfs_await first. */
     CLFS_BUSY = -5,
     /* No line is under way. */
-    CLFS_NOTHING = -6
+    CLFS_NOTHING = -6,
+
+    /* In place of CLFS_ENDED, if the program's standard error says so: before the log was open another process had the folder, there was no such
+     * folder, or the folder or a file of it may not be read or written. */
+    CLFS_LOCKED = -7,
+    CLFS_NO_FOLDER = -8,
+    CLFS_NO_PERMISSION = -9
 };
 
 /* The fields of a refusal. Those without fields are left out. */
@@ -154,7 +160,7 @@ struct clfs_draft {
 };
 
 /* A record that was read. Its data lie in the handle, until its next call. */
-struct clfs_record {
+struct clfs_found {
     clfs_lsn lsn, previous, undo_next, base;
     bool is_restart;        /* a restart area, whose new base is base */
     const void *data;
@@ -178,7 +184,7 @@ struct clfs_info {
 struct clfs_reply {
     uint32_t number;        /* a stream, an area, sectors, a cursor or containers */
     clfs_lsn lsn;           /* an LSN, and that of a record */
-    struct clfs_record record;
+    struct clfs_found record;
     struct clfs_info info;
     const struct clfs_extent *extents;  /* they lie in the handle, until its next call */
     size_t extent_count;
@@ -190,10 +196,12 @@ struct clfs_options {
     const char *folder;
     const char *program;        /* looked for as execvp does; "clfs" if it is left out */
     unsigned write_buffers;     /* 1 to 64; the program's own number if it is left out */
-    int errors;                 /* the program's standard error; the caller's if it is left out */
+    int errors;                 /* where its standard error goes on to: the caller's if it is left out, nowhere if it is negative */
+    unsigned read_buffers;      /* 1 to 4,096; the program's own number if it is left out */
 };
 
-/* Starts the program and waits until the log is open. Also after CLFS_ENDED there is a handle, which tells why; after CLFS_SYSTEM there is none. */
+/* Starts the program and waits until the log is open. What the program writes to its standard error is read here and passed on while a call waits,
+ * so what `errors` leads to may be of any kind, but where it takes nothing for a second a part is left out. After each answer but CLFS_SYSTEM there is a handle, which is to be closed. */
 int clfs_start(struct clfs **log, const struct clfs_options *options);
 
 /* Ends the input, waits for the end of the program and frees the handle. What isn't flushed is gone, and replies under way are thrown away.
@@ -210,8 +218,8 @@ struct clfs_sizes {
     bool dedicated;
 };
 
-/* Makes a log. Answers 0, the status with which the program ended, 256 and a signal, CLFS_UNKNOWN_REPLY, CLFS_SYSTEM, or CLFS_ENDED if its end isn't
- * known. */
+/* Makes a log. Answers 0, the status with which the program ended, 256 and a signal, CLFS_LOCKED, CLFS_NO_FOLDER, CLFS_NO_PERMISSION,
+ * CLFS_UNKNOWN_REPLY, CLFS_SYSTEM, or CLFS_ENDED if its end isn't known. */
 int clfs_format(const struct clfs_sizes *sizes);
 
 /* What went wrong. */
@@ -219,7 +227,7 @@ int clfs_format(const struct clfs_sizes *sizes);
 /* The last refusal. */
 const struct clfs_refusal *clfs_refused(const struct clfs *log);
 
-/* How the program has ended, after CLFS_ENDED. */
+/* How the program has ended, after CLFS_ENDED and the answers in its place. */
 const struct clfs_ending *clfs_ended(const struct clfs *log);
 
 /* The last answer that wasn't 0, in words. It lies in the handle. */
@@ -236,12 +244,12 @@ int clfs_align(struct clfs *log, unsigned client, unsigned area, const uint32_t 
 int clfs_append(struct clfs *log, unsigned client, unsigned area, const struct clfs_draft *draft, clfs_lsn *lsn);
 int clfs_flush(struct clfs *log, unsigned client, unsigned area, clfs_lsn *flushed);
 int clfs_flush_to(struct clfs *log, unsigned client, unsigned area, clfs_lsn lsn, clfs_lsn *flushed);
-int clfs_read(struct clfs *log, unsigned client, unsigned area, clfs_lsn lsn, enum clfs_mode mode, unsigned *cursor, struct clfs_record *record);
-int clfs_next(struct clfs *log, unsigned client, unsigned area, unsigned cursor, struct clfs_record *record);
+int clfs_read(struct clfs *log, unsigned client, unsigned area, clfs_lsn lsn, enum clfs_mode mode, unsigned *cursor, struct clfs_found *record);
+int clfs_next(struct clfs *log, unsigned client, unsigned area, unsigned cursor, struct clfs_found *record);
 int clfs_end(struct clfs *log, unsigned client, unsigned area, unsigned cursor);
 int clfs_restart(struct clfs *log, unsigned client, unsigned area, const void *data, size_t size, clfs_lsn base, bool reserved, clfs_lsn *lsn);
-int clfs_read_restart(struct clfs *log, unsigned client, unsigned area, unsigned *cursor, struct clfs_record *record);
-int clfs_previous_restart(struct clfs *log, unsigned client, unsigned area, unsigned cursor, struct clfs_record *record);
+int clfs_read_restart(struct clfs *log, unsigned client, unsigned area, unsigned *cursor, struct clfs_found *record);
+int clfs_previous_restart(struct clfs *log, unsigned client, unsigned area, unsigned cursor, struct clfs_found *record);
 int clfs_advance(struct clfs *log, unsigned client, unsigned area, clfs_lsn lsn, clfs_lsn *base);
 int clfs_archive(struct clfs *log, unsigned client, bool on);
 int clfs_tail(struct clfs *log, unsigned client, clfs_lsn lsn, clfs_lsn *tail);

@@ -14,7 +14,7 @@ static char *hex_text(uint32_t number, char *at)
     return at;
 }
 
-void clfs_lsn_text(clfs_lsn lsn, char text[CLFS_LSN_ROOM])
+void clfs_text_of_lsn(clfs_lsn lsn, char text[CLFS_LSN_ROOM])
 {
     char *at = hex_text((uint32_t)(lsn >> 32), text);
     *at++ = ':';
@@ -83,7 +83,7 @@ static char *hexadecimal(char *text, char end, uint32_t *number)
     return right ? text + length + 1 : NULL;
 }
 
-/* What ends the word: the space after it, or the zero at the end of the line. */
+/* What ends the word: the space after it, or the zero at the end of the line. A zero may stand inside the word, too. */
 static char end_of(const struct words *words)
 {
     return words->at ? ' ' : 0;
@@ -95,16 +95,17 @@ static bool take_lsn(struct words *words, clfs_lsn *lsn)
     size_t length;
     uint32_t container, offset, sequence;
     if (!take_word(words, &at, &length)) return false;
+    char *after = at + length + 1;
     at = hexadecimal(at, ':', &container);
     if (at) at = hexadecimal(at, ':', &offset);
     if (at) at = hexadecimal(at, end_of(words), &sequence);
-    if (!at || offset % 512 || sequence > 511) return false;
+    if (at != after || offset % 512 || sequence > 511) return false;
     *lsn = (clfs_lsn)container << 32 | offset | sequence;
     return true;
 }
 
 /* Data, which are decoded where they lie. */
-static bool take_data(struct words *words, struct clfs_record *record)
+static bool take_data(struct words *words, struct clfs_found *record)
 {
     char *word;
     size_t length;
@@ -120,7 +121,7 @@ static bool take_data(struct words *words, struct clfs_record *record)
     return true;
 }
 
-static bool take_record(struct words *words, struct clfs_record *record)
+static bool take_record(struct words *words, struct clfs_found *record)
 {
     char *kind;
     size_t length;
@@ -140,10 +141,11 @@ static bool take_extents(struct words *words, struct clfs_extent *extents, struc
         size_t length;
         struct clfs_extent *extent = &extents[at];
         if (!take_word(words, &word, &length)) return false;
+        char *after = word + length + 1;
         word = hexadecimal(word, ':', &extent->container);
         if (word) word = hexadecimal(word, '-', &extent->low);
         if (word) word = hexadecimal(word, end_of(words), &extent->high);
-        if (!word) return false;
+        if (word != after) return false;
     }
     reply->extents = extents;
     reply->extent_count = count;
@@ -249,9 +251,10 @@ int clfs_judge(char *line, size_t length, struct clfs_waiting waiting, struct cl
     return right ? 0 : CLFS_UNKNOWN_REPLY;
 }
 
-int clfs_status_after(const char *line, struct clfs_ending *ending)
+int clfs_status_after(const char *line, size_t length, struct clfs_ending *ending)
 {
     char again[80];
+    if (strlen(line) != length) return -1;
     if (!strncmp(line, "usage: clfs ", 12)) return CLFS_STATUS_NO_COMMAND;
     if (!strcmp(line, "disk fault")) return CLFS_STATUS_DISK_FAILED;
     if (!strcmp(line, "not a log: no open slot")) return CLFS_STATUS_NOT_A_LOG;
@@ -271,7 +274,7 @@ void clfs_refusal_text(const struct clfs_refusal *refusal, char *text, size_t ro
     int size = snprintf(text, room, "refused %d %s", refusal->number, refusals[refusal->number].name);
     for (size_t at = 0; fields[at] && (size_t)size < room; at++) {
         char lsn[CLFS_LSN_ROOM];
-        clfs_lsn_text(refusal->lsns[at], lsn);
+        clfs_text_of_lsn(refusal->lsns[at], lsn);
         char *to = text + size;
         size_t left = room - (size_t)size;
         size += fields[at] == 'n' ? snprintf(to, left, " %u", refusal->numbers[at]) : snprintf(to, left, " %s", lsn);

@@ -28,8 +28,9 @@ struct clfs_answered {
  * are decoded where they lie. */
 int clfs_judge(char *line, size_t length, struct clfs_waiting waiting, struct clfs_answered into);
 
-/* The status with which the program ends after this line, or -1 if it isn't such a line. Tells the ending where the line does. */
-int clfs_status_after(const char *line, struct clfs_ending *ending);
+/* The status with which the program ends after this line, which ends with a zero, or -1 if it isn't such a line. Tells the ending where the line
+ * does. */
+int clfs_status_after(const char *line, size_t length, struct clfs_ending *ending);
 
 /* A refusal, and an ending, in words. */
 void clfs_refusal_text(const struct clfs_refusal *refusal, char *text, size_t room);

@@ -7,6 +7,7 @@
 #include <stdlib.h>
 #include <string.h>
 #include <sys/stat.h>
+#include <sys/wait.h>
 #include <unistd.h>
 
 static const char *program;
@@ -51,23 +52,31 @@ static clfs_lsn lsn_of(uint32_t container, uint32_t offset, uint32_t sequence)
     return (clfs_lsn)container << 32 | offset | sequence;
 }
 
-static bool has(const struct clfs_record *record, clfs_lsn lsn, const char *data)
+static bool has(const struct clfs_found *record, clfs_lsn lsn, const char *data)
 {
     return record->lsn == lsn && record->size == strlen(data) && !memcmp(record->data, data, record->size);
+}
+
+/* The path of a program of the shell that does what the text says. */
+static const char *shell(const char *text)
+{
+    static char path[40];
+    const char *name = new_name();
+    FILE *file = fopen(name, "w");
+    fprintf(file, "#!/bin/sh\n%s", text);
+    fclose(file);
+    chmod(name, S_IRWXU);
+    snprintf(path, sizeof path, "./%s", name);
+    return path;
 }
 
 /* A log whose program, one of the shell, has answered the line by which the start waits, and then does what the text says. */
 static struct clfs *start_shell(const char *text)
 {
-    const char *name = new_name();
-    char path[40];
+    char all[512];
     struct clfs *log;
-    FILE *file = fopen(name, "w");
-    fprintf(file, "#!/bin/sh\nread line\necho '0 refused 28 BadLine 0'\n%s", text);
-    fclose(file);
-    chmod(name, S_IRWXU);
-    snprintf(path, sizeof path, "./%s", name);
-    CHECK(clfs_start(&log, &(struct clfs_options){.folder = ".", .program = path}) == 0);
+    snprintf(all, sizeof all, "read line\necho '0 refused 28 BadLine 0'\n%s", text);
+    CHECK(clfs_start(&log, &(struct clfs_options){.folder = ".", .program = shell(all), .errors = -1}) == 0);
     return log;
 }
 
@@ -85,7 +94,7 @@ static void the_example_of_the_manual(void)
     unsigned stream, area = 0, cursor;
     uint32_t number;
     clfs_lsn lsn, first = lsn_of(1, 0, 0), second = lsn_of(1, 0, 1), third = lsn_of(1, 0x200, 0);
-    struct clfs_record record;
+    struct clfs_found record;
     CHECK(clfs_open(log, 1, "orders", &stream) == 0 && stream == 1);
     CHECK(clfs_area(log, 1, stream, 960, 4, &area) == 0 && area == 1);
     CHECK(clfs_append(log, 1, area, &(struct clfs_draft){.data = "hello", .size = 5}, &lsn) == 0 && lsn == first);
@@ -180,7 +189,7 @@ static void many_lines_under_way(void)
     }
     CHECK(clfs_await(log, &reply) == CLFS_NOTHING && clfs_flush(log, 1, area, &lsn) == 0);
     unsigned cursor;
-    struct clfs_record record;
+    struct clfs_found record;
     CHECK(clfs_read(log, 1, area, last, CLFS_FORWARD, &cursor, &record) == 0 && has(&record, last, "4999"));
     CHECK(clfs_close(log, NULL) == 0);
 }
@@ -235,15 +244,19 @@ static void a_killed_program_is_told(void)
 static void what_starting_and_formatting_tell(void)
 {
     struct clfs *log, *other;
-    CHECK(clfs_start(&log, &(struct clfs_options){.folder = "none", .program = program}) == CLFS_ENDED);
+    CHECK(clfs_start(&log, &(struct clfs_options){.folder = "none", .program = program, .errors = -1}) == CLFS_NO_FOLDER);
+    CHECK(clfs_ended(log)->status == CLFS_STATUS_NOT_A_LOG && !clfs_ended(log)->has_place);
+    CHECK(clfs_close(log, NULL) == CLFS_NO_FOLDER);
+    mkdir("empty", S_IRWXU);
+    CHECK(clfs_start(&log, &(struct clfs_options){.folder = "empty", .program = program}) == CLFS_ENDED);
     CHECK(clfs_ended(log)->status == CLFS_STATUS_NOT_A_LOG && !clfs_ended(log)->has_place);
     CHECK(clfs_close(log, NULL) == CLFS_ENDED);
     CHECK(clfs_start(&log, &(struct clfs_options){.folder = "none", .program = "./none"}) == CLFS_SYSTEM && !log);
     signal(SIGCHLD, SIG_IGN);
     CHECK(clfs_format(&(struct clfs_sizes){"ignored", program, 2, 8, 2, false}) == 0);
     CHECK(clfs_format(&(struct clfs_sizes){"ignored", program, 2, 8, 2, false}) == CLFS_STATUS_LOG_EXISTS);
-    CHECK(clfs_start(&log, &(struct clfs_options){.folder = "none", .program = program}) == CLFS_ENDED);
-    CHECK(clfs_ended(log)->status == CLFS_STATUS_NOT_A_LOG && clfs_close(log, NULL) == CLFS_ENDED);
+    CHECK(clfs_start(&log, &(struct clfs_options){.folder = "none", .program = program, .errors = -1}) == CLFS_NO_FOLDER);
+    CHECK(clfs_ended(log)->status == CLFS_STATUS_NOT_A_LOG && clfs_close(log, NULL) == CLFS_NO_FOLDER);
     signal(SIGCHLD, SIG_DFL);
     const char *folder = format(2, 8, 2);
     CHECK(clfs_format(&(struct clfs_sizes){folder, program, 2, 8, 2, false}) == CLFS_STATUS_LOG_EXISTS);
@@ -252,8 +265,10 @@ static void what_starting_and_formatting_tell(void)
     log = start(folder);
     FILE *told = tmpfile();
     char line[128] = "";
-    CHECK(clfs_start(&other, &(struct clfs_options){.folder = folder, .program = program, .errors = fileno(told)}) == CLFS_ENDED);
-    CHECK(clfs_ended(other)->status == CLFS_STATUS_DISK_FAILED && clfs_close(other, NULL) == CLFS_ENDED);
+    CHECK(clfs_start(&other, &(struct clfs_options){.folder = folder, .program = program, .errors = fileno(told)}) == CLFS_LOCKED);
+    CHECK(clfs_ended(other)->status == CLFS_STATUS_DISK_FAILED && !strcmp(clfs_message(other), "locked: another process has the folder"));
+    CHECK(clfs_close(other, NULL) == CLFS_LOCKED);
+    CHECK(clfs_format(&(struct clfs_sizes){folder, program, 2, 8, 2, false}) == CLFS_LOCKED);
     rewind(told);
     CHECK(fgets(line, sizeof line, told) && strstr(line, "another process has the folder"));
     fclose(told);
@@ -309,11 +324,11 @@ static void replies_that_the_language_does_not_have(void)
     };
     static const char *const lists[] = {
         "1 extents", "1 extents 1", "1 extents 2 1:0-200", "1 extents 1 1:0", "1 extents 1 1:0-0200", "1 extents 1 1-0:200", "1 extents 257",
-        "1 extents 0 1:0-200",
+        "1 extents 0 1:0-200", "1 extents 1 -1:0-200", "1 extents 1 1:0--200", "1 extents 1 1:0-100000000",
     };
     clfs_lsn lsn;
     unsigned cursor;
-    struct clfs_record record;
+    struct clfs_found record;
     const struct clfs_extent *extents;
     size_t count;
     for (size_t at = 0; at < sizeof flushed / sizeof *flushed; at++) {
@@ -329,6 +344,25 @@ static void replies_that_the_language_does_not_have(void)
         struct clfs *log = start_answering(lists[at]);
         CHECK(clfs_extents(log, 1, &extents, &count) == CLFS_UNKNOWN_REPLY && clfs_close(log, NULL) == CLFS_UNKNOWN_REPLY);
     }
+}
+
+/* A byte 0 in a reply isn't its end. */
+static void a_zero_in_a_reply(void)
+{
+    static const char *const lines[] = {
+        "1 flushed 1:0:0\\0000", "1 flushed 1:0:0\\000", "1 flushed 1:0\\000:0", "1 flushed\\000 1:0:0", "1 refused 3 Broken\\000", "input too long\\000",
+    };
+    char text[128];
+    clfs_lsn lsn;
+    for (size_t at = 0; at < sizeof lines / sizeof *lines; at++) {
+        snprintf(text, sizeof text, "read line\nprintf '%s\\n'\nexit 7\n", lines[at]);
+        struct clfs *log = start_shell(text);
+        CHECK(clfs_reopen(log, 1, &lsn) == CLFS_UNKNOWN_REPLY && clfs_close(log, NULL) == CLFS_UNKNOWN_REPLY);
+    }
+    const struct clfs_extent *extents;
+    size_t count;
+    struct clfs *log = start_shell("read line\nprintf '1 extents 1 1:0-200\\000x\\n'\nread line\n");
+    CHECK(clfs_extents(log, 1, &extents, &count) == CLFS_UNKNOWN_REPLY && clfs_close(log, NULL) == CLFS_UNKNOWN_REPLY);
 }
 
 static void each_end(void)
@@ -350,6 +384,117 @@ static void each_end(void)
     }
 }
 
+/* A start of a program of the shell, with the descriptor for its standard error, and what it answers. */
+static int start_failing(const char *text, int errors)
+{
+    struct clfs *log;
+    int answer = clfs_start(&log, &(struct clfs_options){.folder = ".", .program = shell(text), .errors = errors});
+    CHECK(log && clfs_close(log, NULL) == answer);
+    return answer;
+}
+
+static void causes_on_standard_error(void)
+{
+    static const struct {
+        const char *text;
+        int answer;
+    } ends[] = {
+        {"echo 'clfs: locked: log: another process has the folder' >&2\necho 'disk fault'\nexit 4\n", CLFS_LOCKED},
+        {"echo 'clfs: locked: log: another process has the folder' >&2\nexit 4\n", CLFS_LOCKED},
+        {"printf 'building\nclfs: loc' >&2\nsleep 0.1\necho 'ked: log' >&2\necho more >&2\necho 'disk fault'\nexit 4\n", CLFS_LOCKED},
+        {"sleep 3 >/dev/null &\nhead -c 20000 /dev/zero >&2\necho >&2\necho 'clfs: locked: log' >&2\nexit 4\n", CLFS_LOCKED},
+        {"echo 'clfs: no permission: log/c1: open: denied' >&2\necho 'disk fault'\nexit 4\n", CLFS_NO_PERMISSION},
+        {"echo 'clfs: no folder: log: it is not there' >&2\necho 'not a log: no open slot'\nexit 6\n", CLFS_NO_FOLDER},
+        {"echo 'clfs: no folder: log: it is not there' >&2\necho 'disk fault'\nexit 4\n", CLFS_NO_FOLDER},
+        {"echo 'clfs: log/c1: read: clfs: locked: x' >&2\necho 'disk fault'\nexit 4\n", CLFS_ENDED},
+        {"echo 'clfs: locked: log' >&2\necho 'not a log: no open slot'\nexit 6\n", CLFS_ENDED},
+        {"echo 'clfs: locked: log' >&2\nexit 5\n", CLFS_ENDED},
+        {"echo 'clfs: locked: log' >&2\nkill -9 $$\n", CLFS_ENDED},
+    };
+    for (size_t at = 0; at < sizeof ends / sizeof *ends; at++) CHECK(start_failing(ends[at].text, -1) == ends[at].answer);
+    struct clfs_sizes sizes = {".", shell(ends[0].text), 2, 8, 2, false};
+    CHECK(clfs_format(&sizes) == CLFS_LOCKED);
+    sizes.program = shell(ends[5].text);
+    CHECK(clfs_format(&sizes) == CLFS_NO_FOLDER);
+}
+
+/* Descriptor 1 of the caller is a file for a while; it gets the program's standard error, and the replies come as ever. */
+static void standard_error_to_descriptor_1(void)
+{
+    FILE *told = tmpfile();
+    char line[128] = "";
+    fflush(stdout);
+    int before = dup(1);
+    dup2(fileno(told), 1);
+    int answer = start_failing("echo 'clfs: log/c1: read: failed' >&2\necho 'disk fault'\nexit 4\n", 1);
+    dup2(before, 1);
+    close(before);
+    CHECK(answer == CLFS_ENDED);
+    rewind(told);
+    CHECK(fgets(line, sizeof line, told) && !strcmp(line, "clfs: log/c1: read: failed\n") && !fgets(line, sizeof line, told));
+    fclose(told);
+}
+
+/* A program that writes more to its standard error than pipes hold is served, though nobody reads there, or can. */
+static void standard_error_that_nobody_reads(void)
+{
+    static const char text[] = "read line\nhead -c 300000 /dev/zero >&2\necho '0 refused 28 BadLine 0'\nread line\nhead -c 300000 /dev/zero >&2\n"
+        "echo '1 flushed 1:0:0'\nread line\nexec >&-\nhead -c 300000 /dev/zero >&2\n";
+    int pipes[2];
+    for (int closed = 0; closed < 2; closed++) {
+        struct clfs *log;
+        clfs_lsn lsn;
+        CHECK(pipe(pipes) == 0);
+        if (closed) close(pipes[0]);
+        CHECK(clfs_start(&log, &(struct clfs_options){.folder = ".", .program = shell(text), .errors = pipes[1]}) == 0);
+        CHECK(clfs_reopen(log, 1, &lsn) == 0 && clfs_close(log, NULL) == 0);
+        close(pipes[1]);
+        if (!closed) close(pipes[0]);
+    }
+}
+
+/* The caller's blocked and ignored signals aren't the program's. */
+static void signals_of_the_caller(void)
+{
+    const char *folder = format(2, 8, 2);
+    struct sigaction before, ignored = {.sa_handler = SIG_IGN};
+    sigset_t all, mask;
+    unsigned stream;
+    sigfillset(&all);
+    sigprocmask(SIG_SETMASK, &all, &mask);
+    sigaction(SIGTERM, &ignored, &before);
+    struct clfs *log = start(folder);
+    sigaction(SIGTERM, &before, NULL);
+    sigprocmask(SIG_SETMASK, &mask, NULL);
+    kill(clfs_process(log), SIGTERM);
+    CHECK(clfs_open(log, 1, "orders", &stream) == CLFS_ENDED && clfs_ended(log)->signal == SIGTERM);
+    CHECK(clfs_close(log, NULL) == CLFS_ENDED);
+}
+
+/* A child that the caller forked has copies of the pipes, and closing ends the program all the same. */
+static void a_child_of_the_caller(void)
+{
+    struct clfs *log = start(format(2, 8, 2));
+    pid_t child = fork();
+    if (child == 0) {
+        pause();
+        _exit(0);
+    }
+    CHECK(clfs_close(log, NULL) == 0);
+    kill(child, SIGKILL);
+    waitpid(child, NULL, 0);
+}
+
+static void buffers_for_reading(void)
+{
+    const char *folder = format(2, 8, 2);
+    struct clfs *log;
+    CHECK(clfs_start(&log, &(struct clfs_options){.folder = folder, .program = program, .write_buffers = 1, .read_buffers = 4096}) == 0);
+    CHECK(clfs_close(log, NULL) == 0);
+    CHECK(clfs_start(&log, &(struct clfs_options){.folder = folder, .program = program, .read_buffers = 4097, .errors = -1}) == CLFS_ENDED);
+    CHECK(clfs_ended(log)->status == CLFS_STATUS_NO_COMMAND && clfs_close(log, NULL) == CLFS_ENDED);
+}
+
 int main(int count, char **words)
 {
     if (count != 3 || chdir(words[2])) return 2;
@@ -363,7 +508,14 @@ int main(int count, char **words)
     what_starting_and_formatting_tell();
     each_refusal();
     replies_that_the_language_does_not_have();
+    a_zero_in_a_reply();
     each_end();
+    causes_on_standard_error();
+    standard_error_to_descriptor_1();
+    standard_error_that_nobody_reads();
+    signals_of_the_caller();
+    a_child_of_the_caller();
+    buffers_for_reading();
     if (failures == 0) printf("all well\n");
     return failures != 0;
 }

@@ -19,21 +19,24 @@ What may go wrong, all of it a `ClfsError`:
 - `Ended`: the program has ended or was killed. Nothing waits for it, and each line without a reply is answered so.
 - `UnknownReply`: the program answered what isn't in the language. The handle is of no use after it.
 - `LineTooLong`: the line would pass the limit of the language. It wasn't sent.
+- `TimedOut`, `OtherProcess`, `InUse`: the time of the call was over; the handle belongs to the process from which this one was forked; a signal's
+  handler used it in the middle of a call.
 
 A record is safe once a flush was answered: `append(flush=True)`, `flush`, `flush_to`, `restart`, `advance`. Leaving the `with` block doesn't
-flush. A handle is for one thread at a time.
+flush. Calls of several threads on one handle are served one after another: a thread waits until the reply to another one's line is there.
 """
 
 from __future__ import annotations
 
 import contextlib
 import os
-import select
-import subprocess
+import threading
+import weakref
 from collections import deque
 from typing import Any, Callable, Deque, Generic, Iterator, List, Optional, Sequence, Tuple, Type, TypeVar, Union
 
 import clfs_replies as replies
+from clfs_program import Program, deadline_after
 from clfs_replies import *
 
 T = TypeVar("T")
@@ -58,10 +61,12 @@ class Pending(Generic[T]):
         self._error: Optional[ClfsError] = None
         self.done = False
 
-    def result(self) -> T:
-        """What was answered, waiting for it if need be, or the error that came in its place."""
-        while not self.done:
-            self._log._wait_for(self)
+    def result(self, timeout: Optional[float] = None) -> T:
+        """What was answered, waiting for it if need be, or the error that came in its place. `timeout` is the log's if it is left out."""
+        if not self.done:
+            with _Turn(self._log, timeout):
+                while not self.done:
+                    self._log._wait_for(self)
         if self._error is not None:
             raise self._error.with_traceback(None)
         return self._answer  # type: ignore[return-value]
@@ -85,33 +90,70 @@ class Pending(Generic[T]):
         self.done = True
 
 
-class Log:
-    """A program that serves the log in a folder. The start raises `NotALog` or `DiskFailed` if no log can be opened, `OSError` if no program starts.
+class _Turn:
+    """A call's use of a log: no other thread's call is served meanwhile, and the call's time runs."""
 
-    The program is looked for as the system does it; it writes its standard error where this process does, or to `stderr`. It gets no signals
-    of this process's terminal, and ends when the handle is closed or this process ends.
+    __slots__ = ("_log", "_seconds")
+
+    def __init__(self, log: Log, seconds: Optional[float]) -> None:
+        self._log = log
+        self._seconds = log.timeout if seconds is None else seconds
+
+    def __enter__(self) -> None:
+        log, seconds = self._log, self._seconds
+        deadline = None if seconds is None else deadline_after(seconds)
+        if not log._lock.acquire(timeout=-1 if seconds is None else seconds):
+            raise TimedOut("another thread's call was served all the time")
+        if log._taken:
+            log._lock.release()
+            raise InUse("the call that was interrupted uses the handle")
+        log._deadline = deadline
+        log._taken = True
+
+    def __exit__(self, kind: Any, error: Any, trace: Any) -> None:
+        self._log._taken = False
+        self._log._lock.release()
+
+
+class Log:
+    """A program that serves the log in a folder. The start raises an `Ended` if no log can be opened, as `NotALog`, `NoFolder`, `Locked`,
+    `NoPermission` or `DiskFailed`, and `OSError` if no program starts.
+
+    The program is looked for as the system does it. What it writes to its standard error is read here and goes on, while a call waits, to where
+    this process writes its own, or to `stderr`: a file, a descriptor, or `subprocess.DEVNULL`. The program gets no signals of this process's
+    terminal, and ends when the handle is closed or this process ends. `timeout` is how many seconds the start and each call may wait, without a
+    limit if it is None; it may be set anew. In a child that this process forks the handle is of no use, and its descriptors are closed.
     """
 
-    def __init__(self, folder: Path, *, program: Path = "clfs", write_buffers: Optional[int] = None, stderr: Any = None) -> None:
+    def __init__(
+        self,
+        folder: Path,
+        *,
+        program: Path = "clfs",
+        write_buffers: Optional[int] = None,
+        read_buffers: Optional[int] = None,
+        timeout: Optional[float] = None,
+        stderr: Any = None,
+    ) -> None:
         words = [os.fspath(program), os.fspath(folder), "serve", *SERVE_OPTIONS]
         if write_buffers is not None:
             words += ["--write-buffers", str(write_buffers)]
+        if read_buffers is not None:
+            words += ["--read-buffers", str(read_buffers)]
+        self.timeout = timeout
+        self._lock = threading.RLock()
+        self._taken = False
+        self._deadline: Optional[float] = None
         self._waiting: Deque[Pending[Any]] = deque()
         self._outgoing = bytearray()
         self._begun = b""
         self._failure: Optional[ClfsError] = None
-        self._process = subprocess.Popen(words, stdin=subprocess.PIPE, stdout=subprocess.PIPE, stderr=stderr, bufsize=0, start_new_session=True)
-        assert self._process.stdin is not None and self._process.stdout is not None
-        self._input = self._process.stdin.fileno()
-        self._output = self._process.stdout.fileno()
-        os.set_blocking(self._input, False)
-        self._both = select.poll()
-        self._both.register(self._input, select.POLLOUT)
-        self._both.register(self._output, select.POLLIN)
+        self._program = Program(words, stderr)
+        _handles.add(self)
         try:
             self._meet()
         except BaseException:
-            self._release()
+            self._program.release(self.timeout)
             raise
 
     def __enter__(self) -> Log:
@@ -124,7 +166,7 @@ class Log:
     @property
     def pid(self) -> int:
         """The process of the program."""
-        return self._process.pid
+        return self._program.pid
 
     @property
     def under_way(self) -> int:
@@ -143,116 +185,145 @@ class Log:
         words = f"area {number} {largest} {reads}"
         return Area(self, client, self.send(client, words, replies.value_of("area", replies.number_of)).result(), number)
 
-    def info(self, stream: int) -> Info:
+    def info(self, stream: int, *, client: int = 1) -> Info:
         """What the log and the stream of this number are like."""
-        return self.send(1, f"info {stream}", replies.info_of).result()
+        return self.send(client, f"info {stream}", replies.info_of).result()
 
-    def archive(self, on: bool) -> None:
+    def archive(self, on: bool, *, client: int = 1) -> None:
         """Turns archiving on or off."""
-        self.send(1, "archive on" if on else "archive off", replies.ok_of).result()
+        self.send(client, "archive on" if on else "archive off", replies.ok_of).result()
 
-    def tail(self, lsn: int) -> Lsn:
+    def tail(self, lsn: int, *, client: int = 1) -> Lsn:
         """Says that everything below the LSN is archived."""
-        return self.send(1, f"tail {replies.lsn_text(lsn)}", replies.value_of("tail", Lsn.parse)).result()
+        return self.send(client, f"tail {replies.lsn_text(lsn)}", replies.value_of("tail", Lsn.parse)).result()
 
-    def extents(self) -> List[Extent]:
+    def extents(self, *, client: int = 1) -> List[Extent]:
         """What is to be archived."""
-        return self.send(1, "extents", replies.extents_of).result()
+        return self.send(client, "extents", replies.extents_of).result()
 
-    def policy(self, policy: Policy, value: Optional[int] = None) -> None:
+    def policy(self, policy: Policy, value: Optional[int] = None, *, client: int = 1) -> None:
         """Installs a policy: with its value, except for `AUTOMATIC`."""
         words = f"policy {policy.value}" + ("" if value is None else f" {value}")
-        self.send(1, words, replies.ok_of).result()
+        self.send(client, words, replies.ok_of).result()
 
-    def unpolicy(self, policy: Policy) -> None:
+    def unpolicy(self, policy: Policy, *, client: int = 1) -> None:
         """Takes a policy away again."""
-        self.send(1, f"unpolicy {policy.value}", replies.ok_of).result()
+        self.send(client, f"unpolicy {policy.value}", replies.ok_of).result()
 
-    def size(self, containers: int) -> int:
+    def size(self, containers: int, *, client: int = 1) -> int:
         """Gives the log so many containers."""
-        return self.send(1, f"size {containers}", replies.value_of("containers", replies.number_of)).result()
+        return self.send(client, f"size {containers}", replies.value_of("containers", replies.number_of)).result()
 
-    def reopen(self) -> Lsn:
+    def reopen(self, *, client: int = 1) -> Lsn:
         """Opens the log again, as after a crash: what isn't flushed is gone, and so are all areas and cursors."""
-        return self.send(1, "reopen", replies.flushed_of).result()
+        return self.send(client, "reopen", replies.flushed_of).result()
 
     # Lines and replies.
 
     def send(self, client: int, words: str, take: Callable[[List[str]], T] = replies.words_of) -> Pending[T]:  # type: ignore[assignment]
         """Sends any line of the language. `take` makes the answer of the reply's words after the client's number, or raises ValueError."""
-        if self._failure is not None:
-            raise self._failure.with_traceback(None)
         line = f"{client} {words}".encode()
         if b"\n" in line:
             raise ValueError("a line feed in a line")
-        if len(line) > LONGEST_LINE:
-            raise LineTooLong(f"a line of {len(line)} bytes")
-        return self._put(line, Pending(self, client, take))
+        with _Turn(self, None):
+            self._check()
+            if len(line) > LONGEST_LINE:
+                raise LineTooLong(f"a line of {len(line)} bytes")
+            return self._put(line, Pending(self, client, take))
 
     def push(self) -> None:
         """Writes the lines that were gathered. Waiting for a result does so too, and so does every 64 KiB."""
-        while self._outgoing and self._failure is None:
-            try:
-                sent = os.write(self._input, self._outgoing)
-            except BlockingIOError:
-                self._wait_for_room()
-            except BrokenPipeError:
-                # The program has ended. What it said before is still to be read.
-                self._outgoing.clear()
-            else:
-                del self._outgoing[:sent]
+        with _Turn(self, None):
+            self._push()
 
     def close(self) -> None:
         """Ends the input, takes the replies under way, and waits for the end of the program, which raises `Ended` if its status isn't 0.
 
-        What isn't flushed is gone.
+        What isn't flushed is gone. In a process that was forked this does nothing.
         """
-        told = self._failure
-        try:
-            self.push()
-            self._process.stdin.close()  # type: ignore[union-attr]
-            while self._failure is None:
-                self._read()
-        finally:
-            failure, self._failure = self._failure, Closed("the handle was closed")
-            self._release()
-        if told is None and not (isinstance(failure, Ended) and failure.status == 0 and failure.unanswered == 0):
-            raise failure or self._failure
+        with _Turn(self, None):
+            told = self._failure
+            if isinstance(told, OtherProcess):
+                return
+            try:
+                self._push()
+                self._program.end_input()
+                while self._failure is None:
+                    self._read()
+            finally:
+                failure, self._failure = self._failure, Closed("the handle was closed")
+                self._program.release(self.timeout)
+            if told is None and not (isinstance(failure, Ended) and failure.status == 0 and failure.unanswered == 0):
+                raise failure or self._failure
 
     def kill(self) -> None:
-        """Kills the program, as a crash would. The next call tells so."""
-        self._process.kill()
+        """Kills the program, as a crash would, also while another thread's call is served. The next call tells so."""
+        if isinstance(self._failure, OtherProcess):
+            raise self._failure.with_traceback(None)
+        self._program.kill()
 
     def _meet(self) -> None:
         """Waits until the log is open: an empty line is answered as a bad one, whatever the log is like."""
         with contextlib.suppress(BadLine):
             self._put(b"", Pending(self, 0, replies.nothing)).result()
 
+    def _check(self) -> None:
+        if self._failure is not None:
+            raise self._failure.with_traceback(None)
+
     def _put(self, line: bytes, pending: Pending[T]) -> Pending[T]:
         self._outgoing += line
         self._outgoing += b"\n"
         self._waiting.append(pending)
         if len(self._outgoing) >= 1 << 16:
-            self.push()
+            self._push()
         return pending
+
+    def _push(self) -> None:
+        while self._outgoing and self._failure is None:
+            try:
+                sent = self._program.write(self._outgoing)
+            except BlockingIOError:
+                sent = 0
+            except (BrokenPipeError, ConnectionResetError):
+                # The program has ended. What it said before is still to be read.
+                sent = len(self._outgoing)
+            del self._outgoing[:sent]
+            # (output is read meanwhile, so the program never waits for room itself)
+            if sent == 0 and self._wait(for_room=True):
+                self._read()
 
     def _wait_for(self, pending: Pending[Any]) -> None:
         """Writes all lines, and waits for some further output unless the reply came meanwhile."""
-        self.push()
+        self._push()
         if not pending.done:
             self._read()
 
-    def _wait_for_room(self) -> None:
-        """Waits until the program takes more. Its output is read meanwhile, so it never waits for room itself."""
-        for ready, _ in self._both.poll():
-            if ready == self._output:
-                self._read()
+    def _wait(self, for_room: bool) -> bool:
+        """As the program's `wait`, up to the end of the call's time, which is the end of the handle."""
+        try:
+            return self._program.wait(for_room, self._deadline)
+        except TimedOut as error:
+            self._give_up(error)
+            raise
+
+    def _reap(self) -> int:
+        try:
+            return self._program.reap(self._deadline)
+        except TimedOut as error:
+            self._give_up(error)
+            raise
+
+    def _give_up(self, error: TimedOut) -> None:
+        self._program.kill()
+        self._fail(error)
 
     def _read(self) -> None:
         """Takes the output that is there, or waits for some. The end of it is the end of the program."""
-        piece = os.read(self._output, 1 << 16)
+        self._wait(for_room=False)
+        piece = self._program.read(1 << 16)
         if not piece:
-            self._fail(replies.ended(self._process.wait(), None, len(self._waiting)))
+            self._fail_ended(self._reap(), None)
             return
         *lines, self._begun = (self._begun + piece).split(b"\n")
         for line in lines:
@@ -271,15 +342,19 @@ class Log:
     def _stop(self, said: str) -> None:
         """The program wrote a line that is no reply: the last one before its end, or one that nobody knows."""
         status = replies.status_of(said)
-        if status is not None and not self._rest() and self._process.wait() == status:
-            self._fail(replies.ended(status, said, len(self._waiting)))
+        if status is not None and not self._rest() and self._reap() == status:
+            self._fail_ended(status, said)
         else:
-            self._process.kill()
+            self._program.kill()
             self._fail(UnknownReply(said))
 
     def _rest(self) -> bool:
         """Whether the program writes anything more."""
-        return bool(os.read(self._output, 1))
+        self._wait(for_room=False)
+        return bool(self._program.read(1))
+
+    def _fail_ended(self, code: int, said: Optional[str]) -> None:
+        self._fail(replies.ended(code, said, len(self._waiting), self._program.cause))
 
     def _fail(self, error: ClfsError) -> None:
         self._failure = error
@@ -287,13 +362,24 @@ class Log:
             pending._fail(error)
         self._waiting.clear()
 
-    def _release(self) -> None:
-        """Lets go of the program and of its pipes. A program that hasn't ended yet serves nobody any more."""
-        self._process.kill()
-        for pipe in (self._process.stdin, self._process.stdout):
-            with contextlib.suppress(OSError):
-                pipe.close()  # type: ignore[union-attr]
-        self._process.wait()
+    def _leave(self) -> None:
+        """Takes the handle from a child that was forked, perhaps while a thread that the child hasn't was in a call."""
+        self._lock = threading.RLock()
+        self._taken = False
+        self._program.leave()
+        self._fail(OtherProcess("the handle is that of the process from which this one was forked"))
+
+
+# The handles, for a child that is forked.
+_handles: weakref.WeakSet[Log] = weakref.WeakSet()
+
+
+def _leave_all() -> None:
+    for log in list(_handles):
+        log._leave()
+
+
+os.register_at_fork(after_in_child=_leave_all)
 
 
 class Area:
@@ -472,7 +558,8 @@ def _all(cursor: Cursor, end: Type[Refused]) -> Iterator[Record]:
             except end:
                 return
     finally:
-        with contextlib.suppress(Ended, Closed):
+        # (the loop may be left when the handle is over, or by the garbage collector in the middle of a call)
+        with contextlib.suppress(Ended, Closed, TimedOut, OtherProcess, InUse):
             cursor.end()
 
 
@@ -491,16 +578,26 @@ def format(
     containers: int,
     dedicated: bool = False,
     program: Path = "clfs",
+    timeout: Optional[float] = None,
     stderr: Any = None,
 ) -> None:
     """Makes a log in a folder. Raises `LogExists` if one is there, and another `Ended` if it can't be made."""
     words = [os.fspath(program), os.fspath(folder), "format", "--block-sectors", str(block_sectors)]
     words += ["--container-sectors", str(container_sectors), "--containers", str(containers)]
     words += ["--dedicated"] * dedicated
-    ran = subprocess.run(words, stdin=subprocess.DEVNULL, stdout=subprocess.PIPE, stderr=stderr)
-    said = ran.stdout.decode("ascii", "backslashreplace").rstrip("\n")
-    if (ran.returncode, said) == (0, "formatted"):
+    made = Program(words, stderr)
+    deadline = deadline_after(timeout)
+    output = b""
+    try:
+        made.end_input()
+        while made.wait(False, deadline) and (piece := made.read(1 << 16)):
+            output += piece
+        code = made.reap(deadline)
+    finally:
+        made.release(timeout)
+    said = output.decode("ascii", "backslashreplace").rstrip("\n")
+    if (code, said) == (0, "formatted"):
         return
-    if ran.returncode == 0 or (said and replies.status_of(said) != ran.returncode):
+    if code == 0 or (said and replies.status_of(said) != code):
         raise UnknownReply(said)
-    raise replies.ended(ran.returncode, said or None, 0)
+    raise replies.ended(code, said or None, 0, made.cause)

@@ -12,7 +12,8 @@ from dataclasses import dataclass
 from typing import Any, Callable, ClassVar, Dict, List, Optional, Sequence, Tuple, Type, TypeVar
 
 __all__ = [
-    "ClfsError", "LineTooLong", "UnknownReply", "Closed", "Ended", "DiskFailed", "InputTooLong", "LogExists", "NotALog", "Lsn", "NULL",
+    "ClfsError", "LineTooLong", "UnknownReply", "Closed", "OtherProcess", "InUse", "TimedOut", "Ended", "DiskFailed", "Locked",
+    "NoPermission", "InputTooLong", "LogExists", "NotALog", "NoFolder", "Lsn", "NULL",
     "Mode", "Kind", "Policy", "Record", "Extent", "Info", "NoMemory", "DiskFault", "Broken", "NotEnoughContainers", "Full",
     "ReservationShort", "RecordTooLong", "LinkInvalid", "NoSuchStream", "NoSuchArea", "Damaged", "NoSuchCursor", "StreamLimit", "AreaLimit",
     "CursorLimit", "NameInvalid", "RecordNonexistent", "EndOfLog", "StartOfLog", "NoRestart", "TailInvalid", "ArchiveTailInvalid",
@@ -151,6 +152,22 @@ class Closed(ClfsError):
     """The handle was closed."""
 
 
+class OtherProcess(ClfsError):
+    """The handle is that of the process from which this one was forked. It is of no use here, and goes on there."""
+
+
+class InUse(ClfsError):
+    """A signal's handler made a call on the log while the call that it interrupted wasn't done. Nothing was sent."""
+
+
+class TimedOut(ClfsError):
+    """The time of the call is over.
+
+    If the program didn't answer in it, the program was killed, and the handle is of no use: of the lines without a reply a first part may have
+    been done. If another thread's call was served all the time, nothing was sent, and the handle is as it was.
+    """
+
+
 @dataclass(eq=False)
 class Ended(ClfsError):
     """The program has ended: with `status`, or by `signal` if the status is None.
@@ -176,6 +193,20 @@ class DiskFailed(Ended):
     """The disk failed before the log was open, or while it was made. The program's standard error says in which call."""
 
 
+class Locked(DiskFailed):
+    """Another process has the folder."""
+
+    def _cause(self) -> str:
+        return "locked: another process has the folder"
+
+
+class NoPermission(DiskFailed):
+    """The folder, or a file of it, may not be read or written. The program's standard error says which."""
+
+    def _cause(self) -> str:
+        return "no permission for the folder or a file of it"
+
+
 class InputTooLong(Ended):
     """This run of the program has taken a line that is too long, or as many bytes as it may. Start it again: what was flushed is there."""
 
@@ -194,6 +225,13 @@ class NotALog(Ended):
         if self.place is None:
             return "not a log: no open slot"
         return "not a log: container {} offset {} byte {}".format(*self.place)
+
+
+class NoFolder(NotALog):
+    """There is no such folder; for `format`, there is no folder that it would lie in."""
+
+    def _cause(self) -> str:
+        return "there is no such folder"
 
 
 _STATUSES: Dict[int, str] = {
@@ -400,7 +438,7 @@ def number_of(word: str) -> int:
 
 def _hexadecimal(word: str) -> int:
     number = int(word, 16)
-    if f"{number:x}" != word:
+    if f"{number:x}" != word or not 0 <= number < 1 << 32:
         raise ValueError(word)
     return number
 
@@ -505,9 +543,13 @@ def status_of(said: str) -> Optional[int]:
     return 6 if _PLACE.fullmatch(said) else _LAST_WORDS.get(said)
 
 
-def ended(code: int, said: Optional[str], unanswered: int) -> Ended:
-    """The end of a program with this exit code, after these last words."""
+def ended(code: int, said: Optional[str], unanswered: int, cause: Optional[Type[Ended]]) -> Ended:
+    """The end of a program with this exit code, after these last words, and with this cause on standard error."""
     status, signal = (code, None) if code >= 0 else (None, -code)
+    if cause is NoFolder and code in (4, 6):
+        return NoFolder(status, signal, unanswered, None)
+    if cause is not None and code == 4:
+        return cause(status, signal, unanswered)
     if said is None:
         return Ended(status, signal, unanswered)
     if code == 6:

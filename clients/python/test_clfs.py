@@ -6,7 +6,9 @@ import pathlib
 import random
 import signal
 import stat
+import subprocess
 import tempfile
+import threading
 import time
 import unittest
 
@@ -43,12 +45,16 @@ class Folder(unittest.TestCase):
         self.addCleanup(end)
         return log
 
-    def program(self, text):
-        """A program of the shell in place of clfs. It has answered the first line, by which a client waits for the opening."""
+    def shell(self, text):
+        """A program of the shell in place of clfs."""
         path = self.room / "program"
-        path.write_text("#!/bin/sh\nread line\necho '0 refused 28 BadLine 0'\n" + text)
+        path.write_text("#!/bin/sh\n" + text)
         path.chmod(stat.S_IRWXU)
         return path
+
+    def program(self, text):
+        """One that has answered the first line, by which a client waits for the opening."""
+        return self.shell("read line\necho '0 refused 28 BadLine 0'\n" + text)
 
     def answering(self, reply):
         """A log whose program answers one line with this text."""
@@ -197,9 +203,13 @@ class OnTheProgram(Folder):
             log.info(1)
 
     def test_there_is_no_log(self):
-        with self.assertRaises(clfs.NotALog) as ended:
-            self.start()
-        self.assertIsNone(ended.exception.place)
+        for cls in (clfs.NoFolder, clfs.NotALog):
+            with self.assertRaises(clfs.NotALog) as ended:
+                self.start(stderr=subprocess.DEVNULL)
+            self.assertEqual((type(ended.exception), ended.exception.place), (cls, None))
+            (self.room / "log").mkdir(exist_ok=True)
+        with self.assertRaises(clfs.NoFolder):
+            clfs.format(self.room / "none" / "log", block_sectors=2, container_sectors=8, containers=2, program=PROGRAM, stderr=subprocess.DEVNULL)
 
     def test_the_files_are_damaged(self):
         self.format()
@@ -215,10 +225,180 @@ class OnTheProgram(Folder):
     def test_another_process_has_the_log(self):
         self.format()
         with self.start(), tempfile.TemporaryFile() as told:
-            with self.assertRaises(clfs.DiskFailed):
+            with self.assertRaises(clfs.Locked):
                 self.start(stderr=told)
             told.seek(0)
             self.assertIn(b"another process has the folder", told.read())
+            with self.assertRaises(clfs.Locked):
+                self.format()
+
+    def test_threads_are_served_one_after_another(self):
+        self.format(128, 1024, 4)
+        with self.start() as log:
+            area = log.area("orders", largest=64000)
+            lsns, errors = [], []
+
+            def append(number):
+                try:
+                    last = clfs.NULL
+                    for _ in range(25):
+                        last = area.append(b"%d" % number * 20, last, flush=True)
+                        lsns.append(last)
+                except BaseException as error:
+                    errors.append(error)
+
+            threads = [threading.Thread(target=append, args=(number,)) for number in range(8)]
+            for thread in threads:
+                thread.start()
+            for thread in threads:
+                thread.join()
+            self.assertEqual((errors, len(set(lsns))), ([], 200))
+
+    def test_a_thread_that_waits_for_another_ones_call(self):
+        """Its time ends before anything is sent, so the handle stays; a kill gets through."""
+        self.format()
+        with self.start() as log:
+            os.kill(log.pid, signal.SIGSTOP)
+            answers = []
+            thread = threading.Thread(target=lambda: answers.append(log.open("orders")))
+            thread.start()
+            time.sleep(0.1)
+            log.timeout = 0.1
+            with self.assertRaises(clfs.TimedOut):
+                log.open("more")
+            os.kill(log.pid, signal.SIGCONT)
+            thread.join()
+            log.timeout = None
+            self.assertEqual((answers, log.open("orders"), log.open("more")), ([1], 1, 2))
+            os.kill(log.pid, signal.SIGSTOP)
+            thread = threading.Thread(target=lambda: self.assertRaises(clfs.Ended, log.open, "orders"))
+            thread.start()
+            time.sleep(0.1)
+            log.kill()
+            thread.join()
+
+    def test_a_call_that_takes_too_long(self):
+        self.format()
+        log = self.start(timeout=60)
+        area = log.area("orders", largest=960)
+        area.append(b"kept", flush=True)
+        os.kill(log.pid, signal.SIGSTOP)
+        pending = area.send_append(b"x")
+        with self.assertRaises(clfs.TimedOut):
+            pending.result(timeout=0.1)
+        for call in (pending.result, area.flush, log.reopen):
+            with self.assertRaises(clfs.TimedOut):
+                call()
+        # (the program was killed, so its folder is free)
+        with self.start() as again:
+            self.assertEqual(again.area("orders", largest=960).record(Lsn.parse("1:0:0")).data, b"kept")
+        log.close()
+
+    def test_a_start_and_an_end_that_take_too_long(self):
+        for call in (clfs.Log, lambda folder, **more: clfs.format(folder, block_sectors=2, container_sectors=8, containers=2, **more)):
+            before = time.monotonic()
+            with self.assertRaises(clfs.TimedOut):
+                call(self.room, program=self.shell("exec sleep 20\n"), timeout=0.2)
+            with self.assertRaises(clfs.TimedOut):
+                call(self.room, program=self.shell("exec >&-\nexec sleep 20\n"), timeout=0.2)
+            self.assertLess(time.monotonic() - before, 10)
+        log = clfs.Log(self.room, program=self.program("exec sleep 20\n"), timeout=0.2)
+        with self.assertRaises(clfs.TimedOut):
+            log.close()
+
+    def test_a_handler_of_a_signal_in_the_middle_of_a_call(self):
+        self.format()
+        with self.start() as log:
+            told = []
+
+            def handler(number, frame):
+                with self.assertRaises(clfs.InUse):
+                    log.open("more")
+                told.append(number)
+                os.kill(log.pid, signal.SIGCONT)
+
+            self.addCleanup(signal.signal, signal.SIGUSR1, signal.signal(signal.SIGUSR1, handler))
+            os.kill(log.pid, signal.SIGSTOP)
+            threading.Timer(0.1, os.kill, (os.getpid(), signal.SIGUSR1)).start()
+            self.assertEqual((log.open("orders"), told), (1, [signal.SIGUSR1]))
+            thread = threading.Thread(target=log.open, args=("more",), daemon=True)
+            thread.start()
+            thread.join(20)
+            self.assertFalse(thread.is_alive())
+
+    def test_a_child_that_was_forked(self):
+        """It can't use the handle and holds no end of its pipes; the parent goes on, and closing ends the program."""
+        self.format()
+        log = self.start(timeout=20)
+        area = log.area("orders", largest=960)
+        pending = area.send_append(b"x")
+        before = set(os.listdir("/proc/self/fd"))
+        read, write = os.pipe()
+        child = os.fork()
+        if child == 0:
+            told = b"well"
+            for call in (pending.result, area.flush, log.kill):
+                try:
+                    call()
+                    told = b"answered"
+                except clfs.OtherProcess:
+                    pass
+            log.close()
+            with os.scandir("/proc/self/fd") as entries:
+                left = len([entry for entry in entries]) - 3
+            os.write(write, b"%s %d" % (told, left))
+            time.sleep(20)
+            os._exit(0)
+        try:
+            # input, output, standard error, and the copy of this process's standard error
+            self.assertEqual(os.read(read, 100), b"well %d" % (len(before) - 1 - 4))
+            self.assertEqual(str(pending.result()), "1:0:0")
+            log.close()
+        finally:
+            os.kill(child, signal.SIGKILL)
+            os.waitpid(child, 0)
+            os.close(read)
+            os.close(write)
+
+    def test_a_child_that_keeps_the_pipes(self):
+        """As one that was forked by other means than Python's."""
+        self.format()
+        log = self.start(timeout=20)
+        copies = [os.dup(descriptor) for descriptor in (log._program._input.fileno(), log._program._output, log._program._errors)]
+        log.close()
+        for copy in copies:
+            os.close(copy)
+
+    def test_the_clients_number(self):
+        self.format()
+        with self.start() as log:
+            log.open("orders", client=2)
+            self.assertEqual(log.info(1, client=2).containers, 2)
+            log.archive(True, client=3)
+            self.assertEqual((log.tail(Lsn.parse("1:0:0"), client=4), log.extents(client=5)), (Lsn.parse("1:0:0"), []))
+            log.policy(Policy.MAXIMUM, 4, client=6)
+            log.unpolicy(Policy.MAXIMUM, client=7)
+            self.assertEqual(log.size(3, client=64), 3)
+            for call in (
+                lambda: log.info(1, client=65),
+                lambda: log.archive(True, client=65),
+                lambda: log.tail(clfs.NULL, client=65),
+                lambda: log.extents(client=65),
+                lambda: log.policy(Policy.AUTOMATIC, client=65),
+                lambda: log.unpolicy(Policy.AUTOMATIC, client=65),
+                lambda: log.size(2, client=65),
+                lambda: log.reopen(client=65),
+            ):
+                with self.assertRaises(clfs.BadLine):
+                    call()
+
+    def test_buffers(self):
+        self.format()
+        self.start(write_buffers=64, read_buffers=4096).close()
+        for buffers in ({"read_buffers": 4097}, {"write_buffers": 65}):
+            with self.assertRaises(clfs.Ended) as ended:
+                self.start(stderr=subprocess.DEVNULL, **buffers)
+            self.assertEqual(ended.exception.status, 1)
 
     def test_format_says_why_not(self):
         self.format(dedicated=True)
@@ -305,6 +485,59 @@ class OnOtherPrograms(Folder):
             with self.subTest(said), self.assertRaises(cls):
                 log.reopen()
 
+    def test_causes_on_standard_error(self):
+        locked, folder = "echo 'clfs: locked: log: another process has the folder' >&2\n", "echo 'clfs: no folder: log: it is not there' >&2\n"
+        fault, nothing = "echo 'disk fault'\nexit 4\n", "echo 'not a log: no open slot'\nexit 6\n"
+        pieces = "printf 'building\nclfs: loc' >&2\nsleep 0.1\necho 'ked: log' >&2\necho more >&2\n"
+        orphan = "sleep 3 >/dev/null &\nhead -c 20000 /dev/zero >&2\necho >&2\n"
+        for text, cls in (
+            (locked + fault, clfs.Locked),
+            (locked + "exit 4\n", clfs.Locked),
+            (pieces + fault, clfs.Locked),
+            (orphan + locked + fault, clfs.Locked),
+            ("echo 'clfs: no permission: log/c1: open: denied' >&2\n" + fault, clfs.NoPermission),
+            (folder + nothing, clfs.NoFolder),
+            (folder + fault, clfs.NoFolder),
+            ("echo 'clfs: log/c1: read: clfs: locked: x' >&2\n" + fault, clfs.DiskFailed),
+            (locked + nothing, clfs.NotALog),
+            (locked + "exit 5\n", clfs.Ended),
+            (locked + "kill -9 $$\n", clfs.Ended),
+        ):
+            with self.subTest(text), self.assertRaises(clfs.Ended) as ended:
+                clfs.Log(self.room, program=self.shell(text), stderr=subprocess.DEVNULL)
+            self.assertIs(type(ended.exception), cls)
+        with self.assertRaises(clfs.Locked) as ended:
+            clfs.format(self.room, block_sectors=2, container_sectors=8, containers=2, program=self.shell(locked + fault), stderr=subprocess.DEVNULL)
+        self.assertEqual(str(ended.exception), "locked: another process has the folder (lines without a reply: 0)")
+
+    def test_standard_error_that_nobody_reads(self):
+        """A program that writes more to its standard error than pipes hold is served, though nobody reads there, or can."""
+        noise = "head -c 300000 /dev/zero >&2\n"
+        text = f"{noise}read line\n{noise}echo '1 flushed 1:0:0'\nread line\nexec >&-\n{noise}"
+        for closed in (False, True):
+            read, write = os.pipe()
+            if closed:
+                os.close(read)
+            with self.subTest(closed), clfs.Log(self.room, program=self.program(text), stderr=write) as log:
+                self.assertEqual(str(log.reopen()), "1:0:0")
+            os.close(write)
+            if not closed:
+                os.close(read)
+
+    def test_standard_error_goes_on(self):
+        self.addCleanup(os.dup2, os.dup(2), 2)
+        for own in (True, False):
+            with tempfile.TemporaryFile() as told:
+                if own:
+                    os.dup2(told.fileno(), 2)
+                log = clfs.Log(self.room, program=self.program("echo one >&2\nread line\necho two >&2\n"), stderr=None if own else told)
+                log.close()
+                told.seek(0)
+                self.assertEqual(told.read(), b"one\ntwo\n")
+        for wrong in (subprocess.PIPE, subprocess.STDOUT):
+            with self.assertRaises(ValueError):
+                clfs.Log(self.room, program=self.program(""), stderr=wrong)
+
     def test_half_a_reply(self):
         log = self.answering("1 flushed 1:0")
         pending = log.send(1, "reopen")
@@ -363,6 +596,9 @@ UNKNOWN_LISTS = """
 1 extents 1 1:0
 1 extents 1 1:0-0200
 1 extents 1 1-0:200
+1 extents 1 -1:0-200
+1 extents 1 1:0--200
+1 extents 1 1:0-100000000
 """.split("\n")[1:-1]
 
 if __name__ == "__main__":

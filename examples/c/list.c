@@ -1,15 +1,15 @@
 /* Lists all records of a container's file: list FOLDER N, where N is the number of the file cN.
  *
  * It reads the base file and cN and has libclfs_read.a judge them. It prints a line for each block and each record, in the order of the
- * file, and at a wrong byte where that is. Its status is 0, 6 at a wrong byte, 2 where it is called otherwise, and 4 where a file can't be
- * read or isn't one of the log's. */
+ * file, and at a wrong byte where that is. Its status is 0, 6 at a wrong byte, 2 where it is called otherwise, 4 where a file can't be read
+ * or isn't one of the log's, and 3 where not all could be written. */
 #include "clfs_read.h"
 
 #include <inttypes.h>
 #include <stdio.h>
 #include <stdlib.h>
 
-enum { LISTED = 0, CALLED_WRONGLY = 2, UNREADABLE = 4, DAMAGED = 6 };
+enum { LISTED = 0, CALLED_WRONGLY = 2, UNWRITTEN = 3, UNREADABLE = 4, DAMAGED = 6 };
 
 struct bytes {
     uint8_t *at;
@@ -186,5 +186,9 @@ int main(int count, char **words)
     }
     free(base_file.at);
     free(file.at);
+    if (fflush(stdout) || ferror(stdout)) {
+        perror("list: standard output");
+        status = UNWRITTEN;
+    }
     return status;
 }

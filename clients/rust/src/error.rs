@@ -108,6 +108,12 @@ pub enum End {
     OutputFailed,
     /// The disk failed before the log was open, or while it was made; standard error says in which call (4).
     DiskFailed,
+    /// Another process had the folder (4).
+    Locked,
+    /// The folder, or a file of it, may not be read or written; standard error says which (4).
+    NoPermission,
+    /// There was no such folder (6), or none that the log's folder would be made in (4).
+    NoFolder,
     /// It found no memory (5).
     NoMemory,
     /// The folder has no log: no base copy counts, or bytes at a place aren't a log's (6).
@@ -243,6 +249,9 @@ impl fmt::Display for End {
             End::InputFailed => f.write_str("the program couldn't read its input"),
             End::OutputFailed => f.write_str("the program couldn't write its replies"),
             End::DiskFailed => f.write_str("the disk failed"),
+            End::Locked => f.write_str("locked: another process has the folder"),
+            End::NoPermission => f.write_str("no permission for the folder or a file of it"),
+            End::NoFolder => f.write_str("there is no such folder"),
             End::NoMemory => f.write_str("the program found no memory"),
             End::NotALog(None) => f.write_str("not a log: no open slot"),
             End::NotALog(Some(place)) => {

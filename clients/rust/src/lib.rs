@@ -27,16 +27,20 @@
 
 mod error;
 mod pipe;
+mod records;
 mod reply;
+mod stderr;
 mod values;
 
 pub use error::{End, Ending, Error, Place, Refusal};
+pub use records::{Records, Walk};
+pub use stderr::Errors;
 pub use values::{Area, Cursor, Draft, Extent, Info, Kind, Lsn, Mode, NoLsn, Policy, PolicyKind, Record};
 
 use pipe::{Pipe, Slot};
 use reply::{answer_of, end_of, Reply};
 use std::ffi::OsStr;
-use std::fmt::Write;
+use std::fmt::{self, Write};
 use std::path::Path;
 use std::process::{Command, Stdio};
 use std::sync::Arc;
@@ -48,8 +52,10 @@ const LONGEST_LINE: usize = 131_072;
 const SERVE_OPTIONS: &[&str] = &["--endless"];
 
 /// How a log is served.
+#[derive(Debug)]
 pub struct Options {
     command: Command,
+    errors: Errors,
 }
 
 impl Options {
@@ -62,7 +68,7 @@ impl Options {
     pub fn with_program(folder: impl AsRef<Path>, program: impl AsRef<OsStr>) -> Options {
         let mut command = Command::new(program);
         command.arg(folder.as_ref()).arg("serve").args(SERVE_OPTIONS);
-        Options { command }
+        Options { command, errors: Errors::Own }
     }
 
     /// So many full blocks may wait before all are written, 1 to 64.
@@ -71,15 +77,22 @@ impl Options {
         self
     }
 
-    /// Where the program writes its standard error. It is that of this process if nothing is said.
-    pub fn stderr(mut self, to: Stdio) -> Options {
-        self.command.stderr(to);
+    /// So many blocks that were read are kept in memory, 1 to 4,096.
+    pub fn read_buffers(mut self, count: u32) -> Options {
+        self.command.arg("--read-buffers").arg(count.to_string());
+        self
+    }
+
+    /// Where what the program writes to its standard error goes on to, once it was read here.
+    pub fn stderr(mut self, to: Errors) -> Options {
+        self.errors = to;
         self
     }
 
     /// Starts the program and waits until the log is open.
     pub fn start(self) -> Result<Log, Error> {
-        let mut log = Log { pipe: Pipe::start(self.command).map_err(Error::System)?, line: String::new() };
+        let pipe = Pipe::start(self.command, self.errors).map_err(Error::System)?;
+        let mut log = Log { pipe, line: String::new(), client: 1 };
         log.meet()?;
         Ok(log)
     }
@@ -89,6 +102,13 @@ impl Options {
 pub struct Log {
     pipe: Pipe,
     line: String,
+    client: u8,
+}
+
+impl fmt::Debug for Log {
+    fn fmt(&self, f: &mut fmt::Formatter<'_>) -> fmt::Result {
+        f.debug_struct("Log").field("id", &self.id()).field("under_way", &self.under_way()).finish_non_exhaustive()
+    }
 }
 
 /// A line under way, whose reply gives a `T`. Who lets it go throws the reply away.
@@ -97,6 +117,12 @@ pub struct Ticket<T> {
     slot: Arc<Slot>,
     area: Area,
     take: fn(Reply, Area) -> Option<T>,
+}
+
+impl<T> fmt::Debug for Ticket<T> {
+    fn fmt(&self, f: &mut fmt::Formatter<'_>) -> fmt::Result {
+        f.debug_struct("Ticket").field("area", &self.area).field("reply", &self.slot.get()).finish_non_exhaustive()
+    }
 }
 
 impl Log {
@@ -118,6 +144,11 @@ impl Log {
     /// Kills the program, as a crash would. The next call tells so.
     pub fn kill(&mut self) -> Result<(), Error> {
         self.pipe.kill().map_err(Error::System)
+    }
+
+    /// From now on this client asks in the calls that name neither a client nor an area, as [`Log::info`]. At first it is 1.
+    pub fn set_client(&mut self, client: u8) {
+        self.client = client;
     }
 
     // Streams, areas, and the whole log.
@@ -144,7 +175,7 @@ impl Log {
 
     /// What the log and the stream of this number are like.
     pub fn info(&mut self, stream: u32) -> Result<Info, Error> {
-        self.ask(1, format_args!("info {stream}"), |reply, _| match reply {
+        self.ask(self.client, format_args!("info {stream}"), |reply, _| match reply {
             Reply::Info(info) => Some(info),
             _ => None,
         })
@@ -152,12 +183,12 @@ impl Log {
 
     /// Turns archiving on or off.
     pub fn archive(&mut self, on: bool) -> Result<(), Error> {
-        self.ask(1, format_args!("archive {}", if on { "on" } else { "off" }), done)
+        self.ask(self.client, format_args!("archive {}", if on { "on" } else { "off" }), done)
     }
 
     /// Says that everything below the LSN is archived.
     pub fn tail(&mut self, lsn: Lsn) -> Result<Lsn, Error> {
-        self.ask(1, format_args!("tail {lsn}"), |reply, _| match reply {
+        self.ask(self.client, format_args!("tail {lsn}"), |reply, _| match reply {
             Reply::Tail(lsn) => Some(lsn),
             _ => None,
         })
@@ -165,7 +196,7 @@ impl Log {
 
     /// What is to be archived.
     pub fn extents(&mut self) -> Result<Vec<Extent>, Error> {
-        self.ask(1, format_args!("extents"), |reply, _| match reply {
+        self.ask(self.client, format_args!("extents"), |reply, _| match reply {
             Reply::Extents(extents) => Some(extents),
             _ => None,
         })
@@ -173,17 +204,17 @@ impl Log {
 
     /// Installs a policy.
     pub fn set_policy(&mut self, policy: Policy) -> Result<(), Error> {
-        self.ask(1, format_args!("policy {}", policy.words()), done)
+        self.ask(self.client, format_args!("policy {}", policy.words()), done)
     }
 
     /// Takes a policy away again.
     pub fn unset_policy(&mut self, kind: PolicyKind) -> Result<(), Error> {
-        self.ask(1, format_args!("unpolicy {}", kind.word()), done)
+        self.ask(self.client, format_args!("unpolicy {}", kind.word()), done)
     }
 
     /// Gives the log so many containers.
     pub fn size(&mut self, containers: u32) -> Result<u32, Error> {
-        self.ask(1, format_args!("size {containers}"), |reply, _| match reply {
+        self.ask(self.client, format_args!("size {containers}"), |reply, _| match reply {
             Reply::Containers(number) => Some(number),
             _ => None,
         })
@@ -191,7 +222,7 @@ impl Log {
 
     /// Opens the log again, as after a crash: what isn't flushed is gone, and so are all areas and cursors.
     pub fn reopen(&mut self) -> Result<Lsn, Error> {
-        self.ask(1, format_args!("reopen"), flushed)
+        self.ask(self.client, format_args!("reopen"), flushed)
     }
 
     // Appending.
@@ -334,14 +365,24 @@ impl Log {
 
     /// The record of this LSN and those to which a cursor goes from it, up to the end.
     pub fn records(&mut self, area: Area, lsn: Lsn, mode: Mode) -> Result<Records<'_>, Error> {
-        let (cursor, first) = self.read(area, lsn, mode)?;
-        Ok(Records { log: self, cursor, first: Some(first), next: Log::next })
+        let walk = self.walk(area, lsn, mode)?;
+        Ok(Records { log: self, walk })
     }
 
     /// The restart areas of the stream, newest first, at least one: [`Refusal::NoRestart`] if there is none.
     pub fn restarts(&mut self, area: Area) -> Result<Records<'_>, Error> {
-        let (cursor, first) = self.read_restart(area)?;
-        Ok(Records { log: self, cursor, first: Some(first), next: Log::previous_restart })
+        let walk = self.walk_restarts(area)?;
+        Ok(Records { log: self, walk })
+    }
+
+    /// As [`Log::records`], without a loan of the log.
+    pub fn walk(&mut self, area: Area, lsn: Lsn, mode: Mode) -> Result<Walk, Error> {
+        Ok(Walk::new(self.read(area, lsn, mode)?, Log::next))
+    }
+
+    /// As [`Log::restarts`], without a loan of the log.
+    pub fn walk_restarts(&mut self, area: Area) -> Result<Walk, Error> {
+        Ok(Walk::new(self.read_restart(area)?, Log::previous_restart))
     }
 
     // Lines and replies.
@@ -473,35 +514,6 @@ fn next(reply: Reply, _: Area) -> Option<Record> {
     }
 }
 
-/// Records that a cursor gives, up to the end. Letting it go ends the cursor.
-pub struct Records<'a> {
-    log: &'a mut Log,
-    cursor: Cursor,
-    first: Option<Record>,
-    next: fn(&mut Log, Cursor) -> Result<Record, Error>,
-}
-
-impl Iterator for Records<'_> {
-    type Item = Result<Record, Error>;
-
-    fn next(&mut self) -> Option<Result<Record, Error>> {
-        if let Some(record) = self.first.take() {
-            return Some(Ok(record));
-        }
-        match (self.next)(self.log, self.cursor) {
-            Err(Error::Refused(Refusal::EndOfLog | Refusal::StartOfLog | Refusal::NoRestart)) => None,
-            record => Some(record),
-        }
-    }
-}
-
-impl Drop for Records<'_> {
-    fn drop(&mut self) {
-        // (a program that has ended has no cursors)
-        let _ = self.log.end(self.cursor);
-    }
-}
-
 /// The sizes of a log that is made.
 #[derive(Clone, Copy, Debug)]
 pub struct Sizes {
@@ -525,7 +537,8 @@ pub fn format(folder: impl AsRef<Path>, sizes: &Sizes, program: impl AsRef<OsStr
     if sizes.dedicated {
         command.arg("--dedicated");
     }
-    let ran = command.stdin(Stdio::null()).stderr(Stdio::inherit()).output().map_err(Error::System)?;
+    let (program, errors) = pipe::start_watched(command.stdin(Stdio::null()), Errors::Own).map_err(Error::System)?;
+    let ran = program.wait_with_output().map_err(Error::System)?;
     let said = String::from_utf8_lossy(&ran.stdout);
     let said = said.strip_suffix('\n').unwrap_or(&said);
     let end = match (ran.status.code(), said) {
@@ -537,5 +550,5 @@ pub fn format(folder: impl AsRef<Path>, sizes: &Sizes, program: impl AsRef<OsStr
         },
         (None, _) => End::Signal(std::os::unix::process::ExitStatusExt::signal(&ran.status).unwrap_or(0)),
     };
-    Err(Error::Ended(Ending { end, unanswered: 0 }))
+    Err(Error::Ended(Ending { end: errors.end(end, ran.status.code()), unanswered: 0 }))
 }

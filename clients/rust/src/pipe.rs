@@ -4,6 +4,7 @@
 //! yet, a reply is sure to come, and is waited for; if there is no such line, nothing can fill the output, and the write itself waits.
 use crate::error::{End, Ending, Error};
 use crate::reply::end_of;
+use crate::stderr::{Errors, Watch};
 use std::collections::VecDeque;
 use std::io::{self, ErrorKind, Read, Write};
 use std::net::Shutdown;
@@ -23,6 +24,7 @@ pub(crate) struct Pipe {
     program: Child,
     input: UnixStream,
     output: ChildStdout,
+    errors: Watch,
     lines: Vec<u8>,
     written: usize,
     piece: Vec<u8>,
@@ -34,11 +36,11 @@ pub(crate) struct Pipe {
 
 impl Pipe {
     /// Starts the program, in a process group of its own, so that no signal of this process's terminal reaches it.
-    pub(crate) fn start(mut command: Command) -> io::Result<Pipe> {
+    pub(crate) fn start(mut command: Command, errors: Errors) -> io::Result<Pipe> {
         let (input, other) = UnixStream::pair()?;
         input.set_nonblocking(true)?;
-        command.stdin(Stdio::from(OwnedFd::from(other))).stdout(Stdio::piped()).process_group(0);
-        let mut program = command.spawn()?;
+        command.stdin(Stdio::from(OwnedFd::from(other))).process_group(0);
+        let (mut program, errors) = start_watched(&mut command, errors)?;
         // (it keeps the other end of the input)
         drop(command);
         let output = program.stdout.take().ok_or(ErrorKind::BrokenPipe)?;
@@ -46,6 +48,7 @@ impl Pipe {
             program,
             input,
             output,
+            errors,
             lines: Vec::with_capacity(2 * GATHERED),
             written: 0,
             piece: vec![0; 1 << 16],
@@ -122,8 +125,9 @@ impl Pipe {
             return self.read();
         }
         let written = self.input.set_nonblocking(false).and_then(|()| self.input.write(&self.lines[self.written..]));
-        let result = written.and_then(|size| self.input.set_nonblocking(true).map(|()| size));
-        match result {
+        // (whatever came of the write, as after a signal: no later one may wait)
+        let again = self.input.set_nonblocking(true);
+        match again.and(written) {
             Ok(size) => self.written += size,
             Err(error) if error.kind() == ErrorKind::Interrupted => {}
             Err(error) if matches!(error.kind(), ErrorKind::BrokenPipe | ErrorKind::ConnectionReset) => self.written = self.lines.len(),
@@ -209,6 +213,7 @@ impl Pipe {
             (None, Some(code)) => end_with(code),
             (None, None) => End::Signal(status.signal().unwrap_or(0)),
         };
+        let end = self.errors.end(end, code);
         let unanswered = self.waiting.len();
         self.fail(Error::Ended(Ending { end, unanswered }))
     }
@@ -237,6 +242,21 @@ impl Drop for Pipe {
     fn drop(&mut self) {
         if self.failure.is_none() {
             let _ = self.close();
+        }
+    }
+}
+
+/// Starts a program whose output is a pipe and whose standard error is watched.
+pub(crate) fn start_watched(command: &mut Command, errors: Errors) -> io::Result<(Child, Watch)> {
+    let mut program = command.stdout(Stdio::piped()).stderr(Stdio::piped()).spawn()?;
+    let from = program.stderr.take().ok_or(ErrorKind::BrokenPipe)?;
+    match Watch::start(from, errors) {
+        Ok(watch) => Ok((program, watch)),
+        Err(error) => {
+            // (it serves nobody)
+            let _ = program.kill();
+            let _ = program.wait();
+            Err(error)
         }
     }
 }

@@ -1,12 +1,12 @@
 //! Tests on the program that CLFS names, and on programs of the shell in its place: CLFS=PATH cargo test
 use clfs::{
-    Area, Draft, End, Ending, Error, Extent, Info, Kind, Log, Lsn, Mode, Options, Place, Policy, PolicyKind, Record, Refusal, Sizes,
+    Area, Draft, End, Ending, Error, Errors, Extent, Info, Kind, Log, Lsn, Mode, Options, Place, Policy, PolicyKind, Record, Refusal, Sizes,
 };
 use std::fs;
-use std::io::{Seek, SeekFrom, Write};
+use std::io::{Read, Seek, SeekFrom, Write};
 use std::os::unix::fs::PermissionsExt;
+use std::os::unix::net::UnixStream;
 use std::path::{Path, PathBuf};
-use std::process::Stdio;
 use std::sync::atomic::{AtomicU32, Ordering};
 use std::sync::Once;
 use std::time::Duration;
@@ -44,18 +44,24 @@ impl Room {
         Options::with_program(self.log(), program()).start().unwrap()
     }
 
-    /// A log whose program, one of the shell, has answered the line by which a start waits, and then does what the text says.
-    fn start_shell(&self, text: &str) -> Log {
+    /// A call on a program of the shell that does what the text says.
+    fn with_shell<T>(&self, text: &str, call: impl Fn(&Path) -> Result<T, Error>) -> Result<T, Error> {
         let path = self.0.join("program");
-        fs::write(&path, format!("#!/bin/sh\nread line\necho '0 refused 28 BadLine 0'\n{text}")).unwrap();
+        fs::write(&path, format!("#!/bin/sh\n{text}")).unwrap();
         fs::set_permissions(&path, fs::Permissions::from_mode(0o700)).unwrap();
         // (another test's thread may be starting a program, which then has this one's file open for a moment)
         loop {
-            match Options::with_program(&self.0, &path).start() {
+            match call(&path) {
                 Err(Error::System(error)) if error.raw_os_error() == Some(26) => std::thread::yield_now(),
-                log => return log.unwrap(),
+                answer => return answer,
             }
         }
+    }
+
+    /// A log whose program, one of the shell, has answered the line by which a start waits, and then does what the text says.
+    fn start_shell(&self, text: &str) -> Log {
+        let text = format!("read line\necho '0 refused 28 BadLine 0'\n{text}");
+        self.with_shell(&text, |path| Options::with_program(&self.0, path).start()).unwrap()
     }
 
     fn start_answering(&self, reply: &str) -> Log {
@@ -169,6 +175,67 @@ fn records_end_their_cursor() -> Result<(), Error> {
 }
 
 #[test]
+fn a_walk_lets_the_log_be_used() -> Result<(), Error> {
+    let room = Room::new();
+    room.format(2, 8, 2);
+    let mut log = room.start();
+    let stream = log.open(1, "orders")?;
+    let area = log.area(1, stream, 960, 1)?;
+    let first = log.append(area, &Draft::new(b"one"))?;
+    let last = log.append(area, &Draft { undo_next: first, ..Draft::new(b"two") })?;
+    for _ in 0..3 {
+        let mut walk = log.walk(area, last, Mode::UndoNext)?;
+        assert_eq!(walk.next(&mut log)?.map(|record| record.lsn), Some(last));
+        log.append(area, &Draft::new(b"between"))?;
+        assert_eq!(walk.next(&mut log)?.map(|record| record.lsn), Some(first));
+        log.flush(area)?;
+        assert_eq!((walk.next(&mut log)?, walk.next(&mut log)?), (None, None));
+        let mut walk = log.walk(area, last, Mode::Forward)?;
+        walk.end(&mut log)?;
+        assert_eq!(walk.next(&mut log)?, None);
+    }
+    assert_eq!(refusal(log.walk_restarts(area)), Refusal::NoRestart);
+    log.restart(area, b"all", Lsn::NULL, false)?;
+    let mut walk = log.walk_restarts(area)?;
+    assert_eq!(walk.next(&mut log)?.unwrap().data, b"all");
+    assert_eq!(walk.next(&mut log)?, None);
+    log.close()
+}
+
+#[test]
+fn the_number_of_the_client() -> Result<(), Error> {
+    let room = Room::new();
+    room.format(2, 8, 2);
+    let mut log = room.start();
+    log.open(2, "orders")?;
+    log.set_client(64);
+    assert_eq!(log.info(1)?.containers, 2);
+    log.archive(true)?;
+    assert_eq!(log.tail(lsn("1:0:0"))?, lsn("1:0:0"));
+    assert_eq!(log.extents()?, []);
+    log.set_policy(Policy::Maximum(4))?;
+    log.unset_policy(PolicyKind::Maximum)?;
+    assert_eq!(log.size(3)?, 3);
+    log.set_client(65);
+    let bad = Refusal::BadLine { at: 0 };
+    assert_eq!((refusal(log.info(1)), refusal(log.archive(true)), refusal(log.tail(Lsn::NULL))), (bad, bad, bad));
+    assert_eq!((refusal(log.extents()), refusal(log.set_policy(Policy::Automatic)), refusal(log.size(3))), (bad, bad, bad));
+    assert_eq!((refusal(log.unset_policy(PolicyKind::Maximum)), refusal(log.reopen())), (bad, bad));
+    log.close()
+}
+
+#[test]
+fn buffers() -> Result<(), Error> {
+    let room = Room::new();
+    room.format(2, 8, 2);
+    let options = || Options::with_program(room.log(), program()).stderr(Errors::Nowhere);
+    options().write_buffers(1).read_buffers(4096).start()?.close()?;
+    assert_eq!(ending(options().read_buffers(4097).start()).end, End::NoCommand);
+    assert_eq!(ending(options().write_buffers(65).start()).end, End::NoCommand);
+    Ok(())
+}
+
+#[test]
 fn refusals_and_what_cannot_be_said() -> Result<(), Error> {
     let room = Room::new();
     room.format(2, 8, 2);
@@ -250,7 +317,9 @@ fn a_killed_program_is_told() {
 #[test]
 fn what_starting_and_formatting_tell() {
     let room = Room::new();
-    let start = || Options::with_program(room.log(), program()).write_buffers(64).stderr(Stdio::null()).start();
+    let start = || Options::with_program(room.log(), program()).write_buffers(64).stderr(Errors::Nowhere).start();
+    assert_eq!(ending(start()).end, End::NoFolder);
+    fs::create_dir(room.log()).unwrap();
     assert_eq!(ending(start()).end, End::NotALog(None));
     assert!(matches!(Options::with_program(room.log(), "./none").start(), Err(Error::System(_))));
     room.format(2, 8, 2);
@@ -258,7 +327,8 @@ fn what_starting_and_formatting_tell() {
     assert_eq!(ending(clfs::format(room.log(), &sizes, program())).end, End::LogExists);
     assert_eq!(ending(clfs::format(room.log(), &Sizes { containers: 257, ..sizes }, program())).end, End::NoCommand);
     let mut log = start().unwrap();
-    assert_eq!(ending(start()).end, End::DiskFailed);
+    assert_eq!(ending(start()).end, End::Locked);
+    assert_eq!(ending(clfs::format(room.log(), &sizes, program())).end, End::Locked);
     let stream = log.open(1, "orders").unwrap();
     let area = log.area(1, stream, 960, 1).unwrap();
     log.append(area, &Draft { flush: true, ..Draft::new(b"hello") }).unwrap();
@@ -372,7 +442,10 @@ const UNKNOWN_LISTS: &str = "\
 1 extents 0 1:0-200
 1 extents 1 1:0
 1 extents 1 1:0-0200
-1 extents 1 1-0:200";
+1 extents 1 1-0:200
+1 extents 1 -1:0-200
+1 extents 1 1:0--200
+1 extents 1 1:0-100000000";
 
 #[test]
 fn replies_that_the_language_does_not_have() {
@@ -424,4 +497,70 @@ fn each_end() {
     }
     let mut log = room.start_shell("read line\necho 'input too long'\nexit 0\n");
     assert!(matches!(log.reopen(), Err(Error::UnknownReply(_))));
+}
+
+#[test]
+fn causes_on_standard_error() {
+    let room = Room::new();
+    let locked = "echo 'clfs: locked: log: another process has the folder' >&2\n";
+    let none = "echo 'clfs: no folder: log: it is not there' >&2\n";
+    let denied = "echo 'clfs: no permission: log/c1: open: denied' >&2\n";
+    let pieces = "printf 'building\nclfs: loc' >&2\nsleep 0.1\necho 'ked: log' >&2\necho more >&2\n";
+    let orphan = format!("sleep 3 >/dev/null &\nhead -c 20000 /dev/zero >&2\necho >&2\n{locked}");
+    let (fault, nothing) = ("echo 'disk fault'\nexit 4\n", "echo 'not a log: no open slot'\nexit 6\n");
+    let ends = [
+        (locked, fault, End::Locked),
+        (locked, "exit 4\n", End::Locked),
+        (pieces, fault, End::Locked),
+        (&orphan, fault, End::Locked),
+        (denied, fault, End::NoPermission),
+        (none, nothing, End::NoFolder),
+        (none, fault, End::NoFolder),
+        ("echo 'clfs: log/c1: read: clfs: locked: x' >&2\n", fault, End::DiskFailed),
+        (locked, nothing, End::NotALog(None)),
+        (locked, "exit 5\n", End::NoMemory),
+        (locked, "kill -9 $$\n", End::Signal(9)),
+    ];
+    for (errors, text, end) in ends {
+        let start = |path: &Path| Options::with_program(&room.0, path).stderr(Errors::Nowhere).start();
+        let unanswered = 1;
+        assert_eq!(ending(room.with_shell(&format!("{errors}{text}"), start)), Ending { end, unanswered }, "{errors}{text}");
+    }
+    let sizes = Sizes { block_sectors: 2, container_sectors: 8, containers: 2, dedicated: false };
+    let format = |path: &Path| clfs::format(&room.0, &sizes, path);
+    assert_eq!(ending(room.with_shell(&format!("{locked}{fault}"), format)).end, End::Locked);
+}
+
+/// A program that writes more to its standard error than pipes hold is served, though nobody reads there, or can.
+#[test]
+fn standard_error_that_nobody_reads() {
+    let room = Room::new();
+    let noise = "head -c 300000 /dev/zero >&2\n";
+    let text =
+        format!("read line\n{noise}echo '0 refused 28 BadLine 0'\nread line\n{noise}echo '1 flushed 1:0:0'\nread line\nexec >&-\n{noise}");
+    for closed in [false, true] {
+        let start = |path: &Path| {
+            let (to, other) = UnixStream::pair().unwrap();
+            let log = Options::with_program(&room.0, path).stderr(Errors::To(to.into())).start()?;
+            Ok((log, if closed { None } else { Some(other) }))
+        };
+        let (mut log, _other) = room.with_shell(&text, start).unwrap();
+        assert_eq!(log.reopen().unwrap(), lsn("1:0:0"));
+        log.close().unwrap();
+    }
+}
+
+#[test]
+fn standard_error_goes_on() {
+    let room = Room::new();
+    let start = |path: &Path| {
+        let (to, other) = UnixStream::pair().unwrap();
+        Ok((Options::with_program(&room.0, path).stderr(Errors::To(to.into())).start()?, other))
+    };
+    let text = "read line\necho one >&2\necho '0 refused 28 BadLine 0'\nread line\necho two >&2\n";
+    let (log, mut other) = room.with_shell(text, start).unwrap();
+    log.close().unwrap();
+    let mut told = String::new();
+    other.read_to_string(&mut told).unwrap();
+    assert_eq!(told, "one\ntwo\n");
 }

@@ -1,19 +1,20 @@
 //! The program: `clfs FOLDER COMMAND ..` runs a command of the log over standard input and output.
 //!
-//! Everything that matters is `clfs_engine::run`, which is proved over any source, sink and disk. Here the two standard streams
-//! become a source and a sink, the folder a disk, and the words after it the command. `share`, whose clients have paths of their own, is
-//! `clfs_engine::run_share`. A word that isn't text, or no folder, is no command. `--help` and `--version` are words in the folder's place; they are
-//! answered here, the help by a text that clap makes of the command line. Standard error has what standard output doesn't say: which words are allowed in
-//! the place of those that are no command, and why a run, or a client that shares the log, ended without its work done, told here, or by the folder if one of
-//! its calls failed. If it is a terminal, how far a large log was read stands there while it is opened or checked; `share` doesn't tell it.
+//! Everything that matters is `clfs_engine::run_alone`, which is proved over any source, sink and disk. Here the two standard streams become a source and a
+//! sink, the folder a disk, and the words after it the command. A command that starts threads is run by `clfs_engine::run`, which may wait; `share`, whose
+//! clients have paths of their own, by `clfs_engine::run_share`. A word that isn't text, or no folder, is no command. `--help` and `--version` are words in the
+//! folder's place, answered here. Standard error has what standard output doesn't say: which words are allowed in the place of those that are no command, and why
+//! a run, or a client that shares the log, ended without its work done. On a terminal it has how far a large log was read, but for `share`.
 #![tactic(auto)]
 
 mod clients;
 
-use crate::clients::Clients;
+use crate::clients::{Clients, may_share};
 use clfs_command::{asks_to_share, form_of, help_text};
-use clfs_engine::{DONE, NO_MEMORY, SINK_FAULT, SOURCE_FAULT, USAGE, run, run_share};
-use clfs_files::{EndsProgress, Folder, Progress, ReaderSource, Watched, WriterSink};
+use clfs_engine::{
+    DONE, NO_MEMORY, NOT_A_LOG, SINK_FAULT, SOURCE_FAULT, USAGE, run, run_alone, run_share,
+};
+use clfs_files::{EndsProgress, Folder, Progress, SystemPort, Watched};
 use std::alloc::{AllocError, Global};
 use std::env;
 use std::io::ErrorKind;
@@ -21,6 +22,9 @@ use std::process::ExitCode;
 use std::rt::Env;
 use std::sync::Wait;
 use std::thread::Threads;
+
+// The status of `share` if one of its paths can't be used.
+const UNUSABLE_PATH: u8 = 17;
 
 /// What `--version` prints.
 const VERSION: &str = "clfs 0.1\n";
@@ -67,6 +71,13 @@ fn cause(status: u8) -> Option<&'static str> {
     }
 }
 
+// Says that a folder isn't there in which a log was looked for.
+fn tell_no_log(status: u8, folder: &Folder) {
+    if status == NOT_A_LOG {
+        folder.tell_absent();
+    }
+}
+
 // The status of `share` over the folder. The clients' own threads are started by `threads`.
 fn share_folder(
     rt: &HostRuntime,
@@ -74,13 +85,20 @@ fn share_folder(
     path: String,
     words: &[String],
 ) -> u8 {
+    match may_share(rt, &path, words) {
+        Ok(true) => {}
+        Ok(false) => return UNUSABLE_PATH,
+        Err(_) => return NO_MEMORY,
+    }
     let folder = Folder::new(*rt, path);
-    let mut sink = WriterSink::new(rt.stdout());
-    let clients = Clients::new(*rt);
-    run_share(threads, rt.alloc(), words, &clients, &mut sink, folder).status
+    let mut sink = SystemPort::new(rt.stdout(), *rt);
+    let clients = Clients { rt: *rt };
+    let ended = run_share(threads, rt.alloc(), words, &clients, &mut sink, folder);
+    tell_no_log(ended.status, &ended.disk);
+    ended.status
 }
 
-// The status of a command over standard input and output and the folder. The threads of a race are started by `threads`.
+// The status of a command over standard input and output and the folder. Threads are started by `threads`, if the command needs any.
 fn run_folder(
     rt: &HostRuntime,
     threads: &(impl Threads + Wait + Sync),
@@ -88,12 +106,17 @@ fn run_folder(
     words: &[String],
 ) -> u8 {
     let progress = Progress::new(*rt, &rt.stderr());
-    let mut source = EndsProgress::new(ReaderSource::new(rt.stdin()), &progress);
-    let mut sink = EndsProgress::new(WriterSink::new(rt.stdout()), &progress);
+    let mut source = EndsProgress::new(SystemPort::new(rt.stdin(), *rt), &progress);
+    let mut sink = EndsProgress::new(SystemPort::new(rt.stdout(), *rt), &progress);
     let folder = Watched::new(Folder::new(*rt, path), &progress);
-    let status = run(threads, rt.alloc(), words, &mut source, &mut sink, folder).status;
+    let alloc = rt.alloc();
+    let ended = match run_alone(alloc, words, &mut source, &mut sink, folder) {
+        Ok(ended) => ended,
+        Err(needs) => run(threads, alloc, words, &mut source, &mut sink, needs.disk),
+    };
     progress.end();
-    status
+    tell_no_log(ended.status, ended.disk.folder());
+    ended.status
 }
 
 // The status of the command that the words after the program's name ask for.

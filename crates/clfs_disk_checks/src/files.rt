@@ -1,8 +1,11 @@
 use clfs_disk::Disk;
-use clfs_files::{Folder, ReaderSource, WriterSink};
+use clfs_files::{Folder, SystemPort};
 use clfs_ports::{Sink, Source};
 use std::fs::{self, File};
-use std::{env, io, process};
+use std::io::{self, ErrorKind, Read, Write};
+use std::sync::atomic::{AtomicU64, Ordering};
+use std::time::{Clock, Duration};
+use std::{env, process};
 
 // A path of this test's own, at which nothing is.
 fn own_path(rt: &HostRuntime, name: &str) -> io::Result<String> {
@@ -178,14 +181,14 @@ fn a_folder_is_locked(rt: HostRuntime) -> io::Result<()> {
 }
 
 // How many bytes a file takes that is opened by this.
-fn written(file: File) -> Option<usize> {
-    WriterSink::new(file).write(b"abc").ok()
+fn written(rt: &HostRuntime, file: File) -> Option<usize> {
+    SystemPort::new(file, *rt).write(b"abc").ok()
 }
 
 // The bytes that two reads give, and how many.
-fn read(file: File) -> Option<([u8; 3], usize, usize)> {
+fn read(rt: &HostRuntime, file: File) -> Option<([u8; 3], usize, usize)> {
     let mut out = [0u8; 8];
-    let mut source = ReaderSource::new(file);
+    let mut source = SystemPort::new(file, *rt);
     let first = source.read(&mut out).ok()?;
     let second = source.read(&mut out[4..]).ok()?;
     Some(([out[0], out[1], out[2]], first, second))
@@ -194,10 +197,84 @@ fn read(file: File) -> Option<([u8; 3], usize, usize)> {
 #[test]
 fn streams_pass_bytes_on(rt: HostRuntime) -> io::Result<()> {
     let path = own_path(&rt, "streams")?;
-    assert!(rt; written(File::create(&rt, &path)?) == Some(3));
-    assert!(rt; read(File::open(&rt, &path)?) == Some((*b"abc", 3, 0)));
+    assert!(rt; written(&rt, File::create(&rt, &path)?) == Some(3));
+    assert!(rt; read(&rt, File::open(&rt, &path)?) == Some((*b"abc", 3, 0)));
     // What isn't open for it fails.
-    assert!(rt; written(File::open(&rt, &path)?).is_none());
-    assert!(rt; read(File::create(&rt, &path)?).is_none());
+    assert!(rt; written(&rt, File::open(&rt, &path)?).is_none());
+    assert!(rt; read(&rt, File::create(&rt, &path)?).is_none());
     fs::remove_file(&rt, &path)
+}
+
+// A stream that isn't ready for some calls, or that a signal interrupts, and a clock that counts the milliseconds of the pauses.
+#[derive(Drop)]
+struct Unready {
+    left: u64,
+    why: ErrorKind,
+}
+
+impl Read for Unready {
+    fn read(&mut self, out: &mut [u8]) -> io::Result<usize> {
+        if self.left > 0 {
+            self.left -= 1;
+            return Err(self.why.into());
+        }
+        Ok(out.len())
+    }
+}
+
+impl Write for Unready {
+    fn write(&mut self, piece: &[u8]) -> io::Result<usize> {
+        if self.left > 0 {
+            self.left -= 1;
+            return Err(self.why.into());
+        }
+        Ok(piece.len())
+    }
+
+    fn flush(&mut self) -> io::Result<()> {
+        Ok(())
+    }
+}
+
+#[derive(Clone, Copy)]
+struct Pauses<'a> {
+    time: &'a AtomicU64,
+}
+
+impl Clock for Pauses<'_> {
+    fn monotonic(&self) -> io::Result<Duration> {
+        Ok(Duration::ZERO)
+    }
+
+    fn since_1970(&self) -> io::Result<Duration> {
+        Ok(Duration::ZERO)
+    }
+
+    fn sleep(&self, duration: Duration) {
+        self.time
+            .fetch_add(duration.as_millis() as u64, Ordering::SeqCst);
+    }
+}
+
+// What a read and a write of three bytes give after so many calls that fail, and how long the pauses were.
+fn passes(left: u64, why: ErrorKind) -> (Option<usize>, Option<usize>, u64) {
+    let time = AtomicU64::new(0);
+    let clock = Pauses { time: &time };
+    let read = SystemPort::new(Unready { left, why }, clock)
+        .read(&mut [0; 3])
+        .ok();
+    let written = SystemPort::new(Unready { left, why }, clock)
+        .write(b"abc")
+        .ok();
+    (read, written, time.load(Ordering::SeqCst))
+}
+
+#[test]
+fn streams_that_are_not_ready_are_tried_again(rt: HostRuntime) -> io::Result<()> {
+    assert!(rt; passes(0, ErrorKind::WouldBlock) == (Some(3), Some(3), 0));
+    assert!(rt; passes(3, ErrorKind::Interrupted) == (Some(3), Some(3), 6));
+    // Each pause is longer than the one before, up to ten milliseconds.
+    assert!(rt; passes(13, ErrorKind::WouldBlock) == (Some(3), Some(3), 2 * (45 + 30)));
+    assert!(rt; passes(1, ErrorKind::NotFound) == (None, None, 0));
+    Ok(())
 }

@@ -150,3 +150,150 @@ fn files_behind_a_failed_sync_are_copied(rt: HostRuntime) -> io::Result<()> {
     assert!(rt; is_unmarked(&rt, &path)?);
     fs::remove_dir_all(&rt, &path)
 }
+
+// How the folder's path comes to lead elsewhere.
+#[derive(Clone, Copy)]
+enum Move {
+    Renamed,
+    // Another folder with the same files has its name.
+    Replaced,
+    // The link that is its path leads to another folder.
+    SetAnew,
+}
+
+const MOVES: &[Move] = &[Move::Renamed, Move::Replaced, Move::SetAnew];
+
+// Where the folder is after it moved.
+fn move_folder(rt: &HostRuntime, path: &str, how: Move) -> io::Result<String> {
+    let held = below(rt, path, "held")?;
+    let other = below(rt, path, "other")?;
+    let log = below(rt, path, "log")?;
+    match how {
+        Move::Renamed => fs::rename(rt, &log, &other)?,
+        Move::Replaced => {
+            fs::rename(rt, &log, &held)?;
+            fs::rename(rt, &other, &log)?;
+        }
+        Move::SetAnew => {
+            fs::remove_file(rt, &log)?;
+            symlink(rt, &other, &log)?;
+        }
+    }
+    Ok(match how {
+        Move::Renamed => other,
+        Move::Replaced | Move::SetAnew => held,
+    })
+}
+
+// A growth of a file that is there goes on, one that makes a file fails, and so does every name that is left.
+fn grows_where_it_is(rt: &HostRuntime, path: &str, how: Move) -> io::Result<bool> {
+    fs::create_dir(rt, path)?;
+    let log = below(rt, path, "log")?;
+    if let Move::SetAnew = how {
+        symlink(rt, &below(rt, path, "held")?, &log)?;
+        fs::create_dir(rt, &below(rt, path, "held")?)?;
+    }
+    if !matches!(how, Move::Renamed) {
+        is_made_at(rt, &below(rt, path, "other")?)?;
+    }
+    let mut disk = disk_at(rt, &log)?;
+    let is_made = is_made(&mut disk, b"abc");
+    let held = move_folder(rt, path, how)?;
+    let goes_on = disk.grow(1, 9).is_ok() && disk.write(1, 8, b"z").is_ok() && disk.sync().is_ok();
+    let is_refused = disk.grow(2, 8).is_err();
+    Ok(is_made && goes_on && is_refused && has_two_files(rt, &held)? && !is_there(rt, &log, "c2")?)
+}
+
+fn is_there(rt: &HostRuntime, folder: &str, name: &str) -> io::Result<bool> {
+    fs::exists(rt, &below(rt, folder, name)?)
+}
+
+// The folder has two files, and what was written after it moved is in them.
+fn has_two_files(rt: &HostRuntime, held: &str) -> io::Result<bool> {
+    let c1 = fs::read(rt, &below(rt, held, "c1")?)?;
+    Ok(c1.len() == 9 && !is_there(rt, held, "c2")?)
+}
+
+#[test]
+fn no_file_is_made_in_another_folder(rt: HostRuntime) -> io::Result<()> {
+    for how in MOVES {
+        let path = own_path(&rt, "moved")?;
+        assert!(rt; grows_where_it_is(&rt, &path, *how)?);
+        fs::remove_dir_all(&rt, &path)?;
+    }
+    Ok(())
+}
+
+// A file that is there before the first growth: its name, its bytes, the bytes of the base file where it is there, and whether the growth is done.
+type Foreign = (&'static str, &'static str, Option<&'static str>, bool);
+
+const FOREIGN: &[Foreign] = &[
+    ("c1", "precious", None, false),
+    ("c256", "p", None, false),
+    ("c7", "p", Some(""), false),
+    // What making a log may leave when it is cut short.
+    ("c1", "", None, true),
+    ("c1", "\0p", None, true),
+    ("c1", "p", Some("\0"), true),
+    // A name that no file of a log has.
+    ("c257", "p", None, true),
+];
+
+// The growth goes as it has to. If it is refused the file is as it was, and no other came.
+fn grows_as(rt: &HostRuntime, path: &str, foreign: &Foreign) -> io::Result<bool> {
+    let (name, bytes, base, is_done) = foreign;
+    fs::create_dir(rt, path)?;
+    let file = below(rt, path, name)?;
+    fs::write(rt, &file, *bytes)?;
+    if let Some(bytes) = base {
+        fs::write(rt, &below(rt, path, "base")?, *bytes)?;
+    }
+    if disk_at(rt, path)?.grow(0, 8).is_ok() != *is_done {
+        return Ok(false);
+    }
+    let is_same = fs::read(rt, &file)?.as_slice() == bytes.as_bytes();
+    Ok(is_same && (*is_done || is_there(rt, path, "base")? == base.is_some()))
+}
+
+#[test]
+fn foreign_files_are_refused(rt: HostRuntime) -> io::Result<()> {
+    for foreign in FOREIGN {
+        let path = own_path(&rt, "foreign")?;
+        assert!(rt; grows_as(&rt, &path, foreign)?);
+        fs::remove_dir_all(&rt, &path)?;
+    }
+    Ok(())
+}
+
+// A folder that has the name of the mark keeps each call from being done, and no file is copied.
+#[test]
+fn a_mark_is_a_file(rt: HostRuntime) -> io::Result<()> {
+    let path = own_path(&rt, "mark")?;
+    assert!(rt; is_made_at(&rt, &path)?);
+    let before = number_of(&rt, &path)?;
+    fs::create_dir(&rt, &below(&rt, &path, "unsynced")?)?;
+    assert!(rt; fails(&rt, &path)? && is_unchanged(&rt, &path)?);
+    assert!(rt; number_of(&rt, &path)? == before);
+    fs::remove_dir_all(&rt, &path)
+}
+
+// How long a file is after the start behind a failed sync, if it had one byte more than can mean something.
+fn copied_length(rt: &HostRuntime, path: &str, file: u16, len: u64) -> io::Result<u64> {
+    if file <= 256 {
+        let _grown = disk_at(rt, path)?.grow(file, len + 1);
+    }
+    mark(rt, path)?;
+    first_bytes(&mut disk_at(rt, path)?);
+    let name = if file == 0 { "base" } else { "c1" };
+    Ok(fs::metadata(rt, &below(rt, path, name)?)?.len())
+}
+
+#[test]
+fn a_copy_has_what_means_something(rt: HostRuntime) -> io::Result<()> {
+    let path = own_path(&rt, "length")?;
+    assert!(rt; is_made_at(&rt, &path)?);
+    assert!(rt; copied_length(&rt, &path, 0, 1 << 15)? == 1 << 15);
+    assert!(rt; copied_length(&rt, &path, 1, 1 << 23)? == 1 << 23);
+    assert!(rt; first_bytes(&mut disk_at(&rt, &path)?) == Some(*b"abc"));
+    fs::remove_dir_all(&rt, &path)
+}

@@ -15,6 +15,8 @@ mod files;
 #[cfg(test)]
 mod folder;
 #[cfg(test)]
+mod paths;
+#[cfg(test)]
 mod physical;
 #[cfg(test)]
 mod ports;

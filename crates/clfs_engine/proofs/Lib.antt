@@ -4,3 +4,5 @@ pub mod Crowds
 pub mod Gathered
 pub mod Shares
 pub mod OpenersMade
+pub mod Unserved
+pub mod RanOut

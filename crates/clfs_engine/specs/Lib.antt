@@ -3,3 +3,4 @@ pub mod Work
 pub mod Crowd
 pub mod Commits
 pub mod Share
+pub mod Run

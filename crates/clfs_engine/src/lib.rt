@@ -18,13 +18,13 @@ mod sharing;
 mod working;
 
 pub use clfs_operations::{
-    ARCHIVE_GAP, ARCHIVE_TOO_LONG, DISK_FAULT, DONE, EXISTS, Gate, INPUT_TOO_LONG, NO_MEMORY,
-    NOT_A_LOG, NOT_A_TABLE, NOT_AN_ARCHIVE, NOT_ARCHIVED, Outcome, Pass, REFUSED, SINK_FAULT,
-    SOURCE_FAULT, UP_TO_OUTSIDE, USAGE, appends_and_reads, archive, areas, check, dump,
-    ends_of_lines, format, lengths_of_records, race, restore, serve, serve_within, trial, txn,
-    words_of_lines,
+    ARCHIVE_GAP, ARCHIVE_TOO_LONG, DISK_FAULT, DONE, EXISTS, Gate, INPUT_TOO_LONG, IncompleteLine,
+    NO_MEMORY, NOT_A_LOG, NOT_A_TABLE, NOT_AN_ARCHIVE, NOT_ARCHIVED, Outcome, Pass, REFUSED,
+    SINK_FAULT, SOURCE_FAULT, UP_TO_OUTSIDE, USAGE, appends_and_reads, archive, areas, check, dump,
+    ends_of_lines, format, incomplete_lines, lengths_of_records, race, restore, serve,
+    serve_within, trial, txn, words_of_lines,
 };
 pub use crewing::crew;
 pub use crowding::crowd;
-pub use program::run;
-pub use sharing::{PathOpeners, ShareOutcome, run_share, share_log};
+pub use program::{NeedsThreads, ThreadedCommand, run, run_alone};
+pub use sharing::{NONE_SERVED, PathOpeners, ShareOutcome, run_share, share_log};

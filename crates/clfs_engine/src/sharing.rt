@@ -1,13 +1,14 @@
 // A log that several programs use at once: it is opened, shared among its clients until all have ended, and closed.
 //
 // Each client's lines and replies are matters of `clfs_share`. Here the log is opened before any client's source is, and the status says whether the log is
-// broken at the end: a fault of the disk, or damage, is told to every client in its replies, and it ends none of them.
+// broken at the end, and else whether any client was served: a fault of the disk, or damage, is told to every client in its replies, and it ends none of them.
 ghost use Rattle.std.specs.Prelude.{ℕ, ◌≡◌, ◌+◌, ◌<◌, ◌≤◌, [], length, map, if◌then◌else◌, None, Some, IfOk, OnOk};
 ghost use Rattle.std.specs.String.{string_bytes};
 ghost use Rattle.clfs_lsn.specs.Limits.{most_clients, most_write_buffers};
 ghost use Rattle.clfs_command.specs.Share.{Asked, IsInRange, Paths, asked_of, paths_of, share_of};
 ghost use Rattle.clfs_operations.specs.Serve.{EndsByUsage};
-ghost use Rattle.clfs_engine.specs.Share.{AddsOpeners, AreOpeners, AreServed, AreServedAt, EndsSharing};
+ghost use Rattle.clfs_share.specs.Ended.{ends_of};
+ghost use Rattle.clfs_engine.specs.Share.{AddsOpeners, AreOpeners, AreServed, AreServedAt, EndsSharing, served_status};
 
 use clfs_command::{PathPair, ShareWords, WordsRefusal, read_share};
 use clfs_disk::Disk;
@@ -18,38 +19,45 @@ use clfs_operations::{
     unopened_logs_are_told,
 };
 use clfs_ports::{Sink, Source};
-use clfs_share::{EndedClient, Openers, ShareRefused, Shared, share};
+use clfs_share::{EndedClient, Openers, ShareRefused, Shared, is_any_served, share};
 use std::alloc::{AllocError, Global};
 use std::sync::Wait;
 use std::thread::Threads;
 
+/// All clients have ended, and none of them could be served: it couldn't be opened, or no thread could be made for it.
+pub const NONE_SERVED: u8 = 18;
+
 /// How sharing a log ended.
 #[derive(Drop)]
-pub struct ShareOutcome<D: Disk, S: Source, K: Sink> {
+pub struct ShareOutcome<D: Disk, P: Openers<S, K>, S: Source, K: Sink> {
     /// The status.
     pub status: u8,
     /// The disk that was handed in.
     pub disk: D,
-    /// The clients, in order; none if none was served.
-    pub clients: Vec<EndedClient<S, K>>,
+    /// The clients, in order; none if the log wasn't shared.
+    pub clients: Vec<EndedClient<P, S, K>>,
 }
 
 // The status after all clients have ended: a broken log keeps nothing in memory.
-fn end_status<D: Disk>(manager: &Manager<D>) -> u8
-    ensures { result ≡ (if manager.now.0.broken then 4 else 0) }
+fn end_status<D: Disk, P: Openers<S, K>, S: Source, K: Sink>(
+    manager: &Manager<D>,
+    clients: &[EndedClient<P, S, K>],
+) -> u8
+    ensures { result ≡ (if manager.now.0.broken then 4 else served_status (ends_of clients.now)) }
 {
     match manager.ends_kept() {
-        Some(_) => DONE,
+        Some(_) if is_any_served(clients) => DONE,
+        Some(_) => NONE_SERVED,
         None => DISK_FAULT,
     }
 }
 
-// A run that served no client.
-fn unserved<D: Disk + Drop, S: Source + Drop, K: Sink + Drop>(
+// A run that shared no log.
+fn unserved<D: Disk + Drop, P: Openers<S, K> + Drop, S: Source + Drop, K: Sink + Drop>(
     alloc: Global,
     status: u8,
     disk: D,
-) -> ShareOutcome<D, S, K>
+) -> ShareOutcome<D, P, S, K>
     ensures status { result.status ≡ status }
     ensures disk { result.disk ≡ disk }
     ensures clients { result.clients.items ≡ [] }
@@ -70,7 +78,7 @@ pub fn share_log<R, D, P, S, K, T>(
     openers: Vec<P>,
     sink: &mut T,
     disk: D,
-) -> ShareOutcome<D, S, K>
+) -> ShareOutcome<D, P, S, K>
 where
     R: Threads + Wait + Sync,
     D: Disk + Send + Drop,
@@ -82,8 +90,8 @@ where
     requires at_most { write_buffers ≤ most_write_buffers }
     requires clients { 0 < length openers.items }
     requires few { length openers.items ≤ most_clients }
-    ensures { EndsSharing D.state (AreServed P.opens S.left S.faults K.written K.faults openers.items result.clients.items) result.status write_buffers
-        (D.state disk) (D.state result.disk) (length result.clients.items) (T.written sink.old) (T.written sink.new) (T.faults sink.old) (T.faults sink.new) }
+    ensures { EndsSharing (AreServed P.Openers S.left S.faults K.written K.faults openers.items result.clients.items) result.status write_buffers
+        (D.state disk) (D.state result.disk) (ends_of result.clients.items) (T.written sink.old) (T.written sink.new) (T.faults sink.old) (T.faults sink.new) }
 {
     journals_are_taken_from_logs::<D>();
     unopened_logs_are_told::<D>();
@@ -104,7 +112,7 @@ where
         ) => {
             manager.stored();
             ShareOutcome {
-                status: end_status(&manager),
+                status: end_status(&manager, &clients),
                 disk: manager.close(),
                 clients,
             }
@@ -162,7 +170,7 @@ fn share_asked<R, D, M, P, S, K, T>(
     maker: &M,
     sink: &mut T,
     disk: D,
-) -> ShareOutcome<D, S, K>
+) -> ShareOutcome<D, P, S, K>
 where
     R: Threads + Wait + Sync,
     D: Disk + Send + Drop,
@@ -172,8 +180,8 @@ where
     K: Sink + Send + Drop,
     T: Sink,
     requires { IsInRange share.now }
-    ensures { EndsSharing D.state (AreServedAt (M.makes maker.now) P.opens S.left S.faults K.written K.faults (asked_of share.now).clients result.clients.items) result.status
-        (asked_of share.now).buffers (D.state disk) (D.state result.disk) (length result.clients.items) (T.written sink.old) (T.written sink.new)
+    ensures { EndsSharing (AreServedAt (M.makes maker.now) P.Openers S.left S.faults K.written K.faults (asked_of share.now).clients result.clients.items) result.status
+        (asked_of share.now).buffers (D.state disk) (D.state result.disk) (ends_of result.clients.items) (T.written sink.old) (T.written sink.new)
         (T.faults sink.old) (T.faults sink.new) }
 {
     memory_runs_out_at_once::<D>();
@@ -192,7 +200,7 @@ pub fn run_share<R, D, M, P, S, K, T>(
     maker: &M,
     sink: &mut T,
     disk: D,
-) -> ShareOutcome<D, S, K>
+) -> ShareOutcome<D, P, S, K>
 where
     R: Threads + Wait + Sync,
     D: Disk + Send + Drop,
@@ -202,8 +210,8 @@ where
     K: Sink + Send + Drop,
     T: Sink,
     ensures shares { (asked : Asked) → share_of (map string_bytes words.now) ≡ Some asked
-        → EndsSharing D.state (AreServedAt (M.makes maker.now) P.opens S.left S.faults K.written K.faults asked.clients result.clients.items) result.status asked.buffers
-        (D.state disk) (D.state result.disk) (length result.clients.items) (T.written sink.old) (T.written sink.new) (T.faults sink.old) (T.faults sink.new) }
+        → EndsSharing (AreServedAt (M.makes maker.now) P.Openers S.left S.faults K.written K.faults asked.clients result.clients.items) result.status asked.buffers
+        (D.state disk) (D.state result.disk) (ends_of result.clients.items) (T.written sink.old) (T.written sink.new) (T.faults sink.old) (T.faults sink.new) }
     ensures usage { share_of (map string_bytes words.now) ≡ None
         → EndsByUsage result.status (T.written sink.old) (T.written sink.new) (T.faults sink.old) (T.faults sink.new) }
     ensures untouched { share_of (map string_bytes words.now) ≡ None → (result.disk ≡ disk) × (result.clients.items ≡ []) }

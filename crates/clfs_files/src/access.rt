@@ -7,8 +7,7 @@ use crate::directory::Directory;
 use crate::fault::{Call, Cause, Fault, Place};
 use crate::file::zeros;
 use crate::location::Location;
-use crate::unsynced::leave_mark;
-use clfs_disk::{Failed, GrowRefusal};
+use std::alloc::AllocError;
 
 /// What is known of the folder.
 #[derive(Drop)]
@@ -60,6 +59,14 @@ impl Access {
         matches!(self.state, State::Taken)
     }
 
+    /// Says that the folder isn't there, if that was found.
+    pub fn tell_absent(&self) {
+        if matches!(self.state, State::Absent) {
+            self.location
+                .tell(Fault::new(Place::Folder, Call::Open, Cause::Absent));
+        }
+    }
+
     /// The bytes of all files of a folder that is open, and else none.
     pub fn byte_count(&self) -> u64 {
         match &self.state {
@@ -68,13 +75,12 @@ impl Access {
         }
     }
 
-    // Says why a call failed, if it is the first one.
-    fn tell(&mut self, fault: Fault) -> Failed {
+    /// Says why a call failed, if it is the first one.
+    pub fn tell(&mut self, fault: Fault) {
         if !self.has_told {
             self.location.tell(fault);
             self.has_told = true;
         }
-        Failed
     }
 
     // Finds out about the folder in the first call.
@@ -95,17 +101,7 @@ impl Access {
     }
 
     /// What a file has from `at` on. A file that isn't there is empty.
-    pub fn read(&mut self, file: u16, at: u64, out: &mut [u8]) -> Result<usize, Failed>
-        requires { file ≤ 256 }
-        ensures { IfOk result (λ n. n ≤ length out.old) }
-    {
-        match self.try_read(file, at, out) {
-            Ok(count) => Ok(count),
-            Err(fault) => Err(self.tell(fault)),
-        }
-    }
-
-    fn try_read(&mut self, file: u16, at: u64, out: &mut [u8]) -> Result<usize, Fault>
+    pub fn read(&mut self, file: u16, at: u64, out: &mut [u8]) -> Result<usize, Fault>
         requires { file ≤ 256 }
         ensures { IfOk result (λ n. n ≤ length out.old) }
     {
@@ -118,16 +114,7 @@ impl Access {
     }
 
     /// Writes within a file.
-    pub fn write(&mut self, file: u16, at: u64, bytes: &[u8]) -> Result<(), Failed>
-        requires { file ≤ 256 }
-    {
-        match self.try_write(file, at, bytes) {
-            Ok(()) => Ok(()),
-            Err(fault) => Err(self.tell(fault)),
-        }
-    }
-
-    fn try_write(&mut self, file: u16, at: u64, bytes: &[u8]) -> Result<(), Fault>
+    pub fn write(&mut self, file: u16, at: u64, bytes: &[u8]) -> Result<(), Fault>
         requires { file ≤ 256 }
     {
         self.look()?;
@@ -137,24 +124,13 @@ impl Access {
         }
     }
 
-    /// Makes a file at least so long. Its memory is taken before anything else is done.
-    pub fn grow(&mut self, file: u16, len: u64) -> Result<(), GrowRefusal>
-        requires { file ≤ 256 }
-    {
-        let Ok(zeros) = zeros(self.location.alloc(), len) else {
-            return Err(GrowRefusal::NoMemory);
-        };
-        match self.try_grow(file, len, &zeros) {
-            Ok(()) => Ok(()),
-            Err(fault) => {
-                self.tell(fault);
-                Err(GrowRefusal::Failed)
-            }
-        }
+    /// Zeros for a growth to so many bytes. They are taken before anything else is done.
+    pub fn zeros(&self, len: u64) -> Result<Vec<u8>, AllocError> {
+        zeros(self.location.alloc(), len)
     }
 
-    // Makes a file at least so long, with zeros in pieces of these.
-    fn try_grow(&mut self, file: u16, len: u64, zeros: &[u8]) -> Result<(), Fault>
+    /// Makes a file at least so long, with zeros in pieces of these.
+    pub fn grow(&mut self, file: u16, len: u64, zeros: &[u8]) -> Result<(), Fault>
         requires { file ≤ 256 }
     {
         self.look_or_make()?;
@@ -165,14 +141,7 @@ impl Access {
     }
 
     /// Syncs all files.
-    pub fn sync(&mut self) -> Result<(), Failed> {
-        match self.try_sync() {
-            Ok(()) => Ok(()),
-            Err(fault) => Err(self.tell(fault)),
-        }
-    }
-
-    fn try_sync(&mut self) -> Result<(), Fault> {
+    pub fn sync(&mut self) -> Result<(), Fault> {
         self.look()?;
         let done = match &mut self.state {
             State::Open(directory) => directory.sync(),
@@ -188,7 +157,9 @@ impl Access {
 
     // After a sync that failed: leaves the mark, or says that it can't be left, and makes every later call fail.
     fn give_up(&mut self) {
-        if let Err(fault) = leave_mark(&self.location) {
+        if let State::Open(directory) = &self.state
+            && let Err(fault) = directory.leave_mark(&self.location)
+        {
             self.location.tell(fault);
             self.location.tell_no_mark();
         }

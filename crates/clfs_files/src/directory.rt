@@ -10,16 +10,14 @@
 ghost use Rattle.std.specs.Prelude.{◌≡◌, ◌≤◌, length, IfOk};
 
 use crate::access::State;
-use crate::fault::{Call, Cause, Fault, Place};
-use crate::file::StoredFile;
+use crate::fault::{Call, Cause, Fault, Place, asked, if_there};
+use crate::file::{FILES, StoredFile};
+use crate::held::HeldFolder;
 use crate::location::Location;
-use crate::unsynced::renew;
+use crate::unsynced::{has_mark, leave_mark, renew};
 use std::alloc::AllocError;
-use std::fs::{File, TryLockError};
-use std::io;
-
-// How many files a disk has.
-const FILES: u16 = 257;
+use std::fs::File;
+use std::io::ErrorKind;
 
 // Where the files are that may have changed since the last sync: none below the first, and none from the end on.
 #[derive(Clone, Copy)]
@@ -29,21 +27,18 @@ struct Changed {
     ghost inside: { end ≤ 257 },
 }
 
+// All files, and none.
+const ALL: Changed = Changed {
+    first: 0,
+    end: FILES,
+};
+
+const NONE: Changed = Changed {
+    first: FILES,
+    end: 0,
+};
+
 impl Changed {
-    fn all() -> Changed {
-        Changed {
-            first: 0,
-            end: FILES,
-        }
-    }
-
-    fn none() -> Changed {
-        Changed {
-            first: FILES,
-            end: 0,
-        }
-    }
-
     // These, and this file too.
     fn with(self, file: u16) -> Changed
         requires { file ≤ 256 }
@@ -58,19 +53,14 @@ impl Changed {
 /// The lock is held as long as this value is there.
 #[derive(Drop)]
 pub(crate) struct Directory {
-    folder: File,
+    folder: HeldFolder,
     files: Vec<Option<StoredFile>>,
     changed: Changed,
     // A file was made since the folder's last sync, or may have been before it was opened.
     is_unsynced: bool,
-    // The folder that this one lies in, until the first sync. None also if this process may not read it.
+    // The folder that this one lies in, until the first sync. None also if this process may not read it, or if it is on another device.
     parent: Option<File>,
     ghost count: { length files.items ≡ 257 },
-}
-
-// Out of memory while the folder is opened.
-fn no_memory(error: AllocError) -> Fault {
-    Fault::said(Place::Folder, Call::Open, error.into())
 }
 
 // The file among these that is the same one of the system.
@@ -88,31 +78,33 @@ fn twin<'a>(files: &'a [Option<StoredFile>], file: &StoredFile) -> Option<&'a St
 // Opens a file, if it is there and none of the earlier ones.
 fn open_other(
     location: &Location,
+    folder: &HeldFolder,
     earlier: &[Option<StoredFile>],
     file: u16,
 ) -> Result<Option<StoredFile>, Fault> {
-    let Some(opened) = location.open_file(file)? else {
+    let place = Place::File(file);
+    let Some(opened) = if_there(asked(place, Call::Open, folder.open(location, place)))? else {
         return Ok(None);
     };
     if let Some(other) = twin(earlier, &opened) {
-        let cause = Cause::SameAs(other.place());
-        return Err(Fault::new(opened.place(), Call::Open, cause));
+        return Err(Fault::new(place, Call::Open, Cause::SameAs(other.place())));
     }
     Ok(Some(opened))
 }
 
 // All files, those that are in the folder open.
-fn open_files(location: &Location) -> Result<Vec<Option<StoredFile>>, Fault>
+fn open_files(location: &Location, folder: &HeldFolder) -> Result<Vec<Option<StoredFile>>, Fault>
     ensures { IfOk result (λ files. length files.items ≡ 257) }
 {
     let mut files = match Vec::with_capacity(location.alloc(), FILES as usize) {
         Ok(files) => files,
-        Err(error) => return Err(no_memory(error)),
+        Err(error) => return Err(Fault::new(Place::Folder, Call::Open, error.into())),
     };
     for file in 0..FILES {
-        let opened = open_other(location, &files, file)?;
+        let opened = open_other(location, folder, &files, file)?;
         if let Err(error) = files.push(opened) {
-            return Err(no_memory(error.into()));
+            let error = AllocError::from(error);
+            return Err(Fault::new(Place::Folder, Call::Open, error.into()));
         }
     }
     Ok(files)
@@ -125,9 +117,9 @@ impl Directory {
         let Some(folder) = location.open_folder()? else {
             return Ok(State::Absent);
         };
-        match location.open_parent() {
-            Ok(parent) => Directory::lock(location, folder, Some(parent)),
-            Err(fault) if fault.is_denied() => {
+        match location.open_parent(&folder) {
+            Ok(parent) => Directory::lock(location, folder, parent),
+            Err(fault) if fault.is_said(ErrorKind::PermissionDenied) => {
                 location.tell_unsynced_name(fault);
                 Directory::lock(location, folder, None)
             }
@@ -142,31 +134,32 @@ impl Directory {
         let Some(folder) = location.open_folder()? else {
             return Ok(State::Absent);
         };
-        let parent = location.open_parent()?;
-        Directory::lock(location, folder, Some(parent))
+        let parent = location.open_parent(&folder)?;
+        Directory::lock(location, folder, parent)
     }
 
     // Locks the folder, and opens what is in it.
     fn lock(location: &Location, folder: File, parent: Option<File>) -> Result<State, Fault> {
-        match folder.try_lock() {
-            Ok(()) => {}
-            Err(TryLockError::WouldBlock) => return Ok(State::Taken),
-            Err(TryLockError::Error(error)) => {
-                return Err(Fault::said(Place::Folder, Call::Lock, error));
-            }
-        }
-        let mut files = open_files(location)?;
-        if location.has(Place::Mark)? {
+        let Some(folder) = HeldFolder::lock(folder)? else {
+            return Ok(State::Taken);
+        };
+        let mut files = open_files(location, &folder)?;
+        if has_mark(location, &folder)? {
             renew(location, &folder, &files)?;
-            files = open_files(location)?;
+            files = open_files(location, &folder)?;
         }
         Ok(State::Open(Directory {
             folder,
             files,
-            changed: Changed::all(),
+            changed: ALL,
             is_unsynced: true,
             parent,
         }))
+    }
+
+    /// Leaves the mark of a failed sync.
+    pub fn leave_mark(&self, location: &Location) -> Result<(), Fault> {
+        leave_mark(location, &self.folder)
     }
 
     /// The bytes of all files that are there, as they were made.
@@ -202,6 +195,24 @@ impl Directory {
         }
     }
 
+    // An error if a file stands in a container's place that is none, where the base file has no bytes, so that nothing of a log was made. What a crash leaves
+    // of making one is never refused: the other files get nothing but zeros until the base file is on the medium in all its length, and
+    // a container begins with its gate, which is written as open or as 0. Where the base file has bytes nothing is looked at, since a crash may have left any byte
+    // where a gate was written.
+    fn refuse_foreign(&self) -> Result<(), Fault> {
+        if let Some(base) = &self.files[0]
+            && base.len() > 0
+        {
+            return Ok(());
+        }
+        for slot in &self.files {
+            if let Some(file) = slot {
+                file.refuse_foreign()?;
+            }
+        }
+        Ok(())
+    }
+
     /// Makes a file at least so long, and the file itself if it isn't there.
     pub fn grow(
         &mut self,
@@ -212,10 +223,12 @@ impl Directory {
     ) -> Result<(), Fault>
         requires { file ≤ 256 }
     {
+        self.refuse_foreign()?;
         self.changed = self.changed.with(file);
         let slot = &mut self.files[file as usize];
         if slot.is_none() {
-            *slot = Some(location.make_file(file)?);
+            let place = Place::File(file);
+            *slot = Some(asked(place, Call::Make, self.folder.make_file(location, place))?);
             self.is_unsynced = true;
         }
         match slot {
@@ -227,12 +240,13 @@ impl Directory {
     /// Syncs what was written, grown and made since the last sync; the first time all that is there.
     pub fn sync(&mut self) -> Result<(), Fault> {
         self.sync_files()?;
-        if let Err(error) = self.sync_folder() {
-            return Err(Fault::said(Place::Folder, Call::Sync, error));
+        if self.is_unsynced {
+            asked(Place::Folder, Call::Sync, self.folder.sync())?;
+            self.is_unsynced = false;
         }
-        match self.sync_parent() {
-            Ok(()) => Ok(()),
-            Err(error) => Err(Fault::said(Place::Parent, Call::Sync, error)),
+        match self.parent.take() {
+            Some(parent) => asked(Place::Parent, Call::Sync, parent.sync_all()),
+            None => Ok(()),
         }
     }
 
@@ -245,22 +259,7 @@ impl Directory {
                 }
             }
         }
-        self.changed = Changed::none();
+        self.changed = NONE;
         Ok(())
-    }
-
-    fn sync_folder(&mut self) -> io::Result<()> {
-        if self.is_unsynced {
-            self.folder.sync_all()?;
-            self.is_unsynced = false;
-        }
-        Ok(())
-    }
-
-    fn sync_parent(&mut self) -> io::Result<()> {
-        match self.parent.take() {
-            Some(parent) => parent.sync_all(),
-            None => Ok(()),
-        }
     }
 }

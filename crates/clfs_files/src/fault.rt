@@ -1,6 +1,11 @@
 // Why a call of the folder failed: what it was about, what the system was asked for, and what the system said.
+use std::alloc::AllocError;
 use std::fmt;
 use std::io::{self, ErrorKind};
+
+// Why a copy was made that failed.
+const MARKED: &str =
+    "a sync failed in an earlier run, so each file has to be copied before anything is read";
 
 /// What of the folder a call was about.
 #[derive(Clone, Copy)]
@@ -78,8 +83,18 @@ pub(crate) enum Cause {
     Names(u64),
     /// A folder stands in the place of a client's file.
     Folder,
+    /// A client's replies would go into a file that has this many bytes.
+    HasBytes(u64),
+    /// A client's file is one of the log.
+    OfLog,
+    /// A client's file is the same one of the system as an earlier one of this client's or another's.
+    OfClient(u16),
     /// The file is the same one of the system as this earlier one of the log.
     SameAs(Place),
+    /// The path doesn't lead to the folder that is open and locked.
+    OtherFolder,
+    /// The file begins with this byte, as no file of a log does.
+    FirstByte(u8),
     /// The file ends before the place.
     TooShort,
     /// The file, or the folder, isn't there.
@@ -96,6 +111,12 @@ impl From<io::Error> for Cause {
     }
 }
 
+impl From<AllocError> for Cause {
+    fn from(error: AllocError) -> Cause {
+        Cause::System(error.into())
+    }
+}
+
 impl fmt::Display for Cause {
     fn fmt<W: fmt::Write>(&self, f: &mut fmt::Formatter<W>) -> fmt::Result {
         match self {
@@ -104,7 +125,12 @@ impl fmt::Display for Cause {
             Cause::SymbolicLink => f.write_str("it is a symbolic link"),
             Cause::Names(count) => write!(f, "it has {count} names (hard links)"),
             Cause::Folder => f.write_str("it is a folder"),
+            Cause::HasBytes(len) => write!(f, "it has {len} bytes"),
+            Cause::OfLog => f.write_str("it is a file of the log"),
+            Cause::OfClient(client) => write!(f, "client {client} has the same file"),
             Cause::SameAs(place) => write!(f, "it is the same file as FOLDER{place}"),
+            Cause::OtherFolder => f.write_str("FOLDER isn't the folder that was opened"),
+            Cause::FirstByte(byte) => write!(f, "no file of a log begins with the byte {byte}"),
             Cause::TooShort => f.write_str("it ends before the place"),
             Cause::Absent => f.write_str("it isn't there"),
             Cause::Taken => f.write_str("another process has the folder"),
@@ -127,20 +153,56 @@ impl Fault {
         Fault { place, call, cause }
     }
 
-    /// Whether the system said that this process may not do it.
-    pub fn is_denied(&self) -> bool {
-        matches!(&self.cause, Cause::System(error) if error.kind() == ErrorKind::PermissionDenied)
+    /// Whether the system gave this reason.
+    pub fn is_said(&self, reason: ErrorKind) -> bool {
+        matches!(&self.cause, Cause::System(error) if error.kind() == reason)
     }
 
-    /// A call about this place of which the system said that it failed.
-    pub fn said(place: Place, call: Call, error: io::Error) -> Fault {
-        Fault::new(place, call, Cause::System(error))
+    // What a program can tell such a fault by, before the path: there is something to wait for or to mend other than the disk.
+    fn kind(&self) -> &'static str {
+        match (&self.place, &self.cause) {
+            (_, Cause::Taken) => "locked: ",
+            (Place::Folder, Cause::Absent) => "no folder: ",
+            (Place::Folder, _) if self.is_said(ErrorKind::NotFound) => "no folder: ",
+            _ if self.is_said(ErrorKind::PermissionDenied) => "no permission: ",
+            _ => "",
+        }
+    }
+
+    /// Says it on standard error, of the folder with this path. If that can't be said either, nothing more is done.
+    pub fn tell(&self, rt: &HostRuntime, path: &str) {
+        let _said = rt.eprintln(format_args!("clfs: {}{path}{self}", self.kind()));
+    }
+}
+
+/// What was found, if anything is there.
+pub(crate) fn if_there<T>(found: Result<T, Fault>) -> Result<Option<T>, Fault> {
+    match found {
+        Ok(value) => Ok(Some(value)),
+        Err(fault) if fault.is_said(ErrorKind::NotFound) => Ok(None),
+        Err(fault) => Err(fault),
+    }
+}
+
+/// What comes of a call about this place.
+pub(crate) fn asked<T, E: Into<Cause>>(
+    place: Place,
+    call: Call,
+    answer: Result<T, E>,
+) -> Result<T, Fault> {
+    match answer {
+        Ok(value) => Ok(value),
+        Err(error) => Err(Fault::new(place, call, error.into())),
     }
 }
 
 impl fmt::Display for Fault {
     fn fmt<W: fmt::Write>(&self, f: &mut fmt::Formatter<W>) -> fmt::Result {
         let Fault { place, call, cause } = self;
-        write!(f, "{place}: {call}: {cause}")
+        match (place, cause) {
+            (Place::Folder, Cause::Taken | Cause::Absent) => write!(f, ": {cause}"),
+            (Place::Copy, _) => write!(f, "{place}: {call}: {cause}; {MARKED}"),
+            _ => write!(f, "{place}: {call}: {cause}"),
+        }
     }
 }

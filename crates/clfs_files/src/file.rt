@@ -6,7 +6,7 @@
 // sync has no metadata to write. (docs/DECISIONS.md says when that isn't so.)
 ghost use Rattle.std.specs.Prelude.{◌≤◌, length, IfOk};
 
-use crate::fault::{Call, Cause, Fault, Place};
+use crate::fault::{Call, Cause, Fault, Place, asked};
 use std::alloc::{AllocError, Global};
 use std::fs::{File, Metadata};
 use std::io::{self, ErrorKind};
@@ -16,11 +16,32 @@ use std::os::unix::fs::{FileExt, MetadataExt};
 // pieces of 1 MiB, and reading was slower after pieces of a page (docs/SPEED.md).
 pub(crate) const PIECE: usize = 1 << 16;
 
-// What tells a file of the system from all others.
+/// How many files a disk has.
+pub(crate) const FILES: u16 = 257;
+
+// The bytes of a base file, and the most of a container (docs/FORMAT.md).
+const BASE_BYTES: u64 = 1 << 15;
+
+const CONTAINER_BYTES: u64 = 1 << 23;
+
+// The first byte of a container that has records. Without any it is 0.
+const OPEN_GATE: u8 = 0xA5;
+
+/// What tells a file or a folder of the system from all others, whatever the names are by which it is reached.
 #[derive(Clone, Copy, PartialEq, Eq)]
-struct Identity {
+pub(crate) struct Identity {
     device: u64,
     number: u64,
+}
+
+impl Identity {
+    /// That of what the system described so.
+    pub fn of(found: &Metadata) -> Identity {
+        Identity {
+            device: found.dev(),
+            number: found.ino(),
+        }
+    }
 }
 
 /// An open file of the log.
@@ -55,10 +76,7 @@ impl StoredFile {
         Ok(StoredFile {
             place,
             file,
-            identity: Identity {
-                device: found.dev(),
-                number: found.ino(),
-            },
+            identity: Identity::of(&found),
             len: found.len(),
             is_unsynced: true,
         })
@@ -100,10 +118,20 @@ impl StoredFile {
                 Ok(0) => break,
                 Ok(count) => done += count,
                 Err(error) if error.kind() == ErrorKind::Interrupted => {}
-                Err(error) => return Err(Fault::said(self.place, Call::Read, error)),
+                Err(error) => return Err(Fault::new(self.place, Call::Read, error.into())),
             }
         }
         Ok(done)
+    }
+
+    /// An error if it has a first byte that a file of a log never begins with: a gate, open or written as closed.
+    pub fn refuse_foreign(&self) -> Result<(), Fault> {
+        let mut first = [0];
+        self.read(0, &mut first)?;
+        if first[0] != 0 && first[0] != OPEN_GATE {
+            return Err(Fault::new(self.place, Call::Look, Cause::FirstByte(first[0])));
+        }
+        Ok(())
     }
 
     /// Writes within the file. It is refused if the range ends past the file's end.
@@ -113,10 +141,7 @@ impl StoredFile {
             _ => return Err(Fault::new(self.place, Call::Write, Cause::TooShort)),
         }
         self.is_unsynced = true;
-        match self.file.write_all_at(bytes, at) {
-            Ok(()) => Ok(()),
-            Err(error) => Err(Fault::said(self.place, Call::Write, error)),
-        }
+        asked(self.place, Call::Write, self.file.write_all_at(bytes, at))
     }
 
     /// Writes zeros, in pieces of `zeros`, from the file's end up to `len`.
@@ -124,9 +149,11 @@ impl StoredFile {
         for at in (self.len..len).step_by(PIECE) {
             self.is_unsynced = true;
             let count = ((len - at) as usize).min(zeros.len());
-            if let Err(error) = self.file.write_all_at(&zeros[..count], at) {
-                return Err(Fault::said(self.place, Call::Write, error));
-            }
+            asked(
+                self.place,
+                Call::Write,
+                self.file.write_all_at(&zeros[..count], at),
+            )?;
             self.len = at + count as u64;
         }
         Ok(())
@@ -135,9 +162,7 @@ impl StoredFile {
     /// Syncs what was written and grown since the last sync.
     pub fn sync(&mut self) -> Result<(), Fault> {
         if self.is_unsynced {
-            if let Err(error) = self.file.sync_data() {
-                return Err(Fault::said(self.place, Call::Sync, error));
-            }
+            asked(self.place, Call::Sync, self.file.sync_data())?;
             self.is_unsynced = false;
         }
         Ok(())

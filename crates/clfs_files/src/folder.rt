@@ -34,6 +34,11 @@ impl Folder {
         self.access.is_taken()
     }
 
+    /// Says on standard error that the folder isn't there, if a call has found that. It is for who looked for a log in it.
+    pub fn tell_absent(&self) {
+        self.access.tell_absent();
+    }
+
     /// How many bytes its files have together, once a call has opened it.
     pub fn byte_count(&self) -> u64 {
         self.access.byte_count()
@@ -51,7 +56,8 @@ impl Disk for Folder {
         self.calls = self.calls.saturating_add(1);
         match self.access.read(file, at, out) {
             Ok(count) => Ok(count),
-            Err(_) => {
+            Err(fault) => {
+                self.access.tell(fault);
                 self.faults = self.faults.saturating_add(1);
                 Err(Failed)
             }
@@ -62,7 +68,8 @@ impl Disk for Folder {
         self.calls = self.calls.saturating_add(1);
         match self.access.write(file, at, bytes) {
             Ok(()) => Ok(()),
-            Err(_) => {
+            Err(fault) => {
+                self.access.tell(fault);
                 self.faults = self.faults.saturating_add(1);
                 Err(Failed)
             }
@@ -71,18 +78,25 @@ impl Disk for Folder {
 
     fn grow(&mut self, file: u16, len: u64) -> Result<(), GrowRefusal> {
         self.calls = self.calls.saturating_add(1);
-        let done = self.access.grow(file, len);
-        if let Err(GrowRefusal::Failed) = done {
-            self.faults = self.faults.saturating_add(1);
+        let Ok(zeros) = self.access.zeros(len) else {
+            return Err(GrowRefusal::NoMemory);
+        };
+        match self.access.grow(file, len, &zeros) {
+            Ok(()) => Ok(()),
+            Err(fault) => {
+                self.access.tell(fault);
+                self.faults = self.faults.saturating_add(1);
+                Err(GrowRefusal::Failed)
+            }
         }
-        done
     }
 
     fn sync(&mut self) -> Result<(), Failed> {
         self.calls = self.calls.saturating_add(1);
         match self.access.sync() {
             Ok(()) => Ok(()),
-            Err(_) => {
+            Err(fault) => {
+                self.access.tell(fault);
                 self.faults = self.faults.saturating_add(1);
                 Err(Failed)
             }

@@ -3,10 +3,10 @@
 //! What lies here is trusted, not proved: that the system reads and writes what it is asked to, and that what it says it has synced
 //! outlasts a crash. What is proved of it is the little that needs no knowledge of the system: nothing undefined happens, each call
 //! of the disk counts as one, and a call fails only if the count of faults rose. So what is done for the safety of the files has to be
-//! read: `access.rt` says when a folder is opened, locked and given up, `location.rt` what is taken for a file of a log, `directory.rt` how
-//! files are made and synced, `file.rt` what is done with one of them, `unsynced.rt` what follows a sync that failed.
+//! read: `access.rt` says when a folder is opened, locked and given up, `held.rt` how names in it are looked at and changed, `location.rt` what is taken for
+//! a file of a log, `directory.rt` how files are made and synced, `file.rt` what is done with one of them, `unsynced.rt` what follows a sync that failed.
 //!
-//! A client of a log that several programs share has paths of its own, `ClientPaths`, which are opened as a source and a sink.
+//! A client of a shared log has paths of its own, `ClientPaths`, which are opened as a source and a sink, after `SeenFiles` looked at those of all clients.
 //!
 //! Who waits for a large log sees on a terminal how far it was read: `Watched` passes each call of a folder on as it is and counts what is read,
 //! and `Progress` is the line that tells it.
@@ -17,17 +17,18 @@ mod directory;
 mod fault;
 mod file;
 mod folder;
+mod held;
 mod location;
-mod opened;
 mod paths;
+mod ports;
 mod progress;
-mod standard;
+mod seen;
 mod unsynced;
 mod watched;
 
 pub use folder::Folder;
-pub use opened::{PathSink, PathSource};
-pub use paths::ClientPaths;
+pub use paths::{ClientPaths, ClientPort};
+pub use ports::{ClientFile, SystemPort};
 pub use progress::{EndsProgress, Progress};
-pub use standard::{ReaderSource, WriterSink};
+pub use seen::SeenFiles;
 pub use watched::Watched;

@@ -1,12 +1,12 @@
 // Where the folder is, and what its files are called: `base` for file 0, and `c1` to `c256` for the others. Here the system is asked
 // by name; nothing that isn't a folder or a regular file of one name is opened, since opening a pipe could wait for ever, and opening a
 // device could do anything.
-use crate::fault::{Call, Cause, Fault, Place};
-use crate::file::StoredFile;
+use crate::fault::{Call, Cause, Fault, Place, asked, if_there};
 use std::alloc::Global;
-use std::fs::{self, File, OpenOptions, symlink_metadata};
-use std::io::{self, ErrorKind};
+use std::fs::{self, File, Metadata, OpenOptions, symlink_metadata};
+use std::io;
 use std::os::fd::AsRawFd;
+use std::os::unix::fs::MetadataExt;
 
 // What is said if a failed sync can leave no mark.
 const NO_MARK: &str =
@@ -42,11 +42,9 @@ impl Location {
         self.rt.alloc()
     }
 
-    /// Says on standard error that a call failed. If that can't be said either, nothing more is done.
+    /// Says on standard error that a call failed.
     pub fn tell(&self, fault: Fault) {
-        let _said = self
-            .rt
-            .eprintln(format_args!("clfs: {}{}", self.path, fault));
+        fault.tell(&self.rt, &self.path);
     }
 
     /// Says on standard error that the name of the folder isn't synced, and why. That is no fault.
@@ -64,27 +62,30 @@ impl Location {
         if self.path.is_empty() {
             return Ok(None);
         }
-        match self.open_directory("/.") {
-            Ok(folder) => Ok(Some(folder)),
-            Err(error) if error.kind() == ErrorKind::NotFound => Ok(None),
-            Err(error) => Err(Fault::said(Place::Folder, Call::Open, error)),
-        }
+        if_there(asked(Place::Folder, Call::Open, self.open_directory("/.")))
     }
 
     /// Makes the folder. An error if something has its name.
     pub fn make_folder(&self) -> Result<(), Fault> {
-        match fs::create_dir(&self.rt, &self.path) {
-            Ok(()) => Ok(()),
-            Err(error) => Err(Fault::said(Place::Folder, Call::Make, error)),
-        }
+        asked(
+            Place::Folder,
+            Call::Make,
+            fs::create_dir(&self.rt, &self.path),
+        )
     }
 
-    /// Opens the folder that this one lies in.
-    pub fn open_parent(&self) -> Result<File, Fault> {
-        match self.open_directory("/..") {
-            Ok(parent) => Ok(parent),
-            Err(error) => Err(Fault::said(Place::Parent, Call::Open, error)),
+    /// Opens the folder that this one lies in. None if that is on another device: this one is the root of a file system then, and its name there
+    /// is none of that file system.
+    pub fn open_parent(&self, folder: &File) -> Result<Option<File>, Fault> {
+        asked(Place::Parent, Call::Open, self.try_open_parent(folder))
+    }
+
+    fn try_open_parent(&self, folder: &File) -> io::Result<Option<File>> {
+        let parent = fs::metadata(&self.rt, &self.path_of(Place::Parent)?)?;
+        if parent.dev() != folder.metadata()?.dev() {
+            return Ok(None);
         }
+        Ok(Some(self.open_directory("/..")?))
     }
 
     fn open_directory(&self, more: &str) -> io::Result<File> {
@@ -92,22 +93,19 @@ impl Location {
         above_streams(fs::open(&self.rt, &path)?)
     }
 
-    /// Opens a file of the folder. None if it isn't there.
-    pub fn open_file(&self, file: u16) -> Result<Option<StoredFile>, Fault> {
-        let place = Place::File(file);
-        if !self.has(place)? {
-            return Ok(None);
-        }
-        match self.open_regular(place) {
-            Ok(file) => Ok(Some(file)),
-            Err(cause) => Err(Fault::new(place, Call::Open, cause)),
-        }
+    /// The folder to which the path leads.
+    pub fn find_folder(&self) -> io::Result<Metadata> {
+        fs::metadata(&self.rt, &format!(in self.alloc(); "{}/.", self.path)?)
     }
 
-    // Opens a file that is there to read and write it.
-    fn open_regular(&self, place: Place) -> Result<StoredFile, Cause> {
-        let path = self.path_of(place)?;
-        let found = symlink_metadata(&self.rt, &path)?;
+    /// What has the name.
+    pub fn find(&self, place: Place) -> io::Result<Metadata> {
+        symlink_metadata(&self.rt, &self.path_of(place)?)
+    }
+
+    /// Opens a file that is there to read and write it.
+    pub fn open(&self, place: Place) -> Result<File, Cause> {
+        let found = self.find(place)?;
         if found.is_symlink() {
             return Err(Cause::SymbolicLink);
         }
@@ -117,68 +115,22 @@ impl Location {
         let opened = OpenOptions::new()
             .read(true)
             .write(true)
-            .open(&self.rt, &path)?;
-        StoredFile::new(place, above_streams(opened)?)
-    }
-
-    /// Makes a file of the folder. An error if something has its name.
-    pub fn make_file(&self, file: u16) -> Result<StoredFile, Fault> {
-        let place = Place::File(file);
-        let made = self.make(place)?;
-        match StoredFile::new(place, made) {
-            Ok(file) => Ok(file),
-            Err(cause) => Err(Fault::new(place, Call::Make, cause)),
-        }
-    }
-
-    /// Whether something has the name.
-    pub fn has(&self, place: Place) -> Result<bool, Fault> {
-        match self.look(place) {
-            Ok(()) => Ok(true),
-            Err(error) if error.kind() == ErrorKind::NotFound => Ok(false),
-            Err(error) => Err(Fault::said(place, Call::Look, error)),
-        }
-    }
-
-    fn look(&self, place: Place) -> io::Result<()> {
-        symlink_metadata(&self.rt, &self.path_of(place)?)?;
-        Ok(())
+            .open(&self.rt, &self.path_of(place)?)?;
+        Ok(above_streams(opened)?)
     }
 
     /// Makes an empty file. An error if something has its name.
-    pub fn make(&self, place: Place) -> Result<File, Fault> {
-        match self.create(place) {
-            Ok(file) => Ok(file),
-            Err(error) => Err(Fault::said(place, Call::Make, error)),
-        }
-    }
-
-    fn create(&self, place: Place) -> io::Result<File> {
+    pub fn make(&self, place: Place) -> io::Result<File> {
         above_streams(File::create_new(&self.rt, &self.path_of(place)?)?)
     }
 
-    /// Takes the name away if something has it.
-    pub fn remove(&self, place: Place) -> Result<(), Fault> {
-        match self.unlink(place) {
-            Ok(()) => Ok(()),
-            Err(error) if error.kind() == ErrorKind::NotFound => Ok(()),
-            Err(error) => Err(Fault::said(place, Call::Remove, error)),
-        }
-    }
-
-    fn unlink(&self, place: Place) -> io::Result<()> {
+    /// Takes the name away.
+    pub fn remove(&self, place: Place) -> io::Result<()> {
         fs::remove_file(&self.rt, &self.path_of(place)?)
     }
 
     /// Gives what has one name the other, and takes it away from whatever has that.
-    pub fn rename(&self, from: Place, to: Place) -> Result<(), Fault> {
-        match self.change_name(from, to) {
-            Ok(()) => Ok(()),
-            Err(error) => Err(Fault::said(to, Call::GiveName, error)),
-        }
-    }
-
-    fn change_name(&self, from: Place, to: Place) -> io::Result<()> {
+    pub fn rename(&self, from: Place, to: Place) -> io::Result<()> {
         fs::rename(&self.rt, &self.path_of(from)?, &self.path_of(to)?)
     }
 

@@ -3,16 +3,27 @@
 // standard error.
 use crate::fault::{Call, Cause};
 use crate::location::above_streams;
-use crate::opened::{PathSink, PathSource};
-use std::fs::{self, File, OpenOptions};
+use crate::ports::{ClientFile, SystemPort};
+use std::fs::{self, File, Metadata, OpenOptions};
+
+/// An error if a file has bytes: replies would stand among them.
+pub(crate) fn has_no_bytes(found: &Metadata) -> Result<(), Cause> {
+    if found.is_file() && found.len() > 0 {
+        return Err(Cause::HasBytes(found.len()));
+    }
+    Ok(())
+}
+
+/// What a client reads from or writes to.
+pub type ClientPort = SystemPort<ClientFile, HostRuntime>;
 
 /// A client's number and its two paths.
 #[derive(Drop)]
 pub struct ClientPaths {
     rt: HostRuntime,
-    client: u16,
-    input: String,
-    output: String,
+    pub(crate) client: u16,
+    pub(crate) input: String,
+    pub(crate) output: String,
 }
 
 impl ClientPaths {
@@ -27,7 +38,7 @@ impl ClientPaths {
     }
 
     /// Opens both, the input first. None if one of them can't be opened, and then the cause was said.
-    pub fn open(&self) -> Option<(PathSource, PathSink)> {
+    pub fn open(&self) -> Option<(ClientPort, ClientPort)> {
         let input = match self.open_input() {
             Ok(input) => input,
             Err(cause) => {
@@ -36,12 +47,16 @@ impl ClientPaths {
             }
         };
         match self.open_output() {
-            Ok(output) => Some((PathSource::new(input), PathSink::new(output))),
+            Ok(output) => Some((self.port(input), self.port(output))),
             Err(cause) => {
                 self.tell(&self.output, Call::Open, cause);
                 None
             }
         }
+    }
+
+    fn port(&self, file: File) -> ClientPort {
+        SystemPort::new(ClientFile { file: Some(file) }, self.rt)
     }
 
     // A folder can be opened as a file is, and so it is refused here, before the output is waited for.
@@ -53,26 +68,24 @@ impl ClientPaths {
         Ok(file)
     }
 
-    // The output has to be there: a file of this name that nobody reads is of no use to a client. One that has bytes loses them.
+    // The output has to be there: a file of this name that nobody reads is of no use to a client. One that has bytes keeps them, so it is refused, and
+    // replies are only ever written after what it has.
     fn open_output(&self) -> Result<File, Cause> {
         let opened = OpenOptions::new()
-            .write(true)
-            .truncate(true)
+            .append(true)
             .open(&self.rt, &self.output)?;
-        Ok(above_streams(opened)?)
+        let file = above_streams(opened)?;
+        has_no_bytes(&file.metadata()?)?;
+        Ok(file)
     }
 
-    /// Says that the input couldn't be read on.
-    pub fn tell_unread(&self, source: &PathSource) {
-        if let Some(error) = source.error() {
-            self.tell(&self.input, Call::Read, Cause::System(error));
+    /// Says that the input couldn't be read on, or the output couldn't be written on.
+    pub fn tell_failed(&self, source: &ClientPort, sink: &ClientPort) {
+        if let Some(error) = source.error {
+            self.tell(&self.input, Call::Read, error.into());
         }
-    }
-
-    /// Says that the output couldn't be written on.
-    pub fn tell_unwritten(&self, sink: &PathSink) {
-        if let Some(error) = sink.error() {
-            self.tell(&self.output, Call::Write, Cause::System(error));
+        if let Some(error) = sink.error {
+            self.tell(&self.output, Call::Write, error.into());
         }
     }
 
@@ -84,8 +97,8 @@ impl ClientPaths {
             .eprintln(format_args!("clfs: client {client}: {why}"));
     }
 
-    // Says what was asked of the system about a path, and why it wasn't done. If that can't be said either, nothing more is done.
-    fn tell(&self, path: &str, call: Call, cause: Cause) {
+    /// Says what was asked of the system about a path, and why it wasn't done. If that can't be said either, nothing more is done.
+    pub(crate) fn tell(&self, path: &str, call: Call, cause: Cause) {
         let client = self.client;
         let _said = self.rt.eprintln(format_args!(
             "clfs: client {client}: {path}: {call}: {cause}"

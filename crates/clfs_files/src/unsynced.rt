@@ -8,17 +8,29 @@
 // Nothing is written in place, since a crash may leave any bytes where a write goes. A crash between two copies leaves some files as they
 // are read and others as the medium has them. That is right, since they differ only by what was written between two syncs, of which a crash
 // may leave any part.
-use crate::fault::{Call, Cause, Fault, Place};
+use crate::fault::{Call, Cause, Fault, Place, asked, if_there};
 use crate::file::{PIECE, StoredFile, zeros};
+use crate::held::HeldFolder;
 use crate::location::Location;
 use std::fs::{File, Metadata};
 use std::io;
 use std::os::unix::fs::{FileExt, MetadataExt, fchown};
 
+// The most bytes that mean something in a base file, and in a container (docs/FORMAT.md).
+const BASE_BYTES: u64 = 1 << 15;
+
+const CONTAINER_BYTES: u64 = 1 << 23;
+
+/// Whether the mark is there.
+pub(crate) fn has_mark(location: &Location, folder: &HeldFolder) -> Result<bool, Fault> {
+    let found = asked(Place::Mark, Call::Look, folder.find_mark(location));
+    Ok(if_there(found)?.is_some())
+}
+
 /// Leaves the mark.
-pub(crate) fn leave_mark(location: &Location) -> Result<(), Fault> {
-    if !location.has(Place::Mark)? {
-        location.make(Place::Mark)?;
+pub(crate) fn leave_mark(location: &Location, folder: &HeldFolder) -> Result<(), Fault> {
+    if !has_mark(location, folder)? {
+        asked(Place::Mark, Call::Make, folder.make(location, Place::Mark))?;
     }
     Ok(())
 }
@@ -26,67 +38,65 @@ pub(crate) fn leave_mark(location: &Location) -> Result<(), Fault> {
 /// Replaces every file by a synced copy of itself, and takes the mark away. After an error each file reads as before, and the mark is there.
 pub(crate) fn renew(
     location: &Location,
-    folder: &File,
+    folder: &HeldFolder,
     files: &[Option<StoredFile>],
 ) -> Result<(), Fault> {
     for slot in files {
         if let Some(file) = slot {
-            renew_file(location, file)?;
+            renew_file(location, folder, file)?;
         }
     }
-    if let Err(error) = folder.sync_all() {
-        return Err(Fault::said(Place::Folder, Call::Sync, error));
-    }
-    location.remove(Place::Mark)
+    asked(Place::Folder, Call::Sync, folder.sync())?;
+    asked(
+        Place::Mark,
+        Call::Remove,
+        folder.remove(location, Place::Mark),
+    )
 }
 
 // Replaces one file by a synced copy. If that can't be done nothing is left of the copy.
-fn renew_file(location: &Location, file: &StoredFile) -> Result<(), Fault> {
+fn renew_file(location: &Location, folder: &HeldFolder, file: &StoredFile) -> Result<(), Fault> {
     // An opening that was cut short may have left one.
-    location.remove(Place::Copy)?;
-    let done = match location.make(Place::Copy) {
-        Ok(copy) => copy_file(location, file, &copy),
+    if_there(asked(
+        Place::Copy,
+        Call::Remove,
+        folder.remove(location, Place::Copy),
+    ))?;
+    let copy = asked(Place::Copy, Call::Make, folder.make(location, Place::Copy))?;
+    let place = file.place();
+    let done = match copy_file(location, file, &copy) {
+        Ok(()) => asked(place, Call::GiveName, folder.rename(location, &copy, place)),
         Err(fault) => Err(fault),
     };
-    let named = match done {
-        Ok(()) => location.rename(Place::Copy, file.place()),
-        Err(fault) => Err(fault),
-    };
-    if named.is_err() {
-        let _gone = location.remove(Place::Copy);
+    if done.is_err() {
+        let _gone = folder.remove(location, Place::Copy);
     }
-    named
+    done
 }
 
-// Fills a copy with what is read of the file, gives it the file's rights, and syncs it.
+// Gives a copy the file's rights, fills it with what is read of the file, as far as that means something in a log, and syncs it. The rights come first: nobody
+// else is to read what is copied.
 fn copy_file(location: &Location, file: &StoredFile, copy: &File) -> Result<(), Fault> {
-    let mut piece = match zeros(location.alloc(), file.len()) {
-        Ok(piece) => piece,
-        Err(error) => return Err(Fault::said(Place::Copy, Call::Make, error.into())),
+    asked(Place::Copy, Call::GiveRights, give_rights(file, copy))?;
+    let most = match file.place() {
+        Place::File(0) => BASE_BYTES,
+        _ => CONTAINER_BYTES,
     };
-    for at in (0..file.len()).step_by(PIECE) {
-        copy_piece(file, copy, at, &mut piece)?;
+    let len = file.len().min(most);
+    let mut piece = asked(Place::Copy, Call::Make, zeros(location.alloc(), len))?;
+    for at in (0..len).step_by(PIECE) {
+        let count = (len - at).min(piece.len() as u64) as usize;
+        copy_piece(file, copy, at, &mut piece[..count])?;
     }
-    if let Err(error) = give_rights(file, copy) {
-        return Err(Fault::said(Place::Copy, Call::GiveRights, error));
-    }
-    match copy.sync_all() {
-        Ok(()) => Ok(()),
-        Err(error) => Err(Fault::said(Place::Copy, Call::Sync, error)),
-    }
+    asked(Place::Copy, Call::Sync, copy.sync_all())
 }
 
-// Copies what the file has from `at` on, as far as the piece has room for it.
+// Copies what the file has from `at` on, as much as the piece has room for.
 fn copy_piece(file: &StoredFile, copy: &File, at: u64, piece: &mut [u8]) -> Result<(), Fault> {
-    let count = file.len().saturating_sub(at).min(piece.len() as u64);
-    let piece = &mut piece[..count as usize];
     if file.read(at, piece)? < piece.len() {
         return Err(Fault::new(file.place(), Call::Read, Cause::TooShort));
     }
-    match copy.write_all_at(piece, at) {
-        Ok(()) => Ok(()),
-        Err(error) => Err(Fault::said(Place::Copy, Call::Write, error)),
-    }
+    asked(Place::Copy, Call::Write, copy.write_all_at(piece, at))
 }
 
 // Whether two files may be used by the same users in the same ways, as far as their owners and modes say it.

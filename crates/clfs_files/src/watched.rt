@@ -82,6 +82,11 @@ impl<'a, R: Clock + Eprint + Drop> Watched<'a, R> {
         }
     }
 
+    /// The folder.
+    pub fn folder(&self) -> &Folder {
+        &self.folder
+    }
+
     // Notes when the first call comes.
     fn begin(&mut self)
         ensures { self.new.folder ≡ self.old.folder }

@@ -226,6 +226,7 @@ stepped_between s m t v call reply same more own z is own_is =
       begins = prefix_on s.seen m.seen z.before more z.begins;
       legal = let F : Opening → Type 0 = λ o. IsLegal o.tells_contents z.before o.state z.found in subst F same.opening z.legal;
       step = subst of_client same.client (subst of_opening same.opening z.step);
+      place = λ given told. rw (← same.client) (z.place given told);
       whole = let F : Opening → Type 0 = λ o. IsLegal o.tells_contents v.seen o.state z.left in
           let G : List Entry → Type 0 = λ es. IsLegal m.opening.tells_contents es m.opening.state z.left in
           subst F same.opening (subst G (sym is) z.whole);

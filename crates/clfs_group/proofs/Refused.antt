@@ -1,6 +1,6 @@
 -- Why the log refuses a group's flush.
-use Rattle.std.proofs.Common.{◌≡◌, ◌≢◌, ℕ, ◌+◌, Bool, true, false, refl, sym, ap, ap₂, subst, ◌∙◌, List, [], ◌∷◌, ◌++◌, length, append_assoc, arith}
-use Rattle.std.specs.Prelude.{nat_le, Option, Some, None, Contains, Result, Ok, Err, IfOk, IfErr, MatchResult}
+use Rattle.std.proofs.Common.{◌≡◌, ◌≢◌, ℕ, ◌+◌, Bool, true, false, refl, sym, ap, ap₂, subst, ◌∙◌, inl, inr, List, [], ◌∷◌, ◌++◌, length, append_assoc, arith}
+use Rattle.std.specs.Prelude.{◌⊎◌, nat_le, Option, Some, None, Contains, Result, Ok, Err, IfOk, IfErr, MatchResult}
 use Rattle.std.specs.List.{AllByRecursion}
 use Rattle.std.specs.Option.{option_map_or}
 use Rattle.std.proofs.lemmas.Bool.{eq-eqb, eqb-true, leb-true}
@@ -27,6 +27,7 @@ use Rattle.clfs_laws.specs.Needs.{area_number}
 use Rattle.clfs_laws.specs.Refused.{is_of_call}
 use Rattle.clfs_laws.specs.ReplyKinds.{is_reply_of}
 use Rattle.clfs_laws.specs.Rows.{NoneMakesOrEnds, makes_or_ends}
+use Rattle.clfs_turn.specs.Seats.{IsSameSeat}
 use Rattle.clfs_shared.specs.Journal.{entry_of, is_out_of_memory}
 use Rattle.clfs_shared.specs.Sessions.{SessionState, IsCalmReply, IsStepped, own_entries}
 use Rattle.clfs_group.specs.Answers.{StandsBehind, flush_reply, may_refuse_flush, placed_by, placed_lsns}
@@ -162,6 +163,19 @@ flush_finds is_first adds valid stays kind s t number lsn given begin step here 
     omega (arith, below, above)
 
 -- ---- the answer of `stable`
+
+-- what lacks for a call that takes no memory
+pub takes_none : {A : Type 0} → (false ≡ true) ⊎ A → A
+takes_none (inl takes) = absurd (cc takes)
+takes_none (inr lacks) = lacks
+
+-- what may lack for the group's own entries may lack for those of its client that a session has seen which met it after a call that made none
+pub lacks_for : (may_lack : List Entry → Type 0) (m t u w : SessionState) (client : ℕ) → IsSameSeat m t → t.seen ≡ m.seen → own_entries u ≡ own_entries t
+    → w.seen ≡ u.seen → u.client ≡ client → may_lack (own_entries m) → may_lack (mine w.seen client)
+lacks_for may_lack m t u w client same none own met is lacks =
+    let before : own_entries t ≡ own_entries m = ap₂ (λ (es : List Entry) (c : ℕ). mine es c) none same.client in
+    let after : own_entries u ≡ mine w.seen client = ap₂ (λ (es : List Entry) (c : ℕ). mine es c) (sym met) is in
+    subst may_lack (sym before ∙ sym own ∙ after) lacks
 
 -- so memory alone lacks over a disk that fails in no call
 only_memory : (lsn : ℕ) (given : Refusal) → may_refuse_flush lsn given ≡ true → IsCalmReply (replies.Refused given) → given ≢ refusals.RecordNonexistent lsn

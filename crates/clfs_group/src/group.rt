@@ -6,10 +6,12 @@ ghost use mathlib.Core.List.{IsPrefix};
 ghost use Rattle.clfs_model.specs.declared.call.Call.TheVariants as calls;
 ghost use Rattle.clfs_model.specs.declared.refusal.Refusal.TheVariants as refusals;
 ghost use Rattle.clfs_model.specs.declared.reply.Reply.TheVariants as replies;
+ghost use Rattle.clfs_model.specs.Journals.{mine};
 ghost use Rattle.clfs_turn.specs.Seats.{IsSameSeat};
+ghost use Rattle.clfs_shared.specs.Journal.{is_out_of_memory};
 ghost use Rattle.clfs_shared.specs.Reached.{is_calm};
 ghost use Rattle.clfs_shared.specs.Sessions.{IsCalmReply, IsOf, IsStepped, own_entries};
-ghost use Rattle.clfs_group.specs.Answers.{StandsBehind, may_refuse_flush, may_refuse_group, placed_lsns};
+ghost use Rattle.clfs_group.specs.Answers.{StandsBehind, flush_reply, may_refuse_flush, may_refuse_group, placed_lsns};
 ghost use Rattle.clfs_group.specs.Groups.{HasGroupEntries, IsStable, making};
 
 use crate::naming::GroupName;
@@ -78,6 +80,9 @@ impl<N: GroupName> Group<N> {
         ensures behind { IfErr result (λ given. given ≢ refusals.NoMemory
             → (area : ℕ) × StandsBehind session.old.seen N.session.client (calls.FlushTo area lsn) (replies.Refused given) session.new.seen) }
         ensures refused { IfErr result (λ given. may_refuse_flush lsn given ≡ true) }
+
+        // A flush takes no memory. So memory runs out only where the journal lacks room for an entry more of the group's client.
+        ensures wanted { is_out_of_memory (flush_reply result) ≡ true → J.may_lack (mine session.new.seen N.session.client) }
 
         // Over a disk that fails in no call of the log, memory alone can lack for an LSN that an entry placed which the caller had seen.
         ensures calm { is_calm session.old.opening ≡ true → session.old.opening.state.broken ≡ false → Contains (placed_lsns session.old.seen) lsn

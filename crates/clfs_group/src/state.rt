@@ -7,6 +7,7 @@ ghost use Rattle.clfs_lsn.specs.Lsn.{null_lsn};
 ghost use Rattle.clfs_model.specs.declared.call.Call.TheVariants as calls;
 ghost use Rattle.clfs_model.specs.declared.refusal.Refusal.TheVariants as refusals;
 ghost use Rattle.clfs_model.specs.declared.reply.Reply.TheVariants as replies;
+ghost use Rattle.clfs_model.specs.Journals.{mine};
 ghost use Rattle.clfs_turn.specs.Lists.{longer};
 ghost use Rattle.clfs_turn.specs.Seats.{IsSameSeat};
 ghost use Rattle.clfs_shared.specs.Journal.{is_out_of_memory};
@@ -135,6 +136,7 @@ impl<N: GroupName> GroupState<N> {
         ensures none { is_out_of_memory (flush_reply result) ≡ true → self.new.session.seen ≡ self.old.session.seen }
         ensures asked { is_out_of_memory (flush_reply result) ≡ false
             → IsStepped self.old.session self.new.session (calls.FlushTo self.old.area lsn) (flush_reply result) }
+        ensures wanted { is_out_of_memory (flush_reply result) ≡ true → J.may_lack (own_entries self.old.session) }
         ensures mark { MatchResult result (λ answer. self.new.mark ≡ answer) (λ _. self.new.mark ≡ self.old.mark) }
         ensures above { IfOk result (λ answer. lsn < answer) }
         ensures refused { IfErr result (λ given. may_refuse_flush lsn given ≡ true) }
@@ -186,6 +188,9 @@ impl<N: GroupName> GroupState<N> {
         ensures asked { self.old.mark ≤ lsn → is_out_of_memory (flush_reply result) ≡ false
             → IsStepped self.old.session self.new.session (calls.FlushTo self.old.area lsn) (flush_reply result) }
         ensures none { is_out_of_memory (flush_reply result) ≡ true → own_entries self.new.session ≡ own_entries self.old.session }
+
+        // A flush takes no memory. So memory runs out only where the journal lacks room for an entry more of the group's client.
+        ensures wanted { is_out_of_memory (flush_reply result) ≡ true → J.may_lack (mine session.new.seen N.session.client) }
 
         // A refusal other than for memory stands in the caller's entries, after all that the caller had seen. It comes for one of these causes.
         ensures behind { IfErr result (λ given. given ≢ refusals.NoMemory

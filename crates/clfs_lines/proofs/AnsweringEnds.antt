@@ -7,11 +7,12 @@ use Rattle.clfs_model.specs.Accepted.{Limits}
 use Rattle.clfs_lines.specs.Ends.{AppendsFront}
 use Rattle.clfs_lines.specs.Answering.{Answers, EndsAnswering, IsWholeAnswer, IsAnswerUpToFault, StopsShort, Writes, IsAnswerStatus, too_long_text}
 use Rattle.clfs_lines.specs.Stopped.{IsAnswerBeforeLimit}
+use Rattle.clfs_lines.specs.declared.incomplete.IncompleteLine.{IncompleteLine}
 use Rattle.clfs_lines.proofs.Written.{appends_more}
 
-module _ (limits : Limits) (Is : Answers) (InPart : Bool → Answers) (left left' written written' : Option (List ℕ)) (source source' sink sink' : ℕ) (later : source ≤ source') (sink_later : sink ≤ sink') where
+module _ (limits : Limits) (incomplete : IncompleteLine) (Is : Answers) (InPart : Bool → Answers) (left left' written written' : Option (List ℕ)) (source source' sink sink' : ℕ) (later : source ≤ source') (sink_later : sink ≤ sink') where
   -- all lines are answered
-  pub ends_done : Writes (IsWholeAnswer limits Is left left') written written' → EndsAnswering limits Is InPart 0 left left' written written' source source' sink sink'
+  pub ends_done : Writes (IsWholeAnswer limits incomplete Is left left') written written' → EndsAnswering limits incomplete Is InPart 0 left left' written written' source source' sink sink'
   ends_done done = record {
     statuses = inl refl;
     done = λ e. done;
@@ -27,7 +28,7 @@ module _ (limits : Limits) (Is : Answers) (InPart : Bool → Answers) (left left
 
   -- the source failed
   pub ends_at_source : Rises source source' → Writes (IsAnswerUpToFault limits Is left left') written written'
-      → EndsAnswering limits Is InPart 2 left left' written written' source source' sink sink'
+      → EndsAnswering limits incomplete Is InPart 2 left left' written written' source source' sink sink'
   ends_at_source cause answered = record {
     statuses = inr (inl refl);
     done = λ e. absurd (omega (arith, e));
@@ -42,7 +43,7 @@ module _ (limits : Limits) (Is : Answers) (InPart : Bool → Answers) (left left
   }
 
   -- the sink failed in the reply to a line
-  pub ends_at_sink : Rises sink sink' → StopsShort limits (InPart true) left left' written written' → EndsAnswering limits Is InPart 3 left left' written written' source source' sink sink'
+  pub ends_at_sink : Rises sink sink' → StopsShort limits incomplete (InPart true) left left' written written' → EndsAnswering limits incomplete Is InPart 3 left left' written written' source source' sink sink'
   ends_at_sink cause stops = record {
     statuses = inr (inr (inl refl));
     done = λ e. absurd (omega (arith, e));
@@ -57,7 +58,7 @@ module _ (limits : Limits) (Is : Answers) (InPart : Bool → Answers) (left left
   }
 
   -- memory ran out
-  pub ends_without_memory : StopsShort limits (InPart false) left left' written written' → EndsAnswering limits Is InPart 5 left left' written written' source source' sink sink'
+  pub ends_without_memory : StopsShort limits incomplete (InPart false) left left' written written' → EndsAnswering limits incomplete Is InPart 5 left left' written written' source source' sink sink'
   ends_without_memory stops = record {
     statuses = inr (inr (inr (inl refl)));
     done = λ e. absurd (omega (arith, e));
@@ -72,10 +73,10 @@ module _ (limits : Limits) (Is : Answers) (InPart : Bool → Answers) (left left
   }
 
 -- a limit is passed, and the line that says so was written, or the sink failed in it
-module _ (limits : Limits) (Is : Answers) (InPart : Bool → Answers) (left left' written between written' : Option (List ℕ)) (source source' sink mid sink' : ℕ) (later : source ≤ source') (sink_later : sink ≤ mid) where
+module _ (limits : Limits) (incomplete : IncompleteLine) (Is : Answers) (InPart : Bool → Answers) (left left' written between written' : Option (List ℕ)) (source source' sink mid sink' : ℕ) (later : source ≤ source') (sink_later : sink ≤ mid) where
   pub ends_at_limit : (result : ℕ) → Writes (IsAnswerBeforeLimit limits Is left left') written between → (result ≡ 7) ⊎ (result ≡ 3)
       → (result ≡ 7 → Appends between written' too_long_text) → (result ≡ 3 → AppendsFront between written' too_long_text) → (result ≡ 3 → Rises mid sink') → mid ≤ sink'
-      → EndsAnswering limits Is InPart result left left' written written' source source' sink sink'
+      → EndsAnswering limits incomplete Is InPart result left left' written written' source source' sink sink'
   ends_at_limit result before ends whole front cause rest_later = record {
     statuses = statuses ends;
     done = λ e. absurd (other ends 0 e (λ f. omega (arith, f)) (λ f. omega (arith, f)));

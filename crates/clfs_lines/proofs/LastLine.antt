@@ -10,8 +10,10 @@ use Rattle.clfs_lines.specs.Ends.{AppendsFront}
 use Rattle.clfs_lines.specs.Feeds.{with_feeds}
 use Rattle.clfs_lines.specs.Reached.{HasAnsweredEnded}
 use Rattle.clfs_lines.specs.Answering.{StopsShort, IsWholeAnswer, Writes}
-use Rattle.clfs_lines.specs.Taken.{script_limits, IsWholeScript}
-use Rattle.clfs_lines.proofs.ScriptLines.{known_are_front, script_ended, script_cut, short_is_within, all_short_more}
+use Rattle.clfs_lines.specs.Taken.{lines_in, script_limits, IsWholeScript}
+use Rattle.clfs_lines.specs.declared.incomplete.IncompleteLine.{IncompleteLine}
+use Rattle.clfs_lines.specs.declared.incomplete.IncompleteLine.TheVariants.{Counts, Dropped}
+use Rattle.clfs_lines.proofs.ScriptLines.{known_are_front, script_ended, script_cut, ended_are, short_is_within, all_short_more}
 use Rattle.clfs_lines.proofs.Through.{through_more, all_written, front_written}
 use Rattle.clfs_lines.proofs.Written.{appends_more}
 
@@ -25,6 +27,11 @@ some_bytes [] count test many is fails =
     let tested : (count == 0) ≡ true = ap (λ (n : ℕ). n == 0) (sym many) in
     absurd (let never : true ≡ false = sym tested ∙ sym is ∙ fails in cc never)
 some_bytes (b ∷ bytes) count test many is fails = omega arith
+
+-- what isn't dropped counts
+pub counts : (incomplete : IncompleteLine) → (incomplete ≡ Dropped → ⊥) → incomplete ≡ Counts
+counts Counts other = refl
+counts Dropped other = absurd (other refl)
 
 module _ (most : ℕ) (A : Type 0) (answers : Answered A) (a : A) (left left_after written : Option (List ℕ)) where
   -- all lines of a script, the last one too
@@ -42,8 +49,23 @@ module _ (most : ℕ) (A : Type 0) (answers : Answered A) (a : A) (left left_aft
   }
 
   -- the script ends with a line feed
+  none_is_whole : (b : A) (w : Option (List ℕ)) (ended : HasAnsweredEnded answers most a left left_after written [] b w)
+      → IsWholeScript (script_limits most) left left_after ended.script
+  none_is_whole b w ended =
+      let so_far = ended.so_far in record {
+        given = ended.given;
+        end = ended.end;
+        within = short_is_within most ended.script so_far.lines ended.few (script_ended ended.script so_far.lines so_far.whole so_far.split) so_far.short;
+      }
+
+  rest_is_whole : (line : List ℕ) (b : A) (w : Option (List ℕ)) (ended : HasAnsweredEnded answers most a left left_after written line b w)
+      → IsWholeScript (script_limits most) left left_after ended.script
+  rest_is_whole [] b w ended = none_is_whole b w ended
+  rest_is_whole (byte ∷ line) b w ended = is_whole (byte ∷ line) b w ended (omega arith)
+
+  -- no line is left
   pub none_left : (line : List ℕ) (b : A) (w : Option (List ℕ)) → HasAnsweredEnded answers most a left left_after written line b w → line ≡ []
-      → Writes (IsWholeAnswer (script_limits most) (AnswersThrough answers a b) left left_after) written w
+      → Writes (IsWholeAnswer (script_limits most) Counts (AnswersThrough answers a b) left left_after) written w
   none_left line b w ended none =
       let so_far = ended.so_far in
       let all : lines_of ended.script ≡ so_far.lines =
@@ -51,7 +73,22 @@ module _ (most : ℕ) (A : Type 0) (answers : Answered A) (a : A) (left left_aft
         so_far.text,
         record {
           script = ended.script;
-          read = record { given = ended.given; end = ended.end; within = short_is_within most ended.script so_far.lines ended.few all so_far.short };
+          read = rest_is_whole line b w ended;
+          answered = subst (λ (lines : List (List ℕ)). AnswersThrough answers a b lines so_far.text) (sym all) so_far.answered;
+        },
+        so_far.replies,
+      )
+
+  -- what is left is dropped
+  pub rest_dropped : (line : List ℕ) (b : A) (w : Option (List ℕ)) → HasAnsweredEnded answers most a left left_after written line b w
+      → Writes (IsWholeAnswer (script_limits most) Dropped (AnswersThrough answers a b) left left_after) written w
+  rest_dropped line b w ended =
+      let so_far = ended.so_far in
+      let all : lines_in Dropped ended.script ≡ so_far.lines = ended_are ended.script so_far.lines line so_far.whole so_far.split ended.one in (
+        so_far.text,
+        record {
+          script = ended.script;
+          read = rest_is_whole line b w ended;
           answered = subst (λ (lines : List (List ℕ)). AnswersThrough answers a b lines so_far.text) (sym all) so_far.answered;
         },
         so_far.replies,
@@ -60,7 +97,7 @@ module _ (most : ℕ) (A : Type 0) (answers : Answered A) (a : A) (left left_aft
   -- the last line was answered
   pub last_answered : (line : List ℕ) (mid : A) (before text : List ℕ) (b : A) (w1 w2 : Option (List ℕ))
       → HasAnsweredEnded answers most a left left_after written line mid w1 → 0 < length line → AnswersLine answers mid line before text b → before ≡ []
-      → Appends w1 w2 text → Writes (IsWholeAnswer (script_limits most) (AnswersThrough answers a b) left left_after) written w2
+      → Appends w1 w2 text → Writes (IsWholeAnswer (script_limits most) Counts (AnswersThrough answers a b) left left_after) written w2
   last_answered line mid before text b w1 w2 ended some step none wrote =
       let so_far = ended.so_far in
       let reply : List ℕ = step.0 in
@@ -77,7 +114,7 @@ module _ (most : ℕ) (A : Type 0) (answers : Answered A) (a : A) (left left_aft
 
   -- memory ran out before it
   pub last_unanswered : (line : List ℕ) (b : A) (w : Option (List ℕ)) → HasAnsweredEnded answers most a left left_after written line b w
-      → StopsShort (script_limits most) (AnswersInPart answers a b false) left left_after written w
+      → StopsShort (script_limits most) Counts (AnswersInPart answers a b false) left left_after written w
   last_unanswered line b w ended =
       let so_far = ended.so_far in (
         so_far.lines,
@@ -94,7 +131,7 @@ module _ (most : ℕ) (A : Type 0) (answers : Answered A) (a : A) (left left_aft
   -- memory ran out after the answer to it
   pub last_unwritten : (line : List ℕ) (mid : A) (b : A) (w : Option (List ℕ))
       → HasAnsweredEnded answers most a left left_after written line mid w → 0 < length line → AnswersUnwritten answers mid line b
-      → StopsShort (script_limits most) (AnswersInPart answers a b false) left left_after written w
+      → StopsShort (script_limits most) Counts (AnswersInPart answers a b false) left left_after written w
   last_unwritten line mid b w ended some step =
       let so_far = ended.so_far in (
         so_far.lines ++ line ∷ [],
@@ -116,7 +153,7 @@ module _ (most : ℕ) (A : Type 0) (answers : Answered A) (a : A) (left left_aft
   -- the sink failed in the reply to it
   pub last_cut : (line : List ℕ) (mid : A) (before text : List ℕ) (b : A) (w1 w2 : Option (List ℕ))
       → HasAnsweredEnded answers most a left left_after written line mid w1 → 0 < length line → AnswersLine answers mid line before text b → before ≡ []
-      → AppendsFront w1 w2 text → StopsShort (script_limits most) (AnswersInPart answers a b true) left left_after written w2
+      → AppendsFront w1 w2 text → StopsShort (script_limits most) Counts (AnswersInPart answers a b true) left left_after written w2
   last_cut line mid before text b w1 w2 ended some step none wrote =
       let so_far = ended.so_far in
       let reply : List ℕ = step.0 in

@@ -16,6 +16,7 @@ use Rattle.clfs_lines.specs.Reached.{HasAnswered, HasAnsweredEnded}
 use Rattle.clfs_lines.specs.Answering.{StopsShort, IsAnswerUpToFault, Writes}
 use Rattle.clfs_lines.specs.Stopped.{IsAnswerBeforeLimit, StopsLine}
 use Rattle.clfs_lines.specs.Taken.{script_limits, IsFrontOf}
+use Rattle.clfs_lines.specs.declared.incomplete.IncompleteLine.{IncompleteLine}
 use Rattle.clfs_lines.specs.declared.stop.Stop.{Stop}
 use Rattle.clfs_lines.specs.declared.stop.Stop.TheVariants.{SourceFault, SinkFault, NoMemory, TooLong}
 use Rattle.clfs_lines.proofs.ScriptLines.{known_are_front, known_are_all, known_are_before_long, past_is, long_is_past, all_short_more, with_feeds_more}
@@ -219,9 +220,9 @@ module _ (most : ℕ) (A : Type 0) (answers : Answered A) (a : A) (left written 
       past so_far (inr few) = long_is_past most reading.bytes so_far.lines line more so_far.whole so_far.short (so_far.split ∙ take_all most reading.bytes few) few one long
 
   -- memory ran out before the next line
-  pub memory_stops : (left_now : Option (List ℕ)) (rest : List ℕ) (given : ℕ) (b : A) (w : Option (List ℕ))
-      → IsReading answers most a left left_now written rest given b w → StopsShort (script_limits most) (AnswersInPart answers a b false) left left_now written w
-  memory_stops left_now rest given b w reading =
+  pub memory_stops : (incomplete : IncompleteLine) (left_now : Option (List ℕ)) (rest : List ℕ) (given : ℕ) (b : A) (w : Option (List ℕ))
+      → IsReading answers most a left left_now written rest given b w → StopsShort (script_limits most) incomplete (AnswersInPart answers a b false) left left_now written w
+  memory_stops incomplete left_now rest given b w reading =
       let so_far = reading.so_far in (
         so_far.lines,
         (
@@ -243,10 +244,10 @@ module _ (most : ℕ) (A : Type 0) (answers : Answered A) (a : A) (left written 
       (with_feeds_more so_far.lines line after ∙ so_far.split)
 
   -- memory ran out after the answer to it
-  pub unwritten_stops : (left_now : Option (List ℕ)) (line after : List ℕ) (given : ℕ) (mid : A) (b : A) (w : Option (List ℕ))
+  pub unwritten_stops : (incomplete : IncompleteLine) (left_now : Option (List ℕ)) (line after : List ℕ) (given : ℕ) (mid : A) (b : A) (w : Option (List ℕ))
       → IsReading answers most a left left_now written (line ++ 10 ∷ after) given mid w → HasNoFeed line → length line ≤ serve_limits.line
-      → AnswersUnwritten answers mid line b → StopsShort (script_limits most) (AnswersInPart answers a b false) left left_now written w
-  unwritten_stops left_now line after given mid b w reading one few step =
+      → AnswersUnwritten answers mid line b → StopsShort (script_limits most) incomplete (AnswersInPart answers a b false) left left_now written w
+  unwritten_stops incomplete left_now line after given mid b w reading one few step =
       let so_far = reading.so_far in (
         so_far.lines ++ line ∷ [],
         (
@@ -265,10 +266,10 @@ module _ (most : ℕ) (A : Type 0) (answers : Answered A) (a : A) (left written 
       )
 
   -- the sink failed in the reply to it
-  pub sink_stops : (left_now : Option (List ℕ)) (line after : List ℕ) (given : ℕ) (mid : A) (before text : List ℕ) (b : A)
+  pub sink_stops : (incomplete : IncompleteLine) (left_now : Option (List ℕ)) (line after : List ℕ) (given : ℕ) (mid : A) (before text : List ℕ) (b : A)
       (w1 w2 : Option (List ℕ)) → IsReading answers most a left left_now written (line ++ 10 ∷ after) given mid w1 → HasNoFeed line → length line ≤ serve_limits.line
-      → AnswersLine answers mid line before text b → before ≡ [] → AppendsFront w1 w2 text → StopsShort (script_limits most) (AnswersInPart answers a b true) left left_now written w2
-  sink_stops left_now line after given mid before text b w1 w2 reading one few step none wrote =
+      → AnswersLine answers mid line before text b → before ≡ [] → AppendsFront w1 w2 text → StopsShort (script_limits most) incomplete (AnswersInPart answers a b true) left left_now written w2
+  sink_stops incomplete left_now line after given mid before text b w1 w2 reading one few step none wrote =
       let so_far = reading.so_far in
       let reply : List ℕ = step.0 in
       let is : text ≡ reply = step.1.1 ∙ ap (λ (out : List ℕ). out ++ reply) none in (

@@ -216,6 +216,14 @@ long_is_past most bytes lines line rest none short split small one long =
 pub script_ended : (bytes : List ℕ) (lines : List (List ℕ)) → All HasNoFeed lines → with_feeds lines ++ [] ≡ bytes → lines_of bytes ≡ lines
 script_ended bytes lines none split = lines_behind bytes lines [] none split ∙ append-nil lines
 
+-- those that have their line feed
+pub ended_are : (bytes : List ℕ) (lines : List (List ℕ)) (rest : List ℕ) → All HasNoFeed lines → with_feeds lines ++ rest ≡ bytes → HasNoFeed rest
+    → ended_lines bytes ≡ lines
+ended_are bytes lines rest none split one =
+    ap (λ (b : List ℕ). ended_lines b) (sym split) ∙ ap (λ (parts : List (List ℕ)). without_last parts) (parts_behind lines rest none)
+    ∙ ended_behind lines (slice_split is_feed rest) (some_part rest)
+    ∙ ap (λ (parts : List (List ℕ)). lines ++ without_last parts) (slice_split_none is_feed rest one) ∙ append-nil lines
+
 -- all but the last, which has no line feed
 pub script_cut : (bytes : List ℕ) (lines : List (List ℕ)) (line : List ℕ) → All HasNoFeed lines → with_feeds lines ++ line ≡ bytes → HasNoFeed line → 0 < length line
     → lines_of bytes ≡ lines ++ line ∷ []

@@ -5,9 +5,11 @@ ghost use Rattle.clfs_lines.specs.Reached.{HasAnsweredEnded};
 ghost use Rattle.clfs_lines.specs.Answering.{IsWholeAnswer, Writes};
 ghost use Rattle.clfs_lines.specs.Stopped.{HasStopped};
 ghost use Rattle.clfs_lines.specs.Taken.{script_limits};
+ghost use Rattle.clfs_lines.specs.declared.incomplete.IncompleteLine.{IncompleteLine};
 ghost use Rattle.clfs_lines.specs.Through.{AnswersThrough, AnswersInPart};
 
 use crate::answering::{Answering, answer_joined, carry};
+use crate::incomplete::IncompleteLine;
 use crate::input::Piece;
 use crate::output::write_all;
 use crate::stop::Stop;
@@ -37,7 +39,7 @@ fn answer_ended_lines<A: Answering, S: Source, K: Sink>(
     requires { carried.old.items ≡ [] }
     ensures ended { OnOk result (HasAnsweredEnded A.answers most answering.old (S.left source.old) (S.left source.new) (K.written sink.old)
         carried.new.items answering.new (K.written sink.new)) }
-    ensures stopped { IfErr result (λ stop. HasStopped (script_limits most) (AnswersThrough A.answers answering.old answering.new)
+    ensures stopped { IfErr result (λ stop. (incomplete : IncompleteLine) → HasStopped (script_limits most) incomplete (AnswersThrough A.answers answering.old answering.new)
         (AnswersInPart A.answers answering.old answering.new) stop
         (S.left source.old) (S.left source.new) (K.written sink.old) (K.written sink.new)
         (S.faults source.old) (S.faults source.new) (K.faults sink.old) (K.faults sink.new)) }
@@ -82,12 +84,13 @@ pub fn answer_script<A: Answering, S: Source, K: Sink>(
     alloc: Global,
     answering: &mut A,
     most: u64,
+    incomplete: IncompleteLine,
     source: &mut S,
     sink: &mut K,
 ) -> Result<(), Stop>
-    ensures done { OnOk result (Writes (IsWholeAnswer (script_limits most) (AnswersThrough A.answers answering.old answering.new)
+    ensures done { OnOk result (Writes (IsWholeAnswer (script_limits most) incomplete (AnswersThrough A.answers answering.old answering.new)
         (S.left source.old) (S.left source.new)) (K.written sink.old) (K.written sink.new)) }
-    ensures stopped { IfErr result (λ stop. HasStopped (script_limits most) (AnswersThrough A.answers answering.old answering.new)
+    ensures stopped { IfErr result (λ stop. HasStopped (script_limits most) incomplete (AnswersThrough A.answers answering.old answering.new)
         (AnswersInPart A.answers answering.old answering.new) stop
         (S.left source.old) (S.left source.new) (K.written sink.old) (K.written sink.new)
         (S.faults source.old) (S.faults source.new) (K.faults sink.old) (K.faults sink.new)) }
@@ -96,6 +99,9 @@ pub fn answer_script<A: Answering, S: Source, K: Sink>(
 {
     let mut line = Vec::new(alloc);
     answer_ended_lines(alloc, answering, most, source, sink, &mut line)?;
+    if let IncompleteLine::Dropped = incomplete {
+        return Ok(());
+    }
     if line.is_empty() {
         return Ok(());
     }

@@ -5,8 +5,8 @@ use crate::runs::{
 };
 use clfs_disk::{Memory, Steady};
 use clfs_engine::{
-    DONE, EXISTS, INPUT_TOO_LONG, NOT_A_LOG, Outcome, SINK_FAULT, SOURCE_FAULT, USAGE, serve,
-    serve_within,
+    DONE, EXISTS, INPUT_TOO_LONG, IncompleteLine, NOT_A_LOG, Outcome, SINK_FAULT, SOURCE_FAULT,
+    USAGE, serve, serve_within,
 };
 use clfs_ports::{Failed, Sink, Source};
 use std::alloc::{AllocError, Global};
@@ -281,7 +281,16 @@ fn serve_on(
     let mut sink = sink_of(alloc, (99, NEVER))?;
     let disk = formatted(rt, alloc, SMALL)?;
     let Outcome { status, disk } = match most {
-        Some(most) => serve_within(alloc, 4, 1, most, &mut source, &mut sink, disk),
+        Some(most) => serve_within(
+            alloc,
+            4,
+            1,
+            most,
+            IncompleteLine::Counts,
+            &mut source,
+            &mut sink,
+            disk,
+        ),
         None => serve(alloc, 4, &mut source, &mut sink, disk),
     };
     Ok(came(status, sink, disk))
@@ -316,14 +325,14 @@ fn a_line_at_its_limit_and_above(rt: HostRuntime) -> Result<(), AllocError> {
     Ok(())
 }
 
-// 512 lines of 131,072 bytes each, and so many bytes more.
-fn long_script(alloc: Global, more: usize) -> Result<Vec<u8>, AllocError> {
-    let mut script = Vec::with_capacity(alloc, 67108865)?;
+// 512 lines of 131,072 bytes each, and these bytes after them.
+fn long_script(alloc: Global, more: &[u8]) -> Result<Vec<u8>, AllocError> {
+    let mut script = Vec::with_capacity(alloc, 67108864 + more.len())?;
     for _ in 0..512 {
         push_run(&mut script, 131071)?;
         script.push(b'\n')?;
     }
-    push_run(&mut script, more)?;
+    script.extend_from_slice(more)?;
     Ok(script)
 }
 
@@ -331,7 +340,7 @@ fn serve_long_script(
     rt: &(impl Abort + Threads + Wait + Sync),
     alloc: Global,
     texts: &[&str],
-    more: usize,
+    more: &[u8],
 ) -> Result<Ran<Memory>, AllocError> {
     let script = long_script(alloc, more)?;
     let given = given(alloc, texts, &script, (65536, NEVER), (4096, NEVER))?;
@@ -339,10 +348,10 @@ fn serve_long_script(
 }
 
 // The words, the bytes after the lines, the status, and how many bytes are written. Such a script is at its limit, unless it is endless.
-const LONG_SCRIPTS: [(&[&str], usize, u8, usize); 3] = [
-    (&["serve"], 0, DONE, 512 * 23),
-    (&["serve"], 1, INPUT_TOO_LONG, 512 * 23 + 15),
-    (&["serve", "--endless"], 1, DONE, 513 * 23),
+const LONG_SCRIPTS: [(&[&str], &[u8], u8, usize); 3] = [
+    (&["serve"], b"", DONE, 512 * 23),
+    (&["serve"], b"x", INPUT_TOO_LONG, 512 * 23 + 15),
+    (&["serve", "--endless"], b"x\n", DONE, 513 * 23),
 ];
 
 #[test]
@@ -350,6 +359,34 @@ fn a_script_at_its_limit_and_above(rt: HostRuntime) -> Result<(), AllocError> {
     for (texts, more, want, written) in LONG_SCRIPTS {
         let ran = serve_long_script(&rt, rt.alloc(), texts, more)?;
         assert!(rt; ran.status == want && ran.written().len() == written);
+    }
+    Ok(())
+}
+
+// The words, the bytes after a first line that have no line feed, the status, and what is written after its reply.
+const INCOMPLETE_LINES: [(&[&str], &[u8], u8, &[u8]); 6] = [
+    (&["serve"], b"1 size 2", DONE, b"1 containers 2\n"),
+    (&["serve", "--endless"], b"1 size 2", DONE, b""),
+    (
+        &["serve", "--endless"],
+        b"1 size 25\n1 size 2",
+        DONE,
+        b"1 containers 25\n",
+    ),
+    (&["serve", "--endless"], b"no line", DONE, b""),
+    (&["serve", "--endless"], b"\r", DONE, b""),
+    (&["serve", "--endless"], b"", DONE, b""),
+];
+
+// Bytes after the last line feed count as a line, but they are dropped of an endless script.
+#[test]
+fn an_incomplete_line(rt: HostRuntime) -> Result<(), AllocError> {
+    for (texts, rest, want, written) in INCOMPLETE_LINES {
+        let script = joined(rt.alloc(), b"1 open a\n", rest)?;
+        let given = given(rt.alloc(), texts, &script, (5, NEVER), (99, NEVER))?;
+        let ran = run_on(&rt, rt.alloc(), given, formatted(&rt, rt.alloc(), SMALL)?);
+        let behind = ran.written().strip_prefix(b"1 stream 1\n");
+        assert!(rt; ran.status == want && behind == Some(written));
     }
     Ok(())
 }

@@ -1,11 +1,12 @@
 // The program's `share`, by its words: clients over sources and sinks in memory. A path of lines has the lines themselves as its text, and a path of replies
-// says when the sink fails.
+// says when the sink fails. A path of lines that begins with `shut`
+// can't be opened.
 ghost use Rattle.std.specs.Prelude.{◌≡◌};
 
 use crate::runs::{NEVER, SMALL, formatted, sink_of, source_of, words};
 use clfs_command::PathPair;
 use clfs_disk::Memory;
-use clfs_engine::{DONE, NOT_A_LOG, PathOpeners, ShareOutcome, USAGE, run_share};
+use clfs_engine::{DONE, NONE_SERVED, NOT_A_LOG, PathOpeners, ShareOutcome, USAGE, run_share};
 use clfs_ports::{MemorySink, MemorySource};
 use clfs_share::{ClientEnd, EndedClient, OpenedPorts};
 use std::alloc::{AllocError, Global};
@@ -18,14 +19,15 @@ struct InMemory {
     alloc: Global,
 }
 
-impl PathOpeners<OpenedPorts<MemorySource, MemorySink>> for InMemory {
+type Ports = OpenedPorts<MemorySource, MemorySink>;
+
+impl PathOpeners<Ports> for InMemory {
     ghost makes = { λ _ _ _ _. Unit {0} };
 
-    fn openers(
-        &self,
-        _client: u16,
-        paths: &PathPair,
-    ) -> Result<OpenedPorts<MemorySource, MemorySink>, AllocError> {
+    fn openers(&self, _client: u16, paths: &PathPair) -> Result<Ports, AllocError> {
+        if paths.input.as_str().starts_with("shut") {
+            return Ok(OpenedPorts { ports: None });
+        }
         let second = if paths.output.as_str() == "torn" {
             2
         } else {
@@ -42,7 +44,7 @@ impl PathOpeners<OpenedPorts<MemorySource, MemorySink>> for InMemory {
 // How a run ended, and what it wrote.
 #[derive(Drop)]
 struct SharedRun {
-    outcome: ShareOutcome<Memory, MemorySource, MemorySink>,
+    outcome: ShareOutcome<Memory, Ports, MemorySource, MemorySink>,
     sink: MemorySink,
 }
 
@@ -60,7 +62,11 @@ fn shared(
 }
 
 // Whether a client saw these replies, and ended with this status.
-fn is_as(client: &EndedClient<MemorySource, MemorySink>, replies: &[u8], status: u8) -> bool {
+fn is_as(
+    client: &EndedClient<Ports, MemorySource, MemorySink>,
+    replies: &[u8],
+    status: u8,
+) -> bool {
     match &client.ports {
         Some((_, sink)) => sink.bytes() == replies && client.end == ClientEnd::Served { status },
         None => false,
@@ -87,14 +93,15 @@ fn is_none(run: &SharedRun, status: u8, written: &[u8]) -> bool {
     outcome.clients.is_empty() && outcome.status == status && sink.bytes() == written
 }
 
+// What stands after the last line feed isn't answered.
 #[test]
 fn two_clients_by_their_paths(rt: HostRuntime) -> Result<(), AllocError> {
     let disk = formatted(&rt, rt.alloc(), SMALL)?;
     let texts = [
         "share",
-        "1 open a\n1 info 1\n1 x",
+        "1 open a\n1 info 1\n1 x\n1 info 1",
         "whole",
-        "2 open a\n1 open a",
+        "2 open a\n1 open a\n2",
         "other",
     ];
     let run = shared(&rt, rt.alloc(), &texts, disk)?;
@@ -118,6 +125,37 @@ fn a_client_whose_sink_fails(rt: HostRuntime) -> Result<(), AllocError> {
     ];
     let run = shared(&rt, rt.alloc(), &texts, disk)?;
     assert!(rt; are_as(&run, (b"1 st", 3), (b"2 stream 1\n", 0)));
+    Ok(())
+}
+
+// Whether a client couldn't be opened.
+fn is_shut(client: &EndedClient<Ports, MemorySource, MemorySink>) -> bool {
+    client.end == ClientEnd::NotOpened && client.ports.is_none()
+}
+
+#[test]
+fn clients_that_cant_be_opened(rt: HostRuntime) -> Result<(), AllocError> {
+    let disk = formatted(&rt, rt.alloc(), SMALL)?;
+    let run = shared(&rt, rt.alloc(), &["share", "shut", "a", "shut too", "b"], disk)?;
+    assert!(rt; run.outcome.status == NONE_SERVED && run.sink.bytes().is_empty());
+    let are = match run.outcome.clients.as_slice() {
+        [a, b] => is_shut(a) && is_shut(b),
+        _ => false,
+    };
+    assert!(rt; are);
+    Ok(())
+}
+
+#[test]
+fn one_of_two_that_can_be_opened(rt: HostRuntime) -> Result<(), AllocError> {
+    let disk = formatted(&rt, rt.alloc(), SMALL)?;
+    let run = shared(&rt, rt.alloc(), &["share", "shut", "a", "", "b"], disk)?;
+    assert!(rt; run.outcome.status == DONE && run.sink.bytes().is_empty());
+    let are = match run.outcome.clients.as_slice() {
+        [a, b] => is_shut(a) && is_as(b, b"", 0),
+        _ => false,
+    };
+    assert!(rt; are);
     Ok(())
 }
 

@@ -1,5 +1,5 @@
 -- Calls of a manager that write base copies, by what a crash leaves while they are under way.
-use Rattle.std.proofs.Common.{◌≡◌, ℕ, false, refl, ap, subst, ◌∙◌, List, [], ◌∷◌}
+use Rattle.std.proofs.Common.{◌≡◌, ℕ, false, refl, sym, ap, subst, ◌∙◌, List, [], ◌∷◌}
 use Rattle.std.specs.Option.{option_map_or}
 use Rattle.std.specs.Prelude.{All, Option, Some, None}
 use Rattle.std.proofs.lemmas.List.Elements.{All-head, All-tail}
@@ -14,7 +14,7 @@ use Rattle.clfs_model.specs.declared.state.State.{State}
 use Rattle.clfs_model.specs.Answers.{advanced, answer}
 use Rattle.clfs_model.specs.Flush.{cut, flush}
 use Rattle.clfs_model.specs.Refusals.{invalid_base, refusal}
-use Rattle.clfs_model.specs.Run.{Request, asks}
+use Rattle.clfs_model.specs.Run.{Request, asks, bad_line}
 use Rattle.clfs_model.specs.Space.{grown, own_sum}
 use Rattle.clfs_model.specs.State.{area_of}
 use Rattle.clfs_model.specs.Storable.{IsStorable}
@@ -79,6 +79,23 @@ pub crash_untouched : {D : Type 0} → CallLaws → (state : D → DiskState) (l
 crash_untouched {D} laws state log disk seen view managed client call =
     subst (λ (v : State × D). CrashSurvives (asks client call) v.0 (state v.1) (state v.1)) view
     (crash_managed laws.stands laws.by_file (state disk) log managed (asks client call) (laws.before log.state.value client call managed.valid))
+
+-- one for which memory ran out before it made any
+pub crash_not_called : {D : Type 0} → CallLaws → (state : D → DiskState) (log : Log) (disk new : D) (seen : State × D) → (log.state.value, disk) ≡ seen
+    → IsManaged (state disk) log → new ≡ disk → CrashSurvives (bad_line 0) seen.0 (state seen.1) (state new)
+crash_not_called {D} laws state log disk new seen view managed same =
+    subst (λ (d : D). CrashSurvives (bad_line 0) seen.0 (state seen.1) (state d)) (sym same)
+    (crash_seen state (log.state.value, disk) seen view (bad_line 0) (state disk)
+    (crash_managed laws.stands laws.by_file (state disk) log managed (bad_line 0) (laws.nothing log.state.value 0 managed.valid)))
+
+-- one for which memory ran out while the log was to grow, by what that leaves
+pub crash_not_grown : {D : Type 0} → CallLaws → (state : D → DiskState) (log : Log) (disk : D) (seen : State × D) → (log.state.value, disk) ≡ seen
+    → IsManaged (state disk) log → (new : DiskState)
+    → ((asked : Request) (s : State) → Survives asked s (cut log.state.value) → CrashLeavesSurvivor asked s (state disk) new)
+    → CrashSurvives (bad_line 0) seen.0 (state seen.1) new
+crash_not_grown {D} laws state log disk seen view managed new leaves =
+    let s : State = log.state.value in
+    crash_seen state (s, disk) seen view (bad_line 0) new (λ _. leaves (bad_line 0) s (laws.nothing s 0 managed.valid))
 
 -- one that isn't refused, by what is known of the state that it leaves
 pub crash_answered : {D : Type 0} → CallLaws → (state : D → DiskState) (log : Log) (disk : D) (seen : State × D) → (log.state.value, disk) ≡ seen

@@ -13,7 +13,7 @@ use Rattle.clfs_container.specs.OpenBlocks.{AreWhole, total}
 use Rattle.clfs_lsn.specs.Lsn.{container_of}
 use Rattle.clfs_disk.specs.Files.{Files, Unchanged}
 use Rattle.clfs_disk.specs.declared.disk.Failed.{Failed}
-use Rattle.clfs_disk.specs.State.{DiskState, TellsContents, Passes, Leaves}
+use Rattle.clfs_disk.specs.State.{DiskState, TellsContents, IsSettled, Passes, Leaves}
 use Rattle.clfs_model.specs.declared.state.State.{State}
 use Rattle.clfs_model.specs.Flush.{cut, flush}
 use Rattle.clfs_model.specs.Live.{hold}
@@ -105,6 +105,15 @@ crash_stored stands by_file old new a b log opened meanwhile held_a held_b asked
     (λ (behind : HaveStored whole b image). stored_survives stands by_file whole asked s b image held_b survives_b behind)
     either)
     (meanwhile opened.blocks opened.stored (opened.settled honest) whole (stores_open old a log whole opened honest.0 full))
+
+-- a call of an open log that leaves its copy and its blocks on the disk
+pub crash_kept : StandByBlocks → HaveByFile → (old new : DiskState) (a : State) (log : Log) → IsOpen old a log → container_of (hold a) ≤ container_of (hold (cut a))
+    → (IsSettled old → (whole : Bool) (blocks : Blocks) → Stores whole log.physical blocks old.files → Leaves (λ image. Stores whole log.physical blocks image) old new)
+    → (asked : Request) (s : State) → Survives asked s (cut a) → CrashLeavesSurvivor asked s old new
+crash_kept stands by_file old new a log opened held keeps asked s survives = λ honest whole full.
+    leaves_weaker (λ image. Stores whole log.physical opened.blocks image) (HoldSurvivor whole asked s) old new
+    (λ image stores. holds_survivor stands by_file whole asked s a log.physical opened.blocks image held survives opened.stored stores)
+    (keeps (opened.settled honest) whole opened.blocks (stores_open old a log whole opened honest.0 full))
 
 -- what one call on the disk leaves of two copies or groups of blocks, by the states that these store
 pub meanwhile_of : (old new : DiskState) (a b : State) (before after : Newest) (blocks more : Blocks) (whole : Bool) → IsStored a before blocks → IsStored b after more

@@ -6,7 +6,7 @@ use Rattle.clfs_disk.specs.Files.{Unchanged}
 use Rattle.clfs_disk.specs.State.{DiskState, Passes}
 use Rattle.clfs_model.specs.Conditions.{MeetsCondition}
 use Rattle.clfs_model.specs.Refusals.{refusal}
-use Rattle.clfs_model.specs.Run.{asks}
+use Rattle.clfs_model.specs.Run.{Request, asks, bad_line}
 use Rattle.clfs_model.specs.Storable.{IsStorable}
 use Rattle.clfs_model.specs.Valid.{IsValid}
 use Rattle.clfs_model.specs.declared.call.Call.{Call}
@@ -25,11 +25,12 @@ use Rattle.clfs_manager.proofs.ReadKeeps.{none_called, quiet}
 use Rattle.clfs_manager.proofs.ReadSteps.{own_is_fine, refused_step}
 
 -- what a crash leaves of a call that changes no file, where a manager stands for this state and disk
-abbrev pub Survives : {D : Type 0} → (D → DiskState) → ℕ → Call → State × D → Type 0
-Survives {D} state client call v = (disk : D) → Passes Unchanged (state v.1) (state disk) → CrashSurvives (asks client call) v.0 (state v.1) (state disk)
+abbrev pub Survives : {D : Type 0} → (D → DiskState) → Request → State × D → Type 0
+Survives {D} state asked v = (disk : D) → Passes Unchanged (state v.1) (state disk) → CrashSurvives asked v.0 (state v.1) (state disk)
 
 module _ {A D : Type 0} {state : D → DiskState} {client number : ℕ} {call : Call} {reply : A → Reply} {entry_in : A → LogEntry} {record_in : State → Area → Option LogEntry}
-    {v w : State × D} (laws : ReadLaws) (view_is : v ≡ w) (whole : v.0.broken ≡ false) (survives : Survives state client call w) where
+    {v w : State × D} (laws : ReadLaws) (view_is : v ≡ w) (whole : v.0.broken ≡ false) (survives : Survives state (asks client call) w)
+    (flushed_part : Survives state (bad_line 0) w) where
   -- a call that is refused for what was asked changes nothing
   pub refuses : (first : Refusal) → refusal v.0 client call ≡ Some first → AnswersRead state client number call reply entry_in record_in (Err first) w w
   refuses first is =
@@ -44,7 +45,8 @@ module _ {A D : Type 0} {state : D → DiskState} {client number : ℕ} {call : 
         cause = reads.cause;
         steady = reads.steady;
         small = tt;
-        moments = subst (Survives state client call) (sym view_is) survives v.1 reads.time;
+        moments = subst (Survives state (asks client call)) (sym view_is) survives v.1 reads.time;
+        flushed_part = subst (Survives state (bad_line 0)) (sym view_is) flushed_part v.1 reads.time;
         stopped = λ _. refl;
         refused = λ _. refl;
         waits = tt;
@@ -65,7 +67,8 @@ module _ {A D : Type 0} {state : D → DiskState} {client number : ℕ} {call : 
         cause = gets.reads.cause;
         steady = gets.reads.steady;
         small = gets.small;
-        moments = subst (Survives state client call) (sym view_is) survives new gets.reads.time;
+        moments = subst (Survives state (asks client call)) (sym view_is) survives new gets.reads.time;
+        flushed_part = subst (Survives state (bad_line 0)) (sym view_is) flushed_part new gets.reads.time;
         stopped = λ broken. let clash = sym whole ∙ broken in absurd (cc clash);
         refused = gets.refused;
         waits = gets.waits;

@@ -125,4 +125,5 @@ resizes_nothing value stands by_file disk log further intact same = record {
   kept = λ f. absurd (cc f);
   writes = writes_nothing _ disk (λ f. cc f);
   moments = λ asked s before behind. crash_still stands by_file disk log intact asked s before;
+  old_size = λ f. absurd (cc f);
 }

@@ -75,6 +75,18 @@ written {A} answer result reply old new never is writes = writes_as _ _ old new 
     from (Ok x) fault = absurd (never x fault)
     from (Err refusal) fault = cc fault
 
+-- What holds where memory ran out for a call, holds where a reply tells so.
+pub no_memory_by : {A : Type 0} {P : Type 0} (answer : A → Reply) (result : Result A Refusal) (reply : Reply) → ((x : A) → answer x ≢ replies.Refused refusals.NoMemory)
+    → reply ≡ replied answer result → (IsErrOf result refusals.NoMemory → P) → reply ≡ replies.Refused refusals.NoMemory → P
+no_memory_by answer (Ok x) reply never is holds told = absurd (never x (sym is ∙ told))
+no_memory_by answer (Err refusal) reply never is holds told = holds (cc (is, told))
+
+-- What holds of a call's refusal, holds of the refusal that a reply tells.
+pub place_by : {A : Type 0} (P : Refusal → Type 0) (answer : A → Reply) (result : Result A Refusal) (reply : Reply) → ((x : A) (given : Refusal) → answer x ≢ replies.Refused given)
+    → reply ≡ replied answer result → IfErr result P → (given : Refusal) → reply ≡ replies.Refused given → P given
+place_by P answer (Ok x) reply never is holds given told = absurd (never x given (sym is ∙ told))
+place_by P answer (Err refusal) reply never is holds given told = let same : refusal ≡ given = cc (is, told) in subst P same holds
+
 -- What a call keeps that is refused for what was asked, a reply of that kind tells too.
 pub refused_by : {A : Type 0} {P : Type 0} (answer : A → Reply) (result : Result A Refusal) (reply : Reply) → ((x : A) → IsRefused (answer x) → ⊥)
     → reply ≡ replied answer result → IfErr result (λ refusal. is_of_call refusal ≡ true → P) → IsRefused reply → P

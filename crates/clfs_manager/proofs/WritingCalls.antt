@@ -16,7 +16,7 @@ use Rattle.clfs_model.specs.Conditions.{MeetsCondition}
 use Rattle.clfs_model.specs.Flush.{block_start, flush, flushed}
 use Rattle.clfs_model.specs.Happened.{happened_of}
 use Rattle.clfs_model.specs.Refusals.{refusal}
-use Rattle.clfs_model.specs.Run.{asks}
+use Rattle.clfs_model.specs.Run.{asks, bad_line}
 use Rattle.clfs_model.specs.Step.{Step, calls_disk, takes_memory}
 use Rattle.clfs_model.specs.Ways.{GoesTheseWays}
 use Rattle.clfs_physical.specs.declared.refusal.PhysicalRefusal.{PhysicalRefusal}
@@ -51,6 +51,7 @@ call_stopped {A} {D} ways state log disk seen view managed broken client call re
       step = λ told. ways.broken told s client call Fine stopped;
       writes = writes_nothing (IsErrOf {T = A} (Err refusals.Broken) refusals.DiskFault) (state disk) (λ f. cc f);
       moments = crash_broken (asks client call) s (state disk) (state disk) stopped;
+      no_memory = λ want. absurd (cc want);
       stopped = λ _. refl;
       refused = λ _. refl;
     })
@@ -66,6 +67,7 @@ call_refused {A} {D} laws ways state log disk seen view managed unbroken client 
       step = λ told. refused_step ways told s client call given (managed.broken ∙ unbroken) own first;
       writes = writes_refused given (state disk) own;
       moments = crash_managed laws.stands laws.by_file (state disk) log managed (asks client call) (laws.before s client call managed.valid);
+      no_memory = λ _. crash_managed laws.stands laws.by_file (state disk) log managed (bad_line 0) (laws.nothing s 0 managed.valid);
       stopped = λ _. refl;
       refused = λ _. refl;
     })
@@ -82,6 +84,7 @@ call_idle {A} {D} laws ways state log disk seen view managed unbroken client cal
           (ways.answered told s client call (reply value) s (managed.broken ∙ unbroken) none replies_so leaves);
       writes = writes_nothing (IsErrOf {E = Refusal} (Ok value) refusals.DiskFault) (state disk) (λ f. cc f);
       moments = crash_managed laws.stands laws.by_file (state disk) log managed (asks client call) (laws.before s client call managed.valid);
+      no_memory = λ want. absurd (cc want);
       stopped = λ _. refl;
       refused = tt;
     })
@@ -97,13 +100,15 @@ pub call_made : {A D : Type 0} (state : D → DiskState) (log after : Log) (disk
     → IsManaged (state disk) log → log.broken ≡ false → (client : ℕ) (call : Call) (reply : A → Reply) (result : Result A Refusal)
     → ((told : Bool) → Steps told log.state.value client call reply result after.state.value)
     → WritesDisk (IsErrOf result refusals.DiskFault) (state disk) (state new) → CrashSurvives (asks client call) seen.0 (state seen.1) (state new)
+    → (IsErrOf result refusals.NoMemory → CrashSurvives (bad_line 0) seen.0 (state seen.1) (state new))
     → IfErr result (λ given. is_of_call given ≡ true → new ≡ seen.1) → WritesAs state client call reply result seen (after.state.value, new)
-call_made {A} {D} state log after disk new seen view managed unbroken client call reply result step writes moments refused =
+call_made {A} {D} state log after disk new seen view managed unbroken client call reply result step writes moments no_memory refused =
     let s : State = log.state.value in
     record {
       step = λ told. subst (λ (v : State × D). Steps told v.0 client call reply result after.state.value) view (step told);
       writes = writes_seen state (s, disk) seen view (IsErrOf result refusals.DiskFault) (state new) writes;
       moments = moments;
+      no_memory = no_memory;
       stopped = never_stopped s disk new seen view (managed.broken ∙ unbroken);
       refused = refused;
     }
@@ -123,6 +128,7 @@ call_done {A} {D} ways state log after disk new seen view managed unbroken clien
           (ways.answered told s client call (reply value) after.state.value whole none replies_so leaves));
       writes = writes;
       moments = moments;
+      no_memory = λ want. absurd (cc want);
       stopped = never_stopped s disk new seen view whole;
       refused = tt;
     }
@@ -141,6 +147,7 @@ call_faulted {A} {D} ways state log after disk new seen view managed unbroken cl
           (ways.faulted told s client call whole none called));
       writes = writes;
       moments = moments;
+      no_memory = λ want. absurd (cc want);
       stopped = never_stopped s disk new seen view whole;
       refused = λ own. absurd (cc own);
     }
@@ -149,8 +156,9 @@ call_faulted {A} {D} ways state log after disk new seen view managed unbroken cl
 pub call_starved : {A D : Type 0} → GoesTheseWays → (state : D → DiskState) (log after : Log) (disk new : D) (seen : State × D) → (log.state.value, disk) ≡ seen
     → IsManaged (state disk) log → log.broken ≡ false → (client : ℕ) (call : Call) (reply : A → Reply) → takes_memory call ≡ true
     → after.state.value ≡ log.state.value → WritesDisk (IsErrOf {T = A} (Err refusals.NoMemory) refusals.DiskFault) (state seen.1) (state new)
-    → CrashSurvives (asks client call) seen.0 (state seen.1) (state new) → WritesAs state client call reply (Err refusals.NoMemory) seen (after.state.value, new)
-call_starved {A} {D} ways state log after disk new seen view managed unbroken client call reply takes same writes moments =
+    → CrashSurvives (asks client call) seen.0 (state seen.1) (state new) → CrashSurvives (bad_line 0) seen.0 (state seen.1) (state new)
+    → WritesAs state client call reply (Err refusals.NoMemory) seen (after.state.value, new)
+call_starved {A} {D} ways state log after disk new seen view managed unbroken client call reply takes same writes moments before =
     let s : State = log.state.value in
     let whole : s.broken ≡ false = managed.broken ∙ unbroken in
     record {
@@ -159,6 +167,7 @@ call_starved {A} {D} ways state log after disk new seen view managed unbroken cl
           (ways.no_memory told s client call Fine whole takes));
       writes = writes;
       moments = moments;
+      no_memory = λ _. before;
       stopped = never_stopped s disk new seen view whole;
       refused = λ own. absurd (cc own);
     }
@@ -236,6 +245,7 @@ pub record LogWritesAs {A D : Type 0} (state : D → DiskState) (client : ℕ) (
   pub left : IsLeft (state new) after
   pub writes : WritesDisk (IsErrOf result refusals.DiskFault) (state old) (state new)
   pub moments : CrashLeavesSurvivor (asks client call) before.state.value (state old) (state new)
+  pub no_memory : IsErrOf result refusals.NoMemory → CrashLeavesSurvivor (bad_line 0) before.state.value (state old) (state new)
   pub refused : IfErr result (λ refusal. is_of_call refusal ≡ true → new ≡ old)
 
 -- what such a log answers, its manager answers
@@ -248,6 +258,7 @@ call_of_log {A} {D} state log after disk new seen view managed unbroken client c
       step = is.step;
       writes = is.writes;
       moments = λ _. is.moments;
+      no_memory = λ want _. is.no_memory want;
       stopped = never_stopped s disk new (s, disk) refl (managed.broken ∙ unbroken);
       refused = is.refused;
     })

@@ -11,7 +11,7 @@ use Rattle.clfs_model.specs.declared.refusal.Refusal.{Refusal}
 use Rattle.clfs_model.specs.declared.state.State.{State}
 use Rattle.clfs_model.specs.Flush.{cut}
 use Rattle.clfs_model.specs.Refusals.{refusal}
-use Rattle.clfs_model.specs.Run.{asks, fine_outcome}
+use Rattle.clfs_model.specs.Run.{asks, bad_line, fine_outcome}
 use Rattle.clfs_model.specs.Storable.{IsStorable}
 use Rattle.clfs_model.specs.Survivors.{Survives}
 use Rattle.clfs_model.specs.Valid.{IsValid}
@@ -35,10 +35,12 @@ abbrev pub SurvivesAfter : Type 0
 SurvivesAfter = (s : State) (client : ℕ) (call : Call) → IsValid s → IsStorable s
     → Survives (asks client call) s (cut (fine_outcome s (asks client call)).state)
 
--- what files stand for, that the flushed parts of the states before and after a call survive it, and that a call's refusals are its own
+-- what files stand for, that the flushed parts of the states before and after a call survive it, that the flushed part survives where nothing is asked,
+-- and that a call's refusals are its own
 pub record CallLaws : Type 0 where
   pub stands : StandByBlocks
   pub by_file : HaveByFile
   pub before : (s : State) (client : ℕ) (call : Call) → IsValid s → Survives (asks client call) s (cut s)
   pub after : SurvivesAfter
+  pub nothing : (s : State) (at : ℕ) → IsValid s → Survives (bad_line at) s (cut s)
   pub own : (s : State) (client : ℕ) (call : Call) (given : Refusal) → refusal s client call ≡ Some given → is_of_call given ≡ true

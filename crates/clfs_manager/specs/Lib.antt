@@ -24,3 +24,4 @@ pub mod Opened
 pub mod CallLaws
 pub mod Loading
 pub mod ManagerLaws
+pub mod Followed

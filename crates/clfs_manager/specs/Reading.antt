@@ -1,4 +1,5 @@
 -- The calls that read a record: what each leaves of the log and the disk, and what it answers.
+use Rattle.std.specs.Option.{option_and_then}
 use Rattle.std.specs.Prelude.{◌≡◌, ℕ, ◌≤◌, Bool, true, Option, Some, Result, Err, IsSome, IfOk, IfErr, IsErrOf, length}
 use Rattle.clfs_lsn.specs.Head.{head_of}
 use Rattle.clfs_lsn.specs.Size.{most_data}
@@ -7,6 +8,7 @@ use Rattle.clfs_lsn.specs.declared.entry.LogEntry.{LogEntry}
 use Rattle.clfs_disk.specs.Files.{Unchanged}
 use Rattle.clfs_disk.specs.State.{DiskState, TellsContents, IsSteady, Passes, Rises, raised}
 use Rattle.clfs_model.specs.declared.call.Call.{Call}
+use Rattle.clfs_model.specs.declared.call.Call.TheVariants as calls
 use Rattle.clfs_model.specs.declared.refusal.Refusal.{Refusal}
 use Rattle.clfs_model.specs.declared.refusal.Refusal.TheVariants as refusals
 use Rattle.clfs_model.specs.declared.reply.Happened.{Happened}
@@ -15,8 +17,10 @@ use Rattle.clfs_model.specs.declared.state.Area.{Area}
 use Rattle.clfs_model.specs.declared.state.State.{State}
 use Rattle.clfs_model.specs.Conditions.{MeetsCondition}
 use Rattle.clfs_model.specs.Flush.{flushed}
+use Rattle.clfs_model.specs.Live.{live_at}
+use Rattle.clfs_model.specs.Reading.{newest_restart, next_of_cursor, record_cursor, restart_cursor}
 use Rattle.clfs_model.specs.Refusals.{refusal}
-use Rattle.clfs_model.specs.Run.{asks}
+use Rattle.clfs_model.specs.Run.{asks, bad_line}
 use Rattle.clfs_model.specs.Step.{Step}
 use Rattle.clfs_model.specs.Storable.{IsStorable}
 use Rattle.clfs_model.specs.Valid.{IsValid}
@@ -79,13 +83,25 @@ pub record AnswersRead {A D : Type 0} (state : D → DiskState) (client number :
   pub steady : IsSteady (state old.1) → (IsErrOf result refusals.DiskFault → ⊥) × ((state new.1).faults ≡ (state old.1).faults)
   -- Data are no longer than a largest record's.
   pub small : IfOk result (λ found. length (entry_in found).bytes ≤ most_data)
-  -- A crash at any moment of the call leaves files that open to a survivor of it. A broken log makes no call on the disk.
+  -- A crash at any moment of the call leaves files that open to a survivor of it, which is the flushed part of the log and nothing else. A broken log
+  -- makes no call on the disk.
   pub moments : CrashSurvives (asks client call) old.0 (state old.1) (state new.1)
+  pub flushed_part : CrashSurvives (bad_line 0) old.0 (state old.1) (state new.1)
   pub stopped : old.0.broken ≡ true → new.1 ≡ old.1
   -- Nor does a call that is refused for what was asked, or one that gives a record that waits. Any other makes two calls of the disk at most.
   pub refused : IfErr result (λ refusal. is_of_call refusal ≡ true → new.1 ≡ old.1)
   pub waits : IfOk result (λ found. flushed old.0 ≤ (entry_in found).lsn → new.1 ≡ old.1)
   pub calls_at_most : raised 0 (state new.1).calls ≤ raised 2 (state old.1).calls
+
+-- Damage is told of the block of the record to which a call comes that reads. No other call tells damage.
+abbrev pub TellsBlock : State → ℕ → Call → Refusal → Type 0
+TellsBlock s client (calls.Read area lsn mode) given = TellsWhere s client area (λ here. live_at s here.stream lsn) given
+TellsBlock s client (calls.ReadNext area cursor) given =
+    TellsWhere s client area (λ here. option_and_then (next_of_cursor s here) (record_cursor here cursor)) given
+TellsBlock s client (calls.ReadRestart area) given = TellsWhere s client area (λ here. newest_restart s here.stream) given
+TellsBlock s client (calls.PreviousRestart area cursor) given =
+    TellsWhere s client area (λ here. option_and_then (next_of_cursor s here) (restart_cursor here cursor)) given
+TellsBlock s client call given = Unit {0}
 
 -- laws of lower crates that each call which reads cites together
 pub record ReadLaws : Type 0 where

@@ -23,7 +23,7 @@ pub record ChangesSize (old new : Log) : Type 0 where
   pub broken : new.broken ≡ old.broken
 
 -- A log has this state with another size. For want of memory it stays as it is, though files may have been made that no copy counts; a fault breaks it.
--- A crash meanwhile leaves the old size or the new one.
+-- A crash meanwhile leaves the old size or the new one, and where memory was wanting the old one.
 pub record ResizesLog {A : Type 0} (result : Result A PhysicalRefusal) (further : State) (old new : DiskState) (before after : Log) : Type 0 where
   pub state : OnOk result (after.state.value ≡ further)
   pub intact : OnOk result (IsIntact new after)
@@ -33,3 +33,4 @@ pub record ResizesLog {A : Type 0} (result : Result A PhysicalRefusal) (further 
   pub kept : IsErrOf result NoMemory → IsIntact new after
   pub writes : WritesDisk (IsErrOf result DiskFault) old new
   pub moments : (asked : Request) (s : State) → Survives asked s (cut before.state.value) → Survives asked s (cut further) → CrashLeavesSurvivor asked s old new
+  pub old_size : IsErrOf result NoMemory → (asked : Request) (s : State) → Survives asked s (cut before.state.value) → CrashLeavesSurvivor asked s old new

@@ -3,7 +3,7 @@
 // no call on the disk unless its record begins a container or seals the last block that may wait. Last, the area holds sectors for records to come,
 // and the block is sealed and the log flushed where that is asked for.
 ghost use Rattle.std.specs.Prelude.{◌≡◌, ◌<◌, ◌≤◌, ◌^◌, ◌∷◌, ◌++◌, [], Bool, IsOk, IsErrOf, IsSome, IfOk, IfErr, OnOk, None, Some, false, true, length};
-ghost use Rattle.clfs_manager.specs.Machine.{append_refusal, Area, asks, calls_disk, change_area, fills_buffers, flush_if, hold_sizes, is_of_call, IsClient, IsStorable, IsValid, making_ready_writes, MayPut, next_lsn, own, own_sum, Plain, plain_record, put, ready_stages, refusal, seal_if, spend_if, spent_of, stream_at, TakesThrough, with_less_held};
+ghost use Rattle.clfs_manager.specs.Machine.{append_refusal, Area, asks, bad_line, calls_disk, change_area, fills_buffers, flush_if, hold_sizes, is_of_call, IsClient, IsStorable, IsValid, making_ready_writes, MayPut, next_lsn, own, own_sum, Plain, plain_record, put, ready_stages, refusal, seal_if, spend_if, spent_of, stream_at, TakesThrough, with_less_held};
 ghost use Rattle.clfs_model.specs.declared.call.Call.TheVariants as calls;
 ghost use Rattle.clfs_model.specs.declared.reply.Reply.TheVariants as replies;
 ghost use Rattle.clfs_areas.specs.Table.{area_at};
@@ -247,6 +247,7 @@ impl Log {
         ensures quiet { calls_disk self.old.state.value (calls.Append area draft.now reserved sizes.now) ≡ false → disk.new ≡ disk.old }
         ensures writes { WritesDisk (IsErrOf result Refusal.DiskFault) (D.state disk.old) (D.state disk.new) }
         ensures moments { CrashLeavesSurvivor (asks client (calls.Append area draft.now reserved sizes.now)) self.old.state.value (D.state disk.old) (D.state disk.new) }
+        ensures no_memory { IsErrOf result Refusal.NoMemory → CrashLeavesSurvivor (bad_line 0) self.old.state.value (D.state disk.old) (D.state disk.new) }
         ensures refused { IfErr result (λ refusal. is_of_call refusal ≡ true → disk.new ≡ disk.old) }
     {
         refusals_are_the_calls_own();

@@ -32,6 +32,7 @@ mod areas;
 mod base;
 mod fetching;
 mod flushing;
+mod followed;
 mod info;
 mod kept;
 mod log;
@@ -56,4 +57,5 @@ mod survivors;
 
 pub use clfs_format::FormatRefusal;
 pub use clfs_recover::LoadRefusal;
+pub use followed::{DiskName, Followed};
 pub use manager::{FormatRefused, LoadRefused, Manager};

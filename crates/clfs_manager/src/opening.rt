@@ -81,6 +81,7 @@ impl Log {
         ensures writes { WritesDisk (IsErrOf result Refusal.DiskFault) (D.state disk.old) (D.state disk.new) }
         ensures moments { (asked : Request) (s : State) → Survives asked s (cut self.old.state.value)
             → Survives asked s (cut (with_stream name.now self.old.state.value)) → CrashLeavesSurvivor asked s (D.state disk.old) (D.state disk.new) }
+        ensures no_memory { IsErrOf result Refusal.NoMemory → disk.new ≡ disk.old }
     {
         streams_come_last();
         low_containers_are_left_out();

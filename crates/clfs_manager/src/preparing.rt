@@ -31,6 +31,8 @@ impl Log {
         ensures writes { WritesDisk (IsErrOf result Refusal.DiskFault) (D.state disk.old) (D.state disk.new) }
         ensures moments { (asked : Request) (s : State) → Survives asked s (cut self.old.state.value)
             → Survives asked s (cut (grown self.old.state.value need)) → CrashLeavesSurvivor asked s (D.state disk.old) (D.state disk.new) }
+        ensures no_memory { IsErrOf result Refusal.NoMemory → (asked : Request) (s : State) → Survives asked s (cut self.old.state.value)
+            → CrashLeavesSurvivor asked s (D.state disk.old) (D.state disk.new) }
     {
         logs_are_copies_and_blocks();
         self.take_memory(stream)?;

@@ -2,7 +2,7 @@
 // is a record, which joins the log as any other, and then the log is flushed. Its record carries the new base, so that a crash leaves both of them or
 // none; no base copy is written. Until the flush is done the base stays where it was, in memory too.
 ghost use Rattle.std.specs.Prelude.{◌≡◌, ◌<◌, ◌≤◌, ◌^◌, ◌==◌, ◌∷◌, ◌++◌, ℕ, Bool, List, [], None, Some, false, true, length, IfErr, IfOk, IsErrOf, IsSome, OnErr};
-ghost use Rattle.clfs_manager.specs.Machine.{Area, asks, flush, is_of_call, IsClient, MayMove, next_lsn, null_lsn, put, ready_stages, rebased, refusal, restart_record, restart_refusal, spend_if, spent_of, stream_at, TakesThrough};
+ghost use Rattle.clfs_manager.specs.Machine.{Area, asks, bad_line, flush, is_of_call, IsClient, MayMove, next_lsn, null_lsn, put, ready_stages, rebased, refusal, restart_record, restart_refusal, spend_if, spent_of, stream_at, TakesThrough};
 ghost use Rattle.clfs_model.specs.declared.call.Call.TheVariants as calls;
 ghost use Rattle.clfs_model.specs.declared.reply.Reply.TheVariants as replies;
 ghost use Rattle.clfs_areas.specs.Table.{area_at};
@@ -186,6 +186,7 @@ impl Log {
         ensures left { IsLeft (D.state disk.new) self.new }
         ensures writes { WritesDisk (IsErrOf result Refusal.DiskFault) (D.state disk.old) (D.state disk.new) }
         ensures moments { CrashLeavesSurvivor (asks client (calls.WriteRestart area bytes.now base reserved)) self.old.state.value (D.state disk.old) (D.state disk.new) }
+        ensures no_memory { IsErrOf result Refusal.NoMemory → CrashLeavesSurvivor (bad_line 0) self.old.state.value (D.state disk.old) (D.state disk.new) }
         ensures refused { IfErr result (λ refusal. is_of_call refusal ≡ true → disk.new ≡ disk.old) }
     {
         refusals_are_the_calls_own();

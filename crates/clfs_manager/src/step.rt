@@ -1,11 +1,13 @@
 // One call by name, as a script or another thread asks for it: it is made by the manager's call of that name, and its answer is given as a reply.
 ghost use Rattle.std.specs.Prelude.{◌≡◌, false, true};
 ghost use Rattle.clfs_disk.specs.State.{TellsContents};
+ghost use Rattle.clfs_model.specs.declared.refusal.Refusal.{Refusal};
 ghost use Rattle.clfs_model.specs.declared.refusal.Refusal.TheVariants as refusals;
 ghost use Rattle.clfs_model.specs.declared.reply.Reply.TheVariants as replies;
-ghost use Rattle.clfs_manager.specs.Machine.{asks, calls_disk, happened_of, IsDamaged, MeetsCondition, Step};
+ghost use Rattle.clfs_manager.specs.Machine.{asks, bad_line, calls_disk, happened_of, IsDamaged, MeetsCondition, Step};
 ghost use Rattle.clfs_manager.specs.Calls.{IsRefused, IsSmall};
 ghost use Rattle.clfs_manager.specs.Crashes.{CrashSurvives};
+ghost use Rattle.clfs_manager.specs.Reading.{TellsBlock};
 ghost use Rattle.clfs_manager.specs.Written.{WritesDisk};
 
 use crate::manager::Manager;
@@ -34,9 +36,15 @@ impl<D: Disk> Manager<D> {
         ensures damage { TellsContents (D.state self.old.1) → IsDamaged result → ⊥ }
         ensures writes { WritesDisk (result ≡ replies.Refused refusals.DiskFault) (D.state self.old.1) (D.state self.new.1) }
 
+        // Where damage is told, it is told of the block of the record to which the call comes.
+        ensures place { (refusal : Refusal) → result ≡ replies.Refused refusal → TellsBlock self.old.0 client call.now refusal }
+
         // Whatever the answer, a crash at any moment of the call leaves files that open to a survivor of it. A broken log makes no call on the disk.
         ensures moments { CrashSurvives (asks client call.now) self.old.0 (D.state self.old.1) (D.state self.new.1) }
         ensures stopped { self.old.0.broken ≡ true → self.new.1 ≡ self.old.1 }
+
+        // Where memory ran out, a crash at any moment of the call leaves the flushed part of the log, which is what survives a bad line.
+        ensures no_memory { result ≡ replies.Refused refusals.NoMemory → CrashSurvives (bad_line 0) self.old.0 (D.state self.old.1) (D.state self.new.1) }
     {
         self.stored();
         match call {

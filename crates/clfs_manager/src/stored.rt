@@ -31,6 +31,8 @@ impl<D: Disk> Manager<D> {
             → CrashSurvives (asks client call) self.now.0 (D.state self.now.1) (D.state disk) }
         ensures survives_opening { (client : ℕ) (disk : D) → Passes Unchanged (D.state self.now.1) (D.state disk)
             → CrashSurvives (reopens client) self.now.0 (D.state self.now.1) (D.state disk) }
+        ensures survives_reading { (at : ℕ) (disk : D) → Passes Unchanged (D.state self.now.1) (D.state disk)
+            → CrashSurvives (bad_line at) self.now.0 (D.state self.now.1) (D.state disk) }
         ensures survives_nothing { (at : ℕ) → CrashSurvives (bad_line at) self.now.0 (D.state self.now.1) (D.state self.now.1) }
     {
         logs_are_copies_and_blocks();

@@ -17,6 +17,7 @@ use Rattle.clfs_model.specs.Flush.{cut, flushed, IsSame}
 use Rattle.clfs_model.specs.Run.{asks}
 use Rattle.clfs_recover.specs.Files.{StandsFor, FindsBehind, AreListed}
 use Rattle.clfs_recover.specs.Stored.{HaveBlocks}
+use Rattle.clfs_recover.specs.Telling.{TellsOpening}
 use Rattle.clfs_recover.specs.Walk.{Container}
 use Rattle.clfs_recover.specs.declared.parts.Parts.{Parts}
 use Rattle.clfs_recover.specs.declared.refusal.LoadRefusal.{LoadRefusal}
@@ -26,11 +27,11 @@ use Rattle.clfs_manager.specs.Reopening.{HoldsFlushed}
 use Rattle.clfs_manager.specs.Written.{WritesDisk}
 use Rattle.clfs_archive_form.specs.Form.{IsArchiveOf}
 use Rattle.clfs_archive_form.specs.Drafting.{most_archive}
-use Rattle.clfs_restore.specs.Archiving.{IsCause, IsJustLoaded, all_archived}
+use Rattle.clfs_restore.specs.Archiving.{IsCause, IsJustLoaded, TellsDamage, all_archived}
 use Rattle.clfs_restore.specs.declared.refusal.ArchiveRefusal.{ArchiveRefusal}
 use Rattle.clfs_restore.specs.declared.refusal.ArchiveRefusal.TheVariants as refusals
 use Rattle.clfs_lines.specs.Ends.{AppendsFront}
-use Rattle.clfs_operations.specs.Archiving.{EndsArchive, IsLeftByMove, IsArchiveStatus, IsArchiveText, FailsToMove, IsUnarchived, HasLongArchive, TakesArchive, TellsUnarchived, IsArchiveOutput, NothingFailsArchiving, IsArchivingDone, unarchived_line, unarchived_status}
+use Rattle.clfs_operations.specs.Archiving.{EndsArchive, IsLeftByMove, IsArchiveStatus, IsArchiveText, FailsToMove, IsUnarchived, HasLongArchive, NamesWrongByte, TakesArchive, TellsUnarchived, IsArchiveOutput, NothingFailsArchiving, IsArchivingDone, unarchived_line, unarchived_status}
 use Rattle.clfs_operations.specs.Ends.{disk_fault_text}
 use Rattle.clfs_operations.specs.Opened.{RefusesLog, IsRefusalText, IsNoLogText, TellsRefusal, refusal_line}
 use Rattle.clfs_lines.specs.Answering.{Writes, WritesFront}
@@ -141,6 +142,7 @@ archive_ran_out disk written sink = record {
   disk_fault = λ e. absurd (omega (arith, e));
   no_memory = λ e. (λ file. refl, Appends-nil written);
   no_log = λ e. absurd (omega (arith, e));
+  wrong_byte = λ e. absurd (omega (arith, e));
   off = λ e. absurd (omega (arith, e));
   too_long = λ e. absurd (omega (arith, e));
   crash = λ honest. inl (record {
@@ -158,8 +160,9 @@ archive_ran_out disk written sink = record {
 -- ---- the log wasn't opened
 
 pub log_refusal_ends : (status : ℕ) (refusal : LoadRefusal) (old new : DiskState) (written written' : Option (List ℕ)) (sink sink' : ℕ)
-    → RefusesLog refusal old new → TellsRefusal status refusal written written' sink sink' → EndsArchive status old new written written' sink sink'
-log_refusal_ends status refusal old new written written' sink sink' refuses tells = record {
+    → RefusesLog refusal old new → TellsOpening refusal → TellsRefusal status refusal written written' sink sink'
+    → EndsArchive status old new written written' sink sink'
+log_refusal_ends status refusal old new written written' sink sink' refuses opening tells = record {
   statuses = archive_status statuses;
   done = λ e. absurd (none 0 e refl);
   kept = inl refuses.same;
@@ -174,6 +177,10 @@ log_refusal_ends status refusal old new written written' sink sink' refuses tell
       let is = no_log_by status refusal tells.statuses e in
       let line = tells.line (λ f. omega (arith, e, f)) (λ f. omega (arith, e, f)) in
       (refusal_line refusal, record { refusal = refusal; no_log = is; refuses = refuses; line = no_log_line refusal is }, line);
+  wrong_byte = λ e.
+      let is = no_log_by status refusal tells.statuses e in
+      let line = tells.line (λ f. omega (arith, e, f)) (λ f. omega (arith, e, f)) in
+      (refusal_line refusal, record { refusal = refusal; line = no_log_line refusal is; told = inl opening }, line);
   off = λ e. absurd (none 11 e refl);
   too_long = λ e. absurd (none 15 e refl);
   crash = λ honest. inl refuses.time;
@@ -202,7 +209,7 @@ log_refusal_ends status refusal old new written written' sink sink' refuses tell
 -- ---- there is no archive
 
 module _ (cause : ArchiveRefusal) (old mid new : DiskState) (first : State) (loaded : IsLoaded 4 old mid first) (is : IsCause mid first cause)
-    (on : (bytes : ℕ) → cause ≡ refusals.TooLong bytes → first.archive ≢ None) (same : Unchanged old.files new.files) (time : Passes Unchanged old new)
+    (place : TellsDamage cause) (on : (bytes : ℕ) → cause ≡ refusals.TooLong bytes → first.archive ≢ None) (same : Unchanged old.files new.files) (time : Passes Unchanged old new)
     (rose : cause ≡ refusals.Log log_refusals.DiskFault → Rises old.faults new.faults)
     (steady : IsSteady old → cause ≡ refusals.Log log_refusals.DiskFault → ⊥) where
   tells : TellsContents old → TellsContents mid
@@ -283,6 +290,18 @@ module _ (cause : ArchiveRefusal) (old mid new : DiskState) (first : State) (loa
     no_log_by_cause six (refusals.TooLong bytes) e by = absurd (omega (arith, by))
     no_log_by_cause six refusals.NoMemory e by = absurd (omega (arith, by))
 
+    wrong_by_cause : status ≡ 6 → (given : ArchiveRefusal) → cause ≡ given → unarchived_status given ≡ 6 → Writes NamesWrongByte written written'
+    wrong_by_cause six (refusals.Log log_refusals.DiskFault) e by = absurd (omega (arith, by))
+    wrong_by_cause six (refusals.Log log_refusals.Ephemeral) e by = absurd (omega (arith, by))
+    wrong_by_cause six (refusals.Log (log_refusals.Damaged container offset at)) e by = (
+      unarchived_line (refusals.Log (log_refusals.Damaged container offset at)),
+      record { refusal = loading.Damaged container offset at; line = refl; told = inr (subst TellsDamage e place) },
+      subst (λ (c : ArchiveRefusal). Appends written written' (unarchived_line c)) e (said 6 six refl),
+    )
+    wrong_by_cause six (refusals.Log _) e by = absurd (subst (IsCause mid first) e is)
+    wrong_by_cause six (refusals.TooLong bytes) e by = absurd (omega (arith, by))
+    wrong_by_cause six refusals.NoMemory e by = absurd (omega (arith, by))
+
     -- a front of the line that says why
     front_by_cause : (given : ArchiveRefusal) → cause ≡ given → (given ≡ refusals.NoMemory → ⊥) → AppendsFront written written' (unarchived_line given)
         → WritesFront (IsRefusalText old new) written written' ⊎ WritesFront (IsArchiveOutput old new) written written'
@@ -323,6 +342,7 @@ module _ (cause : ArchiveRefusal) (old mid new : DiskState) (first : State) (loa
           inl (failed by, subst (λ (c : ArchiveRefusal). Appends written written' (unarchived_line c)) by (said 4 e refl));
       no_memory = λ e. (same, told.no_memory_silence e);
       no_log = λ e. no_log_by_cause e cause refl (own 6 e refl);
+      wrong_byte = λ e. wrong_by_cause e cause refl (own 6 e refl);
       off = λ e. let by = is_off cause refl (own 11 e refl) in
           (was_off by, subst (λ (c : ArchiveRefusal). Appends written written' (unarchived_line c)) by (said 11 e refl));
       too_long = λ e. let by = is_long cause refl (own 15 e refl) in
@@ -347,6 +367,7 @@ cut_ends old new first bytes written written' sink sink' archive same time front
   disk_fault = λ e. absurd (omega (arith, e));
   no_memory = λ e. absurd (omega (arith, e));
   no_log = λ e. absurd (omega (arith, e));
+  wrong_byte = λ e. absurd (omega (arith, e));
   off = λ e. absurd (omega (arith, e));
   too_long = λ e. absurd (omega (arith, e));
   crash = λ honest. inl time;
@@ -391,6 +412,7 @@ moved_ends old mid reads new first last bytes written written' sink sink' archiv
   disk_fault = λ e. absurd (omega (arith, e));
   no_memory = λ e. absurd (omega (arith, e));
   no_log = λ e. absurd (omega (arith, e));
+  wrong_byte = λ e. absurd (omega (arith, e));
   off = λ e. absurd (omega (arith, e));
   too_long = λ e. absurd (omega (arith, e));
   crash = λ honest. inr (taken_all, moving_left old reads new first archive.opened same time writes.time survives honest);
@@ -426,6 +448,7 @@ unmoved_ends status old reads new first bytes written mid written' sink between 
   disk_fault = λ e. inr (bytes ++ disk_fault_text, fails, Appends-trans written mid written' bytes disk_fault_text taken (line e));
   no_memory = λ e. absurd (none 5 e refl);
   no_log = λ e. absurd (none 6 e refl);
+  wrong_byte = λ e. absurd (none 6 e refl);
   off = λ e. absurd (none 11 e refl);
   too_long = λ e. absurd (none 15 e refl);
   crash = λ honest. inr (kept_by, moving_left old reads new first archive.opened same time writes.time survives honest);

@@ -7,13 +7,16 @@ use Rattle.clfs_disk.specs.State.{DiskState}
 use Rattle.clfs_model.specs.declared.call.Call.{Call}
 use Rattle.clfs_model.specs.declared.reply.Happened.{Happened}
 use Rattle.clfs_model.specs.declared.reply.Happened.TheVariants.{Fine, Fault}
+use Rattle.clfs_model.specs.declared.refusal.Refusal.TheVariants as refusals
 use Rattle.clfs_model.specs.declared.reply.Reply.{Reply}
+use Rattle.clfs_model.specs.declared.reply.Reply.TheVariants as replies
 use Rattle.clfs_model.specs.declared.state.State.{State}
 use Rattle.clfs_model.specs.Happened.{happened_of}
-use Rattle.clfs_model.specs.Run.{Request, RequestStep}
+use Rattle.clfs_model.specs.Run.{Request, RequestStep, asks, bad_line}
 use Rattle.clfs_model.specs.Step.{Step, ReopenStep, IsBroken}
+use Rattle.clfs_manager.specs.Crashes.{CrashSurvives}
 use Rattle.clfs_operations.specs.Answered.{IsFaultless}
-use Rattle.clfs_operations.specs.Crashed.{Asking, Images, IsLeftBetween, IsLeftByRun, StandsStill, under_way}
+use Rattle.clfs_operations.specs.Crashed.{Asking, Images, IsLeftBetween, IsLeftByRun, StandsStill, asked_by, under_way}
 
 -- time goes on
 run_rises : (told whole : Bool) (images : Images) (from to : ℕ) (before : Asking) (s : State) (requests : List Request) (answers : List Reply) (t : State)
@@ -22,15 +25,15 @@ run_rises told whole images from to before s [] [] t run = omega (arith, run.1)
 run_rises told whole images from to before s [] (y ∷ answers) t run = absurd run
 run_rises told whole images from to before s (x ∷ requests) [] t run = absurd run
 run_rises told whole images from to before s (x ∷ requests) (y ∷ answers) t run =
-    let rest = run_rises told whole images run.0 to (under_way before x s) run.1.1.1.0 requests answers t run.1.1.1.1.1 in omega (arith, run.1.0, rest)
+    let rest = run_rises told whole images run.0 to (under_way before x y s) run.1.1.1.0 requests answers t run.1.1.1.1.1 in omega (arith, run.1.0, rest)
 
 -- what is left of a request, by whether the log is broken
-left_here : (whole : Bool) (images : Images) (from to : ℕ) (before : Asking) (request : Request) (s : State)
-    → (s.broken ≡ false → IsLeftBetween whole images from to (record { request = request; state = s }))
-    → (s.broken ≡ true → IsLeftBetween whole images from to before) → IsLeftBetween whole images from to (under_way before request s)
-left_here whole images from to before request s unbroken broken = by_test s.broken refl
+left_here : (whole : Bool) (images : Images) (from to : ℕ) (before : Asking) (request : Request) (reply : Reply) (s : State)
+    → (s.broken ≡ false → IsLeftBetween whole images from to (record { request = asked_by request reply; state = s }))
+    → (s.broken ≡ true → IsLeftBetween whole images from to before) → IsLeftBetween whole images from to (under_way before request reply s)
+left_here whole images from to before request reply s unbroken broken = by_test s.broken refl
   where
-    by_test : (b : Bool) → s.broken ≡ b → IsLeftBetween whole images from to (if b then before else record { request = request; state = s })
+    by_test : (b : Bool) → s.broken ≡ b → IsLeftBetween whole images from to (if b then before else record { request = asked_by request reply; state = s })
     by_test true is = broken is
     by_test false is = unbroken is
 
@@ -39,7 +42,7 @@ pub left_more : (told whole : Bool) (images more : Images) (from mid to : ℕ) (
     (request : Request) (reply : Reply) (t : State) → IsLeftByRun told whole images from mid before s requests answers m
     → IsLeftBetween whole images from from before → RequestStep told m request (happened_of reply) reply t → mid ≤ to
     → ((moment : ℕ) (image : Files) → moment ≤ mid → more moment image → images moment image)
-    → (m.broken ≡ false → IsLeftBetween whole more mid to (record { request = request; state = m })) → (m.broken ≡ true → to ≡ mid)
+    → (m.broken ≡ false → IsLeftBetween whole more mid to (record { request = asked_by request reply; state = m })) → (m.broken ≡ true → to ≡ mid)
     → IsLeftByRun told whole more from to before s (requests ++ request ∷ []) (answers ++ reply ∷ []) t
 left_more told whole images more from mid to before s m [] [] request reply t run start step later back left still =
     let same : m ≡ s = run.0 in
@@ -48,8 +51,8 @@ left_more told whole images more from mid to before s m [] [] request reply t ru
       (
         omega (arith, at, later),
         (
-          left_here whole more from to before request s
-              (λ unbroken moment image after until is. let F : State → Type 0 = λ u. u.broken ≡ false → IsLeftBetween whole more mid to (record { request = request; state = u }) in
+          left_here whole more from to before request reply s
+              (λ unbroken moment image after until is. let F : State → Type 0 = λ u. u.broken ≡ false → IsLeftBetween whole more mid to (record { request = asked_by request reply; state = u }) in
               subst F same left unbroken moment image (omega (arith, at, after)) until is)
               (λ broken moment image after until is.
               let here = still (ap (λ (u : State). u.broken) same ∙ broken) in
@@ -64,7 +67,7 @@ left_more told whole images more from mid to before s m (x ∷ requests) (y ∷ 
     let behind = run.0 in
     let here = run.1.1.0 in
     let rest = run.1.1.1.1.1 in
-    let rises = run_rises told whole images behind mid (under_way before x s) run.1.1.1.0 requests answers m rest in (
+    let rises = run_rises told whole images behind mid (under_way before x y s) run.1.1.1.0 requests answers m rest in (
       behind,
       (
         run.1.0,
@@ -74,7 +77,7 @@ left_more told whole images more from mid to before s m (x ∷ requests) (y ∷ 
             run.1.1.1.0,
             (
               run.1.1.1.1.0,
-              left_more told whole images more behind mid to (under_way before x s) run.1.1.1.0 m requests answers request reply t rest
+              left_more told whole images more behind mid to (under_way before x y s) run.1.1.1.0 m requests answers request reply t rest
                   (λ moment image after until is. here moment image (omega (arith, run.1.0, after)) until is) step later back left still,
             ),
           ),
@@ -124,6 +127,15 @@ faultless_opening breaks stays told s reply t step = λ whole. (
   never_broken s t (λ broken. let is = stays told s (happened_of reply) reply t broken step in ap (λ (u : State). u.broken) is.1 ∙ broken) whole,
   λ fault. clashes t.broken (breaks told s (happened_of reply) reply t step (λ fine. let wrong = sym (ap happened_of fault) ∙ fine in cc wrong)) whole,
 )
+
+-- ---- a call
+
+-- what survives a call, by its reply
+pub survives_by : (client : ℕ) (call : Call) (reply : Reply) (s : State) (old new : DiskState) → CrashSurvives (asks client call) s old new
+    → (reply ≡ replies.Refused refusals.NoMemory → CrashSurvives (bad_line 0) s old new) → CrashSurvives (asked_by (asks client call) reply) s old new
+survives_by client call (replies.Refused refusals.NoMemory) s old new survives starved = starved refl
+survives_by client call (replies.Refused other) s old new survives starved = survives
+survives_by client call _ s old new survives starved = survives
 
 -- ---- a disk that isn't called
 

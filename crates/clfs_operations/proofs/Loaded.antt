@@ -60,6 +60,7 @@ module _ (buffers : ℕ) (old mid new : DiskState) (s t : State) (loaded : IsLoa
     buffers_are = loaded.buffers_are;
     valid = loaded.valid;
     storable = loaded.storable;
+    stable = loaded.stable;
     begins = whole_at_first;
     answered = all_from (requests_of lines) given.answers given.answered;
     is = given.is;

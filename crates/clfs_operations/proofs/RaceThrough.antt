@@ -23,6 +23,7 @@ use Rattle.clfs_operations.specs.Raced.{HasTaken, IsRaced, IsRacedInPart, is_any
 use Rattle.clfs_lines.specs.Answering.{IsWholeAnswer}
 use Rattle.clfs_operations.specs.Serve.{IsServeStatus}
 use Rattle.clfs_lines.specs.Taken.{AreReached}
+use Rattle.clfs_lines.specs.declared.incomplete.IncompleteLine.TheVariants.{Counts}
 use Rattle.clfs_operations.specs.Told.{tells_fault, tells_damage, tells_broken, has_fault, has_damage, has_broken}
 use Rattle.clfs_operations.proofs.RaceEnds.{left_alone}
 use Rattle.clfs_operations.proofs.TakenCalls.{or_parts, fine_by}
@@ -88,15 +89,15 @@ module _ (one : AreOne) (law : AreFine) (status buffers : ℕ) (old new : DiskSt
         | inr none ↦ with_none none
       ]
 
-  done_calmly : (text : List ℕ) → IsWholeAnswer race_limits (IsRaced buffers old new) left left' text → IsWholeAnswer race_limits (IsRacedCalmly buffers old new) left left' text
+  done_calmly : (text : List ℕ) → IsWholeAnswer race_limits Counts (IsRaced buffers old new) left left' text → IsWholeAnswer race_limits Counts (IsRacedCalmly buffers old new) left left' text
   done_calmly text is = record {
     script = is.script;
     read = is.read;
     answered = record { raced = is.answered; calm = journal_is_calm is.answered.journal is.answered.taken };
   }
 
-  in_part_calmly : ((lines : List (List ℕ)) × (AreReached race_limits left left' lines × IsRacedInPart buffers old new lines))
-      → (lines : List (List ℕ)) × (AreReached race_limits left left' lines × IsRacedCalmlyInPart buffers old new lines)
+  in_part_calmly : ((lines : List (List ℕ)) × (AreReached race_limits Counts left left' lines × IsRacedInPart buffers old new lines))
+      → (lines : List (List ℕ)) × (AreReached race_limits Counts left left' lines × IsRacedCalmlyInPart buffers old new lines)
   in_part_calmly is = (is.0, (is.1.0, record { raced = is.1.1; calm = journal_is_calm is.1.1.journal is.1.1.taken }))
 
   by_status : IsServeStatus status → IsDone status

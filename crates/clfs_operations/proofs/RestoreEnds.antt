@@ -44,6 +44,7 @@ restore_ran_out up_to disk left written source sink = record {
   too_long = λ e. absurd (omega (arith, e));
   there = λ e. absurd (omega (arith, e));
   there_unread = λ e. absurd (omega (arith, e));
+  first = λ told slot is. inl (inr (inl refl));
   no_archive = λ e. absurd (omega (arith, e));
   gap = λ e. absurd (omega (arith, e));
   outside = λ e. absurd (omega (arith, e));
@@ -71,6 +72,7 @@ restored_ends up_to status bytes old new left left' written written' source sour
   too_long = λ e. absurd (none 7 e refl);
   there = λ e. absurd (none 8 e refl);
   there_unread = λ e. absurd (none 8 e refl);
+  first = λ told slot is. let free = log.free told in absurd (cc (sym free ∙ is));
   no_archive = λ e. absurd (none 12 e refl);
   gap = λ e. absurd (none 13 e refl);
   outside = λ e. absurd (none 14 e refl);
@@ -163,6 +165,10 @@ module _ (up_to : Option ℕ) (status : ℕ) (cause : RestoreRefusal) (bytes : L
     there = λ e. let found = meets_by cause refl (own 8 e refl) in
         (meets found.0 found.1, subst (λ (c : RestoreRefusal). Appends written written' (restore_refusal_line c)) found.1 (said 8 e refl));
     there_unread = λ e tells. let found = meets_by cause refl (own 8 e refl) in absurd (free found.0 found.1 tells);
+    first = λ tells slot is. elim (refuses.first tells slot is) [
+      | inl exists ↦ absurd (free slot exists tells)
+      | inr rose ↦ inr rose
+    ];
     no_archive = λ e. told_why 12 e refl;
     gap = λ e. told_why 13 e refl;
     outside = λ e. told_why 14 e refl;

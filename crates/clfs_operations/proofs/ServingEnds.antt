@@ -8,13 +8,14 @@ use Rattle.clfs_model.specs.Accepted.{Limits}
 use Rattle.clfs_operations.specs.Answered.{IsAnswered, IsAnsweredInPart}
 use Rattle.clfs_operations.specs.Opened.{IsNoLog, no_log_text, RefusesLog, IsRefusalText, TellsRefusal, refusal_line, refusal_status}
 use Rattle.clfs_lines.specs.Answering.{Answers, EndsAnswering, IsAnswerStatus, IsWholeAnswer, IsAnswerUpToFault, IsAnswerUpToLimit, IsFrontUpToLimit, StopsShort, StopsAtFault}
+use Rattle.clfs_lines.specs.declared.incomplete.IncompleteLine.{IncompleteLine}
 use Rattle.clfs_operations.specs.Serve.{EndsServing, IsServeStatus}
 
 -- ---- other words for the same answers
 
 module _ (limits : Limits) (Is Other : Answers) (also : (lines : List (List ℕ)) (text : List ℕ) → Is lines text → Other lines text) where
-  pub whole_as : (left left' : Option (List ℕ)) (text : List ℕ) → IsWholeAnswer limits Is left left' text → IsWholeAnswer limits Other left left' text
-  whole_as left left' text is = record { script = is.script; read = is.read; answered = also _ text is.answered }
+  pub whole_as : (incomplete : IncompleteLine) (left left' : Option (List ℕ)) (text : List ℕ) → IsWholeAnswer limits incomplete Is left left' text → IsWholeAnswer limits incomplete Other left left' text
+  whole_as incomplete left left' text is = record { script = is.script; read = is.read; answered = also _ text is.answered }
 
   pub fault_as : (left left' : Option (List ℕ)) (text : List ℕ) → IsAnswerUpToFault limits Is left left' text → IsAnswerUpToFault limits Other left left' text
   fault_as left left' text is = record { bytes = is.bytes; given = is.given; answered = also _ text is.answered }
@@ -30,9 +31,9 @@ module _ (limits : Limits) (Is Other : Answers) (also : (lines : List (List ℕ)
   at_limit_as left left' text is =
       record { bytes = is.bytes; given = is.given; output = is.output; answered = also _ is.output is.answered; count = is.count; front = is.front }
 
-pub stops_as : (limits : Limits) (InPart Other : Answers) → ((lines : List (List ℕ)) (text : List ℕ) → InPart lines text → Other lines text) → (left left' written written' : Option (List ℕ))
-    → StopsShort limits InPart left left' written written' → StopsShort limits Other left left' written written'
-stops_as limits InPart Other also left left' written written' is = (is.0, (is.1.0, (is.1.1.0, also is.0 is.1.1.0 is.1.1.1, is.1.1.2)))
+pub stops_as : (limits : Limits) (incomplete : IncompleteLine) (InPart Other : Answers) → ((lines : List (List ℕ)) (text : List ℕ) → InPart lines text → Other lines text) → (left left' written written' : Option (List ℕ))
+    → StopsShort limits incomplete InPart left left' written written' → StopsShort limits incomplete Other left left' written written'
+stops_as limits incomplete InPart Other also left left' written written' is = (is.0, (is.1.0, (is.1.1.0, also is.0 is.1.1.0 is.1.1.1, is.1.1.2)))
 
 -- the statuses of answering are not those of a log that wasn't opened
 not_refused : (status : ℕ) → IsAnswerStatus status → (status ≡ 4) ⊎ (status ≡ 6) → ⊥
@@ -48,21 +49,21 @@ not_refused status (inr (inr (inr (inr e)))) (inl f) = omega (arith, e, f)
 not_refused status (inr (inr (inr (inr e)))) (inr f) = omega (arith, e, f)
 
 -- the lines of a log that was opened are answered
-pub answering_serves : (limits : Limits) (Is : Answers) (InPart : Bool → Answers) (status buffers : ℕ) (old new : DiskState) (left left' written written' : Option (List ℕ)) (source source' sink sink' : ℕ)
+pub answering_serves : (limits : Limits) (incomplete : IncompleteLine) (Is : Answers) (InPart : Bool → Answers) (status buffers : ℕ) (old new : DiskState) (left left' written written' : Option (List ℕ)) (source source' sink sink' : ℕ)
     → ((lines : List (List ℕ)) (text : List ℕ) → Is lines text → IsAnswered buffers old new lines text)
     → ((torn : Bool) (lines : List (List ℕ)) (text : List ℕ) → InPart torn lines text → IsAnsweredInPart buffers old new torn lines text)
-    → EndsAnswering limits Is InPart status left left' written written' source source' sink sink'
-    → EndsServing limits status buffers old new left left' written written' source source' sink sink'
-answering_serves limits Is InPart status buffers old new left left' written written' source source' sink sink' also also_part ends = record {
+    → EndsAnswering limits incomplete Is InPart status left left' written written' source source' sink sink'
+    → EndsServing limits incomplete status buffers old new left left' written written' source source' sink sink'
+answering_serves limits incomplete Is InPart status buffers old new left left' written written' source source' sink sink' also also_part ends = record {
   statuses = inl ends.statuses;
-  done = λ e. let found = ends.done e in (found.0, whole_as limits Is Other also left left' found.0 found.1, found.2);
+  done = λ e. let found = ends.done e in (found.0, whole_as limits Is Other also incomplete left left' found.0 found.1, found.2);
   source_fault = ends.source_fault;
   source_fault_answers = λ e. let found = ends.source_fault_answers e in (found.0, fault_as limits Is Other also left left' found.0 found.1, found.2);
   sink_fault = ends.sink_fault;
   sink_fault_front = λ e. inl (at_fault (ends.sink_fault_front e));
   disk_fault = λ e. absurd (not_refused status ends.statuses (inl e));
   disk_fault_line = λ e. absurd (not_refused status ends.statuses (inl e));
-  no_memory = λ e. inr (stops_as limits (InPart false) (OtherPart false) (also_part false) left left' written written' (ends.no_memory e));
+  no_memory = λ e. inr (stops_as limits incomplete (InPart false) (OtherPart false) (also_part false) left left' written written' (ends.no_memory e));
   no_log = λ e. absurd (not_refused status ends.statuses (inr e));
   too_long = λ e. let found = ends.too_long e in (found.0, limit_as limits Is Other also left left' found.0 found.1, found.2);
   unread = λ e. absurd (not_refused status ends.statuses e);
@@ -76,8 +77,8 @@ answering_serves limits Is InPart status buffers old new left left' written writ
     OtherPart : Bool → Answers
     OtherPart = IsAnsweredInPart buffers old new
 
-    at_fault : StopsAtFault limits Is InPart left left' written written' → StopsAtFault limits Other OtherPart left left' written written'
-    at_fault (inl stops) = inl (stops_as limits (InPart true) (OtherPart true) (also_part true) left left' written written' stops)
+    at_fault : StopsAtFault limits incomplete Is InPart left left' written written' → StopsAtFault limits incomplete Other OtherPart left left' written written'
+    at_fault (inl stops) = inl (stops_as limits incomplete (InPart true) (OtherPart true) (also_part true) left left' written written' stops)
     at_fault (inr cut) = inr (cut.0, at_limit_as limits Is Other also left left' cut.0 cut.1, cut.2)
 
 -- ---- a log that wasn't opened
@@ -157,10 +158,10 @@ refusal_text (Damaged container offset at) old new refuses other = inl (record {
 refusal_text DiskFault old new refuses other = inr (refuses, refl)
 refusal_text NoMemory old new refuses other = absurd (other refl)
 
-pub refusal_serves : (limits : Limits) (status buffers : ℕ) (refusal : LoadRefusal) (old new : DiskState) (left written written' : Option (List ℕ)) (source sink sink' : ℕ)
+pub refusal_serves : (limits : Limits) (incomplete : IncompleteLine) (status buffers : ℕ) (refusal : LoadRefusal) (old new : DiskState) (left written written' : Option (List ℕ)) (source sink sink' : ℕ)
     → RefusesLog refusal old new → TellsRefusal status refusal written written' sink sink'
-    → EndsServing limits status buffers old new left left written written' source source sink sink'
-refusal_serves limits status buffers refusal old new left written written' source sink sink' refuses tells =
+    → EndsServing limits incomplete status buffers old new left left written written' source source sink sink'
+refusal_serves limits incomplete status buffers refusal old new left written written' source sink sink' refuses tells =
     let statuses = refused_statuses status refusal tells.statuses in record {
       statuses = serve_status status statuses;
       done = λ e. absurd (not_answered status 0 statuses e (inl refl));

@@ -16,6 +16,7 @@ use Rattle.clfs_cells_laws.specs.Breaking.{reads_back, tells_table_damage}
 use Rattle.clfs_cells_laws.specs.Crashes.{EndsSafe, IsSafe, is_answer, table_once}
 use Rattle.clfs_txn.specs.Calls.{TxnSteps, replied}
 use Rattle.clfs_txn.specs.Crashes.{CrashLeavesTable, KeepsTable, LeavesTableOf}
+use Rattle.clfs_txn.specs.UnderWay.{asking}
 use Rattle.clfs_operations.specs.TableAnswered.{AnswersAsked, LineStep, asks_nothing, fault_reply, table_asked}
 
 -- a refusal that tells a fault is such a reply
@@ -42,7 +43,7 @@ pub answered_as : {A : Type 0} (D : Type 0) (state : D → DiskState) (old new :
     → WritesDisk (IsErrOf result (Log log_refusals.DiskFault)) (state old) (state new) → (s.log.broken ≡ true → new ≡ old)
     → (TellsContents (state old) → tells_table_damage reply ≡ false) → asks_nothing (Ok call) ≡ false → LeavesTableOf s call (state old) (state new)
     → KeepsTable (state old) s call answer result t → (s.log.broken ≡ false → IsSafe s.log s.memory.stream → is_answer reply ≡ true
-    → CrashLeavesTable (table_once s call) (table_once s call) (state new) (state new))
+    → CrashLeavesTable (table_once s call) (table_once s call) (asking s call) (state new) (state new))
     → AnswersAsked s (state old) (Ok call) reply t (state new)
 answered_as D state old new s t call answer result reply never is step writes stopped damage asks moments keeps lasts = record {
   crash = λ whole safe. record {
@@ -87,7 +88,7 @@ if_refused (Err e) holds = holds
 
 -- a call that leaves the table
 lasts_same : (s : Store) (call : TxnCall) (old new : DiskState) (reply : TxnReply) → table_once s call ≡ table s.log → new.nature ≡ old.nature → LeavesTableOf s call old new
-    → s.log.broken ≡ false → IsSafe s.log s.memory.stream → is_answer reply ≡ true → CrashLeavesTable (table_once s call) (table_once s call) new new
+    → s.log.broken ≡ false → IsSafe s.log s.memory.stream → is_answer reply ≡ true → CrashLeavesTable (table_once s call) (table_once s call) (asking s call) new new
 lasts_same s call old new reply same nature moments whole safe answered honest =
     let left = moments whole safe (subst (λ (n : Nature). IsTrue n.tells_contents × IsTrue n.tells_images) nature honest) in record {
       later = omega arith;
@@ -97,6 +98,9 @@ lasts_same s call old new reply same nature moments whole safe answered honest =
             log = held.log;
             stands = held.stands;
             either = elim held.either [ inl before ↦ inl (before ∙ sym same) | inr after ↦ inl after ];
+            survivor = held.survivor;
+            left = held.left;
+            same = held.same;
           };
     }
 

@@ -4,7 +4,7 @@ use Rattle.std.specs.Prelude.{◌≢◌, ◌||◌, ◌&&◌, IsTrue, All}
 use Rattle.std.specs.List.{AllByRecursion}
 use Rattle.std.proofs.lemmas.List.Elements.{All-head, All-tail, All-from_recursion}
 use Rattle.clfs_disk.specs.Files.{Files}
-use Rattle.clfs_disk.specs.State.{DiskState, Nature, TellsContents, IsHonest, Rises}
+use Rattle.clfs_disk.specs.State.{DiskState, Nature, TellsContents, IsHonest, Later, Leaves, Rises}
 use Rattle.clfs_model.specs.declared.journal.Entry.{Entry}
 use Rattle.clfs_model.specs.declared.refusal.Refusal.TheVariants as refusals
 use Rattle.clfs_model.specs.declared.reply.Happened.{Happened}
@@ -13,14 +13,18 @@ use Rattle.clfs_model.specs.declared.reply.Reply.{Reply}
 use Rattle.clfs_model.specs.declared.reply.Reply.TheVariants as replies
 use Rattle.clfs_model.specs.declared.state.State.{State}
 use Rattle.clfs_model.specs.Journals.{GoesOn, IsLegal}
+use Rattle.clfs_model.specs.Run.{bad_line}
 use Rattle.clfs_recover.specs.Files.{AreWholeFiles}
 use Rattle.clfs_recover.specs.Whole.{are_whole}
+use Rattle.clfs_manager.specs.Crashes.{HoldSurvivor}
 use Rattle.clfs_shared.specs.Crashes.{IsLeftByEntries, since}
 use Rattle.clfs_shared.specs.Journal.{is_fault, is_damage, has_fault, has_damage}
 use Rattle.clfs_shared.specs.Reached.{opening_of, IsReached}
 use Rattle.clfs_operations.specs.Raced.{HasTaken, is_any_broken}
 use Rattle.clfs_operations.specs.Told.{tells_broken}
-use Rattle.clfs_operations.specs.Loaded.{IsLoaded, IsKeptOn, IsLeftByJournal, IsTakenFrom}
+use Rattle.clfs_operations.specs.Crashed.{IsLeftByJournal}
+use Rattle.clfs_operations.specs.Loaded.{IsLoaded, IsKeptOn, IsTakenFrom}
+use Rattle.clfs_operations.proofs.Loaded.{left_before}
 use Rattle.clfs_operations.proofs.OnlyRead.{whole_same}
 
 -- what laws say of journals without a fault, and of files at full length
@@ -63,7 +67,7 @@ none_broken (entry ∷ entries) all =
     rw (first, rest) refl
 
 module _ (buffers : ℕ) (old mid new : DiskState) (s t : State) (loaded : IsLoaded buffers old mid s) (kept : IsKeptOn t new) (laws : JournalLaws)
-    (journal : List Entry) (reached : IsReached (opening_of s mid) new t journal) where
+    (journal : List Entry) (later : Later mid new) (reached : IsReached (opening_of s mid) new t journal) where
   pub whole_at_first : s.broken ≡ false
   whole_at_first = sym (ap (λ (u : State). u.broken) loaded.stable)
 
@@ -82,6 +86,24 @@ module _ (buffers : ℕ) (old mid new : DiskState) (s t : State) (loaded : IsLoa
       laws.part mid.nature.tells_contents [] s t journal whole_at_first reached.legal
       (All-from_recursion (λ (e : Entry). e.happened ≡ Fine) journal (all_fine journal none (reached.damage (tells_mid told))))
 
+  honest_mid : IsHonest old → IsHonest mid
+  honest_mid honest = subst (λ (n : Nature). IsTrue n.tells_contents × IsTrue n.tells_images) (sym loaded.time.nature) honest
+
+  at_first : IsHonest old → (whole : Bool) → (whole ≡ true → AreWholeFiles old.files) → Leaves (HoldSurvivor whole (bad_line 0) s) mid mid
+  at_first honest whole full = loaded.left whole_at_first (honest_mid honest) whole (λ is. whole_same old.files mid.files loaded.same (full is))
+
+  pub left_by_journal : IsHonest old → IsLeftByJournal old new s journal t
+  left_by_journal honest = record {
+    from = mid.clock;
+    later = loaded.time.later;
+    before = λ moment image after until is. left_before old mid loaded.time moment image after until (later.past moment image (omega (arith, until)) is);
+    opened = λ whole full moment image after until is. (at_first honest whole full).each moment image after until (later.past moment image until is);
+    taken = λ whole full. subst (λ (n : Nature). IsLeftByEntries n.tells_contents whole (since mid.clock new.image_at) mid.clock new.clock s journal t) loaded.time.nature
+        (reached.crash (tells_mid honest.0)
+        (subst (λ (n : Nature). IsTrue n.tells_images) (sym loaded.time.nature) honest.1) whole
+        (λ is. laws.passes mid.files (whole_same old.files mid.files loaded.same (full is))));
+  }
+
   unfoldable pub has_taken : HasTaken buffers old new journal
   has_taken = record {
     first = s;
@@ -90,6 +112,7 @@ module _ (buffers : ℕ) (old mid new : DiskState) (s t : State) (loaded : IsLoa
     buffers_are = loaded.buffers_are;
     valid = loaded.valid;
     storable = loaded.storable;
+    stable = loaded.stable;
     begins = whole_at_first;
     legal = subst (λ (n : Nature). IsLegal n.tells_contents journal s t) loaded.time.nature reached.legal;
     cause = λ some. let rose = reached.fault some in omega (arith, rose, loaded.time.faults);
@@ -103,6 +126,7 @@ module _ (buffers : ℕ) (old mid new : DiskState) (s t : State) (loaded : IsLoa
         (laws.passes mid.files (whole_same old.files mid.files loaded.same are)));
     files = λ told none. kept.files (unbroken told none).0 (tells_new told);
     settled = λ honest none. kept.settled (unbroken honest.0 none).0 (honest_new honest);
+    crash = left_by_journal;
   }
 
   -- a log that tells what its files hold was broken by a fault
@@ -113,18 +137,7 @@ module _ (buffers : ℕ) (old mid new : DiskState) (s t : State) (loaded : IsLoa
       by_fault true is = let rose = reached.fault is in omega (arith, rose, loaded.time.faults)
       by_fault false is = let fine = (unbroken told is).0 in let never : true ≡ false = sym broken ∙ fine in cc never
 
-  left_by_journal : IsHonest old → IsLeftByJournal old mid new s journal t
-  left_by_journal honest = record {
-    same = loaded.same;
-    time = loaded.time;
-    opened = loaded.left;
-    left = λ whole full. subst (λ (n : Nature). IsLeftByEntries n.tells_contents whole (since mid.clock new.image_at) mid.clock new.clock s journal t) loaded.time.nature
-        (reached.crash (tells_mid honest.0)
-        (subst (λ (n : Nature). IsTrue n.tells_images) (sym loaded.time.nature) honest.1) whole
-        (λ is. laws.passes mid.files (whole_same old.files mid.files loaded.same (full is))));
-  }
-
-  pub taken_from : IsTakenFrom buffers old mid new s t journal
+  pub taken_from : IsTakenFrom buffers old new s t journal
   unfolding has_taken
   taken_from = record {
     taken = has_taken;
@@ -133,5 +146,4 @@ module _ (buffers : ℕ) (old mid new : DiskState) (s t : State) (loaded : IsLoa
     contents = tells_new;
     honest = honest_new;
     cause = faulted;
-    crash = left_by_journal;
   }

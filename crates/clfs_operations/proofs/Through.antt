@@ -16,6 +16,7 @@ use Rattle.clfs_operations.specs.Opened.{IsNoLog, RefusesLog}
 use Rattle.clfs_lines.specs.Answering.{IsWholeAnswer, StopsShort}
 use Rattle.clfs_operations.specs.Serve.{EndsServing, IsServeStatus}
 use Rattle.clfs_lines.specs.Taken.{IsPastLimit}
+use Rattle.clfs_lines.specs.declared.incomplete.IncompleteLine.{IncompleteLine}
 use Rattle.clfs_operations.specs.Told.{has_fault}
 use Rattle.clfs_operations.proofs.Fronts.{front_is_within}
 
@@ -51,8 +52,8 @@ is_a_log one (Damaged container offset at) old new log none refuses = one.no_dam
 is_a_log one DiskFault old new log none refuses = none
 is_a_log one NoMemory old new log none refuses = none
 
-module _ (limits : Limits) (one : AreOne) (status buffers : ℕ) (old new : DiskState) (left left' written written' : Option (List ℕ)) (source source' sink sink' : ℕ)
-    (ends : EndsServing limits status buffers old new left left' written written' source source' sink sink')
+module _ (limits : Limits) (incomplete : IncompleteLine) (one : AreOne) (status buffers : ℕ) (old new : DiskState) (left left' written written' : Option (List ℕ)) (source source' sink sink' : ℕ)
+    (ends : EndsServing limits incomplete status buffers old new left left' written written' source source' sink sink')
     (calm : NothingFailsAnswering limits old new left source source' sink sink') where
   -- no line tells a fault
   answers_are_calm : (lines : List (List ℕ)) (text : List ℕ) (is : IsAnswered buffers old new lines text) → AreCalm is.answers
@@ -72,15 +73,15 @@ module _ (limits : Limits) (one : AreOne) (status buffers : ℕ) (old new : Disk
         | inr none ↦ with_none none
       ]
 
-  done_calmly : (text : List ℕ) → IsWholeAnswer limits (IsAnswered buffers old new) left left' text → IsWholeAnswer limits (IsAnsweredCalmly buffers old new) left left' text
+  done_calmly : (text : List ℕ) → IsWholeAnswer limits incomplete (IsAnswered buffers old new) left left' text → IsWholeAnswer limits incomplete (IsAnsweredCalmly buffers old new) left left' text
   done_calmly text is = record {
     script = is.script;
     read = is.read;
     answered = record { answered = is.answered; calm = answers_are_calm _ text is.answered };
   }
 
-  in_part_calmly : StopsShort limits (IsAnsweredInPart buffers old new false) left left' written written'
-      → StopsShort limits (IsAnsweredCalmlyInPart buffers old new false) left left' written written'
+  in_part_calmly : StopsShort limits incomplete (IsAnsweredInPart buffers old new false) left left' written written'
+      → StopsShort limits incomplete (IsAnsweredCalmlyInPart buffers old new false) left left' written written'
   in_part_calmly is = (is.0, (is.1.0, (is.1.1.0, record { answered = is.1.1.1; calm = answers_are_calm is.0 is.1.1.1.output is.1.1.1.answered }, is.1.1.2)))
 
   by_status : IsServeStatus status → IsDone status
@@ -92,7 +93,7 @@ module _ (limits : Limits) (one : AreOne) (status buffers : ℕ) (old new : Disk
   by_status (inr (inl e)) = absurd (no_disk_fault old new (ends.disk_fault e) calm.disk)
   by_status (inr (inr e)) = absurd (let found = ends.no_log e in is_a_log one found.1.refusal old new calm.log found.1.no_log found.1.refuses)
 
-  pub comes_through : ComesThrough limits status buffers old new left left' written written'
+  pub comes_through : ComesThrough limits incomplete status buffers old new left left' written written'
   comes_through = record {
     statuses = by_status ends.statuses;
     done = λ e. let found = ends.done e in (found.0, done_calmly found.0 found.1, found.2);

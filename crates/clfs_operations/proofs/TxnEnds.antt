@@ -21,7 +21,9 @@ use Rattle.clfs_cells_laws.specs.Breaking.{breaks_loading}
 use Rattle.clfs_cells_laws.specs.Crashes.{IsSafe}
 use Rattle.clfs_cells_laws.specs.Loads as tables
 use Rattle.clfs_txn.specs.Crashes.{CrashLeavesTable}
+use Rattle.clfs_txn.specs.UnderWay.{loading_of}
 use Rattle.clfs_lines.specs.Answering.{Answers, EndsAnswering, IsAnswerStatus, StopsAtFault, Writes}
+use Rattle.clfs_lines.specs.declared.incomplete.IncompleteLine.TheVariants.{Counts}
 use Rattle.clfs_lines.specs.Ends.{AppendsFront}
 use Rattle.clfs_operations.specs.Opened.{RefusesLog, TellsRefusal, refusal_line}
 use Rattle.clfs_operations.specs.Txn.{AnswersTableLines, IsOpenedLog, IsTableAnswered, IsTableAnsweredInPart, RefusesTable, TellsTableRefusal, IsTableRefusalText, IsTxnStatus, EndsTxn, TableRun, table_refusal_line, table_refusal_status}
@@ -42,6 +44,7 @@ opened_log old mid first loaded = record {
   buffers_are = loaded.buffers_are;
   valid = loaded.valid;
   storable = loaded.storable;
+  stable = loaded.stable;
   begins = sym (ap (λ (s : State). s.broken) loaded.stable);
 }
 
@@ -54,7 +57,7 @@ honest_later old new same honest = subst (λ (n : Nature). IsTrue n.tells_conten
 
 -- what a crash leaves until the table was loaded
 loading_left : (old mid disk new : DiskState) (first : State) → IsLoaded 4 old mid first → Later mid disk → Later disk new
-    → CrashLeavesTable (table first) (table first) mid disk → IsHonest old → IsLoadingLeft old new first disk.clock
+    → CrashLeavesTable (table first) (table first) (loading_of first 1) mid disk → IsHonest old → IsLoadingLeft old new first disk.clock
 loading_left old mid disk new first opened loading time moments honest = record {
   opened = mid.clock;
   later = opened.time.later;
@@ -68,7 +71,7 @@ loading_left old mid disk new first opened loading time moments honest = record 
 module _ (old mid disk new : DiskState) (first : State) (store last : Store) (opened : IsLoaded 4 old mid first)
     (load : LoadStep mid.nature.tells_contents first 1 (Ok store.memory) store.log)
     (loaded : tables.IsLoaded mid.nature.tells_contents first 1 store.memory store.log) (writes : WritesDisk ⊥ mid disk) (kept : IsKeptOn last.log new)
-    (moments : CrashLeavesTable (table first) (table first) mid disk) (safe : TellsContents mid → IsSafe store.log store.memory.stream) where
+    (moments : CrashLeavesTable (table first) (table first) (loading_of first 1) mid disk) (safe : TellsContents mid → IsSafe store.log store.memory.stream) where
   -- time until the table was loaded
   before : Later old disk
   before = later_then old mid disk (unchanged_later old mid opened.time) writes.time
@@ -95,11 +98,11 @@ module _ (old mid disk new : DiskState) (first : State) (store last : Store) (op
   table_left lines text lines_did honest = record {
     loaded = disk.clock;
     loading = loading_left old mid disk new first opened writes.time lines_did.given.time moments honest;
-    answered = subst (λ (n : Nature). IsLeftByLines n.tells_contents new.image_at disk.clock new.clock (alone (table first)) store (calls_of_lines lines) lines_did.given.answers last)
-        before.nature (lines_did.crash (inr (safe (tells_later old mid opened.time.nature honest.0))) (honest_later old disk before.nature honest) (alone (table first)) at_first);
+    answered = subst (λ (n : Nature). IsLeftByLines n.tells_contents new.image_at disk.clock new.clock (alone (table first) (loading_of first 1)) store (calls_of_lines lines) lines_did.given.answers last)
+        before.nature (lines_did.crash (inr (safe (tells_later old mid opened.time.nature honest.0))) (honest_later old disk before.nature honest) (alone (table first) (loading_of first 1)) at_first);
   }
     where
-      at_first : IsLeftTable disk.image_at disk.clock disk.clock (alone (table first))
+      at_first : IsLeftTable disk.image_at disk.clock disk.clock (alone (table first) (loading_of first 1))
       at_first moment image from until is =
           (moments (honest_later old mid opened.time.nature honest)).each moment image (let later = writes.time.later in omega (arith, from, later)) until is
 
@@ -147,7 +150,7 @@ pub refuses_table : (cause : TxnLoadRefusal) (old mid new : DiskState) (first la
     → LoadStep mid.nature.tells_contents first 1 (Err cause) last → tables.IsNotLoaded mid.nature.tells_contents first 1 cause last
     → (breaks_loading (Err cause) ≡ false → last.broken ≡ false) → WritesDisk (cause ≡ Log log_refusals.DiskFault) mid new
     → (TellsContents mid → (container offset at : ℕ) → cause ≡ Log (log_refusals.Damaged container offset at) → ⊥) → IsKeptOn last new
-    → CrashLeavesTable (table first) (table first) mid new → RefusesTable cause old new
+    → CrashLeavesTable (table first) (table first) (loading_of first 1) mid new → RefusesTable cause old new
 refuses_table cause old mid new first last opened load refused stays writes damage kept moments =
     let before = unchanged_later old mid opened.time in
     let time = later_then old mid new before writes.time in
@@ -198,18 +201,18 @@ not_refused status answers others = by_answer answers
 pub answering_ends : (Is : Answers) (InPart : Bool → Answers) (status : ℕ) (old new : DiskState) (left left' written written' : Option (List ℕ)) (source source' sink sink' : ℕ)
     → ((lines : List (List ℕ)) (text : List ℕ) → Is lines text → IsTableAnswered old new lines text)
     → ((torn : Bool) (lines : List (List ℕ)) (text : List ℕ) → InPart torn lines text → IsTableAnsweredInPart old new torn lines text)
-    → EndsAnswering serve_limits Is InPart status left left' written written' source source' sink sink'
+    → EndsAnswering serve_limits Counts Is InPart status left left' written written' source source' sink sink'
     → EndsTxn status old new left left' written written' source source' sink sink'
 answering_ends Is InPart status old new left left' written written' source source' sink sink' also also_part ends = record {
   statuses = inl ends.statuses;
-  done = λ e. let found = ends.done e in (found.0, whole_as serve_limits Is Other also left left' found.0 found.1, found.2);
+  done = λ e. let found = ends.done e in (found.0, whole_as serve_limits Is Other also Counts left left' found.0 found.1, found.2);
   source_fault = ends.source_fault;
   source_fault_answers = λ e. let found = ends.source_fault_answers e in (found.0, fault_as serve_limits Is Other also left left' found.0 found.1, found.2);
   sink_fault = ends.sink_fault;
   sink_fault_front = λ e. inl (at_fault (ends.sink_fault_front e));
   disk_fault = λ e. absurd (not_refused status ends.statuses (inl e));
   disk_fault_line = λ e. absurd (not_refused status ends.statuses (inl e));
-  no_memory = λ e. inr (inr (stops_as serve_limits (InPart false) (OtherPart false) (also_part false) left left' written written' (ends.no_memory e)));
+  no_memory = λ e. inr (inr (stops_as serve_limits Counts (InPart false) (OtherPart false) (also_part false) left left' written written' (ends.no_memory e)));
   no_log = λ e. absurd (not_refused status ends.statuses (inr (inl e)));
   too_long = λ e. let found = ends.too_long e in (found.0, limit_as serve_limits Is Other also left left' found.0 found.1, found.2);
   no_table = λ e. absurd (not_refused status ends.statuses (inr (inr (inl e))));
@@ -225,8 +228,8 @@ answering_ends Is InPart status old new left left' written written' source sourc
     OtherPart : Bool → Answers
     OtherPart = IsTableAnsweredInPart old new
 
-    at_fault : StopsAtFault serve_limits Is InPart left left' written written' → StopsAtFault serve_limits Other OtherPart left left' written written'
-    at_fault (inl stops) = inl (stops_as serve_limits (InPart true) (OtherPart true) (also_part true) left left' written written' stops)
+    at_fault : StopsAtFault serve_limits Counts Is InPart left left' written written' → StopsAtFault serve_limits Counts Other OtherPart left left' written written'
+    at_fault (inl stops) = inl (stops_as serve_limits Counts (InPart true) (OtherPart true) (also_part true) left left' written written' stops)
     at_fault (inr cut) = inr (cut.0, at_limit_as serve_limits Is Other also left left' cut.0 cut.1, cut.2)
 
 -- ---- the table wasn't loaded

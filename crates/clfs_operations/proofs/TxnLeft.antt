@@ -12,7 +12,7 @@ use Rattle.clfs_cells.specs.Plans.{CarriesOut, Plan}
 use Rattle.clfs_cells.specs.Stored.{Memory, Store}
 use Rattle.clfs_cells.specs.Table.{table}
 use Rattle.clfs_cells_laws.specs.Crashes.{IsSafe, is_answer}
-use Rattle.clfs_operations.specs.TableAnswered.{AnswersAsked, IsUncalled, LeavesAsked, LineStep, asks_nothing, table_asked}
+use Rattle.clfs_operations.specs.TableAnswered.{AnswersAsked, IsUncalled, LeavesAsked, LineStep, asks_nothing, table_asked, under_asked}
 use Rattle.clfs_operations.specs.Crashed.{Images}
 use Rattle.clfs_operations.specs.TxnCrashed.{CrashLeavesLines, IsLeftByLines, IsLeftTable, Tables, alone, is_uncalled, tables_answered, tables_under_way}
 
@@ -76,18 +76,20 @@ module _ (s : Store) (old : DiskState) (mid : Store) (between : DiskState) (t : 
   ]
 
   under_way : IsLeftTable between.image_at old.clock between.clock (tables_under_way was s line)
-  under_way = left_if between.image_at old.clock between.clock (is_uncalled s line) was (record { before = table s.log; after = table_asked s line })
+  under_way = left_if between.image_at old.clock between.clock (is_uncalled s line) was (record { before = table s.log; after = table_asked s line; under = under_asked s line })
       (λ e moment image from until at. let no = still e in
       left moment image from (let same = no.clock in omega (arith, same, until)) (no.images moment image at))
       (λ e. let apart = both_false s.log.broken (asks_nothing line) e in ((leaves apart.0).moments apart.1 honest).each)
 
   answered : IsLeftTable between.image_at between.clock between.clock (tables_answered was s line reply)
   answered = left_if between.image_at between.clock between.clock (is_uncalled s line) was
-      (if is_answer reply then alone (table_asked s line) else record { before = table s.log; after = table_asked s line })
+      (if is_answer reply then alone (table_asked s line) (under_asked s line)
+      else record { before = table s.log; after = table_asked s line; under = under_asked s line })
       (λ e moment image from until at. let no = still e in let same = no.clock in
       left moment image (omega (arith, same, from)) (omega (arith, same, until)) (no.images moment image at))
       (λ e. let apart = both_false s.log.broken (asks_nothing line) e in
-      left_if between.image_at between.clock between.clock (is_answer reply) (alone (table_asked s line)) (record { before = table s.log; after = table_asked s line })
+      left_if between.image_at between.clock between.clock (is_answer reply) (alone (table_asked s line) (under_asked s line))
+      (record { before = table s.log; after = table_asked s line; under = under_asked s line })
       (λ good. ((leaves apart.0).lasts apart.1 good honest_between).each)
       (λ bad moment image from until at. ((leaves apart.0).moments apart.1 honest).each moment image (let later = did.writes.time.later in omega (arith, from, later)) until at))
 

@@ -8,6 +8,7 @@ use Rattle.clfs_model.specs.Accepted.{serve_limits}
 use Rattle.clfs_model.specs.declared.refusal.Refusal.TheVariants as log_refusals
 use Rattle.clfs_cells.specs.declared.told.TxnLoadRefusal.TheVariants.{Log}
 use Rattle.clfs_lines.specs.Answering.{IsWholeAnswer, StopsShort}
+use Rattle.clfs_lines.specs.declared.incomplete.IncompleteLine.TheVariants.{Counts}
 use Rattle.clfs_operations.specs.Complete.{DidNotFail, IsDone, TellsLog, NothingFailsAnswering}
 use Rattle.clfs_operations.specs.Txn.{AreTableCalm, EndsTxn, IsTableAnswered, IsTableAnsweredInPart, IsTableAnsweredCalmly, IsTableAnsweredCalmlyInPart, IsTxnStatus, RefusesTable, TableComesThrough, has_table_fault}
 use Rattle.clfs_operations.proofs.Through.{AreOne, is_a_log, no_disk_fault, passes_none}
@@ -38,16 +39,16 @@ module _ (one : AreOne) (status : ℕ) (old new : DiskState) (left left' written
         | inr none ↦ with_none none
       ]
 
-  done_calmly : (text : List ℕ) → IsWholeAnswer serve_limits (IsTableAnswered old new) left left' text
-      → IsWholeAnswer serve_limits (IsTableAnsweredCalmly old new) left left' text
+  done_calmly : (text : List ℕ) → IsWholeAnswer serve_limits Counts (IsTableAnswered old new) left left' text
+      → IsWholeAnswer serve_limits Counts (IsTableAnsweredCalmly old new) left left' text
   done_calmly text is = record {
     script = is.script;
     read = is.read;
     answered = record { answered = is.answered; calm = answers_are_calm _ text is.answered };
   }
 
-  in_part_calmly : StopsShort serve_limits (IsTableAnsweredInPart old new false) left left' written written'
-      → StopsShort serve_limits (IsTableAnsweredCalmlyInPart old new false) left left' written written'
+  in_part_calmly : StopsShort serve_limits Counts (IsTableAnsweredInPart old new false) left left' written written'
+      → StopsShort serve_limits Counts (IsTableAnsweredCalmlyInPart old new false) left left' written written'
   in_part_calmly is = (is.0, (is.1.0, (is.1.1.0, record { answered = is.1.1.1; calm = answers_are_calm is.0 is.1.1.1.output is.1.1.1.answered }, is.1.1.2)))
 
   by_status : IsTxnStatus status → IsDone status ⊎ ((status ≡ 9) ⊎ (status ≡ 10))

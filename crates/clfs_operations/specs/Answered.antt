@@ -5,6 +5,7 @@ use Rattle.clfs_model.specs.declared.refusal.Refusal.TheVariants as refusals
 use Rattle.clfs_model.specs.declared.reply.Reply.{Reply}
 use Rattle.clfs_model.specs.declared.reply.Reply.TheVariants as replies
 use Rattle.clfs_model.specs.declared.state.State.{State}
+use Rattle.clfs_model.specs.Flush.{cut}
 use Rattle.clfs_model.specs.Happened.{happened_of}
 use Rattle.clfs_model.specs.Lines.{without_return}
 use Rattle.clfs_model.specs.Run.{Request, RequestStep, Run}
@@ -17,7 +18,7 @@ use Rattle.clfs_recover.specs.Files.{StandsFor, AreWholeFiles}
 use Rattle.clfs_manager.specs.Reopening.{HoldsFlushed}
 use Rattle.clfs_manager.specs.Crashes.{CrashSurvives}
 use Rattle.clfs_manager.specs.Written.{WritesDisk}
-use Rattle.clfs_operations.specs.Crashed.{CrashLeavesRun, IsLeftFrom, StandsStill}
+use Rattle.clfs_operations.specs.Crashed.{CrashLeavesRun, IsLeftFrom, StandsStill, asked_by}
 use Rattle.clfs_operations.specs.Told.{has_fault, has_damage, has_broken}
 
 -- what lines ask for, each with its carriage return dropped
@@ -34,8 +35,8 @@ pub record AnswersOne (s : State) (old : DiskState) (request : Request) (reply :
   pub step : RequestStep old.nature.tells_contents s request (happened_of reply) reply t
   pub damage : TellsContents old → IsDamaged reply → ⊥
   pub writes : WritesDisk (reply ≡ replies.Refused refusals.DiskFault) old new
-  -- a crash in it leaves a survivor; a broken log makes no call on the disk
-  pub crash : CrashSurvives request s old new
+  -- a crash in it leaves a survivor, and where memory ran out for a call the flushed part alone; a broken log makes no call on the disk
+  pub crash : CrashSurvives (asked_by request reply) s old new
   pub stopped : s.broken ≡ true → StandsStill old new
   pub faultless : IsFaultless s reply t
 
@@ -107,6 +108,8 @@ pub record IsAnswered (buffers : ℕ) (old new : DiskState) (lines : List (List 
   pub buffers_are : first.buffers ≡ buffers
   pub valid : IsValid first
   pub storable : IsStorable first
+  -- no client has an area then, so nothing is reserved, and nothing waits to be written
+  pub stable : cut first ≡ first
   pub begins : first.broken ≡ false
   -- the replies are those of a run of the log machine, and so is the text
   pub answered : AnswersAll first old (requests_of lines) answers last new

@@ -10,12 +10,14 @@ use Rattle.clfs_model.specs.declared.state.State.{State}
 use Rattle.clfs_model.specs.Flush.{IsSame, flushed}
 use Rattle.clfs_model.specs.Run.{asks}
 use Rattle.clfs_recover.specs.Files.{StandsFor, AreWholeFiles}
+use Rattle.clfs_recover.specs.declared.refusal.LoadRefusal.{LoadRefusal}
 use Rattle.clfs_recover.specs.declared.refusal.LoadRefusal.TheVariants.{DiskFault}
 use Rattle.clfs_recover.specs.declared.refusal.LoadRefusal.TheVariants as loading
+use Rattle.clfs_recover.specs.Telling.{TellsOpening}
 use Rattle.clfs_manager.specs.Crashes.{HoldSurvivor}
 use Rattle.clfs_archive_form.specs.Form.{IsArchiveOf}
 use Rattle.clfs_archive_form.specs.Drafting.{most_archive}
-use Rattle.clfs_restore.specs.Archiving.{all_archived}
+use Rattle.clfs_restore.specs.Archiving.{TellsDamage, all_archived, refused_as}
 use Rattle.clfs_restore.specs.declared.refusal.ArchiveRefusal.{ArchiveRefusal}
 use Rattle.clfs_restore.specs.declared.refusal.ArchiveRefusal.TheVariants as refusals
 use Rattle.clfs_lines.specs.Answering.{Writes, WritesFront}
@@ -79,6 +81,12 @@ pub record TellsUnarchived (status : ℕ) (cause : ArchiveRefusal) (written writ
   pub sink_fault_front : status ≡ 3 → (cause ≢ refusals.NoMemory) × AppendsFront written written_after (unarchived_line cause)
   pub no_memory_silence : status ≡ 5 → Appends written written_after []
   pub sink_count : sink ≤ sink_after
+
+-- The line that says that the files aren't a log's names a byte that was wrong where the log was opened, or where it was archived then.
+pub record NamesWrongByte (text : List ℕ) : Type 0 where
+  pub refusal : LoadRefusal
+  pub line : text ≡ no_log_text refusal
+  pub told : TellsOpening refusal ⊎ TellsDamage (refused_as refusal)
 
 -- ---- what was done
 
@@ -152,6 +160,7 @@ pub record EndsArchive (status : ℕ) (old new : DiskState) (written written_aft
   pub no_memory : status ≡ 5 → Unchanged old.files new.files × Appends written written_after []
   -- the files aren't a log's, and the line that says so was written
   pub no_log : status ≡ 6 → Writes (IsNoLogText old new) written written_after
+  pub wrong_byte : status ≡ 6 → Writes NamesWrongByte written written_after
   -- archiving is off, and the line that says so was written
   pub off : status ≡ 11 → IsUnarchived old × Appends written written_after archiving_off_text
   -- the archive has more bytes than it may have, and the line that says so was written

@@ -16,6 +16,8 @@ use Rattle.clfs_operations.specs.Raced.{IsRaced, IsRacedInPart}
 use Rattle.clfs_lines.specs.Answering.{IsWholeAnswer, StopsShort, Writes}
 use Rattle.clfs_operations.specs.Serve.{StaysUnopened}
 use Rattle.clfs_lines.specs.Taken.{AreReached}
+use Rattle.clfs_lines.specs.declared.incomplete.IncompleteLine.{IncompleteLine}
+use Rattle.clfs_lines.specs.declared.incomplete.IncompleteLine.TheVariants.{Counts}
 use Rattle.clfs_operations.specs.Told.{has_fault, has_damage, has_broken}
 
 -- The command was done, or memory ran out.
@@ -65,11 +67,11 @@ pub record IsAnsweredCalmlyInPart (buffers : ℕ) (old new : DiskState) (torn : 
   pub calm : AreCalm answered.answered.answers
 
 -- Serving was done, or memory ran out, and no line was answered by a fault, damage, or that the log is broken, also none whose reply wasn't written.
-pub record ComesThrough (limits : Limits) (status buffers : ℕ) (old new : DiskState) (left left_after written written_after : Option (List ℕ)) : Type 0 where
+pub record ComesThrough (limits : Limits) (incomplete : IncompleteLine) (status buffers : ℕ) (old new : DiskState) (left left_after written written_after : Option (List ℕ)) : Type 0 where
   pub statuses : IsDone status
-  pub done : status ≡ 0 → Writes (IsWholeAnswer limits (IsAnsweredCalmly buffers old new) left left_after) written written_after
+  pub done : status ≡ 0 → Writes (IsWholeAnswer limits incomplete (IsAnsweredCalmly buffers old new) left left_after) written written_after
   pub no_memory : status ≡ 5 → StaysUnopened old new left left_after written written_after
-      ⊎ StopsShort limits (IsAnsweredCalmlyInPart buffers old new false) left left_after written written_after
+      ⊎ StopsShort limits incomplete (IsAnsweredCalmlyInPart buffers old new false) left left_after written written_after
 
 -- ---- racing
 
@@ -95,9 +97,9 @@ pub record IsRacedCalmlyInPart (buffers : ℕ) (old new : DiskState) (lines : Li
 -- reply wasn't written.
 pub record RaceComesThrough (status buffers : ℕ) (old new : DiskState) (left left_after written written_after : Option (List ℕ)) : Type 0 where
   pub statuses : IsDone status
-  pub done : status ≡ 0 → Writes (IsWholeAnswer race_limits (IsRacedCalmly buffers old new) left left_after) written written_after
+  pub done : status ≡ 0 → Writes (IsWholeAnswer race_limits Counts (IsRacedCalmly buffers old new) left left_after) written written_after
   pub no_memory : status ≡ 5 → LeavesFiles old new
-      ⊎ ((lines : List (List ℕ)) × (AreReached race_limits left left_after lines × IsRacedCalmlyInPart buffers old new lines))
+      ⊎ ((lines : List (List ℕ)) × (AreReached race_limits Counts left left_after lines × IsRacedCalmlyInPart buffers old new lines))
 
 -- ---- making and judging a log
 

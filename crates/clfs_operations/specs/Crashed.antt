@@ -2,12 +2,16 @@
 use Rattle.std.specs.Prelude.{◌≡◌, ℕ, ◌<◌, ◌≤◌, Bool, true, false, if◌then◌else◌, List, [], ◌∷◌}
 use Rattle.clfs_disk.specs.Files.{Files, Unchanged}
 use Rattle.clfs_disk.specs.State.{DiskState, IsHonest, MayLeave}
+use Rattle.clfs_model.specs.declared.journal.Entry.{Entry}
+use Rattle.clfs_model.specs.declared.refusal.Refusal.TheVariants as refusals
 use Rattle.clfs_model.specs.declared.reply.Reply.{Reply}
+use Rattle.clfs_model.specs.declared.reply.Reply.TheVariants as replies
 use Rattle.clfs_model.specs.declared.state.State.{State}
 use Rattle.clfs_model.specs.Happened.{happened_of}
-use Rattle.clfs_model.specs.Run.{Request, RequestStep, bad_line}
+use Rattle.clfs_model.specs.Run.{Request, RequestStep, asks, bad_line}
 use Rattle.clfs_recover.specs.Files.{AreWholeFiles}
 use Rattle.clfs_manager.specs.Crashes.{HoldSurvivor}
+use Rattle.clfs_shared.specs.Crashes.{IsLeftByEntries, since}
 
 -- a request, and the state from which it is asked
 pub record Asking : Type 0 where
@@ -18,10 +22,15 @@ pub record Asking : Type 0 where
 abbrev pub nothing_asked : State → Asking
 nothing_asked s = record { request = bad_line 0; state = s }
 
--- What is under way while a request is answered: that request, or, once the log is broken, the one in which it broke, since the disk isn't called any
--- more.
-abbrev pub under_way : Asking → Request → State → Asking
-under_way before request s = if s.broken then before else record { request = request; state = s }
+-- What is under way while a request is answered, by its reply. A call for which memory ran out leaves no more than a bad line: the flushed part of the
+-- state.
+abbrev pub asked_by : Request → Reply → Request
+asked_by (asks client call) (replies.Refused refusals.NoMemory) = bad_line 0
+asked_by request reply = request
+
+-- The same, or, once the log is broken, what was under way when it broke, since the disk isn't called any more.
+abbrev pub under_way : Asking → Request → Reply → State → Asking
+under_way before request reply s = if s.broken then before else record { request = asked_by request reply; state = s }
 
 -- what a crash leaves at each moment
 abbrev pub Images : Type 1
@@ -37,9 +46,9 @@ IsLeftBetween whole images from to asked = (moment : ℕ) (image : Files) → fr
 abbrev pub IsLeftByRun : Bool → Bool → Images → ℕ → ℕ → Asking → State → List Request → List Reply → State → Type 0
 IsLeftByRun told whole images from to before s [] [] t = (t ≡ s) × (from ≡ to)
 IsLeftByRun told whole images from to before s (request ∷ requests) (reply ∷ answers) t =
-    (behind : ℕ) × ((from ≤ behind) × (IsLeftBetween whole images from behind (under_way before request s)
+    (behind : ℕ) × ((from ≤ behind) × (IsLeftBetween whole images from behind (under_way before request reply s)
     × ((mid : State) × (RequestStep told s request (happened_of reply) reply mid
-    × IsLeftByRun told whole images behind to (under_way before request s) mid requests answers t))))
+    × IsLeftByRun told whole images behind to (under_way before request reply s) mid requests answers t))))
 IsLeftByRun told whole images from to before s _ _ t = ⊥
 
 -- No call was made on the disk.
@@ -64,3 +73,14 @@ pub record IsLeftFrom (old new : DiskState) (first : State) (requests : List Req
   pub opened : (whole : Bool) → (whole ≡ true → AreWholeFiles old.files) → IsLeftBetween whole new.image_at from from (nothing_asked first)
   pub answered : (whole : Bool) → (whole ≡ true → AreWholeFiles old.files)
       → IsLeftByRun old.nature.tells_contents whole new.image_at from new.clock (nothing_asked first) first requests answers last
+
+-- The same of a log that several clients share: from then on a crash leaves what survives the call of the journal that is made, and between two of them the
+-- flushed part of the log.
+pub record IsLeftByJournal (old new : DiskState) (first : State) (journal : List Entry) (last : State) : Type 0 where
+  pub from : ℕ
+  pub later : old.clock ≤ from
+  pub before : (moment : ℕ) (image : Files) → old.clock ≤ moment → moment < from → new.image_at moment image
+      → (left : Files) × (MayLeave old left × Unchanged left image)
+  pub opened : (whole : Bool) → (whole ≡ true → AreWholeFiles old.files) → IsLeftBetween whole new.image_at from from (nothing_asked first)
+  pub taken : (whole : Bool) → (whole ≡ true → AreWholeFiles old.files)
+      → IsLeftByEntries old.nature.tells_contents whole (since from new.image_at) from new.clock first journal last

@@ -1,5 +1,5 @@
 -- A log that was loaded, what the disk has of it later, and what is so of the calls that it took.
-use Rattle.std.specs.Prelude.{◌≡◌, ℕ, ◌≤◌, Bool, true, false, List}
+use Rattle.std.specs.Prelude.{◌≡◌, ℕ, true, false, List}
 use Rattle.clfs_disk.specs.Files.{Unchanged}
 use Rattle.clfs_disk.specs.State.{DiskState, TellsContents, IsHonest, IsSettled, Passes, Rises}
 use Rattle.clfs_model.specs.declared.journal.Entry.{Entry}
@@ -8,10 +8,9 @@ use Rattle.clfs_model.specs.Flush.{cut}
 use Rattle.clfs_model.specs.Run.{bad_line}
 use Rattle.clfs_model.specs.Storable.{IsStorable}
 use Rattle.clfs_model.specs.Valid.{IsValid}
-use Rattle.clfs_recover.specs.Files.{StandsFor, AreWholeFiles}
+use Rattle.clfs_recover.specs.Files.{StandsFor}
 use Rattle.clfs_manager.specs.Crashes.{CrashSurvives}
 use Rattle.clfs_manager.specs.Reopening.{HoldsFlushed}
-use Rattle.clfs_shared.specs.Crashes.{IsLeftByEntries, since}
 use Rattle.clfs_operations.specs.Raced.{HasTaken}
 
 -- what loading says of the state and the disk
@@ -31,18 +30,8 @@ pub record IsKeptOn (t : State) (new : DiskState) : Type 0 where
   pub files : t.broken ≡ false → TellsContents new → HoldsFlushed new.files t
   pub settled : t.broken ≡ false → IsHonest new → IsSettled new
 
--- While the log was loaded nothing was written, and then a crash leaves its flushed part. After that it leaves files that hold what survives the next call
--- after a front of the journal, in files of full length where they were so. Calls that ran out of memory, which aren't in the journal, may stand between
--- those that are.
-pub record IsLeftByJournal (old loaded new : DiskState) (first : State) (journal : List Entry) (last : State) : Type 0 where
-  pub same : Unchanged old.files loaded.files
-  pub time : Passes Unchanged old loaded
-  pub opened : CrashSurvives (bad_line 0) first loaded loaded
-  pub left : (whole : Bool) → (whole ≡ true → AreWholeFiles old.files)
-      → IsLeftByEntries old.nature.tells_contents whole (since loaded.clock new.image_at) loaded.clock new.clock first journal last
-
--- What is so of a journal that led a log from the state in which it was loaded, when the disk was as `loaded`, to another one.
-pub record IsTakenFrom (buffers : ℕ) (old loaded new : DiskState) (s t : State) (journal : List Entry) : Type 0 where
+-- What is so of a journal that led a log from the state in which it was loaded to another one.
+pub record IsTakenFrom (buffers : ℕ) (old new : DiskState) (s t : State) (journal : List Entry) : Type 0 where
   pub taken : HasTaken buffers old new journal
   pub first : taken.first ≡ s
   pub last : taken.last ≡ t
@@ -51,4 +40,3 @@ pub record IsTakenFrom (buffers : ℕ) (old loaded new : DiskState) (s t : State
   pub honest : IsHonest old → IsHonest new
   -- over a disk that tells what its files hold only a fault breaks the log
   pub cause : t.broken ≡ true → TellsContents old → Rises old.faults new.faults
-  pub crash : IsHonest old → IsLeftByJournal old loaded new s journal t

@@ -13,6 +13,7 @@ use Rattle.clfs_operations.specs.Raced.{IsRaced, IsRacedInPart}
 use Rattle.clfs_lines.specs.Answering.{Answers, IsWholeAnswer, IsAnswerUpToFault, IsAnswerUpToLimit, Writes, WritesFront}
 use Rattle.clfs_operations.specs.Serve.{IsServeStatus}
 use Rattle.clfs_lines.specs.Taken.{AreReached}
+use Rattle.clfs_lines.specs.declared.incomplete.IncompleteLine.TheVariants.{Counts}
 
 -- The source failed before it passed a limit.
 pub record FailsWithin (left left_after : Option (List ℕ)) (source source_after : ℕ) : Type 0 where
@@ -25,7 +26,7 @@ pub record FailsWithin (left left_after : Option (List ℕ)) (source source_afte
 -- line that says so.
 abbrev pub IsRaceOutput : Answers → Option (List ℕ) → Option (List ℕ) → ℕ → ℕ → List ℕ → Type 0
 IsRaceOutput Is left left_after source source_after text =
-    IsWholeAnswer race_limits Is left left_after text
+    IsWholeAnswer race_limits Counts Is left left_after text
     ⊎ ((FailsWithin left left_after source source_after × IsAnswerUpToFault race_limits Is left left_after text)
     ⊎ IsAnswerUpToLimit race_limits Is left left_after text)
 
@@ -40,7 +41,7 @@ pub record EndsRacing (status buffers : ℕ) (old new : DiskState) (left left_af
   -- there is no other status
   pub statuses : IsServeStatus status
   -- the source was read to its end, and the sink's new bytes are the replies to all its lines
-  pub done : status ≡ 0 → Writes (IsWholeAnswer race_limits (IsRaced buffers old new) left left_after) written written_after
+  pub done : status ≡ 0 → Writes (IsWholeAnswer race_limits Counts (IsRaced buffers old new) left left_after) written written_after
   -- the source failed in this call before it passed a limit, and the lines that came whole before are answered
   pub source_fault : status ≡ 2 → FailsWithin left left_after source source_after
   pub source_fault_answers : status ≡ 2 → Writes (IsAnswerUpToFault race_limits (IsRaced buffers old new) left left_after) written written_after
@@ -55,7 +56,7 @@ pub record EndsRacing (status buffers : ℕ) (old new : DiskState) (left left_af
   -- memory ran out, and nothing was written: no file has changed, or of each client the first lines were done
   pub no_memory_silence : status ≡ 5 → Appends written written_after []
   pub no_memory : status ≡ 5 → LeavesFiles old new
-      ⊎ ((lines : List (List ℕ)) × (AreReached race_limits left left_after lines × IsRacedInPart buffers old new lines))
+      ⊎ ((lines : List (List ℕ)) × (AreReached race_limits Counts left left_after lines × IsRacedInPart buffers old new lines))
   -- the files aren't a log's, and the line that says so was written
   pub no_log : status ≡ 6 → Writes (IsNoLogText old new) written written_after
   -- what the source gave passes a limit; the lines that came whole before it are answered, and then the line that says so

@@ -5,6 +5,7 @@ use mathlib.Core.List.{IsPrefix}
 use Rattle.clfs_disk.specs.State.{DiskState, TellsContents, IsHonest, IsSteady, IsSettled, Rises}
 use Rattle.clfs_model.specs.declared.journal.Entry.{Entry}
 use Rattle.clfs_model.specs.declared.state.State.{State}
+use Rattle.clfs_model.specs.Flush.{cut}
 use Rattle.clfs_model.specs.Journals.{ClientScript, IsLegal, IsShuffle, mine}
 use Rattle.clfs_model.specs.Storable.{IsStorable}
 use Rattle.clfs_model.specs.Valid.{IsValid}
@@ -12,6 +13,7 @@ use Rattle.clfs_recover.specs.Files.{StandsFor, AreWholeFiles}
 use Rattle.clfs_manager.specs.Reopening.{HoldsFlushed}
 use Rattle.clfs_shared.specs.Journal.{has_fault, has_damage}
 use Rattle.clfs_race.specs.Scripts.{race_requests, scripts_of, bad_text, journal_text}
+use Rattle.clfs_operations.specs.Crashed.{IsLeftByJournal}
 use Rattle.clfs_operations.specs.Told.{tells_broken}
 use Rattle.clfs_operations.specs.Made.{calls_of}
 
@@ -28,6 +30,8 @@ pub record HasTaken (buffers : ℕ) (old new : DiskState) (journal : List Entry)
   pub buffers_are : first.buffers ≡ buffers
   pub valid : IsValid first
   pub storable : IsStorable first
+  -- no client has an area then, so nothing is reserved, and nothing waits to be written
+  pub stable : cut first ≡ first
   pub begins : first.broken ≡ false
   -- the journal is one step of the log machine after the other
   pub legal : IsLegal old.nature.tells_contents journal first last
@@ -42,6 +46,8 @@ pub record HasTaken (buffers : ℕ) (old new : DiskState) (journal : List Entry)
   -- where no call is answered that the disk failed, the files hold the flushed part of the last state, and nothing is pending
   pub files : TellsContents old → has_fault journal ≡ false → HoldsFlushed new.files last
   pub settled : IsHonest old → has_fault journal ≡ false → IsSettled new
+  -- a crash at each moment left what survives a call after a front of the journal
+  pub crash : IsHonest old → IsLeftByJournal old new first journal last
 
 -- Lines were answered by a race, and this text is the replies: those to the lines that ask for nothing, and then those of one journal, in which each
 -- client's calls are its lines in order, each once.

@@ -1,5 +1,5 @@
 -- How restoring a log of archives ends.
-use Rattle.std.specs.Prelude.{◌≡◌, ◌≢◌, ◌⊎◌, ℕ, ◌<◌, ◌≤◌, List, [], ◌++◌, codes, decimal, length, Option, None}
+use Rattle.std.specs.Prelude.{◌≡◌, ◌≢◌, ◌⊎◌, ℕ, ◌<◌, ◌≤◌, List, [], ◌++◌, codes, decimal, length, Option, Some, None}
 use Rattle.std.specs.Io.KnownBytes.{Appends, Consumes, IsAtEnd}
 use Rattle.clfs_lsn.specs.Words.{lsn_text}
 use Rattle.clfs_ports.specs.Cause as ports
@@ -119,6 +119,10 @@ pub record TellsWhy (status : ℕ) (up_to : Option ℕ) (old new : DiskState) (l
   pub unrestored : IsUnrestored cause up_to old new left left_after
   pub line : Appends written written_after (restore_refusal_line cause)
 
+-- That a log is there was told by the status, or the sink failed and took a front of the line that says so, or memory ran out.
+abbrev pub TellsExists : ℕ → Option (List ℕ) → Option (List ℕ) → Type 0
+TellsExists status written written_after = (status ≡ 8) ⊎ ((status ≡ 5) ⊎ ((status ≡ 3) × AppendsFront written written_after exists_text))
+
 -- ---- how it ends
 
 -- the statuses of restoring: done; a source fault, a sink fault, a disk fault, no memory, too long an input, a log is there; and why archives are refused
@@ -151,6 +155,9 @@ pub record EndsRestore (up_to : Option ℕ) (status : ℕ) (old new : DiskState)
   -- a log is there, which is as it was, and the line that says so was written; over a disk that tells what its files hold nothing was read
   pub there : status ≡ 8 → MeetsLog old new × Appends written written_after exists_text
   pub there_unread : status ≡ 8 → TellsContents old → (left_after ≡ left) × (source_after ≡ source)
+  -- where a log is there that is told before all else, unless the disk failed in the call
+  pub first : TellsContents old → (slot : ℕ) → open_slot_of (old.files 0) ≡ Some slot
+      → TellsExists status written written_after ⊎ disks.Rises old.faults new.faults
   -- why no log is restored of the archives was written, and no file has changed
   pub no_archive : status ≡ 12 → TellsWhy 12 up_to old new left left_after written written_after
   pub gap : status ≡ 13 → TellsWhy 13 up_to old new left left_after written written_after

@@ -11,6 +11,7 @@ use Rattle.clfs_lines.specs.Ends.{AppendsFront}
 use Rattle.clfs_operations.specs.Ends.{disk_fault_text}
 use Rattle.clfs_operations.specs.Opened.{RefusesLog, IsNoLogText, IsRefusalText}
 use Rattle.clfs_lines.specs.Answering.{Writes, WritesFront, IsWholeAnswer, IsAnswerUpToFault, IsAnswerUpToLimit, StopsShort, StopsAtFault, IsAnswerStatus}
+use Rattle.clfs_lines.specs.declared.incomplete.IncompleteLine.{IncompleteLine}
 
 -- the line for words that are no command
 abbrev pub usage_text : List ℕ
@@ -30,11 +31,11 @@ IsServeStatus status = IsAnswerStatus status ⊎ ((status ≡ 4) ⊎ (status ≡
 -- How serving a script within limits ends: what each status says of the log on the disk, before and after, of the bytes that the source has left, of
 -- those that the sink has taken, and of the two counts of faults. Where lines are answered it is by the log machine, from the state for which the files
 -- stood, and the files stand for its flushed part then.
-pub record EndsServing (limits : Limits) (status buffers : ℕ) (old new : DiskState) (left left_after written written_after : Option (List ℕ)) (source source_after sink sink_after : ℕ) : Type 0 where
+pub record EndsServing (limits : Limits) (incomplete : IncompleteLine) (status buffers : ℕ) (old new : DiskState) (left left_after written written_after : Option (List ℕ)) (source source_after sink sink_after : ℕ) : Type 0 where
   -- there is no other status
   pub statuses : IsServeStatus status
   -- the source was read to its end, and the sink's new bytes are the replies to all its lines
-  pub done : status ≡ 0 → Writes (IsWholeAnswer limits (IsAnswered buffers old new) left left_after) written written_after
+  pub done : status ≡ 0 → Writes (IsWholeAnswer limits incomplete (IsAnswered buffers old new) left left_after) written written_after
   -- the source failed in this call, and the lines that came whole before are answered
   pub source_fault : status ≡ 2 → Rises source source_after
   pub source_fault_answers : status ≡ 2 → Writes (IsAnswerUpToFault limits (IsAnswered buffers old new) left left_after) written written_after
@@ -42,7 +43,7 @@ pub record EndsServing (limits : Limits) (status buffers : ℕ) (old new : DiskS
   -- the line that says why the log wasn't opened
   pub sink_fault : status ≡ 3 → Rises sink sink_after
   pub sink_fault_front : status ≡ 3
-      → StopsAtFault limits (IsAnswered buffers old new) (IsAnsweredInPart buffers old new) left left_after written written_after
+      → StopsAtFault limits incomplete (IsAnswered buffers old new) (IsAnsweredInPart buffers old new) left left_after written written_after
       ⊎ WritesFront (IsRefusalText old new) written written_after
   -- the disk failed in this call, before the log was opened, and the line that says so was written
   pub disk_fault : status ≡ 4 → RefusesLog DiskFault old new
@@ -50,7 +51,7 @@ pub record EndsServing (limits : Limits) (status buffers : ℕ) (old new : DiskS
   -- memory ran out: the log wasn't opened, no file has changed, and nothing was written, or lines up to some were answered, and all their
   -- replies were written whole, or all but the last and nothing of that one
   pub no_memory : status ≡ 5 → StaysUnopened old new left left_after written written_after
-      ⊎ StopsShort limits (IsAnsweredInPart buffers old new false) left left_after written written_after
+      ⊎ StopsShort limits incomplete (IsAnsweredInPart buffers old new false) left left_after written written_after
   -- the files aren't a log's, and the line that says so was written
   pub no_log : status ≡ 6 → Writes (IsNoLogText old new) written written_after
   -- what the source gave passes a limit; the lines that came whole before it are answered, and then the line that says so

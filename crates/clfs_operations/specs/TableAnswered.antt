@@ -17,6 +17,7 @@ use Rattle.clfs_cells.specs.Table.{table}
 use Rattle.clfs_cells_laws.specs.Breaking.{tells_table_damage}
 use Rattle.clfs_cells_laws.specs.Crashes.{EndsSafe, IsSafe, is_answer, table_once}
 use Rattle.clfs_txn.specs.Crashes.{CrashLeavesTable}
+use Rattle.clfs_txn.specs.UnderWay.{UnderWay, asking, nothing}
 
 -- the reply that tells a fault of the disk
 abbrev pub fault_reply : TxnReply
@@ -43,12 +44,17 @@ abbrev pub table_asked : Store → Result TxnCall ℕ → List ℕ
 table_asked s (Ok call) = table_once s call
 table_asked s (Err at) = table s.log
 
+-- what is under way while it is answered
+abbrev pub under_asked : Store → Result TxnCall ℕ → UnderWay
+under_asked s (Ok call) = asking s call
+under_asked s (Err at) = nothing s.log
+
 -- What a crash leaves while a line is answered by a store whose log isn't broken: the table from before, or that once it is answered; the latter from the answer
--- on. A line that asks for nothing leaves disk and store as they are.
+-- on. Of the log it leaves what survives in one of the log's calls that are made for it. A line that asks for nothing leaves disk and store as they are.
 pub record LeavesAsked (s : Store) (old : DiskState) (asked : Result TxnCall ℕ) (reply : TxnReply) (t : Store) (new : DiskState) : Type 0 where
   pub nothing : asks_nothing asked ≡ true → IsUncalled old new
-  pub moments : asks_nothing asked ≡ false → CrashLeavesTable (table s.log) (table_asked s asked) old new
-  pub lasts : asks_nothing asked ≡ false → is_answer reply ≡ true → CrashLeavesTable (table_asked s asked) (table_asked s asked) new new
+  pub moments : asks_nothing asked ≡ false → CrashLeavesTable (table s.log) (table_asked s asked) (under_asked s asked) old new
+  pub lasts : asks_nothing asked ≡ false → is_answer reply ≡ true → CrashLeavesTable (table_asked s asked) (table_asked s asked) (under_asked s asked) new new
   pub kept : TellsContents old → (t.log.broken ≡ true) ⊎ EndsSafe (table s.log) (table_asked s asked) t.memory.stream reply t.log
 
 -- What a line asks for was answered. A fault is told only if the disk failed, damage only over a disk that doesn't tell what its files hold, and a store of

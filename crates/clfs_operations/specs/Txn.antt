@@ -6,6 +6,7 @@ use Rattle.clfs_lsn.specs.Words.{lsn_text}
 use Rattle.clfs_ports.specs.Cause as ports
 use Rattle.clfs_disk.specs.State.{DiskState, TellsContents, IsHonest, IsSteady, IsSettled, Later, Rises}
 use Rattle.clfs_model.specs.Accepted.{serve_limits}
+use Rattle.clfs_model.specs.Flush.{cut}
 use Rattle.clfs_model.specs.declared.refusal.Refusal.TheVariants as log_refusals
 use Rattle.clfs_model.specs.declared.state.State.{State}
 use Rattle.clfs_model.specs.Storable.{IsStorable}
@@ -25,6 +26,7 @@ use Rattle.clfs_cells_laws.specs.Breaking.{tells_table_broken, tells_table_damag
 use Rattle.clfs_cells_laws.specs.Loads.{IsLoaded, IsNotLoaded}
 use Rattle.clfs_operations.specs.TableAnswered.{LineStep}
 use Rattle.clfs_lines.specs.Answering.{Writes, WritesFront, IsWholeAnswer, IsAnswerUpToFault, IsAnswerUpToLimit, StopsShort, StopsAtFault, IsAnswerStatus}
+use Rattle.clfs_lines.specs.declared.incomplete.IncompleteLine.TheVariants.{Counts}
 use Rattle.clfs_lines.specs.Ends.{AppendsFront}
 use Rattle.clfs_operations.specs.Complete.{IsDone}
 use Rattle.clfs_operations.specs.Ends.{disk_fault_text}
@@ -80,6 +82,8 @@ pub record IsOpenedLog (old : DiskState) (first : State) : Type 0 where
   pub buffers_are : first.buffers ≡ 4
   pub valid : IsValid first
   pub storable : IsStorable first
+  -- no client has an area then, so nothing is reserved, and nothing waits to be written
+  pub stable : cut first ≡ first
   pub begins : first.broken ≡ false
 
 -- The log on a disk was opened, its table was loaded, the lines were answered, and the log was closed; this text is the replies.
@@ -194,7 +198,7 @@ pub record EndsTxn (status : ℕ) (old new : DiskState) (left left_after written
   -- there is no other status
   pub statuses : IsTxnStatus status
   -- the source was read to its end, and the sink's new bytes are the replies to all its lines
-  pub done : status ≡ 0 → Writes (IsWholeAnswer serve_limits (IsTableAnswered old new) left left_after) written written_after
+  pub done : status ≡ 0 → Writes (IsWholeAnswer serve_limits Counts (IsTableAnswered old new) left left_after) written written_after
   -- the source failed in this call, and the lines that came whole before are answered
   pub source_fault : status ≡ 2 → ports.Rises source source_after
   pub source_fault_answers : status ≡ 2 → Writes (IsAnswerUpToFault serve_limits (IsTableAnswered old new) left left_after) written written_after
@@ -202,7 +206,7 @@ pub record EndsTxn (status : ℕ) (old new : DiskState) (left left_after written
   -- line that says why there is no log or no table
   pub sink_fault : status ≡ 3 → ports.Rises sink sink_after
   pub sink_fault_front : status ≡ 3
-      → StopsAtFault serve_limits (IsTableAnswered old new) (IsTableAnsweredInPart old new) left left_after written written_after
+      → StopsAtFault serve_limits Counts (IsTableAnswered old new) (IsTableAnsweredInPart old new) left left_after written written_after
       ⊎ (WritesFront (IsRefusalText old new) written written_after ⊎ WritesFront (IsAnyTableRefusalText old new) written written_after)
   -- the disk failed in this call, before the table was loaded, and the line that says so was written
   pub disk_fault : status ≡ 4 → RefusesLog DiskFault old new ⊎ RefusesTable (Log log_refusals.DiskFault) old new
@@ -211,7 +215,7 @@ pub record EndsTxn (status : ℕ) (old new : DiskState) (left left_after written
   -- replies were written whole, or all but the last and nothing of that one
   pub no_memory : status ≡ 5 → StaysUnopened old new left left_after written written_after
       ⊎ (StaysUnloaded old new left left_after written written_after
-      ⊎ StopsShort serve_limits (IsTableAnsweredInPart old new false) left left_after written written_after)
+      ⊎ StopsShort serve_limits Counts (IsTableAnsweredInPart old new false) left left_after written written_after)
   -- the files aren't a log's, and the line that says so was written
   pub no_log : status ≡ 6 → Writes (IsNoLogText old new) written written_after
   -- what the source gave passes a limit; the lines that came whole before it are answered, and then the line that says so
@@ -248,7 +252,7 @@ pub record IsTableAnsweredCalmlyInPart (old new : DiskState) (torn : Bool) (line
 -- by a fault, damage, or that the log is broken, also none whose reply wasn't written.
 pub record TableComesThrough (status : ℕ) (old new : DiskState) (left left_after written written_after : Option (List ℕ)) : Type 0 where
   pub statuses : IsDone status ⊎ ((status ≡ 9) ⊎ (status ≡ 10))
-  pub done : status ≡ 0 → Writes (IsWholeAnswer serve_limits (IsTableAnsweredCalmly old new) left left_after) written written_after
+  pub done : status ≡ 0 → Writes (IsWholeAnswer serve_limits Counts (IsTableAnsweredCalmly old new) left left_after) written written_after
   pub no_memory : status ≡ 5 → StaysUnopened old new left left_after written written_after
       ⊎ (StaysUnloaded old new left left_after written written_after
-      ⊎ StopsShort serve_limits (IsTableAnsweredCalmlyInPart old new false) left left_after written written_after)
+      ⊎ StopsShort serve_limits Counts (IsTableAnsweredCalmlyInPart old new false) left left_after written written_after)

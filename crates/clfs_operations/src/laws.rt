@@ -1,5 +1,6 @@
 // Laws on commands that open a log, for those that stand above: they do nothing.
 ghost use Rattle.std.specs.Prelude.{ℕ, List, Option};
+ghost use Rattle.clfs_disk.specs.State.{Later};
 ghost use Rattle.clfs_model.specs.declared.journal.Entry.{Entry};
 ghost use Rattle.clfs_model.specs.declared.state.State.{State};
 ghost use Rattle.clfs_recover.specs.declared.refusal.LoadRefusal.{LoadRefusal};
@@ -40,8 +41,8 @@ pub fn unopened_logs_are_told<D: Disk>()
 /// What a journal says that led a shared log on from the state in which it was loaded.
 pub fn journals_are_taken_from_logs<D: Disk>()
     ensures { (buffers : ℕ) (old mid new : D) (s t : State) (journal : List Entry)
-        → IsLoaded buffers (D.state old) (D.state mid) s → IsKeptOn t (D.state new)
-        → IsReached (opening_of s (D.state mid)) (D.state new) t journal → IsTakenFrom buffers (D.state old) (D.state mid) (D.state new) s t journal }
+        → IsLoaded buffers (D.state old) (D.state mid) s → IsKeptOn t (D.state new) → Later (D.state mid) (D.state new)
+        → IsReached (opening_of s (D.state mid)) (D.state new) t journal → IsTakenFrom buffers (D.state old) (D.state new) s t journal }
 {
     unbroken_stays();
     whole_files_pass_the_test();

@@ -2,8 +2,9 @@
 //
 // The script is read first, then the log is opened, and all calls are made before the first reply is written. So the output is that of one journal,
 // whatever comes of writing it, and a sink that fails can't leave a script done in part.
-ghost use Rattle.std.specs.Prelude.{◌≡◌, ◌≤◌, ◌++◌, [], true, ℕ, length, All, IfOk};
+ghost use Rattle.std.specs.Prelude.{◌≡◌, ◌≤◌, ◌++◌, [], true, ℕ, length, All, Some, IfOk};
 ghost use Rattle.std.specs.List.{flat_map};
+ghost use Rattle.clfs_disk.specs.State.{Later};
 ghost use Rattle.clfs_lsn.specs.Limits.{most_write_buffers};
 ghost use Rattle.clfs_turn.specs.Lists.{is_in, are_distinct};
 ghost use Rattle.clfs_model.specs.Conditions.{IsClient};
@@ -22,7 +23,7 @@ use clfs_disk::Disk;
 use clfs_laws::unbroken_stays;
 use clfs_lines::{DONE, INPUT_TOO_LONG, NO_MEMORY, SOURCE_FAULT, printed};
 use clfs_lsn::Bytes;
-use clfs_manager::{LoadRefused, Manager};
+use clfs_manager::{DiskName, LoadRefused, Manager};
 use clfs_model::{Entry, Journal};
 use clfs_ports::{Sink, Source};
 use clfs_race::{
@@ -31,6 +32,7 @@ use clfs_race::{
 use clfs_recover::{files_have_one_meaning, whole_files_pass_the_test};
 use clfs_shared::{Closed, SharedLog, StartRefused};
 use std::alloc::{AllocError, Global};
+use std::marker::Brand;
 use std::sync::Wait;
 use std::thread::Threads;
 
@@ -88,7 +90,49 @@ fn untouched<D: Disk>(alloc: Global, manager: Manager<D>, whole: bool) -> Raced<
     }
 }
 
-// Shares a log among the clients of scripts, and lets them make their calls.
+// Shares a log among the clients of scripts, and lets them make their calls. Under the lock the disk is one that came of the named one.
+fn race_followed<
+    R: Threads + Wait + Sync,
+    D: Disk + Send + Drop,
+    G: Gate + Sync,
+    N: DiskName<D> + Send,
+>(rt: &R, alloc: Global, gate: &G, manager: Manager<D>, scripts: &[ClientCalls]) -> Raced<D>
+    requires begun { N.begun ≡ Some manager.1 }
+    requires apart { are_distinct (clients_of scripts.now) ≡ true }
+    requires clients { (client : ℕ) → is_in client (clients_of scripts.now) ≡ true → IsClient client }
+    requires arguments { All HasAllArguments scripts.now }
+    ensures ran { HasRun (opening_of manager.0 (D.state manager.1)) scripts.now (D.state result.manager.1) result.manager.0 result.journal result.whole }
+    ensures later { Later (D.state manager.1) (D.state result.manager.1) }
+{
+    manager.stored();
+    if scripts.is_empty() {
+        return untouched(alloc, manager, true);
+    }
+    let Ok(clients) = clients_of(alloc, scripts) else {
+        return untouched(alloc, manager, false);
+    };
+    match SharedLog::start_for(
+        alloc,
+        manager.followed::<N>(),
+        &clients,
+        count_calls(scripts),
+    ) {
+        Ok((log, sessions)) => {
+            let mut sessions = sessions;
+            run_clients(rt, &log, gate, &mut sessions, scripts);
+            let Closed { manager, journal } = log.close(sessions);
+            let whole = has_all(&journal, scripts);
+            Raced {
+                manager: manager.unfollowed(),
+                journal,
+                whole,
+            }
+        }
+        Err(StartRefused { manager }) => untouched(alloc, manager.unfollowed(), false),
+    }
+}
+
+// The same, where the disk that is named is the log's.
 fn race_over<R: Threads + Wait + Sync, D: Disk + Send + Drop, G: Gate + Sync>(
     rt: &R,
     alloc: Global,
@@ -99,29 +143,10 @@ fn race_over<R: Threads + Wait + Sync, D: Disk + Send + Drop, G: Gate + Sync>(
     requires apart { are_distinct (clients_of scripts.now) ≡ true }
     requires clients { (client : ℕ) → is_in client (clients_of scripts.now) ≡ true → IsClient client }
     requires arguments { All HasAllArguments scripts.now }
-    ensures { HasRun (opening_of manager.0 (D.state manager.1)) scripts.now (D.state result.manager.1) result.manager.0 result.journal result.whole }
+    ensures ran { HasRun (opening_of manager.0 (D.state manager.1)) scripts.now (D.state result.manager.1) result.manager.0 result.journal result.whole }
+    ensures later { Later (D.state manager.1) (D.state result.manager.1) }
 {
-    manager.stored();
-    if scripts.is_empty() {
-        return untouched(alloc, manager, true);
-    }
-    let Ok(clients) = clients_of(alloc, scripts) else {
-        return untouched(alloc, manager, false);
-    };
-    match SharedLog::start_for(alloc, manager, &clients, count_calls(scripts)) {
-        Ok((log, sessions)) => {
-            let mut sessions = sessions;
-            run_clients(rt, &log, gate, &mut sessions, scripts);
-            let Closed { manager, journal } = log.close(sessions);
-            let whole = has_all(&journal, scripts);
-            Raced {
-                manager,
-                journal,
-                whole,
-            }
-        }
-        Err(StartRefused { manager }) => untouched(alloc, manager, false),
-    }
+    race_followed::<R, D, G, Brand>(rt, alloc, gate, manager, scripts)
 }
 
 // The output: the replies to lines that ask for nothing, those of a journal, and that the input is too long, where it is.

@@ -1,5 +1,7 @@
 // Restoring a log of archives. Whether a log is there is looked for before they are read.
-ghost use Rattle.std.specs.Prelude.{◌≡◌, ◌≢◌, ◌≤◌, IfOk, IfErr};
+ghost use Rattle.std.specs.Prelude.{◌≡◌, ◌≢◌, ◌≤◌, ℕ, Some, IfOk, IfErr};
+ghost use Rattle.clfs_disk.specs.State.{TellsContents, Rises};
+ghost use Rattle.clfs_format.specs.Making.{open_slot_of};
 ghost use Rattle.clfs_operations.specs.Restoring.{IsInput, IsUnread, TellsUnread, TellsRestoreRefusal, restore_refusal_line, restore_refusal_status, EndsRestore, NothingFailsRestoring, IsRestoringDone};
 
 use crate::refusing::push_number;
@@ -143,6 +145,9 @@ pub fn restore<S: Source, K: Sink, D: Disk + Drop>(
 ) -> Outcome<D>
     ensures ends { EndsRestore up_to result.status (D.state disk) (D.state result.disk) (S.left source.old) (S.left source.new)
         (K.written sink.old) (K.written sink.new) (S.faults source.old) (S.faults source.new) (K.faults sink.old) (K.faults sink.new) }
+    // It looks for a log before it takes memory.
+    ensures looks { TellsContents (D.state disk) → (slot : ℕ) → open_slot_of ((D.state disk).files 0) ≡ Some slot
+        → result.status ≡ 5 → Rises (D.state disk).faults (D.state result.disk).faults }
     ensures complete { NothingFailsRestoring (D.state disk) (D.state result.disk) (S.faults source.old) (S.faults source.new)
         (K.faults sink.old) (K.faults sink.new) → IsRestoringDone result.status }
 {

@@ -1,6 +1,8 @@
 // Worked scripts, from the text of their lines to the text of their replies. The checker computes them from the definitions
 // alone; the functions do nothing.
-ghost use Rattle.std.specs.Prelude.{◌≡◌, [], codes};
+ghost use Rattle.std.specs.Prelude.{◌≡◌, [], ◌∷◌, codes};
+ghost use Rattle.clfs_lines.specs.Taken.{lines_in};
+ghost use Rattle.clfs_lines.specs.declared.incomplete.IncompleteLine.TheVariants.{Counts, Dropped};
 ghost use Rattle.clfs_operations.specs.Worked.{replies_to, zeros_line};
 
 /// Two appends, reads of a record and of none, and another stream; then cursors up to one too many.
@@ -24,6 +26,15 @@ pub fn ends_of_lines()
     ensures one_carriage_return { replies_to (codes "1 append 1 - 0:0:0 0:0:0\r\n1\r\n") ≡ codes "1 lsn 1:0:0\n0 refused 28 BadLine 1\n" }
     ensures empty_line { replies_to (codes "\n") ≡ codes "0 refused 28 BadLine 0\n" }
     ensures space_at_the_end { replies_to (codes "1 ") ≡ codes "0 refused 28 BadLine 2\n" }
+{}
+
+/// Which lines a script has, where bytes after its last line feed count as a line and where they are dropped.
+pub fn incomplete_lines()
+    ensures counts { lines_in Counts (codes "1 size 25\n1 size 2") ≡ codes "1 size 25" ∷ codes "1 size 2" ∷ [] }
+    ensures dropped { lines_in Dropped (codes "1 size 25\n1 size 2") ≡ codes "1 size 25" ∷ [] }
+    ensures alone { lines_in Dropped (codes "1 size 2") ≡ [] }
+    ensures whole { lines_in Dropped (codes "1 size 25\n1 size 2\n") ≡ codes "1 size 25" ∷ codes "1 size 2" ∷ [] }
+    ensures empty_line { lines_in Dropped (codes "\n\r") ≡ [] ∷ [] }
 {}
 
 /// Clients and areas that the log hasn't.

@@ -5,13 +5,14 @@ ghost use Rattle.clfs_model.specs.Accepted.{serve_limits};
 ghost use Rattle.clfs_operations.specs.Complete.{NothingFailsAnswering, NothingFailsServing, ComesThrough};
 ghost use Rattle.clfs_operations.specs.Serve.{EndsServing};
 ghost use Rattle.clfs_lines.specs.Taken.{script_limits};
+ghost use Rattle.clfs_lines.specs.declared.incomplete.IncompleteLine.TheVariants.{Counts};
 
 use crate::answering::ScriptLog;
 use crate::refusing::refused;
 use crate::status::Outcome;
 use clfs_disk::Disk;
 use clfs_laws::unbroken_stays;
-use clfs_lines::answered;
+use clfs_lines::{IncompleteLine, answered};
 use clfs_manager::{LoadRefused, Manager};
 use clfs_ports::{Sink, Source};
 use clfs_recover::files_have_one_meaning;
@@ -31,6 +32,7 @@ pub fn serve_within<S: Source, K: Sink, D: Disk + Drop>(
     write_buffers: u32,
     read_buffers: u32,
     most: u64,
+    incomplete: IncompleteLine,
     source: &mut S,
     sink: &mut K,
     disk: D,
@@ -38,10 +40,10 @@ pub fn serve_within<S: Source, K: Sink, D: Disk + Drop>(
     requires some { 1 ≤ write_buffers }
     requires at_most { write_buffers ≤ most_write_buffers }
     requires reads { 1 ≤ read_buffers }
-    ensures ends { EndsServing (script_limits most) result.status write_buffers (D.state disk) (D.state result.disk) (S.left source.old) (S.left source.new)
+    ensures ends { EndsServing (script_limits most) incomplete result.status write_buffers (D.state disk) (D.state result.disk) (S.left source.old) (S.left source.new)
         (K.written sink.old) (K.written sink.new) (S.faults source.old) (S.faults source.new) (K.faults sink.old) (K.faults sink.new) }
     ensures complete { NothingFailsAnswering (script_limits most) (D.state disk) (D.state result.disk) (S.left source.old) (S.faults source.old)
-        (S.faults source.new) (K.faults sink.old) (K.faults sink.new) → ComesThrough (script_limits most) result.status write_buffers
+        (S.faults source.new) (K.faults sink.old) (K.faults sink.new) → ComesThrough (script_limits most) incomplete result.status write_buffers
         (D.state disk) (D.state result.disk) (S.left source.old) (S.left source.new) (K.written sink.old) (K.written sink.new) }
 {
     files_have_one_meaning();
@@ -50,7 +52,7 @@ pub fn serve_within<S: Source, K: Sink, D: Disk + Drop>(
         Ok(manager) => {
             let mut log = ScriptLog { manager };
             log.manager.stored();
-            let status = answered(alloc, &mut log, most, source, sink);
+            let status = answered(alloc, &mut log, most, incomplete, source, sink);
             log.manager.stored();
             Outcome {
                 status,
@@ -74,10 +76,10 @@ pub fn serve<S: Source, K: Sink, D: Disk + Drop>(
 ) -> Outcome<D>
     requires some { 1 ≤ write_buffers }
     requires at_most { write_buffers ≤ most_write_buffers }
-    ensures ends { EndsServing serve_limits result.status write_buffers (D.state disk) (D.state result.disk) (S.left source.old) (S.left source.new)
+    ensures ends { EndsServing serve_limits Counts result.status write_buffers (D.state disk) (D.state result.disk) (S.left source.old) (S.left source.new)
         (K.written sink.old) (K.written sink.new) (S.faults source.old) (S.faults source.new) (K.faults sink.old) (K.faults sink.new) }
     ensures complete { NothingFailsServing (D.state disk) (D.state result.disk) (S.left source.old) (S.faults source.old) (S.faults source.new)
-        (K.faults sink.old) (K.faults sink.new) → ComesThrough serve_limits result.status write_buffers (D.state disk) (D.state result.disk)
+        (K.faults sink.old) (K.faults sink.new) → ComesThrough serve_limits Counts result.status write_buffers (D.state disk) (D.state result.disk)
         (S.left source.old) (S.left source.new) (K.written sink.old) (K.written sink.new) }
 {
     serve_within(
@@ -85,6 +87,7 @@ pub fn serve<S: Source, K: Sink, D: Disk + Drop>(
         write_buffers,
         READ_BUFFERS,
         LONGEST_SCRIPT,
+        IncompleteLine::Counts,
         source,
         sink,
         disk,

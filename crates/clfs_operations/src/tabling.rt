@@ -10,7 +10,7 @@ use crate::table_lines::TableLines;
 use clfs_cells::TxnLoadRefusal;
 use clfs_cells_laws::{crashes_leave_the_table, only_faults_break_a_store};
 use clfs_disk::Disk;
-use clfs_lines::{NO_MEMORY, answered, printed};
+use clfs_lines::{IncompleteLine, NO_MEMORY, answered, printed};
 use clfs_lsn::Bytes;
 use clfs_manager::{LoadRefused, Manager};
 use clfs_model::Refusal;
@@ -100,7 +100,14 @@ pub fn txn<S: Source, K: Sink, D: Disk + Drop>(
     match TxnStore::load(alloc, manager, CLIENT) {
         Ok(store) => {
             let mut lines = TableLines { store };
-            let status = answered(alloc, &mut lines, LONGEST_SCRIPT, source, sink);
+            let status = answered(
+                alloc,
+                &mut lines,
+                LONGEST_SCRIPT,
+                IncompleteLine::Counts,
+                source,
+                sink,
+            );
             let manager = lines.store.close();
             manager.stored();
             Outcome {

@@ -58,6 +58,15 @@ module _ (whole : Bool) (now : Newest) (containers : ℕ) (blocks : Blocks) (cou
   made_grown long full = made_more now.image containers old mid (stores.holds.made full) grown_now
       (subst (λ (i : BaseImage). (file : ℕ) → i.files_made < file → file ≤ containers → 512 * i.container_sectors ≤ length (mid file)) is long)
 
+-- while files that no copy counts grow, a crash leaves the copy of before
+pub grown_keeps : (whole : Bool) (now : Newest) (blocks : Blocks) (count : BaseImage) → count ≡ now.image → IsImage now.image
+    → (a m : DiskState) → IsSettled a → Stores whole now blocks a.files → Passes (GrownAbove count.files_made) a m
+    → Leaves (λ f. Stores whole now blocks f) a m
+grown_keeps whole now blocks count is image_is a m settled stores time =
+    leaves_after (GrownAbove now.image.files_made) (λ f. Stores whole now blocks f) a m settled
+    (subst (λ (i : BaseImage). Passes (GrownAbove i.files_made) a m) is time) stores
+    (λ f more. log_grown whole now.slot now.image blocks a.files f image_is stores more)
+
 pub grown_leaves : (whole : Bool) (now next : Newest) (blocks : Blocks) (count : BaseImage) → count ≡ now.image → IsImage now.image
     → (a m : DiskState) → IsSettled a → Stores whole now blocks a.files → Passes (GrownAbove count.files_made) a m
     → Leaves (λ f. Stores whole now blocks f ⊎ Stores whole next blocks f) a m

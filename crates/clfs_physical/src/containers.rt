@@ -40,6 +40,11 @@ impl Physical {
             ⊎ Stores whole (record { slot = older_of self.old.slot; image = with_containers containers (next_copy first Change.Listing self.old.image) }) blocks image)
             (D.state disk.old) (D.state disk.new) }
 
+        // Where memory was wanted no copy was begun, so a crash at any moment leaves the one of before.
+        ensures no_copy { IsErrOf result PhysicalRefusal.NoMemory → IsSettled (D.state disk.old) → (whole : Bool) (blocks : Blocks)
+            → Stores whole self.old blocks (D.state disk.old).files
+            → Leaves (λ image. Stores whole self.old blocks image) (D.state disk.old) (D.state disk.new) }
+
         // The files that it makes are at full length, whatever the others are, and it makes no more calls than one for each of them, a sync, and
         // those of a copy.
         ensures made { OnOk result (TellsContents (D.state disk.old) ⊎ IsSteady (D.state disk.old) → (file : ℕ)

@@ -38,11 +38,11 @@ same_slot file zero few = take-take 16384 32768 file (omega arith)
 same_slot file (suc zero) few = ap (take 16384) (drop-take 16384 16384 file) ∙ take-take 16384 16384 (drop 16384 file) (omega arith)
 same_slot file (suc (suc n)) few = absurd (omega (arith, few))
 
-image_right : (bytes : List ℕ) (image : BaseImage) → slot_fault (layout_in bytes) bytes ≡ None → image ≡ image_of (layout_in bytes) bytes
+pub image_right : (bytes : List ℕ) (image : BaseImage) → slot_fault (layout_in bytes) bytes ≡ None → image ≡ image_of (layout_in bytes) bytes
     → image_at bytes ≡ Ok image
 image_right bytes image none is = rw (none, is) refl
 
-image_wrong : (bytes : List ℕ) (at : ℕ) → slot_fault (layout_in bytes) bytes ≡ Some at → image_at bytes ≡ Err at
+pub image_wrong : (bytes : List ℕ) (at : ℕ) → slot_fault (layout_in bytes) bytes ≡ Some at → image_at bytes ≡ Err at
 image_wrong bytes at some = rw some refl
 
 -- the newest copy, by that of the slot that counts

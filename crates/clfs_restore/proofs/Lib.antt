@@ -10,3 +10,4 @@ mod Made
 mod Moments
 mod Moved
 mod Pieces
+mod Told

@@ -55,6 +55,9 @@ module _ (bytes : List ℕ) (up_to : Option ℕ) (old mid new : DiskState) (same
   pub refuses_after : (cause : RestoreRefusal) → RefusesRestoring cause bytes up_to mid new → RefusesRestoring cause bytes up_to old new
   refuses_after cause refuses = record {
     why = why_before cause refuses.why;
+    first = λ told slot is. ⊎_elim (λ (exists : cause ≡ refusals.Exists slot). inl exists)
+        (λ (rose : Rises mid.faults new.faults). inr (rises_still Unchanged old mid new reads rose))
+        (refuses.first (tells_still Unchanged old mid reads told) slot (ap open_slot_of (same 0) ∙ is));
     same = λ making. unchanged_all (refuses.same making);
     kept = λ told slot is. unchanged_all (refuses.kept (tells_still Unchanged old mid reads told) slot (ap open_slot_of (same 0) ∙ is));
     moments = λ honest none. ⊎_elim (λ (grows : GrowsBase mid new). inl (grows_after_reads old mid new reads grows))
@@ -71,6 +74,7 @@ fails_in_reads : (cause : RestoreRefusal) (bytes : List ℕ) (up_to : Option ℕ
     → Rises old.faults new.faults → (IsSteady old → ⊥) → IsFreeCause bytes up_to cause → RefusesRestoring cause bytes up_to old new
 fails_in_reads cause bytes up_to old new same reads rose never free = record {
   why = told_cause old bytes up_to cause free;
+  first = λ told slot is. inr rose;
   same = λ making. (same, reads);
   kept = λ told slot is. (same, reads);
   moments = λ honest none. inl (reads_grow old new reads);

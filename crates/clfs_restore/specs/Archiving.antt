@@ -1,20 +1,26 @@
 -- What archiving a log answers, and how it leaves the log.
-use Rattle.std.specs.Prelude.{◌≡◌, ℕ, ◌+◌, ◌<◌, false, List, [], ◌∷◌, ◌++◌, length, slice_index, take, Option, Some, None, Result, Ok, Err}
+use Rattle.std.specs.Prelude.{◌≡◌, ℕ, ◌+◌, ◌*◌, ◌<◌, ◌≤◌, false, List, [], ◌∷◌, ◌++◌, length, slice_index, take, drop, Option, Some, None, Result, Ok, Err}
 use Rattle.std.specs.List.{flat_map}
+use Rattle.clfs_lsn.specs.Format.{sector_bytes}
+use Rattle.clfs_lsn.specs.Lsn.{lsn_number, container_of}
 use Rattle.clfs_lsn.specs.declared.shape.Shape.{Shape}
 use Rattle.clfs_lsn.specs.declared.entry.LogEntry.{LogEntry}
 use Rattle.clfs_disk.specs.Files.{Files, Unchanged}
 use Rattle.clfs_disk.specs.State.{DiskState, TellsContents, IsSteady, Passes, Rises}
 use Rattle.clfs_container.specs.OpenBlocks.{AreWhole, total}
+use Rattle.clfs_block.specs.Records.{block_records}
+use Rattle.clfs_block.specs.declared.head.BlockRefusal.TheVariants as blocks
 use Rattle.clfs_base.specs.declared.image.BaseImage.{BaseImage}
 use Rattle.clfs_base.specs.declared.refusal.NewestRefusal.{NewestRefusal}
+use Rattle.clfs_base.specs.Reading.{IsReadCopy, IsUsedSlot}
 use Rattle.clfs_model.specs.declared.refusal.Refusal.{Refusal}
 use Rattle.clfs_model.specs.declared.refusal.Refusal.TheVariants as refusals
 use Rattle.clfs_model.specs.declared.state.State.{State}
 use Rattle.clfs_model.specs.Flush.{flushed}
 use Rattle.clfs_model.specs.Step.{with_broken}
-use Rattle.clfs_recover.specs.Files.{StandsFor}
+use Rattle.clfs_recover.specs.Files.{StandsFor, without_copy}
 use Rattle.clfs_recover.specs.Stored.{stored_in}
+use Rattle.clfs_recover.specs.Walk.{shape_of}
 use Rattle.clfs_recover.specs.declared.refusal.LoadRefusal.{LoadRefusal}
 use Rattle.clfs_recover.specs.declared.refusal.LoadRefusal.TheVariants as loading
 use Rattle.clfs_archive_form.specs.Form.{IsArchiveOf}
@@ -81,10 +87,55 @@ IsCause disk s (TooLong bytes) = (most_archive < bytes)
     × (TellsContents disk → (archive : List ℕ) × IsArchiveOf disk.files archive × (length archive ≡ bytes))
 IsCause disk s NoMemory = Unit {0}
 
+-- ---- where damage is told
+
+-- At a byte of a container some bytes, as many as a container has at most, are no block of that place, and this is the first wrong one.
+pub record IsWrongAt (shape : Shape) (streams container offset at : ℕ) : Type 0 where
+  pub bytes : List ℕ
+  pub few : length bytes ≤ sector_bytes * shape.container_sectors
+  pub wrong : block_records shape streams (lsn_number container offset 0) (drop offset bytes) ≡ Err (blocks.BadByte at)
+
+-- Damage is told at such a byte, in one of so many containers from one on.
+abbrev pub TellsContainer : Shape → ℕ → ℕ → ℕ → ArchiveRefusal → Type 0
+TellsContainer shape streams from count (Log (refusals.Damaged container offset at)) =
+    (from ≤ container) × (container < from + count) × IsWrongAt shape streams container offset at
+TellsContainer shape streams from count _ = Unit {0}
+
+-- Damage is told at such a byte, in a container that a base copy lists, from that of its archive tail on.
+abbrev pub TellsArchived : BaseImage → ArchiveRefusal → Type 0
+TellsArchived image (Log (refusals.Damaged container offset at)) =
+    (image.first ≤ container) × (container_of image.tail ≤ container) × (container < image.first + length image.files)
+    × IsWrongAt (shape_of image) (length image.streams) container offset at
+TellsArchived image _ = Unit {0}
+
+-- by the newest base copy, or by why there is none
+abbrev pub TellsBy : ArchiveRefusal → Result (ℕ × BaseImage) NewestRefusal → Type 0
+TellsBy refusal (Ok (slot, image)) = TellsArchived image refusal
+TellsBy refusal (Err reason) = refusal ≡ refused_as (without_copy reason)
+
+-- Damage that archiving meets is told by a base copy that some bytes spell and by those of a container, or by bytes that spell no copy. That they are those
+-- that the disk gave can't be said of a disk that doesn't tell what its files hold, and over another none is met.
+pub record IsDamageMet (refusal : ArchiveRefusal) : Type 0 where
+  pub newest : Result (ℕ × BaseImage) NewestRefusal
+  pub copy : IsReadCopy newest
+  pub told : TellsBy refusal newest
+
+-- so where damage is told
+abbrev pub TellsDamage : ArchiveRefusal → Type 0
+TellsDamage (Log (refusals.Damaged container offset at)) = IsDamageMet (Log (refusals.Damaged container offset at))
+TellsDamage _ = Unit {0}
+
+-- ---- the parts of an archive
+
 -- The slot that counts was read, or there is none.
 abbrev pub GivesSlot : Result ℕ ArchiveRefusal → Result ℕ NewestRefusal → Type 0
 GivesSlot (Ok slot) read = read ≡ Ok slot
 GivesSlot (Err refusal) read = (cause : NewestRefusal) × (read ≡ Err cause)
+
+-- The slot that counts is told by some bytes of each of the two, or why none does.
+abbrev pub TellsSlot : Result ℕ ArchiveRefusal → Type 0
+TellsSlot (Ok slot) = IsUsedSlot (Ok slot)
+TellsSlot (Err refusal) = (reason : NewestRefusal) × IsUsedSlot (Err reason) × (refusal ≡ refused_as (without_copy reason))
 
 -- The newest base copy was read. A fault of the disk, or out of memory, may come in its place; any other refusal says that there is none.
 abbrev pub GivesCopy : Result BaseImage ArchiveRefusal → Result (ℕ × BaseImage) NewestRefusal → Type 0

@@ -7,7 +7,7 @@ use Rattle.clfs_recover.specs.Files.{AreWholeFiles}
 use Rattle.clfs_format.specs.Making.{open_slot_of, KeepsLog}
 use Rattle.clfs_restore.specs.declared.refusal.RestoreRefusal.{RestoreRefusal}
 use Rattle.clfs_restore.specs.declared.refusal.RestoreRefusal.TheVariants.{DiskFault}
-use Rattle.clfs_restore.specs.Restoring.{AreChosen, StandForRestored, RestoresAtOnce, GrowsBase, base_bytes, IsFreeCause, IsRestoreCause, IsOfMaking}
+use Rattle.clfs_restore.specs.Restoring.{AreChosen, StandForRestored, RestoresAtOnce, GrowsBase, base_bytes, IsFreeCause, IsRestoreCause, IsOfMaking, LooksFirst}
 
 -- No slot is open, or files stand for what is restored of these bytes.
 abbrev pub NoneOrRestored : List ℕ → Option ℕ → Files → Type 0
@@ -30,6 +30,7 @@ pub record RestoresLog (bytes : List ℕ) (up_to : Option ℕ) (old new : DiskSt
 -- No log was told as restored of these bytes, for this cause.
 pub record RefusesRestoring (cause : RestoreRefusal) (bytes : List ℕ) (up_to : Option ℕ) (old new : DiskState) : Type 0 where
   pub why : IsRestoreCause old bytes up_to cause
+  pub first : LooksFirst cause old new
   -- where that is a slot that is open, or what the archives are, nothing has changed; and nothing where a slot was open
   pub same : (IsOfMaking cause → ⊥) → Unchanged old.files new.files × Passes Unchanged old new
   pub kept : KeepsLog old new

@@ -3,7 +3,7 @@ use Rattle.std.specs.Prelude.{◌≡◌, ◌⊎◌, ℕ, ◌+◌, ◌-◌, ◌*�
 use Rattle.clfs_lsn.specs.Format.{sector_bytes}
 use Rattle.clfs_lsn.specs.Lsn.{container_of}
 use Rattle.clfs_disk.specs.Files.{Files, GrownIn}
-use Rattle.clfs_disk.specs.State.{DiskState, TellsContents, MayLeave, Passes}
+use Rattle.clfs_disk.specs.State.{DiskState, TellsContents, MayLeave, Passes, Rises, raised}
 use Rattle.clfs_disk.specs.declared.disk.GrowRefusal.{GrowRefusal}
 use Rattle.clfs_disk.specs.declared.disk.GrowRefusal.TheVariants as growths
 use Rattle.clfs_lsn.specs.declared.entry.LogEntry.{LogEntry}
@@ -118,6 +118,24 @@ IsRestoreCause disk bytes up_to (Gap container) = IsFreeCause bytes up_to (Gap c
 IsRestoreCause disk bytes up_to (UpToInvalid low high) = IsFreeCause bytes up_to (UpToInvalid low high)
 IsRestoreCause disk bytes up_to DiskFault = IsFreeCause bytes up_to DiskFault
 IsRestoreCause disk bytes up_to NoMemory = Unit {0}
+
+-- Where a slot was open that one is told, unless the disk failed: then it may be told what the archives are.
+abbrev pub LooksFirst : RestoreRefusal → DiskState → DiskState → Type 0
+LooksFirst cause old new = TellsContents old → (slot : ℕ) → open_slot_of (old.files 0) ≡ Some slot → (cause ≡ Exists slot) ⊎ Rises old.faults new.faults
+
+-- How many calls of the disk fill the files of the containers: a growth of each, and a write into each listed one up to the LSN's.
+abbrev pub filling_calls : Archive → ℕ → ℕ
+filling_calls archive up_to = archive.image.containers + (container_of up_to - archive.image.first + 1)
+
+-- How many restoring takes: two reads of gates, a growth of the base file and a sync, those that fill the other files and a sync, and the copy and its gate
+-- by a write and a sync each.
+abbrev pub restoring_calls : Archive → ℕ → ℕ
+restoring_calls archive up_to = filling_calls archive up_to + 9
+
+-- Just so many calls of the disk were made for what is restored of these bytes.
+abbrev pub TakesCalls : List ℕ → Option ℕ → (Archive → ℕ → ℕ) → DiskState → DiskState → Type 0
+TakesCalls bytes up_to count old new =
+    (archive : Archive) × (lsn : ℕ) × IsChosen bytes up_to archive lsn × (new.calls ≡ raised (count archive lsn) old.calls)
 
 -- The disk failed, or memory is wanted: all that making the log is refused for.
 abbrev pub IsOfMaking : RestoreRefusal → Type 0

@@ -13,7 +13,7 @@ ghost use Rattle.clfs_model.specs.Step.{with_broken};
 ghost use Rattle.clfs_model.specs.declared.refusal.Refusal.TheVariants as refusals;
 ghost use Rattle.clfs_archive_form.specs.Form.{archived_image, archived_pieces, archive_bytes, IsArchiveOf};
 ghost use Rattle.clfs_archive_form.specs.Drafting.{most_archive};
-ghost use Rattle.clfs_restore.specs.Archiving.{IsJustLoaded, IsCause, IsOfReading, Reads, GoesOn};
+ghost use Rattle.clfs_restore.specs.Archiving.{IsJustLoaded, IsCause, IsOfReading, Reads, GoesOn, TellsArchived, TellsDamage};
 ghost use Rattle.clfs_restore.specs.declared.refusal.ArchiveRefusal.TheVariants.{Log, TooLong, NoMemory};
 
 use crate::containers::put_containers;
@@ -72,6 +72,7 @@ fn put_image<D: Disk>(
         (blocks (slice_index image.now.files i)))
         → stored_records (shape_of image.now) (length image.now.streams) image.now.first (map blocks image.now.files) ≡ Ok entries
         → GoesOn result [] draft.new.archive (archive_bytes image.now (archived_pieces image.now (map blocks image.now.files))) }
+    ensures damage { IfErr result (TellsArchived image.now) }
     ensures before { draft.new.before ≡ draft.old.before }
     ensures only { IfErr result IsOfReading }
     ensures reads { Reads (result_err result) manager.old.0 manager.new.0 (D.state manager.old.1) (D.state manager.new.1) }
@@ -94,6 +95,7 @@ fn put_archive<D: Disk>(
     ensures archive { OnOk result (TellsContents (D.state manager.old.1) → IsArchiveOf (D.state manager.old.1).files draft.new.archive) }
     ensures off { manager.old.0.archive ≡ None → (result ≡ Err (Log refusals.Ephemeral)) ⊎ (result ≡ Err NoMemory) }
     ensures refused { IfErr result (λ refusal. IsCause (D.state manager.old.1) manager.old.0 refusal) }
+    ensures damage { IfErr result TellsDamage }
     ensures before { draft.new.before ≡ draft.old.before }
     ensures reads { Reads (result_err result) manager.old.0 manager.new.0 (D.state manager.old.1) (D.state manager.new.1) }
 {
@@ -128,6 +130,9 @@ pub fn write_archive<D: Disk>(
     // Archiving is off just where that is told, unless memory is wanted. Each refusal has its cause, and no other comes.
     ensures off { manager.old.0.archive ≡ None → (result ≡ Err (Log refusals.Ephemeral)) ⊎ (result ≡ Err NoMemory) }
     ensures refused { IfErr result (λ refusal. IsCause (D.state manager.old.1) manager.old.0 refusal) }
+
+    // Damage, which comes only over a disk that doesn't tell what its files hold, is told at the first wrong byte.
+    ensures damage { IfErr result TellsDamage }
 
     // The log is as before, but a fault of the disk breaks it. No file changes.
     ensures state { (IsErrOf result (Log refusals.DiskFault) → ⊥) → manager.new.0 ≡ manager.old.0 }

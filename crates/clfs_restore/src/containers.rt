@@ -11,7 +11,7 @@ ghost use Rattle.clfs_base.specs.Spelling.{IsImage};
 ghost use Rattle.clfs_recover.specs.Stored.{stored_in};
 ghost use Rattle.clfs_recover.specs.Walk.{shape_of};
 ghost use Rattle.clfs_archive_form.specs.Form.{piece_bytes};
-ghost use Rattle.clfs_restore.specs.Archiving.{IsOfReading, Reads, GivesBlocks, GoesOn, AreReadable, pieces_from};
+ghost use Rattle.clfs_restore.specs.Archiving.{IsOfReading, Reads, GivesBlocks, GoesOn, AreReadable, TellsContainer, pieces_from};
 
 use crate::copy::{read_front, zeros};
 use crate::refusal::ArchiveRefusal;
@@ -39,6 +39,7 @@ fn read_container<D: Disk>(
         → AreWhole judge.old.shape.container_sectors ((D.state manager.old.1).files file) blocks
         → stored_in judge.old.shape judge.old.streams id 0 blocks ≡ Ok entries → GivesBlocks result piece.new.items blocks }
     ensures end { IfOk result (λ end. end ≤ vec_len piece.new) }
+    ensures damage { IfErr result (TellsContainer judge.old.shape judge.old.streams id 1) }
     ensures room { vec_len piece.new ≡ vec_len piece.old }
     ensures same { judge.new ≡ judge.old }
     ensures only { IfErr result IsOfReading }
@@ -69,6 +70,7 @@ fn put_container<D: Disk>(
         → stored_in judge.old.shape judge.old.streams id 0 blocks ≡ Ok entries
         → GoesOn result draft.old.archive draft.new.archive (piece_bytes (id, blocks)) }
     ensures length { OnOk result (length draft.new.archive ≤ length draft.old.archive + 2 ^ 30) }
+    ensures damage { IfErr result (TellsContainer judge.old.shape judge.old.streams id 1) }
     ensures before { draft.new.before ≡ draft.old.before }
     ensures room { vec_len piece.new ≡ vec_len piece.old }
     ensures same { judge.new ≡ judge.old }
@@ -108,6 +110,7 @@ pub(crate) fn put_containers<D: Disk>(
     ensures blocks { TellsContents (D.state manager.old.1) → (blocks : ℕ → List (List ℕ))
         → AreReadable (shape_of image.now) (length image.now.streams) from (D.state manager.old.1).files numbers.now blocks
         → GoesOn result draft.old.archive draft.new.archive (flat_map piece_bytes (pieces_from from (map blocks numbers.now))) }
+    ensures damage { IfErr result (TellsContainer (shape_of image.now) (length image.now.streams) from (length numbers.now)) }
     ensures before { draft.new.before ≡ draft.old.before }
     ensures only { IfErr result IsOfReading }
     ensures reads { Reads (result_err result) manager.old.0 manager.new.0 (D.state manager.old.1) (D.state manager.new.1) }

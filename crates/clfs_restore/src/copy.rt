@@ -1,10 +1,11 @@
 // The newest base copy of a log that is open, as its base file has it: which slot counts, and that slot.
-ghost use Rattle.std.specs.Prelude.{◌≡◌, ◌≤◌, false, ℕ, List, take, vec_len, IsErrOf, IfOk, IfErr};
+ghost use Rattle.std.specs.Prelude.{◌≡◌, ◌≤◌, false, ℕ, List, take, vec_len, Ok, IsErrOf, IfOk, IfErr};
 ghost use Rattle.std.specs.Result.{result_err};
 ghost use Rattle.clfs_disk.specs.State.{TellsContents};
 ghost use Rattle.clfs_base.specs.Spelling.{IsImage};
+ghost use Rattle.clfs_base.specs.Reading.{IsReadCopy};
 ghost use Rattle.clfs_base.specs.Slots.{slot_of, used_slot, newest_of};
-ghost use Rattle.clfs_restore.specs.Archiving.{IsOfReading, Reads, GivesSlot, GivesCopy, refused_as};
+ghost use Rattle.clfs_restore.specs.Archiving.{IsOfReading, Reads, GivesSlot, GivesCopy, TellsDamage, TellsSlot, refused_as};
 ghost use Rattle.clfs_recover.specs.Files.{without_copy};
 ghost use Rattle.clfs_base.specs.declared.refusal.NewestRefusal.TheVariants as newest;
 ghost use Rattle.clfs_model.specs.declared.refusal.Refusal.TheVariants as refusals;
@@ -65,6 +66,7 @@ fn wrong_slot(slot: u32, at: u32) -> ArchiveRefusal
 fn used_slot(first: &[u8], second: &[u8]) -> Result<u32, ArchiveRefusal>
     ensures used { (file : List ℕ) → first.now ≡ slot_of file 0 → second.now ≡ slot_of file 1 → GivesSlot result (used_slot file) }
     ensures slot { IfOk result (λ slot. slot ≤ 1) }
+    ensures told { TellsSlot result }
     ensures only { IfErr result IsOfReading }
     ensures fine { IsErrOf result (Log refusals.DiskFault) → ⊥ }
 {
@@ -78,6 +80,8 @@ fn used_slot(first: &[u8], second: &[u8]) -> Result<u32, ArchiveRefusal>
 fn newest_in(alloc: Global, base: &[u8]) -> Result<BaseImage, ArchiveRefusal>
     ensures copy { (file : List ℕ) → base.now ≡ take 32768 file → GivesCopy result (newest_of file) }
     ensures image { IfOk result (λ image. IsImage image) }
+    ensures told { IfOk result (λ image. (slot : ℕ) × IsReadCopy (Ok (slot, image))) }
+    ensures damage { IfErr result TellsDamage }
     ensures only { IfErr result IsOfReading }
     ensures fine { IsErrOf result (Log refusals.DiskFault) → ⊥ }
 {
@@ -98,6 +102,8 @@ pub(crate) fn read_copy<D: Disk>(
     requires unbroken { manager.old.0.broken ≡ false }
     ensures copy { TellsContents (D.state manager.old.1) → GivesCopy result (newest_of ((D.state manager.old.1).files 0)) }
     ensures image { IfOk result (λ image. IsImage image) }
+    ensures told { IfOk result (λ image. (slot : ℕ) × IsReadCopy (Ok (slot, image))) }
+    ensures damage { IfErr result TellsDamage }
     ensures only { IfErr result IsOfReading }
     ensures reads { Reads (result_err result) manager.old.0 manager.new.0 (D.state manager.old.1) (D.state manager.new.1) }
 {

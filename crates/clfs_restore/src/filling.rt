@@ -2,12 +2,12 @@
 ghost use Rattle.std.specs.Prelude.{◌≡◌, ◌≢◌, ◌+◌, ◌-◌, ◌*◌, ◌≤◌, ◌<◌, ℕ, length, OnOk, IfOk, IfErr, IsErrOf};
 ghost use Rattle.clfs_lsn.specs.Format.{sector_bytes};
 ghost use Rattle.clfs_lsn.specs.Lsn.{container_of};
-ghost use Rattle.clfs_disk.specs.State.{TellsContents, IsSteady, IsHonest, IsSettled, Passes, Rises};
+ghost use Rattle.clfs_disk.specs.State.{TellsContents, IsSteady, IsHonest, IsSettled, Passes, Rises, raised};
 ghost use Rattle.clfs_base.specs.Spelling.{IsImage};
 ghost use Rattle.clfs_format.specs.Making.{BaseStays, KnowsLengths, SameLengths};
 ghost use Rattle.clfs_archive_form.specs.Reading.{CanBeRead};
 ghost use Rattle.clfs_archive_form.specs.Written.{IsReadable, HoldsKept, CanBeRestored};
-ghost use Rattle.clfs_restore.specs.Restoring.{AreFilled, IsOfMaking};
+ghost use Rattle.clfs_restore.specs.Restoring.{AreFilled, IsOfMaking, filling_calls};
 
 use crate::piece::fill_piece;
 use crate::refusal::RestoreRefusal;
@@ -35,6 +35,7 @@ fn write_container<D: Disk>(
     ensures others { (file : ℕ) → file ≢ i + 1 → (D.state disk.new).files file ≡ (D.state disk.old).files file }
     ensures lengths { SameLengths (D.state disk.old).files (D.state disk.new).files }
     ensures time { Passes BaseStays (D.state disk.old) (D.state disk.new) }
+    ensures calls { OnOk result ((D.state disk.new).calls ≡ raised 1 (D.state disk.old).calls) }
     ensures cause { IsErrOf result RestoreRefusal.DiskFault → Rises (D.state disk.old).faults (D.state disk.new).faults }
     ensures steady { IsSteady (D.state disk.old)
         → sector_bytes * archive.now.image.container_sectors ≤ length ((D.state disk.old).files (i + 1))
@@ -61,6 +62,8 @@ fn write_containers<D: Disk>(
     ensures base { BaseStays (D.state disk.old).files (D.state disk.new).files }
     ensures lengths { SameLengths (D.state disk.old).files (D.state disk.new).files }
     ensures time { Passes BaseStays (D.state disk.old) (D.state disk.new) }
+    ensures calls { OnOk result (raised 0 (D.state disk.new).calls
+        ≡ raised (container_of up_to - archive.now.image.first + 1) (D.state disk.old).calls) }
     ensures cause { IsErrOf result RestoreRefusal.DiskFault → Rises (D.state disk.old).faults (D.state disk.new).faults }
     ensures steady { IsSteady (D.state disk.old)
         → ((file : ℕ) → 1 ≤ file → file ≤ archive.now.image.containers
@@ -94,6 +97,7 @@ pub(crate) fn fill_files<D: Disk>(
     ensures settled { OnOk result (IsHonest (D.state disk.old) → IsSettled (D.state disk.new)) }
     ensures base { BaseStays (D.state disk.old).files (D.state disk.new).files }
     ensures time { Passes BaseStays (D.state disk.old) (D.state disk.new) }
+    ensures calls { OnOk result ((D.state disk.new).calls ≡ raised (filling_calls archive.now up_to + 1) (D.state disk.old).calls) }
     ensures cause { IsErrOf result RestoreRefusal.DiskFault → Rises (D.state disk.old).faults (D.state disk.new).faults }
     ensures steady { IsSteady (D.state disk.old) → (IsErrOf result RestoreRefusal.DiskFault → ⊥)
         × ((D.state disk.new).faults ≡ (D.state disk.old).faults) }

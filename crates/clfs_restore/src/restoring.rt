@@ -5,7 +5,7 @@ ghost use Rattle.std.specs.Prelude.{◌≡◌, ◌≢◌, ◌⊎◌, ◌+◌, �
 ghost use Rattle.clfs_lsn.specs.Format.{sector_bytes};
 ghost use Rattle.clfs_lsn.specs.Lsn.{lsn_number, container_of};
 ghost use Rattle.clfs_disk.specs.Files.{Files, Unchanged, GrownIn};
-ghost use Rattle.clfs_disk.specs.State.{TellsContents, IsSteady, IsHonest, IsSettled, Later, Leaves, Passes, Rises};
+ghost use Rattle.clfs_disk.specs.State.{TellsContents, IsSteady, IsHonest, IsSettled, Later, Leaves, Passes, Rises, raised};
 ghost use Rattle.clfs_base.specs.Layout.{slot_bytes};
 ghost use Rattle.clfs_base.specs.Slots.{newest_of};
 ghost use Rattle.clfs_base.specs.Spelling.{IsImage, spelled};
@@ -16,7 +16,7 @@ ghost use Rattle.clfs_archive_form.specs.declared.archive.Archive.{Archive};
 ghost use Rattle.clfs_archive_form.specs.Reading.{CanBeRead};
 ghost use Rattle.clfs_archive_form.specs.Restoring.{restored};
 ghost use Rattle.clfs_archive_form.specs.Written.{restored_copy, CanBeRestored};
-ghost use Rattle.clfs_restore.specs.Restoring.{IsChosen, AreChosen, StandForRestored, base_bytes, GrowsBase, ComesAtOnce, RestoresAtOnce, AreFilled, IsInputCause, IsFreeCause, IsRestoreCause, IsOfMaking};
+ghost use Rattle.clfs_restore.specs.Restoring.{IsChosen, AreChosen, StandForRestored, base_bytes, GrowsBase, ComesAtOnce, RestoresAtOnce, AreFilled, IsInputCause, IsFreeCause, IsRestoreCause, IsOfMaking, LooksFirst, TakesCalls, filling_calls, restoring_calls};
 
 use crate::filling::fill_files;
 use crate::refusal::RestoreRefusal;
@@ -63,6 +63,7 @@ fn make_base<D: Disk>(disk: &mut D) -> Result<(), RestoreRefusal>
     ensures settled { OnOk result (IsHonest (D.state disk.old) → IsSettled (D.state disk.new)) }
     ensures grown { GrownIn 0 base_bytes (D.state disk.old).files (D.state disk.new).files }
     ensures time { GrowsBase (D.state disk.old) (D.state disk.new) }
+    ensures calls { OnOk result ((D.state disk.new).calls ≡ raised 2 (D.state disk.old).calls) }
     ensures cause { IsErrOf result RestoreRefusal.DiskFault → Rises (D.state disk.old).faults (D.state disk.new).faults }
     ensures steady { IsSteady (D.state disk.old) → (IsErrOf result RestoreRefusal.DiskFault → ⊥)
         × ((D.state disk.new).faults ≡ (D.state disk.old).faults) }
@@ -99,6 +100,7 @@ fn prepare<D: Disk>(
         → Leaves HasNoCopy (D.state disk.old) (D.state disk.new) }
 
     ensures time { Later (D.state disk.old) (D.state disk.new) }
+    ensures calls { OnOk result ((D.state disk.new).calls ≡ raised (filling_calls archive.now up_to + 3) (D.state disk.old).calls) }
     ensures cause { IsErrOf result RestoreRefusal.DiskFault → Rises (D.state disk.old).faults (D.state disk.new).faults }
     ensures steady { IsSteady (D.state disk.old) → (IsErrOf result RestoreRefusal.DiskFault → ⊥)
         × ((D.state disk.new).faults ≡ (D.state disk.old).faults) }
@@ -144,6 +146,7 @@ fn make_log<D: Disk>(
     ensures all_moments { IsSettled (D.state disk.old) → HasNoCopy (D.state disk.old).files → base_bytes ≤ length ((D.state disk.old).files 0)
         → Leaves (λ files. HasNoCopy files ⊎ ((buffers : ℕ) → StandsFor files (restored archives.now archive up_to buffers))) (D.state disk.old) (D.state disk.new) }
     ensures time { Later (D.state disk.old) (D.state disk.new) }
+    ensures calls { OnOk result ((D.state disk.new).calls ≡ raised (filling_calls archive up_to + 7) (D.state disk.old).calls) }
     ensures cause { IsErrOf result RestoreRefusal.DiskFault → Rises (D.state disk.old).faults (D.state disk.new).faults }
     ensures steady { IsSteady (D.state disk.old) → (IsErrOf result RestoreRefusal.DiskFault → ⊥)
         × ((D.state disk.new).faults ≡ (D.state disk.old).faults) }
@@ -179,6 +182,7 @@ fn restore_free<D: Disk>(
     ensures why { IfErr result (λ refusal. IsFreeCause archives.now up_to refusal) }
     ensures same { IfErr result (λ refusal. (IsOfMaking refusal → ⊥) → disk.new ≡ disk.old) }
     ensures time { Later (D.state disk.old) (D.state disk.new) }
+    ensures calls { OnOk result (TakesCalls archives.now up_to (λ archive lsn. filling_calls archive lsn + 7) (D.state disk.old) (D.state disk.new)) }
     ensures cause { IsErrOf result RestoreRefusal.DiskFault → Rises (D.state disk.old).faults (D.state disk.new).faults }
     ensures steady { IsSteady (D.state disk.old) → IsErrOf result RestoreRefusal.DiskFault → ⊥ }
 {
@@ -228,6 +232,8 @@ fn restore_disk<D: Disk>(
     ensures same { IfErr result (λ refusal. (IsOfMaking refusal → ⊥)
         → Unchanged (D.state disk.old).files (D.state disk.new).files × Passes Unchanged (D.state disk.old) (D.state disk.new)) }
     ensures kept { KeepsLog (D.state disk.old) (D.state disk.new) }
+    ensures first { IfErr result (λ refusal. LooksFirst refusal (D.state disk.old) (D.state disk.new)) }
+    ensures calls { OnOk result (TakesCalls archives.now up_to restoring_calls (D.state disk.old) (D.state disk.new)) }
     ensures time { Later (D.state disk.old) (D.state disk.new) }
     ensures cause { IsErrOf result RestoreRefusal.DiskFault → Rises (D.state disk.old).faults (D.state disk.new).faults }
     ensures steady { IsSteady (D.state disk.old) → IsErrOf result RestoreRefusal.DiskFault → ⊥ }
@@ -275,8 +281,12 @@ pub fn restore<D: Disk>(
     ensures same { IfErr result (λ refused. (IsOfMaking refused.cause → ⊥)
         → Unchanged (D.state disk).files (D.state refused.disk).files × Passes Unchanged (D.state disk) (D.state refused.disk)) }
 
-    // Where a slot was open nothing has changed, whatever is told.
+    // Where a slot was open that is told, unless the disk failed in the call, and nothing has changed, whatever is told.
+    ensures first { IfErr result (λ refused. LooksFirst refused.cause (D.state disk) (D.state refused.disk)) }
     ensures kept { IfErr result (λ refused. KeepsLog (D.state disk) (D.state refused.disk)) }
+
+    // Restoring a log takes just so many calls of the disk: no file is made beyond those that the log has.
+    ensures calls { IfOk result (λ new. TakesCalls archives.now up_to restoring_calls (D.state disk) (D.state new)) }
 
     ensures time { IfOk result (λ new. Later (D.state disk) (D.state new)) }
     ensures time_refused { IfErr result (λ refused. Later (D.state disk) (D.state refused.disk)) }

@@ -8,6 +8,7 @@ use Rattle.clfs_model.specs.Run.{Request}
 use Rattle.clfs_model.specs.Text.{reply_line, client_of}
 use Rattle.clfs_turn.specs.Seats.{IsSameSeat}
 use Rattle.clfs_lines.specs.Answering.{EndsAnswering, IsAnswerStatus, StopsAtFault}
+use Rattle.clfs_lines.specs.declared.incomplete.IncompleteLine.TheVariants.{Dropped}
 use Rattle.clfs_lines.specs.Through.{AnswersEach, AnswersThrough, AnswersInPart}
 use Rattle.clfs_turn.specs.Lists.{is_in}
 use Rattle.clfs_shared.specs.Sessions.{SessionState, SharedState, IsOf, own_entries}
@@ -84,9 +85,9 @@ module _ (s t : SessionState) where
 
 module _ (s t : SessionState) (limits : Limits) (status : ℕ) (left left' written written' : Option (List ℕ)) (source source' sink sink' : ℕ) where
   abbrev Ends : Type 0
-  Ends = EndsAnswering limits (AnswersThrough AnswersLine s t) (AnswersInPart AnswersLine s t) status left left' written written' source source' sink sink'
+  Ends = EndsAnswering limits Dropped (AnswersThrough AnswersLine s t) (AnswersInPart AnswersLine s t) status left left' written written' source source' sink sink'
 
-  at_fault_same : StopsAtFault limits (AnswersThrough AnswersLine s t) (AnswersInPart AnswersLine s t) left left' written written' → IsSameSeat s t
+  at_fault_same : StopsAtFault limits Dropped (AnswersThrough AnswersLine s t) (AnswersInPart AnswersLine s t) left left' written written' → IsSameSeat s t
   at_fault_same (inl stops) = part_same s t true stops.0 stops.1.1.0 stops.1.1.1
   at_fault_same (inr cut) = through_same s t (accepted limits cut.1.bytes) cut.1.output cut.1.answered
 

@@ -1,6 +1,6 @@
 -- The deletion of one area more.
-use Rattle.std.proofs.Common.{◌≡◌, ℕ, zero, suc, ◌+◌, Bool, true, false, refl, sym, ap, subst, ◌∙◌, inl, inr, List, [], ◌∷◌, ◌++◌, length, arith, append_assoc, append-nil}
-use Rattle.std.specs.Prelude.{◌==◌, ◌&&◌, if◌then◌else◌, All, Option, None}
+use Rattle.std.proofs.Common.{◌≡◌, ℕ, zero, suc, ◌+◌, Bool, true, false, refl, sym, ap, subst, ◌∙◌, inl, inr, List, [], ◌∷◌, ◌++◌, length, arith, length-append, le_trans, append_assoc, append-nil}
+use Rattle.std.specs.Prelude.{◌⊎◌, ◌==◌, ◌&&◌, ◌≤◌, if◌then◌else◌, All, Option, None, slice_index_or}
 use Rattle.std.specs.List.{list_all}
 use Rattle.std.specs.Option.{option_map}
 use Rattle.std.proofs.lemmas.Bool.{cases_lt, true≢false}
@@ -22,12 +22,13 @@ use Rattle.clfs_model.specs.Happened.{happened_of_refusal}
 use Rattle.clfs_model.specs.Journals.{IsLegal, mine}
 use Rattle.clfs_model.specs.Run.{asks}
 use Rattle.clfs_model.specs.State.{area_of}
-use Rattle.clfs_model.specs.Step.{Step}
+use Rattle.clfs_model.specs.Step.{Step, takes_memory}
 use Rattle.clfs_laws.specs.Needs.{area_number}
 use Rattle.clfs_laws.specs.ReplyKinds.{is_reply_of}
 use Rattle.clfs_laws.specs.Rows.{AreaRow, row_of, row_in, row_after, row_through}
 use Rattle.clfs_turn.specs.Seats.{IsSameSeat}
 use Rattle.clfs_shared.specs.declared.opening.Opening.{Opening}
+use Rattle.clfs_shared.specs.Counts.{most_calls}
 use Rattle.clfs_shared.specs.Journal.{entry_of, is_out_of_memory}
 use Rattle.clfs_shared.specs.Sessions.{SessionState, own_entries}
 use Rattle.clfs_share.specs.Answered.{AnswersCall}
@@ -116,22 +117,44 @@ ended laws s t number (replies.Refused refusals.NoSuchArea) answered is =
 ended laws s t number (replies.Refused _) answered is = absurd (true≢false (sym is))
 ended laws s t number _ answered is = absurd (true≢false (sym is))
 
+-- a session's own entries don't become fewer
+grown : (s t : SessionState) (call : Call) (reply : Reply) → AnswersCall s call reply t → length (own_entries s) ≤ length (own_entries t)
+grown s t call reply answered = by_memory (is_out_of_memory reply) (λ _. length (own_entries s) ≤ length (own_entries t))
+    (λ lacks. let same = ap length (same_own s t answered.same (answered.none lacks)) in omega (arith, same))
+    (λ answers.
+    let entry = entry_of s.client (length (own_entries s) + 1) call reply in
+    let grew = ap length (answered.step answers).grew ∙ length-append (own_entries s) (entry ∷ []) in omega (arith, grew))
+
+-- a deletion takes no memory, so that it lacks only for a client with as many entries as it may have
+pub has_most : (s t : SessionState) (number : ℕ) (reply : Reply) → AnswersCall s (calls.DeleteArea number) reply t
+    → (takes_memory (calls.DeleteArea number) ≡ true) ⊎ (most_calls ≤ length (own_entries s)) → most_calls ≤ length (own_entries t)
+has_most s t number reply answered (inl takes) = absurd (true≢false (sym takes))
+has_most s t number reply answered (inr most) = le_trans most (grown s t (calls.DeleteArea number) reply answered)
+
 -- which replies a deletion can have
-ends_by : (number : ℕ) (reply : Reply) → (is_out_of_memory reply ≡ false → is_reply_of (calls.DeleteArea number) reply ≡ true) → EndsArea reply
-ends_by number replies.Done kind = inl refl
-ends_by number (replies.Refused refusals.NoSuchArea) kind = inl refl
-ends_by number (replies.Refused refusals.Broken) kind = inr (inl refl)
-ends_by number (replies.Refused refusals.NoMemory) kind = inr (inr refl)
-ends_by number (replies.Refused _) kind = absurd (true≢false (sym (kind refl)))
-ends_by number _ kind = absurd (true≢false (sym (kind refl)))
+ends_by : (own number : ℕ) (reply : Reply) → (is_out_of_memory reply ≡ false → is_reply_of (calls.DeleteArea number) reply ≡ true)
+    → (is_out_of_memory reply ≡ true → most_calls ≤ own) → EndsArea own reply
+ends_by own number replies.Done kind lacks = inl refl
+ends_by own number (replies.Refused refusals.NoSuchArea) kind lacks = inl refl
+ends_by own number (replies.Refused refusals.Broken) kind lacks = inr (inl refl)
+ends_by own number (replies.Refused refusals.NoMemory) kind lacks = inr (inr (refl, lacks refl))
+ends_by own number (replies.Refused _) kind lacks = absurd (true≢false (sym (kind refl)))
+ends_by own number _ kind lacks = absurd (true≢false (sym (kind refl)))
+
+-- which replies are of a client with more entries too
+ends_more : (own more : ℕ) (reply : Reply) → own ≤ more → EndsArea own reply → EndsArea more reply
+ends_more own more reply less (inl gone) = inl gone
+ends_more own more reply less (inr (inl broken)) = inr (inl broken)
+ends_more own more reply less (inr (inr most)) = inr (inr (most.0, le_trans most.1 less))
 
 -- one deletion
-pub deletes : DeletionLaws → (s t : SessionState) (number : ℕ) (reply : Reply) → AnswersCall s (calls.DeleteArea number) reply t → DeletesArea s number t
-deletes laws s t number reply answered = record {
+pub deletes : DeletionLaws → (s t : SessionState) (number : ℕ) (reply : Reply) → AnswersCall s (calls.DeleteArea number) reply t
+    → (is_out_of_memory reply ≡ true → most_calls ≤ length (own_entries t)) → DeletesArea s number t
+deletes laws s t number reply answered lacks = record {
   reply = reply;
   answered = answered;
-  ends = ends_by number reply (λ answers. let step = answered.step answers in
-      laws.kind s.opening.tells_contents step.found s.client (calls.DeleteArea number) _ reply step.left step.step);
+  ends = ends_by (length (own_entries t)) number reply (λ answers. let step = answered.step answers in
+      laws.kind s.opening.tells_contents step.found s.client (calls.DeleteArea number) _ reply step.left step.step) lacks;
   gone = ended laws s t number reply answered;
 }
 
@@ -167,7 +190,10 @@ deleted_more count s t u has next = record {
       ∙ append_assoc (all_made (own_entries s)) (calls_made (deletions s.client count) has.answers) one
       ∙ ap (λ (z : List Made). all_made (own_entries s) ++ z) (sym (calls_made-append (deletions s.client count) (asks s.client (calls.DeleteArea (suc count)) ∷ [])
       has.answers (next.reply ∷ []) has.answered));
-  ends = All-append EndsArea has.answers (next.reply ∷ []) has.ends (all_one EndsArea next.reply next.ends);
+  ends = All-append (EndsArea (length (own_entries u))) has.answers (next.reply ∷ [])
+      (λ k d below. ends_more (length (own_entries t)) (length (own_entries u)) (slice_index_or has.answers k d)
+      (grown t u (calls.DeleteArea (suc count)) next.reply next.answered) (has.ends k d below))
+      (all_one (EndsArea (length (own_entries u))) next.reply next.ends);
   gone = λ all number least most.
       let two = both (list_all is_gone has.answers) (is_gone next.reply) (sym (list_all-append is_gone has.answers (next.reply ∷ [])) ∙ all) in
       elim (cases_lt count number) [

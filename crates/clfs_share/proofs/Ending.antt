@@ -9,6 +9,7 @@ use Rattle.clfs_shared.specs.Sessions.{SessionState, SharedState, IsOf}
 use Rattle.clfs_share.specs.declared.clients.Client.{Client}
 use Rattle.clfs_share.specs.declared.clients.ClientEnd.{ClientEnd}
 use Rattle.clfs_share.specs.declared.clients.ClientEnd.TheVariants.{Served, NotOpened, NoThread}
+use Rattle.clfs_share.specs.declared.openers.Openers as Openers
 use Rattle.clfs_share.specs.Ended.{EndsAs, HasEnded, HaveEnded}
 use Rattle.clfs_share.proofs.Answering.{same_log}
 use Rattle.clfs_share.proofs.Making.{same_seat, same_seats}
@@ -56,12 +57,12 @@ module _ {A B : Type 0} (f : A → B) (P : B → Type 0) where
 
 -- ---- all clients
 
-module _ {P S K : Type 0} (opens : P → S → K → Type 0) (left : S → Option (List ℕ)) (source_faults : S → ℕ) (written : K → Option (List ℕ)) (sink_faults : K → ℕ) where
+module _ {P S K : Type 0} (opening : Openers.Ghosts P S K) (left : S → Option (List ℕ)) (source_faults : S → ℕ) (written : K → Option (List ℕ)) (sink_faults : K → ℕ) where
   abbrev One : Client P S K → Client P S K → Type 0
-  One old new = HasEnded opens left source_faults written sink_faults old new
+  One old new = HasEnded opening left source_faults written sink_faults old new
 
   abbrev Each : List (Client P S K) → List (Client P S K) → Type 0
-  Each olds news = HaveEnded opens left source_faults written sink_faults olds news
+  Each olds news = HaveEnded opening left source_faults written sink_faults olds news
 
   pub ended_length : (olds news : List (Client P S K)) → Each olds news → length news ≡ length olds
   ended_length [] [] each = refl
@@ -93,14 +94,14 @@ module _ {P S K : Type 0} (opens : P → S → K → Type 0) (left : S → Optio
       (ended_reversed olds news each.1) each.0 (reverse_first new news)
 
   -- the session is the same however the client ended
-  end_same : (end : ClientEnd) (openers : P) (ports : Option (S × K)) (s t : SessionState) → EndsAs opens left source_faults written sink_faults end openers ports s t
+  end_same : (end : ClientEnd) (openers after : P) (ports : Option (S × K)) (s t : SessionState) → EndsAs opening left source_faults written sink_faults end openers after ports s t
       → IsSameSeat s t
-  end_same (Served status) openers ports s t is = same_seats s is.served.between t is.served.same is.served.leaves.same
-  end_same NotOpened openers ports s t is = let F : SessionState → Type 0 = λ x. IsSameSeat s x in subst F (sym is) (same_seat s)
-  end_same NoThread openers ports s t is = let F : SessionState → Type 0 = λ x. IsSameSeat s x in subst F (sym is) (same_seat s)
+  end_same (Served status) openers after ports s t is = same_seats s is.served.between t is.served.same is.served.leaves.same
+  end_same NotOpened openers after ports s t is = let F : SessionState → Type 0 = λ x. IsSameSeat s x in subst F (sym is.0) (same_seat s)
+  end_same NoThread openers after ports s t is = let F : SessionState → Type 0 = λ x. IsSameSeat s x in subst F (sym is.0) (same_seat s)
 
   one_same : (old new : Client P S K) → One old new → IsSameSeat old.session new.session
-  one_same old new one = end_same new.end old.openers new.ports old.session new.session one
+  one_same old new one = end_same new.end old.openers new.openers new.ports old.session new.session one
 
   pub ended_clients : (olds news : List (Client P S K)) → Each olds news
       → map (λ (c : Client P S K). c.session.client) news ≡ map (λ (c : Client P S K). c.session.client) olds

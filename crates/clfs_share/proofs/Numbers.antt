@@ -41,11 +41,11 @@ in_range from (suc count) n is = elim (cases_Bool (from == n)) [
       let most = found.1 in (omega arith, omega arith)
 ]
 
-none_in : (from count n : ℕ) → n < from → is_in n (range_with_len from count) ≡ false
-none_in from zero n below = refl
-none_in from (suc count) n below =
+pub below_range : (from count n : ℕ) → n < from → is_in n (range_with_len from count) ≡ false
+below_range from zero n below = refl
+below_range from (suc count) n below =
     let other : (from == n) ≡ false = grind (arith, nat_tests) in
-    ap (λ (b : Bool). b || is_in n (range_with_len (from + 1) count)) other ∙ none_in (from + 1) count n (omega arith)
+    ap (λ (b : Bool). b || is_in n (range_with_len (from + 1) count)) other ∙ below_range (from + 1) count n (omega arith)
 
 none_past : (from count n : ℕ) → from + count ≤ n → is_in n (range_with_len from count) ≡ false
 none_past from zero n past = refl
@@ -61,7 +61,7 @@ past_range count n past = none_past 1 count n (omega arith)
 pub range_distinct : (from count : ℕ) → are_distinct (range_with_len from count) ≡ true
 range_distinct from zero = refl
 range_distinct from (suc count) =
-    ap (λ (b : Bool). not b && are_distinct (range_with_len (from + 1) count)) (none_in (from + 1) count from (omega arith))
+    ap (λ (b : Bool). not b && are_distinct (range_with_len (from + 1) count)) (below_range (from + 1) count from (omega arith))
     ∙ range_distinct (from + 1) count
 
 -- as many as they are to be

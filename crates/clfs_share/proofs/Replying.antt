@@ -5,6 +5,7 @@ use Rattle.std.specs.List.{concat}
 use Rattle.clfs_model.specs.declared.journal.Entry.{Entry}
 use Rattle.clfs_model.specs.Accepted.{Limits}
 use Rattle.clfs_lines.specs.Answering.{Answers, EndsAnswering, IsWholeAnswer, IsAnswerUpToFault, IsAnswerUpToLimit, IsFrontUpToLimit, StopsShort, StopsAtFault}
+use Rattle.clfs_lines.specs.declared.incomplete.IncompleteLine.{IncompleteLine}
 use Rattle.clfs_lines.specs.Through.{AnswersThrough, AnswersInPart}
 use Rattle.clfs_shared.specs.Sessions.{SessionState, own_entries}
 use Rattle.clfs_share.specs.Answered.{AnswersLine}
@@ -54,8 +55,8 @@ in_part_by s t none torn lines text part = record {
 -- ---- other words for the same answers
 
 module _ (limits : Limits) (Is Other : Answers) (also : (lines : List (List ℕ)) (text : List ℕ) → Is lines text → Other lines text) where
-  whole_as : (left left' : Option (List ℕ)) (text : List ℕ) → IsWholeAnswer limits Is left left' text → IsWholeAnswer limits Other left left' text
-  whole_as left left' text is = record { script = is.script; read = is.read; answered = also _ text is.answered }
+  whole_as : (incomplete : IncompleteLine) (left left' : Option (List ℕ)) (text : List ℕ) → IsWholeAnswer limits incomplete Is left left' text → IsWholeAnswer limits incomplete Other left left' text
+  whole_as incomplete left left' text is = record { script = is.script; read = is.read; answered = also _ text is.answered }
 
   fault_as : (left left' : Option (List ℕ)) (text : List ℕ) → IsAnswerUpToFault limits Is left left' text → IsAnswerUpToFault limits Other left left' text
   fault_as left left' text is = record { bytes = is.bytes; given = is.given; answered = also _ text is.answered }
@@ -71,28 +72,28 @@ module _ (limits : Limits) (Is Other : Answers) (also : (lines : List (List ℕ)
   at_limit_as left left' text is =
       record { bytes = is.bytes; given = is.given; output = is.output; answered = also _ is.output is.answered; count = is.count; front = is.front }
 
-stops_as : (limits : Limits) (InPart Other : Answers) → ((lines : List (List ℕ)) (text : List ℕ) → InPart lines text → Other lines text) → (left left' written written' : Option (List ℕ))
-    → StopsShort limits InPart left left' written written' → StopsShort limits Other left left' written written'
-stops_as limits InPart Other also left left' written written' is = (is.0, (is.1.0, (is.1.1.0, also is.0 is.1.1.0 is.1.1.1, is.1.1.2)))
+stops_as : (limits : Limits) (incomplete : IncompleteLine) (InPart Other : Answers) → ((lines : List (List ℕ)) (text : List ℕ) → InPart lines text → Other lines text) → (left left' written written' : Option (List ℕ))
+    → StopsShort limits incomplete InPart left left' written written' → StopsShort limits incomplete Other left left' written written'
+stops_as limits incomplete InPart Other also left left' written written' is = (is.0, (is.1.0, (is.1.1.0, also is.0 is.1.1.0 is.1.1.1, is.1.1.2)))
 
-pub ends_as : (limits : Limits) (Is Other : Answers) (InPart OtherPart : Bool → Answers) (status : ℕ) (left left' written written' : Option (List ℕ)) (source source' sink sink' : ℕ)
+pub ends_as : (limits : Limits) (incomplete : IncompleteLine) (Is Other : Answers) (InPart OtherPart : Bool → Answers) (status : ℕ) (left left' written written' : Option (List ℕ)) (source source' sink sink' : ℕ)
     → ((lines : List (List ℕ)) (text : List ℕ) → Is lines text → Other lines text)
     → ((torn : Bool) (lines : List (List ℕ)) (text : List ℕ) → InPart torn lines text → OtherPart torn lines text)
-    → EndsAnswering limits Is InPart status left left' written written' source source' sink sink'
-    → EndsAnswering limits Other OtherPart status left left' written written' source source' sink sink'
-ends_as limits Is Other InPart OtherPart status left left' written written' source source' sink sink' also also_part ends = record {
+    → EndsAnswering limits incomplete Is InPart status left left' written written' source source' sink sink'
+    → EndsAnswering limits incomplete Other OtherPart status left left' written written' source source' sink sink'
+ends_as limits incomplete Is Other InPart OtherPart status left left' written written' source source' sink sink' also also_part ends = record {
   statuses = ends.statuses;
-  done = λ e. let found = ends.done e in (found.0, whole_as limits Is Other also left left' found.0 found.1, found.2);
+  done = λ e. let found = ends.done e in (found.0, whole_as limits Is Other also incomplete left left' found.0 found.1, found.2);
   source_fault = ends.source_fault;
   source_fault_answers = λ e. let found = ends.source_fault_answers e in (found.0, fault_as limits Is Other also left left' found.0 found.1, found.2);
   sink_fault = ends.sink_fault;
   sink_fault_front = λ e. at_fault (ends.sink_fault_front e);
-  no_memory = λ e. stops_as limits (InPart false) (OtherPart false) (also_part false) left left' written written' (ends.no_memory e);
+  no_memory = λ e. stops_as limits incomplete (InPart false) (OtherPart false) (also_part false) left left' written written' (ends.no_memory e);
   too_long = λ e. let found = ends.too_long e in (found.0, limit_as limits Is Other also left left' found.0 found.1, found.2);
   source_count = ends.source_count;
   sink_count = ends.sink_count;
 }
   where
-    at_fault : StopsAtFault limits Is InPart left left' written written' → StopsAtFault limits Other OtherPart left left' written written'
-    at_fault (inl stops) = inl (stops_as limits (InPart true) (OtherPart true) (also_part true) left left' written written' stops)
+    at_fault : StopsAtFault limits incomplete Is InPart left left' written written' → StopsAtFault limits incomplete Other OtherPart left left' written written'
+    at_fault (inl stops) = inl (stops_as limits incomplete (InPart true) (OtherPart true) (also_part true) left left' written written' stops)
     at_fault (inr cut) = inr (cut.0, at_limit_as limits Is Other also left left' cut.0 cut.1, cut.2)

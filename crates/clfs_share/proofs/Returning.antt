@@ -1,5 +1,5 @@
 -- The sessions of clients on their way to the threads and back, and what the journal has of them then.
-use Rattle.std.proofs.Common.{◌≡◌, ℕ, ◌<◌, true, false, refl, sym, ap, subst, ◌∙◌, List, [], ◌∷◌, length, map, reverse}
+use Rattle.std.proofs.Common.{◌≡◌, ℕ, true, false, refl, sym, ap, subst, ◌∙◌, inl, inr, List, [], ◌∷◌, length, map, reverse, arith}
 use Rattle.std.specs.Prelude.{All, Option}
 use Rattle.std.specs.List.{AllByRecursion, range_with_len}
 use Rattle.std.proofs.lemmas.List.{length-map}
@@ -13,10 +13,11 @@ use Rattle.clfs_shared.specs.Journal.{client_of}
 use Rattle.clfs_shared.specs.Sessions.{SessionState, SharedState, IsOf}
 use Rattle.clfs_share.specs.declared.clients.Client.{Client}
 use Rattle.clfs_share.specs.declared.clients.EndedClient.{EndedClient}
+use Rattle.clfs_share.specs.declared.openers.Openers as Openers
 use Rattle.clfs_share.specs.Ended.{HaveEnded, openers_of, ended_of}
-use Rattle.clfs_share.specs.Taken.{AreTaken}
+use Rattle.clfs_share.specs.Taken.{AreTaken, IsOfClients}
 use Rattle.clfs_share.proofs.Ending.{all_back, all_mapped, all_unmapped, ended_clients, ended_log, ended_reversed}
-use Rattle.clfs_share.proofs.Numbers.{past_range}
+use Rattle.clfs_share.proofs.Numbers.{below_range, past_range}
 use Rattle.clfs_share.proofs.Taking.{BeginsIn, RowsLaw, all_taken}
 
 module _ {P S K : Type 0} where
@@ -41,11 +42,11 @@ module _ {P S K : Type 0} where
       All-from_recursion (λ (c : Client P S K). IsOf log c.session) clients
       (all_back (λ (c : Client P S K). IsOf log c.session) clients (each_session (λ (s : SessionState). IsOf log s) sessions clients are all))
 
-module _ {P S K : Type 0} (opens : P → S → K → Type 0) (left : S → Option (List ℕ)) (source_faults : S → ℕ) (written : K → Option (List ℕ)) (sink_faults : K → ℕ) (log : SharedState)
+module _ {P S K : Type 0} (opening : Openers.Ghosts P S K) (left : S → Option (List ℕ)) (source_faults : S → ℕ) (written : K → Option (List ℕ)) (sink_faults : K → ℕ) (log : SharedState)
     (sessions back : List SessionState) (olds news : List (Client P S K)) (are : map session_of (reverse olds) ≡ sessions) (back_are : back ≡ map session_of (reverse news))
-    (each : HaveEnded opens left source_faults written sink_faults olds news) where
-  ended : HaveEnded opens left source_faults written sink_faults (reverse olds) (reverse news)
-  ended = ended_reversed opens left source_faults written sink_faults olds news each
+    (each : HaveEnded opening left source_faults written sink_faults olds news) where
+  ended : HaveEnded opening left source_faults written sink_faults (reverse olds) (reverse news)
+  ended = ended_reversed opening left source_faults written sink_faults olds news each
 
   -- the sessions that come back are of the same log
   pub back_belong : All (λ (s : SessionState). IsOf log s) sessions → All (λ (s : SessionState). IsOf log s) back
@@ -53,7 +54,7 @@ module _ {P S K : Type 0} (opens : P → S → K → Type 0) (left : S → Optio
       let F : List SessionState → Type 0 = λ z. All (λ (s : SessionState). IsOf log s) z in
       subst F (sym back_are) (All-from_recursion (λ (s : SessionState). IsOf log s) (map session_of (reverse news))
       (all_mapped session_of (λ (s : SessionState). IsOf log s) (reverse news)
-      (ended_log opens left source_faults written sink_faults log (reverse olds) (reverse news) ended
+      (ended_log opening left source_faults written sink_faults log (reverse olds) (reverse news) ended
       (each_session (λ (s : SessionState). IsOf log s) sessions olds are all))))
 
   -- and of the same clients
@@ -61,7 +62,7 @@ module _ {P S K : Type 0} (opens : P → S → K → Type 0) (left : S → Optio
   back_clients =
       ap (λ (z : List SessionState). map (λ (s : SessionState). s.client) z) back_are
       ∙ clients_of (reverse news)
-      ∙ ended_clients opens left source_faults written sink_faults (reverse olds) (reverse news) ended
+      ∙ ended_clients opening left source_faults written sink_faults (reverse olds) (reverse news) ended
       ∙ sym (clients_of (reverse olds))
       ∙ ap (λ (z : List SessionState). map (λ (s : SessionState). s.client) z) are
 
@@ -70,15 +71,15 @@ module _ {P S K : Type 0} (opens : P → S → K → Type 0) (left : S → Optio
   all_back_there clients c inside = ap (λ (z : List ℕ). is_in c z) (back_clients ∙ clients) ∙ inside
 
   -- what the journal has of them
-  pub taken : (rows : RowsLaw) (journal : List Entry) (last : State) (openers : List P) (ends : List (EndedClient S K))
+  pub taken : (rows : RowsLaw) (journal : List Entry) (last : State) (openers : List P) (ends : List (EndedClient P S K))
       → map openers_of (reverse olds) ≡ openers → ends ≡ map ended_of (reverse news) → All (λ (s : SessionState). IsNewSeat log s) sessions
       → map (λ (s : SessionState). s.client) sessions ≡ log.clients → log.clients ≡ range_with_len 1 (length openers)
       → IsLegal log.opening.tells_contents journal log.opening.state last → All (λ (s : SessionState). HasSeen client_of journal s) back
-      → AreTaken opens left source_faults written sink_faults journal last 1 openers ends
+      → AreTaken opening left source_faults written sink_faults journal last 1 openers ends
   taken rows journal last openers ends openers_are ends_are new clients numbers legal seen =
-      let F : List P → Type 0 = λ z. AreTaken opens left source_faults written sink_faults journal last 1 z ends in
-      let G : List (EndedClient S K) → Type 0 = λ z. AreTaken opens left source_faults written sink_faults journal last 1 (map openers_of (reverse olds)) z in
-      subst F openers_are (subst G (sym ends_are) (all_taken opens left source_faults written sink_faults rows log.opening journal last legal 1 (reverse olds) (reverse news) ended
+      let F : List P → Type 0 = λ z. AreTaken opening left source_faults written sink_faults journal last 1 z ends in
+      let G : List (EndedClient P S K) → Type 0 = λ z. AreTaken opening left source_faults written sink_faults journal last 1 (map openers_of (reverse olds)) z in
+      subst F openers_are (subst G (sym ends_are) (all_taken opening left source_faults written sink_faults rows log.opening journal last legal 1 (reverse olds) (reverse news) ended
       (begin (reverse olds) (each_session (λ (s : SessionState). IsNewSeat log s) sessions olds are new))
       (sym (clients_of (reverse olds)) ∙ ap (λ (z : List SessionState). map (λ (s : SessionState). s.client) z) are ∙ clients ∙ numbers
       ∙ ap (λ (n : ℕ). range_with_len 1 n) (sym (ap (λ (z : List P). length z) openers_are) ∙ length-map (reverse olds) openers_of))
@@ -91,5 +92,6 @@ module _ {P S K : Type 0} (opens : P → S → K → Type 0) (left : S → Optio
 
 -- nobody else made a call
 pub others_none : (clients : List ℕ) (count : ℕ) (journal : List Entry) → clients ≡ range_with_len 1 count
-    → ((c : ℕ) → is_in c clients ≡ false → mine journal c ≡ []) → (c : ℕ) → count < c → mine journal c ≡ []
-others_none clients count journal are others c past = others c (ap (λ (z : List ℕ). is_in c z) are ∙ past_range count c past)
+    → ((c : ℕ) → is_in c clients ≡ false → mine journal c ≡ []) → IsOfClients count journal
+others_none clients count journal are others c (inl zero) = others c (ap (λ (z : List ℕ). is_in c z) are ∙ below_range 1 count c (omega (arith, zero)))
+others_none clients count journal are others c (inr past) = others c (ap (λ (z : List ℕ). is_in c z) are ∙ past_range count c past)

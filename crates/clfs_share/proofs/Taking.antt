@@ -1,6 +1,6 @@
 -- What a journal has of a client that ended.
 use Rattle.std.proofs.Common.{◌≡◌, ℕ, ◌+◌, Bool, refl, sym, ap, subst, ◌∙◌, List, [], ◌∷◌, ◌++◌, length, map}
-use Rattle.std.specs.Prelude.{Option, Some, None}
+use Rattle.std.specs.Prelude.{All, Option, Some, None}
 use Rattle.std.specs.List.{AllByRecursion, range_with_len}
 use Rattle.std.specs.Option.{option_map}
 use Rattle.clfs_lsn.specs.Limits.{most_areas}
@@ -19,9 +19,11 @@ use Rattle.clfs_share.specs.declared.clients.Client.{Client}
 use Rattle.clfs_share.specs.declared.clients.ClientEnd.{ClientEnd}
 use Rattle.clfs_share.specs.declared.clients.ClientEnd.TheVariants.{Served, NotOpened, NoThread}
 use Rattle.clfs_share.specs.Answered.{AnswersLine}
+use Rattle.clfs_share.specs.declared.openers.Openers as Openers
 use Rattle.clfs_share.specs.Ended.{EndsAs, HasEnded, HaveEnded, openers_of, ended_of}
-use Rattle.clfs_share.specs.Left.{deletions, own_row}
+use Rattle.clfs_share.specs.Left.{deletions, own_row, EndsArea}
 use Rattle.clfs_share.specs.Made.{all_made, calls_made, AreReplies}
+use Rattle.clfs_lines.specs.declared.incomplete.IncompleteLine.TheVariants.{Dropped}
 use Rattle.clfs_share.specs.Served.{IsServed, client_limits}
 use Rattle.clfs_share.specs.Taken.{AreTaken, IsAnswered, IsAnsweredInPart, IsTaken, IsTakenAs}
 use Rattle.clfs_share.proofs.Replying.{answered_by, ends_as, in_part_by}
@@ -60,14 +62,14 @@ module _ (rows : RowsLaw) (journal : List Entry) (last : State) (s t : SessionSt
       → IsTaken journal last s.client status left left' written written' source source' sink sink'
   served_taken status left left' written written' source source' sink sink' served = record {
     calls = all_made (own_entries between);
-    ends = ends_as client_limits (AnswersThrough AnswersLine s between) (IsAnswered s.client (all_made (own_entries between)))
+    ends = ends_as client_limits Dropped (AnswersThrough AnswersLine s between) (IsAnswered s.client (all_made (own_entries between)))
         (AnswersInPart AnswersLine s between) (IsAnsweredInPart s.client (all_made (own_entries between))) status left left' written written' source source' sink sink'
         (answered_by s between (none_own s new)) (in_part_by s between (none_own s new)) served.ends;
     answers = served.leaves.answers;
     deleted = let F : ℕ → Type 0 = λ c. AreReplies (deletions c most_areas) served.leaves.answers in subst F served.same.client served.leaves.answered;
     entries = ap all_made (own_of same) ∙ served.leaves.entries
         ∙ ap (λ (c : ℕ). all_made (own_entries between) ++ calls_made (deletions c most_areas) served.leaves.answers) served.same.client;
-    leaves = served.leaves.ends;
+    leaves = let F : List Entry → Type 0 = λ own. All (EndsArea (length own)) served.leaves.answers in subst F (sym (own_of same)) served.leaves.ends;
     gone = λ all number least most. no_own_area same number (served.leaves.gone all number least most);
   }
     where
@@ -82,21 +84,23 @@ module _ (rows : RowsLaw) (journal : List Entry) (last : State) (s t : SessionSt
   none_taken is = ap (λ (c : ℕ). mine journal c) (sym (ap (λ (x : SessionState). x.client) is)) ∙ sym seen.own
       ∙ ap (λ (x : SessionState). own_entries x) is ∙ none_own s new
 
-  module _ {P S K : Type 0} (opens : P → S → K → Type 0) (left : S → Option (List ℕ)) (source_faults : S → ℕ) (written : K → Option (List ℕ)) (sink_faults : K → ℕ) where
-    taken_as : (end : ClientEnd) (openers : P) (ports : Option (S × K)) → EndsAs opens left source_faults written sink_faults end openers ports s t
-        → IsTakenAs opens left source_faults written sink_faults journal last end s.client openers ports
-    taken_as (Served status) openers ports is = record {
+  module _ {P S K : Type 0} (opening : Openers.Ghosts P S K) (left : S → Option (List ℕ)) (source_faults : S → ℕ) (written : K → Option (List ℕ)) (sink_faults : K → ℕ) where
+    taken_as : (end : ClientEnd) (openers after : P) (ports : Option (S × K)) → EndsAs opening left source_faults written sink_faults end openers after ports s t
+        → IsTakenAs opening left source_faults written sink_faults journal last end s.client openers after ports
+    taken_as (Served status) openers after ports is = record {
       source = is.source;
       sink = is.sink;
+      between = is.between;
       opened = is.opened;
+      closed = is.closed;
       source_after = is.source_after;
       sink_after = is.sink_after;
       are = is.are;
       taken = served_taken status (left is.source) (left is.source_after) (written is.sink) (written is.sink_after)
           (source_faults is.source) (source_faults is.source_after) (sink_faults is.sink) (sink_faults is.sink_after) is.served;
     }
-    taken_as NotOpened openers ports is = none_taken is
-    taken_as NoThread openers ports is = none_taken is
+    taken_as NotOpened openers after ports is = (none_taken is.0, is.1)
+    taken_as NoThread openers after ports is = (none_taken is.0, is.1)
 
 -- ---- all clients
 
@@ -105,7 +109,7 @@ pub record BeginsIn (o : Opening) (s : SessionState) : Type 0 where
   pub seen : s.seen ≡ []
   pub opening : s.opening ≡ o
 
-module _ {P S K : Type 0} (opens : P → S → K → Type 0) (left : S → Option (List ℕ)) (source_faults : S → ℕ) (written : K → Option (List ℕ)) (sink_faults : K → ℕ) (rows : RowsLaw) (o : Opening)
+module _ {P S K : Type 0} (opening : Openers.Ghosts P S K) (left : S → Option (List ℕ)) (source_faults : S → ℕ) (written : K → Option (List ℕ)) (sink_faults : K → ℕ) (rows : RowsLaw) (o : Opening)
     (journal : List Entry) (last : State) (legal : IsLegal o.tells_contents journal o.state last) where
   first_is : {a b : ℕ} {xs ys : List ℕ} → a ∷ xs ≡ b ∷ ys → a ≡ b
   first_is is = cc is
@@ -113,20 +117,20 @@ module _ {P S K : Type 0} (opens : P → S → K → Type 0) (left : S → Optio
   rest_is : {a b : ℕ} {xs ys : List ℕ} → a ∷ xs ≡ b ∷ ys → xs ≡ ys
   rest_is is = cc is
 
-  one_taken : (number : ℕ) (old new : Client P S K) → HasEnded opens left source_faults written sink_faults old new → BeginsIn o old.session
+  one_taken : (number : ℕ) (old new : Client P S K) → HasEnded opening left source_faults written sink_faults old new → BeginsIn o old.session
       → old.session.client ≡ number → HasSeen client_of journal new.session
-      → IsTakenAs opens left source_faults written sink_faults journal last new.end number old.openers new.ports
+      → IsTakenAs opening left source_faults written sink_faults journal last new.end number old.openers new.openers new.ports
   one_taken number old new ended begins is seen =
       let L : Opening → Type 0 = λ x. IsLegal x.tells_contents journal x.state last in
-      let F : ℕ → Type 0 = λ c. IsTakenAs opens left source_faults written sink_faults journal last new.end c old.openers new.ports in
+      let F : ℕ → Type 0 = λ c. IsTakenAs opening left source_faults written sink_faults journal last new.end c old.openers new.openers new.ports in
       subst F is (taken_as rows journal last old.session new.session begins.seen seen (subst L (sym begins.opening) legal)
-      opens left source_faults written sink_faults new.end old.openers new.ports ended)
+      opening left source_faults written sink_faults new.end old.openers new.openers new.ports ended)
 
-  pub all_taken : (number : ℕ) (olds news : List (Client P S K)) → HaveEnded opens left source_faults written sink_faults olds news
+  pub all_taken : (number : ℕ) (olds news : List (Client P S K)) → HaveEnded opening left source_faults written sink_faults olds news
       → AllByRecursion (λ (c : Client P S K). BeginsIn o c.session) olds
       → map (λ (c : Client P S K). c.session.client) olds ≡ range_with_len number (length olds)
       → AllByRecursion (λ (c : Client P S K). HasSeen client_of journal c.session) news
-      → AreTaken opens left source_faults written sink_faults journal last number (map openers_of olds) (map ended_of news)
+      → AreTaken opening left source_faults written sink_faults journal last number (map openers_of olds) (map ended_of news)
   all_taken number [] [] ended begin are seen = tt
   all_taken number [] (new ∷ news) ended begin are seen = absurd ended
   all_taken number (old ∷ olds) [] ended begin are seen = absurd ended

@@ -1,5 +1,5 @@
 -- How a client leaves a shared log: its areas are deleted, so that what they held is free for the others.
-use Rattle.std.specs.Prelude.{◌≡◌, ◌⊎◌, ℕ, zero, suc, ◌≤◌, Bool, true, false, List, [], ◌∷◌, ◌++◌, All, None, Option}
+use Rattle.std.specs.Prelude.{◌≡◌, ◌⊎◌, ℕ, zero, suc, ◌≤◌, Bool, true, false, List, [], ◌∷◌, ◌++◌, length, All, None, Option}
 use Rattle.std.specs.List.{list_all}
 use Rattle.clfs_lsn.specs.Limits.{most_areas}
 use Rattle.clfs_model.specs.declared.call.Call.TheVariants as calls
@@ -9,6 +9,7 @@ use Rattle.clfs_model.specs.declared.reply.Reply.TheVariants as replies
 use Rattle.clfs_model.specs.Run.{Request, asks}
 use Rattle.clfs_laws.specs.Rows.{AreaRow, row_in, row_through}
 use Rattle.clfs_turn.specs.Seats.{IsSameSeat}
+use Rattle.clfs_shared.specs.Counts.{most_calls}
 use Rattle.clfs_shared.specs.Sessions.{SessionState, own_entries}
 use Rattle.clfs_share.specs.Answered.{AnswersCall}
 use Rattle.clfs_share.specs.Made.{all_made, calls_made, AreReplies}
@@ -28,15 +29,16 @@ is_gone _ = false
 abbrev pub own_row : ℕ → SessionState → Option AreaRow
 own_row number s = row_through number (row_in s.opening.state s.client number) (own_entries s)
 
--- a reply to a deletion: the area is gone, or the log is broken, or memory ran out
-abbrev pub EndsArea : Reply → Type 0
-EndsArea reply = (is_gone reply ≡ true) ⊎ ((reply ≡ replies.Refused refusals.Broken) ⊎ (reply ≡ replies.Refused refusals.NoMemory))
+-- A reply to a deletion: the area is gone, or the log is broken. It tells of no memory only where the client has made as many calls as it may.
+abbrev pub EndsArea : ℕ → Reply → Type 0
+EndsArea own reply =
+    (is_gone reply ≡ true) ⊎ ((reply ≡ replies.Refused refusals.Broken) ⊎ ((reply ≡ replies.Refused refusals.NoMemory) × (most_calls ≤ own)))
 
 -- The deletion of one area was asked for.
 pub record DeletesArea (s : SessionState) (number : ℕ) (t : SessionState) : Type 0 where
   pub reply : Reply
   pub answered : AnswersCall s (calls.DeleteArea number) reply t
-  pub ends : EndsArea reply
+  pub ends : EndsArea (length (own_entries t)) reply
   pub gone : is_gone reply ≡ true → own_row number t ≡ None
 
 -- The deletion of the areas of the first so many numbers was asked for, one after the other.
@@ -46,8 +48,8 @@ pub record HasDeleted (count : ℕ) (s t : SessionState) : Type 0 where
   pub answered : AreReplies (deletions s.client count) answers
   -- the session's own entries became more by just these calls
   pub entries : all_made (own_entries t) ≡ all_made (own_entries s) ++ calls_made (deletions s.client count) answers
-  -- each area is gone but where the log is broken or memory ran out
-  pub ends : All EndsArea answers
+  -- each area is gone but where the log is broken, or where the client has made as many calls as it may
+  pub ends : All (EndsArea (length (own_entries t))) answers
   pub gone : list_all is_gone answers ≡ true → (number : ℕ) → 1 ≤ number → number ≤ count → own_row number t ≡ None
 
 -- the deletion of all areas that a client can have was asked for

@@ -1,5 +1,5 @@
 -- What a shared log took of a client, as its journal has it, and what the client's source and sink saw of that.
-use Rattle.std.specs.Prelude.{◌≡◌, ℕ, ◌+◌, ◌≤◌, Bool, true, false, List, [], ◌∷◌, ◌++◌, length, All, None, Option, Some}
+use Rattle.std.specs.Prelude.{◌≡◌, ◌⊎◌, ℕ, ◌+◌, ◌<◌, ◌≤◌, Bool, true, false, List, [], ◌∷◌, ◌++◌, length, All, None, Option, Some}
 use Rattle.std.specs.List.{concat, list_all}
 use Rattle.clfs_lsn.specs.Limits.{most_areas}
 use Rattle.clfs_model.specs.declared.journal.Entry.{Entry}
@@ -8,9 +8,12 @@ use Rattle.clfs_model.specs.declared.state.State.{State}
 use Rattle.clfs_model.specs.Journals.{mine}
 use Rattle.clfs_model.specs.State.{area_of}
 use Rattle.clfs_lines.specs.Answering.{EndsAnswering}
+use Rattle.clfs_lines.specs.declared.incomplete.IncompleteLine.TheVariants.{Dropped}
 use Rattle.clfs_share.specs.declared.clients.ClientEnd.{ClientEnd}
 use Rattle.clfs_share.specs.declared.clients.ClientEnd.TheVariants.{Served, NotOpened, NoThread}
 use Rattle.clfs_share.specs.declared.clients.EndedClient.{EndedClient}
+use Rattle.clfs_share.specs.declared.openers.Openers as Openers
+use Rattle.clfs_share.specs.Ended.{WasNotOpened, WasRefused}
 use Rattle.clfs_share.specs.Left.{deletions, is_gone, EndsArea}
 use Rattle.clfs_share.specs.Lines.{own_requests}
 use Rattle.clfs_share.specs.Made.{Made, all_made, calls_made, AreReplies, reply_lines}
@@ -41,38 +44,45 @@ pub record IsAnsweredInPart (client : ℕ) (calls : List Made) (torn : Bool) (li
 -- deletions of its areas. The status tells how its lines ended.
 pub record IsTaken (journal : List Entry) (last : State) (client status : ℕ) (left left_after written written_after : Option (List ℕ)) (source source_after sink sink_after : ℕ) : Type 0 where
   pub calls : List Made
-  pub ends : EndsAnswering client_limits (IsAnswered client calls) (IsAnsweredInPart client calls) status left left_after
+  pub ends : EndsAnswering client_limits Dropped (IsAnswered client calls) (IsAnsweredInPart client calls) status left left_after
       written written_after source source_after sink sink_after
   pub answers : List Reply
   pub deleted : AreReplies (deletions client most_areas) answers
   pub entries : all_made (mine journal client) ≡ calls ++ calls_made (deletions client most_areas) answers
-  -- each deletion leaves no such area, but where the log is broken or memory ran out
-  pub leaves : All EndsArea answers
+  -- each deletion leaves no such area, but where the log is broken or the client has made as many calls as it may
+  pub leaves : All (EndsArea (length (mine journal client))) answers
   pub gone : list_all is_gone answers ≡ true → (number : ℕ) → 1 ≤ number → number ≤ most_areas → area_of last client number ≡ None
 
--- A client's source and sink were opened, and the log took its calls.
-pub record WasTaken {P S K : Type 0} (opens : P → S → K → Type 0) (left : S → Option (List ℕ)) (source_faults : S → ℕ) (written : K → Option (List ℕ))
-    (sink_faults : K → ℕ) (journal : List Entry) (last : State) (client status : ℕ) (openers : P) (ports : Option (S × K)) : Type 0 where
+-- A client's source and sink were opened, the log took its calls, and they were closed with its status.
+pub record WasTaken {P S K : Type 0} (opening : Openers.Ghosts P S K) (left : S → Option (List ℕ)) (source_faults : S → ℕ) (written : K → Option (List ℕ))
+    (sink_faults : K → ℕ) (journal : List Entry) (last : State) (client status : ℕ) (openers openers_after : P) (ports : Option (S × K)) : Type 0 where
   pub source : S
   pub sink : K
-  pub opened : opens openers source sink
+  -- the openers while the client was served
+  pub between : P
+  pub opened : opening.opens openers source sink between
+  pub closed : opening.closes between status openers_after
   pub source_after : S
   pub sink_after : K
   pub are : ports ≡ Some (source_after, sink_after)
   pub taken : IsTaken journal last client status (left source) (left source_after) (written sink) (written sink_after)
       (source_faults source) (source_faults source_after) (sink_faults sink) (sink_faults sink_after)
 
-module _ {P S K : Type 0} (opens : P → S → K → Type 0) (left : S → Option (List ℕ)) (source_faults : S → ℕ) (written : K → Option (List ℕ)) (sink_faults : K → ℕ)
+module _ {P S K : Type 0} (opening : Openers.Ghosts P S K) (left : S → Option (List ℕ)) (source_faults : S → ℕ) (written : K → Option (List ℕ)) (sink_faults : K → ℕ)
     (journal : List Entry) (last : State) where
-  -- a client that ended so: the log took no call of one that wasn't served
-  abbrev pub IsTakenAs : ClientEnd → ℕ → P → Option (S × K) → Type 0
-  IsTakenAs (Served status) client openers ports = WasTaken opens left source_faults written sink_faults journal last client status openers ports
-  IsTakenAs NotOpened client openers ports = mine journal client ≡ []
-  IsTakenAs NoThread client openers ports = mine journal client ≡ []
+  -- a client that ended so: the log took no call of one that wasn't served, which had no source and no sink
+  abbrev pub IsTakenAs : ClientEnd → ℕ → P → P → Option (S × K) → Type 0
+  IsTakenAs (Served status) client openers after ports = WasTaken opening left source_faults written sink_faults journal last client status openers after ports
+  IsTakenAs NotOpened client openers after ports = (mine journal client ≡ []) × WasNotOpened opening openers after ports
+  IsTakenAs NoThread client openers after ports = (mine journal client ≡ []) × WasRefused opening openers after ports
 
   -- clients with their numbers, of which the first has this one
-  abbrev pub AreTaken : ℕ → List P → List (EndedClient S K) → Type 0
+  abbrev pub AreTaken : ℕ → List P → List (EndedClient P S K) → Type 0
   AreTaken client [] [] = Unit {0}
   AreTaken client [] (ended ∷ others) = ⊥
   AreTaken client (openers ∷ more) [] = ⊥
-  AreTaken client (openers ∷ more) (ended ∷ others) = IsTakenAs ended.end client openers ended.ports × AreTaken (client + 1) more others
+  AreTaken client (openers ∷ more) (ended ∷ others) = IsTakenAs ended.end client openers ended.openers ended.ports × AreTaken (client + 1) more others
+
+-- all calls are those of so many clients, numbered from 1
+abbrev pub IsOfClients : ℕ → List Entry → Type 0
+IsOfClients count journal = (client : ℕ) → (client ≡ 0) ⊎ (count < client) → mine journal client ≡ []

@@ -1,4 +1,6 @@
 // The clients of a shared log, as they are handed to their threads and come back.
+ghost use Rattle.std.specs.Prelude.{◌≡◌};
+ghost use Rattle.clfs_share.specs.Ended.{ends_of, is_any_served};
 
 use crate::openers::Openers;
 use clfs_ports::{Sink, Source};
@@ -27,11 +29,26 @@ pub(crate) struct Client<P: Openers<S, K>, S: Source, K: Sink> {
     pub end: ClientEnd,
 }
 
-/// A client's source and sink after it ended, if they were opened.
+/// A client that has ended.
 #[derive(Drop)]
-pub struct EndedClient<S: Source, K: Sink> {
-    /// Where its lines came from, and where its replies went.
+pub struct EndedClient<P: Openers<S, K>, S: Source, K: Sink> {
+    /// Its openers, as they were left.
+    pub openers: P,
+    /// Where its lines came from and where its replies went, if they were opened.
     pub ports: Option<(S, K)>,
     /// How it ended.
     pub end: ClientEnd,
+}
+
+/// Whether one of the clients was served.
+pub fn is_any_served<P: Openers<S, K>, S: Source, K: Sink>(clients: &[EndedClient<P, S, K>]) -> bool
+    ensures { result ≡ is_any_served (ends_of clients.now) }
+{
+    let Some((client, others)) = clients.split_first() else {
+        return false;
+    };
+    match client.end {
+        ClientEnd::Served { .. } => true,
+        ClientEnd::NotOpened | ClientEnd::NoThread => is_any_served(others),
+    }
 }

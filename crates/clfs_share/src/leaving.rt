@@ -5,16 +5,16 @@ ghost use Rattle.clfs_share.specs.Left.{DeletesArea, HasLeft};
 use clfs_disk::Disk;
 use clfs_laws::{refusals_change_nothing, replies_are_of_their_calls, rows_are_by_own_entries};
 use clfs_model::Call;
-use clfs_shared::{Recorder, Session, SharedLog};
+use clfs_shared::{Session, SharedLog, ToldJournal};
 use std::sync::Wait;
 
 // The highest number of a client's area.
 const MOST_AREAS: u16 = 16;
 
 // Asks for the deletion of one area, whether it is there or not.
-fn delete_area<D: Disk, J: Recorder, R: Wait>(
+fn delete_area<D: Disk, R: Wait>(
     rt: &R,
-    log: &SharedLog<D, J>,
+    log: &SharedLog<D, ToldJournal>,
     session: &mut Session,
     number: u16,
 )
@@ -29,9 +29,9 @@ fn delete_area<D: Disk, J: Recorder, R: Wait>(
 }
 
 /// Asks for the deletion of each area that the client can have.
-pub(crate) fn leave<D: Disk, J: Recorder, R: Wait>(
+pub(crate) fn leave<D: Disk, R: Wait>(
     rt: &R,
-    log: &SharedLog<D, J>,
+    log: &SharedLog<D, ToldJournal>,
     session: &mut Session,
 )
     requires { IsOf log.now session.old }

@@ -12,7 +12,8 @@
 //! refuses.
 //!
 //! `share` shares a log among clients, each served in a thread of its own, which opens the client's source and sink by its openers. Its contract tells all of
-//! them by one journal.
+//! them by one journal, and of each client which calls its openers took: they are opened once, and closed once if that gave anything; they are refused
+//! where no thread could be made, and then they aren't opened.
 #![tactic(auto)]
 
 mod clients;
@@ -24,7 +25,7 @@ mod serving;
 mod sharing;
 mod threads;
 
-pub use clients::{ClientEnd, EndedClient};
+pub use clients::{ClientEnd, EndedClient, is_any_served};
 pub use openers::{OpenedPorts, Openers};
 pub use serving::{Served, serve_client};
 pub use sharing::{ShareRefused, Shared, share};

@@ -5,7 +5,7 @@ ghost use Rattle.clfs_share.specs.Served.{IsServed};
 use crate::leaving::leave;
 use crate::seat::Seat;
 use clfs_disk::Disk;
-use clfs_lines::answered;
+use clfs_lines::{IncompleteLine, answered};
 use clfs_ports::{Sink, Source};
 use clfs_shared::{Session, SharedLog, ToldJournal};
 use std::alloc::Global;
@@ -22,7 +22,8 @@ pub struct Served {
 }
 
 /// Answers a client's lines until its source ends, each when its line feed is there, and then deletes its areas. A line begins with the client's
-/// number, and has at most 131,072 bytes without its line feed. It waits for the log's turn at each call.
+/// number, and has at most 131,072 bytes without its line feed. Bytes after the last line feed are dropped: the program may have ended while it wrote. It
+/// waits for the log's turn at each call.
 pub fn serve_client<R: Wait, D: Disk, S: Source, K: Sink>(
     rt: &R,
     alloc: Global,
@@ -36,7 +37,8 @@ pub fn serve_client<R: Wait, D: Disk, S: Source, K: Sink>(
         (S.faults source.old) (S.faults source.new) (K.faults sink.old) (K.faults sink.new) }
 {
     let mut seat = Seat::new(rt, log, session);
-    let status = answered(alloc, &mut seat, u64::MAX, source, sink);
+    let incomplete = IncompleteLine::Dropped;
+    let status = answered(alloc, &mut seat, u64::MAX, incomplete, source, sink);
     let mut session = seat.into_session();
     leave(rt, log, &mut session);
     Served { session, status }

@@ -1,37 +1,38 @@
 // A log that several clients share, from its opening to its closing.
 //
 // The memory for all that is handed round is taken before the log is shared: a session that got lost on the way would keep the log from being closed.
-ghost use Rattle.std.specs.Prelude.{◌≡◌, ◌<◌, ◌≤◌, ◌++◌, ℕ, [], All, length, map, reverse, vec_len, vec_capacity, IfOk, IfErr};
+ghost use Rattle.std.specs.Prelude.{◌≡◌, ◌<◌, ◌≤◌, ◌++◌, [], All, length, map, reverse, vec_len, vec_capacity, Some, IfOk, IfErr};
 ghost use Rattle.std.specs.List.{range_with_len};
+ghost use Rattle.clfs_disk.specs.State.{Later};
 ghost use Rattle.clfs_lsn.specs.Limits.{most_clients};
-ghost use Rattle.clfs_model.specs.Journals.{mine};
 ghost use Rattle.clfs_shared.specs.Reached.{opening_of, IsReached};
 ghost use Rattle.clfs_shared.specs.Sessions.{IsOf};
 ghost use Rattle.clfs_turn.specs.Seats.{IsNewSeat};
 ghost use Rattle.clfs_share.specs.Ended.{openers_of, ended_of};
-ghost use Rattle.clfs_share.specs.Taken.{AreTaken};
+ghost use Rattle.clfs_share.specs.Taken.{AreTaken, IsOfClients};
 
 use crate::clients::{Client, ClientEnd, EndedClient};
 use crate::openers::Openers;
 use crate::threads::run_clients;
 use clfs_disk::Disk;
 use clfs_laws::rows_are_by_own_entries;
-use clfs_manager::Manager;
+use clfs_manager::{DiskName, Manager};
 use clfs_ports::{Sink, Source};
 use clfs_shared::{Closed, Session, SharedLog, StartRefused, ToldJournal};
 use std::alloc::{AllocError, Global};
+use std::marker::Brand;
 use std::sync::Wait;
 use std::thread::Threads;
 
 /// A log that was shared until its clients ended.
 #[derive(Drop)]
-pub struct Shared<D: Disk, S: Source, K: Sink> {
+pub struct Shared<D: Disk, P: Openers<S, K>, S: Source, K: Sink> {
     /// The log.
     pub manager: Manager<D>,
     /// The calls that it took, in order. They are told to contracts alone.
     pub journal: ToldJournal,
     /// The clients, in order.
-    pub clients: Vec<EndedClient<S, K>>,
+    pub clients: Vec<EndedClient<P, S, K>>,
 }
 
 /// There was no memory to share a log. It comes back, and nothing was opened.
@@ -60,7 +61,7 @@ fn numbers(alloc: Global, count: usize) -> Result<Vec<u16>, AllocError>
 struct Room<P: Openers<S, K>, S: Source, K: Sink> {
     clients: Vec<Client<P, S, K>>,
     sessions: Vec<Session>,
-    ended: Vec<EndedClient<S, K>>,
+    ended: Vec<EndedClient<P, S, K>>,
 }
 
 impl<P: Openers<S, K> + Drop, S: Source + Drop, K: Sink + Drop> Room<P, S, K> {
@@ -110,7 +111,7 @@ fn joined<P: Openers<S, K> + Drop, S: Source + Drop, K: Sink + Drop>(
 fn parted<P: Openers<S, K> + Drop, S: Source + Drop, K: Sink + Drop>(
     clients: Vec<Client<P, S, K>>,
     sessions: &mut Vec<Session>,
-    ended: &mut Vec<EndedClient<S, K>>,
+    ended: &mut Vec<EndedClient<P, S, K>>,
 )
     requires none { (sessions.old.items ≡ []) × (ended.old.items ≡ []) }
     requires room { (length clients.items ≤ vec_capacity sessions.old) × (length clients.items ≤ vec_capacity ended.old) }
@@ -121,12 +122,16 @@ fn parted<P: Openers<S, K> + Drop, S: Source + Drop, K: Sink + Drop>(
     while let Some(client) = clients.pop() {
         let Client {
             session,
-            openers: _,
+            openers,
             ports,
             end,
         } = client;
         sessions.push_reserved(session);
-        ended.push_reserved(EndedClient { ports, end });
+        ended.push_reserved(EndedClient {
+            openers,
+            ports,
+            end,
+        });
     }
 }
 
@@ -138,7 +143,7 @@ fn share_over<R, D, P, S, K>(
     sessions: Vec<Session>,
     openers: Vec<P>,
     room: Room<P, S, K>,
-) -> Shared<D, S, K>
+) -> Shared<D, P, S, K>
 where
     R: Threads + Wait + Sync,
     D: Disk + Send + Drop,
@@ -152,8 +157,8 @@ where
     requires sessions { (room.sessions.items ≡ []) × (length openers.items ≤ vec_capacity room.sessions) }
     requires ended { (room.ended.items ≡ []) × (length openers.items ≤ vec_capacity room.ended) }
     ensures reached { IsReached log.opening (D.state result.manager.1) result.manager.0 result.journal }
-    ensures clients { AreTaken P.opens S.left S.faults K.written K.faults result.journal result.manager.0 1 openers.items result.clients.items }
-    ensures others { (c : ℕ) → length openers.items < c → mine result.journal c ≡ [] }
+    ensures clients { AreTaken P.Openers S.left S.faults K.written K.faults result.journal result.manager.0 1 openers.items result.clients.items }
+    ensures others { IsOfClients (length openers.items) result.journal }
 {
     rows_are_by_own_entries();
     let Room {
@@ -172,6 +177,56 @@ where
     }
 }
 
+// Shares a log among clients, and serves each. Under the lock the disk is one that came of the named one.
+fn share_followed<R, D, P, S, K, N>(
+    rt: &R,
+    alloc: Global,
+    manager: Manager<D>,
+    openers: Vec<P>,
+) -> Result<Shared<D, P, S, K>, ShareRefused<D, P>>
+where
+    R: Threads + Wait + Sync,
+    D: Disk + Send + Drop,
+    P: Openers<S, K> + Send + Drop,
+    S: Source + Send + Drop,
+    K: Sink + Send + Drop,
+    N: DiskName<D> + Send,
+    requires begun { N.begun ≡ Some manager.1 }
+    requires some { 0 < length openers.items }
+    requires few { length openers.items ≤ most_clients }
+    ensures reached { IfOk result (λ shared. IsReached (opening_of manager.0 (D.state manager.1)) (D.state shared.manager.1) shared.manager.0 shared.journal) }
+    ensures later { IfOk result (λ shared. Later (D.state manager.1) (D.state shared.manager.1)) }
+    ensures clients { IfOk result (λ shared. AreTaken P.Openers S.left S.faults K.written K.faults shared.journal shared.manager.0 1 openers.items shared.clients.items) }
+    ensures others { IfOk result (λ shared. IsOfClients (length openers.items) shared.journal) }
+    ensures refused { IfErr result (λ refused. (refused.manager ≡ manager) × (refused.openers ≡ openers)) }
+{
+    let count = openers.len();
+    let Ok(numbers) = numbers(alloc, count) else {
+        return Err(ShareRefused { manager, openers });
+    };
+    let Ok(room) = Room::new(alloc, count) else {
+        return Err(ShareRefused { manager, openers });
+    };
+    match SharedLog::start_told(alloc, manager.followed::<N>(), &numbers) {
+        Ok((log, sessions)) => {
+            let Shared {
+                manager,
+                journal,
+                clients,
+            } = share_over(rt, alloc, log, sessions, openers, room);
+            Ok(Shared {
+                manager: manager.unfollowed(),
+                journal,
+                clients,
+            })
+        }
+        Err(StartRefused { manager }) => Err(ShareRefused {
+            manager: manager.unfollowed(),
+            openers,
+        }),
+    }
+}
+
 /// Shares a log among so many clients, numbered from 1, and serves each in a thread of its own: its source and its sink are opened, its lines are answered
 /// as they come, until its source ends, and then its areas are deleted. It returns when all clients have ended. An error means that there was no memory to
 /// begin.
@@ -180,7 +235,7 @@ pub fn share<R, D, P, S, K>(
     alloc: Global,
     manager: Manager<D>,
     openers: Vec<P>,
-) -> Result<Shared<D, S, K>, ShareRefused<D, P>>
+) -> Result<Shared<D, P, S, K>, ShareRefused<D, P>>
 where
     R: Threads + Wait + Sync,
     D: Disk + Send + Drop,
@@ -194,21 +249,14 @@ where
     // a crash left at each moment.
     ensures reached { IfOk result (λ shared. IsReached (opening_of manager.0 (D.state manager.1)) (D.state shared.manager.1) shared.manager.0 shared.journal) }
 
+    // What a crash left at the moments up to the one at which it was shared stayed as it was.
+    ensures later { IfOk result (λ shared. Later (D.state manager.1) (D.state shared.manager.1)) }
+
     // Of each client it has the calls of its lines, in order, each with its reply, and then the deletions of its areas; its source gave these lines, and its
-    // sink took these replies.
-    ensures clients { IfOk result (λ shared. AreTaken P.opens S.left S.faults K.written K.faults shared.journal shared.manager.0 1 openers.items shared.clients.items) }
-    ensures others { IfOk result (λ shared. (c : ℕ) → length openers.items < c → mine shared.journal c ≡ []) }
+    // sink took these replies. The openers come back as the calls left them that this client's end has. Nobody else has made a call.
+    ensures clients { IfOk result (λ shared. AreTaken P.Openers S.left S.faults K.written K.faults shared.journal shared.manager.0 1 openers.items shared.clients.items) }
+    ensures others { IfOk result (λ shared. IsOfClients (length openers.items) shared.journal) }
     ensures refused { IfErr result (λ refused. (refused.manager ≡ manager) × (refused.openers ≡ openers)) }
 {
-    let count = openers.len();
-    let Ok(numbers) = numbers(alloc, count) else {
-        return Err(ShareRefused { manager, openers });
-    };
-    let Ok(room) = Room::new(alloc, count) else {
-        return Err(ShareRefused { manager, openers });
-    };
-    match SharedLog::start_told(alloc, manager, &numbers) {
-        Ok((log, sessions)) => Ok(share_over(rt, alloc, log, sessions, openers, room)),
-        Err(StartRefused { manager }) => Err(ShareRefused { manager, openers }),
-    }
+    share_followed::<R, D, P, S, K, Brand>(rt, alloc, manager, openers)
 }

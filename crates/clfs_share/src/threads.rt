@@ -24,7 +24,7 @@ struct EndOf<P: Openers<S, K>, S: Source, K: Sink>(Snapshot<Client<P, S, K>>);
 impl<P: Openers<S, K>, S: Source, K: Sink> Promise<Client<P, S, K>> for EndOf<P, S, K> {
     ghost use Rattle.clfs_share.specs.Ended.{HasEnded};
 
-    ghost kept_by = { λ p client. HasEnded P.opens S.left S.faults K.written K.faults p.0.value client };
+    ghost kept_by = { λ p client. HasEnded P.Openers S.left S.faults K.written K.faults p.0.value client };
 }
 
 // Serves a client, unless it is the one for which no thread could be made.
@@ -36,12 +36,12 @@ fn run_client<R: Wait, D: Disk, P: Openers<S, K> + Drop, S: Source + Drop, K: Si
     client: Client<P, S, K>,
 ) -> Client<P, S, K>
     requires { IsOf log.now client.session }
-    ensures { HasEnded P.opens S.left S.faults K.written K.faults client result }
+    ensures { HasEnded P.Openers S.left S.faults K.written K.faults client result }
 {
     let Client {
         session,
         mut openers,
-        ports,
+        ports: _,
         end: _,
     } = client;
     if without_thread.load(Ordering::SeqCst) == session.client() as u64 {
@@ -49,7 +49,7 @@ fn run_client<R: Wait, D: Disk, P: Openers<S, K> + Drop, S: Source + Drop, K: Si
         return Client {
             session,
             openers,
-            ports,
+            ports: None,
             end: ClientEnd::NoThread,
         };
     }
@@ -57,7 +57,7 @@ fn run_client<R: Wait, D: Disk, P: Openers<S, K> + Drop, S: Source + Drop, K: Si
         return Client {
             session,
             openers,
-            ports,
+            ports: None,
             end: ClientEnd::NotOpened,
         };
     };
@@ -87,7 +87,7 @@ where
     S: Source + Send + Drop + 's,
     K: Sink + Send + Drop + 's,
     requires { All (λ c. IsOf log.now c.session) clients.old.items }
-    ensures ended { HaveEnded P.opens S.left S.faults K.written K.faults clients.old.items clients.new.items }
+    ensures ended { HaveEnded P.Openers S.left S.faults K.written K.faults clients.old.items clients.new.items }
     ensures room { vec_capacity clients.new ≡ vec_capacity clients.old }
 {
     let Some(client) = clients.pop() else {
@@ -97,7 +97,7 @@ where
     let promise = EndOf(Snapshot::of(&client));
     let run = move || -> Client<P, S, K>
         requires { IsOf log.now client.session }
-        ensures { HasEnded P.opens S.left S.faults K.written K.faults client result }
+        ensures { HasEnded P.Openers S.left S.faults K.written K.faults client result }
     { run_client(rt, alloc, log, without_thread, client) };
     match scope.spawn_with(promise, run) {
         Ok(thread) => {
@@ -127,7 +127,7 @@ where
     S: Source + Send + Drop,
     K: Sink + Send + Drop,
     requires { AreClientsOf log.now clients.items }
-    ensures { HaveEnded P.opens S.left S.faults K.written K.faults clients.items result.items }
+    ensures { HaveEnded P.Openers S.left S.faults K.written K.faults clients.items result.items }
 {
     let without_thread = AtomicU64::new(0);
     let none = &without_thread;
@@ -136,7 +136,7 @@ where
         rt,
         move |scope| -> Vec<Client<P, S, K>>
             requires { AreClientsOf log.now clients.items }
-            ensures { HaveEnded P.opens S.left S.faults K.written K.faults clients.items result.items }
+            ensures { HaveEnded P.Openers S.left S.faults K.written K.faults clients.items result.items }
         {
             let mut clients = clients;
             run_from_last(scope, rt, alloc, log, none, &mut clients);

@@ -18,15 +18,15 @@ const SHAPE: Shape = Shape {
 
 // A client's lines, the pieces in which they come and replies go, and which calls fail.
 #[derive(Clone, Copy)]
-struct Lines<'a> {
-    text: &'a [u8],
-    piece: usize,
-    read_fails: &'a [u64],
-    write_fails: &'a [u64],
+pub(crate) struct Lines<'a> {
+    pub(crate) text: &'a [u8],
+    pub(crate) piece: usize,
+    pub(crate) read_fails: &'a [u64],
+    pub(crate) write_fails: &'a [u64],
 }
 
 // A client whose calls of its source and of its sink don't fail.
-fn steady(text: &[u8]) -> Lines<'_> {
+pub(crate) fn steady(text: &[u8]) -> Lines<'_> {
     Lines {
         text,
         piece: 1000,
@@ -36,25 +36,31 @@ fn steady(text: &[u8]) -> Lines<'_> {
 }
 
 // A new log of two containers.
-fn new_log(alloc: Global) -> Option<Manager<Memory>> {
+pub(crate) fn new_log(alloc: Global) -> Option<Manager<Memory>> {
     let disk = Memory::new(alloc, 64, 65536, &[]).ok()?;
     let disk = Manager::format(alloc, disk, SHAPE, 2, false).ok()?;
     Manager::load(alloc, disk, 4).ok()
 }
 
 // The source and the sink of a client.
-fn openers_of(
+pub(crate) fn ports_of(
     alloc: Global,
     client: &Lines<'_>,
-) -> Result<OpenedPorts<MemorySource, MemorySink>, AllocError> {
+) -> Result<(MemorySource, MemorySink), AllocError> {
     let piece = client.piece.max(1);
     let bytes = Vec::from_slice(alloc, client.text)?;
     let source = MemorySource::new(bytes, piece, Vec::from_slice(alloc, client.read_fails)?);
     let fails = Vec::from_slice(alloc, client.write_fails)?;
     let sink = MemorySink::new(Vec::new(alloc), piece, fails);
-    Ok(OpenedPorts {
-        ports: Some((source, sink)),
-    })
+    Ok((source, sink))
+}
+
+type Ports = OpenedPorts<MemorySource, MemorySink>;
+
+// The same, open.
+fn openers_of(alloc: Global, client: &Lines<'_>) -> Result<Ports, AllocError> {
+    let ports = ports_of(alloc, client)?;
+    Ok(OpenedPorts { ports: Some(ports) })
 }
 
 // Those of two clients.
@@ -62,7 +68,7 @@ fn both_openers(
     alloc: Global,
     first: &Lines<'_>,
     second: &Lines<'_>,
-) -> Result<Vec<OpenedPorts<MemorySource, MemorySink>>, AllocError>
+) -> Result<Vec<Ports>, AllocError>
     ensures { IfOk result (λ openers. vec_len openers ≡ 2) }
 {
     let mut openers = Vec::new(alloc);
@@ -77,14 +83,18 @@ fn shared<R: Threads + Wait + Sync>(
     alloc: Global,
     first: &Lines<'_>,
     second: &Lines<'_>,
-) -> Option<Shared<Memory, MemorySource, MemorySink>> {
+) -> Option<Shared<Memory, Ports, MemorySource, MemorySink>> {
     let openers = both_openers(alloc, first, second).ok()?;
     let manager = new_log(alloc)?;
     share(rt, alloc, manager, openers).ok()
 }
 
 // Whether a client saw these replies, and ended so.
-fn is_as(client: &EndedClient<MemorySource, MemorySink>, replies: &[u8], end: ClientEnd) -> bool {
+fn is_as(
+    client: &EndedClient<Ports, MemorySource, MemorySink>,
+    replies: &[u8],
+    end: ClientEnd,
+) -> bool {
     match &client.ports {
         Some((_, sink)) => sink.bytes() == replies && client.end == end,
         None => replies.is_empty() && client.end == end,
@@ -93,7 +103,7 @@ fn is_as(client: &EndedClient<MemorySource, MemorySink>, replies: &[u8], end: Cl
 
 // Whether there are two clients, which saw these replies and ended so.
 fn are_as(
-    shared: &Shared<Memory, MemorySource, MemorySink>,
+    shared: &Shared<Memory, Ports, MemorySource, MemorySink>,
     first: &[u8],
     first_end: ClientEnd,
     second: &[u8],
@@ -108,7 +118,7 @@ const WRITER: &[u8] = b"1 open a\n1 area 1 8 1\n1 append 1 aa 0:0:0 0:0:0\n1 flu
 
 const WRITER_REPLIES: &[u8] = b"1 stream 1\n1 area 1\n1 lsn 1:0:0\n1 flushed 1:200:0\n";
 
-const OTHER_LINES: &[u8] = b"2 open a\n2 area 1 8 1\n1 info 1\nx\n2 reopen\n2 drop 1\n2 drop 1";
+const OTHER_LINES: &[u8] = b"2 open a\n2 area 1 8 1\n1 info 1\nx\n2 reopen\n2 drop 1\n2 drop 1\n";
 
 const OTHER_LINES_REPLIES: &[u8] =
     b"2 stream 1\n2 area 1\n0 refused 28 BadLine 0\n0 refused 28 BadLine 0\n0 refused 28 BadLine 2\n2 ok\n2 refused 10 NoSuchArea\n";
@@ -150,7 +160,7 @@ fn ends_alone<R: Threads + Wait + Sync>(
 fn shared_with_shut<R: Threads + Wait + Sync>(
     rt: &R,
     alloc: Global,
-) -> Option<Shared<Memory, MemorySource, MemorySink>> {
+) -> Option<Shared<Memory, Ports, MemorySource, MemorySink>> {
     let mut openers = Vec::new(alloc);
     openers.push(OpenedPorts { ports: None }).ok()?;
     let other = steady(OTHER);
@@ -235,4 +245,24 @@ fn what_a_client_held_is_free(rt: HostRuntime) {
     };
     let mut manager = shared.manager;
     assert!(rt; reserved(&mut manager) == Some(0));
+}
+
+// Whether the log has a stream of this number.
+fn has_stream(manager: &mut Manager<Memory>, stream: u16) -> bool {
+    let reply = manager.step(1, &Call::Info { stream });
+    matches!(reply, Reply::Info(_))
+}
+
+// What a program wrote of a line before it ended is dropped: it isn't answered, and no stream is made.
+#[test]
+fn an_incomplete_line(rt: HostRuntime) {
+    let ended = steady(b"1 open a\n1 open b");
+    let other = steady(OTHER);
+    let Some(shared) = shared(&rt, rt.alloc(), &ended, &other) else {
+        panic!(rt; "memory ran out");
+    };
+    let end = ClientEnd::Served { status: 0 };
+    assert!(rt; are_as(&shared, b"1 stream 1\n", end, OTHER_REPLIES));
+    let mut manager = shared.manager;
+    assert!(rt; has_stream(&mut manager, 1) && !has_stream(&mut manager, 2));
 }

@@ -3,3 +3,7 @@
 
 #[cfg(test)]
 mod clients;
+#[cfg(test)]
+mod counts;
+#[cfg(test)]
+mod turns;

@@ -3,14 +3,13 @@ use Rattle.std.proofs.Common.{◌≡◌, ℕ, ◌≤◌, Bool, true, false, refl
 use Rattle.std.proofs.lemmas.Bool.{cases_lt}
 use Rattle.clfs_disk.specs.Files.{Files}
 use Rattle.clfs_disk.specs.State.{DiskState, IsHonest}
-use Rattle.clfs_model.specs.declared.call.Call.{Call}
 use Rattle.clfs_model.specs.declared.journal.Entry.{Entry}
 use Rattle.clfs_model.specs.declared.state.State.{State}
-use Rattle.clfs_model.specs.Run.{asks, bad_line}
-use Rattle.clfs_model.specs.Step.{Step, takes_memory}
+use Rattle.clfs_model.specs.Run.{Request, asks, bad_line}
+use Rattle.clfs_model.specs.Step.{Step}
 use Rattle.clfs_recover.specs.Files.{AreWholeFiles}
 use Rattle.clfs_manager.specs.Crashes.{CrashSurvives, HoldSurvivor}
-use Rattle.clfs_shared.specs.Crashes.{Images, since, HoldsAfterCall, HoldsMeanwhile, RunsOutOfMemory, MakesCall, IsLeftByEntries}
+use Rattle.clfs_shared.specs.Crashes.{Images, since, HoldsMeanwhile, StaysFlushed, MakesCall, IsLeftByEntries}
 
 -- ---- from one moment to another
 
@@ -53,7 +52,7 @@ left_past : (told whole : Bool) (images others : Images) (from to end : ℕ) (s 
     → ((moment : ℕ) (image : Files) → moment ≤ end → others moment image → images moment image)
     → IsLeftByEntries told whole images from to s entries t → IsLeftByEntries told whole others from to s entries t
 left_past told whole images others from to end s t [] up past is =
-    (is.0, holds_past (HoldsAfterCall whole s) images others from to end s up past is.1)
+    (is.0, holds_past (HoldSurvivor whole (bad_line 0) s) images others from to end s up past is.1)
 left_past told whole images others from to end s t (entry ∷ entries) up past is =
     let done = is.1.1 in
     let rest = done.1.1.1.1 in
@@ -61,7 +60,7 @@ left_past told whole images others from to end s t (entry ∷ entries) up past i
     let makes = done.1.0.later in (
       is.0,
       (
-        holds_past (HoldsAfterCall whole s) images others from is.0 end s (omega (arith, up, up_rest, makes)) past is.1.0,
+        holds_past (HoldSurvivor whole (bad_line 0) s) images others from is.0 end s (omega (arith, up, up_rest, makes)) past is.1.0,
         (
           done.0,
           (
@@ -73,10 +72,10 @@ left_past told whole images others from to end s t (entry ∷ entries) up past i
     )
 
 pub left_longer : (told whole : Bool) (images : Images) (from to end : ℕ) (s t : State) (entries : List Entry)
-    → IsLeftByEntries told whole images from to s entries t → RunsOutOfMemory whole images to end t → IsLeftByEntries told whole images from end s entries t
+    → IsLeftByEntries told whole images from to s entries t → StaysFlushed whole images to end t → IsLeftByEntries told whole images from end s entries t
 left_longer told whole images from to end s t [] is more =
-    let F : State → Type 0 = λ x. RunsOutOfMemory whole images to end x in
-    (is.0, holds_longer (HoldsAfterCall whole s) images from to end s is.1 (subst F is.0 more))
+    let F : State → Type 0 = λ x. StaysFlushed whole images to end x in
+    (is.0, holds_longer (HoldSurvivor whole (bad_line 0) s) images from to end s is.1 (subst F is.0 more))
 left_longer told whole images from to end s t (entry ∷ entries) is more =
     let done = is.1.1 in (
       is.0,
@@ -101,7 +100,7 @@ left_longer told whole images from to end s t (entry ∷ entries) is more =
 -- an entry stands after the others, while whose call a crash left what survives it
 pub left_more : (told whole : Bool) (images : Images) (from to end : ℕ) (s t u : State) (entries : List Entry) (entry : Entry)
     → IsLeftByEntries told whole images from to s entries t → MakesCall whole images to end t entry.client entry.call
-    → Step told t entry.client entry.call entry.happened entry.reply u → RunsOutOfMemory whole images end end u → IsLeftByEntries told whole images from end s (entries ++ entry ∷ []) u
+    → Step told t entry.client entry.call entry.happened entry.reply u → StaysFlushed whole images end end u → IsLeftByEntries told whole images from end s (entries ++ entry ∷ []) u
 left_more told whole images from to end s t u [] entry is makes step rests =
     let F : State → Type 0 = λ x. Step told x entry.client entry.call entry.happened entry.reply u in
     let G : State → Type 0 = λ x. MakesCall whole images to end x entry.client entry.call in
@@ -129,25 +128,25 @@ left_more told whole images from to end s t u (first ∷ entries) entry is makes
 
 -- ---- a call
 
--- what a call does to a disk, as far as crashes see it
-pub record Spends (s : State) (client : ℕ) (call : Call) (old new : DiskState) : Type 0 where
+-- what a call does to a disk while this is under way, as far as crashes see it
+pub record Spends (asked : Request) (s : State) (old new : DiskState) : Type 0 where
   pub later : old.clock ≤ new.clock
   pub past : (moment : ℕ) (image : Files) → moment ≤ old.clock → new.image_at moment image → old.image_at moment image
   pub stopped : s.broken ≡ true → new.clock ≡ old.clock
-  pub survives : CrashSurvives (asks client call) s old new
+  pub survives : CrashSurvives asked s old new
 
 -- what a crash left before the call is what it left then
-pub left_before : (told whole : Bool) (from : ℕ) (first s : State) (client : ℕ) (call : Call) (old new : DiskState) (entries : List Entry)
-    → Spends s client call old new → IsLeftByEntries told whole (since from old.image_at) from old.clock first entries s
+pub left_before : (told whole : Bool) (from : ℕ) (asked : Request) (first s : State) (old new : DiskState) (entries : List Entry)
+    → Spends asked s old new → IsLeftByEntries told whole (since from old.image_at) from old.clock first entries s
     → IsLeftByEntries told whole (since from new.image_at) from old.clock first entries s
-left_before told whole from first s client call old new entries spends is =
+left_before told whole from asked first s old new entries spends is =
     left_past told whole (since from old.image_at) (since from new.image_at) from old.clock old.clock first s entries (omega arith)
     (λ moment image before left. (left.0, spends.past moment image before left.1)) is
 
--- while the call was made a crash left what survives it
-pub made_call : (whole : Bool) (from : ℕ) (s : State) (client : ℕ) (call : Call) (old new : DiskState) → Spends s client call old new → IsHonest old
-    → (s.broken ≡ false → whole ≡ true → AreWholeFiles old.files) → MakesCall whole (since from new.image_at) old.clock new.clock s client call
-made_call whole from s client call old new spends honest full = record {
+-- while the call was made a crash left what survives
+pub while_made : (whole : Bool) (from : ℕ) (asked : Request) (s : State) (old new : DiskState) → Spends asked s old new → IsHonest old
+    → (s.broken ≡ false → whole ≡ true → AreWholeFiles old.files) → HoldsMeanwhile (HoldSurvivor whole asked s) (since from new.image_at) old.clock new.clock s
+while_made whole from asked s old new spends honest full = record {
   later = spends.later;
   still = spends.stopped;
   leaves = λ intact moment image after before left. (spends.survives intact honest whole (full intact)).each moment image after before left.1;
@@ -155,19 +154,7 @@ made_call whole from s client call old new spends honest full = record {
 
 -- at a moment at which no call is made it left the flushed part of the state
 pub at_rest : (whole : Bool) (from : ℕ) (s : State) (disk : DiskState) → CrashSurvives (bad_line 0) s disk disk → IsHonest disk
-    → (s.broken ≡ false → whole ≡ true → AreWholeFiles disk.files) → RunsOutOfMemory whole (since from disk.image_at) disk.clock disk.clock s
-at_rest whole from s disk survives honest full = record {
-  later = omega arith;
-  still = λ _. refl;
-  leaves = λ intact moment image after before left.
-      record { asked = bad_line 0; without = refl; holds = (survives intact honest whole (full intact)).each moment image after before left.1 };
-}
-
--- so it left what survives some call, if the call takes memory
-pub some_call : (whole : Bool) (images : Images) (from to : ℕ) (s : State) (client : ℕ) (call : Call) → takes_memory call ≡ true
-    → MakesCall whole images from to s client call → RunsOutOfMemory whole images from to s
-some_call whole images from to s client call takes makes = record {
-  later = makes.later;
-  still = makes.still;
-  leaves = λ intact moment image after before left. record { asked = asks client call; without = takes; holds = makes.leaves intact moment image after before left };
-}
+    → (s.broken ≡ false → whole ≡ true → AreWholeFiles disk.files) → StaysFlushed whole (since from disk.image_at) disk.clock disk.clock s
+at_rest whole from s disk survives honest full =
+    while_made whole from (bad_line 0) s disk disk (record { later = omega arith; past = λ moment image before left. left; stopped = λ _. refl; survives = survives })
+    honest full

@@ -1,4 +1,5 @@
 pub mod Counting
 pub mod Crashing
+pub mod Outliving
 pub mod Reaching
 pub mod Telling

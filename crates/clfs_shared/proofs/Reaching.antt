@@ -29,12 +29,12 @@ use Rattle.clfs_manager.specs.Crashes.{CrashSurvives}
 use Rattle.clfs_manager.specs.Written.{WritesDisk}
 use Rattle.clfs_manager.specs.Calls.{IsSmall}
 use Rattle.clfs_shared.specs.declared.opening.Opening.{Opening}
-use Rattle.clfs_shared.specs.Crashes.{IsLeftByEntries, MakesCall, RunsOutOfMemory, since}
+use Rattle.clfs_shared.specs.Crashes.{IsLeftByEntries, MakesCall, StaysFlushed, since}
 use Rattle.clfs_shared.specs.Journal.{entry_of, is_fault, is_damage, has_fault, is_out_of_memory}
 use Rattle.clfs_shared.specs.Reached.{IsReached, is_calm}
 use Rattle.clfs_shared.specs.Rooms.{FitsSpare}
 use Rattle.clfs_shared.specs.Sessions.{HasRun}
-use Rattle.clfs_shared.proofs.Crashing.{Spends, at_rest, left_before, left_longer, left_more, made_call, some_call}
+use Rattle.clfs_shared.proofs.Crashing.{Spends, at_rest, left_before, left_longer, left_more, while_made}
 
 -- ---- what replies tell
 
@@ -91,26 +91,28 @@ pub record Laws : Type 0 where
       → s.broken ≡ true → Step told s client call happened reply t → IsBroken s reply t
   pub keeps : (told : Bool) (s : State) (client : ℕ) (call : Call) (happened : Happened) (refusal : Refusal) (t : State)
       → Step told s client call happened (replies.Refused refusal) t → happened_of_refusal refusal ≡ Fine → t ≡ s
-  pub own : (told : Bool) (s : State) (client : ℕ) (call : Call) (happened : Happened) (reply : Reply) (t : State)
-      → Step told s client call happened reply t → is_reply_of call reply ≡ true
 
 -- a call of the manager: its step, and what it does to the disk
 pub record Calls (old new : DiskState) (s t : State) (client : ℕ) (call : Call) (reply : Reply) : Type 0 where
   pub step : Step old.nature.tells_contents s client call (happened_of reply) reply t
   pub writes : WritesDisk (reply ≡ replies.Refused refusals.DiskFault) old new
   pub damage : TellsContents old → IsDamaged reply → ⊥
-  pub spends : Spends s client call old new
+  pub spends : Spends (asks client call) s old new
+  -- what it does where memory ran out
+  pub starved : reply ≡ replies.Refused refusals.NoMemory → Spends (bad_line 0) s old new
   -- and what a crash leaves after it
   pub rests : CrashSurvives (bad_line 0) t new new
 
 pub calls_by : (old new : DiskState) (s t : State) (client : ℕ) (call : Call) (reply : Reply) → Step old.nature.tells_contents s client call (happened_of reply) reply t
     → WritesDisk (reply ≡ replies.Refused refusals.DiskFault) old new → (TellsContents old → IsDamaged reply → ⊥) → CrashSurvives (asks client call) s old new
+    → (reply ≡ replies.Refused refusals.NoMemory → CrashSurvives (bad_line 0) s old new)
     → (s.broken ≡ true → new.clock ≡ old.clock) → CrashSurvives (bad_line 0) t new new → Calls old new s t client call reply
-calls_by old new s t client call reply step writes damage survives stopped rests = record {
+calls_by old new s t client call reply step writes damage survives starved stopped rests = record {
   step = step;
   writes = writes;
   damage = damage;
   spends = record { later = writes.time.later; past = writes.time.past; stopped = stopped; survives = survives };
+  starved = λ wanting. record { later = writes.time.later; past = writes.time.past; stopped = stopped; survives = starved wanting };
   rests = rests;
 }
 
@@ -129,11 +131,13 @@ fits_spare few told s client call happened (replies.Next entry) t valid small st
 fits_spare few told s client call happened _ t valid small step = tt
 
 -- a call that ran out of memory did nothing
-pub ran_out : (told : Bool) (s t : State) (before now : List Entry) (client : ℕ) (call : Call) (reply : Reply) → is_out_of_memory reply ≡ true → now ≡ before → t ≡ s
-    → HasRun told s before client call reply t now
-ran_out told s t before now client call reply wanting same state = record {
+pub ran_out : (may_lack : List Entry → Type 0) (told : Bool) (s t : State) (before now : List Entry) (client : ℕ) (call : Call) (reply : Reply) → is_out_of_memory reply ≡ true
+    → now ≡ before → t ≡ s → (takes_memory call ≡ true) ⊎ may_lack (mine before client) → HasRun may_lack told s before client call reply t now
+ran_out may_lack told s t before now client call reply wanting same state wants = record {
   none = λ _. (same, state);
+  wanted = λ _. wants;
   step = λ answered. absurd (cc (wanting, answered));
+  place = λ answered. absurd (cc (wanting, answered));
   entry = λ answered. absurd (cc (wanting, answered));
 }
 
@@ -178,11 +182,13 @@ memory_leaves laws told s t client call reply step wanting =
     let F : Reply → Type 0 = λ r. Step told s client call (happened_of reply) r t in
     laws.keeps told s client call (happened_of reply) refusals.NoMemory t (subst F (memory_is reply wanting) step) refl
 
--- a call that ran out of memory takes some
-takes_some : Laws → (told : Bool) (s t : State) (client : ℕ) (call : Call) (reply : Reply) → Step told s client call (happened_of reply) reply t
+-- a call that ran out of memory takes some, as a reply is one to its call
+pub takes_some : ((told : Bool) (s : State) (client : ℕ) (call : Call) (happened : Happened) (reply : Reply) (t : State)
+    → Step told s client call happened reply t → is_reply_of call reply ≡ true)
+    → (told : Bool) (s t : State) (client : ℕ) (call : Call) (reply : Reply) → Step told s client call (happened_of reply) reply t
     → is_out_of_memory reply ≡ true → takes_memory call ≡ true
-takes_some laws told s t client call reply step wanting =
-    subst (λ (r : Reply). is_reply_of call r ≡ true) (memory_is reply wanting) (laws.own told s client call (happened_of reply) reply t step)
+takes_some own told s t client call reply step wanting =
+    subst (λ (r : Reply). is_reply_of call r ≡ true) (memory_is reply wanting) (own told s client call (happened_of reply) reply t step)
 
 module _ (laws : Laws) (o : Opening) (old new : DiskState) (s t : State) (before : List Entry) (client : ℕ) (call : Call) (reply : Reply)
     (calls : Calls old new s t client call reply) (r : IsReached o old s before) where
@@ -199,26 +205,33 @@ module _ (laws : Laws) (o : Opening) (old new : DiskState) (s t : State) (before
   before_call : o.tells_contents ≡ true → o.tells_images ≡ true → (whole : Bool) → (whole ≡ true → o.is_whole ≡ true)
       → IsLeftByEntries o.tells_contents whole (since o.moment new.image_at) o.moment old.clock o.state before s
   before_call tells images whole has =
-      left_before o.tells_contents whole o.moment o.state s client call old new before calls.spends (r.crash tells images whole has)
+      left_before o.tells_contents whole o.moment (asks client call) o.state s old new before calls.spends (r.crash tells images whole has)
 
   -- what it left during the call
   in_call : o.tells_contents ≡ true → o.tells_images ≡ true → (whole : Bool) → (whole ≡ true → o.is_whole ≡ true)
       → MakesCall whole (since o.moment new.image_at) old.clock new.clock s client call
   in_call tells images whole has =
-      made_call whole o.moment s client call old new calls.spends (r.contents ∙ tells, r.images ∙ images)
+      while_made whole o.moment (asks client call) s old new calls.spends (r.contents ∙ tells, r.images ∙ images)
+      (λ intact_log is. laws.tells old.files (r.whole tells (has is) intact_log))
+
+  -- what it left where memory ran out
+  while_starved : reply ≡ replies.Refused refusals.NoMemory → o.tells_contents ≡ true → o.tells_images ≡ true → (whole : Bool) → (whole ≡ true → o.is_whole ≡ true)
+      → StaysFlushed whole (since o.moment new.image_at) old.clock new.clock s
+  while_starved wanting tells images whole has =
+      while_made whole o.moment (bad_line 0) s old new (calls.starved wanting) (r.contents ∙ tells, r.images ∙ images)
       (λ intact_log is. laws.tells old.files (r.whole tells (has is) intact_log))
 
   -- and what it leaves after it
   after_call : o.tells_contents ≡ true → o.tells_images ≡ true → (whole : Bool) → (whole ≡ true → o.is_whole ≡ true)
-      → RunsOutOfMemory whole (since o.moment new.image_at) new.clock new.clock t
+      → StaysFlushed whole (since o.moment new.image_at) new.clock new.clock t
   after_call tells images whole has =
       at_rest whole o.moment t new calls.rests
       (ap (λ (n : Nature). n.tells_contents) nature ∙ r.contents ∙ tells, ap (λ (n : Nature). n.tells_images) nature ∙ r.images ∙ images)
       (λ intact_log is. laws.tells new.files (full tells (has is) intact_log))
 
   -- a call that ran out of memory added no entry and left the state as it was
-  pub reached_still : takes_memory call ≡ true → t ≡ s → IsReached o new t before
-  reached_still takes same = let F : State → Type 0 = λ u. IsReached o new u before in subst F (sym same) (record {
+  pub reached_still : reply ≡ replies.Refused refusals.NoMemory → t ≡ s → IsReached o new t before
+  reached_still wanting same = let F : State → Type 0 = λ u. IsReached o new u before in subst F (sym same) (record {
     legal = r.legal;
     contents = ap (λ (n : Nature). n.tells_contents) nature ∙ r.contents;
     images = ap (λ (n : Nature). n.tells_images) nature ∙ r.images;
@@ -230,7 +243,7 @@ module _ (laws : Laws) (o : Opening) (old new : DiskState) (s t : State) (before
     whole = λ tells whole whole_log. full tells whole (ap (λ (x : State). x.broken) same ∙ whole_log);
     crash = λ tells images whole has.
         left_longer o.tells_contents whole (since o.moment new.image_at) o.moment old.clock new.clock o.state s before (before_call tells images whole has)
-        (some_call whole (since o.moment new.image_at) old.clock new.clock s client call takes (in_call tells images whole has));
+        (while_starved wanting tells images whole has);
   })
 
   -- the entry of the call
@@ -277,5 +290,5 @@ pub still_at : (laws : Laws) (o : Opening) (old new : DiskState) (s t : State) (
 still_at laws o old new s t before now client call reply calls r wanting same =
     let F : List Entry → Type 0 = λ j. IsReached o new t j in
     subst F (sym same) (reached_still laws o old new s t before client call reply calls r
-    (takes_some laws old.nature.tells_contents s t client call reply calls.step wanting)
+    (memory_is reply wanting)
     (memory_leaves laws old.nature.tells_contents s t client call reply calls.step wanting))

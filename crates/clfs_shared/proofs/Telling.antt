@@ -1,6 +1,6 @@
 -- What a call of the lock tells a session of its place in the journal.
 use Rattle.std.proofs.Common.{◌≡◌, ℕ, zero, suc, ◌+◌, Bool, true, false, refl, sym, ap, subst, ◌∙◌, List, [], ◌∷◌, ◌++◌, length, map, slice_index_or, arith}
-use Rattle.std.specs.Prelude.{◌≤◌, ◌<◌, ◌==◌, ◌≢◌, ◌||◌, ◌&&◌, All, Option, Some, None, IsSome}
+use Rattle.std.specs.Prelude.{◌≤◌, ◌⊎◌, ◌<◌, ◌==◌, ◌≢◌, ◌||◌, ◌&&◌, All, Option, Some, None, IsSome}
 use Rattle.std.specs.List.{AllByRecursion, list_any}
 use Rattle.std.proofs.lemmas.Bool.Decides.{nat_tests}
 use Rattle.std.proofs.lemmas.List.Elements.{All-from_recursion}
@@ -25,7 +25,7 @@ use Rattle.clfs_model.specs.declared.state.Area.{Area}
 use Rattle.clfs_model.specs.State.{area_of}
 use Rattle.clfs_model.specs.Happened.{happened_of}
 use Rattle.clfs_model.specs.Journals.{GoesOn, IsLegal, mine, held_in, held_by}
-use Rattle.clfs_model.specs.Step.{Step, IsDamaged}
+use Rattle.clfs_model.specs.Step.{Step, IsDamaged, takes_memory}
 use Rattle.clfs_turn.specs.Calls.{Called}
 use Rattle.clfs_turn.specs.Lists.{is_in}
 use Rattle.clfs_turn.specs.Seats.{IsNewSeat, IsSameSeat}
@@ -34,14 +34,14 @@ use Rattle.clfs_shared.specs.Journal.{client_of, entry_of, is_fault, is_damage, 
 use Rattle.clfs_shared.specs.Reached.{IsReached, is_calm}
 use Rattle.clfs_shared.specs.Sessions.{SessionState, SharedState, HasAreas, HasRun, IsCalmReply, IsOf, IsStepped, own_entries}
 
-module _ {V : Type 0} (entries : V → List Entry) (state : V → State) (disk : V → DiskState) where
+module _ {V : Type 0} (may_lack : List Entry → Type 0) (entries : V → List Entry) (state : V → State) (disk : V → DiskState) where
   -- a log that was lawfully reached
   abbrev Reached : Opening → V → Type 0
   Reached o v = IsReached o (disk v) (state v) (entries v)
 
   -- one call that was made
   abbrev Ran : ℕ → Call → Reply → V → V → Type 0
-  Ran client call reply x y = HasRun (disk x).nature.tells_contents (state x) (entries x) client call reply (state y) (entries y)
+  Ran client call reply x y = HasRun may_lack (disk x).nature.tells_contents (state x) (entries x) client call reply (state y) (entries y)
 
   stepped : (s t : SessionState) (call : Call) (reply : Reply) → Called entries client_of Reached (Ran s.client call reply) s t → IsSameSeat s t
       → is_out_of_memory reply ≡ false → IsStepped s t call reply
@@ -53,6 +53,7 @@ module _ {V : Type 0} (entries : V → List Entry) (state : V → State) (disk :
     legal = called.before.lawful.legal;
     step = subst (λ (told : Bool). Step told (state called.found) s.client call (happened_of reply) reply (state called.left))
         called.before.lawful.contents (called.ran.step answered);
+    place = called.ran.place answered;
     whole = subst (λ (z : List Entry). IsLegal s.opening.tells_contents z s.opening.state (state called.left)) (sym sees)
         (subst (λ (o : Opening). IsLegal o.tells_contents (entries called.left) o.state (state called.left)) same.opening called.after.lawful.legal);
     ends = sees ∙ (called.ran.entry answered ∙ ap (λ (n : ℕ). before ++ entry_of s.client (n + 1) call reply ∷ []) counted);
@@ -78,6 +79,13 @@ module _ {V : Type 0} (entries : V → List Entry) (state : V → State) (disk :
   pub stepped_by : (n : ℕ) (s t : SessionState) (call : Call) (reply : Reply) → n ≡ s.client → Called entries client_of Reached (Ran n call reply) s t → IsSameSeat s t
       → is_out_of_memory reply ≡ false → IsStepped s t call reply
   stepped_by n s t call reply is called = stepped s t call reply (subst (λ (k : ℕ). Called entries client_of Reached (Ran k call reply) s t) is called)
+
+  -- why memory ran out
+  pub wanted_by : (n : ℕ) (s t : SessionState) (call : Call) (reply : Reply) → n ≡ s.client → Called entries client_of Reached (Ran n call reply) s t
+      → is_out_of_memory reply ≡ true → (takes_memory call ≡ true) ⊎ may_lack (own_entries s)
+  wanted_by n s t call reply is called lacking =
+      subst (λ (own : List Entry). (takes_memory call ≡ true) ⊎ may_lack own)
+      (ap (λ (k : ℕ). mine (entries called.found) k) is ∙ sym called.before.own) (called.ran.wanted lacking)
 
 or_right : (a b : Bool) → b ≡ true → (a || b) ≡ true
 or_right true b e = refl

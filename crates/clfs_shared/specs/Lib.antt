@@ -4,3 +4,4 @@ pub mod Counts
 pub mod Crashes
 pub mod Reached
 pub mod Sessions
+pub mod Waiting

@@ -30,7 +30,7 @@ is_calm o = o.is_steady && o.tells_contents && o.is_whole
 
 -- The journal is legal from the opening to this state. A fault stands in it only where the disk has failed since, and never where it is calm;
 -- damage only where the disk doesn't tell what its files hold. A log that isn't broken has files at full length, where the opening had. Where the
--- disk keeps what it synced, a crash at each moment since the opening leaves what survives a call after a front of the journal.
+-- disk keeps what it synced, a crash at each moment since the opening leaves what survives a call of the journal, or between two calls the flushed part.
 pub record IsReached (o : Opening) (disk : DiskState) (s : State) (journal : List Entry) : Type 0 where
   pub legal : IsLegal o.tells_contents journal o.state s
   pub contents : disk.nature.tells_contents ≡ o.tells_contents

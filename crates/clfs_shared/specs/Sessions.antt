@@ -1,11 +1,12 @@
 -- What contracts of the shared log say of a session.
-use Rattle.std.specs.Prelude.{◌≡◌, ◌≢◌, ℕ, ◌+◌, Bool, true, false, List, [], ◌∷◌, ◌++◌, length, Some}
+use Rattle.std.specs.Prelude.{◌≡◌, ◌≢◌, ◌⊎◌, ℕ, ◌+◌, Bool, true, false, List, [], ◌∷◌, ◌++◌, length, Some}
 use mathlib.Core.List.{IsPrefix}
 use Rattle.clfs_turn.specs.Lists.{is_in}
 use Rattle.clfs_turn.specs.Seats.{SeatState, LockState, own}
 use Rattle.clfs_model.specs.declared.call.Call.{Call}
 use Rattle.clfs_model.specs.declared.call.Call.TheVariants as calls
 use Rattle.clfs_model.specs.declared.journal.Entry.{Entry}
+use Rattle.clfs_model.specs.declared.refusal.Refusal.{Refusal}
 use Rattle.clfs_model.specs.declared.refusal.Refusal.TheVariants as refusals
 use Rattle.clfs_model.specs.declared.reply.Reply.{Reply}
 use Rattle.clfs_model.specs.declared.reply.Reply.TheVariants as replies
@@ -14,10 +15,11 @@ use Rattle.clfs_model.specs.declared.state.Area.{Area}
 use Rattle.clfs_model.specs.State.{area_of}
 use Rattle.clfs_model.specs.Happened.{happened_of}
 use Rattle.clfs_model.specs.Journals.{IsLegal, mine, held_in, held_by}
-use Rattle.clfs_model.specs.Step.{Step, IsDamaged}
+use Rattle.clfs_model.specs.Step.{Step, IsDamaged, takes_memory}
 use Rattle.clfs_model.specs.Storable.{IsStorable}
 use Rattle.clfs_model.specs.Valid.{IsValid}
 use Rattle.clfs_model.specs.Conditions.{IsClient}
+use Rattle.clfs_manager.specs.Reading.{TellsBlock}
 use Rattle.clfs_laws.specs.Rows.{row_in, row_through, NoneMakesOrEnds}
 use Rattle.clfs_shared.specs.declared.opening.Opening.{Opening}
 use Rattle.clfs_shared.specs.Journal.{entry_of, client_of, has_fault, has_damage, is_out_of_memory}
@@ -41,15 +43,19 @@ pub record IsOf (log : SharedState) (s : SessionState) : Type 0 where
   pub opening : s.opening ≡ log.opening
   pub client : is_in s.client log.clients ≡ true
 
--- one call of a client under the lock: out of memory changes nothing, and every other reply is the machine's, with one entry more
-pub record HasRun (told : Bool) (s : State) (before : List Entry) (client : ℕ) (call : Call) (reply : Reply) (t : State) (after : List Entry) : Type 0 where
+-- One call of a client under the lock: out of memory changes nothing, and comes to a call that takes memory, or where the journal may lack it for a
+-- further entry of the client. Every other reply is the machine's, with one entry more; damage is told of the block of the record to which the call comes.
+pub record HasRun (may_lack : List Entry → Type 0) (told : Bool) (s : State) (before : List Entry) (client : ℕ) (call : Call) (reply : Reply) (t : State) (after : List Entry) : Type 0 where
   pub none : is_out_of_memory reply ≡ true → (after ≡ before) × (t ≡ s)
+  pub wanted : is_out_of_memory reply ≡ true → (takes_memory call ≡ true) ⊎ may_lack (mine before client)
   pub step : is_out_of_memory reply ≡ false → Step told s client call (happened_of reply) reply t
+  pub place : is_out_of_memory reply ≡ false → (given : Refusal) → reply ≡ replies.Refused given → TellsBlock s client call given
   pub entry : is_out_of_memory reply ≡ false → after ≡ before ++ entry_of client (length (mine before client) + 1) call reply ∷ []
 
 -- A call's place in the journal: what came before begins with all that the session had seen, and leads from the opening to the state from which
 -- the call is a step. The session has seen all of it then, with the call at its end, and its own calls became more by just this one. No entry that
--- it has seen is a fault where the disk is calm, and none is damage where the disk tells what its files hold.
+-- it has seen is a fault where the disk is calm, and none is damage where the disk tells what its files hold; elsewhere damage is told of the block of the
+-- record to which the call comes.
 pub record IsStepped (s t : SessionState) (call : Call) (reply : Reply) : Type 0 where
   pub before : List Entry
   pub found : State
@@ -57,6 +63,7 @@ pub record IsStepped (s t : SessionState) (call : Call) (reply : Reply) : Type 0
   pub begins : IsPrefix s.seen before
   pub legal : IsLegal s.opening.tells_contents before s.opening.state found
   pub step : Step s.opening.tells_contents found s.client call (happened_of reply) reply left
+  pub place : (given : Refusal) → reply ≡ replies.Refused given → TellsBlock found s.client call given
   pub whole : IsLegal s.opening.tells_contents t.seen s.opening.state left
   pub ends : t.seen ≡ before ++ entry_of s.client (length (own_entries s) + 1) call reply ∷ []
   pub grew : own_entries t ≡ own_entries s ++ entry_of s.client (length (own_entries s) + 1) call reply ∷ []

@@ -24,7 +24,9 @@ impl Recorder for KeptJournal {
 
     ghost entries = { λ r. r.entries.0 };
 
-    ghost is_prepared = { λ r kept call. (kept ≡ call) × (0 < r.entries.1) × (most_data ≤ r.spare.0) × (most_containers ≤ r.spare.1) };
+    ghost is_prepared = { λ r kept _ call. (kept ≡ call) × (0 < r.entries.1) × (most_data ≤ r.spare.0) × (most_containers ≤ r.spare.1) };
+
+    ghost may_lack = { λ _. Unit };
 
     ghost entries_of = { λ journal. journal };
 
@@ -39,7 +41,7 @@ impl Recorder for KeptJournal {
         self.entries.count()
     }
 
-    fn prepare(&mut self, call: &Call) -> Result<Call, AllocError> {
+    fn prepare(&mut self, _client: u16, call: &Call) -> Result<Call, AllocError> {
         self.entries.make_room()?;
         self.spare.fill()?;
         copied_call(call)

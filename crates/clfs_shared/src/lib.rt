@@ -17,6 +17,7 @@
 #![tactic(auto)]
 
 mod copies;
+mod crashes;
 mod entries;
 mod kept;
 mod locked;
@@ -27,6 +28,7 @@ mod shared;
 mod told;
 mod waiting;
 
+pub use crashes::flushed_records_outlive_crashes;
 pub use kept::KeptJournal;
 pub use opening::Opening;
 pub use recorder::Recorder;

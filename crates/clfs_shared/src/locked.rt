@@ -115,7 +115,7 @@ fn make_call<D: Disk, J: Recorder>(
     ensures list { AddsAtMostOne (λ v. J.entries v.journal) client_of client value.old value.new }
     ensures lawful { (o : Opening) → IsReached o (D.state value.old.manager.1) value.old.manager.0 (J.entries value.old.journal)
         → IsReached o (D.state value.new.manager.1) value.new.manager.0 (J.entries value.new.journal) }
-    ensures ran { HasRun (D.state value.old.manager.1).nature.tells_contents value.old.manager.0 (J.entries value.old.journal) client call.now result
+    ensures ran { HasRun J.may_lack (D.state value.old.manager.1).nature.tells_contents value.old.manager.0 (J.entries value.old.journal) client call.now result
         value.new.manager.0 (J.entries value.new.journal) }
 {
     broken_stays();
@@ -125,7 +125,7 @@ fn make_call<D: Disk, J: Recorder>(
     refusals_change_nothing();
     replies_are_of_their_calls();
     whole_files_pass_the_test();
-    let Ok(prepared) = value.journal.prepare(call) else {
+    let Ok(prepared) = value.journal.prepare(client, call) else {
         return Reply::Refused(Refusal::NoMemory);
     };
     value.manager.stored();
@@ -148,7 +148,7 @@ impl<'a, D: Disk, J: Recorder> Job<LockedLog<D, J>, Entry, Opening> for ClientCa
 
     ghost is_ready = { λ job. MeetsCondition job.client job.call.now };
 
-    ghost ran = { λ job x y reply. HasRun (D.state x.log.value.manager.1).nature.tells_contents x.log.value.manager.0 (J.entries x.log.value.journal) job.client
+    ghost ran = { λ job x y reply. HasRun J.may_lack (D.state x.log.value.manager.1).nature.tells_contents x.log.value.manager.0 (J.entries x.log.value.journal) job.client
         job.call.now reply y.log.value.manager.0 (J.entries y.log.value.journal) };
 
     fn run(self, value: &mut LockedLog<D, J>) -> Reply {

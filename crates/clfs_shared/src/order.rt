@@ -1,25 +1,31 @@
 // The order in which calls that wait are let to the turn. Calls that put something into memory go before those that flush, and those that flush go
 // one after the other, so that the first of them writes what all the others wait for. A kind is served for as many calls as waited when its turn
-// began, so that neither waits for ever while the other comes again and again. No clause rests on any of this.
+// began, so that neither waits for ever while the other comes again and again. No clause of the log rests on any of this.
 //
-// A client that flushes record after record comes again a moment after it was answered. So the first flush of a turn lets other threads run, a bounded number
-// of times, until those that the turn before served wait again, and then writes for all of them. It does so only if that turn served several, so
-// a client that is alone never waits, and one that stays away is waited for once.
+// A client that flushes record after record comes again a moment after it was answered. So the first flush of a turn waits for those that the turn before
+// served, as long as flushes come, and then writes for all of them. It hands the processor on and looks for a moment whether another flush has come; if
+// none has, it waits no more. It does so only if the turn before served several, so a client that is alone never waits, and one that stays away is
+// waited for once.
 //
-// A thread that comes sleeps where its kind waits for as long as it must. Who leaves wakes one thread of the kind that comes next, if one of it waits.
-// Nobody's wake is lost. A thread counts itself among those that wait, and looks whether it must, under the same lock under which the one that leaves
-// counts them, and it stays counted while it sleeps. So who leaves and wakes nobody has seen none of the kind that comes next; then there is none of
-// the other kind either, since that one would come next, and nobody sleeps. Who comes after that finds no call being made, and needn't wait. If a
-// thread comes and is let in before the one that was woken looks, it is the next that leaves, and wakes again. While a flush gathers, it is awake itself, and
-// comes next when it has.
+// A thread that comes sleeps where its kind waits for as long as it must. Who leaves wakes one thread of the kind that comes next, if one of it waits. The
+// clauses of waiting.rt say that this one need not wait on, or that one which has come since need not. That it is woken is no clause, and that nobody's
+// wake is lost isn't either. It is so because a thread counts itself among those that wait, and looks whether it must, under the same lock under which
+// the one that leaves counts them, and stays counted while it sleeps. So who leaves and wakes nobody has seen nobody wait. Who comes after that finds no call
+// being made, and needn't wait. If a thread comes and is let in before the one that was woken looks, it is the next that leaves, and wakes again. While a
+// flush gathers, it is awake itself, and comes next when it has.
 use crate::waiting::{Clients, Kind, Waiting};
 use clfs_model::Call;
+use std::sync::atomic::{AtomicU64, Ordering};
 use std::sync::{Condvar, Mutex, Wait};
 use std::thread::yield_now;
 
-// How often a flush lets other threads run, at most, before it writes. It takes about half a millisecond, if nobody has work; a client that was answered sends its
-// next record and flush in less.
-const MOST_YIELDS: u32 = 1000;
+// How often a flush hands the processor on, at most, before it writes. Beside a process that is never idle it comes back only after a time slice, some milliseconds
+// later. So it does so again only if another flush has come meanwhile.
+const MOST_YIELDS: u32 = 8;
+
+// How often it looks for another flush after that, at most: some tenths of a millisecond. A client that was answered sends its next record and flush in less.
+// The processor's hint for such loops isn't in it, since its time differs tenfold from one processor to another.
+const LOOKS: u32 = 400_000;
 
 /// Calls that wait, and where each kind of them sleeps.
 #[derive(Drop)]
@@ -27,6 +33,8 @@ pub(crate) struct Order {
     waiting: Mutex<Waiting>,
     quick: Condvar,
     flushing: Condvar,
+    // How many flushes have come, which is read without the lock. It may begin anew at 0.
+    come: AtomicU64,
 }
 
 /// Of which kind a call is.
@@ -47,6 +55,7 @@ impl Order {
             waiting: Mutex::new(Waiting::new()),
             quick: Condvar::new(),
             flushing: Condvar::new(),
+            come: AtomicU64::new(0),
         }
     }
 
@@ -58,10 +67,11 @@ impl Order {
         }
     }
 
-    // Wakes a call of this kind, if one waits.
-    fn wake(&self, waiting: &Waiting, kind: Kind) {
-        if waiting.count(kind) > 0 {
-            self.place(kind).notify_one();
+    // Wakes a call of the kind that comes next, if one waits. One is enough, since it need not wait on.
+    fn wake_next(&self, waiting: &Waiting) {
+        let next = waiting.next();
+        if waiting.count(next) > 0 {
+            self.place(next).notify_one();
         }
     }
 
@@ -79,12 +89,13 @@ impl Order {
     fn begin_flush<R: Wait>(&self, rt: &R, client: Clients) -> bool {
         let mut waiting = self.waiting.lock(rt);
         waiting.come_to_flush(client);
+        self.come.fetch_add(1, Ordering::SeqCst);
         let mut waiting = self
             .flushing
             .wait_while(rt, waiting, |w| w.must_wait(Kind::Flushing));
         let gathers = waiting.begin_gathering();
         if gathers {
-            self.wake(&waiting, Kind::Quick);
+            self.wake_next(&waiting);
         } else {
             waiting.go_in_to_flush(client);
         }
@@ -96,11 +107,25 @@ impl Order {
         self.waiting.lock(rt).gains_by_waiting()
     }
 
-    // Lets other threads run until those that were served before wait again.
+    // Looks whether more flushes come than have been seen, for a moment, without handing the processor on.
+    fn more_come(&self, seen: u64) -> bool {
+        for _ in 0..LOOKS {
+            if self.come.load(Ordering::SeqCst) != seen {
+                return true;
+            }
+        }
+        false
+    }
+
+    // Lets other threads run, here and on other processors, as long as flushes come, until those that were served before wait again.
     fn gather<R: Wait>(&self, rt: &R) {
         for _ in 0..MOST_YIELDS {
-            yield_now();
+            let seen = self.come.load(Ordering::SeqCst);
             if !self.gains_by_waiting(rt) {
+                return;
+            }
+            yield_now();
+            if !self.more_come(seen) {
                 return;
             }
         }
@@ -134,7 +159,6 @@ impl Order {
     pub fn leave<R: Wait>(&self, rt: &R) {
         let mut waiting = self.waiting.lock(rt);
         waiting.leave();
-        let next = waiting.next();
-        self.wake(&waiting, next);
+        self.wake_next(&waiting);
     }
 }

@@ -1,10 +1,11 @@
 // The shared log: sessions of several clients over one log, each call of which has one place in one journal.
-ghost use Rattle.std.specs.Prelude.{◌≡◌, ◌≢◌, ◌<◌, ◌≤◌, ◌^◌, ℕ, [], true, false, length, map, All, IsOk, IfOk, IfErr};
+ghost use Rattle.std.specs.Prelude.{◌≡◌, ◌≢◌, ◌⊎◌, ◌<◌, ◌≤◌, ◌^◌, ℕ, [], true, false, length, map, All, IsOk, IfOk, IfErr};
 ghost use mathlib.Core.List.{IsPrefix};
 ghost use Rattle.clfs_lsn.specs.Size.{own};
 ghost use Rattle.clfs_laws.specs.Needs.{is_for_room};
 ghost use Rattle.clfs_model.specs.Conditions.{IsClient, HasArguments};
 ghost use Rattle.clfs_model.specs.Valid.{IsValid};
+ghost use Rattle.clfs_model.specs.Step.{takes_memory};
 ghost use Rattle.clfs_model.specs.Storable.{IsStorable};
 ghost use Rattle.clfs_model.specs.Journals.{IsLegal, mine, held_by};
 ghost use Rattle.clfs_model.specs.declared.call.Draft.{Draft};
@@ -117,8 +118,8 @@ impl<D: Disk> SharedLog<D> {
 }
 
 impl<D: Disk> SharedLog<D, ToldJournal> {
-    /// Shares a log as `start` does. The journal is told to contracts alone, so memory doesn't grow with it; the call after as many as a `u64` counts is
-    /// answered as if there were no memory.
+    /// Shares a log as `start` does. The journal is told to contracts alone, so memory doesn't grow with it; a client's call after 2^57 of them is answered
+    /// as if there were no memory.
     pub fn start_told(
         alloc: Global,
         manager: Manager<D>,
@@ -196,6 +197,10 @@ impl<D: Disk, J: Recorder> SharedLog<D, J> {
         // After out of memory nothing has changed. Any other answer is the machine's at the end of the journal, which gained this call.
         ensures none { is_out_of_memory result ≡ true → session.new.seen ≡ session.old.seen }
         ensures step { is_out_of_memory result ≡ false → IsStepped session.old session.new call.now result }
+
+        // Memory runs out for a call that takes some. For any other it is the journal that lacks room for the entry: one that is kept may, and one that is
+        // told does so where the client has made 2^57 calls.
+        ensures wanted { is_out_of_memory result ≡ true → (takes_memory call.now ≡ true) ⊎ J.may_lack (own_entries session.old) }
 
         // What the own entries say of the client's areas, in each state to which all that the session has seen leads.
         ensures areas { (left : State) → IsLegal session.old.opening.tells_contents session.new.seen session.old.opening.state left

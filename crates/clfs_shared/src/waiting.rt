@@ -1,4 +1,10 @@
 // Who waits for the turn of a shared log, and who is let in: the rules of order.rt, without the lock and the places where threads sleep.
+//
+// Contracts say what a call of each kind finds (`is_let_in`): where none is made and some wait, the kind that comes next has one that waits, and it need
+// not wait on. So to wake one of that kind is enough. A call that comes before the woken one looks lets it in still, or is let in itself. That the woken
+// one looks, and which of one kind does first, no contract says.
+ghost use Rattle.std.specs.Prelude.{◌≡◌, ◌+◌, ◌-◌, ◌^◌, ◌<◌, true, false, not, min, if◌then◌else◌};
+ghost use Rattle.clfs_shared.specs.Waiting as waits;
 
 /// The two kinds of calls.
 #[derive(Clone, Copy, PartialEq, Eq)]
@@ -51,7 +57,7 @@ impl Clients {
 
 /// Whether a flush waits for the clients that the turn of flushes before served.
 #[derive(Clone, Copy, PartialEq, Eq)]
-enum Gathering {
+pub(crate) enum Gathering {
     /// No flush has begun to wait for them in this turn.
     NotBegun,
     /// One does.
@@ -60,7 +66,8 @@ enum Gathering {
     Done,
 }
 
-/// Who waits, and who is let in. `left` is for how many calls more the kind that is served is served.
+/// Who waits, and who is let in. `left` is for how many calls more the kind that is served is served. The counters stop at the end of their type; at most
+/// 64 clients wait.
 #[derive(Drop)]
 pub(crate) struct Waiting {
     busy: bool,
@@ -75,7 +82,9 @@ pub(crate) struct Waiting {
 }
 
 // The other kind.
-fn other_than(kind: Kind) -> Kind {
+fn other_than(kind: Kind) -> Kind
+    ensures { result ≡ waits.other_than kind }
+{
     match kind {
         Kind::Quick => Kind::Flushing,
         Kind::Flushing => Kind::Quick,
@@ -98,55 +107,78 @@ impl Waiting {
     }
 
     /// How many calls of a kind wait.
-    pub fn count(&self, kind: Kind) -> u32 {
+    pub fn count(&self, kind: Kind) -> u32
+        ensures { result ≡ waits.waiting_of self.now kind }
+    {
         match kind {
             Kind::Quick => self.quick,
             Kind::Flushing => self.flushing,
         }
     }
 
-    /// A call that comes now has to wait: a call is being made, or the other kind comes first.
-    pub fn must_wait(&self, kind: Kind) -> bool {
-        if self.busy {
-            return true;
-        }
+    // The kind that comes before the other: quick calls while a flush gathers, flushes when one has, and else the kind that is served, until none is left to
+    // it.
+    fn first(&self) -> Kind
+        ensures { result ≡ waits.first_of self.now }
+    {
         match self.gathering {
-            Gathering::UnderWay => kind == Kind::Flushing,
-            Gathering::Done => kind == Kind::Quick,
-            Gathering::NotBegun => {
-                let others = self.count(other_than(kind)) > 0;
-                others && (self.serves == kind) == (self.left == 0)
-            }
+            Gathering::UnderWay => Kind::Quick,
+            Gathering::Done => Kind::Flushing,
+            Gathering::NotBegun if self.left == 0 => other_than(self.serves),
+            Gathering::NotBegun => self.serves,
         }
+    }
+
+    /// A call of this kind has to wait: a call is being made, or the other kind comes first.
+    pub fn must_wait(&self, kind: Kind) -> bool
+        ensures { result ≡ not (waits.is_let_in self.now kind) }
+    {
+        let others_wait = self.gathering == Gathering::UnderWay || self.count(other_than(kind)) > 0;
+        self.busy || others_wait && self.first() != kind
     }
 
     /// A quick call waits.
-    pub fn come(&mut self) {
-        self.quick = self.quick.wrapping_add(1);
+    pub fn come(&mut self)
+        ensures come { self.new ≡ record self.old { quick = min (self.old.quick + 1) (2 ^ 32 - 1) } }
+        ensures keeps { waits.KeepsLetIn self.old self.new Kind.Quick }
+    {
+        self.quick = self.quick.saturating_add(1);
     }
 
     /// A quick call waits no more, and is made.
-    pub fn go_in(&mut self) {
-        self.quick = self.quick.wrapping_sub(1);
+    pub fn go_in(&mut self)
+        ensures { self.new ≡ waits.with_one_in Kind.Quick (record self.old { quick = self.old.quick - 1 }) }
+    {
+        self.quick = self.quick.saturating_sub(1);
         self.let_in(Kind::Quick);
     }
 
     /// A flush of this client waits.
-    pub fn come_to_flush(&mut self, client: Clients) {
-        self.flushing = self.flushing.wrapping_add(1);
+    pub fn come_to_flush(&mut self, client: Clients)
+        ensures come { self.new ≡ record self.old { flushing = min (self.old.flushing + 1) (2 ^ 32 - 1); waiting = self.new.waiting } }
+        ensures keeps { waits.KeepsLetIn self.old self.new Kind.Flushing }
+    {
+        self.flushing = self.flushing.saturating_add(1);
         self.waiting = self.waiting.with(client);
     }
 
-    /// A flush of this client waits no more, and is made.
-    pub fn go_in_to_flush(&mut self, client: Clients) {
-        self.flushing = self.flushing.wrapping_sub(1);
+    /// A flush of this client waits no more, and is made. No flush of its turn has to gather for others any more.
+    pub fn go_in_to_flush(&mut self, client: Clients)
+        ensures { self.new ≡ waits.with_one_in Kind.Flushing (record self.old {
+          gathering = Gathering.NotBegun;
+          flushing = self.old.flushing - 1;
+          waiting = self.new.waiting;
+          served = self.new.served;
+        }) }
+    {
+        self.gathering = Gathering::NotBegun;
+        self.flushing = self.flushing.saturating_sub(1);
         self.waiting = self.waiting.without(client);
         self.served = if self.goes_on(Kind::Flushing) {
             self.served.with(client)
         } else {
             client
         };
-        self.gathering = Gathering::NotBegun;
         self.let_in(Kind::Flushing);
     }
 
@@ -159,7 +191,9 @@ impl Waiting {
     }
 
     /// Has a flush wait that may be made now, if none has in this turn and it gains by it. Says whether it does.
-    pub fn begin_gathering(&mut self) -> bool {
+    pub fn begin_gathering(&mut self) -> bool
+        ensures { self.new ≡ (if result then record self.old { gathering = Gathering.UnderWay } else self.old) }
+    {
         let begins = self.gathering == Gathering::NotBegun && self.gains_by_waiting();
         if begins {
             self.gathering = Gathering::UnderWay;
@@ -168,41 +202,46 @@ impl Waiting {
     }
 
     /// The flush that gathered waits no more for others.
-    pub fn end_gathering(&mut self) {
+    pub fn end_gathering(&mut self)
+        ensures { self.new ≡ record self.old { gathering = Gathering.Done } }
+    {
         self.gathering = Gathering::Done;
     }
 
     /// The call is made.
-    pub fn leave(&mut self) {
+    pub fn leave(&mut self)
+        ensures { self.new ≡ record self.old { busy = false } }
+    {
         self.busy = false;
     }
 
     /// The kind of which one is let in next.
-    pub fn next(&self) -> Kind {
-        match self.gathering {
-            Gathering::UnderWay => Kind::Quick,
-            Gathering::Done => Kind::Flushing,
-            Gathering::NotBegun => {
-                let others = self.count(other_than(self.serves)) > 0;
-                let more = self.left > 0 && self.count(self.serves) > 0;
-                if others && !more {
-                    other_than(self.serves)
-                } else {
-                    self.serves
-                }
-            }
+    pub fn next(&self) -> Kind
+        // Where no call is made, one of it need not wait on. If some call waits, then one of this kind does, unless a flush gathers: that isn't asleep.
+        ensures let_in { self.now.busy ≡ false → waits.is_let_in self.now result ≡ true }
+        ensures waits { waits.is_under_way self.now.gathering ≡ false → 0 < self.now.quick + self.now.flushing → 0 < waits.waiting_of self.now result }
+    {
+        let first = self.first();
+        if self.gathering == Gathering::UnderWay || self.count(first) > 0 {
+            first
+        } else {
+            other_than(first)
         }
     }
 
     // A call of this kind that is let in now goes on with the turn of its kind.
-    fn goes_on(&self, kind: Kind) -> bool {
+    fn goes_on(&self, kind: Kind) -> bool
+        ensures { result ≡ waits.goes_on self.now kind }
+    {
         self.serves == kind && self.left > 0
     }
 
     // A call of this kind, which isn't counted among those that wait any more, is made.
-    fn let_in(&mut self, kind: Kind) {
+    fn let_in(&mut self, kind: Kind)
+        ensures { self.new ≡ waits.with_one_in kind self.old }
+    {
         if self.goes_on(kind) {
-            self.left = self.left.wrapping_sub(1);
+            self.left -= 1;
         } else {
             self.serves = kind;
             self.left = self.count(kind);

@@ -1,5 +1,5 @@
 -- The ways in which taking sets back and rolling back go.
-use Rattle.std.proofs.Common.{◌≡◌, ℕ, ◌-◌, ◌<◌, ◌≤◌, Bool, false, length, Result, Some, refl, sym, subst, ap, ◌∙◌, arith, List}
+use Rattle.std.proofs.Common.{◌≡◌, ℕ, ◌-◌, ◌<◌, ◌≤◌, Bool, false, length, Result, Some, refl, sym, subst, ap, ◌∙◌, arith}
 use Rattle.std.proofs.lemmas.Bool.{lt-ltb, le-ltb}
 use Rattle.clfs_model.specs.declared.refusal.Refusal.{Refusal}
 use Rattle.clfs_cells.specs.declared.asked.TxnCall.TheVariants as asked
@@ -14,7 +14,7 @@ use Rattle.clfs_txn.specs.Calls.{Carries, IsFound, Leads, TxnSteps, replied}
 use Rattle.clfs_txn.proofs.Carried.{as_plan, met, passed, refused_at_once, step_is}
 use Rattle.clfs_txn.proofs.Sets.{goes_on, over}
 use Rattle.clfs_disk.specs.State.{DiskState}
-use Rattle.clfs_txn.specs.Crashes.{Meanwhile}
+use Rattle.clfs_txn.specs.UnderWay.{Meanwhile, UnderWay}
 use Rattle.clfs_txn.proofs.Moments.{meanwhile_as, meanwhile_by, meanwhile_then}
 
 -- more are to be kept than stand
@@ -83,28 +83,28 @@ rolls_ended told s mid u number have t last result found is leads still client e
     (over mid.memory number go (Some last) still.there) here))
 
 -- what a crash leaves while sets are taken back
-pub back_meanwhile : (before after : List ℕ) (told : Bool) (s : Store) (number kept have : ℕ) (t : Transaction) (old new : DiskState) → IsFound s number t → have ≡ length (standing t)
-    → kept ≤ have → Meanwhile before after told s.memory.client s.log (undo_sets (have - kept) s.memory t (λ now. answers replies.Done now)) old new
-    → Meanwhile before after told s.memory.client s.log (txn_plan s.log s.memory (asked.Back number kept)) old new
-back_meanwhile before after told s number kept have t old new found is enough meanwhile =
-    meanwhile_as before after told s.memory.client s.log (undo_sets (have - kept) s.memory t done_with) _ old new (back_goes s number kept have t found is enough) meanwhile
+pub back_meanwhile : (under : UnderWay) (told : Bool) (s : Store) (number kept have : ℕ) (t : Transaction) (old new : DiskState) → IsFound s number t → have ≡ length (standing t)
+    → kept ≤ have → Meanwhile under told s.memory.client s.log (undo_sets (have - kept) s.memory t (λ now. answers replies.Done now)) old new
+    → Meanwhile under told s.memory.client s.log (txn_plan s.log s.memory (asked.Back number kept)) old new
+back_meanwhile under told s number kept have t old new found is enough meanwhile =
+    meanwhile_as under told s.memory.client s.log (undo_sets (have - kept) s.memory t done_with) _ old new (back_goes s number kept have t found is enough) meanwhile
 
-pub roll_meanwhile : (before after : List ℕ) (told : Bool) (s : Store) (number have : ℕ) (t : Transaction) (old new : DiskState) → IsFound s number t → have ≡ length (standing t)
-    → Meanwhile before after told s.memory.client s.log (undo_sets have s.memory t (ending number)) old new
-    → Meanwhile before after told s.memory.client s.log (txn_plan s.log s.memory (asked.Rollback number)) old new
-roll_meanwhile before after told s number have t old new found is meanwhile =
-    meanwhile_as before after told s.memory.client s.log (undo_sets have s.memory t (ending number)) _ old new (roll_goes s number have t found is) meanwhile
+pub roll_meanwhile : (under : UnderWay) (told : Bool) (s : Store) (number have : ℕ) (t : Transaction) (old new : DiskState) → IsFound s number t → have ≡ length (standing t)
+    → Meanwhile under told s.memory.client s.log (undo_sets have s.memory t (ending number)) old new
+    → Meanwhile under told s.memory.client s.log (txn_plan s.log s.memory (asked.Rollback number)) old new
+roll_meanwhile under told s number have t old new found is meanwhile =
+    meanwhile_as under told s.memory.client s.log (undo_sets have s.memory t (ending number)) _ old new (roll_goes s number have t found is) meanwhile
 
 -- and then the transaction ends
-pub rolled_meanwhile : (before after : List ℕ) (told : Bool) (s mid : Store) (number have : ℕ) (t last : Transaction) (old at new : DiskState) → IsFound s number t
+pub rolled_meanwhile : (under : UnderWay) (told : Bool) (s mid : Store) (number have : ℕ) (t last : Transaction) (old at new : DiskState) → IsFound s number t
     → have ≡ length (standing t) → Leads told s.memory.client s.log (undo_sets have s.memory t (ending number)) mid.log (ending number mid.memory)
     → IsFound mid number last → mid.memory.client ≡ s.memory.client → at.nature ≡ old.nature
-    → Meanwhile before after told s.memory.client s.log (undo_sets have s.memory t (ending number)) old at
-    → Meanwhile before after told mid.memory.client mid.log (end_plan mid.memory last RolledBack false) at new
-    → Meanwhile before after told s.memory.client s.log (txn_plan s.log s.memory (asked.Rollback number)) old new
-rolled_meanwhile before after told s mid number have t last old at new found is leads still client nature first next =
+    → Meanwhile under told s.memory.client s.log (undo_sets have s.memory t (ending number)) old at
+    → Meanwhile under told mid.memory.client mid.log (end_plan mid.memory last RolledBack false) at new
+    → Meanwhile under told s.memory.client s.log (txn_plan s.log s.memory (asked.Rollback number)) old new
+rolled_meanwhile under told s mid number have t last old at new found is leads still client nature first next =
     let go : Transaction → Plan Answered = λ (x : Transaction). end_plan mid.memory x RolledBack false in
-    roll_meanwhile before after told s number have t old new found is
-    (meanwhile_then before after told s.memory.client s.log mid.log _ (ending number mid.memory) old at new nature leads first
-    (meanwhile_as before after told s.memory.client mid.log (end_plan mid.memory last RolledBack false) _ at new (over mid.memory number go (Some last) still.there)
-    (meanwhile_by before after told told mid.memory.client s.memory.client mid.log (end_plan mid.memory last RolledBack false) at new refl client next)))
+    roll_meanwhile under told s number have t old new found is
+    (meanwhile_then under told s.memory.client s.log mid.log _ (ending number mid.memory) old at new nature leads first
+    (meanwhile_as under told s.memory.client mid.log (end_plan mid.memory last RolledBack false) _ at new (over mid.memory number go (Some last) still.there)
+    (meanwhile_by under told told mid.memory.client s.memory.client mid.log (end_plan mid.memory last RolledBack false) at new refl client next)))

@@ -1,5 +1,5 @@
 -- The ways in which the beginning of a transaction goes.
-use Rattle.std.proofs.Common.{◌≡◌, ℕ, Bool, true, false, length, refl, sym, subst, ◌∙◌, ◌<◌, ◌≤◌, arith, List}
+use Rattle.std.proofs.Common.{◌≡◌, ℕ, Bool, true, false, length, refl, sym, subst, ◌∙◌, ◌<◌, ◌≤◌, arith}
 use Rattle.std.specs.Prelude.{◌+◌, ◌==◌, nat_le, replicate, slice_index}
 use Rattle.std.proofs.lemmas.Bool.{le-leb, lt-leb, eq-eqb, ne_eqb}
 use Rattle.clfs_model.specs.declared.call.Call.TheVariants as log_calls
@@ -16,8 +16,7 @@ use Rattle.clfs_cells.specs.Calls.{Answered, TxnStep, txn_plan, stops, answers}
 use Rattle.clfs_cells.specs.Stored.{Store, Memory, most_records, with_begun}
 use Rattle.clfs_txn.proofs.Carried.{passed, met, one_call, step_is, refused_at_once}
 use Rattle.clfs_disk.specs.State.{DiskState}
-use Rattle.clfs_cells_laws.specs.Crashes.{LeavesEither}
-use Rattle.clfs_txn.specs.Crashes.{CrashLeavesTable, Meanwhile}
+use Rattle.clfs_txn.specs.UnderWay.{CrashLeaves, LeavesCall, Meanwhile, UnderWay}
 use Rattle.clfs_txn.proofs.Moments.{first_call, meanwhile_as}
 
 pub broken : (told : Bool) (s : Store) (changes : ℕ) → s.log.broken ≡ true
@@ -99,11 +98,11 @@ pub is_not_last : (n m : ℕ) → n ≡ m → (n ≡ 4294967295 → ⊥) → (m 
 is_not_last n m is not_all = ne_eqb m 4294967295 (λ e. not_all (is ∙ e))
 
 -- what a crash leaves while the room is reserved
-pub begin_meanwhile : (before after : List ℕ) (told : Bool) (s : Store) (changes : ℕ) (old new : DiskState) → s.log.broken ≡ false
+pub begin_meanwhile : (under : UnderWay) (told : Bool) (s : Store) (changes : ℕ) (old new : DiskState) → s.log.broken ≡ false
     → nat_le 8 (length s.memory.transactions) ≡ false → (s.memory.last == 4294967295) ≡ false
-    → (LeavesEither before after s.memory.client (log_calls.Reserve s.memory.area (replicate (most_records changes) 24)) s.log → CrashLeavesTable before after old new)
-    → Meanwhile before after told s.memory.client s.log (txn_plan s.log s.memory (asked.Begin changes)) old new
+    → (LeavesCall under s.memory.client (log_calls.Reserve s.memory.area (replicate (most_records changes) 24)) s.log → CrashLeaves under old new)
+    → Meanwhile under told s.memory.client s.log (txn_plan s.log s.memory (asked.Begin changes)) old new
 unfolding reserving
-begin_meanwhile before after told s changes old new e f g leaves =
-    meanwhile_as before after told s.memory.client s.log (reserving s.memory changes) _ old new (reserves s changes e f g)
-    (first_call before after told s.memory.client s.log (log_calls.Reserve s.memory.area (replicate (most_records changes) 24)) _ old new e leaves)
+begin_meanwhile under told s changes old new e f g leaves =
+    meanwhile_as under told s.memory.client s.log (reserving s.memory changes) _ old new (reserves s changes e f g)
+    (first_call under told s.memory.client s.log (log_calls.Reserve s.memory.area (replicate (most_records changes) 24)) _ old new e leaves)

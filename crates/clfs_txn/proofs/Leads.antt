@@ -12,18 +12,18 @@ pub leads_on : {A : Type 0} (told : Bool) (client : ℕ) (a b c : State) (p q r 
     → LeadsTo A told client a p c r
 leads_on told client a b c p q r first second = record {
   carried = λ result t carries. first.carried result t (second.carried result t carries);
-  goes = λ before after along. second.goes before after (first.goes before after along);
+  goes = λ under along. second.goes under (first.goes under along);
 }
 
 pub leads_nowhere : {A : Type 0} (told : Bool) (client : ℕ) (log : State) (plan : Plan A) → LeadsTo A told client log plan log plan
-leads_nowhere told client log plan = record { carried = λ result t carries. carries; goes = λ before after along. along }
+leads_nowhere told client log plan = record { carried = λ result t carries. carries; goes = λ under along. along }
 
 -- one call of the log
 pub leads_call : {A : Type 0} (told : Bool) (client : ℕ) (log : State) (call : Call) (rest : Reply → Plan A) (reply : Reply) (mid : State)
     → Step told log client call (happened_of reply) reply mid → LeadsTo A told client log (calls call rest) mid (rest reply)
 leads_call told client log call rest reply mid step = record {
   carried = λ result t carries. (happened_of reply, reply, mid, (step, carries));
-  goes = λ before after along. along.1 (happened_of reply) reply mid step;
+  goes = λ under along. along.1 (happened_of reply) reply mid step;
 }
 
 -- the same plan, by other names

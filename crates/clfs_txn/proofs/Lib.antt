@@ -10,6 +10,7 @@ mod Cursors
 mod Appended
 mod Logged
 mod Leads
+mod Left
 mod LoadSteps
 mod Undone
 mod Ends

@@ -1,5 +1,5 @@
 -- The ways in which a checkpoint goes.
-use Rattle.std.proofs.Common.{◌≡◌, ℕ, ◌+◌, ◌<◌, Bool, true, false, length, refl, sym, subst, ◌∙◌, arith, List}
+use Rattle.std.proofs.Common.{◌≡◌, ℕ, ◌+◌, ◌<◌, Bool, true, false, length, refl, sym, subst, ◌∙◌, arith}
 use Rattle.std.proofs.lemmas.Bool.{lt-ltb, le-ltb}
 use Rattle.clfs_model.specs.declared.call.Call.TheVariants as log_calls
 use Rattle.clfs_model.specs.declared.info.LogInfo.{LogInfo}
@@ -18,8 +18,7 @@ use Rattle.clfs_cells.specs.Stored.{Store, Memory}
 use Rattle.clfs_txn.specs.Calls.{checkpoint_of}
 use Rattle.clfs_txn.proofs.Carried.{passed, met, one_call, step_is, refused_at_once}
 use Rattle.clfs_disk.specs.State.{DiskState}
-use Rattle.clfs_cells_laws.specs.Crashes.{LeavesEither}
-use Rattle.clfs_txn.specs.Crashes.{CrashLeavesTable, Meanwhile}
+use Rattle.clfs_txn.specs.UnderWay.{CrashLeaves, LeavesCall, Meanwhile, UnderWay}
 use Rattle.clfs_txn.proofs.Moments.{meanwhile_as}
 
 pub broken : (told : Bool) (s : Store) → s.log.broken ≡ true → TxnStep told s asked.Checkpoint (replies.Refused (refusals.Log log_refusals.Broken)) s
@@ -77,12 +76,12 @@ done told s u info lsn e none asked_first step same =
     (one_call told s.memory.client s.log _ _ (log_replies.Placed lsn) u.log result u.log step (told_is, refl)))
 
 -- what a crash leaves while the restart area is written
-pub checkpoint_meanwhile : (before after : List ℕ) (told : Bool) (s : Store) (info : LogInfo) (old new : DiskState) → s.log.broken ≡ false → length s.memory.transactions ≡ 0
+pub checkpoint_meanwhile : (under : UnderWay) (told : Bool) (s : Store) (info : LogInfo) (old new : DiskState) → s.log.broken ≡ false → length s.memory.transactions ≡ 0
     → Step told s.log s.memory.client (log_calls.Info s.memory.stream) (happened_of (log_replies.Info info)) (log_replies.Info info) s.log
-    → (LeavesEither before after s.memory.client (log_calls.WriteRestart s.memory.area (checkpoint_bytes (checkpoint_of s.memory)) (info.last + 1) false) s.log
-    → CrashLeavesTable before after old new)
-    → Meanwhile before after told s.memory.client s.log (txn_plan s.log s.memory asked.Checkpoint) old new
+    → (LeavesCall under s.memory.client (log_calls.WriteRestart s.memory.area (checkpoint_bytes (checkpoint_of s.memory)) (info.last + 1) false) s.log
+    → CrashLeaves under old new)
+    → Meanwhile under told s.memory.client s.log (txn_plan s.log s.memory asked.Checkpoint) old new
 unfolding writing
-checkpoint_meanwhile before after told s info old new e none step leaves =
-    meanwhile_as before after told s.memory.client s.log (writing s.memory) _ old new (writes s e none)
+checkpoint_meanwhile under told s info old new e none step leaves =
+    meanwhile_as under told s.memory.client s.log (writing s.memory) _ old new (writes s e none)
     (λ along present. leaves ((along.1 (happened_of (log_replies.Info info)) (log_replies.Info info) s.log step).0 e))

@@ -1,5 +1,5 @@
 -- The ways in which a set goes.
-use Rattle.std.proofs.Common.{◌≡◌, inl, inr, ℕ, Bool, true, false, length, Option, Some, None, refl, sym, ap, ◌∙◌, List}
+use Rattle.std.proofs.Common.{◌≡◌, inl, inr, ℕ, Bool, true, false, length, Option, Some, None, refl, sym, ap, ◌∙◌}
 use Rattle.std.specs.Prelude.{nat_le}
 use Rattle.std.specs.Option.{option_map, option_map_or}
 use Rattle.clfs_model.specs.declared.refusal.Refusal.{Refusal}
@@ -18,8 +18,7 @@ use Rattle.clfs_cells.specs.Stored.{Store, Memory, Transaction, transaction, hol
 use Rattle.clfs_txn.specs.Calls.{IsFound, IsNotFound}
 use Rattle.clfs_txn.proofs.Carried.{passed, met, one_call, step_is, refused_at_once}
 use Rattle.clfs_disk.specs.State.{DiskState}
-use Rattle.clfs_cells_laws.specs.Crashes.{LeavesEither}
-use Rattle.clfs_txn.specs.Crashes.{CrashLeavesTable, Meanwhile}
+use Rattle.clfs_txn.specs.UnderWay.{CrashLeaves, LeavesCall, Meanwhile, UnderWay}
 use Rattle.clfs_txn.proofs.Moments.{first_call, meanwhile_as}
 
 pub over : (memory : Memory) (number : ℕ) (go : Transaction → Plan Answered) (found : Option Transaction) → transaction memory number ≡ found
@@ -100,11 +99,11 @@ done told s number cell value t lsn u found free some step same =
     (one_call told s.memory.client s.log _ _ (log_replies.Placed lsn) u.log result u.log step (told_is, refl))
 
 -- what a crash leaves while the record is appended
-pub set_meanwhile : (before after : List ℕ) (told : Bool) (s : Store) (number cell value : ℕ) (t : Transaction) (old new : DiskState) → IsFound s number t
+pub set_meanwhile : (under : UnderWay) (told : Bool) (s : Store) (number cell value : ℕ) (t : Transaction) (old new : DiskState) → IsFound s number t
     → None ≡ option_map (λ (t : Transaction). t.number) (holder s.memory number cell) → nat_le t.changes (length t.made) ≡ false
-    → (LeavesEither before after s.memory.client (append_call s.memory t (Set (change_to s.memory cell value)) (newest_standing t) false) s.log
-    → CrashLeavesTable before after old new)
-    → Meanwhile before after told s.memory.client s.log (txn_plan s.log s.memory (asked.Set number cell value)) old new
-set_meanwhile before after told s number cell value t old new found free some leaves =
-    meanwhile_as before after told s.memory.client s.log (set_cell s.memory t (change_to s.memory cell value)) _ old new (appends s number cell value t found free some)
-    (first_call before after told s.memory.client s.log (append_call s.memory t (Set (change_to s.memory cell value)) (newest_standing t) false) _ old new found.whole leaves)
+    → (LeavesCall under s.memory.client (append_call s.memory t (Set (change_to s.memory cell value)) (newest_standing t) false) s.log
+    → CrashLeaves under old new)
+    → Meanwhile under told s.memory.client s.log (txn_plan s.log s.memory (asked.Set number cell value)) old new
+set_meanwhile under told s number cell value t old new found free some leaves =
+    meanwhile_as under told s.memory.client s.log (set_cell s.memory t (change_to s.memory cell value)) _ old new (appends s number cell value t found free some)
+    (first_call under told s.memory.client s.log (append_call s.memory t (Set (change_to s.memory cell value)) (newest_standing t) false) _ old new found.whole leaves)

@@ -4,7 +4,7 @@ use Rattle.clfs_disk.specs.State.{DiskState, Leaves}
 use Rattle.clfs_model.specs.declared.state.State.{State}
 use Rattle.clfs_model.specs.Run.{bad_line}
 use Rattle.clfs_model.specs.Survivors.{Survives}
-use Rattle.clfs_manager.specs.Crashes.{CrashSurvives}
+use Rattle.clfs_manager.specs.Crashes.{CrashSurvives, HoldSurvivor}
 use Rattle.clfs_cells.specs.declared.asked.TxnCall.{TxnCall}
 use Rattle.clfs_cells.specs.declared.asked.TxnCall.TheVariants as asked
 use Rattle.clfs_cells.specs.declared.told.TxnRefusal.{TxnRefusal}
@@ -18,8 +18,10 @@ use Rattle.clfs_cells_laws.specs.Crashes.{EndsSafe, IsSafe, LeavesTables, table_
 use Rattle.clfs_cells_laws.specs.Steps.{HasArguments}
 use Rattle.clfs_cells_laws.specs.Stores.{IsKeptStore, IsStore}
 use Rattle.clfs_txn.specs.Calls.{TxnSteps}
-use Rattle.clfs_txn.specs.Crashes.{CrashLeavesTable, HoldsTable, KeepsTable, LeavesTableOf, Meanwhile}
-use Rattle.clfs_txn.proofs.Moments.{SameTable, asked_leaves}
+use Rattle.clfs_txn.specs.Crashes.{CrashLeavesTable, HoldsTable, KeepsTable, LeavesTableOf}
+use Rattle.clfs_txn.specs.UnderWay.{HoldsLeft, IsLeftMeanwhile, LeavesCalls, Meanwhile, asking}
+use Rattle.clfs_txn.proofs.Left.{SameTable, along_left, left_has_table, table_held}
+use Rattle.clfs_txn.proofs.Moments.{asked_leaves, leaves_weaker}
 
 -- ---- what the laws say
 
@@ -41,19 +43,24 @@ whole_store told s tells whole (inr store) = subst (λ (b : Bool). IsStore b s.l
 
 leaves_of : (told : Bool) (s : Store) (call : TxnCall) (old new : DiskState) → Crashes → old.nature.tells_contents ≡ told → HasArguments call → IsKeptStore told s.log s.memory
     → CrashSurvives (bad_line 0) s.log old old
-    → Meanwhile (table s.log) (table_once s call) told s.memory.client s.log (txn_plan s.log s.memory call) old new
+    → Meanwhile (asking s call) told s.memory.client s.log (txn_plan s.log s.memory call) old new
     → LeavesTableOf s call old new
 leaves_of told s call old new laws is has kept survives meanwhile whole safe honest =
     let tells : told ≡ true = sym is ∙ honest.0 in
-    let store = whole_store told s tells whole kept in
-    let along = subst (λ (b : Bool). LeavesTables (table s.log) (table_once s call) b s.memory.client s.log (txn_plan s.log s.memory call)) (sym tells)
-    (laws.left s call has store safe) in
-    let present = asked_leaves (table s.log) (table_once s call) (bad_line 0) s.log old old laws.same (λ x is_left. inl (laws.at_rest s 0 x store safe is_left)) whole survives in
-    meanwhile along present honest
+    let plan = txn_plan s.log s.memory call in
+    let under = asking s call in
+    let along = subst (λ (b : Bool). LeavesCalls under b s.memory.client s.log plan) (sym tells) (along_left under s.memory.client s.log plan (λ x left. inr left)) in
+    let present = asked_leaves under (bad_line 0) s.log old old (λ x left. inl left) whole survives in
+    leaves_weaker (HoldsLeft under) (HoldsTable (table s.log) (table_once s call) under) old new
+    (table_held (table s.log) (table_once s call) under laws.same (tables (whole_store told s tells whole kept)) (λ x left. inl left)) (meanwhile along present honest)
+  where
+    tables : IsStore true s.log s.memory → (x : State) → IsLeftMeanwhile (asking s call) x → (table x ≡ table s.log) ⊎ (table x ≡ table_once s call)
+    tables store x (inl rests) = inl (laws.at_rest s 0 x store safe rests)
+    tables store x (inr under) = left_has_table (table s.log) (table_once s call) s.memory.client s.log (txn_plan s.log s.memory call) (laws.left s call has store safe) x under
 
 pub moments : {X : Type 0} (state : X → DiskState) (inside seen : Store × X) (call : TxnCall) (new : DiskState) → Crashes → inside ≡ seen → HasArguments call
     → IsKeptStore (state inside.1).nature.tells_contents inside.0.log inside.0.memory → CrashSurvives (bad_line 0) inside.0.log (state inside.1) (state inside.1)
-    → Meanwhile (table inside.0.log) (table_once inside.0 call) (state inside.1).nature.tells_contents inside.0.memory.client inside.0.log
+    → Meanwhile (asking inside.0 call) (state inside.1).nature.tells_contents inside.0.memory.client inside.0.log
     (txn_plan inside.0.log inside.0.memory call) (state inside.1) new
     → LeavesTableOf seen.0 call (state seen.1) new
 moments {X = X} state inside seen call new laws view has kept survives meanwhile =
@@ -79,18 +86,24 @@ keeps {A = A} {X = X} state inside seen call answer result t laws view has kept 
 pub lasts : (told : Bool) (s t : Store) (number : ℕ) (disk : DiskState) → Crashes → told ≡ disk.nature.tells_contents → s.log.broken ≡ false → t.log.broken ≡ false
     → IsKeptStore told s.log s.memory → IsKeptStore told t.log t.memory → CrashSurvives (bad_line 0) t.log disk disk → IsSafe s.log s.memory.stream
     → TxnStep true s (asked.Commit number) replies.Done t
-    → CrashLeavesTable (table_joined s.log s.memory.stream number) (table_joined s.log s.memory.stream number) disk disk
+    → CrashLeavesTable (table_joined s.log s.memory.stream number) (table_joined s.log s.memory.stream number) (asking s (asked.Commit number)) disk disk
 lasts told s t number disk laws is whole_s whole kept_s kept survives safe step honest =
     let tells : told ≡ true = is ∙ honest.0 in
     rested (laws.ends s t (asked.Commit number) replies.Done tt (whole_store told s tells whole_s kept_s) safe step) (whole_store told t tells whole kept)
   where
     rested : (t.log.broken ≡ true) ⊎ EndsSafe (table s.log) (table_once s (asked.Commit number)) t.memory.stream replies.Done t.log → IsStore true t.log t.memory
-        → Leaves (HoldsTable (table_joined s.log s.memory.stream number) (table_joined s.log s.memory.stream number)) disk disk
+        → Leaves (HoldsTable (table_joined s.log s.memory.stream number) (table_joined s.log s.memory.stream number) (asking s (asked.Commit number))) disk disk
     rested (inl broken) store = let no : true ≡ false = sym broken ∙ whole in absurd (cc no)
     rested (inr ended) store =
         let joined : List ℕ = table_joined s.log s.memory.stream number in
-        asked_leaves joined joined (bad_line 0) t.log disk disk laws.same
-        (λ x is_left. inl (laws.at_rest t 0 x store ended.safe is_left ∙ ended.answered refl)) whole survives honest
+        leaves_weaker (HoldSurvivor false (bad_line 0) t.log) (HoldsTable joined joined (asking s (asked.Commit number))) disk disk (λ image held. record {
+          log = held.opened;
+          stands = held.stands;
+          either = inl (sym (laws.same held.survivor held.opened held.same) ∙ laws.at_rest t 0 held.survivor store ended.safe held.survives ∙ ended.answered refl);
+          survivor = held.survivor;
+          left = inr (replies.Done, t, (step, held.survives));
+          same = held.same;
+        }) (survives whole honest false (λ full. absurd (cc full)))
 
 -- ---- a table that was loaded
 

@@ -1,5 +1,5 @@
 -- How a plan of taking sets back is carried out, piece by piece.
-use Rattle.std.proofs.Common.{◌≡◌, ℕ, suc, Bool, false, refl, sym, subst, ap, ◌∙◌, List, Result, Ok, Err, Option}
+use Rattle.std.proofs.Common.{◌≡◌, ℕ, suc, Bool, false, refl, sym, subst, ap, ◌∙◌, Result, Ok, Err, Option}
 use Rattle.std.specs.Prelude.{find}
 use Rattle.std.specs.Option.{option_map_or}
 use Rattle.clfs_lsn.specs.declared.cursor.Mode.{Mode}
@@ -22,8 +22,7 @@ use Rattle.clfs_txn.specs.Calls.{HasSameArea, Leads, or_ended, or_stopped}
 use Rattle.clfs_txn.specs.Reading.{IsAt, IsSetOf}
 use Rattle.clfs_txn.proofs.Leads.{leads_call, leads_from, leads_nowhere, leads_on, leads_to}
 use Rattle.clfs_disk.specs.State.{DiskState}
-use Rattle.clfs_cells_laws.specs.Crashes.{LeavesEither}
-use Rattle.clfs_txn.specs.Crashes.{CrashLeavesTable, Meanwhile}
+use Rattle.clfs_txn.specs.UnderWay.{CrashLeaves, LeavesCall, Meanwhile, UnderWay}
 use Rattle.clfs_txn.proofs.Moments.{first_call, meanwhile_as, meanwhile_then}
 
 -- ---- the same step and the same place, by other names
@@ -187,67 +186,67 @@ some_undone told client log mid after last memory now then kept t count less cur
 
 -- ---- what a crash leaves
 
-pub undo_meanwhile : (before after : List ℕ) (told : Bool) (client : ℕ) (log : State) (memory : Memory) (number cursor lsn : ℕ) (t : Transaction) (made : Made)
+pub undo_meanwhile : (under : UnderWay) (told : Bool) (client : ℕ) (log : State) (memory : Memory) (number cursor lsn : ℕ) (t : Transaction) (made : Made)
     (rest : Memory → Plan Answered) (old new : DiskState) → IsSetOf memory number lsn t made → log.broken ≡ false
-    → (LeavesEither before after client (append_call memory t (compensation made) made.undo_next false) log → CrashLeavesTable before after old new)
-    → Meanwhile before after told client log (undo_set memory number cursor lsn rest) old new
+    → (LeavesCall under client (append_call memory t (compensation made) made.undo_next false) log → CrashLeaves under old new)
+    → Meanwhile under told client log (undo_set memory number cursor lsn rest) old new
 unfolding undoing
-undo_meanwhile before after told client log memory number cursor lsn t made rest old new is whole leaves =
-    meanwhile_as before after told client log (undoing memory cursor t made rest) _ old new (goes_to_set memory number cursor lsn t made rest is)
-    (first_call before after told client log (append_call memory t (compensation made) made.undo_next false) _ old new whole leaves)
+undo_meanwhile under told client log memory number cursor lsn t made rest old new is whole leaves =
+    meanwhile_as under told client log (undoing memory cursor t made rest) _ old new (goes_to_set memory number cursor lsn t made rest is)
+    (first_call under told client log (append_call memory t (compensation made) made.undo_next false) _ old new whole leaves)
 
 -- one more set, as far as its record
-pub set_meanwhile : (before after : List ℕ) (told : Bool) (client : ℕ) (first log : State) (plan : Plan Answered) (memory : Memory) (number cursor lsn left less : ℕ)
+pub set_meanwhile : (under : UnderWay) (told : Bool) (client : ℕ) (first log : State) (plan : Plan Answered) (memory : Memory) (number cursor lsn left less : ℕ)
     (rest : Memory → Plan Answered) (old a b : DiskState) → suc less ≡ left → a.nature ≡ old.nature
-    → Leads told client first plan log (undo_from left memory number cursor lsn rest) → Meanwhile before after told client first plan old a
-    → Meanwhile before after told client log (undo_set memory number cursor lsn (behind_set less number cursor rest)) a b
-    → Meanwhile before after told client first plan old b
-set_meanwhile before after told client first log plan memory number cursor lsn left less rest old a b size nature leads so_far next =
-    meanwhile_then before after told client first log plan (undo_from left memory number cursor lsn rest) old a b nature leads so_far
-    (meanwhile_as before after told client log (undo_from (suc less) memory number cursor lsn rest) _ a b (ap (λ (n : ℕ). undo_from n memory number cursor lsn rest) (sym size)) next)
+    → Leads told client first plan log (undo_from left memory number cursor lsn rest) → Meanwhile under told client first plan old a
+    → Meanwhile under told client log (undo_set memory number cursor lsn (behind_set less number cursor rest)) a b
+    → Meanwhile under told client first plan old b
+set_meanwhile under told client first log plan memory number cursor lsn left less rest old a b size nature leads so_far next =
+    meanwhile_then under told client first log plan (undo_from left memory number cursor lsn rest) old a b nature leads so_far
+    (meanwhile_as under told client log (undo_from (suc less) memory number cursor lsn rest) _ a b (ap (λ (n : ℕ). undo_from n memory number cursor lsn rest) (sym size)) next)
 
 -- and then to the next one
-pub next_meanwhile : (before after : List ℕ) (told : Bool) (client : ℕ) (first log mid : State) (plan : Plan Answered) (memory now : Memory) (number cursor lsn left less : ℕ)
+pub next_meanwhile : (under : UnderWay) (told : Bool) (client : ℕ) (first log mid : State) (plan : Plan Answered) (memory now : Memory) (number cursor lsn left less : ℕ)
     (rest : Memory → Plan Answered) (old a b c : DiskState) → suc less ≡ left → a.nature ≡ old.nature → b.nature ≡ a.nature → mid.broken ≡ false
-    → Leads told client first plan log (undo_from left memory number cursor lsn rest) → Meanwhile before after told client first plan old a
+    → Leads told client first plan log (undo_from left memory number cursor lsn rest) → Meanwhile under told client first plan old a
     → Leads told client log (undo_set memory number cursor lsn (behind_set less number cursor rest)) mid (behind_set less number cursor rest now)
-    → Meanwhile before after told client log (undo_set memory number cursor lsn (behind_set less number cursor rest)) a b
-    → (LeavesEither before after client (log_calls.ReadNext now.area cursor) mid → CrashLeavesTable before after b c)
-    → Meanwhile before after told client first plan old c
-next_meanwhile before after told client first log mid plan memory now number cursor lsn left less rest old a b c size nature_a nature_b whole leads so_far set_leads set leaves =
-    set_meanwhile before after told client first log plan memory number cursor lsn left less rest old a c size nature_a leads so_far
-    (meanwhile_then before after told client log mid _ (behind_set less number cursor rest now) a b c nature_b set_leads set
-    (first_call before after told client mid (log_calls.ReadNext now.area cursor) _ b c whole leaves))
+    → Meanwhile under told client log (undo_set memory number cursor lsn (behind_set less number cursor rest)) a b
+    → (LeavesCall under client (log_calls.ReadNext now.area cursor) mid → CrashLeaves under b c)
+    → Meanwhile under told client first plan old c
+next_meanwhile under told client first log mid plan memory now number cursor lsn left less rest old a b c size nature_a nature_b whole leads so_far set_leads set leaves =
+    set_meanwhile under told client first log plan memory number cursor lsn left less rest old a c size nature_a leads so_far
+    (meanwhile_then under told client log mid _ (behind_set less number cursor rest now) a b c nature_b set_leads set
+    (first_call under told client mid (log_calls.ReadNext now.area cursor) _ b c whole leaves))
 
-pub last_meanwhile : (before after : List ℕ) (told : Bool) (client : ℕ) (first log : State) (plan : Plan Answered) (memory : Memory) (number cursor lsn left : ℕ)
+pub last_meanwhile : (under : UnderWay) (told : Bool) (client : ℕ) (first log : State) (plan : Plan Answered) (memory : Memory) (number cursor lsn left : ℕ)
     (rest : Memory → Plan Answered) (old a b : DiskState) → left ≡ 0 → a.nature ≡ old.nature
-    → Leads told client first plan log (undo_from left memory number cursor lsn rest) → Meanwhile before after told client first plan old a
-    → Meanwhile before after told client log (undo_set memory number cursor lsn (λ (m : Memory). with_read_ended m cursor (rest m))) a b
-    → Meanwhile before after told client first plan old b
-last_meanwhile before after told client first log plan memory number cursor lsn left rest old a b none nature leads so_far next =
-    meanwhile_then before after told client first log plan (undo_from left memory number cursor lsn rest) old a b nature leads so_far
-    (meanwhile_as before after told client log (undo_from 0 memory number cursor lsn rest) _ a b (ap (λ (n : ℕ). undo_from n memory number cursor lsn rest) none) next)
+    → Leads told client first plan log (undo_from left memory number cursor lsn rest) → Meanwhile under told client first plan old a
+    → Meanwhile under told client log (undo_set memory number cursor lsn (λ (m : Memory). with_read_ended m cursor (rest m))) a b
+    → Meanwhile under told client first plan old b
+last_meanwhile under told client first log plan memory number cursor lsn left rest old a b none nature leads so_far next =
+    meanwhile_then under told client first log plan (undo_from left memory number cursor lsn rest) old a b nature leads so_far
+    (meanwhile_as under told client log (undo_from 0 memory number cursor lsn rest) _ a b (ap (λ (n : ℕ). undo_from n memory number cursor lsn rest) none) next)
 
 -- from the newest set that stands
-pub read_meanwhile : (before after : List ℕ) (told : Bool) (client : ℕ) (log : State) (memory : Memory) (t : Transaction) (count less : ℕ) (rest : Memory → Plan Answered)
+pub read_meanwhile : (under : UnderWay) (told : Bool) (client : ℕ) (log : State) (memory : Memory) (t : Transaction) (count less : ℕ) (rest : Memory → Plan Answered)
     (old new : DiskState) → suc less ≡ count → log.broken ≡ false
-    → (LeavesEither before after client (log_calls.Read memory.area (newest_standing t) UndoNext) log → CrashLeavesTable before after old new)
-    → Meanwhile before after told client log (undo_sets count memory t rest) old new
-read_meanwhile before after told client log memory t count less rest old new size whole leaves =
-    meanwhile_as before after told client log (undo_sets (suc less) memory t rest) _ old new (ap (λ (n : ℕ). undo_sets n memory t rest) (sym size))
-    (first_call before after told client log (log_calls.Read memory.area (newest_standing t) UndoNext) _ old new whole leaves)
+    → (LeavesCall under client (log_calls.Read memory.area (newest_standing t) UndoNext) log → CrashLeaves under old new)
+    → Meanwhile under told client log (undo_sets count memory t rest) old new
+read_meanwhile under told client log memory t count less rest old new size whole leaves =
+    meanwhile_as under told client log (undo_sets (suc less) memory t rest) _ old new (ap (λ (n : ℕ). undo_sets n memory t rest) (sym size))
+    (first_call under told client log (log_calls.Read memory.area (newest_standing t) UndoNext) _ old new whole leaves)
 
-pub sets_meanwhile : (before after : List ℕ) (told : Bool) (client : ℕ) (log mid : State) (memory now : Memory) (t : Transaction) (count less cursor : ℕ) (entry : LogEntry)
+pub sets_meanwhile : (under : UnderWay) (told : Bool) (client : ℕ) (log mid : State) (memory now : Memory) (t : Transaction) (count less cursor : ℕ) (entry : LogEntry)
     (rest : Memory → Plan Answered) (old a b : DiskState) → suc less ≡ count → log.broken ≡ false → a.nature ≡ old.nature
     → Step told log client (log_calls.Read memory.area (newest_standing t) UndoNext) (happened_of (log_replies.Found cursor entry)) (log_replies.Found cursor entry) mid
     → now ≡ memory
-    → (LeavesEither before after client (log_calls.Read memory.area (newest_standing t) UndoNext) log → CrashLeavesTable before after old a)
-    → Meanwhile before after told client mid (undo_from less now t.number cursor entry.lsn rest) a b
-    → Meanwhile before after told client log (undo_sets count memory t rest) old b
-sets_meanwhile before after told client log mid memory now t count less cursor entry rest old a b size whole nature step same leaves next =
-    meanwhile_as before after told client log (undo_sets (suc less) memory t rest) _ old b (ap (λ (n : ℕ). undo_sets n memory t rest) (sym size))
-    (meanwhile_then before after told client log mid (undo_sets (suc less) memory t rest) (undo_from less memory t.number cursor entry.lsn rest) old a b nature
+    → (LeavesCall under client (log_calls.Read memory.area (newest_standing t) UndoNext) log → CrashLeaves under old a)
+    → Meanwhile under told client mid (undo_from less now t.number cursor entry.lsn rest) a b
+    → Meanwhile under told client log (undo_sets count memory t rest) old b
+sets_meanwhile under told client log mid memory now t count less cursor entry rest old a b size whole nature step same leaves next =
+    meanwhile_as under told client log (undo_sets (suc less) memory t rest) _ old b (ap (λ (n : ℕ). undo_sets n memory t rest) (sym size))
+    (meanwhile_then under told client log mid (undo_sets (suc less) memory t rest) (undo_from less memory t.number cursor entry.lsn rest) old a b nature
     (leads_call told client log _ _ (log_replies.Found cursor entry) mid step)
-    (first_call before after told client log (log_calls.Read memory.area (newest_standing t) UndoNext) _ old a whole leaves)
-    (meanwhile_as before after told client mid (undo_from less now t.number cursor entry.lsn rest) _ a b
+    (first_call under told client log (log_calls.Read memory.area (newest_standing t) UndoNext) _ old a whole leaves)
+    (meanwhile_as under told client mid (undo_from less now t.number cursor entry.lsn rest) _ a b
     (ap (λ (m : Memory). undo_from less m t.number cursor entry.lsn rest) (sym same)) next))

@@ -1,5 +1,5 @@
 -- What a call of a store answers, as a step of its definition.
-use Rattle.std.specs.Prelude.{◌≡◌, ◌⊎◌, ℕ, Bool, true, false, List, Some, None, Result, Ok, Err}
+use Rattle.std.specs.Prelude.{◌≡◌, ◌⊎◌, ℕ, Bool, true, false, Some, None, Result, Ok, Err}
 use Rattle.clfs_model.specs.declared.call.Draft.{Draft}
 use Rattle.clfs_cells.specs.declared.checkpoint.Checkpoint.{Checkpoint}
 use Rattle.clfs_cells.specs.declared.row.Action.{Action}
@@ -16,7 +16,7 @@ use Rattle.clfs_cells.specs.Calls.{Answered, TxnStep, stops, with_read_ended}
 use Rattle.clfs_cells.specs.Plans.{Plan, CarriesOut}
 use Rattle.clfs_model.specs.declared.state.State.{State}
 use Rattle.clfs_cells.specs.Stored.{Store}
-use Rattle.clfs_cells_laws.specs.Crashes.{LeavesTables}
+use Rattle.clfs_txn.specs.UnderWay.{LeavesCalls, UnderWay}
 
 -- an answer as the store's reply
 abbrev pub replied : {A : Type 0} → (A → TxnReply) → Result A TxnRefusal → TxnReply
@@ -77,7 +77,7 @@ checkpoint_of memory = record { cells = memory.cells; last = memory.last }
 -- in those of the rest.
 pub record LeadsTo (A : Type 0) (told : Bool) (client : ℕ) (log : State) (plan : Plan A) (mid : State) (rest : Plan A) : Type 0 where
   pub carried : (result : A) (t : State) → CarriesOut told client mid rest result t → CarriesOut told client log plan result t
-  pub goes : (before after : List ℕ) → LeavesTables before after told client log plan → LeavesTables before after told client mid rest
+  pub goes : (under : UnderWay) → LeavesCalls under told client log plan → LeavesCalls under told client mid rest
 
 -- so with the plan of a store's call
 abbrev pub Leads : Bool → ℕ → State → Plan Answered → State → Plan Answered → Type 0

@@ -3,3 +3,4 @@ pub mod Calls
 pub mod Reading
 pub mod Loading
 pub mod Crashes
+pub mod UnderWay

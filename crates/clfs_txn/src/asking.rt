@@ -1,5 +1,5 @@
 // The calls of the log that a store makes. Each notes whether the log is broken then.
-ghost use Rattle.std.specs.Prelude.{◌≡◌, ◌≤◌, ℕ, Bool, IfErr, IfOk, IsErrOf, List, OnOk, false, replicate};
+ghost use Rattle.std.specs.Prelude.{◌≡◌, ◌≤◌, ℕ, Bool, IfErr, IfOk, IsErrOf, OnOk, false, replicate};
 ghost use Rattle.clfs_model.specs.declared.refusal.Refusal.TheVariants as log_refusals;
 ghost use Rattle.clfs_manager.specs.Written.{WritesDisk};
 ghost use Rattle.clfs_model.specs.declared.call.Call.TheVariants as calls;
@@ -19,13 +19,11 @@ ghost use Rattle.clfs_disk.specs.State.{Passes, TellsContents};
 ghost use Rattle.clfs_model.specs.Happened.{happened_of};
 ghost use Rattle.clfs_model.specs.Step.{Step};
 ghost use Rattle.clfs_model.specs.declared.reply.Reply.{Reply};
-ghost use Rattle.clfs_cells_laws.specs.Crashes.{LeavesEither};
-ghost use Rattle.clfs_txn.specs.Crashes.{CrashLeavesTable};
+ghost use Rattle.clfs_txn.specs.UnderWay.{CrashLeaves, LeavesCall, UnderWay};
 ghost use Rattle.clfs_txn.specs.Reading.{HasLink, IsAt, IsSet};
 
 use crate::table::TableLog;
 use clfs_cells::{Action, RECORD_BYTES, Transaction, TxnRecord, records_are_read_as_written};
-use clfs_cells_laws::the_same_log_has_the_same_table;
 use clfs_disk::Disk;
 use clfs_laws::{
     broken_stays, faults_break, refusals_are_the_calls_own, refusals_change_nothing,
@@ -104,8 +102,8 @@ impl<D: Disk> TableLog<D> {
         ensures no_damage { (container offset at : ℕ) → IsErrOf result (log_refusals.Damaged container offset at) → ⊥ }
         ensures memory { self.new.0.memory ≡ self.old.0.memory }
         ensures whole { OnOk result (self.new.0.log.broken ≡ false) }
-        ensures moments { (before after : List ℕ) → LeavesEither before after self.old.0.memory.client (append_call self.old.0.memory (transaction_of t.now) action undo_next flush) self.old.0.log
-            → CrashLeavesTable before after (D.state self.old.1) (D.state self.new.1) }
+        ensures moments { (under : UnderWay) → LeavesCall under self.old.0.memory.client (append_call self.old.0.memory (transaction_of t.now) action undo_next flush) self.old.0.log
+            → CrashLeaves under (D.state self.old.1) (D.state self.new.1) }
         ensures linked { IfOk result (λ lsn. HasLink self.new.0.log lsn undo_next) }
         ensures cursors { OnOk result ((cursor last : ℕ) (mode : Way) → IsAt self.old.0.log self.old.0.memory.client self.old.0.memory.area cursor mode last
             → IsAt self.new.0.log self.old.0.memory.client self.old.0.memory.area cursor mode last) }
@@ -116,7 +114,6 @@ impl<D: Disk> TableLog<D> {
         unbroken_stays();
         steps_only_add_records();
         records_are_read_as_written();
-        the_same_log_has_the_same_table();
         self.manager.stored();
         let draft = draft_of(self.alloc, t, action, undo_next, flush)?;
         let sizes = Sizes::none(self.alloc);
@@ -160,8 +157,8 @@ impl<D: Disk> TableLog<D> {
         requires changes { changes ≤ 7 }
         ensures step { (told : Bool) → Steps told self.old.0.log self.old.0.memory.client
             (calls.Reserve self.old.0.memory.area (replicate (most_records changes) 24)) replies.Held result self.new.0.log }
-        ensures moments { (before after : List ℕ) → LeavesEither before after self.old.0.memory.client (calls.Reserve self.old.0.memory.area (replicate (most_records changes) 24)) self.old.0.log
-            → CrashLeavesTable before after (D.state self.old.1) (D.state self.new.1) }
+        ensures moments { (under : UnderWay) → LeavesCall under self.old.0.memory.client (calls.Reserve self.old.0.memory.area (replicate (most_records changes) 24)) self.old.0.log
+            → CrashLeaves under (D.state self.old.1) (D.state self.new.1) }
         ensures writes { WritesDisk (IsErrOf result log_refusals.DiskFault) (D.state self.old.1) (D.state self.new.1) }
         ensures kept { IfErr result (λ refusal. is_break refusal ≡ false → self.new.0.log ≡ self.old.0.log) }
         ensures memory { self.new.0.memory ≡ self.old.0.memory }
@@ -171,7 +168,6 @@ impl<D: Disk> TableLog<D> {
         refusals_change_nothing();
         unbroken_stays();
         steps_only_add_records();
-        the_same_log_has_the_same_table();
         self.manager.stored();
         let sizes = sizes_of(self.alloc, changes)?;
         let reply = self
@@ -188,8 +184,8 @@ impl<D: Disk> TableLog<D> {
             (calls.Read self.old.0.memory.area lsn mode) (λ (found : ℕ × Record). replies.Found found.0 found.1) result self.new.0.log }
         ensures writes { WritesDisk (IsErrOf result log_refusals.DiskFault) (D.state self.old.1) (D.state self.new.1) }
         ensures time { Passes Unchanged (D.state self.old.1) (D.state self.new.1) }
-        ensures moments { (before after : List ℕ) → LeavesEither before after self.old.0.memory.client (calls.Read self.old.0.memory.area lsn mode) self.old.0.log
-            → CrashLeavesTable before after (D.state self.old.1) (D.state self.new.1) }
+        ensures moments { (under : UnderWay) → LeavesCall under self.old.0.memory.client (calls.Read self.old.0.memory.area lsn mode) self.old.0.log
+            → CrashLeaves under (D.state self.old.1) (D.state self.new.1) }
         ensures memory { self.new.0.memory ≡ self.old.0.memory }
         ensures whole { OnOk result (self.new.0.log.broken ≡ false) }
         ensures at { IfOk result (λ found. IsAt self.new.0.log self.old.0.memory.client self.old.0.memory.area found.0 mode lsn) }
@@ -200,7 +196,6 @@ impl<D: Disk> TableLog<D> {
         unbroken_stays();
         steps_only_add_records();
         steps_keep_a_state_valid();
-        the_same_log_has_the_same_table();
         self.manager.stored();
         let reply = self
             .manager
@@ -216,8 +211,8 @@ impl<D: Disk> TableLog<D> {
             (calls.ReadNext self.old.0.memory.area cursor) replies.Next result self.new.0.log }
         ensures writes { WritesDisk (IsErrOf result log_refusals.DiskFault) (D.state self.old.1) (D.state self.new.1) }
         ensures time { Passes Unchanged (D.state self.old.1) (D.state self.new.1) }
-        ensures moments { (before after : List ℕ) → LeavesEither before after self.old.0.memory.client (calls.ReadNext self.old.0.memory.area cursor) self.old.0.log
-            → CrashLeavesTable before after (D.state self.old.1) (D.state self.new.1) }
+        ensures moments { (under : UnderWay) → LeavesCall under self.old.0.memory.client (calls.ReadNext self.old.0.memory.area cursor) self.old.0.log
+            → CrashLeaves under (D.state self.old.1) (D.state self.new.1) }
         ensures memory { self.new.0.memory ≡ self.old.0.memory }
         ensures whole { OnOk result (self.new.0.log.broken ≡ false) }
         ensures at { IfOk result (λ entry. (mode : Way) (last : ℕ) → IsAt self.old.0.log self.old.0.memory.client self.old.0.memory.area cursor mode last
@@ -229,7 +224,6 @@ impl<D: Disk> TableLog<D> {
         faults_break();
         unbroken_stays();
         steps_only_add_records();
-        the_same_log_has_the_same_table();
         self.manager.stored();
         let reply = self
             .manager

@@ -22,16 +22,15 @@ ghost use Rattle.clfs_cells.specs.declared.row.TxnRecord.{TxnRecord as Row};
 ghost use Rattle.clfs_cells.specs.declared.told.TxnLoadRefusal.TheVariants as refusals;
 ghost use Rattle.clfs_cells.specs.declared.told.TxnLoadRefusal.{TxnLoadRefusal as Cause};
 ghost use Rattle.clfs_cells_laws.specs.Loads.{IsLoaded, IsNotLoaded};
-ghost use Rattle.clfs_cells_laws.specs.Crashes.{LeavesEither, LeavesTables};
 ghost use Rattle.clfs_txn.specs.Calls.{HasSameArea, LeadsTo};
-ghost use Rattle.clfs_txn.specs.Crashes.{CrashLeavesTable, Meanwhile};
+ghost use Rattle.clfs_txn.specs.UnderWay.{CrashLeaves, LeavesCall, LeavesCalls, Meanwhile, UnderWay};
 ghost use Rattle.clfs_txn.specs.Loading.{GoesForward, IsJoined, IsNotTaken, Taken, left_by, loaded_of, or_all_read, or_ended_read, or_given_up, or_refused, says_broken, to_come, unread};
 ghost use Rattle.clfs_txn.specs.Reading.{IsAt};
 
 use crate::asking::breaks;
 use crate::table::TableLog;
 use clfs_cells::{CHECKPOINT_BYTES, Checkpoint, Memory, Replay, TxnLoadRefusal, TxnRecord};
-use clfs_cells_laws::{loading_comes_to_the_table, the_same_log_has_the_same_table};
+use clfs_cells_laws::loading_comes_to_the_table;
 use clfs_disk::Disk;
 use clfs_laws::{
     broken_stays, faults_break, reading_gives_the_chain, steps_only_add_records, unbroken_stays,
@@ -86,13 +85,12 @@ fn open_stream<D: Disk>(
 ) -> Result<u16, Refusal>
     requires client { IsClient client }
     ensures step { (told : Bool) → Steps told manager.old.0 client (calls.OpenStream table_name) replies.Stream result manager.new.0 }
-    ensures moments { (before after : List ℕ) → manager.old.0.broken ≡ false → LeavesEither before after client (calls.OpenStream table_name) manager.old.0
-        → CrashLeavesTable before after (D.state manager.old.1) (D.state manager.new.1) }
+    ensures moments { (under : UnderWay) → manager.old.0.broken ≡ false → LeavesCall under client (calls.OpenStream table_name) manager.old.0
+        → CrashLeaves under (D.state manager.old.1) (D.state manager.new.1) }
     ensures writes { WritesDisk (IsErrOf result log_refusals.DiskFault) (D.state manager.old.1) (D.state manager.new.1) }
     ensures stopped { manager.old.0.broken ≡ true → manager.new.1 ≡ manager.old.1 }
 {
     ways_of_a_step();
-    the_same_log_has_the_same_table();
     manager.stored();
     if is_broken(manager) {
         return Err(Refusal::Broken);
@@ -134,8 +132,8 @@ fn make_area<D: Disk>(
     requires client { IsClient client }
     ensures step { (told : Bool) (rest : ℕ → ℕ → Plan Loaded)
         → LeadsTo Loaded told client manager.old.0 (in_table_area rest) manager.new.0 (or_refused rest result) }
-    ensures moments { (before after : List ℕ) → manager.old.0.broken ≡ false → LeavesEither before after client (calls.OpenStream table_name) manager.old.0
-        → CrashLeavesTable before after (D.state manager.old.1) (D.state manager.new.1) }
+    ensures moments { (under : UnderWay) → manager.old.0.broken ≡ false → LeavesCall under client (calls.OpenStream table_name) manager.old.0
+        → CrashLeaves under (D.state manager.old.1) (D.state manager.new.1) }
     ensures memory { IfOk result (λ m. m ≡ unread client m.area m.stream) }
     ensures writes { WritesDisk (IsErrOf result log_refusals.DiskFault) (D.state manager.old.1) (D.state manager.new.1) }
     ensures was_whole { OnOk result (manager.old.0.broken ≡ false) }
@@ -329,7 +327,7 @@ impl<D: Disk> TableLog<D> {
         requires unread { self.old.0.memory ≡ unread self.old.0.memory.client self.old.0.memory.area self.old.0.memory.stream }
         ensures step { (told : Bool) → LeadsTo Loaded told self.old.0.memory.client self.old.0.log
             (load_new self.old.0.memory.client self.old.0.memory.area self.old.0.memory.stream) self.new.0.log (or_given_up self.new.0.memory result) }
-        ensures moments { (before after : List ℕ) → Meanwhile before after (D.state self.old.1).nature.tells_contents self.old.0.memory.client self.old.0.log
+        ensures moments { (under : UnderWay) → Meanwhile under (D.state self.old.1).nature.tells_contents self.old.0.memory.client self.old.0.log
             (load_new self.old.0.memory.client self.old.0.memory.area self.old.0.memory.stream) (D.state self.old.1) (D.state self.new.1) }
         ensures writes { WritesDisk (IsErrOf result (refusals.Log log_refusals.DiskFault)) (D.state self.old.1) (D.state self.new.1) }
         ensures area { HasSameArea self.old.0.memory self.new.0.memory }
@@ -348,7 +346,7 @@ impl<D: Disk> TableLog<D> {
         ensures step { LeadsTo Loaded (D.state self.old.1).nature.tells_contents self.old.0.memory.client self.old.0.log
             (load_stream (length self.old.0.log.records) self.old.0.memory.client self.old.0.memory.area self.old.0.memory.stream info.now)
             self.new.0.log (or_given_up self.new.0.memory result) }
-        ensures moments { (before after : List ℕ) → Meanwhile before after (D.state self.old.1).nature.tells_contents self.old.0.memory.client self.old.0.log
+        ensures moments { (under : UnderWay) → Meanwhile under (D.state self.old.1).nature.tells_contents self.old.0.memory.client self.old.0.log
             (load_stream (length self.old.0.log.records) self.old.0.memory.client self.old.0.memory.area self.old.0.memory.stream info.now) (D.state self.old.1) (D.state self.new.1) }
         ensures writes { WritesDisk (IsErrOf result (refusals.Log log_refusals.DiskFault)) (D.state self.old.1) (D.state self.new.1) }
         ensures area { HasSameArea self.old.0.memory self.new.0.memory }
@@ -370,7 +368,7 @@ impl<D: Disk> TableLog<D> {
         ensures step { LeadsTo Loaded (D.state self.old.1).nature.tells_contents self.old.0.memory.client self.old.0.log
             (load_area (length self.old.0.log.records) self.old.0.memory.client self.old.0.memory.area self.old.0.memory.stream)
             self.new.0.log (or_given_up self.new.0.memory result) }
-        ensures moments { (before after : List ℕ) → Meanwhile before after (D.state self.old.1).nature.tells_contents self.old.0.memory.client self.old.0.log
+        ensures moments { (under : UnderWay) → Meanwhile under (D.state self.old.1).nature.tells_contents self.old.0.memory.client self.old.0.log
             (load_area (length self.old.0.log.records) self.old.0.memory.client self.old.0.memory.area self.old.0.memory.stream) (D.state self.old.1) (D.state self.new.1) }
         ensures writes { WritesDisk (IsErrOf result (refusals.Log log_refusals.DiskFault)) (D.state self.old.1) (D.state self.new.1) }
         ensures area { HasSameArea self.old.0.memory self.new.0.memory }
@@ -406,7 +404,7 @@ impl<D: Disk> TableLog<D> {
         ensures step { LeadsTo Loaded (D.state self.1).nature.tells_contents self.0.memory.client self.0.log
             (load_area (length self.0.log.records) self.0.memory.client self.0.memory.area self.0.memory.stream)
             (left_by (λ store. store.0.log) (λ refused. refused.manager.0) result) (ends (loaded_of (λ store. store.0.memory) (λ refused. refused.cause) result)) }
-        ensures moments { (before after : List ℕ) → Meanwhile before after (D.state self.1).nature.tells_contents self.0.memory.client self.0.log
+        ensures moments { (under : UnderWay) → Meanwhile under (D.state self.1).nature.tells_contents self.0.memory.client self.0.log
             (load_area (length self.0.log.records) self.0.memory.client self.0.memory.area self.0.memory.stream)
             (D.state self.1) (D.state (left_by (λ store. store.1) (λ refused. refused.manager.1) result)) }
         ensures writes { WritesDisk (IfErr result (λ refused. refused.cause ≡ refusals.Log log_refusals.DiskFault) × IsErr result)
@@ -435,9 +433,9 @@ impl<D: Disk> TableLog<D> {
         requires area { areas_of manager.0 client ≡ [] }
         ensures step { LoadStep (D.state manager.1).nature.tells_contents manager.0 client
             (loaded_of (λ store. store.0.memory) (λ refused. refused.cause) result) (left_by (λ store. store.0.log) (λ refused. refused.manager.0) result) }
-        ensures moments { (before after : List ℕ) → manager.0.broken ≡ false → CrashLeavesTable before after (D.state manager.1) (D.state manager.1)
-            → LeavesTables before after (D.state manager.1).nature.tells_contents client manager.0 (load_plan (length manager.0.records) client)
-            → CrashLeavesTable before after (D.state manager.1) (D.state (left_by (λ store. store.1) (λ refused. refused.manager.1) result)) }
+        ensures moments { (under : UnderWay) → manager.0.broken ≡ false → CrashLeaves under (D.state manager.1) (D.state manager.1)
+            → LeavesCalls under (D.state manager.1).nature.tells_contents client manager.0 (load_plan (length manager.0.records) client)
+            → CrashLeaves under (D.state manager.1) (D.state (left_by (λ store. store.1) (λ refused. refused.manager.1) result)) }
         ensures loaded { IfOk result (λ store. IsLoaded (D.state manager.1).nature.tells_contents manager.0 client store.0.memory store.0.log) }
         ensures refused { IfErr result (λ refused. IsNotLoaded (D.state manager.1).nature.tells_contents manager.0 client refused.cause refused.manager.0) }
         ensures writes { WritesDisk (IfErr result (λ refused. refused.cause ≡ refusals.Log log_refusals.DiskFault) × IsErr result)

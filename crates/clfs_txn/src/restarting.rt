@@ -1,5 +1,5 @@
 // A checkpoint: a restart area with all cells, above which alone the log is read when the table is loaded again.
-ghost use Rattle.std.specs.Prelude.{◌≡◌, ◌+◌, ◌<◌, ◌^◌, Bool, ℕ, IfErr, IfOk, IsErrOf, List, false, length, true};
+ghost use Rattle.std.specs.Prelude.{◌≡◌, ◌+◌, ◌<◌, ◌^◌, Bool, IfErr, IfOk, IsErrOf, false, length, true};
 ghost use Rattle.clfs_cells.specs.declared.told.TxnRefusal.TheVariants as refusals;
 ghost use Rattle.clfs_model.specs.declared.refusal.Refusal.TheVariants as log_refusals;
 ghost use Rattle.clfs_manager.specs.Written.{WritesDisk};
@@ -10,14 +10,12 @@ ghost use Rattle.clfs_cells.specs.declared.asked.TxnCall.TheVariants as asked;
 ghost use Rattle.clfs_cells.specs.declared.told.TxnReply.TheVariants as replies;
 ghost use Rattle.clfs_cells.specs.Layout.{checkpoint_bytes};
 ghost use Rattle.clfs_cells.specs.Calls.{txn_plan};
-ghost use Rattle.clfs_cells_laws.specs.Crashes.{LeavesEither};
 ghost use Rattle.clfs_txn.specs.Calls.{TxnSteps, checkpoint_of, is_break, is_fault};
-ghost use Rattle.clfs_txn.specs.Crashes.{CrashLeavesTable, Meanwhile};
+ghost use Rattle.clfs_txn.specs.UnderWay.{CrashLeaves, LeavesCall, Meanwhile, UnderWay};
 
 use crate::asking::breaks;
 use crate::table::TableLog;
 use clfs_cells::{Checkpoint, TxnRefusal};
-use clfs_cells_laws::the_same_log_has_the_same_table;
 use clfs_disk::Disk;
 use clfs_laws::{
     faults_break, numbers_fit_their_types, refusals_change_nothing, steps_only_add_records,
@@ -55,9 +53,9 @@ impl<D: Disk> TableLog<D> {
         requires { self.old.0.log.broken ≡ false }
         ensures step { (told : Bool) → Steps told self.old.0.log self.old.0.memory.client
             (calls.WriteRestart self.old.0.memory.area (checkpoint_bytes (checkpoint_of self.old.0.memory)) base false) log_replies.Placed result self.new.0.log }
-        ensures moments { (before after : List ℕ) → LeavesEither before after self.old.0.memory.client
+        ensures moments { (under : UnderWay) → LeavesCall under self.old.0.memory.client
             (calls.WriteRestart self.old.0.memory.area (checkpoint_bytes (checkpoint_of self.old.0.memory)) base false) self.old.0.log
-            → CrashLeavesTable before after (D.state self.old.1) (D.state self.new.1) }
+            → CrashLeaves under (D.state self.old.1) (D.state self.new.1) }
         ensures writes { WritesDisk (IsErrOf result log_refusals.DiskFault) (D.state self.old.1) (D.state self.new.1) }
         ensures kept { IfErr result (λ refusal. is_break refusal ≡ false → self.new.0.log ≡ self.old.0.log) }
         ensures memory { self.new.0.memory ≡ self.old.0.memory }
@@ -67,7 +65,6 @@ impl<D: Disk> TableLog<D> {
         refusals_change_nothing();
         unbroken_stays();
         steps_only_add_records();
-        the_same_log_has_the_same_table();
         self.manager.stored();
         let checkpoint = self.memory.checkpoint();
         let bytes = bytes_of(self.alloc, &checkpoint)?;
@@ -87,7 +84,7 @@ impl<D: Disk> TableLog<D> {
         requires whole { self.old.0.log.broken ≡ false }
         requires none { length self.old.0.memory.transactions ≡ 0 }
         ensures step { (told : Bool) → TxnSteps told self.old.0 asked.Checkpoint (λ _. replies.Done) result self.new.0 }
-        ensures moments { (before after : List ℕ) → Meanwhile before after (D.state self.old.1).nature.tells_contents self.old.0.memory.client self.old.0.log
+        ensures moments { (under : UnderWay) → Meanwhile under (D.state self.old.1).nature.tells_contents self.old.0.memory.client self.old.0.log
             (txn_plan self.old.0.log self.old.0.memory asked.Checkpoint) (D.state self.old.1) (D.state self.new.1) }
         ensures writes { WritesDisk (IsErrOf result (refusals.Log log_refusals.DiskFault)) (D.state self.old.1) (D.state self.new.1) }
         ensures kept { IfErr result (λ refusal. is_fault refusal ≡ false → self.new.0 ≡ self.old.0) }
@@ -105,7 +102,7 @@ impl<D: Disk> TableLog<D> {
     // Writes a restart area with all cells.
     pub(crate) fn checkpoint(&mut self) -> Result<(), TxnRefusal>
         ensures step { (told : Bool) → TxnSteps told self.old.0 asked.Checkpoint (λ _. replies.Done) result self.new.0 }
-        ensures moments { (before after : List ℕ) → Meanwhile before after (D.state self.old.1).nature.tells_contents self.old.0.memory.client self.old.0.log
+        ensures moments { (under : UnderWay) → Meanwhile under (D.state self.old.1).nature.tells_contents self.old.0.memory.client self.old.0.log
             (txn_plan self.old.0.log self.old.0.memory asked.Checkpoint) (D.state self.old.1) (D.state self.new.1) }
         ensures writes { WritesDisk (IsErrOf result (refusals.Log log_refusals.DiskFault)) (D.state self.old.1) (D.state self.new.1) }
         ensures kept { IfErr result (λ refusal. is_fault refusal ≡ false → self.new.0 ≡ self.old.0) }

@@ -1,5 +1,5 @@
 // Setting a cell.
-ghost use Rattle.std.specs.Prelude.{◌≡◌, ◌<◌, ◌⊎◌, ℕ, Bool, IfErr, IsErrOf, List, MatchResult, None, Some, false, true};
+ghost use Rattle.std.specs.Prelude.{◌≡◌, ◌<◌, ◌⊎◌, Bool, IfErr, IsErrOf, MatchResult, None, Some, false, true};
 ghost use Rattle.clfs_manager.specs.Written.{WritesDisk};
 ghost use Rattle.clfs_model.specs.declared.refusal.Refusal.TheVariants as log_refusals;
 ghost use Rattle.clfs_cells.specs.declared.asked.TxnCall.TheVariants as asked;
@@ -9,7 +9,7 @@ ghost use Rattle.clfs_cells.specs.Calls.{change_to, txn_plan};
 ghost use Rattle.clfs_cells.specs.Kept.{transaction_of};
 ghost use Rattle.clfs_cells.specs.Stored.{transaction};
 ghost use Rattle.clfs_txn.specs.Calls.{IsFound, IsNotFound, TxnSteps, is_fault};
-ghost use Rattle.clfs_txn.specs.Crashes.{Meanwhile};
+ghost use Rattle.clfs_txn.specs.UnderWay.{Meanwhile, UnderWay};
 
 use crate::table::TableLog;
 use clfs_cells::{Action, Change, Transaction, TxnRefusal};
@@ -53,7 +53,7 @@ impl<D: Disk> TableLog<D> {
         requires cell { cell < 32 }
         requires found { IsFound self.old.0 txn (transaction_of t.now) }
         ensures step { (told : Bool) → TxnSteps told self.old.0 (asked.Set txn cell value) (λ _. replies.Done) result self.new.0 }
-        ensures moments { (before after : List ℕ) → Meanwhile before after (D.state self.old.1).nature.tells_contents self.old.0.memory.client self.old.0.log
+        ensures moments { (under : UnderWay) → Meanwhile under (D.state self.old.1).nature.tells_contents self.old.0.memory.client self.old.0.log
             (txn_plan self.old.0.log self.old.0.memory (asked.Set txn cell value)) (D.state self.old.1) (D.state self.new.1) }
         ensures writes { WritesDisk (IsErrOf result (refusals.Log log_refusals.DiskFault)) (D.state self.old.1) (D.state self.new.1) }
         ensures kept { IfErr result (λ refusal. is_fault refusal ≡ false → self.new.0 ≡ self.old.0) }
@@ -80,7 +80,7 @@ impl<D: Disk> TableLog<D> {
     pub(crate) fn set(&mut self, txn: u32, cell: u16, value: u64) -> Result<(), TxnRefusal>
         requires { cell < 32 }
         ensures step { (told : Bool) → TxnSteps told self.old.0 (asked.Set txn cell value) (λ _. replies.Done) result self.new.0 }
-        ensures moments { (before after : List ℕ) → Meanwhile before after (D.state self.old.1).nature.tells_contents self.old.0.memory.client self.old.0.log
+        ensures moments { (under : UnderWay) → Meanwhile under (D.state self.old.1).nature.tells_contents self.old.0.memory.client self.old.0.log
             (txn_plan self.old.0.log self.old.0.memory (asked.Set txn cell value)) (D.state self.old.1) (D.state self.new.1) }
         ensures writes { WritesDisk (IsErrOf result (refusals.Log log_refusals.DiskFault)) (D.state self.old.1) (D.state self.new.1) }
         ensures kept { IfErr result (λ refusal. is_fault refusal ≡ false → self.new.0 ≡ self.old.0) }

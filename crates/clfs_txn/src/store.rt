@@ -22,6 +22,7 @@ ghost use Rattle.clfs_cells_laws.specs.Tables.{numbers_of};
 ghost use Rattle.clfs_txn.specs.Calls.{TxnSteps, is_fault, is_of_log, replied};
 ghost use Rattle.clfs_txn.specs.Crashes.{CrashLeavesTable, KeepsTable, LeavesTableOf};
 ghost use Rattle.clfs_txn.specs.Loading.{left_by, loaded_of};
+ghost use Rattle.clfs_txn.specs.UnderWay.{asking, loading_of};
 
 use crate::loading::TxnLoadRefused;
 use crate::table::TableLog;
@@ -70,7 +71,7 @@ impl<D: Disk> TxnStore<D> {
         ensures step { LoadStep (D.state manager.1).nature.tells_contents manager.0 client
             (loaded_of (λ store. store.0.memory) (λ refused. refused.cause) result) (left_by (λ store. store.0.log) (λ refused. refused.manager.0) result) }
         ensures moments { manager.0.broken ≡ false → IsSafeLog manager.0
-            → CrashLeavesTable (table manager.0) (table manager.0) (D.state manager.1) (D.state (left_by (λ store. store.1) (λ refused. refused.manager.1) result)) }
+            → CrashLeavesTable (table manager.0) (table manager.0) (loading_of manager.0 client) (D.state manager.1) (D.state (left_by (λ store. store.1) (λ refused. refused.manager.1) result)) }
         ensures safe { IfOk result (λ store. TellsContents (D.state manager.1) → manager.0.broken ≡ false → IsSafeLog manager.0
             → IsSafe store.0.log store.0.memory.stream) }
         ensures loaded { IfOk result (λ store. IsLoaded (D.state manager.1).nature.tells_contents manager.0 client store.0.memory store.0.log) }
@@ -184,7 +185,7 @@ impl<D: Disk> TxnStore<D> {
         ensures table { KeepsTable (D.state self.old.1) self.old.0 (asked.Commit txn) (λ _. replies.Done) result self.new.0 }
         ensures lasts { OnOk result (self.old.0.log.broken ≡ false → IsSafe self.old.0.log self.old.0.memory.stream
             → CrashLeavesTable (table_joined self.old.0.log self.old.0.memory.stream txn) (table_joined self.old.0.log self.old.0.memory.stream txn)
-            (D.state self.new.1) (D.state self.new.1)) }
+            (asking self.old.0 (asked.Commit txn)) (D.state self.new.1) (D.state self.new.1)) }
         ensures kept { IsErrOf result (refusals.Log log_refusals.NoMemory) → self.new.0 ≡ self.old.0 }
         ensures writes { WritesDisk (IsErrOf result (refusals.Log log_refusals.DiskFault)) (D.state self.old.1) (D.state self.new.1) }
         ensures stopped { self.old.0.log.broken ≡ true → self.new.1 ≡ self.old.1 }

@@ -1,6 +1,6 @@
 // Taking back sets, the newest first. Which set comes next is what the log's undo-next links say; its cell and values are those that the store
 // remembers. A compensation is appended before the next set is looked for, so out of memory leaves some sets taken back and the others standing.
-ghost use Rattle.std.specs.Prelude.{◌≡◌, ◌<◌, ◌≤◌, ℕ, Bool, IfErr, IsErrOf, IsSome, List, OnOk, Some, false, length, true};
+ghost use Rattle.std.specs.Prelude.{◌≡◌, ◌<◌, ◌≤◌, ℕ, Bool, IfErr, IsErrOf, IsSome, OnOk, Some, false, length, true};
 ghost use Rattle.clfs_cells.specs.declared.told.TxnRefusal.TheVariants as refusals;
 ghost use Rattle.clfs_model.specs.declared.refusal.Refusal.TheVariants as log_refusals;
 ghost use Rattle.clfs_lsn.specs.declared.cursor.Mode.TheVariants.{UndoNext};
@@ -13,7 +13,7 @@ ghost use Rattle.clfs_cells.specs.Kept.{transaction_of};
 ghost use Rattle.clfs_cells.specs.Plans.{Plan};
 ghost use Rattle.clfs_cells.specs.Stored.{Memory, standing, transaction};
 ghost use Rattle.clfs_txn.specs.Calls.{HasSameArea, IsFound, Leads, TxnSteps, is_of_log, or_ended, or_stopped};
-ghost use Rattle.clfs_txn.specs.Crashes.{Meanwhile};
+ghost use Rattle.clfs_txn.specs.UnderWay.{Meanwhile, UnderWay};
 ghost use Rattle.clfs_txn.specs.Reading.{IsAt, IsSet, IsSetOf};
 
 use crate::table::TableLog;
@@ -50,7 +50,7 @@ impl<D: Disk> TableLog<D> {
         requires set { IsSet self.old.0.memory number lsn }
         ensures step { (told : Bool) (cursor : ℕ) (rest : Memory → Plan Answered) → Leads told self.old.0.memory.client self.old.0.log
             (undo_set self.old.0.memory number cursor lsn rest) self.new.0.log (or_ended cursor rest result self.new.0.memory) }
-        ensures moments { (before after : List ℕ) (cursor : ℕ) (rest : Memory → Plan Answered) → Meanwhile before after (D.state self.old.1).nature.tells_contents
+        ensures moments { (under : UnderWay) (cursor : ℕ) (rest : Memory → Plan Answered) → Meanwhile under (D.state self.old.1).nature.tells_contents
             self.old.0.memory.client self.old.0.log (undo_set self.old.0.memory number cursor lsn rest) (D.state self.old.1) (D.state self.new.1) }
         ensures writes { WritesDisk (IsErrOf result log_refusals.DiskFault) (D.state self.old.1) (D.state self.new.1) }
         ensures no_damage { (container offset at : ℕ) → IsErrOf result (log_refusals.Damaged container offset at) → ⊥ }
@@ -84,7 +84,7 @@ impl<D: Disk> TableLog<D> {
         ensures step { (rest : Memory → Plan Answered) → Leads (D.state self.old.1).nature.tells_contents self.old.0.memory.client self.old.0.log
             (undo_from more self.old.0.memory number cursor first rest) self.new.0.log
             (with_read_ended self.new.0.memory cursor (or_stopped rest result self.new.0.memory)) }
-        ensures moments { (before after : List ℕ) (rest : Memory → Plan Answered) → Meanwhile before after (D.state self.old.1).nature.tells_contents
+        ensures moments { (under : UnderWay) (rest : Memory → Plan Answered) → Meanwhile under (D.state self.old.1).nature.tells_contents
             self.old.0.memory.client self.old.0.log (undo_from more self.old.0.memory number cursor first rest) (D.state self.old.1) (D.state self.new.1) }
         ensures writes { WritesDisk (IsErrOf result log_refusals.DiskFault) (D.state self.old.1) (D.state self.new.1) }
         ensures damage { TellsContents (D.state self.old.1) → (container offset at : ℕ) → IsErrOf result (log_refusals.Damaged container offset at) → ⊥ }
@@ -107,7 +107,7 @@ impl<D: Disk> TableLog<D> {
         requires few { count ≤ length (standing (transaction_of t.now)) }
         ensures step { (rest : Memory → Plan Answered) → Leads (D.state self.old.1).nature.tells_contents self.old.0.memory.client self.old.0.log
             (undo_sets count self.old.0.memory (transaction_of t.now) rest) self.new.0.log (or_stopped rest result self.new.0.memory) }
-        ensures moments { (before after : List ℕ) (rest : Memory → Plan Answered) → Meanwhile before after (D.state self.old.1).nature.tells_contents
+        ensures moments { (under : UnderWay) (rest : Memory → Plan Answered) → Meanwhile under (D.state self.old.1).nature.tells_contents
             self.old.0.memory.client self.old.0.log (undo_sets count self.old.0.memory (transaction_of t.now) rest) (D.state self.old.1) (D.state self.new.1) }
         ensures writes { WritesDisk (IsErrOf result log_refusals.DiskFault) (D.state self.old.1) (D.state self.new.1) }
         ensures damage { TellsContents (D.state self.old.1) → (container offset at : ℕ) → IsErrOf result (log_refusals.Damaged container offset at) → ⊥ }
@@ -128,7 +128,7 @@ impl<D: Disk> TableLog<D> {
     fn back_open(&mut self, t: &Transaction, txn: u32, kept: u16) -> Result<(), TxnRefusal>
         requires { IsFound self.old.0 txn (transaction_of t.now) }
         ensures step { TxnSteps (D.state self.old.1).nature.tells_contents self.old.0 (asked.Back txn kept) (λ _. replies.Done) result self.new.0 }
-        ensures moments { (before after : List ℕ) → Meanwhile before after (D.state self.old.1).nature.tells_contents self.old.0.memory.client self.old.0.log
+        ensures moments { (under : UnderWay) → Meanwhile under (D.state self.old.1).nature.tells_contents self.old.0.memory.client self.old.0.log
             (txn_plan self.old.0.log self.old.0.memory (asked.Back txn kept)) (D.state self.old.1) (D.state self.new.1) }
         ensures writes { WritesDisk (IsErrOf result (refusals.Log log_refusals.DiskFault)) (D.state self.old.1) (D.state self.new.1) }
         ensures damage { TellsContents (D.state self.old.1) → (container offset at : ℕ) → IsErrOf result (refusals.Log (log_refusals.Damaged container offset at)) → ⊥ }
@@ -147,7 +147,7 @@ impl<D: Disk> TableLog<D> {
     // A transaction's sets are taken back, the newest first, until so many stand.
     pub(crate) fn back(&mut self, txn: u32, kept: u16) -> Result<(), TxnRefusal>
         ensures step { TxnSteps (D.state self.old.1).nature.tells_contents self.old.0 (asked.Back txn kept) (λ _. replies.Done) result self.new.0 }
-        ensures moments { (before after : List ℕ) → Meanwhile before after (D.state self.old.1).nature.tells_contents self.old.0.memory.client self.old.0.log
+        ensures moments { (under : UnderWay) → Meanwhile under (D.state self.old.1).nature.tells_contents self.old.0.memory.client self.old.0.log
             (txn_plan self.old.0.log self.old.0.memory (asked.Back txn kept)) (D.state self.old.1) (D.state self.new.1) }
         ensures writes { WritesDisk (IsErrOf result (refusals.Log log_refusals.DiskFault)) (D.state self.old.1) (D.state self.new.1) }
         ensures damage { TellsContents (D.state self.old.1) → (container offset at : ℕ) → IsErrOf result (refusals.Log (log_refusals.Damaged container offset at)) → ⊥ }
@@ -164,7 +164,7 @@ impl<D: Disk> TableLog<D> {
     fn roll_back_open(&mut self, t: &Transaction, txn: u32) -> Result<(), TxnRefusal>
         requires { IsFound self.old.0 txn (transaction_of t.now) }
         ensures step { TxnSteps (D.state self.old.1).nature.tells_contents self.old.0 (asked.Rollback txn) (λ _. replies.Done) result self.new.0 }
-        ensures moments { (before after : List ℕ) → Meanwhile before after (D.state self.old.1).nature.tells_contents self.old.0.memory.client self.old.0.log
+        ensures moments { (under : UnderWay) → Meanwhile under (D.state self.old.1).nature.tells_contents self.old.0.memory.client self.old.0.log
             (txn_plan self.old.0.log self.old.0.memory (asked.Rollback txn)) (D.state self.old.1) (D.state self.new.1) }
         ensures writes { WritesDisk (IsErrOf result (refusals.Log log_refusals.DiskFault)) (D.state self.old.1) (D.state self.new.1) }
         ensures damage { TellsContents (D.state self.old.1) → (container offset at : ℕ) → IsErrOf result (refusals.Log (log_refusals.Damaged container offset at)) → ⊥ }
@@ -182,7 +182,7 @@ impl<D: Disk> TableLog<D> {
     // All that a transaction did is taken back, and it ends.
     pub(crate) fn rollback(&mut self, txn: u32) -> Result<(), TxnRefusal>
         ensures step { TxnSteps (D.state self.old.1).nature.tells_contents self.old.0 (asked.Rollback txn) (λ _. replies.Done) result self.new.0 }
-        ensures moments { (before after : List ℕ) → Meanwhile before after (D.state self.old.1).nature.tells_contents self.old.0.memory.client self.old.0.log
+        ensures moments { (under : UnderWay) → Meanwhile under (D.state self.old.1).nature.tells_contents self.old.0.memory.client self.old.0.log
             (txn_plan self.old.0.log self.old.0.memory (asked.Rollback txn)) (D.state self.old.1) (D.state self.new.1) }
         ensures writes { WritesDisk (IsErrOf result (refusals.Log log_refusals.DiskFault)) (D.state self.old.1) (D.state self.new.1) }
         ensures damage { TellsContents (D.state self.old.1) → (container offset at : ℕ) → IsErrOf result (refusals.Log (log_refusals.Damaged container offset at)) → ⊥ }

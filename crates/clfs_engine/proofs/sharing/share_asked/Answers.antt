@@ -1,4 +1,4 @@
-use Rattle.std.proofs.Common.{refl, map, length, ap, subst, List, arith}
+use Rattle.std.proofs.Common.{refl, map, length, ap, subst, List, [], arith}
 use Rattle.std.proofs.lemmas.List.{length-map}
 use Rattle.clfs_command.specs.Share.{paths_of}
 use Rattle.clfs_command.specs.declared.share.PathPair.{PathPair}
@@ -25,10 +25,10 @@ share_log-requires-clause-few g c =
 pub returns-in-Ok : goal.returns-in-Ok
 returns-in-Ok g c =
     let made = subst (λ (clients : List PathPair). AreOpeners (g.M.PathOpeners.makes c.args.maker.now) 1 (map paths_of clients) c.in-Ok.openers.items) c.deref.ensures.value c.in-Ok.ensures in
-    ends_also g.D.Disk.state _ _ (λ journal last serves. (c.in-Ok.openers.items, (made, serves))) _ _ _ _ _ _ _ _ _ c.share_log.ensures
+    ends_also _ _ (λ journal last serves. (c.in-Ok.openers.items, (made, serves))) _ _ _ _ _ _ _ _ _ c.share_log.ensures
 
 -- there was no memory for what opens the paths
 pub returns-in-Err : goal.returns-in-Err
 returns-in-Err g c =
     rw (c.unserved.ensures.status, c.unserved.ensures.disk, c.unserved.ensures.clients)
-    (share_ran_out g.D.Disk.state _ 5 _ (g.D.Disk.state c.args.disk) 0 _ _ (c.memory_runs_out_at_once.ensures.alone c.args.disk) refl refl)
+    (share_ran_out _ 5 _ (g.D.Disk.state c.args.disk) [] _ _ (c.memory_runs_out_at_once.ensures.alone c.args.disk) refl refl)

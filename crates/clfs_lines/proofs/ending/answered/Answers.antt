@@ -9,5 +9,5 @@ returns-in-Err-TooLong g c =
     let b = c.answer_script.new.answering in
     let script = c.in-Err-TooLong.ensures in
     let stopped = rw c.in-Err-TooLong.field-0-is at script.stopped in
-    ends_at_limit (script_limits c.args.most) (AnswersThrough g.A.Answering.answers a b) (AnswersInPart g.A.Answering.answers a b) _ _ _ _ _ _ _ _ _ _
+    ends_at_limit (script_limits c.args.most) c.args.incomplete (AnswersThrough g.A.Answering.answers a b) (AnswersInPart g.A.Answering.answers a b) _ _ _ _ _ _ _ _ _ _
     script.source_count script.sink_count c.printed.result stopped c.printed.ensures.status c.printed.ensures.whole c.printed.ensures.front c.printed.ensures.cause c.printed.ensures.later

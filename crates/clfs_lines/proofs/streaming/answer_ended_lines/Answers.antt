@@ -5,17 +5,18 @@ use Rattle.clfs_lines.specs.Through.{AnswersThrough, AnswersInPart}
 use Rattle.clfs_lines.specs.Ends.{AppendsFront}
 use Rattle.clfs_lines.specs.Stopped.{HasStopped}
 use Rattle.clfs_lines.specs.Taken.{script_limits}
+use Rattle.clfs_lines.specs.declared.incomplete.IncompleteLine.{IncompleteLine}
 use Rattle.clfs_lines.specs.declared.stop.Stop.{Stop}
 use Rattle.clfs_lines.proofs.NoFeeds.{none_in_none, none_in_same, none_in_both}
 use Rattle.clfs_lines.proofs.Pieces.{line_in, line_stopped_by, handed_on, reading_begins, reading_line, reading_piece, reading_at, reading_kept, reading_ends, source_stops, limit_stops, line_stops, memory_stops, unwritten_stops, sink_stops}
 use Rattle.clfs_lines.proofs.streaming.answer_ended_lines.Goals as goal
 
 pub returns-in_default-clause-stopped : goal.returns-in_default-clause-stopped
-returns-in_default-clause-stopped g c =
+returns-in_default-clause-stopped g c incomplete =
     let a = c.args.answering.now in
     let left = g.S.Source.left c.args.source.now in
     let written = g.K.Sink.written c.args.sink.now in
-    memory_stops c.args.most _ g.A.Answering.answers a left written left [] 0 a written (reading_begins c.args.most _ g.A.Answering.answers a left written [] refl)
+    memory_stops c.args.most _ g.A.Answering.answers a left written incomplete left [] 0 a written (reading_begins c.args.most _ g.A.Answering.answers a left written [] refl)
 
 pub lines-init : goal.lines-init
 lines-init g c =
@@ -44,16 +45,16 @@ returns-in_err-answer_joined-clause-stopped g c =
     let split : carried ++ c.lines.piece ≡ (carried ++ line) ++ 10 ∷ after = line_in carried c.lines.piece line after (sym c.rest.ensures ∙ c.in-Some.ensures.1) in
     let reading = reading_at c.args.most _ g.A.Answering.answers a left written left_now (carried ++ c.lines.piece) ((carried ++ line) ++ 10 ∷ after) c.lines.given mid w c.lines.invariant.reading split in
     let one = none_in_both carried line c.lines.invariant.one c.in-Some.ensures.0 in
-    let P : Stop → Type 0 = λ (stop : Stop). HasStopped (script_limits c.args.most) (AnswersThrough g.A.Answering.answers a b) (AnswersInPart g.A.Answering.answers a b) stop left left_now written w
+    let P : Stop → Type 0 = λ (stop : Stop). (incomplete : IncompleteLine) → HasStopped (script_limits c.args.most) incomplete (AnswersThrough g.A.Answering.answers a b) (AnswersInPart g.A.Answering.answers a b) stop left left_now written w
     (g.S.Source.faults c.args.source.now) (g.S.Source.faults c.lines.source) (g.K.Sink.faults c.args.sink.now) (g.K.Sink.faults c.lines.sink) in
     handed_on P c.from_residual.result c.in_err-answer_joined.field-0.0 c.from_residual.ensures.1
     (line_stopped_by P c.in_err-answer_joined.field-0.0 (carried ++ line) _ _ c.in_err-answer_joined.ensures.stopped
-    (λ long same. rw same (line_stops c.args.most _ g.A.Answering.answers a left written left_now (carried ++ line) (10 ∷ after) c.lines.given mid w reading one long))
-    (λ few same. rw same (memory_stops c.args.most _ g.A.Answering.answers a left written left_now ((carried ++ line) ++ 10 ∷ after) c.lines.given mid w reading))
-    (λ few behind. unwritten_stops c.args.most _ g.A.Answering.answers a left written left_now (carried ++ line) after c.lines.given mid b w reading one few behind))
+    (λ long same incomplete. rw same (line_stops c.args.most _ g.A.Answering.answers a left written left_now (carried ++ line) (10 ∷ after) c.lines.given mid w reading one long))
+    (λ few same incomplete. rw same (memory_stops c.args.most _ g.A.Answering.answers a left written incomplete left_now ((carried ++ line) ++ 10 ∷ after) c.lines.given mid w reading))
+    (λ few behind incomplete. unwritten_stops c.args.most _ g.A.Answering.answers a left written incomplete left_now (carried ++ line) after c.lines.given mid b w reading one few behind))
 
 pub returns-in_default-write_all-clause-stopped : goal.returns-in_default-write_all-clause-stopped
-returns-in_default-write_all-clause-stopped g c =
+returns-in_default-write_all-clause-stopped g c incomplete =
     let a = c.args.answering.now in
     let left = g.S.Source.left c.args.source.now in
     let left_now = g.S.Source.left c.lines.source in
@@ -70,7 +71,7 @@ returns-in_default-write_all-clause-stopped g c =
     let front : AppendsFront w1 w2 c.answer_joined.new.out = subst (λ (text : List ℕ). AppendsFront w1 w2 text) c.as_slice.ensures c.in_default-write_all.ensures.err in
     let rose = c.in_default-write_all.ensures.cause.failed in (
       omega (arith, rose, c.lines.invariant.sink_count),
-      sink_stops c.args.most _ g.A.Answering.answers a left written left_now (carried ++ line) after c.lines.given mid c.cleared-reply.result c.answer_joined.new.out b w1 w2 reading
+      sink_stops c.args.most _ g.A.Answering.answers a left written incomplete left_now (carried ++ line) after c.lines.given mid c.cleared-reply.result c.answer_joined.new.out b w1 w2 reading
           (none_in_both carried line c.lines.invariant.one c.in-Some.ensures.0) c.in_ok-answer_joined.ensures.short c.in_ok-answer_joined.ensures.ok c.cleared-reply.ensures front,
     )
 
@@ -114,17 +115,17 @@ returns-in_err-carry-clause-stopped g c =
     let same : carried ++ c.lines.piece ≡ (carried ++ rest) ++ [] = ap (λ (bytes : List ℕ). carried ++ bytes) (sym c.rest-in-lines.ensures) ∙ sym (append-nil (carried ++ rest)) in
     let reading = reading_at c.args.most _ g.A.Answering.answers a left written left_now (carried ++ c.lines.piece) ((carried ++ rest) ++ []) c.lines.given b w c.lines.invariant.reading same in
     let one = none_in_both carried rest c.lines.invariant.one (none_in_same rest c.rest.result.now (c.rest-in-lines.ensures ∙ sym c.rest.ensures) c.in_default-ended_line.ensures) in
-    let P : Stop → Type 0 = λ (stop : Stop). HasStopped (script_limits c.args.most) (AnswersThrough g.A.Answering.answers a b) (AnswersInPart g.A.Answering.answers a b) stop left left_now written w
+    let P : Stop → Type 0 = λ (stop : Stop). (incomplete : IncompleteLine) → HasStopped (script_limits c.args.most) incomplete (AnswersThrough g.A.Answering.answers a b) (AnswersInPart g.A.Answering.answers a b) stop left left_now written w
     (g.S.Source.faults c.args.source.now) (g.S.Source.faults c.lines.source) (g.K.Sink.faults c.args.sink.now) (g.K.Sink.faults c.lines.sink) in
-    let stops = memory_stops c.args.most _ g.A.Answering.answers a left written left_now ((carried ++ rest) ++ []) c.lines.given b w reading in
+    let stops = λ (incomplete : IncompleteLine). memory_stops c.args.most _ g.A.Answering.answers a left written incomplete left_now ((carried ++ rest) ++ []) c.lines.given b w reading in
     handed_on P c.from_residual-in_err-carry.result c.in_err-carry.field-0.0 c.from_residual-in_err-carry.ensures.1
     (line_stopped_by P c.in_err-carry.field-0.0 (carried ++ rest) _ _ c.in_err-carry.ensures.stopped
-    (λ long same. line_stops c.args.most _ g.A.Answering.answers a left written left_now (carried ++ rest) [] c.lines.given b w reading one long)
+    (λ long same incomplete. line_stops c.args.most _ g.A.Answering.answers a left written left_now (carried ++ rest) [] c.lines.given b w reading one long)
     (λ few same. stops) (λ few same. stops))
 
 pub returns-then-given-limit-clause-stopped :
     goal.returns-then-given-limit-clause-stopped
-returns-then-given-limit-clause-stopped g c =
+returns-then-given-limit-clause-stopped g c incomplete =
     let carried : List ℕ = c.lines.carried.items in
     let rest = none_in_same c.lines.piece c.rest.result.now (sym c.rest.ensures) c.in_default-ended_line.ensures in
     limit_stops c.args.most _ g.A.Answering.answers c.args.answering.now (g.S.Source.left c.args.source.now) (g.K.Sink.written c.args.sink.now)
@@ -132,7 +133,7 @@ returns-then-given-limit-clause-stopped g c =
     (g.K.Sink.written c.lines.sink) c.lines.invariant.reading (none_in_both carried c.lines.piece c.lines.invariant.one rest) c.if-given-limit.true
 
 pub returns-in_default-fill-clause-stopped : goal.returns-in_default-fill-clause-stopped
-returns-in_default-fill-clause-stopped g c =
+returns-in_default-fill-clause-stopped g c incomplete =
     let a = c.args.answering.now in
     let left = g.S.Source.left c.args.source.now in
     let written = g.K.Sink.written c.args.sink.now in

@@ -1,4 +1,4 @@
-use Rattle.clfs_operations.proofs.Crashing.{faultless_step, stands_as}
+use Rattle.clfs_operations.proofs.Crashing.{faultless_step, stands_as, survives_by}
 use Rattle.clfs_operations.proofs.OnlyRead.{bad_one}
 use Rattle.clfs_operations.proofs.answering.reply_to.Goals as goal
 
@@ -11,7 +11,7 @@ returns-in-Step g c =
       step = is.step;
       damage = is.damage;
       writes = is.writes;
-      crash = is.moments;
+      crash = survives_by c.in-Step.client c.in-Step.call.now c.step.result old.0 (g.D.Disk.state old.1) (g.D.Disk.state after.1) is.moments is.no_memory;
       stopped = λ broken. stands_as g.D.Disk.state old.1 after.1 (is.stopped broken);
       faultless = faultless_step c.faults_break.ensures.fault c.broken_stays.ensures.calls (g.D.Disk.state old.1).nature.tells_contents old.0 c.in-Step.client c.in-Step.call.now
           c.step.result after.0 is.step;

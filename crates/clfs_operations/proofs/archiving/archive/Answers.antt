@@ -19,7 +19,7 @@ pub returns-in-Err-clause-ends : goal.returns-in-Err-clause-ends
 returns-in-Err-clause-ends g c =
     let load = c.in-Err.ensures in
     log_refusal_ends c.refused-status.result c.in-Err.field-0.cause (g.D.Disk.state c.args.disk) (g.D.Disk.state c.in-Err.field-0.disk) _ _ _ _
-    (record { is = load.refused; cause = load.cause; steady = load.steady; same = load.same_refused.0; time = load.same_refused.1 })
+    (record { is = load.refused; cause = load.cause; steady = load.steady; same = load.same_refused.0; time = load.same_refused.1 }) load.place
     c.refused-status.ensures
 
 pub write_archive-requires : goal.write_archive-requires
@@ -61,7 +61,7 @@ returns-in-Err-write_archive-clause-ends g c =
     let time = c.calls_join.ensures.reads _ _ _ open_log.same.1 c.write_archive.ensures.time in
     let cause = c.in-Err-write_archive.cause in
     let told = c.in-Err-write_archive.ensures in
-    rw c.close-disk.ensures (unarchived_ends cause old mid after first opened told.refused
+    rw c.close-disk.ensures (unarchived_ends cause old mid after first opened told.refused told.damage
     (λ bytes long none. not_long _ (c.write_archive.ensures.off none) cause c.in-Err-write_archive.is bytes long) same time
     (λ e. let rose = told.cause (ap Err e) in omega (arith, rose, open_log.same.1.faults))
     (λ steady e. (told.steady (subst (λ n. IsTrue n.steady) (sym open_log.same.1.nature) steady)).0 (ap Err e))

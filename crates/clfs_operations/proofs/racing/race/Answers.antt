@@ -38,7 +38,7 @@ returns-in-Ok-load-clause-ends g c =
       tells = c.whole_files_pass_the_test.ensures.tells;
     } in
     let run : HasRun (opening_of s mid) division.scripts.items new t raced.journal raced.whole =
-    subst (λ (scripts : List ClientScript). HasRun (opening_of s mid) scripts new t raced.journal raced.whole) c.deref.ensures.value c.race_over-raced.ensures in
+    subst (λ (scripts : List ClientScript). HasRun (opening_of s mid) scripts new t raced.journal raced.whole) c.deref.ensures.value c.race_over-raced.ensures.ran in
     let written = g.K.Sink.written c.args.sink.now in
     let written' = g.K.Sink.written c.told-status.new.sink in
     let sink = g.K.Sink.faults c.args.sink.now in
@@ -48,7 +48,7 @@ returns-in-Ok-load-clause-ends g c =
     c.deref-in-Ok-load.ensures.value c.told-status.ensures in
     rw c.close.ensures
     (race_ends c.args.write_buffers old new _ _ written written' _ _ sink sink' c.in-Ok.script.bytes.items division (opening_of s mid) t raced.journal raced.whole c.in-Ok.ensures.taken
-    (has_taken c.args.write_buffers old mid new s t loaded kept laws raced.journal run.reached) run c.in-Ok.script.end c.told-status.result
+    (has_taken c.args.write_buffers old mid new s t loaded kept laws raced.journal c.race_over-raced.ensures.later run.reached) run c.in-Ok.script.end c.told-status.result
     c.in-Ok.ensures.ended c.in-Ok-divide.ensures tells c.in-Ok.ensures.count)
 
 pub returns-clause-ends : goal.returns-clause-ends

@@ -50,6 +50,7 @@ returns-clause-ends g c =
     let refuses = c.reads_may_come_first.ensures.refuses cause bytes c.args.up_to c.args.disk c.first_open_slot.new.disk c.in-Err-restore.field-0.disk
     c.first_open_slot.ensures.same c.first_open_slot.ensures.time (record {
       why = told.why;
+      first = told.first;
       same = told.same;
       kept = told.kept;
       moments = told.moments_refused;

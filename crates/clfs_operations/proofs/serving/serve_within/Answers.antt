@@ -27,7 +27,7 @@ returns-in-Ok-clause-ends g c =
     } in
     let kept : IsKeptOn t new = record { files = c.stored-in-Ok.ensures.files; settled = c.stored-in-Ok.ensures.settled } in
     let stay : StayUnbroken = record { calls = c.unbroken_stays.ensures.calls; reopening = c.unbroken_stays.ensures.reopening } in
-    rw c.close.ensures (answering_serves (script_limits c.args.most) _ _ c.answered-status.result c.args.write_buffers old new _ _ _ _ _ _ _ _
+    rw c.close.ensures (answering_serves (script_limits c.args.most) c.args.incomplete _ _ c.answered-status.result c.args.write_buffers old new _ _ _ _ _ _ _ _
     (λ lines text is. is_answered c.args.write_buffers old mid new s t loaded kept lines text
     (answered_lines _ (λ log. log.manager.0) (λ log. g.D.Disk.state log.manager.1) stay _ _ lines text is))
     (λ torn lines text is. is_answered_in_part c.args.write_buffers old mid new s t loaded kept torn lines text
@@ -37,7 +37,7 @@ returns-in-Ok-clause-ends g c =
 pub returns-in-Err-clause-ends : goal.returns-in-Err-clause-ends
 returns-in-Err-clause-ends g c =
     let load = c.in-Err.ensures in
-    refusal_serves (script_limits c.args.most) c.refused.result c.args.write_buffers c.in-Err.field-0.cause (g.D.Disk.state c.args.disk) (g.D.Disk.state c.in-Err.field-0.disk) _ _ _ _ _ _
+    refusal_serves (script_limits c.args.most) c.args.incomplete c.refused.result c.args.write_buffers c.in-Err.field-0.cause (g.D.Disk.state c.args.disk) (g.D.Disk.state c.in-Err.field-0.disk) _ _ _ _ _ _
     (record {
       is = load.refused;
       cause = load.cause;
@@ -50,9 +50,9 @@ returns-in-Err-clause-ends g c =
 pub returns-in-Ok-clause-complete : goal.returns-in-Ok-clause-complete
 returns-in-Ok-clause-complete g c =
     let one : AreOne = record { no_damage = c.files_have_one_meaning.ensures.no_damage; no_base = c.files_have_one_meaning.ensures.no_base } in
-    comes_through (script_limits c.args.most) one _ _ _ _ _ _ _ _ _ _ _ _ (returns-in-Ok-clause-ends g c)
+    comes_through (script_limits c.args.most) c.args.incomplete one _ _ _ _ _ _ _ _ _ _ _ _ (returns-in-Ok-clause-ends g c)
 
 pub returns-in-Err-clause-complete : goal.returns-in-Err-clause-complete
 returns-in-Err-clause-complete g c =
     let one : AreOne = record { no_damage = c.files_have_one_meaning.ensures.no_damage; no_base = c.files_have_one_meaning.ensures.no_base } in
-    comes_through (script_limits c.args.most) one _ _ _ _ _ _ _ _ _ _ _ _ (returns-in-Err-clause-ends g c)
+    comes_through (script_limits c.args.most) c.args.incomplete one _ _ _ _ _ _ _ _ _ _ _ _ (returns-in-Err-clause-ends g c)

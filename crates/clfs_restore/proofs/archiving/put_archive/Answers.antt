@@ -1,4 +1,4 @@
-use Rattle.std.proofs.Common.{◌≡◌, ℕ, ◌<◌, List, [], length, map, get_or, Some, Result, Ok, Err, sym, ◌∙◌, ap, subst}
+use Rattle.std.proofs.Common.{◌≡◌, ℕ, ◌<◌, List, [], length, map, get_or, Some, None, Result, Ok, Err, sym, ◌∙◌, ap, subst}
 use Rattle.std.proofs.lemmas.Result.{err_from_is_err_and}
 use Rattle.clfs_container.specs.OpenBlocks.{AreWhole}
 use Rattle.clfs_base.specs.declared.image.BaseImage.{BaseImage}
@@ -8,11 +8,12 @@ use Rattle.clfs_model.specs.declared.refusal.Refusal.TheVariants as refusals
 use Rattle.clfs_recover.specs.Stored.{stored_records}
 use Rattle.clfs_recover.specs.Walk.{shape_of}
 use Rattle.clfs_archive_form.specs.Form.{archived_image, archive_bytes, archived_pieces}
-use Rattle.clfs_restore.specs.Archiving.{GivesCopy, GoesOn}
+use Rattle.clfs_restore.specs.Archiving.{GivesCopy, GoesOn, TellsArchived}
 use Rattle.clfs_restore.specs.declared.refusal.ArchiveRefusal.{ArchiveRefusal}
 use Rattle.clfs_restore.specs.declared.refusal.ArchiveRefusal.TheVariants.{Log}
 use Rattle.clfs_restore.proofs.Archived.{archiving_on, one_copy, is_archive, cause_of}
 use Rattle.clfs_restore.proofs.Joining.{tells_still, joined}
+use Rattle.clfs_restore.proofs.Told.{archive_damage, off_told}
 use Rattle.clfs_restore.proofs.archiving.put_archive.Goals as goal
 
 copy_is_there : (read : Result (ℕ × BaseImage) NewestRefusal) (found : ℕ × BaseImage) (refusal : ArchiveRefusal) → read ≡ Ok found → GivesCopy (Err refusal) read
@@ -82,3 +83,21 @@ returns-in_err-put_image-clause-reads g c =
     rw (p.1, p.2) (joined (Some c.in_err-put_image.field-0.0) c.args.manager.now.0 c.read_copy.new.manager.0 c.put_image.new.manager.0
     (g.D.Disk.state c.args.manager.now.1) (g.D.Disk.state c.read_copy.new.manager.1) (g.D.Disk.state c.put_image.new.manager.1) before after
     (c.calls_join.ensures.reads c.args.manager.now.1 c.read_copy.new.manager.1 c.put_image.new.manager.1 before.time after.time))
+
+pub returns-in_err-see_archiving-clause-damage : goal.returns-in_err-see_archiving-clause-damage
+returns-in_err-see_archiving-clause-damage g c =
+    let p = err_from_is_err_and c.from_residual.result c.from_residual.ensures.1 in
+    rw (p.1, p.2) (off_told c.in_err-see_archiving.field-0.0 (c.args.manager.now.0.archive ≡ None) c.in_err-see_archiving.ensures.off)
+
+pub returns-in_err-copy-clause-damage : goal.returns-in_err-copy-clause-damage
+returns-in_err-copy-clause-damage g c =
+    let p = err_from_is_err_and c.from_residual-in_err-copy.result c.from_residual-in_err-copy.ensures.1 in
+    rw (p.1, p.2) c.in_err-copy.ensures.damage
+
+pub returns-in_err-put_image-clause-damage : goal.returns-in_err-put_image-clause-damage
+returns-in_err-put_image-clause-damage g c =
+    let p = err_from_is_err_and c.from_residual-in_err-put_image.result c.from_residual-in_err-put_image.ensures.1 in
+    let refusal = c.in_err-put_image.field-0.0 in
+    let told = c.in_ok-copy.ensures.told in
+    rw (p.1, p.2) (archive_damage told.0 c.in_ok-copy.copy refusal told.1
+    (subst (λ (image : BaseImage). TellsArchived image refusal) c.archived-image.ensures.exact c.in_err-put_image.ensures.damage))

@@ -1,14 +1,15 @@
-use Rattle.std.proofs.Common.{◌≡◌, ℕ, ◌+◌, ◌<◌, List, ◌++◌, length, map, get_or, sym, ◌∙◌, ap, subst, arith}
+use Rattle.std.proofs.Common.{◌≡◌, ℕ, ◌+◌, ◌<◌, List, ◌++◌, drop, length, map, get_or, sym, ◌∙◌, ap, subst, arith}
 use Rattle.std.proofs.lemmas.Result.{err_from_is_err_and}
 use Rattle.std.proofs.lemmas.List.{get_or-drop, length-drop}
 use Rattle.std.specs.List.{flat_map}
 use Rattle.clfs_recover.specs.Walk.{shape_of}
 use Rattle.clfs_archive_form.specs.Form.{piece_bytes}
 use Rattle.clfs_archive_form.specs.Drafting.{front_bytes}
-use Rattle.clfs_restore.specs.Archiving.{AreReadable, pieces_from}
+use Rattle.clfs_restore.specs.Archiving.{AreReadable, TellsContainer, pieces_from}
 use Rattle.clfs_restore.proofs.Archived.{skipped, archive_is}
 use Rattle.clfs_restore.proofs.Joining.{goes_refused}
 use Rattle.clfs_restore.proofs.Pieces.{readable_from}
+use Rattle.clfs_restore.proofs.Told.{archived_told}
 use Rattle.clfs_restore.proofs.archiving.put_image.Goals as goal
 
 pub put_containers-requires-clause-files : goal.put_containers-requires-clause-files
@@ -51,3 +52,12 @@ returns-clause-archive g c told blocks entries whole read =
     ∙ ap (λ (l : List ℕ). l ++ P) (c.in_ok-put_front.ensures.added ∙ ap (λ (l : List ℕ). l ++ front_bytes image (length numbers)) c.requires.empty)
     ∙ ap (λ (n : ℕ). front_bytes image (length numbers) ++ flat_map piece_bytes (pieces_from n (map blocks numbers))) (sym from)
     ∙ archive_is image blocks numbers c.archived_files-numbers.ensures
+
+pub returns-in_err-put_containers-clause-damage : goal.returns-in_err-put_containers-clause-damage
+returns-in_err-put_containers-clause-damage g c =
+    let p = err_from_is_err_and c.from_residual-in_err-put_containers.result c.from_residual-in_err-put_containers.ensures.1 in
+    let image = c.args.image.now in
+    let refusal = c.in_err-put_containers.field-0.0 in
+    let Tells : ℕ → List ℕ → Type 0 = λ skips numbers. TellsContainer (shape_of image) (length image.streams) (image.first + skips) (length numbers) refusal in
+    rw (p.1, p.2) (archived_told image refusal (subst (λ (n : ℕ). Tells n (drop (skipped image) image.files)) c.skipped.ensures.value
+    (subst (Tells c.skipped.result) c.archived_files-numbers.ensures c.in_err-put_containers.ensures.damage)))

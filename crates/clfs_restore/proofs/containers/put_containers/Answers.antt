@@ -1,4 +1,4 @@
-use Rattle.std.proofs.Common.{ℕ, ◌+◌, List, ◌++◌, map, take, get_or, Some, None, sym, ◌∙◌, ap, subst, append_assoc, arith}
+use Rattle.std.proofs.Common.{ℕ, ◌+◌, List, ◌++◌, length, map, take, get_or, Some, None, sym, ◌∙◌, ap, subst, append_assoc, arith}
 use Rattle.std.proofs.lemmas.Result.{err_from_is_err_and}
 use Rattle.std.proofs.lemmas.List.{take_all}
 use Rattle.std.specs.List.{flat_map}
@@ -6,9 +6,11 @@ use Rattle.clfs_container.specs.OpenBlocks.{AreWhole}
 use Rattle.clfs_recover.specs.Stored.{stored_in}
 use Rattle.clfs_archive_form.specs.Form.{piece_bytes}
 use Rattle.clfs_archive_form.specs.Judging.{Judging}
-use Rattle.clfs_restore.specs.Archiving.{pieces_from}
+use Rattle.clfs_recover.specs.Walk.{shape_of}
+use Rattle.clfs_restore.specs.Archiving.{TellsContainer, pieces_from}
 use Rattle.clfs_restore.proofs.Joining.{tells_still, joined, goes_refused}
 use Rattle.clfs_restore.proofs.Pieces.{one_more}
+use Rattle.clfs_restore.proofs.Told.{among_containers}
 use Rattle.clfs_restore.proofs.containers.put_containers.Goals as goal
 
 pub returns-in_err-put_container-clause-blocks : goal.returns-in_err-put_container-clause-blocks
@@ -68,3 +70,12 @@ returns-in_err-put_container-clause-reads g c =
     rw (p.1, p.2) (joined (Some c.in_err-put_container.field-0.0) c.args.manager.now.0 L.manager.0 c.put_container.new.manager.0
     (g.D.Disk.state c.args.manager.now.1) (g.D.Disk.state L.manager.1) (g.D.Disk.state c.put_container.new.manager.1) L.invariant.reads reads
     (c.calls_join.ensures.reads c.args.manager.now.1 L.manager.1 c.put_container.new.manager.1 L.invariant.reads.time reads.time))
+
+pub returns-in_err-put_container-clause-damage : goal.returns-in_err-put_container-clause-damage
+returns-in_err-put_container-clause-damage g c =
+    let p = err_from_is_err_and c.from_residual-in_err-put_container.result c.from_residual-in_err-put_container.ensures.1 in
+    let L = c.loop-i in
+    let image = c.args.image.now in
+    let refusal = c.in_err-put_container.field-0.0 in
+    rw (p.1, p.2) (among_containers (shape_of image) (length image.streams) c.args.from (length c.args.numbers.now) L.i refusal c.loop-i-test.true
+    (subst (λ (j : Judging). TellsContainer j.shape j.streams (c.args.from + L.i) 1 refusal) L.invariant.judge c.in_err-put_container.ensures.damage))

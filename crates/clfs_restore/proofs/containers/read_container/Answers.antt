@@ -1,8 +1,10 @@
-use Rattle.std.proofs.Common.{ℕ, List, take, length, sym, ◌∙◌, ap, subst, arith}
+use Rattle.std.proofs.Common.{ℕ, List, Err, take, length, sym, ◌∙◌, ap, subst, arith}
+use Rattle.std.proofs.lemmas.List.{length-take}
 use Rattle.std.proofs.lemmas.Result.{err_from_is_err_and}
 use Rattle.clfs_container.specs.OpenBlocks.{AreWhole, total}
 use Rattle.clfs_restore.proofs.Fronts.{whole_front, read_blocks}
 use Rattle.clfs_restore.proofs.Joining.{ends_refused}
+use Rattle.clfs_restore.proofs.Told.{container_told, fault_in_container}
 use Rattle.clfs_restore.proofs.containers.read_container.Goals as goal
 
 pub returns-in_err-end-clause-blocks : goal.returns-in_err-end-clause-blocks
@@ -27,3 +29,17 @@ returns-clause-blocks g c told here entries whole read =
       ends,
       read_blocks sectors c.in_ok-end.end c.in_ok-count.count file piece here whole bytes ends (omega (arith, c.in_ok-end.ensures.end, long)),
     )
+
+pub returns-in_err-count-clause-damage : goal.returns-in_err-count-clause-damage
+returns-in_err-count-clause-damage g c =
+    let p = err_from_is_err_and c.from_residual.result c.from_residual.ensures.1 in
+    rw (p.1, p.2) (fault_in_container _ _ _ _ c.in_err-count.field-0.0 c.in_err-count.ensures.only)
+
+pub returns-in_err-end-clause-damage : goal.returns-in_err-end-clause-damage
+returns-in_err-end-clause-damage g c =
+    let p = err_from_is_err_and c.from_residual-in_err-end.result c.from_residual-in_err-end.ensures.1 in
+    let bytes = take c.in_ok-count.count c.deref.result.now in
+    let few = length-take c.in_ok-count.count c.deref.result.now in
+    rw (p.1, p.2) (container_told c.args.judge.now.shape c.args.judge.now.streams c.args.id bytes c.in_err-end.field-0.0
+    (omega (arith, few, c.in_ok-count.ensures.count, c.read_front.ensures.room, c.requires.room))
+    (λ container offset at is. c.in_err-end.ensures.damage container offset at (ap Err is)) (λ is. c.in_err-end.ensures.no_fault.0 (ap Err is)))

@@ -2,7 +2,8 @@ use Rattle.std.proofs.Common.{ℕ, List, ◌∙◌, ap, arith}
 use Rattle.std.proofs.lemmas.Result.{err_from_is_err_and}
 use Rattle.clfs_base.specs.Slots.{slot_of}
 use Rattle.clfs_base.specs.declared.refusal.NewestRefusal.TheVariants as newest
-use Rattle.clfs_restore.proofs.Found.{same_slot, copy_found, copy_wrong, no_slot, no_copy}
+use Rattle.clfs_restore.proofs.Found.{same_slot, copy_found, copy_wrong, image_right, image_wrong, no_slot, no_copy}
+use Rattle.clfs_restore.proofs.Told.{copy_told, no_slot_damage, one_slot, slot_damage}
 use Rattle.clfs_restore.proofs.copy.newest_in.Goals as goal
 
 pub returns-in_err-slot-clause-copy : goal.returns-in_err-slot-clause-copy
@@ -34,3 +35,22 @@ returns-in-Err-BadByte-clause-copy c file is =
       copy_wrong file c.slot_of-bytes.result.now slot c.in-Err-BadByte.at used there
           (rw c.in-Err-BadByte.field-0-is at c.in-Err-BadByte.ensures.exact),
     )
+
+pub returns-in_err-slot-clause-damage : goal.returns-in_err-slot-clause-damage
+returns-in_err-slot-clause-damage c =
+    let p = err_from_is_err_and c.from_residual.result c.from_residual.ensures.1 in
+    let none = c.in_err-slot.ensures.told in
+    rw (p.1, p.2) (no_slot_damage c.in_err-slot.field-0.0 none.0 none.1 none.2)
+
+pub returns-in-Ok-clause-told : goal.returns-in-Ok-clause-told
+returns-in-Ok-clause-told c = (
+  c.in_ok-slot.slot,
+  copy_told c.in_ok-slot.slot c.slot_of-bytes.result.now c.in-Ok.image c.in_ok-slot.ensures.told (one_slot c.args.base.now c.in_ok-slot.slot _ c.slot_of-bytes.ensures)
+      (image_right c.slot_of-bytes.result.now c.in-Ok.image c.in-Ok.ensures.exact.0 c.in-Ok.ensures.exact.1),
+)
+
+pub returns-in-Err-BadByte-clause-damage : goal.returns-in-Err-BadByte-clause-damage
+returns-in-Err-BadByte-clause-damage c =
+    slot_damage c.wrong_slot.result c.in_ok-slot.slot c.in-Err-BadByte.at c.slot_of-bytes.result.now c.in_ok-slot.ensures.told
+    (one_slot c.args.base.now c.in_ok-slot.slot _ c.slot_of-bytes.ensures)
+    (image_wrong c.slot_of-bytes.result.now c.in-Err-BadByte.at (rw c.in-Err-BadByte.field-0-is at c.in-Err-BadByte.ensures.exact)) c.wrong_slot.ensures

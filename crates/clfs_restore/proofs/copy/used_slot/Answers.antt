@@ -1,6 +1,8 @@
-use Rattle.std.proofs.Common.{sym, ◌∙◌, ap, arith}
+use Rattle.std.proofs.Common.{Ok, Err, sym, ◌∙◌, ap, arith}
 use Rattle.clfs_base.specs.declared.newest.Front.{Front}
 use Rattle.clfs_base.specs.Slots.{front_of, slot_by}
+use Rattle.clfs_restore.specs.Archiving.{refused_as}
+use Rattle.clfs_restore.proofs.Told.{slot_told}
 use Rattle.clfs_restore.proofs.copy.used_slot.Goals as goal
 
 pub returns-in-Ok-clause-used : goal.returns-in-Ok-clause-used
@@ -17,4 +19,19 @@ returns-in-Err-clause-used c file first second =
       c.in-Err.refusal,
       sym (ap (λ (f : Front). slot_by f (front_of file 1)) a) ∙ sym (ap (λ (f : Front). slot_by c.front_of_bytes.result f) b)
           ∙ sym c.slot_by.ensures.exact ∙ c.in-Err.is,
+    )
+
+pub returns-in-Ok-clause-told : goal.returns-in-Ok-clause-told
+returns-in-Ok-clause-told c =
+    let a = c.front_of_bytes.ensures.exact in
+    let b = c.front_of_bytes-2.ensures.exact in
+    slot_told (Ok c.in-Ok.slot) c.args.first.now c.args.second.now (sym c.in-Ok.is ∙ c.slot_by.ensures.exact ∙ (λ i. slot_by (a i) (b i)))
+
+pub returns-in-Err-clause-told : goal.returns-in-Err-clause-told
+returns-in-Err-clause-told c =
+    let a = c.front_of_bytes.ensures.exact in
+    let b = c.front_of_bytes-2.ensures.exact in (
+      c.in-Err.refusal,
+      slot_told (Err c.in-Err.refusal) c.args.first.now c.args.second.now (sym c.in-Err.is ∙ c.slot_by.ensures.exact ∙ (λ i. slot_by (a i) (b i))),
+      c.into.ensures ∙ ap refused_as c.from.ensures,
     )

@@ -34,6 +34,7 @@ loop-i-preserved g c =
       base = W.others 0 (λ is. omega (arith, is)) ∙ L.base;
       lengths = λ file. W.lengths file ∙ L.lengths file;
       time = base_then _ _ _ L.time W.time;
+      calls = omega (arith, c.in_ok-end.ensures.calls, L.calls);
       steady = λ steady long.
           let within : i + 1 ≤ archive.image.containers = omega (arith, c.loop-i-test.true, c.container.ensures.value, c.requires.can.high, c.requires.can.low, c.requires.can.image.few_listed) in
           (W.steady (subst (λ (n : Nature). IsTrue n.steady) (sym L.time.nature) steady) (omega (arith, L.lengths (i + 1), long (i + 1) (omega arith) within))).1 ∙ L.steady steady long;

@@ -1,5 +1,5 @@
 use Rattle.std.proofs.Common.{◌≡◌, ℕ, ◌-◌, ◌*◌, ◌<◌, ◌≤◌, length}
-use Rattle.clfs_disk.specs.State.{TellsContents, IsSteady, Passes}
+use Rattle.clfs_disk.specs.State.{TellsContents, IsSteady, Passes, raised}
 use Rattle.clfs_format.specs.Making.{BaseStays, SameLengths}
 use Rattle.clfs_archive_form.specs.Written.{HoldsKept}
 use Rattle.clfs_restore.proofs.filling.write_containers.Given as goal
@@ -12,6 +12,7 @@ invariant-loop-i g l = record {
   base : BaseStays (g.D.Disk.state l.initial.disk).files (g.D.Disk.state l.disk).files;
   lengths : SameLengths (g.D.Disk.state l.initial.disk).files (g.D.Disk.state l.disk).files;
   time : Passes BaseStays (g.D.Disk.state l.initial.disk) (g.D.Disk.state l.disk);
+  calls : raised 0 (g.D.Disk.state l.disk).calls ≡ raised l.i (g.D.Disk.state l.initial.disk).calls;
   steady : IsSteady (g.D.Disk.state l.initial.disk)
       → ((file : ℕ) → 1 ≤ file → file ≤ l.archive.image.containers
       → 512 * l.archive.image.container_sectors ≤ length ((g.D.Disk.state l.initial.disk).files file))

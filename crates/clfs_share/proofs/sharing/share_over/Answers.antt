@@ -20,7 +20,7 @@ run_clients-clients-requires-after_bounds g c κs within =
 pub parted-requires-clause-room : goal.parted-requires-clause-room
 parted-requires-clause-room g c =
     let olds = c.joined-clients.result.items in
-    let many = ended_length g.P.Openers.opens g.S.Source.left g.S.Source.faults g.K.Sink.written g.K.Sink.faults olds c.run_clients-clients.result.items
+    let many = ended_length g.P.Openers g.S.Source.left g.S.Source.faults g.K.Sink.written g.K.Sink.faults olds c.run_clients-clients.result.items
     c.run_clients-clients.ensures in
     let as_openers = ap (λ z. length z) c.joined-clients.ensures.openers in
     let mapped = length-map (reverse olds) openers_of in
@@ -29,19 +29,19 @@ parted-requires-clause-room g c =
 
 pub close-manager-requires-clause-log : goal.close-manager-requires-clause-log
 close-manager-requires-clause-log g c =
-    back_belong g.P.Openers.opens g.S.Source.left g.S.Source.faults g.K.Sink.written g.K.Sink.faults c.args.log c.args.sessions.items c.parted.new.sessions.items
+    back_belong g.P.Openers g.S.Source.left g.S.Source.faults g.K.Sink.written g.K.Sink.faults c.args.log c.args.sessions.items c.parted.new.sessions.items
     c.joined-clients.result.items c.run_clients-clients.result.items c.joined-clients.ensures.sessions c.parted.ensures.sessions c.run_clients-clients.ensures
     c.requires.log
 
 pub close-manager-requires-clause-all : goal.close-manager-requires-clause-all
 close-manager-requires-clause-all g c =
-    all_back_there g.P.Openers.opens g.S.Source.left g.S.Source.faults g.K.Sink.written g.K.Sink.faults c.args.log c.args.sessions.items
+    all_back_there g.P.Openers g.S.Source.left g.S.Source.faults g.K.Sink.written g.K.Sink.faults c.args.log c.args.sessions.items
     c.parted.new.sessions.items c.joined-clients.result.items c.run_clients-clients.result.items c.joined-clients.ensures.sessions c.parted.ensures.sessions
     c.run_clients-clients.ensures c.requires.clients.0
 
 pub returns-clause-clients : goal.returns-clause-clients
 returns-clause-clients g c =
-    taken g.P.Openers.opens g.S.Source.left g.S.Source.faults g.K.Sink.written g.K.Sink.faults c.args.log c.args.sessions.items c.parted.new.sessions.items
+    taken g.P.Openers g.S.Source.left g.S.Source.faults g.K.Sink.written g.K.Sink.faults c.args.log c.args.sessions.items c.parted.new.sessions.items
     c.joined-clients.result.items c.run_clients-clients.result.items c.joined-clients.ensures.sessions c.parted.ensures.sessions c.run_clients-clients.ensures
     c.rows_are_by_own_entries.ensures.rows c.close-manager.result.journal c.close-manager.result.manager.0 c.args.openers.items c.parted.new.ended.items
     c.joined-clients.ensures.openers c.parted.ensures.ended c.requires.new c.requires.clients.0 c.requires.clients.1

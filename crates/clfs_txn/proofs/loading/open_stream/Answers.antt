@@ -4,14 +4,14 @@ use Rattle.clfs_txn.proofs.Moments.{call_leaves, none_leaves}
 use Rattle.clfs_txn.proofs.loading.open_stream.Goals as goal
 
 pub returns-clause-moments : goal.returns-clause-moments
-returns-clause-moments g c = λ before after whole.
-    call_leaves g.D.Disk.state before after _ _ _ _ _ _ _ _ _ c.the_same_log_has_the_same_table.ensures refl (ap (λ n. log_calls.OpenStream n) c.in_ok-name.ensures.name) refl refl whole
+returns-clause-moments g c = λ under whole.
+    call_leaves g.D.Disk.state under _ _ _ _ _ _ _ _ _ refl (ap (λ n. log_calls.OpenStream n) c.in_ok-name.ensures.name) refl refl whole
     c.open_stream.ensures.call.moments
 
 pub returns-in_err-name-clause-moments : goal.returns-in_err-name-clause-moments
-returns-in_err-name-clause-moments g c = λ before after whole.
-    none_leaves g.D.Disk.state before after _ _ _ _ _ _ c.the_same_log_has_the_same_table.ensures refl refl whole c.stored.ensures.survives
+returns-in_err-name-clause-moments g c = λ under whole.
+    none_leaves g.D.Disk.state under _ _ _ _ _ _ refl refl whole c.stored.ensures.survives
 
 pub returns-then-is_broken-clause-moments : goal.returns-then-is_broken-clause-moments
-returns-then-is_broken-clause-moments g c = λ before after whole.
-    none_leaves g.D.Disk.state before after _ _ _ _ _ _ c.the_same_log_has_the_same_table.ensures refl refl whole c.stored.ensures.survives
+returns-then-is_broken-clause-moments g c = λ under whole.
+    none_leaves g.D.Disk.state under _ _ _ _ _ _ refl refl whole c.stored.ensures.survives

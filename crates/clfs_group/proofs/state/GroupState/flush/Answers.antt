@@ -1,10 +1,11 @@
 use Rattle.std.proofs.Common.{refl, sym, ap, subst}
 use Rattle.std.specs.Prelude.{Contains}
 use Rattle.clfs_model.specs.declared.reply.Reply.TheVariants as replies
-use Rattle.clfs_shared.specs.Sessions.{SessionState}
+use Rattle.clfs_shared.specs.Sessions.{SessionState, own_entries}
 use Rattle.clfs_group.specs.Answers.{placed_lsns}
 use Rattle.clfs_group.specs.Groups.{GroupParts, parts_of}
 use Rattle.clfs_group.proofs.Growing.{valid_begin}
+use Rattle.clfs_group.proofs.Refused.{takes_none}
 use Rattle.clfs_group.proofs.state.GroupState.flush.Goals as goal
 
 pub invariant_of-self : goal.invariant_of-self
@@ -41,3 +42,7 @@ returns-in-Refused-clause-placed g c = λ here.
     let there = subst (λ (s : SessionState). Contains (placed_lsns s.seen) c.args.lsn) (sym (ap (λ (p : GroupParts). p.session) c.self.view_is)) here in
     c.flushes_keep_a_group.ensures.finds f.session c.step.new.session f.area c.args.lsn c.in-Refused.refusal
     (valid_begin c.args.log.now g.N.GroupName.session f.session c.opened.ensures.valid c.requires.log c.self.invariant.same) c.in-Refused.ensures.step there
+
+pub returns-in-Refused-clause-wanted : goal.returns-in-Refused-clause-wanted
+returns-in-Refused-clause-wanted g c = λ lacking.
+    subst (λ (p : GroupParts). g.J.Recorder.may_lack (own_entries p.session)) c.self.view_is (takes_none (c.in-Refused.ensures.wanted lacking))

@@ -1,5 +1,5 @@
 use Rattle.std.proofs.Common.{arith, ◌≡◌, sym, ap, subst, ◌∙◌, List, ℕ}
-use Rattle.std.specs.Prelude.{Result, Ok}
+use Rattle.std.specs.Prelude.{Ok}
 use Rattle.std.proofs.lemmas.Map.Keys.{ge_from_not_lt}
 use mathlib.Core.List.{IsPrefix}
 use Rattle.clfs_model.specs.declared.call.Call.TheVariants as calls
@@ -11,7 +11,7 @@ use Rattle.clfs_group.specs.Answers.{flush_reply}
 use Rattle.clfs_group.specs.Groups.{GroupParts, IsStable}
 use Rattle.clfs_group.proofs.Granted.{below_by}
 use Rattle.clfs_group.proofs.Growing.{longer_is, seen_more, stepped_between}
-use Rattle.clfs_group.proofs.Refused.{answer_stable, memory_lacks, placed_more, stands_behind}
+use Rattle.clfs_group.proofs.Refused.{answer_stable, lacks_for, memory_lacks, placed_more, stands_behind}
 use Rattle.clfs_group.proofs.state.GroupState.stable.Goals as goal
 
 pub returns-clause-stable : goal.returns-clause-stable
@@ -75,3 +75,9 @@ returns-then-lt-clause-mark g c = ap (λ (p : GroupParts). p.mark) c.meet-known.
 
 pub returns-then-lt-clause-shared : goal.returns-then-lt-clause-shared
 returns-then-lt-clause-shared g c = λ less. (ap (λ (n : ℕ). Ok n) c.meet-known.ensures.answer, c.meet-known.ensures.own.0)
+
+pub returns-clause-wanted : goal.returns-clause-wanted
+returns-clause-wanted g c = λ lacking.
+    lacks_for g.J.Recorder.may_lack c.meet-known.new.self.session c.flush-answer.new.self.session c.meet-known-2.new.self.session c.meet-known-2.new.session
+    g.N.GroupName.session.client c.flush-answer.ensures.same (c.flush-answer.ensures.none lacking) c.meet-known-2.ensures.own.0 c.meet-known-2.ensures.met.1
+    c.meet-known-2.ensures.named.client (c.flush-answer.ensures.wanted lacking)

@@ -72,6 +72,10 @@ returns-in-Err-NoMemory-clause-refused g c =
           (subst (λ (n : Newest). IsIntact (g.D.Disk.state c.args.disk.now) (record old { tables = c.stream_memory.new.tables; physical = n })) (sym none.0) same),
     )
 
+pub returns-in-Err-NoMemory-clause-no_memory : goal.returns-in-Err-NoMemory-clause-no_memory
+returns-in-Err-NoMemory-clause-no_memory g c = λ wanting.
+    (c.add_stream.ensures.no_memory (c.in-Err-NoMemory.is ∙ ap (λ (e : PhysicalRefusal). Err e) c.in-Err-NoMemory.field-0-is)).1
+
 pub returns-in-Err-NoMemory-clause-writes : goal.returns-in-Err-NoMemory-clause-writes
 returns-in-Err-NoMemory-clause-writes g c =
     let none = c.add_stream.ensures.no_memory (c.in-Err-NoMemory.is ∙ ap (λ (e : PhysicalRefusal). Err e) c.in-Err-NoMemory.field-0-is) in

@@ -1,5 +1,5 @@
 use Rattle.clfs_model.specs.Flush.{cut}
-use Rattle.clfs_model.specs.Run.{Request, asks}
+use Rattle.clfs_model.specs.Run.{Request, asks, bad_line}
 use Rattle.clfs_model.specs.Survivors.{Survives}
 use Rattle.clfs_manager.proofs.Crashes.{crash_still, crash_then, survives_as}
 use Rattle.clfs_manager.proofs.Stages.{appended_stages, while_appended}
@@ -340,3 +340,18 @@ returns-in-Err-clause-moments g c =
     crash_then (IsErrOf c.prepare.result refusals.DiskFault) request s (g.D.Disk.state c.args.disk.now) (g.D.Disk.state c.prepare.new.disk) (g.D.Disk.state c.append_grown.new.disk)
     (λ fault. let wrong = subst (λ r. IsErrOf r refusals.DiskFault) c.in_ok-prepare.was fault in cc wrong) c.prepare.ensures.writes prepared
     (c.append_grown.ensures.change.moments request s is)
+
+pub returns-in_err-place-clause-no_memory : goal.returns-in_err-place-clause-no_memory
+returns-in_err-place-clause-no_memory g c = λ wanting.
+    let s : State = c.args.self.now.state.value in
+    crash_still c.logs_are_copies_and_blocks.ensures.stands c.logs_are_copies_and_blocks.ensures.by_file (g.D.Disk.state c.args.disk.now) c.args.self.now
+    c.requires.intact (bad_line 0) s (c.states_between_survive.ensures.bad_line s 0 c.requires.intact.sound.valid)
+
+pub returns-in_err-prepare-clause-no_memory : goal.returns-in_err-prepare-clause-no_memory
+returns-in_err-prepare-clause-no_memory g c = λ wanting.
+    let s : State = c.args.self.now.state.value in
+    let given : Refusal = c.in_err-prepare.field-0.0 in
+    let same = error_of c.from_residual-in_err-prepare.result given c.from_residual-in_err-prepare.ensures.1 in
+    let kept = rw same at wanting in
+    c.prepare.ensures.no_memory (subst (λ r. IsErrOf r refusals.NoMemory) (sym c.in_err-prepare.was) (as_fault given refusals.NoMemory kept))
+    (bad_line 0) s (c.states_between_survive.ensures.bad_line s 0 c.requires.intact.sound.valid)

@@ -77,3 +77,12 @@ pub returns-in-Ok-clause-memory : goal.returns-in-Ok-clause-memory
 returns-in-Ok-clause-memory g c =
     let taken = c.in_ok-take_memory.ensures.memory in
     record { heads = rw c.in-Ok.ensures.change.same.tables taken.heads; ends = rw c.in-Ok.ensures.change.same.archive taken.ends }
+
+pub returns-in_err-take_memory-clause-no_memory : goal.returns-in_err-take_memory-clause-no_memory
+returns-in_err-take_memory-clause-no_memory g c = λ wanting asked s before. crash_still c.logs_are_copies_and_blocks.ensures.stands
+    c.logs_are_copies_and_blocks.ensures.by_file (g.D.Disk.state c.args.disk.now) c.args.self.now c.requires.intact asked s before
+
+pub returns-in-Err-NoMemory-clause-no_memory : goal.returns-in-Err-NoMemory-clause-no_memory
+returns-in-Err-NoMemory-clause-no_memory g c = λ wanting asked s before.
+    let done = rw c.in-Err-NoMemory.field-0-is at c.in-Err-NoMemory.ensures in
+    done.change.old_size refl asked s (survives_as asked s _ c.args.self.now.state.value (ap (λ t. t.value) c.take_memory.ensures.same.state) before)

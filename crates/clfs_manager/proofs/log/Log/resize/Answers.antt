@@ -10,6 +10,8 @@ use Rattle.clfs_physical.specs.declared.change.Change.TheVariants as changes
 use Rattle.clfs_manager.specs.Written.{IsIntact}
 use Rattle.clfs_manager.specs.declared.log.Log.{Log}
 use Rattle.clfs_manager.proofs.CopiedMeanwhile.{crash_copied, size_copied}
+use Rattle.clfs_manager.proofs.CopiedLog.{valid_holds}
+use Rattle.clfs_manager.proofs.Crashes.{crash_kept}
 use Rattle.clfs_manager.proofs.Intact.{intact_done}
 use Rattle.clfs_manager.proofs.Numbers.{hold_within}
 use Rattle.clfs_manager.proofs.Sized.{holds_sized, intact_grown, kept_sized, writes_sized}
@@ -94,6 +96,7 @@ returns-in-Ok g c = record {
         old.physical blocks c.requires.intact.sound.valid c.image-newest.ensures.image
         (c.container-first.ensures.value ∙ ap container_of c.hold.ensures.value) stored)
         c.set_containers.ensures.moments;
+    old_size = λ f. absurd (cc f);
   };
 }
 
@@ -125,6 +128,7 @@ returns-in-Err-DiskFault g c = record {
         old.physical blocks c.requires.intact.sound.valid c.image-newest.ensures.image
         (c.container-first.ensures.value ∙ ap container_of c.hold.ensures.value) stored)
         c.set_containers.ensures.moments;
+    old_size = λ f. absurd (cc f);
   };
 }
 
@@ -165,5 +169,11 @@ returns-in-Err-NoMemory g c = record {
         old.physical blocks c.requires.intact.sound.valid c.image-newest.ensures.image
         (c.container-first.ensures.value ∙ ap container_of c.hold.ensures.value) stored)
         c.set_containers.ensures.moments;
+    old_size = λ wanting.
+        let old = c.args.self.now in
+        let done = rw c.in-Err-NoMemory.field-0-is at c.in-Err-NoMemory.ensures in
+        crash_kept c.logs_are_copies_and_blocks.ensures.stands c.logs_are_copies_and_blocks.ensures.by_file (g.D.Disk.state c.args.disk.now)
+        (g.D.Disk.state c.set_containers.new.disk) old.state.value old c.requires.intact.opened (valid_holds old.state.value c.requires.intact.sound.valid)
+        (done.no_copy refl);
   };
 }

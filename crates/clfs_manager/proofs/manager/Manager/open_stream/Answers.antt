@@ -8,7 +8,7 @@ use Rattle.clfs_model.specs.Run.{asks}
 use Rattle.std.proofs.Common.{ap}
 use Rattle.clfs_model.specs.Answers.{Outcome}
 use Rattle.clfs_manager.proofs.AddedStream.{added_step, new_answer, old_answer}
-use Rattle.clfs_manager.proofs.CopyingCalls.{crash_answered}
+use Rattle.clfs_manager.proofs.CopyingCalls.{crash_answered, crash_not_called}
 use Rattle.std.proofs.Common.{◌≡◌, refl, ◌+◌, ℕ, true, Ok, Err, List, length, sym, subst, ◌∙◌, false}
 use Rattle.std.specs.Prelude.{IfErr, Option, Some, None, Result}
 use Rattle.clfs_model.specs.declared.call.Call.TheVariants as calls
@@ -117,4 +117,6 @@ returns-clause-call g c =
     (crash_answered c.calls_follow_laws.ensures.crashes g.D.Disk.state c.self.inside.log c.self.inside.disk c.args.self.now c.self.view_is c.self.invariant c.args.client call
     (with_stream c.args.name.now s) (g.D.Disk.state c.add_stream.new.disk) allowed (ap (λ (o : Outcome). o.state) (new_answer s c.args.client c.args.name.now none))
     (c.add_stream.ensures.moments (asks c.args.client call) s))
+    (λ want. crash_not_called c.calls_follow_laws.ensures.crashes g.D.Disk.state c.self.inside.log c.self.inside.disk c.add_stream.new.disk c.args.self.now c.self.view_is c.self.invariant
+    (c.add_stream.ensures.no_memory want))
     (not_own _ (g.D.Disk.state c.add_stream.new.disk) c.self.inside.log c.add_stream.new.self c.add_stream.result c.add_stream.ensures.refused)

@@ -22,7 +22,7 @@ returns g c =
     let read = c.go_on_reading.ensures in
     let s = c.self.inside.log.state.value in
     let whole : s.broken ≡ false = c.self.invariant.broken ∙ c.if-self.false in
-    comes {v = (s, c.self.inside.disk)} c.reading_laws.ensures c.self.view_is whole (c.stored.ensures.survives _ _) c.go_on_reading.result there read.gets
+    comes {v = (s, c.self.inside.disk)} c.reading_laws.ensures c.self.view_is whole (c.stored.ensures.survives _ _) (c.stored.ensures.survives_reading 0) c.go_on_reading.result there read.gets
     (next_step c.reading_laws.ensures.ways s (calls.PreviousRestart c.args.area c.args.cursor) whole (c.in_ok-place.ensures.allowed) refl refl refl there c.args.cursor c.go_on_reading.result
     (previous_answers s c.args.client c.args.area (area_at c.in_ok-place.place c.self.inside.log.areas.areas) there.entry there.area c.args.cursor there.reached)
     read.gets read.state)
@@ -33,5 +33,5 @@ invariant_of-self g c = managed _ _ c.reading_laws.ensures (record { is_client =
 
 pub returns-in_err-place : goal.returns-in_err-place
 returns-in_err-place g c = rw (error_of c.from_residual.result c.in_err-place.field-0.0 c.from_residual.ensures.1)
-    (refuses c.reading_laws.ensures c.self.view_is (c.self.invariant.broken ∙ c.if-self.false) (c.stored.ensures.survives _ _) c.in_err-place.field-0.0
+    (refuses c.reading_laws.ensures c.self.view_is (c.self.invariant.broken ∙ c.if-self.false) (c.stored.ensures.survives _ _) (c.stored.ensures.survives_reading 0) c.in_err-place.field-0.0
     (c.in_err-place.ensures.refused))

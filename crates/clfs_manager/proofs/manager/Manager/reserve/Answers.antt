@@ -1,6 +1,6 @@
 use Rattle.clfs_manager.specs.declared.log.Log.{Log}
 use Rattle.clfs_manager.proofs.WritingCalls.{call_faulted, call_made, call_refused, call_starved, call_stopped, sized_fine, sized_faulted, sized_starved}
-use Rattle.clfs_manager.proofs.CopyingCalls.{crash_reserved}
+use Rattle.clfs_manager.proofs.CopyingCalls.{crash_not_grown, crash_reserved}
 use Rattle.std.proofs.Common.{◌≡◌, ℕ, ◌+◌, refl, sym, ap, subst, ◌∙◌, arith, false, true}
 use Rattle.std.specs.Prelude.{Err, None, Result}
 use Rattle.clfs_areas.specs.Table.{AreaTable, all_held, area_at}
@@ -133,7 +133,7 @@ returns-in-Ok-clause-call g c =
     (λ told. subst (λ (n : ℕ). Step told s c.args.client call Fine (replies.Held n) c.hold_sizes.new.self.state.value) (sym held)
     (subst (λ (t : State). Step told s c.args.client call Fine (replies.Held (area.held + own_sum sizes)) t) (sym leaves)
     (reserve_step c.calls_follow_laws.ensures.ways told s c.args.client c.args.area area sizes (c.self.invariant.broken ∙ c.if-self.false) none c.in_ok-place.ensures.there)))
-    (sized_fine c.grow.result _ _ (g.D.Disk.state c.self.inside.disk) (g.D.Disk.state c.grow.new.disk) c.in-Ok.is c.grow.ensures.change.writes) moments tt
+    (sized_fine c.grow.result _ _ (g.D.Disk.state c.self.inside.disk) (g.D.Disk.state c.grow.new.disk) c.in-Ok.is c.grow.ensures.change.writes) moments (λ want. absurd (cc want)) tt
 
 pub returns-in-Err-DiskFault-clause-call : goal.returns-in-Err-DiskFault-clause-call
 returns-in-Err-DiskFault-clause-call g c =
@@ -175,3 +175,5 @@ returns-in-Err-NoMemory-clause-call g c =
     (ap (λ (log : Log). log.state.value) (done.change.no_memory refl))
     (writes_seen g.D.Disk.state (s, c.self.inside.disk) c.args.self.now c.self.view_is _ (g.D.Disk.state c.grow.new.disk)
     (sized_starved c.grow.result (g.D.Disk.state c.self.inside.disk) (g.D.Disk.state c.grow.new.disk) (c.in-Err-NoMemory.is ∙ ap (λ e. Err e) c.in-Err-NoMemory.field-0-is) c.grow.ensures.change.writes)) moments
+    (crash_not_grown c.calls_follow_laws.ensures.crashes g.D.Disk.state c.self.inside.log c.self.inside.disk c.args.self.now c.self.view_is c.self.invariant (g.D.Disk.state c.grow.new.disk)
+    (done.change.old_size refl))

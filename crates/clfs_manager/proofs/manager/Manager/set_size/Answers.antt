@@ -4,7 +4,7 @@ use Rattle.clfs_model.specs.Run.{asks}
 use Rattle.clfs_model.specs.declared.refusal.Refusal.{Refusal}
 use Rattle.clfs_manager.specs.Calls.{WritesAs}
 use Rattle.clfs_manager.specs.declared.log.Log.{Log}
-use Rattle.clfs_manager.proofs.CopyingCalls.{crash_answered}
+use Rattle.clfs_manager.proofs.CopyingCalls.{crash_answered, crash_not_grown}
 use Rattle.clfs_manager.proofs.WritingCalls.{sized_fine, sized_faulted, sized_starved, call_done, call_faulted, call_starved, call_idle, call_refused, call_stopped}
 use Rattle.std.proofs.Common.{◌≡◌, ℕ, true, arith, subst, refl, sym, ap, ◌∙◌, false}
 use Rattle.clfs_model.specs.declared.call.Call.TheVariants as calls
@@ -85,5 +85,7 @@ returns-clause-call g c = λ client.
           let done = rw w.in-Err-NoMemory.field-0-is at w.in-Err-NoMemory.ensures in
           subst Writes (sym w.result-is) (call_starved c.calls_follow_laws.ensures.ways g.D.Disk.state c.self.inside.log c.resize.new.self c.self.inside.disk c.resize.new.disk c.args.self.now c.self.view_is c.self.invariant c.if-self.false
           client call replies.Containers refl (ap (λ (log : Log). log.state.value) (done.change.no_memory refl))
-          (writes_seen g.D.Disk.state (s, c.self.inside.disk) c.args.self.now c.self.view_is _ new (sized_starved c.resize.result old new (w.in-Err-NoMemory.is ∙ ap (λ e. Err e) w.in-Err-NoMemory.field-0-is) c.resize.ensures.change.writes)) moments)
+          (writes_seen g.D.Disk.state (s, c.self.inside.disk) c.args.self.now c.self.view_is _ new (sized_starved c.resize.result old new (w.in-Err-NoMemory.is ∙ ap (λ e. Err e) w.in-Err-NoMemory.field-0-is) c.resize.ensures.change.writes)) moments
+          (crash_not_grown c.calls_follow_laws.ensures.crashes g.D.Disk.state c.self.inside.log c.self.inside.disk c.args.self.now c.self.view_is c.self.invariant new
+          (done.change.old_size refl)))
     ]

@@ -4,7 +4,7 @@ use Rattle.clfs_disk.specs.Files.{Unchanged}
 use Rattle.clfs_disk.specs.State.{Passes}
 use Rattle.clfs_model.specs.declared.reply.Reply.TheVariants as replies
 use Rattle.clfs_manager.proofs.ReadKeeps.{still as still_passes}
-use Rattle.clfs_manager.proofs.StepCalls.{said, stepped, undamaged, still, written, refused_by}
+use Rattle.clfs_manager.proofs.StepCalls.{no_memory_by, place_by, said, stepped, undamaged, still, written, refused_by}
 use Rattle.clfs_manager.proofs.manager.Manager.step.Goals as goal
 
 pub returns-in-OpenStream-clause-damage : goal.returns-in-OpenStream-clause-damage
@@ -379,3 +379,145 @@ returns-in-SetSize-clause-step g c = rw c.in-SetSize.is (stepped _ _ _ _ replies
 
 pub returns-in-Info-clause-step : goal.returns-in-Info-clause-step
 returns-in-Info-clause-step g c = rw c.in-Info.is (stepped _ _ _ _ replies.Info _ _ _ (said _ _ _ c.reply_of-in-Info.ensures.exact) (c.info.ensures.step (g.D.Disk.state c.args.self.now.1).nature.tells_contents c.args.client))
+
+pub returns-in-OpenStream-clause-no_memory : goal.returns-in-OpenStream-clause-no_memory
+returns-in-OpenStream-clause-no_memory g c = no_memory_by replies.Stream _ _ (λ x e. cc e) (said _ _ _ c.reply_of.ensures.exact) c.open_stream.ensures.call.no_memory
+
+pub returns-in-Reserve-clause-no_memory : goal.returns-in-Reserve-clause-no_memory
+returns-in-Reserve-clause-no_memory g c = no_memory_by replies.Held _ _ (λ x e. cc e) (said _ _ _ c.reply_of-in-Reserve.ensures.exact) c.reserve.ensures.call.no_memory
+
+pub returns-in-Append-clause-no_memory : goal.returns-in-Append-clause-no_memory
+returns-in-Append-clause-no_memory g c = no_memory_by replies.Placed _ _ (λ x e. cc e) (said _ _ _ c.reply_of-in-Append.ensures.exact) c.append.ensures.call.no_memory
+
+pub returns-in-Flush-clause-no_memory : goal.returns-in-Flush-clause-no_memory
+returns-in-Flush-clause-no_memory g c = no_memory_by replies.Flushed _ _ (λ x e. cc e) (said _ _ _ c.reply_of-in-Flush.ensures.exact) c.flush.ensures.call.no_memory
+
+pub returns-in-FlushTo-clause-no_memory : goal.returns-in-FlushTo-clause-no_memory
+returns-in-FlushTo-clause-no_memory g c = no_memory_by replies.Flushed _ _ (λ x e. cc e) (said _ _ _ c.reply_of-in-FlushTo.ensures.exact) c.flush_to.ensures.call.no_memory
+
+pub returns-in-WriteRestart-clause-no_memory : goal.returns-in-WriteRestart-clause-no_memory
+returns-in-WriteRestart-clause-no_memory g c = no_memory_by replies.Placed _ _ (λ x e. cc e) (said _ _ _ c.reply_of-in-WriteRestart.ensures.exact) c.write_restart.ensures.call.no_memory
+
+pub returns-in-Advance-clause-no_memory : goal.returns-in-Advance-clause-no_memory
+returns-in-Advance-clause-no_memory g c = no_memory_by replies.Base _ _ (λ x e. cc e) (said _ _ _ c.reply_of-in-Advance.ensures.exact) c.advance.ensures.call.no_memory
+
+pub returns-in-SetArchive-clause-no_memory : goal.returns-in-SetArchive-clause-no_memory
+returns-in-SetArchive-clause-no_memory g c = no_memory_by (λ _. replies.Done) _ _ (λ x e. cc e) (said _ _ _ c.reply_of-in-SetArchive.ensures.exact) (c.set_archive.ensures.call c.args.client).no_memory
+
+pub returns-in-SetArchiveTail-clause-no_memory : goal.returns-in-SetArchiveTail-clause-no_memory
+returns-in-SetArchiveTail-clause-no_memory g c = no_memory_by replies.Tail _ _ (λ x e. cc e) (said _ _ _ c.reply_of-in-SetArchiveTail.ensures.exact) (c.set_archive_tail.ensures.call c.args.client).no_memory
+
+pub returns-in-InstallPolicy-clause-no_memory : goal.returns-in-InstallPolicy-clause-no_memory
+returns-in-InstallPolicy-clause-no_memory g c = no_memory_by (λ _. replies.Done) _ _ (λ x e. cc e) (said _ _ _ c.reply_of-in-InstallPolicy.ensures.exact) (c.install_policy.ensures.call c.args.client).no_memory
+
+pub returns-in-RemovePolicy-clause-no_memory : goal.returns-in-RemovePolicy-clause-no_memory
+returns-in-RemovePolicy-clause-no_memory g c = no_memory_by (λ _. replies.Done) _ _ (λ x e. cc e) (said _ _ _ c.reply_of-in-RemovePolicy.ensures.exact) (c.remove_policy.ensures.call c.args.client).no_memory
+
+pub returns-in-SetSize-clause-no_memory : goal.returns-in-SetSize-clause-no_memory
+returns-in-SetSize-clause-no_memory g c = no_memory_by replies.Containers _ _ (λ x e. cc e) (said _ _ _ c.reply_of-in-SetSize.ensures.exact) (c.set_size.ensures.call c.args.client).no_memory
+
+pub returns-in-Read-clause-no_memory : goal.returns-in-Read-clause-no_memory
+returns-in-Read-clause-no_memory g c = λ _. c.read.ensures.flushed_part
+
+pub returns-in-ReadNext-clause-no_memory : goal.returns-in-ReadNext-clause-no_memory
+returns-in-ReadNext-clause-no_memory g c = λ _. c.read_next.ensures.flushed_part
+
+pub returns-in-ReadRestart-clause-no_memory : goal.returns-in-ReadRestart-clause-no_memory
+returns-in-ReadRestart-clause-no_memory g c = λ _. c.read_restart.ensures.flushed_part
+
+pub returns-in-PreviousRestart-clause-no_memory : goal.returns-in-PreviousRestart-clause-no_memory
+returns-in-PreviousRestart-clause-no_memory g c = λ _. c.previous_restart.ensures.flushed_part
+
+pub returns-in-CreateArea-clause-no_memory : goal.returns-in-CreateArea-clause-no_memory
+returns-in-CreateArea-clause-no_memory g c = λ _. c.stored.ensures.survives_reading 0 _ (subst (λ d. Passes Unchanged (g.D.Disk.state c.args.self.now.1) (g.D.Disk.state d)) (sym c.create_area.ensures.disk)
+    (still_passes (g.D.Disk.state c.args.self.now.1)))
+
+pub returns-in-DeleteArea-clause-no_memory : goal.returns-in-DeleteArea-clause-no_memory
+returns-in-DeleteArea-clause-no_memory g c = λ _. c.stored.ensures.survives_reading 0 _ (subst (λ d. Passes Unchanged (g.D.Disk.state c.args.self.now.1) (g.D.Disk.state d)) (sym c.delete_area.ensures.disk)
+    (still_passes (g.D.Disk.state c.args.self.now.1)))
+
+pub returns-in-Release-clause-no_memory : goal.returns-in-Release-clause-no_memory
+returns-in-Release-clause-no_memory g c = λ _. c.stored.ensures.survives_reading 0 _ (subst (λ d. Passes Unchanged (g.D.Disk.state c.args.self.now.1) (g.D.Disk.state d)) (sym c.release.ensures.disk)
+    (still_passes (g.D.Disk.state c.args.self.now.1)))
+
+pub returns-in-EndRead-clause-no_memory : goal.returns-in-EndRead-clause-no_memory
+returns-in-EndRead-clause-no_memory g c = λ _. c.stored.ensures.survives_reading 0 _ (subst (λ d. Passes Unchanged (g.D.Disk.state c.args.self.now.1) (g.D.Disk.state d)) (sym c.end_read.ensures.disk)
+    (still_passes (g.D.Disk.state c.args.self.now.1)))
+
+pub returns-in-Align-clause-no_memory : goal.returns-in-Align-clause-no_memory
+returns-in-Align-clause-no_memory g c = λ _. c.stored.ensures.survives_nothing 0
+
+pub returns-in-ListExtents-clause-no_memory : goal.returns-in-ListExtents-clause-no_memory
+returns-in-ListExtents-clause-no_memory g c = λ _. c.stored.ensures.survives_nothing 0
+
+pub returns-in-Info-clause-no_memory : goal.returns-in-Info-clause-no_memory
+returns-in-Info-clause-no_memory g c = λ _. c.stored.ensures.survives_nothing 0
+
+pub returns-in-Read-clause-place : goal.returns-in-Read-clause-place
+returns-in-Read-clause-place g c = rw c.in-Read.is (place_by _ (λ (found : ℕ × LogEntry). replies.Found found.0 found.1) _ _ (λ x given e. cc e) (said _ _ _ c.reply_of-in-Read.ensures.exact) c.read.ensures.place)
+
+pub returns-in-ReadNext-clause-place : goal.returns-in-ReadNext-clause-place
+returns-in-ReadNext-clause-place g c = rw c.in-ReadNext.is (place_by _ replies.Next _ _ (λ x given e. cc e) (said _ _ _ c.reply_of-in-ReadNext.ensures.exact) c.read_next.ensures.place)
+
+pub returns-in-ReadRestart-clause-place : goal.returns-in-ReadRestart-clause-place
+returns-in-ReadRestart-clause-place g c = rw c.in-ReadRestart.is (place_by _ (λ (found : ℕ × LogEntry). replies.Found found.0 found.1) _ _ (λ x given e. cc e) (said _ _ _ c.reply_of-in-ReadRestart.ensures.exact) c.read_restart.ensures.place)
+
+pub returns-in-PreviousRestart-clause-place : goal.returns-in-PreviousRestart-clause-place
+returns-in-PreviousRestart-clause-place g c = rw c.in-PreviousRestart.is (place_by _ replies.Next _ _ (λ x given e. cc e) (said _ _ _ c.reply_of-in-PreviousRestart.ensures.exact) c.previous_restart.ensures.place)
+
+pub returns-in-OpenStream-clause-place : goal.returns-in-OpenStream-clause-place
+returns-in-OpenStream-clause-place g c = rw c.in-OpenStream.is (λ _ _. tt)
+
+pub returns-in-CreateArea-clause-place : goal.returns-in-CreateArea-clause-place
+returns-in-CreateArea-clause-place g c = rw c.in-CreateArea.is (λ _ _. tt)
+
+pub returns-in-DeleteArea-clause-place : goal.returns-in-DeleteArea-clause-place
+returns-in-DeleteArea-clause-place g c = rw c.in-DeleteArea.is (λ _ _. tt)
+
+pub returns-in-Reserve-clause-place : goal.returns-in-Reserve-clause-place
+returns-in-Reserve-clause-place g c = rw c.in-Reserve.is (λ _ _. tt)
+
+pub returns-in-Release-clause-place : goal.returns-in-Release-clause-place
+returns-in-Release-clause-place g c = rw c.in-Release.is (λ _ _. tt)
+
+pub returns-in-Align-clause-place : goal.returns-in-Align-clause-place
+returns-in-Align-clause-place g c = rw c.in-Align.is (λ _ _. tt)
+
+pub returns-in-Append-clause-place : goal.returns-in-Append-clause-place
+returns-in-Append-clause-place g c = rw c.in-Append.is (λ _ _. tt)
+
+pub returns-in-Flush-clause-place : goal.returns-in-Flush-clause-place
+returns-in-Flush-clause-place g c = rw c.in-Flush.is (λ _ _. tt)
+
+pub returns-in-FlushTo-clause-place : goal.returns-in-FlushTo-clause-place
+returns-in-FlushTo-clause-place g c = rw c.in-FlushTo.is (λ _ _. tt)
+
+pub returns-in-EndRead-clause-place : goal.returns-in-EndRead-clause-place
+returns-in-EndRead-clause-place g c = rw c.in-EndRead.is (λ _ _. tt)
+
+pub returns-in-WriteRestart-clause-place : goal.returns-in-WriteRestart-clause-place
+returns-in-WriteRestart-clause-place g c = rw c.in-WriteRestart.is (λ _ _. tt)
+
+pub returns-in-Advance-clause-place : goal.returns-in-Advance-clause-place
+returns-in-Advance-clause-place g c = rw c.in-Advance.is (λ _ _. tt)
+
+pub returns-in-SetArchive-clause-place : goal.returns-in-SetArchive-clause-place
+returns-in-SetArchive-clause-place g c = rw c.in-SetArchive.is (λ _ _. tt)
+
+pub returns-in-SetArchiveTail-clause-place : goal.returns-in-SetArchiveTail-clause-place
+returns-in-SetArchiveTail-clause-place g c = rw c.in-SetArchiveTail.is (λ _ _. tt)
+
+pub returns-in-ListExtents-clause-place : goal.returns-in-ListExtents-clause-place
+returns-in-ListExtents-clause-place g c = rw c.in-ListExtents.is (λ _ _. tt)
+
+pub returns-in-InstallPolicy-clause-place : goal.returns-in-InstallPolicy-clause-place
+returns-in-InstallPolicy-clause-place g c = rw c.in-InstallPolicy.is (λ _ _. tt)
+
+pub returns-in-RemovePolicy-clause-place : goal.returns-in-RemovePolicy-clause-place
+returns-in-RemovePolicy-clause-place g c = rw c.in-RemovePolicy.is (λ _ _. tt)
+
+pub returns-in-SetSize-clause-place : goal.returns-in-SetSize-clause-place
+returns-in-SetSize-clause-place g c = rw c.in-SetSize.is (λ _ _. tt)
+
+pub returns-in-Info-clause-place : goal.returns-in-Info-clause-place
+returns-in-Info-clause-place g c = rw c.in-Info.is (λ _ _. tt)

@@ -24,6 +24,9 @@ returns g c =
       survives_opening = λ client after time.
           crash_managed_reads c.logs_are_copies_and_blocks.ensures.stands c.logs_are_copies_and_blocks.ensures.by_file disk (g.D.Disk.state after) log managed (reopens client)
           (λ whole. c.states_between_survive.ensures.reopens log.state.value client managed.valid whole) time;
+      survives_reading = λ at after time.
+          crash_managed_reads c.logs_are_copies_and_blocks.ensures.stands c.logs_are_copies_and_blocks.ensures.by_file disk (g.D.Disk.state after) log managed (bad_line at)
+          (λ _. c.states_between_survive.ensures.bad_line log.state.value at managed.valid) time;
       survives_nothing = λ at.
           crash_managed_reads c.logs_are_copies_and_blocks.ensures.stands c.logs_are_copies_and_blocks.ensures.by_file disk disk log managed (bad_line at)
           (λ _. c.states_between_survive.ensures.bad_line log.state.value at managed.valid) (still disk);

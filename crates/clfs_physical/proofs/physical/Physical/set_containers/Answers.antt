@@ -4,7 +4,7 @@ use Rattle.clfs_physical.specs.declared.change.Change.TheVariants as changes
 use Rattle.clfs_physical.specs.Changes.{with_containers, next_copy}
 use Rattle.clfs_physical.specs.Stored.{Stores}
 use Rattle.clfs_physical.proofs.Joining.{leaves_then}
-use Rattle.clfs_physical.proofs.Growing.{stores_grown, made_grown, grown_leaves}
+use Rattle.clfs_physical.proofs.Growing.{stores_grown, made_grown, grown_keeps, grown_leaves}
 use Rattle.clfs_physical.proofs.physical.Physical.set_containers.Goals as goal
 
 pub returns-in_err-make_files-clause-moments : goal.returns-in_err-make_files-clause-moments
@@ -15,6 +15,11 @@ returns-in_err-make_files-clause-moments g c settled whole blocks stores =
 pub returns-in_err-make_files-clause-kept : goal.returns-in_err-make_files-clause-kept
 returns-in_err-make_files-clause-kept g c wanting whole blocks stores =
     stores_grown whole c.args.self.now c.args.containers blocks c.image-image.result.now c.image-image.ensures.exact c.image-image.ensures.image _ _ stores c.make_files.ensures.grown
+
+pub returns-in_err-make_files-clause-no_copy : goal.returns-in_err-make_files-clause-no_copy
+returns-in_err-make_files-clause-no_copy g c wanting settled whole blocks stores =
+    grown_keeps whole c.args.self.now blocks c.image-image.result.now c.image-image.ensures.exact c.image-image.ensures.image _ _ settled stores
+    c.make_files.ensures.time
 
 pub returns-in_err-write_containers-clause-moments : goal.returns-in_err-write_containers-clause-moments
 returns-in_err-write_containers-clause-moments g c settled whole blocks stores =

@@ -2,15 +2,22 @@ use Rattle.std.proofs.Common.{subst, sym}
 use Rattle.clfs_turn.specs.Seats.{LockState}
 use Rattle.clfs_model.specs.Valid.{IsValid}
 use Rattle.clfs_shared.specs.declared.opening.Opening.{Opening}
-use Rattle.clfs_shared.proofs.Telling.{areas_by, calm_by, covered, stepped_by}
+use Rattle.clfs_shared.proofs.Telling.{areas_by, calm_by, covered, stepped_by, wanted_by}
 use Rattle.clfs_shared.proofs.shared.SharedLog.step.Goals as goal
 
 pub returns-clause-step : goal.returns-clause-step
 returns-clause-step g c = λ answered.
     let disk = g.D.Disk.state in
     let entries = g.J.Recorder.entries in
-    stepped_by (λ v. entries v.log.value.journal) (λ v. v.log.value.manager.0) (λ v. disk v.log.value.manager.1) c.client-client.result c.args.session.now c.call-reply.new.seat c.args.call.now c.call-reply.result
+    stepped_by g.J.Recorder.may_lack (λ v. entries v.log.value.journal) (λ v. v.log.value.manager.0) (λ v. disk v.log.value.manager.1) c.client-client.result c.args.session.now c.call-reply.new.seat c.args.call.now c.call-reply.result
     c.client-client.ensures c.call-reply.ensures.called c.call-reply.ensures.same answered
+
+pub returns-clause-wanted : goal.returns-clause-wanted
+returns-clause-wanted g c = λ lacking.
+    let disk = g.D.Disk.state in
+    let entries = g.J.Recorder.entries in
+    wanted_by g.J.Recorder.may_lack (λ v. entries v.log.value.journal) (λ v. v.log.value.manager.0) (λ v. disk v.log.value.manager.1) c.client-client.result c.args.session.now c.call-reply.new.seat c.args.call.now c.call-reply.result
+    c.client-client.ensures c.call-reply.ensures.called lacking
 
 pub returns-clause-areas : goal.returns-clause-areas
 returns-clause-areas g c = λ left legal. areas_by (record {

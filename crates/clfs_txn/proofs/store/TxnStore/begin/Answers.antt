@@ -39,7 +39,7 @@ returns-clause-refused g c =
 pub returns-clause-moments : goal.returns-clause-moments
 returns-clause-moments g c =
     let laws : Crashes = record { left = c.crashes_leave_the_table.ensures.left; ends = c.crashes_leave_the_table.ensures.ends; at_rest = c.crashes_leave_the_table.ensures.at_rest; same = c.the_same_log_has_the_same_table.ensures } in
-    moments g.D.Disk.state c.self.inside.table c.args.self.now (asked.Begin c.args.changes) _ laws c.self.view_is tt c.self.invariant c.stored.ensures.survives (c.begin.ensures.moments _ _)
+    moments g.D.Disk.state c.self.inside.table c.args.self.now (asked.Begin c.args.changes) _ laws c.self.view_is tt c.self.invariant c.stored.ensures.survives (c.begin.ensures.moments _)
 
 pub returns-clause-table : goal.returns-clause-table
 returns-clause-table g c =

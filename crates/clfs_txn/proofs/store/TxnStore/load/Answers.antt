@@ -22,7 +22,7 @@ returns-in-Ok-clause-moments g c = λ whole safe.
     let valid = c.stored.ensures.valid in
     loads_meanwhile _ c.args.client m.0 (g.D.Disk.state m.1) _ c.the_same_log_has_the_same_table.ensures refl whole
     (c.crashes_leave_the_table.ensures.loading m.0 c.args.client valid whole c.requires.area safe)
-    (λ x left. c.crashes_leave_the_table.ensures.unloaded m.0 0 x valid safe left) (c.stored.ensures.survives_nothing 0) (c.in-Ok.ensures.moments _ _ whole)
+    (λ x left. c.crashes_leave_the_table.ensures.unloaded m.0 0 x valid safe left) (c.stored.ensures.survives_nothing 0) (c.in-Ok.ensures.moments _ whole)
 
 pub returns-in-Err-clause-moments : goal.returns-in-Err-clause-moments
 returns-in-Err-clause-moments g c = λ whole safe.
@@ -30,7 +30,7 @@ returns-in-Err-clause-moments g c = λ whole safe.
     let valid = c.stored.ensures.valid in
     loads_meanwhile _ c.args.client m.0 (g.D.Disk.state m.1) _ c.the_same_log_has_the_same_table.ensures refl whole
     (c.crashes_leave_the_table.ensures.loading m.0 c.args.client valid whole c.requires.area safe)
-    (λ x left. c.crashes_leave_the_table.ensures.unloaded m.0 0 x valid safe left) (c.stored.ensures.survives_nothing 0) (c.in-Err.ensures.moments _ _ whole)
+    (λ x left. c.crashes_leave_the_table.ensures.unloaded m.0 0 x valid safe left) (c.stored.ensures.survives_nothing 0) (c.in-Err.ensures.moments _ whole)
 
 pub returns-in-Ok-clause-safe : goal.returns-in-Ok-clause-safe
 returns-in-Ok-clause-safe g c = λ tells whole safe.

@@ -44,7 +44,7 @@ pub returns-clause-moments : goal.returns-clause-moments
 returns-clause-moments g c =
     let fits : c.args.value < 2 ^ 64 = omega arith in
     let laws : Crashes = record { left = c.crashes_leave_the_table.ensures.left; ends = c.crashes_leave_the_table.ensures.ends; at_rest = c.crashes_leave_the_table.ensures.at_rest; same = c.the_same_log_has_the_same_table.ensures } in
-    moments g.D.Disk.state c.self.inside.table c.args.self.now (asked.Set c.args.txn c.args.cell c.args.value) _ laws c.self.view_is (c.requires, fits) c.self.invariant c.stored.ensures.survives (c.set.ensures.moments _ _)
+    moments g.D.Disk.state c.self.inside.table c.args.self.now (asked.Set c.args.txn c.args.cell c.args.value) _ laws c.self.view_is (c.requires, fits) c.self.invariant c.stored.ensures.survives (c.set.ensures.moments _)
 
 pub returns-clause-table : goal.returns-clause-table
 returns-clause-table g c =

@@ -47,12 +47,12 @@ returns-clause-no_damage g c = λ container offset at.
     no_damage true _ _ _ replies.Placed c.append-reply.result _ container offset at refl (c.append-reply.ensures.call.step true)
 
 pub returns-clause-moments : goal.returns-clause-moments
-returns-clause-moments g c = λ before after.
-    call_leaves g.D.Disk.state before after _ _ _ _ _ _ _ _ _ c.the_same_log_has_the_same_table.ensures (c.client.ensures ∙ ap (λ v. v.0.memory.client) c.self.view_is)
+returns-clause-moments g c = λ under.
+    call_leaves g.D.Disk.state under _ _ _ _ _ _ _ _ _ (c.client.ensures ∙ ap (λ v. v.0.memory.client) c.self.view_is)
     (append_is _ _ _ _ _ (c.area.ensures ∙ ap (λ v. v.0.memory.area) c.self.view_is) c.in_ok-draft.ensures c.none-sizes.ensures)
     (ap (λ v. v.0.log) c.self.view_is) (ap (λ v. v.1) c.self.view_is) c.requires c.append-reply.ensures.call.moments
 
 pub returns-in_err-draft-clause-moments : goal.returns-in_err-draft-clause-moments
-returns-in_err-draft-clause-moments g c = λ before after.
-    none_leaves g.D.Disk.state before after _ _ _ _ _ _ c.the_same_log_has_the_same_table.ensures (ap (λ v. v.0.log) c.self.view_is) (ap (λ v. v.1) c.self.view_is)
+returns-in_err-draft-clause-moments g c = λ under.
+    none_leaves g.D.Disk.state under _ _ _ _ _ _ (ap (λ v. v.0.log) c.self.view_is) (ap (λ v. v.1) c.self.view_is)
     c.requires c.stored.ensures.survives

@@ -7,4 +7,4 @@ pub returns-in-Err-clause-step : goal.returns-in-Err-clause-step
 returns-in-Err-clause-step g c = not_found _ c.args.self.now.0 (asked.Back c.args.txn c.args.kept) c.args.txn c.in-Err.refusal _ refl c.in-Err.ensures
 
 pub returns-in-Err-clause-moments : goal.returns-in-Err-clause-moments
-returns-in-Err-clause-moments g c = λ before after along present. present
+returns-in-Err-clause-moments g c = λ under along present. present

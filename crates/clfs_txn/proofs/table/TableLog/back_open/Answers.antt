@@ -27,14 +27,14 @@ pub returns-in-Err-clause-damage : goal.returns-in-Err-clause-damage
 returns-in-Err-clause-damage g c = λ tells container offset at is. c.in-Err.ensures.damage tells container offset at (of_the_log _ _ is)
 
 pub returns-then-have-kept-clause-moments : goal.returns-then-have-kept-clause-moments
-returns-then-have-kept-clause-moments g c = λ before after along present. present
+returns-then-have-kept-clause-moments g c = λ under along present. present
 
 pub returns-in-Ok-clause-moments : goal.returns-in-Ok-clause-moments
-returns-in-Ok-clause-moments g c = λ before after.
-    back_meanwhile before after _ c.args.self.now.0 c.args.txn c.args.kept c.standing-have.result (transaction_of c.args.t.now) _ _ c.requires c.standing-have.ensures.standing
-    c.if-have-kept.false (c.in-Ok.ensures.moments before after (λ now. answers replies.Done now))
+returns-in-Ok-clause-moments g c = λ under.
+    back_meanwhile under _ c.args.self.now.0 c.args.txn c.args.kept c.standing-have.result (transaction_of c.args.t.now) _ _ c.requires c.standing-have.ensures.standing
+    c.if-have-kept.false (c.in-Ok.ensures.moments under (λ now. answers replies.Done now))
 
 pub returns-in-Err-clause-moments : goal.returns-in-Err-clause-moments
-returns-in-Err-clause-moments g c = λ before after.
-    back_meanwhile before after _ c.args.self.now.0 c.args.txn c.args.kept c.standing-have.result (transaction_of c.args.t.now) _ _ c.requires c.standing-have.ensures.standing
-    c.if-have-kept.false (c.in-Err.ensures.moments before after (λ now. answers replies.Done now))
+returns-in-Err-clause-moments g c = λ under.
+    back_meanwhile under _ c.args.self.now.0 c.args.txn c.args.kept c.standing-have.result (transaction_of c.args.t.now) _ _ c.requires c.standing-have.ensures.standing
+    c.if-have-kept.false (c.in-Err.ensures.moments under (λ now. answers replies.Done now))

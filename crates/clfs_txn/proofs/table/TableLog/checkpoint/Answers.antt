@@ -6,7 +6,7 @@ use Rattle.clfs_txn.proofs.table.TableLog.checkpoint.Goals as goal
 pub returns-then-self : goal.returns-then-self
 returns-then-self g c = record {
   step = λ told. broken told c.args.self.now.0 (sym (ap (λ v. v.0.log.broken) c.self.view_is) ∙ (sym c.self.invariant.knows ∙ c.if-self.true));
-  moments = λ before after along present. present;
+  moments = λ under along present. present;
   writes = at_once _ _ refl;
   kept = λ _. refl;
   stopped = λ _. refl;
@@ -18,4 +18,4 @@ returns-then-open_now-gt0-clause-step g c = λ told.
     (c.open_now-open_now.ensures.count ∙ ap (λ v. length v.0.memory.transactions) c.self.view_is) c.if-open_now-gt0.true
 
 pub returns-then-open_now-gt0-clause-moments : goal.returns-then-open_now-gt0-clause-moments
-returns-then-open_now-gt0-clause-moments g c = λ before after along present. present
+returns-then-open_now-gt0-clause-moments g c = λ under along present. present

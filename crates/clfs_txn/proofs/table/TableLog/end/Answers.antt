@@ -87,19 +87,19 @@ returns-in-Err-release-clause-no_damage g c = λ container offset at is. c.in-Er
 pub returns-in-Err-clause-moments : goal.returns-in-Err-clause-moments
 returns-in-Err-clause-moments g c =
     let t = transaction_of c.args.t.now in
-    let call = append_call_is c.args.self.now.0.memory t c.args.action c.args.action _ _ c.args.flush refl c.null.ensures in λ before after.
-    first_call before after _ _ _ _ _ _ _ c.requires (by_call before after _ _ _ _ _ _ call (c.in-Err.ensures.moments before after))
+    let call = append_call_is c.args.self.now.0.memory t c.args.action c.args.action _ _ c.args.flush refl c.null.ensures in λ under.
+    first_call under _ _ _ _ _ _ _ c.requires (by_call under _ _ _ _ _ _ call (c.in-Err.ensures.moments under))
 
 pub returns-in-Ok-clause-moments : goal.returns-in-Ok-clause-moments
 returns-in-Ok-clause-moments g c =
     let t = transaction_of c.args.t.now in
-    let call = append_call_is c.args.self.now.0.memory t c.args.action c.args.action _ _ c.args.flush refl c.null.ensures in λ before after.
+    let call = append_call_is c.args.self.now.0.memory t c.args.action c.args.action _ _ c.args.flush refl c.null.ensures in λ under.
     rw (c.in-Ok.ensures.disk, ap (λ v. v.1) c.self.view_is)
-    (first_call before after _ _ _ _ _ _ _ c.requires (by_call before after _ _ _ _ _ _ call (c.in_default.ensures.moments before after)))
+    (first_call under _ _ _ _ _ _ _ c.requires (by_call under _ _ _ _ _ _ call (c.in_default.ensures.moments under)))
 
 pub returns-in-Err-release-clause-moments : goal.returns-in-Err-release-clause-moments
 returns-in-Err-release-clause-moments g c =
     let t = transaction_of c.args.t.now in
-    let call = append_call_is c.args.self.now.0.memory t c.args.action c.args.action _ _ c.args.flush refl c.null.ensures in λ before after.
+    let call = append_call_is c.args.self.now.0.memory t c.args.action c.args.action _ _ c.args.flush refl c.null.ensures in λ under.
     rw (c.in-Err-release.ensures.disk, ap (λ v. v.1) c.self.view_is)
-    (first_call before after _ _ _ _ _ _ _ c.requires (by_call before after _ _ _ _ _ _ call (c.in_default.ensures.moments before after)))
+    (first_call under _ _ _ _ _ _ _ c.requires (by_call under _ _ _ _ _ _ call (c.in_default.ensures.moments under)))

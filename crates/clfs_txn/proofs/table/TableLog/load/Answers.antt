@@ -7,7 +7,7 @@ use Rattle.clfs_txn.proofs.Joined.{tells_on, writes_then}
 use Rattle.clfs_txn.proofs.LoadParts.{from_same}
 use Rattle.clfs_txn.proofs.LoadWhole.{load_is, load_then, so_loaded, so_refused, unread_by, writes_not_made}
 use Rattle.clfs_txn.proofs.LoadMoments.{load_meanwhile}
-use Rattle.clfs_txn.specs.Crashes.{CrashLeavesTable}
+use Rattle.clfs_txn.specs.UnderWay.{CrashLeaves}
 use Rattle.clfs_txn.proofs.table.TableLog.load.Goals as goal
 
 pub over-requires-clause-client : goal.over-requires-clause-client
@@ -59,14 +59,14 @@ pub returns-in-Err-clause-writes : goal.returns-in-Err-clause-writes
 returns-in-Err-clause-writes g c = writes_not_made _ _ c.in-Err.refusal c.in-Err.ensures.writes
 
 pub returns-in-Ok-clause-moments : goal.returns-in-Ok-clause-moments
-returns-in-Ok-clause-moments g c = λ before after whole present along.
-    load_meanwhile before after _ _ _ _ c.make_area.new.manager.0 c.over.result.0.log c.in-Ok.memory c.over.result.0.memory _ _ _
+returns-in-Ok-clause-moments g c = λ under whole present along.
+    load_meanwhile under _ _ _ _ c.make_area.new.manager.0 c.over.result.0.log c.in-Ok.memory c.over.result.0.memory _ _ _
     (ap (λ (n : Nature). n.tells_contents) (ap (λ d. (g.D.Disk.state d).nature) c.over.ensures.disk ∙ c.in-Ok.ensures.writes.time.nature))
     (ap (λ (x : Memory). x.client) c.in-Ok.ensures.memory) c.over.ensures.memory c.over.ensures.log c.in-Ok.ensures.records
     (ap (λ d. (g.D.Disk.state d).nature) c.over.ensures.disk ∙ c.in-Ok.ensures.writes.time.nature)
     (c.in-Ok.ensures.step _ (load_area (length c.args.manager.0.records) c.args.client))
-    (subst (λ d. CrashLeavesTable before after (g.D.Disk.state c.args.manager.1) (g.D.Disk.state d)) (sym c.over.ensures.disk) (c.in-Ok.ensures.moments before after whole (along.0 whole)))
-    along (c.loaded.ensures.moments before after)
+    (subst (λ d. CrashLeaves under (g.D.Disk.state c.args.manager.1) (g.D.Disk.state d)) (sym c.over.ensures.disk) (c.in-Ok.ensures.moments under whole (along.0 whole)))
+    along (c.loaded.ensures.moments under)
 
 pub returns-in-Err-clause-moments : goal.returns-in-Err-clause-moments
-returns-in-Err-clause-moments g c = λ before after whole present along. c.in-Err.ensures.moments before after whole (along.0 whole)
+returns-in-Err-clause-moments g c = λ under whole present along. c.in-Err.ensures.moments under whole (along.0 whole)

@@ -13,8 +13,8 @@ returns-then-eq-clause-step g c =
 
 pub returns-then-eq-clause-moments : goal.returns-then-eq-clause-moments
 returns-then-eq-clause-moments g c =
-    let is : (c.args.info.now.last == null_lsn) ≡ true = ap (λ (n : ℕ). c.args.info.now.last == n) (sym c.null.ensures) ∙ sym c.eq.ensures ∙ c.if-eq.true in λ before after.
-    meanwhile_as before after _ _ _ _ _ _ _ (is_new _ _ _ _ c.args.info.now is) (c.write_first.ensures.moments before after)
+    let is : (c.args.info.now.last == null_lsn) ≡ true = ap (λ (n : ℕ). c.args.info.now.last == n) (sym c.null.ensures) ∙ sym c.eq.ensures ∙ c.if-eq.true in λ under.
+    meanwhile_as under _ _ _ _ _ _ _ (is_new _ _ _ _ c.args.info.now is) (c.write_first.ensures.moments under)
 
 pub returns-clause-moments : goal.returns-clause-moments
-returns-clause-moments g c = λ before after along present. reads_leave before after _ _ c.load_table.ensures.time present
+returns-clause-moments g c = λ under along present. reads_leave under _ _ c.load_table.ensures.time present

@@ -21,8 +21,8 @@ returns-in-Err-clause-damage g c = λ tells container offset at is.
     no_damage true _ _ _ log_replies.Info (Err c.in-Err.refusal) _ container offset at refl (c.in-Err.ensures.step true) (refused_as _ _ is)
 
 pub returns-in-Ok-clause-moments : goal.returns-in-Ok-clause-moments
-returns-in-Ok-clause-moments g c = λ before after.
-    info_meanwhile before after _ _ _ _ _ _ c.in-Ok.info _ _ (c.in-Ok.ensures.step _) (c.load_of.ensures.moments before after)
+returns-in-Ok-clause-moments g c = λ under.
+    info_meanwhile under _ _ _ _ _ _ c.in-Ok.info _ _ (c.in-Ok.ensures.step _) (c.load_of.ensures.moments under)
 
 pub returns-in-Err-clause-moments : goal.returns-in-Err-clause-moments
-returns-in-Err-clause-moments g c = λ before after along present. present
+returns-in-Err-clause-moments g c = λ under along present. present

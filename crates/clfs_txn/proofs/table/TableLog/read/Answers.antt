@@ -42,8 +42,8 @@ returns-clause-there g c =
     (read_reply _ _ _ _ _ _ c.read-reply.result _ c.requires (c.steps_keep_a_state_valid.ensures.step _ _ _ _ _ _ _ c.stored.ensures.valid c.read-reply.ensures.step) (returns-clause-step g c))
 
 pub returns-clause-moments : goal.returns-clause-moments
-returns-clause-moments g c = λ before after.
-    call_leaves g.D.Disk.state before after _ _ _ _ _ _ _ _ _ c.the_same_log_has_the_same_table.ensures (c.client.ensures ∙ ap (λ v. v.0.memory.client) c.self.view_is)
+returns-clause-moments g c = λ under.
+    call_leaves g.D.Disk.state under _ _ _ _ _ _ _ _ _ (c.client.ensures ∙ ap (λ v. v.0.memory.client) c.self.view_is)
     (read_is _ _ _ _ (c.area.ensures ∙ ap (λ v. v.0.memory.area) c.self.view_is))
     (ap (λ v. v.0.log) c.self.view_is) (ap (λ v. v.1) c.self.view_is) c.requires c.read-reply.ensures.moments
 

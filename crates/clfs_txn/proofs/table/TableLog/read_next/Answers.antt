@@ -40,8 +40,8 @@ returns-clause-set g c =
     (same_steps _ _ _ _ _ _ _ replies.Next c.read_next-reply.result _ refl c.client.ensures (read_next_is _ _ _ c.area.ensures) c.read_next-reply.ensures.step))
 
 pub returns-clause-moments : goal.returns-clause-moments
-returns-clause-moments g c = λ before after.
-    call_leaves g.D.Disk.state before after _ _ _ _ _ _ _ _ _ c.the_same_log_has_the_same_table.ensures (c.client.ensures ∙ ap (λ v. v.0.memory.client) c.self.view_is)
+returns-clause-moments g c = λ under.
+    call_leaves g.D.Disk.state under _ _ _ _ _ _ _ _ _ (c.client.ensures ∙ ap (λ v. v.0.memory.client) c.self.view_is)
     (read_next_is _ _ _ (c.area.ensures ∙ ap (λ v. v.0.memory.area) c.self.view_is))
     (ap (λ v. v.0.log) c.self.view_is) (ap (λ v. v.1) c.self.view_is) c.requires c.read_next-reply.ensures.moments
 

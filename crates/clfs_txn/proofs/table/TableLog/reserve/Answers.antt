@@ -18,12 +18,12 @@ returns-clause-kept g c =
     (c.reserve-reply.ensures.call.step true)
 
 pub returns-clause-moments : goal.returns-clause-moments
-returns-clause-moments g c = λ before after.
-    call_leaves g.D.Disk.state before after _ _ _ _ _ _ _ _ _ c.the_same_log_has_the_same_table.ensures (c.client.ensures ∙ ap (λ v. v.0.memory.client) c.self.view_is)
+returns-clause-moments g c = λ under.
+    call_leaves g.D.Disk.state under _ _ _ _ _ _ _ _ _ (c.client.ensures ∙ ap (λ v. v.0.memory.client) c.self.view_is)
     (reserve_is _ _ _ _ (c.area.ensures ∙ ap (λ v. v.0.memory.area) c.self.view_is) c.in_ok-sizes.ensures)
     (ap (λ v. v.0.log) c.self.view_is) (ap (λ v. v.1) c.self.view_is) c.requires.whole c.reserve-reply.ensures.call.moments
 
 pub returns-in_err-sizes-clause-moments : goal.returns-in_err-sizes-clause-moments
-returns-in_err-sizes-clause-moments g c = λ before after.
-    none_leaves g.D.Disk.state before after _ _ _ _ _ _ c.the_same_log_has_the_same_table.ensures (ap (λ v. v.0.log) c.self.view_is) (ap (λ v. v.1) c.self.view_is)
+returns-in_err-sizes-clause-moments g c = λ under.
+    none_leaves g.D.Disk.state under _ _ _ _ _ _ (ap (λ v. v.0.log) c.self.view_is) (ap (λ v. v.1) c.self.view_is)
     c.requires.whole c.stored.ensures.survives

@@ -39,17 +39,17 @@ pub returns-in-Ok-clause-damage : goal.returns-in-Ok-clause-damage
 returns-in-Ok-clause-damage g c = λ tells. c.end.ensures.no_damage
 
 pub returns-in-Err-clause-moments : goal.returns-in-Err-clause-moments
-returns-in-Err-clause-moments g c = λ before after.
-    roll_meanwhile before after _ c.args.self.now.0 c.args.txn c.standing.result (transaction_of c.args.t.now) _ _ c.requires c.standing.ensures.standing
-    (c.in-Err.ensures.moments before after (λ now. over_transaction now c.args.txn (λ t. end_plan now t RolledBack false)))
+returns-in-Err-clause-moments g c = λ under.
+    roll_meanwhile under _ c.args.self.now.0 c.args.txn c.standing.result (transaction_of c.args.t.now) _ _ c.requires c.standing.ensures.standing
+    (c.in-Err.ensures.moments under (λ now. over_transaction now c.args.txn (λ t. end_plan now t RolledBack false)))
 
 pub returns-in-Ok-clause-moments : goal.returns-in-Ok-clause-moments
 returns-in-Ok-clause-moments g c =
     let told = (g.D.Disk.state c.args.self.now.1).nature.tells_contents in
-    let nature = c.in_default.ensures.writes.time.nature in λ before after.
-    rolled_meanwhile before after told c.args.self.now.0 c.undo_sets.new.self.0 c.args.txn c.standing.result (transaction_of c.args.t.now) (transaction_of c.in-Ok.now)
+    let nature = c.in_default.ensures.writes.time.nature in λ under.
+    rolled_meanwhile under told c.args.self.now.0 c.undo_sets.new.self.0 c.args.txn c.standing.result (transaction_of c.args.t.now) (transaction_of c.in-Ok.now)
     _ _ _ c.requires c.standing.ensures.standing (c.in_default.ensures.step (λ now. over_transaction now c.args.txn (λ t. end_plan now t RolledBack false)))
     c.in-Ok.ensures c.in_default.ensures.area.client nature
-    (c.in_default.ensures.moments before after (λ now. over_transaction now c.args.txn (λ t. end_plan now t RolledBack false)))
-    (meanwhile_by before after (g.D.Disk.state c.undo_sets.new.self.1).nature.tells_contents told c.undo_sets.new.self.0.memory.client c.undo_sets.new.self.0.memory.client
-    c.undo_sets.new.self.0.log (end_plan c.undo_sets.new.self.0.memory (transaction_of c.in-Ok.now) RolledBack false) _ _ (ap (λ (n : Nature). n.tells_contents) nature) refl (c.end.ensures.moments before after))
+    (c.in_default.ensures.moments under (λ now. over_transaction now c.args.txn (λ t. end_plan now t RolledBack false)))
+    (meanwhile_by under (g.D.Disk.state c.undo_sets.new.self.1).nature.tells_contents told c.undo_sets.new.self.0.memory.client c.undo_sets.new.self.0.memory.client
+    c.undo_sets.new.self.0.log (end_plan c.undo_sets.new.self.0.memory (transaction_of c.in-Ok.now) RolledBack false) _ _ (ap (λ (n : Nature). n.tells_contents) nature) refl (c.end.ensures.moments under))

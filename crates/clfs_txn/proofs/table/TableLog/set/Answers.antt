@@ -8,7 +8,7 @@ pub returns-in-Err : goal.returns-in-Err
 returns-in-Err g c = record {
   step = λ told.
       not_found told c.args.self.now.0 (asked.Set c.args.txn c.args.cell c.args.value) c.args.txn c.in-Err.refusal _ refl c.in-Err.ensures;
-  moments = λ before after along present. present;
+  moments = λ under along present. present;
   writes = written.at_once _ _ (written.not_found c.args.self.now.0 c.args.txn c.in-Err.refusal c.in-Err.ensures);
   kept = λ _. refl;
   stopped = λ _. refl;

@@ -72,25 +72,25 @@ invariant_of-self g c =
     }
 
 pub returns-in-Some-clause-moments : goal.returns-in-Some-clause-moments
-returns-in-Some-clause-moments g c = λ before after along present. present
+returns-in-Some-clause-moments g c = λ under along present. present
 
 pub returns-then-is_spent-clause-moments : goal.returns-then-is_spent-clause-moments
-returns-then-is_spent-clause-moments g c = λ before after along present. present
+returns-then-is_spent-clause-moments g c = λ under along present. present
 
 pub returns-in-Ok-clause-moments : goal.returns-in-Ok-clause-moments
 returns-in-Ok-clause-moments g c =
     let t = transaction_of c.args.t.now in
     let free = c.in_default.ensures ∙ ap (λ v. option_map (λ (t : Transaction). t.number) (holder v.0.memory c.args.txn c.args.cell)) c.self.view_is in
     let some = sym c.is_spent.ensures ∙ c.if-is_spent.false in
-    let call = append_call_is c.args.self.now.0.memory t _ _ _ _ _ (ap (λ (x : Change). Set x) c.change_to-change.ensures) c.newest_standing.ensures in λ before after.
-    rw (ap (λ v. v.1) c.self-2.view_is) (set_meanwhile before after _ c.args.self.now.0 c.args.txn c.args.cell c.args.value t _ _ c.requires.found free some
-    (by_call before after _ _ _ _ _ _ call (c.in-Ok.ensures.moments before after)))
+    let call = append_call_is c.args.self.now.0.memory t _ _ _ _ _ (ap (λ (x : Change). Set x) c.change_to-change.ensures) c.newest_standing.ensures in λ under.
+    rw (ap (λ v. v.1) c.self-2.view_is) (set_meanwhile under _ c.args.self.now.0 c.args.txn c.args.cell c.args.value t _ _ c.requires.found free some
+    (by_call under _ _ _ _ _ _ call (c.in-Ok.ensures.moments under)))
 
 pub returns-in-Err-clause-moments : goal.returns-in-Err-clause-moments
 returns-in-Err-clause-moments g c =
     let t = transaction_of c.args.t.now in
     let free = c.in_default.ensures ∙ ap (λ v. option_map (λ (t : Transaction). t.number) (holder v.0.memory c.args.txn c.args.cell)) c.self.view_is in
     let some = sym c.is_spent.ensures ∙ c.if-is_spent.false in
-    let call = append_call_is c.args.self.now.0.memory t _ _ _ _ _ (ap (λ (x : Change). Set x) c.change_to-change.ensures) c.newest_standing.ensures in λ before after.
-    set_meanwhile before after _ c.args.self.now.0 c.args.txn c.args.cell c.args.value t _ _ c.requires.found free some
-    (by_call before after _ _ _ _ _ _ call (c.in-Err.ensures.moments before after))
+    let call = append_call_is c.args.self.now.0.memory t _ _ _ _ _ (ap (λ (x : Change). Set x) c.change_to-change.ensures) c.newest_standing.ensures in λ under.
+    set_meanwhile under _ c.args.self.now.0 c.args.txn c.args.cell c.args.value t _ _ c.requires.found free some
+    (by_call under _ _ _ _ _ _ call (c.in-Err.ensures.moments under))

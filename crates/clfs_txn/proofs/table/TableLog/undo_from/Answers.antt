@@ -16,7 +16,7 @@ use Rattle.clfs_txn.proofs.table.TableLog.undo_from.Goals as goal
 pub loop-init : goal.loop-init
 loop-init g c = record {
   step = λ rest. started _ _ _ _ _ _ _ (c.args.more - 0) c.args.more rest (omega arith);
-  moments = λ before after rest along present. present;
+  moments = λ under rest along present. present;
   writes = nothing ⊥ _ (λ f. f);
   area = record { client = refl; area = refl };
   whole = c.requires.whole;
@@ -42,13 +42,13 @@ loop-preserved g c =
           went_on told _ _ _ _ _ _ c.loop.self.0.memory c.undo_set.new.self.0.memory _ _ _ _ (c.args.more - c.loop.counter) less c.in_ok-lsn.field-0 rest size (before.step rest)
           (by_client told _ _ _ _ _ _ before.area.client (undone.step told c.args.cursor (behind_set less c.args.number c.args.cursor rest)))
           (step_by _ _ _ _ _ _ _ _ _ tells client read.step) read.memory;
-      moments = λ first second rest.
-          next_meanwhile first second told _ _ _ _ _ c.loop.self.0.memory c.undo_set.new.self.0.memory _ _ _ (c.args.more - c.loop.counter) less rest _ _ _ _ size
-          before.writes.time.nature undone.writes.time.nature undone.whole (before.step rest) (before.moments first second rest)
+      moments = λ under rest.
+          next_meanwhile under told _ _ _ _ _ c.loop.self.0.memory c.undo_set.new.self.0.memory _ _ _ (c.args.more - c.loop.counter) less rest _ _ _ _ size
+          before.writes.time.nature undone.writes.time.nature undone.whole (before.step rest) (before.moments under rest)
           (by_client told _ _ _ _ _ _ before.area.client (undone.step told c.args.cursor (behind_set less c.args.number c.args.cursor rest)))
-          (meanwhile_by first second _ told _ _ _ _ _ _ (ap (λ (n : Nature). n.tells_contents) before.writes.time.nature) before.area.client
-          (undone.moments first second c.args.cursor (behind_set less c.args.number c.args.cursor rest)))
-          (by_client_call first second _ _ _ _ _ _ client (read.moments first second));
+          (meanwhile_by under _ told _ _ _ _ _ _ (ap (λ (n : Nature). n.tells_contents) before.writes.time.nature) before.area.client
+          (undone.moments under c.args.cursor (behind_set less c.args.number c.args.cursor rest)))
+          (by_client_call under _ _ _ _ _ _ client (read.moments under));
       writes = then_ok _ _ _ c.in_ok-lsn.field-0 (then_ok _ _ _ c.in_ok-undo_set.field-0 before.writes undone.writes) read.writes;
       area = areas_then _ _ _ (areas_then _ _ _ before.area undone.area) (same_area _ _ read.memory);
       whole = read.whole;
@@ -124,10 +124,10 @@ returns-in_err-undo_set-clause-moments g c =
     let before = c.loop.invariant in
     let less = c.args.more - (c.loop.counter + 1) in
     let size : suc less ≡ c.args.more - c.loop.counter = omega (arith, c.loop-test.true) in
-    let tells = ap (λ (n : Nature). n.tells_contents) before.writes.time.nature in λ first second rest.
-    set_meanwhile first second told _ _ _ _ c.loop.self.0.memory _ _ _ (c.args.more - c.loop.counter) less rest _ _ _ size before.writes.time.nature (before.step rest)
-    (before.moments first second rest)
-    (meanwhile_by first second _ told _ _ _ _ _ _ tells before.area.client (c.in_err-undo_set.ensures.moments first second c.args.cursor (behind_set less c.args.number c.args.cursor rest)))
+    let tells = ap (λ (n : Nature). n.tells_contents) before.writes.time.nature in λ under rest.
+    set_meanwhile under told _ _ _ _ c.loop.self.0.memory _ _ _ (c.args.more - c.loop.counter) less rest _ _ _ size before.writes.time.nature (before.step rest)
+    (before.moments under rest)
+    (meanwhile_by under _ told _ _ _ _ _ _ tells before.area.client (c.in_err-undo_set.ensures.moments under c.args.cursor (behind_set less c.args.number c.args.cursor rest)))
 
 pub returns-in_err-lsn-clause-moments : goal.returns-in_err-lsn-clause-moments
 returns-in_err-lsn-clause-moments g c =
@@ -138,19 +138,19 @@ returns-in_err-lsn-clause-moments g c =
     let less = c.args.more - (c.loop.counter + 1) in
     let size : suc less ≡ c.args.more - c.loop.counter = omega (arith, c.loop-test.true) in
     let tells = ap (λ (n : Nature). n.tells_contents) before.writes.time.nature in
-    let client = undone.area.client ∙ before.area.client in λ first second rest.
-    next_meanwhile first second told _ _ _ _ _ c.loop.self.0.memory c.undo_set.new.self.0.memory _ _ _ (c.args.more - c.loop.counter) less rest _ _ _ _ size
-    before.writes.time.nature undone.writes.time.nature undone.whole (before.step rest) (before.moments first second rest)
+    let client = undone.area.client ∙ before.area.client in λ under rest.
+    next_meanwhile under told _ _ _ _ _ c.loop.self.0.memory c.undo_set.new.self.0.memory _ _ _ (c.args.more - c.loop.counter) less rest _ _ _ _ size
+    before.writes.time.nature undone.writes.time.nature undone.whole (before.step rest) (before.moments under rest)
     (by_client told _ _ _ _ _ _ before.area.client (undone.step told c.args.cursor (behind_set less c.args.number c.args.cursor rest)))
-    (meanwhile_by first second _ told _ _ _ _ _ _ tells before.area.client (undone.moments first second c.args.cursor (behind_set less c.args.number c.args.cursor rest)))
-    (by_client_call first second _ _ _ _ _ _ client (read.moments first second))
+    (meanwhile_by under _ told _ _ _ _ _ _ tells before.area.client (undone.moments under c.args.cursor (behind_set less c.args.number c.args.cursor rest)))
+    (by_client_call under _ _ _ _ _ _ client (read.moments under))
 
 pub returns-clause-moments : goal.returns-clause-moments
 returns-clause-moments g c =
     let told = (g.D.Disk.state c.args.self.now.1).nature.tells_contents in
     let before = c.loop.invariant in
     let none : c.args.more - c.loop.counter ≡ 0 = omega (arith, c.loop-test.false) in
-    let tells = ap (λ (n : Nature). n.tells_contents) before.writes.time.nature in λ first second rest.
-    last_meanwhile first second told _ _ _ _ c.loop.self.0.memory _ _ _ (c.args.more - c.loop.counter) rest _ _ _ none before.writes.time.nature (before.step rest)
-    (before.moments first second rest)
-    (meanwhile_by first second _ told _ _ _ _ _ _ tells before.area.client (c.undo_set-2.ensures.moments first second c.args.cursor (λ (m : Memory). with_read_ended m c.args.cursor (rest m))))
+    let tells = ap (λ (n : Nature). n.tells_contents) before.writes.time.nature in λ under rest.
+    last_meanwhile under told _ _ _ _ c.loop.self.0.memory _ _ _ (c.args.more - c.loop.counter) rest _ _ _ none before.writes.time.nature (before.step rest)
+    (before.moments under rest)
+    (meanwhile_by under _ told _ _ _ _ _ _ tells before.area.client (c.undo_set-2.ensures.moments under c.args.cursor (λ (m : Memory). with_read_ended m c.args.cursor (rest m))))

@@ -1,11 +1,11 @@
-use Rattle.std.proofs.Common.{◌≡◌, ℕ, ◌-◌, List, false}
+use Rattle.std.proofs.Common.{◌≡◌, ◌-◌, false}
 use Rattle.clfs_lsn.specs.declared.cursor.Mode.TheVariants.{UndoNext}
 use Rattle.clfs_manager.specs.Written.{WritesDisk}
 use Rattle.clfs_cells.specs.Calls.{Answered, undo_from}
 use Rattle.clfs_cells.specs.Plans.{Plan}
 use Rattle.clfs_cells.specs.Stored.{Memory}
 use Rattle.clfs_txn.specs.Calls.{HasSameArea, Leads}
-use Rattle.clfs_txn.specs.Crashes.{Meanwhile}
+use Rattle.clfs_txn.specs.UnderWay.{Meanwhile, UnderWay}
 use Rattle.clfs_txn.specs.Reading.{IsAt, IsSet}
 use Rattle.clfs_txn.proofs.table.TableLog.undo_from.Given as goal
 
@@ -15,7 +15,7 @@ invariant-loop g l = record {
   step : (rest : Memory → Plan Answered) → Leads (g.D.Disk.state l.fn.self.1).nature.tells_contents l.fn.self.0.memory.client l.fn.self.0.log
       (undo_from l.more l.fn.self.0.memory l.number l.cursor l.fn.first rest) l.self.0.log
       (undo_from (l.more - l.counter) l.self.0.memory l.number l.cursor l.lsn rest);
-  moments : (before after : List ℕ) (rest : Memory → Plan Answered) → Meanwhile before after (g.D.Disk.state l.fn.self.1).nature.tells_contents l.fn.self.0.memory.client
+  moments : (under : UnderWay) (rest : Memory → Plan Answered) → Meanwhile under (g.D.Disk.state l.fn.self.1).nature.tells_contents l.fn.self.0.memory.client
       l.fn.self.0.log (undo_from l.more l.fn.self.0.memory l.number l.cursor l.fn.first rest) (g.D.Disk.state l.fn.self.1) (g.D.Disk.state l.self.1);
   writes : WritesDisk ⊥ (g.D.Disk.state l.fn.self.1) (g.D.Disk.state l.self.1);
   area : HasSameArea l.fn.self.0.memory l.self.0.memory;

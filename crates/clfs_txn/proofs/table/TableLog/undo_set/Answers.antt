@@ -50,13 +50,13 @@ returns-in-Err-clause-no_damage g c = λ container offset at is. c.in-Err.ensure
 pub returns-in-Ok-clause-moments : goal.returns-in-Ok-clause-moments
 returns-in-Ok-clause-moments g c =
     let t = transaction_of c.set_at.result.0 in
-    let call = append_call_is c.args.self.now.0.memory t _ _ _ c.set_at.result.1.undo_next _ c.compensation.ensures refl in λ before after cursor rest.
-    rw (ap (λ v. v.1) c.self.view_is) (undo_meanwhile before after _ _ _ c.args.self.now.0.memory c.args.number cursor c.args.lsn t c.set_at.result.1 rest _ _ c.set_at.ensures
-    c.requires.whole (by_call before after _ _ _ _ _ _ call (c.in-Ok.ensures.moments before after)))
+    let call = append_call_is c.args.self.now.0.memory t _ _ _ c.set_at.result.1.undo_next _ c.compensation.ensures refl in λ under cursor rest.
+    rw (ap (λ v. v.1) c.self.view_is) (undo_meanwhile under _ _ _ c.args.self.now.0.memory c.args.number cursor c.args.lsn t c.set_at.result.1 rest _ _ c.set_at.ensures
+    c.requires.whole (by_call under _ _ _ _ _ _ call (c.in-Ok.ensures.moments under)))
 
 pub returns-in-Err-clause-moments : goal.returns-in-Err-clause-moments
 returns-in-Err-clause-moments g c =
     let t = transaction_of c.set_at.result.0 in
-    let call = append_call_is c.args.self.now.0.memory t _ _ _ c.set_at.result.1.undo_next _ c.compensation.ensures refl in λ before after cursor rest.
-    undo_meanwhile before after _ _ _ c.args.self.now.0.memory c.args.number cursor c.args.lsn t c.set_at.result.1 rest _ _ c.set_at.ensures
-    c.requires.whole (by_call before after _ _ _ _ _ _ call (c.in-Err.ensures.moments before after))
+    let call = append_call_is c.args.self.now.0.memory t _ _ _ c.set_at.result.1.undo_next _ c.compensation.ensures refl in λ under cursor rest.
+    undo_meanwhile under _ _ _ c.args.self.now.0.memory c.args.number cursor c.args.lsn t c.set_at.result.1 rest _ _ c.set_at.ensures
+    c.requires.whole (by_call under _ _ _ _ _ _ call (c.in-Err.ensures.moments under))

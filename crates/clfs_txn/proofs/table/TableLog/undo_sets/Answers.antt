@@ -71,16 +71,16 @@ returns-clause-damage g c = λ tells.
     c.undo_from-undone.ensures.damage (tells_on (g.D.Disk.state c.args.self.now.1) (g.D.Disk.state c.read.new.self.1) c.in_ok-cursor.ensures.writes.time.nature tells)
 
 pub returns-then-count-eq0-clause-moments : goal.returns-then-count-eq0-clause-moments
-returns-then-count-eq0-clause-moments g c = λ before after rest along present. present
+returns-then-count-eq0-clause-moments g c = λ under rest along present. present
 
 pub returns-in_err-cursor-clause-moments : goal.returns-in_err-cursor-clause-moments
 returns-in_err-cursor-clause-moments g c =
     let t = transaction_of c.args.t.now in
     let memory = c.args.self.now.0.memory in
     let less = c.args.count - 1 in
-    let size : suc less ≡ c.args.count = omega (arith, c.if-count-eq0.false) in λ before after rest.
-    read_meanwhile before after _ _ _ memory t c.args.count less rest _ _ size c.requires.whole
-    (by_call before after _ _ _ _ _ _ (ap (λ (l : ℕ). log_calls.Read memory.area l UndoNext) c.newest_standing.ensures) (c.in_err-cursor.ensures.moments before after))
+    let size : suc less ≡ c.args.count = omega (arith, c.if-count-eq0.false) in λ under rest.
+    read_meanwhile under _ _ _ memory t c.args.count less rest _ _ size c.requires.whole
+    (by_call under _ _ _ _ _ _ (ap (λ (l : ℕ). log_calls.Read memory.area l UndoNext) c.newest_standing.ensures) (c.in_err-cursor.ensures.moments under))
 
 pub returns-clause-moments : goal.returns-clause-moments
 returns-clause-moments g c =
@@ -95,9 +95,9 @@ returns-clause-moments g c =
     let cursor = c.in_ok-cursor.cursor in
     let tells = ap (λ (n : Nature). n.tells_contents) read.writes.time.nature in
     let client = ap (λ (m : Memory). m.client) read.memory in
-    let call = ap (λ (l : ℕ). log_calls.Read memory.area l UndoNext) c.newest_standing.ensures in λ before after rest.
-    rw c.end_read.ensures.disk (sets_meanwhile before after told _ _ _ memory c.read.new.self.0.memory t c.args.count less cursor entry rest _ _ _ size c.requires.whole
-    read.writes.time.nature (same_call told _ _ _ _ _ _ _ call read.step) read.memory (by_call before after _ _ _ _ _ _ call (read.moments before after))
-    (meanwhile_as before after told _ _ (undo_from less c.read.new.self.0.memory c.number.result cursor entry.lsn rest) _ _ _
+    let call = ap (λ (l : ℕ). log_calls.Read memory.area l UndoNext) c.newest_standing.ensures in λ under rest.
+    rw c.end_read.ensures.disk (sets_meanwhile under told _ _ _ memory c.read.new.self.0.memory t c.args.count less cursor entry rest _ _ _ size c.requires.whole
+    read.writes.time.nature (same_call told _ _ _ _ _ _ _ call read.step) read.memory (by_call under _ _ _ _ _ _ call (read.moments under))
+    (meanwhile_as under told _ _ (undo_from less c.read.new.self.0.memory c.number.result cursor entry.lsn rest) _ _ _
     (ap (λ (n : ℕ). undo_from less c.read.new.self.0.memory n cursor entry.lsn rest) (sym c.number.ensures))
-    (meanwhile_by before after _ told _ _ _ _ _ _ tells client (undone.moments before after rest))))
+    (meanwhile_by under _ told _ _ _ _ _ _ tells client (undone.moments under rest))))

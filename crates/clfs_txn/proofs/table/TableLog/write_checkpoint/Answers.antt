@@ -31,14 +31,14 @@ pub returns-in-Err-write_restart-clause-writes : goal.returns-in-Err-write_resta
 returns-in-Err-write_restart-clause-writes g c = of_log _ _ c.in-Err-write_restart.refusal c.in-Err-write_restart.ensures.writes
 
 pub returns-in-Err-clause-moments : goal.returns-in-Err-clause-moments
-returns-in-Err-clause-moments g c = λ before after along present. present
+returns-in-Err-clause-moments g c = λ under along present. present
 
 pub returns-in-Ok-write_restart-clause-moments : goal.returns-in-Ok-write_restart-clause-moments
-returns-in-Ok-write_restart-clause-moments g c = λ before after.
-    checkpoint_meanwhile before after _ c.args.self.now.0 c.in-Ok.info _ _ c.requires.whole c.requires.none (c.in-Ok.ensures.step _)
-    (by_call before after _ _ _ _ _ _ (base_is _ _ _ _ (c.of_number.ensures ∙ ap (λ n. n + 1) c.number.ensures)) (c.in-Ok-write_restart.ensures.moments before after))
+returns-in-Ok-write_restart-clause-moments g c = λ under.
+    checkpoint_meanwhile under _ c.args.self.now.0 c.in-Ok.info _ _ c.requires.whole c.requires.none (c.in-Ok.ensures.step _)
+    (by_call under _ _ _ _ _ _ (base_is _ _ _ _ (c.of_number.ensures ∙ ap (λ n. n + 1) c.number.ensures)) (c.in-Ok-write_restart.ensures.moments under))
 
 pub returns-in-Err-write_restart-clause-moments : goal.returns-in-Err-write_restart-clause-moments
-returns-in-Err-write_restart-clause-moments g c = λ before after.
-    checkpoint_meanwhile before after _ c.args.self.now.0 c.in-Ok.info _ _ c.requires.whole c.requires.none (c.in-Ok.ensures.step _)
-    (by_call before after _ _ _ _ _ _ (base_is _ _ _ _ (c.of_number.ensures ∙ ap (λ n. n + 1) c.number.ensures)) (c.in-Err-write_restart.ensures.moments before after))
+returns-in-Err-write_restart-clause-moments g c = λ under.
+    checkpoint_meanwhile under _ c.args.self.now.0 c.in-Ok.info _ _ c.requires.whole c.requires.none (c.in-Ok.ensures.step _)
+    (by_call under _ _ _ _ _ _ (base_is _ _ _ _ (c.of_number.ensures ∙ ap (λ n. n + 1) c.number.ensures)) (c.in-Err-write_restart.ensures.moments under))

@@ -24,11 +24,11 @@ returns-in-Err-clause-damage g c = λ tells container offset at is.
     no_damage true _ _ _ log_replies.Placed (Err c.in-Err.refusal) _ container offset at refl (c.in-Err.ensures.step true) (refused_as _ _ is)
 
 pub returns-in-Ok-clause-moments : goal.returns-in-Ok-clause-moments
-returns-in-Ok-clause-moments g c = λ before after.
-    first_meanwhile before after _ _ c.args.self.now.0.memory _ _ c.requires.unread c.requires.whole
-    (by_call before after _ _ _ _ _ _ (base_is _ _ _ _ c.null.ensures) (c.in-Ok.ensures.moments before after))
+returns-in-Ok-clause-moments g c = λ under.
+    first_meanwhile under _ _ c.args.self.now.0.memory _ _ c.requires.unread c.requires.whole
+    (by_call under _ _ _ _ _ _ (base_is _ _ _ _ c.null.ensures) (c.in-Ok.ensures.moments under))
 
 pub returns-in-Err-clause-moments : goal.returns-in-Err-clause-moments
-returns-in-Err-clause-moments g c = λ before after.
-    first_meanwhile before after _ _ c.args.self.now.0.memory _ _ c.requires.unread c.requires.whole
-    (by_call before after _ _ _ _ _ _ (base_is _ _ _ _ c.null.ensures) (c.in-Err.ensures.moments before after))
+returns-in-Err-clause-moments g c = λ under.
+    first_meanwhile under _ _ c.args.self.now.0.memory _ _ c.requires.unread c.requires.whole
+    (by_call under _ _ _ _ _ _ (base_is _ _ _ _ c.null.ensures) (c.in-Err.ensures.moments under))

@@ -28,13 +28,13 @@ returns-clause-kept g c =
     (c.write_restart-reply.ensures.call.step true)
 
 pub returns-clause-moments : goal.returns-clause-moments
-returns-clause-moments g c = λ before after.
-    call_leaves g.D.Disk.state before after _ _ _ _ _ _ _ _ _ c.the_same_log_has_the_same_table.ensures (c.client.ensures ∙ ap (λ v. v.0.memory.client) c.self.view_is)
+returns-clause-moments g c = λ under.
+    call_leaves g.D.Disk.state under _ _ _ _ _ _ _ _ _ (c.client.ensures ∙ ap (λ v. v.0.memory.client) c.self.view_is)
     (restart_is _ _ _ _ _ (c.area.ensures ∙ ap (λ v. v.0.memory.area) c.self.view_is)
     (c.in_ok-bytes.ensures.held ∙ ap checkpoint_bytes (c.checkpoint-checkpoint.ensures ∙ ap (λ v. checkpoint_of v.0.memory) c.self.view_is)))
     (ap (λ v. v.0.log) c.self.view_is) (ap (λ v. v.1) c.self.view_is) c.requires c.write_restart-reply.ensures.call.moments
 
 pub returns-in_err-bytes-clause-moments : goal.returns-in_err-bytes-clause-moments
-returns-in_err-bytes-clause-moments g c = λ before after.
-    none_leaves g.D.Disk.state before after _ _ _ _ _ _ c.the_same_log_has_the_same_table.ensures (ap (λ v. v.0.log) c.self.view_is) (ap (λ v. v.1) c.self.view_is)
+returns-in_err-bytes-clause-moments g c = λ under.
+    none_leaves g.D.Disk.state under _ _ _ _ _ _ (ap (λ v. v.0.log) c.self.view_is) (ap (λ v. v.1) c.self.view_is)
     c.requires c.stored.ensures.survives
