@@ -1,6 +1,5 @@
 // The program's `share`, by its words: clients over sources and sinks in memory. A path of lines has the lines themselves as its text, and a path of replies
-// says when the sink fails. A path of lines that begins with `shut`
-// can't be opened.
+// says when the sink fails. A path of lines that begins with `shut` can't be opened.
 ghost use Rattle.std.specs.Prelude.{◌≡◌};
 
 use crate::runs::{NEVER, SMALL, formatted, sink_of, source_of, words};
@@ -136,7 +135,12 @@ fn is_shut(client: &EndedClient<Ports, MemorySource, MemorySink>) -> bool {
 #[test]
 fn clients_that_cant_be_opened(rt: HostRuntime) -> Result<(), AllocError> {
     let disk = formatted(&rt, rt.alloc(), SMALL)?;
-    let run = shared(&rt, rt.alloc(), &["share", "shut", "a", "shut too", "b"], disk)?;
+    let run = shared(
+        &rt,
+        rt.alloc(),
+        &["share", "shut", "a", "shut too", "b"],
+        disk,
+    )?;
     assert!(rt; run.outcome.status == NONE_SERVED && run.sink.bytes().is_empty());
     let are = match run.outcome.clients.as_slice() {
         [a, b] => is_shut(a) && is_shut(b),
