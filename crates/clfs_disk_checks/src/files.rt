@@ -252,7 +252,7 @@ impl Clock for Pauses<'_> {
 
     fn sleep(&self, duration: Duration) {
         self.time
-            .fetch_add(duration.as_millis() as u64, Ordering::SeqCst);
+            .fetch_add(u64::from(duration.subsec_millis()), Ordering::SeqCst);
     }
 }
 

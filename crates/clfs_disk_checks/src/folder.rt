@@ -277,10 +277,10 @@ fn a_mark_is_a_file(rt: HostRuntime) -> io::Result<()> {
     fs::remove_dir_all(&rt, &path)
 }
 
-// How long a file is after the start behind a failed sync, if it had one byte more than can mean something.
+// How long a file of this length is after the start behind a failed sync.
 fn copied_length(rt: &HostRuntime, path: &str, file: u16, len: u64) -> io::Result<u64> {
     if file <= 256 {
-        let _grown = disk_at(rt, path)?.grow(file, len + 1);
+        let _grown = disk_at(rt, path)?.grow(file, len);
     }
     mark(rt, path)?;
     first_bytes(&mut disk_at(rt, path)?);
@@ -292,8 +292,8 @@ fn copied_length(rt: &HostRuntime, path: &str, file: u16, len: u64) -> io::Resul
 fn a_copy_has_what_means_something(rt: HostRuntime) -> io::Result<()> {
     let path = own_path(&rt, "length")?;
     assert!(rt; is_made_at(&rt, &path)?);
-    assert!(rt; copied_length(&rt, &path, 0, 1 << 15)? == 1 << 15);
-    assert!(rt; copied_length(&rt, &path, 1, 1 << 23)? == 1 << 23);
+    assert!(rt; copied_length(&rt, &path, 0, (1 << 15) + 1)? == 1 << 15);
+    assert!(rt; copied_length(&rt, &path, 1, (1 << 23) + 1)? == 1 << 23);
     assert!(rt; first_bytes(&mut disk_at(&rt, &path)?) == Some(*b"abc"));
     fs::remove_dir_all(&rt, &path)
 }
