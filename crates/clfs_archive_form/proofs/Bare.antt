@@ -1,10 +1,7 @@
 -- Bases alone, as those of rows that no restart area has moved.
-use Rattle.std.proofs.Common.{◌≡◌, ℕ, ◌<◌, List, [], length, get_or, map, sym, ◌∙◌, ap, arith}
-use Rattle.std.proofs.lemmas.List.{ext_get_or, length-map, get_or-map}
-use Rattle.std.proofs.lemmas.List.FromFn.{get_or-map-range_with_len, length-map-range_with_len}
-use Rattle.clfs_base.specs.declared.image.Row.{Row}
-use Rattle.clfs_base.specs.Spelling.{row_in}
-use Rattle.clfs_recover.specs.Walk.{base_with, bases_with}
+use Rattle.clfs_archive_form.proofs.Words.{◌≡◌, ℕ, ◌<◌, List, [], length, get_or, map, sym, ◌∙◌, ap, arith, length-map, get_or-map, length-map-range_with_len, Row, row_in, base_with, bases_with}
+use Rattle.std.proofs.lemmas.List.{ext_get_or}
+use Rattle.std.proofs.lemmas.List.FromFn.{get_or-map-range_with_len}
 
 -- the row with this base and no name
 bare_row : ℕ → Row

@@ -1,26 +1,11 @@
 -- Where the last block of a log ends, by the records of the log and by its blocks.
-use Rattle.std.proofs.Common.{inl, inr, ◌≡◌, ℕ, ◌+◌, ◌-◌, ◌*◌, ◌%◌, ◌<◌, ◌≤◌, Bool, true, false, cond, eqb, ◌&&◌, List, [], ◌∷◌, ◌++◌, length, filter, Option, Some, None, Result, Ok, refl, sym, ◌∙◌, ap, subst, append_assoc, append-nil, arith}
+use Rattle.clfs_archive_form.proofs.Words.{inl, inr, ◌≡◌, ℕ, ◌+◌, ◌-◌, ◌*◌, ◌%◌, ◌<◌, ◌≤◌, Bool, true, false, cond, eqb, ◌&&◌, List, [], ◌∷◌, ◌++◌, length, filter, Option, Some, None, Result, Ok, refl, sym, ◌∙◌, ap, subst, append_assoc, append-nil, arith, option_map_or, eq-eqb, eqb-true, ne_eqb, filter-append, lsn_number, container_of, offset_of, size, sectors, BaseFits, LogEntry, Shape, block_sectors, total, AreReadAsWritten, ◌>>=◌, told_as, block_records, FitFrom, stored_in, damage_at, LoadRefusal, AreExact, end_of_last}
 use Rattle.std.specs.List.{last_or, sum_by}
-use Rattle.std.specs.Option.{option_map_or}
-use Rattle.std.proofs.lemmas.Bool.{cases_Bool, eq-eqb, eqb-true, ne_eqb}
-use Rattle.std.proofs.lemmas.List.Elements.{filter-append}
+use Rattle.std.proofs.lemmas.Bool.{cases_Bool}
 use Rattle.std.proofs.lemmas.List.Sums.{sum_by-cons}
-use Rattle.clfs_lsn.specs.Lsn.{lsn_number, container_of, offset_of}
-use Rattle.clfs_lsn.specs.Size.{size, sectors}
-use Rattle.clfs_lsn.specs.Spelling.{BaseFits}
 use Rattle.clfs_lsn.specs.declared.entry.Kind.{Kind}
 use Rattle.clfs_lsn.specs.declared.entry.Kind.TheVariants.{Plain, Restart}
-use Rattle.clfs_lsn.specs.declared.entry.LogEntry.{LogEntry}
-use Rattle.clfs_lsn.specs.declared.shape.Shape.{Shape}
-use Rattle.clfs_container.specs.OpenBlocks.{block_sectors, total}
-use Rattle.clfs_block.specs.Judging.{AreReadAsWritten}
-use Rattle.clfs_block.specs.Records.{◌>>=◌, told_as, block_records}
 use Rattle.clfs_model.specs.Archive.{is_in_block, block_payload, end_of_block}
-use Rattle.clfs_recover.specs.Stored.{FitFrom, stored_in}
-use Rattle.clfs_recover.specs.Walk.{damage_at}
-use Rattle.clfs_recover.specs.declared.refusal.LoadRefusal.{LoadRefusal}
-use Rattle.clfs_archive_form.specs.Kept.{AreExact}
-use Rattle.clfs_archive_form.specs.Restoring.{end_of_last}
 use Rattle.clfs_archive_form.proofs.KeptEnds.{AreBelow, below_both, below_higher, row_below}
 use Rattle.clfs_archive_form.proofs.ReadRecords.{ReadsFit, HasRead, has_read, taken_bytes, bound, one_value, told_value}
 

@@ -1,24 +1,9 @@
 -- The blocks of a container one by one, against all of them.
-use Rattle.std.proofs.Common.{inl, ◌≡◌, ℕ, zero, suc, ◌+◌, ◌*◌, ◌<◌, ◌≤◌, List, [], ◌∷◌, ◌++◌, length, take, drop, Option, Some, None, Result, Ok, Err, refl, sym, ◌∙◌, ap, append_assoc, arith}
-use Rattle.std.proofs.lemmas.List.{drop-drop, drop_all, length-drop, length-take-le}
+use Rattle.clfs_archive_form.proofs.Words.{inl, ◌≡◌, ℕ, zero, suc, ◌+◌, ◌*◌, ◌<◌, ◌≤◌, List, [], ◌∷◌, ◌++◌, length, take, drop, Option, Some, None, Result, Ok, Err, refl, sym, ◌∙◌, ap, append_assoc, arith, drop-drop, drop_all, length-drop, length-take-le, lsn_number, LogEntry, Shape, Row, head_of, frame_at, AreReadAsWritten, ◌>>=◌, told_as, block_records, BlockHead, BlockRefusal, RefusesAs, stored_in, damage_at, LoadRefusal, NoBase, Damaged, DiskFault, NoMemory, block_bytes, blocks_of, blocks_in, JudgesBlock}
 use Rattle.clfs_lsn.specs.Format.{sector_bytes}
-use Rattle.clfs_lsn.specs.Lsn.{lsn_number}
-use Rattle.clfs_lsn.specs.declared.entry.LogEntry.{LogEntry}
-use Rattle.clfs_lsn.specs.declared.shape.Shape.{Shape}
-use Rattle.clfs_base.specs.declared.image.Row.{Row}
-use Rattle.clfs_block.specs.Checks.{head_of, frame_at, IsEnough, HasFrame}
-use Rattle.clfs_block.specs.Judging.{AreReadAsWritten}
-use Rattle.clfs_block.specs.Records.{◌>>=◌, told_as, block_records}
-use Rattle.clfs_block.specs.declared.head.BlockHead.{BlockHead}
-use Rattle.clfs_block.specs.declared.head.BlockRefusal.{BlockRefusal}
+use Rattle.clfs_block.specs.Checks.{IsEnough, HasFrame}
 use Rattle.clfs_block.specs.declared.head.BlockRefusal.TheVariants as blocks
-use Rattle.clfs_recover.specs.Gathering.{GathersBlock, RefusesAs}
-use Rattle.clfs_recover.specs.Stored.{stored_in}
-use Rattle.clfs_recover.specs.Walk.{damage_at}
-use Rattle.clfs_recover.specs.declared.refusal.LoadRefusal.{LoadRefusal}
-use Rattle.clfs_recover.specs.declared.refusal.LoadRefusal.TheVariants.{NoBase, Damaged, DiskFault, NoMemory}
-use Rattle.clfs_archive_form.specs.Containers.{block_bytes, blocks_of, blocks_in}
-use Rattle.clfs_archive_form.specs.Reading.{JudgesBlock}
+use Rattle.clfs_recover.specs.Gathering.{GathersBlock}
 
 -- what a gatherer's block says of the block alone
 pub judges : (has : List LogEntry → Type 0) (rows : List Row) (bases : List ℕ) (before : List LogEntry) (container offset : ℕ)

@@ -1,23 +1,10 @@
 -- A log can be restored up to the LSN that was chosen.
-use Rattle.std.proofs.Common.{◌≡◌, ℕ, zero, suc, ◌+◌, ◌-◌, ◌<◌, ◌≤◌, max, Bool, true, false, cond, ltb, ◌||◌, List, [], ◌∷◌, length, Option, Some, None, Result, Ok, Err, refl, sym, ◌∙◌, ap, subst, arith}
-use Rattle.std.specs.Prelude.{is_none}
-use Rattle.std.specs.List.{find, fold, range_with_len}
-use Rattle.std.specs.Option.{option_map_or}
-use Rattle.std.proofs.lemmas.Bool.{or_parts, ltb-false, eqb-true}
-use Rattle.clfs_lsn.specs.Lsn.{lsn_number, container_of}
-use Rattle.clfs_base.specs.declared.image.Row.{Row}
-use Rattle.clfs_base.specs.Spelling.{IsImage}
-use Rattle.clfs_recover.specs.Stored.{stored_in}
-use Rattle.clfs_recover.specs.Walk.{shape_of}
-use Rattle.clfs_archive_form.specs.declared.archive.Archive.{Archive}
-use Rattle.clfs_archive_form.specs.declared.archive.Stored.{Stored}
-use Rattle.clfs_archive_form.specs.declared.refusal.InputRefusal.{InputRefusal}
-use Rattle.clfs_archive_form.specs.declared.refusal.InputRefusal.TheVariants.{UpToInvalid}
+use Rattle.clfs_archive_form.proofs.Words.{◌≡◌, ℕ, zero, suc, ◌+◌, ◌-◌, ◌<◌, ◌≤◌, max, Bool, true, false, cond, ltb, ◌||◌, List, [], ◌∷◌, length, Option, Some, None, Result, Ok, Err, refl, sym, ◌∙◌, ap, subst, arith, is_none, find, fold, range_with_len, option_map_or, ltb-false, eqb-true, lsn_number, container_of, Row, IsImage, stored_in, shape_of, Archive, Stored, InputRefusal, UpToInvalid, blocks_in, part_of, IsReadableAs, is_container, last_copy, is_missing, gap_in, end_in, high_bound, chosen_unless, chosen, blocks_at, IsReadable}
+use Rattle.std.proofs.lemmas.Bool.{or_parts}
 use Rattle.clfs_archive_form.specs.Archives.{last_listed}
-use Rattle.clfs_archive_form.specs.Containers.{blocks_in, part_of}
-use Rattle.clfs_archive_form.specs.Reading.{IsReadableAs, CanBeRead}
-use Rattle.clfs_archive_form.specs.Restoring.{is_container, last_copy, is_missing, gap_in, end_in, low_bound, high_bound, within, asked_for, chosen_unless, chosen, blocks_at}
-use Rattle.clfs_archive_form.specs.Written.{IsReadable, CanBeRestored}
+use Rattle.clfs_archive_form.specs.Reading.{CanBeRead}
+use Rattle.clfs_archive_form.specs.Restoring.{low_bound, within, asked_for}
+use Rattle.clfs_archive_form.specs.Written.{CanBeRestored}
 use Rattle.clfs_archive_form.proofs.Readable.{found_last}
 
 -- a search that finds none

@@ -1,24 +1,15 @@
 -- A base copy is read back of the archive that has it: it has no fault among those that are looked for there.
-use Rattle.std.proofs.Common.{◌≡◌, ℕ, ◌-◌, ◌^◌, ◌<◌, ◌≤◌, Bool, true, false, not, ◌||◌, cond, List, [], ◌∷◌, ◌++◌, length, take, find, Option, Some, None, Ok, refl, sym, ◌∙◌, ap, subst, append-nil, arith}
-use Rattle.std.proofs.Math.Seq.{take-append_seam}
-use Rattle.std.proofs.lemmas.Bool.{eqb-true, le-ltb}
-use Rattle.std.proofs.lemmas.Bool.Decides.{nat_tests}
-use Rattle.std.specs.List.{zip}
-use Rattle.std.specs.Option.{option_map, option_or}
-use Rattle.clfs_lsn.specs.Lsn.{lsn_number, container_of}
+use Rattle.clfs_archive_form.proofs.Words.{◌≡◌, ℕ, ◌-◌, ◌^◌, ◌<◌, ◌≤◌, Bool, true, false, not, ◌||◌, cond, List, [], ◌∷◌, ◌++◌, length, take, Option, Some, None, Ok, refl, sym, ◌∙◌, ap, subst, append-nil, arith, take-append_seam, eqb-true, le-ltb, nat_tests, zip, option_or, lsn_number, container_of, BaseImage, number_at, layout_in, IsImage, spelled, image_of, fault_within, magic, copy_there, first_demands, first_listed, with_tail, slot_in}
+use Rattle.std.proofs.Common.{find}
+use Rattle.std.specs.Option.{option_map}
 use Rattle.clfs_lsn.specs.Checks.{unless_ok}
 use Rattle.clfs_base.specs.declared.demands.Asked.{Asked}
 use Rattle.clfs_base.specs.declared.demands.Asked.TheVariants.{Between}
-use Rattle.clfs_base.specs.declared.image.BaseImage.{BaseImage}
 use Rattle.clfs_base.specs.declared.layout.Field.{Field}
 use Rattle.clfs_base.specs.declared.layout.Numbers.{Numbers}
-use Rattle.clfs_base.specs.Layout.{number_at, numbers_of, layout_in, fields}
-use Rattle.clfs_base.specs.Spelling.{IsImage, spelled}
-use Rattle.clfs_base.specs.Checks.{is_wrong_field, wrong_field, slot_fault, image_of, image_at}
-use Rattle.clfs_base.specs.Demands.{asked, is_asked, is_wrong_within, wrong_within, fault_within}
-use Rattle.clfs_archive_form.specs.Form.{magic}
-use Rattle.clfs_archive_form.specs.Archives.{copy_there}
-use Rattle.clfs_archive_form.specs.Copies.{first_demands, first_listed, with_tail, slot_in}
+use Rattle.clfs_base.specs.Layout.{numbers_of, fields}
+use Rattle.clfs_base.specs.Checks.{is_wrong_field, wrong_field, slot_fault, image_at}
+use Rattle.clfs_base.specs.Demands.{asked, is_asked, is_wrong_within, wrong_within}
 use Rattle.clfs_archive_form.proofs.Slots.{copy_right}
 
 -- each field's number is asked for

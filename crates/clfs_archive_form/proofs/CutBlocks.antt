@@ -1,22 +1,8 @@
 -- A block that is made short.
-use Rattle.std.proofs.Common.{⊎_elim, ◌≡◌, ℕ, zero, suc, ◌+◌, ◌*◌, ◌/◌, ◌%◌, ◌^◌, ◌<◌, ◌≤◌, List, [], ◌∷◌, ◌++◌, length, take, drop, Result, Ok, refl, sym, ◌∙◌, ap, subst, append-nil, arith}
-use Rattle.std.specs.Prelude.{All}
-use Rattle.std.specs.List.{flat_map}
-use Rattle.std.proofs.lemmas.List.{length-append, length-take-le}
-use Rattle.std.proofs.lemmas.List.Elements.{All-cons, All-nil}
-use Rattle.clfs_lsn.specs.Format.{open_gate}
-use Rattle.clfs_lsn.specs.Lsn.{lsn_number, offset_of}
-use Rattle.clfs_lsn.specs.Size.{IsShape, size, sectors}
-use Rattle.clfs_lsn.specs.Spelling.{BaseFits, FitsAt, record_bytes}
-use Rattle.clfs_lsn.specs.declared.entry.LogEntry.{LogEntry}
-use Rattle.clfs_lsn.specs.declared.shape.Shape.{Shape}
-use Rattle.clfs_container.specs.OpenBlocks.{block_sectors, total}
-use Rattle.clfs_block.specs.Frame.{used_bytes, SpellsBlock}
-use Rattle.clfs_block.specs.Records.{block_records}
+use Rattle.clfs_archive_form.proofs.Words.{⊎_elim, ◌≡◌, ℕ, zero, suc, ◌+◌, ◌*◌, ◌/◌, ◌%◌, ◌^◌, ◌<◌, ◌≤◌, List, [], ◌∷◌, ◌++◌, length, take, drop, Result, Ok, refl, sym, ◌∙◌, ap, subst, append-nil, arith, All, flat_map, length-append, length-take-le, All-cons, All-nil, open_gate, lsn_number, offset_of, IsShape, size, sectors, BaseFits, FitsAt, record_bytes, LogEntry, Shape, block_sectors, total, SpellsBlock, block_records, FitFrom, HasRecords, stored_in, LoadRefusal, below, in_a_row, AreExact, IsKeptEnd}
+use Rattle.clfs_block.specs.Frame.{used_bytes}
 use Rattle.clfs_recover.specs.Logs.{HaveRecords, all_records}
-use Rattle.clfs_recover.specs.Stored.{FitFrom, HasRecords, stored_in}
-use Rattle.clfs_recover.specs.declared.refusal.LoadRefusal.{LoadRefusal}
-use Rattle.clfs_archive_form.specs.Kept.{below, in_a_row, AreExact, AreBlocksWith, IsKeptEnd}
+use Rattle.clfs_archive_form.specs.Kept.{AreBlocksWith}
 use Rattle.clfs_archive_form.proofs.KeptEnds.{ReadBehind, one_more_read}
 use Rattle.clfs_archive_form.proofs.ReadRecords.{HasRead, taken_bytes}
 

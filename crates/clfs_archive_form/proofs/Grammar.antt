@@ -1,28 +1,9 @@
 -- What is read part by part, against the definition of the whole.
-use Rattle.std.proofs.Common.{◌≡◌, ℕ, zero, suc, ◌+◌, ◌-◌, ◌*◌, ◌/◌, ◌<◌, ◌≤◌, List, [], ◌∷◌, ◌++◌, length, drop, Some, Result, Ok, Err, refl, sym, ◌∙◌, ap, subst, append_assoc, append-nil, arith}
-use Rattle.std.proofs.lemmas.List.{length-drop, length-take}
-use Rattle.std.proofs.lemmas.Bool.{lt-ltb, le-ltb}
-use Rattle.clfs_lsn.specs.Lsn.{container_of}
-use Rattle.clfs_lsn.specs.declared.entry.LogEntry.{LogEntry}
-use Rattle.clfs_lsn.specs.declared.shape.Shape.{Shape}
-use Rattle.clfs_base.specs.declared.demands.Demands.{Demands}
-use Rattle.clfs_base.specs.declared.image.BaseImage.{BaseImage}
-use Rattle.clfs_base.specs.declared.image.Row.{Row}
-use Rattle.clfs_block.specs.Records.{◌>>=◌, told_as}
-use Rattle.clfs_recover.specs.Gathering.{RefusesAs}
-use Rattle.clfs_recover.specs.Stored.{stored_in}
-use Rattle.clfs_recover.specs.Walk.{shape_of}
-use Rattle.clfs_recover.specs.declared.refusal.LoadRefusal.{LoadRefusal}
+use Rattle.clfs_archive_form.proofs.Words.{◌≡◌, ℕ, zero, suc, ◌+◌, ◌-◌, ◌*◌, ◌/◌, ◌<◌, ◌≤◌, List, [], ◌∷◌, ◌++◌, length, drop, Some, Result, Ok, Err, refl, sym, ◌∙◌, ap, subst, append_assoc, append-nil, arith, length-drop, length-take, lt-ltb, le-ltb, container_of, LogEntry, Shape, Demands, BaseImage, Row, ◌>>=◌, told_as, RefusesAs, stored_in, shape_of, LoadRefusal, Archive, Stored, InputRefusal, UpToInvalid, just_there, length_there, records_there, part_of, blocks_in, damage_told, container_there, containers_there, containers_len, magic_there, copy_there, rest_there, wanted_count, archive_there, archives_in, first_demands, later_demands, Judging, RefusesAt, LieWithin, TakesContainers}
 use Rattle.clfs_recover.specs.declared.refusal.LoadRefusal.TheVariants as loading
-use Rattle.clfs_archive_form.specs.declared.archive.Archive.{Archive}
-use Rattle.clfs_archive_form.specs.declared.archive.Stored.{Stored}
-use Rattle.clfs_archive_form.specs.declared.refusal.InputRefusal.{InputRefusal}
-use Rattle.clfs_archive_form.specs.declared.refusal.InputRefusal.TheVariants.{NotAnArchive, Gap, UpToInvalid, NoMemory}
-use Rattle.clfs_archive_form.specs.Containers.{just_there, length_there, records_there, part_of, blocks_in, damage_told, container_there, containers_there, containers_len}
-use Rattle.clfs_archive_form.specs.Archives.{magic_there, copy_there, rest_there, wanted_count, archive_there, archives_behind, archives_in, with_later, joined_from, joined}
-use Rattle.clfs_archive_form.specs.Copies.{first_demands, later_demands}
-use Rattle.clfs_archive_form.specs.Judging.{Judging}
-use Rattle.clfs_archive_form.specs.Reading.{RefusesAt, LieWithin, refusal_told, TakesContainers}
+use Rattle.clfs_archive_form.specs.declared.refusal.InputRefusal.TheVariants.{NotAnArchive, Gap, NoMemory}
+use Rattle.clfs_archive_form.specs.Archives.{archives_behind, with_later, joined_from, joined}
+use Rattle.clfs_archive_form.specs.Reading.{refusal_told}
 
 -- what is refused first is refused of the whole
 pub refused_first : {A B : Type 0} (refusal : InputRefusal) (read : Result A ℕ) (next : A → Result B ℕ) → RefusesAt refusal read → RefusesAt refusal (read >>= next)

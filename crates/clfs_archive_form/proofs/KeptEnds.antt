@@ -1,25 +1,7 @@
 -- How far the blocks of a container lie below an LSN, block by block.
-use Rattle.std.proofs.Common.{inl, inr, ⊎_elim, ◌≡◌, ◌⊎◌, ℕ, zero, suc, ◌+◌, ◌-◌, ◌*◌, ◌<◌, ◌≤◌, Bool, cond, ltb, List, [], ◌∷◌, ◌++◌, length, take, drop, Result, Ok, Err, refl, sym, ◌∙◌, ap, subst, append_assoc, append-nil, arith}
+use Rattle.clfs_archive_form.proofs.Words.{inl, inr, ⊎_elim, ◌≡◌, ◌⊎◌, ℕ, zero, suc, ◌+◌, ◌-◌, ◌*◌, ◌<◌, ◌≤◌, Bool, cond, ltb, List, [], ◌∷◌, ◌++◌, length, take, drop, Result, Ok, Err, refl, sym, ◌∙◌, ap, subst, append_assoc, append-nil, arith, cases_lt, lt-ltb, le-ltb, drop-drop, drop_all, length-drop, length-take-le, get_or-take, filter-append, lsn_number, LogEntry, Shape, block_sectors, total, frame_at, AreReadAsWritten, block_refused, ◌>>=◌, told_as, block_records, BlockHead, BlockRefusal, FitFrom, stored_in, damage_at, LoadRefusal, block_bytes, blocks_of, blocks_in, below, in_a_row, AreExact, StandIn, IsKeptEnd}
 use Rattle.std.proofs.Math.Seq.{take-add}
-use Rattle.std.proofs.lemmas.Bool.{cases_lt, lt-ltb, le-ltb}
 use Rattle.std.proofs.lemmas.Grind.{flat_map-append}
-use Rattle.std.proofs.lemmas.List.{drop-drop, drop_all, length-drop, length-take-le, get_or-take}
-use Rattle.std.proofs.lemmas.List.Elements.{filter-append}
-use Rattle.clfs_lsn.specs.Lsn.{lsn_number}
-use Rattle.clfs_lsn.specs.declared.entry.LogEntry.{LogEntry}
-use Rattle.clfs_lsn.specs.declared.shape.Shape.{Shape}
-use Rattle.clfs_container.specs.OpenBlocks.{block_sectors, total}
-use Rattle.clfs_block.specs.Checks.{frame_at}
-use Rattle.clfs_block.specs.Judging.{AreReadAsWritten}
-use Rattle.clfs_block.specs.RecordLaws.{block_refused}
-use Rattle.clfs_block.specs.Records.{◌>>=◌, told_as, block_records}
-use Rattle.clfs_block.specs.declared.head.BlockHead.{BlockHead}
-use Rattle.clfs_block.specs.declared.head.BlockRefusal.{BlockRefusal}
-use Rattle.clfs_recover.specs.Stored.{FitFrom, stored_in}
-use Rattle.clfs_recover.specs.Walk.{damage_at}
-use Rattle.clfs_recover.specs.declared.refusal.LoadRefusal.{LoadRefusal}
-use Rattle.clfs_archive_form.specs.Containers.{block_bytes, blocks_of, blocks_in}
-use Rattle.clfs_archive_form.specs.Kept.{below, in_a_row, AreExact, StandIn, IsKeptEnd}
 use Rattle.clfs_archive_form.proofs.Blocks.{ReadAlone, takes_first, none_of}
 use Rattle.clfs_archive_form.proofs.OpenEnds.{sectors_said}
 use Rattle.clfs_archive_form.proofs.ReadRecords.{ReadsFit, HasRead, has_read, bound, one_value, told_value}

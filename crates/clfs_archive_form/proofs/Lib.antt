@@ -17,3 +17,4 @@ mod RestoredFiles
 mod SameLog
 mod Searches
 mod Slots
+mod Words

@@ -1,23 +1,6 @@
 -- Where the open blocks end that bytes begin with, one block after the other.
-use Rattle.std.proofs.Common.{⊎_elim, inl, ◌≡◌, ◌≢◌, ℕ, ◌+◌, ◌-◌, ◌*◌, ◌/◌, ◌%◌, ◌<◌, ◌≤◌, Bool, not, eqb, true, false, cond, List, [], ◌∷◌, ◌++◌, length, drop, get_or, Result, Ok, Err, refl, sym, ◌∙◌, ap, subst, arith}
-use Rattle.std.proofs.lemmas.List.{drop-drop, length-take-le, length-drop, get_or-drop}
-use Rattle.std.proofs.lemmas.Bool.{ne_eqb}
-use Rattle.clfs_lsn.specs.Lsn.{lsn_number}
-use Rattle.clfs_lsn.specs.declared.entry.LogEntry.{LogEntry}
-use Rattle.clfs_lsn.specs.declared.shape.Shape.{Shape}
-use Rattle.clfs_container.specs.OpenBlocks.{block_sectors, BeginsWith, Opens, EndsCleanly, AreWhole, total}
-use Rattle.clfs_block.specs.Checks.{head_of, frame_at}
-use Rattle.clfs_block.specs.Judging.{AreReadAsWritten}
-use Rattle.clfs_block.specs.RecordLaws.{block_refused}
-use Rattle.clfs_block.specs.Records.{◌>>=◌, told_as, block_records}
-use Rattle.clfs_block.specs.declared.head.BlockHead.{BlockHead}
-use Rattle.clfs_block.specs.declared.head.BlockRefusal.{BlockRefusal}
+use Rattle.clfs_archive_form.proofs.Words.{⊎_elim, inl, ◌≡◌, ◌≢◌, ℕ, ◌+◌, ◌-◌, ◌*◌, ◌/◌, ◌%◌, ◌<◌, ◌≤◌, Bool, not, eqb, true, false, cond, List, [], ◌∷◌, ◌++◌, length, drop, get_or, Result, Ok, Err, refl, sym, ◌∙◌, ap, subst, arith, drop-drop, length-take-le, length-drop, get_or-drop, ne_eqb, lsn_number, LogEntry, Shape, block_sectors, BeginsWith, Opens, EndsCleanly, AreWhole, total, head_of, frame_at, AreReadAsWritten, block_refused, ◌>>=◌, told_as, block_records, BlockHead, BlockRefusal, stored_in, damage_at, LoadRefusal, NoBase, Damaged, DiskFault, NoMemory, JudgesBlock}
 use Rattle.clfs_block.specs.declared.head.BlockRefusal.TheVariants as blocks
-use Rattle.clfs_recover.specs.Stored.{stored_in}
-use Rattle.clfs_recover.specs.Walk.{damage_at}
-use Rattle.clfs_recover.specs.declared.refusal.LoadRefusal.{LoadRefusal}
-use Rattle.clfs_recover.specs.declared.refusal.LoadRefusal.TheVariants.{NoBase, Damaged, DiskFault, NoMemory}
-use Rattle.clfs_archive_form.specs.Reading.{JudgesBlock}
 use Rattle.clfs_archive_form.specs.Drafting.{EndsAt}
 use Rattle.clfs_archive_form.proofs.Blocks.{ReadAlone}
 

@@ -1,18 +1,5 @@
 -- Blocks that stand one after the other are open blocks.
-use Rattle.std.proofs.Common.{inl, inr, ⊎_elim, ◌≡◌, ◌≢◌, ◌⊎◌, ℕ, ◌+◌, ◌-◌, ◌*◌, ◌/◌, ◌%◌, ◌<◌, ◌≤◌, List, [], ◌∷◌, ◌++◌, length, take, drop, get_or, Ok, refl, sym, ◌∙◌, ap, subst, append_assoc, arith}
-use Rattle.std.proofs.Math.ListN.{get_or-append}
-use Rattle.std.proofs.Math.Seq.{take-append_seam, drop-append_seam}
-use Rattle.std.proofs.lemmas.List.{length-append}
-use Rattle.clfs_lsn.specs.Lsn.{lsn_number}
-use Rattle.clfs_lsn.specs.Size.{IsShape}
-use Rattle.clfs_lsn.specs.declared.entry.LogEntry.{LogEntry}
-use Rattle.clfs_lsn.specs.declared.shape.Shape.{Shape}
-use Rattle.clfs_container.specs.OpenBlocks.{block_sectors, Opens, EndsCleanly, AreWhole, total}
-use Rattle.clfs_block.specs.Judging.{AreReadAsWritten}
-use Rattle.clfs_block.specs.Records.{◌>>=◌, told_as, block_records}
-use Rattle.clfs_recover.specs.Stored.{stored_in}
-use Rattle.clfs_recover.specs.Walk.{damage_at}
-use Rattle.clfs_archive_form.specs.Kept.{in_a_row, AreExact, StandIn}
+use Rattle.clfs_archive_form.proofs.Words.{inl, inr, ⊎_elim, ◌≡◌, ◌≢◌, ◌⊎◌, ℕ, ◌+◌, ◌-◌, ◌*◌, ◌/◌, ◌%◌, ◌<◌, ◌≤◌, List, [], ◌∷◌, ◌++◌, length, take, drop, get_or, Ok, refl, sym, ◌∙◌, ap, subst, append_assoc, arith, get_or-append, take-append_seam, drop-append_seam, length-append, lsn_number, IsShape, LogEntry, Shape, block_sectors, Opens, EndsCleanly, AreWhole, total, AreReadAsWritten, ◌>>=◌, told_as, block_records, stored_in, damage_at, in_a_row, AreExact, StandIn}
 use Rattle.clfs_archive_form.proofs.CutBlocks.{row_len}
 use Rattle.clfs_archive_form.proofs.ReadRecords.{ReadsFit, has_read, bound, told_value}
 

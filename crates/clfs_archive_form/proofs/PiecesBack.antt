@@ -1,27 +1,10 @@
 -- The containers of an archive are read back of their bytes, one after the other.
-use Rattle.std.proofs.Common.{◌≡◌, ℕ, zero, suc, ◌+◌, ◌-◌, ◌*◌, ◌%◌, ◌^◌, ◌<◌, ◌≤◌, Bool, true, cond, ◌&&◌, eqb, leb, List, [], ◌∷◌, ◌++◌, length, reverse, take, drop, get_or, Option, Some, None, Result, Ok, Err, refl, sym, ◌∙◌, ap, subst, arith}
+use Rattle.clfs_archive_form.proofs.Words.{◌≡◌, ℕ, zero, suc, ◌+◌, ◌-◌, ◌*◌, ◌%◌, ◌^◌, ◌<◌, ◌≤◌, Bool, true, cond, ◌&&◌, eqb, leb, List, [], ◌∷◌, ◌++◌, length, reverse, take, drop, get_or, Option, Some, None, Result, Ok, Err, refl, sym, ◌∙◌, ap, subst, arith, find, flat_map, range_with_len, zip, option_or, get_or-append, take-append_seam, drop-append_seam, eq-eqb, ne_eqb, le-ltb, drop-drop, length-append, length-drop, get_or-take, little_bytes, LogEntry, Shape, block_sectors, BeginsWith, Opens, total, number_at, ◌>>=◌, stored_in, Stored, piece_bytes, block_bytes, blocks_of, blocks_in, number_there, just_there, is_length, length_there, part_of, container_there, containers_there, containers_len, in_a_row, AreExact, pieces_at, is_container, last_copy}
 use mathlib.Core.List.{reverse-cons}
-use Rattle.std.specs.List.{find, flat_map, range_with_len, zip}
-use Rattle.std.specs.Option.{option_or}
-use Rattle.std.proofs.Math.ListN.{get_or-append}
-use Rattle.std.proofs.Math.Seq.{take-append_seam, drop-append_seam}
-use Rattle.std.proofs.lemmas.Bool.{eq-eqb, ne_eqb, le-ltb, le-leb}
-use Rattle.std.proofs.lemmas.List.{drop-drop, length-append, length-drop, get_or-take}
+use Rattle.std.proofs.lemmas.Bool.{le-leb}
 use Rattle.std.proofs.lemmas.List.Folds.{find-append}
-use Rattle.byteorder.specs.Endian.{little_bytes, little_number}
+use Rattle.byteorder.specs.Endian.{little_number}
 use Rattle.byteorder.specs.Numbers.{little_number-reads_back}
-use Rattle.clfs_lsn.specs.declared.entry.LogEntry.{LogEntry}
-use Rattle.clfs_lsn.specs.declared.shape.Shape.{Shape}
-use Rattle.clfs_container.specs.OpenBlocks.{block_sectors, BeginsWith, Opens, total}
-use Rattle.clfs_base.specs.Layout.{number_at}
-use Rattle.clfs_block.specs.Records.{◌>>=◌}
-use Rattle.clfs_recover.specs.Stored.{stored_in}
-use Rattle.clfs_archive_form.specs.declared.archive.Stored.{Stored}
-use Rattle.clfs_archive_form.specs.Form.{piece_bytes}
-use Rattle.clfs_archive_form.specs.Containers.{block_bytes, blocks_of, blocks_in, number_there, just_there, is_length, length_there, part_of, container_there, containers_there, containers_len}
-use Rattle.clfs_archive_form.specs.Kept.{in_a_row, AreExact}
-use Rattle.clfs_archive_form.specs.ReadBack.{pieces_at}
-use Rattle.clfs_archive_form.specs.Restoring.{is_container, last_copy}
 use Rattle.clfs_archive_form.proofs.Blocks.{takes_first, none_of}
 use Rattle.clfs_archive_form.proofs.CutBlocks.{row_len, exact_whole}
 use Rattle.clfs_archive_form.proofs.Grammar.{is_there}

@@ -1,37 +1,12 @@
 -- The archive of a log is read as it was written.
-use Rattle.std.proofs.Common.{◌≡◌, ℕ, zero, suc, ◌+◌, ◌-◌, ◌*◌, ◌^◌, ◌<◌, ◌≤◌, Bool, true, cond, ◌&&◌, eqb, List, [], ◌∷◌, ◌++◌, length, drop, get_or, map, Option, Some, None, Result, Ok, refl, sym, ◌∙◌, ap, subst, arith}
-use Rattle.std.specs.List.{flat_map}
-use Rattle.std.proofs.Math.ListN.{get_or-append}
-use Rattle.std.proofs.Math.Seq.{drop-append_seam}
-use Rattle.std.proofs.lemmas.Bool.{eq-eqb, lt-ltb}
-use Rattle.std.proofs.lemmas.Bool.Decides.{nat_tests}
-use Rattle.std.proofs.lemmas.List.{drop-drop, length-append, length-drop}
-use Rattle.byteorder.specs.Endian.{little_bytes}
-use Rattle.clfs_lsn.specs.Lsn.{container_of}
-use Rattle.clfs_lsn.specs.Place.{frontier}
-use Rattle.clfs_lsn.specs.declared.entry.LogEntry.{LogEntry}
-use Rattle.clfs_lsn.specs.declared.place.Place.{Place}
-use Rattle.clfs_lsn.specs.declared.shape.Shape.{Shape}
-use Rattle.clfs_disk.specs.Files.{Files}
-use Rattle.clfs_container.specs.OpenBlocks.{AreOpen, AreWhole}
-use Rattle.clfs_base.specs.declared.image.BaseImage.{BaseImage}
+use Rattle.clfs_archive_form.proofs.Words.{◌≡◌, ℕ, zero, suc, ◌+◌, ◌-◌, ◌*◌, ◌^◌, ◌<◌, ◌≤◌, Bool, true, cond, ◌&&◌, eqb, List, [], ◌∷◌, ◌++◌, length, drop, get_or, map, Option, Some, None, Result, Ok, refl, sym, ◌∙◌, ap, subst, arith, flat_map, get_or-append, drop-append_seam, eq-eqb, lt-ltb, nat_tests, drop-drop, length-append, length-drop, little_bytes, container_of, frontier, LogEntry, Place, Shape, Files, AreWhole, BaseImage, IsImage, current, flag, spelled, first_failing, ◌>>=◌, State, state_of, FitsUpTo, stored_state, HaveBlocks, HasLog, stored_in, stored_records, stored_end, stored_place, shape_of, image_fault, magic, archived_image, piece_bytes, archive_bytes, archived_pieces, has_letter, magic_there, wanted_count, archives_in, containers_there, first_demands, pieces_at, archive_alone}
+use Rattle.clfs_container.specs.OpenBlocks.{AreOpen}
 use Rattle.clfs_base.specs.declared.refusal.NewestRefusal.{NewestRefusal}
 use Rattle.clfs_base.specs.Slots.{newest_of}
 use Rattle.clfs_base.specs.Layout.{most_tail}
-use Rattle.clfs_base.specs.Spelling.{IsImage, current, flag, spelled}
-use Rattle.clfs_block.specs.Checks.{first_failing}
-use Rattle.clfs_block.specs.Records.{◌>>=◌}
-use Rattle.clfs_model.specs.declared.state.State.{State}
-use Rattle.clfs_recover.specs.Files.{state_of}
-use Rattle.clfs_recover.specs.Logs.{FitsUpTo, IsStoredIn, stored_state}
-use Rattle.clfs_recover.specs.Stored.{HaveBlocks, HasLog, stored_in, stored_records, stored_end, stored_place}
-use Rattle.clfs_recover.specs.Walk.{shape_of, image_fault}
+use Rattle.clfs_recover.specs.Logs.{IsStoredIn}
 use Rattle.clfs_recover.specs.declared.parts.Parts.{Parts}
-use Rattle.clfs_archive_form.specs.Form.{magic, archived_image, piece_bytes, archive_bytes, archived_pieces}
-use Rattle.clfs_archive_form.specs.Archives.{unless_found, has_letter, magic_there, wanted_count, archives_in}
-use Rattle.clfs_archive_form.specs.Containers.{containers_there}
-use Rattle.clfs_archive_form.specs.Copies.{first_demands}
-use Rattle.clfs_archive_form.specs.ReadBack.{pieces_at, archive_alone}
+use Rattle.clfs_archive_form.specs.Archives.{unless_found}
 use Rattle.clfs_archive_form.proofs.CopyBack.{Written, HaveLength, copy_back}
 use Rattle.clfs_archive_form.proofs.Grammar.{archive_is, read_alone, rest_is}
 use Rattle.clfs_archive_form.proofs.PiecesBack.{Blocks, open_exact, pieces_from, in_pairs, length-pieces, drop-pieces, AreFine, drop-fine, just_back, all_back}

@@ -1,23 +1,10 @@
 -- The records that are read from a block: each fits its LSN, and with the header they take the bytes that the block says to use.
-use Rattle.std.proofs.Common.{◌≡◌, ℕ, zero, suc, ◌+◌, ◌*◌, ◌^◌, ◌<◌, ◌≤◌, Bool, true, false, cond, eqb, List, [], ◌∷◌, length, drop, Result, Ok, Err}
-use Rattle.std.proofs.Common.{refl, sym, ◌∙◌, ap, subst, arith}
-use Rattle.std.proofs.lemmas.Bool.{eqb-true}
-use Rattle.std.proofs.lemmas.List.{length-drop}
-use Rattle.std.proofs.lemmas.List.FromFn.{length-map-range_with_len}
+use Rattle.clfs_archive_form.proofs.Words.{◌≡◌, ℕ, zero, suc, ◌+◌, ◌*◌, ◌^◌, ◌<◌, ◌≤◌, Bool, true, false, cond, eqb, List, [], ◌∷◌, length, drop, Result, Ok, Err, refl, sym, ◌∙◌, ap, subst, arith, eqb-true, length-drop, length-map-range_with_len, size, sectors, FitsAt, record_at, LogEntry, Shape, block_sectors, frame_at, AreReadAsWritten, BlockHead, BlockRefusal, ◌>>=◌, told_as, block_records, FitFrom}
 use Rattle.std.specs.Prelude.{slice_index}
-use Rattle.clfs_lsn.specs.Size.{size, sectors}
-use Rattle.clfs_lsn.specs.Spelling.{FitsAt, record_at}
-use Rattle.clfs_lsn.specs.declared.entry.LogEntry.{LogEntry}
-use Rattle.clfs_lsn.specs.declared.shape.Shape.{Shape}
-use Rattle.clfs_container.specs.OpenBlocks.{block_sectors}
 use Rattle.clfs_block.specs.Frame.{place_of, payload_of}
-use Rattle.clfs_block.specs.Checks.{left_from, frame_at, rest_at}
-use Rattle.clfs_block.specs.Judging.{AreReadAsWritten}
-use Rattle.clfs_block.specs.declared.head.BlockHead.{BlockHead}
-use Rattle.clfs_block.specs.declared.head.BlockRefusal.{BlockRefusal}
+use Rattle.clfs_block.specs.Checks.{left_from, rest_at}
 use Rattle.clfs_block.specs.declared.head.BlockRefusal.TheVariants as blocks
-use Rattle.clfs_block.specs.Records.{◌>>=◌, told_as, records_from, block_records}
-use Rattle.clfs_recover.specs.Stored.{FitFrom}
+use Rattle.clfs_block.specs.Records.{records_from}
 use Rattle.clfs_archive_form.proofs.OpenEnds.{sectors_said}
 
 -- ---- answers that come of earlier ones

@@ -1,24 +1,10 @@
 -- The containers of archives that were read can be read in the log of the last copy.
-use Rattle.std.proofs.Common.{◌≡◌, ℕ, zero, suc, ◌+◌, ◌-◌, ◌*◌, ◌%◌, ◌<◌, ◌≤◌, Bool, true, false, cond, ltb, leb, eqb, List, [], ◌∷◌, ◌++◌, length, reverse, get_or, Some, Result, Ok, Err, refl, sym, ◌∙◌, ap, subst, arith}
-use Rattle.std.specs.Prelude.{All, OnOk}
-use Rattle.std.specs.List.{find}
-use Rattle.std.proofs.lemmas.Bool.{and_parts, leb-true, ltb-false}
+use Rattle.clfs_archive_form.proofs.Words.{◌≡◌, ℕ, zero, suc, ◌+◌, ◌-◌, ◌*◌, ◌%◌, ◌<◌, ◌≤◌, Bool, true, false, cond, ltb, leb, eqb, List, [], ◌∷◌, ◌++◌, length, reverse, get_or, Some, Result, Ok, Err, refl, sym, ◌∙◌, ap, subst, arith, All, find, ltb-false, All-cons, All-nil, lsn_number, container_of, LogEntry, Shape, BaseImage, ◌>>=◌, told_as, block_records, stored_in, shape_of, damage_at, LoadRefusal, Stored, InputRefusal, wanted_count, rest_there, just_there, number_there, is_length, length_there, records_there, damage_told, part_of, blocks_in, container_there, containers_there, containers_len, later_demands, TakesContainers, Suits, IsReadableAs, AreReadable}
+use Rattle.std.specs.Prelude.{OnOk}
+use Rattle.std.proofs.lemmas.Bool.{and_parts, leb-true}
 use Rattle.std.proofs.lemmas.List.{get_or-reverse, length-reverse}
-use Rattle.std.proofs.lemmas.List.Elements.{All-append, All-cons, All-nil, All-weaker}
-use Rattle.clfs_lsn.specs.Lsn.{lsn_number, container_of}
-use Rattle.clfs_lsn.specs.declared.entry.LogEntry.{LogEntry}
-use Rattle.clfs_lsn.specs.declared.shape.Shape.{Shape}
-use Rattle.clfs_base.specs.declared.image.BaseImage.{BaseImage}
-use Rattle.clfs_block.specs.Records.{◌>>=◌, told_as, block_records}
-use Rattle.clfs_recover.specs.Stored.{stored_in}
-use Rattle.clfs_recover.specs.Walk.{shape_of, damage_at}
-use Rattle.clfs_recover.specs.declared.refusal.LoadRefusal.{LoadRefusal}
-use Rattle.clfs_archive_form.specs.declared.archive.Stored.{Stored}
-use Rattle.clfs_archive_form.specs.declared.refusal.InputRefusal.{InputRefusal}
-use Rattle.clfs_archive_form.specs.Archives.{wanted_count, rest_there}
-use Rattle.clfs_archive_form.specs.Containers.{just_there, number_there, is_length, length_there, records_there, whole_there, damage_told, part_of, blocks_in, container_there, containers_there, containers_len}
-use Rattle.clfs_archive_form.specs.Copies.{later_demands}
-use Rattle.clfs_archive_form.specs.Reading.{TakesContainers, Suits, IsReadableAs, AreReadable}
+use Rattle.std.proofs.lemmas.List.Elements.{All-append, All-weaker}
+use Rattle.clfs_archive_form.specs.Containers.{whole_there}
 use Rattle.clfs_archive_form.proofs.ReadRecords.{bound, one_value, told_value}
 
 -- what a test lets through

@@ -1,15 +1,11 @@
 -- The base copy of a restored log is one that a log can have.
-use Rattle.std.proofs.Common.{◌≡◌, ℕ, zero, suc, ◌+◌, ◌-◌, ◌<◌, ◌≤◌, min, List, [], ◌∷◌, ◌++◌, length, take, drop, get_or, set, refl, sym, ◌∙◌, ap, subst, append_assoc, arith}
-use Rattle.std.specs.List.{range_with_len}
+use Rattle.clfs_archive_form.proofs.Words.{◌≡◌, ℕ, zero, suc, ◌+◌, ◌-◌, ◌<◌, ◌≤◌, min, List, [], ◌∷◌, ◌++◌, length, take, drop, get_or, refl, sym, ◌∙◌, ap, subst, append_assoc, arith, range_with_len, get_or-map, length-map, length-take-le, length-range_with_len, container_of, BaseImage, Row, IsImage, current, flag, row_in, kept_count, lowered_rows, restored_copy}
+use Rattle.std.proofs.Common.{set}
 use Rattle.std.proofs.Math.Seq.{take-suc, drop-cons, get_or-append_seam, set-append_seam}
-use Rattle.std.proofs.lemmas.List.{get_or-map, length-map, length-take-le, map-append}
-use Rattle.std.proofs.lemmas.List.FromFn.{length-range_with_len, get_or-range_with_len}
-use Rattle.clfs_lsn.specs.Lsn.{container_of}
-use Rattle.clfs_base.specs.declared.image.BaseImage.{BaseImage}
-use Rattle.clfs_base.specs.declared.image.Row.{Row}
+use Rattle.std.proofs.lemmas.List.{map-append}
+use Rattle.std.proofs.lemmas.List.FromFn.{get_or-range_with_len}
 use Rattle.clfs_base.specs.Layout.{version_two, most_dedicated}
-use Rattle.clfs_base.specs.Spelling.{IsImage, IsName, current, flag, row_in}
-use Rattle.clfs_archive_form.specs.Written.{kept_count, lowered_rows, restored_copy}
+use Rattle.clfs_base.specs.Spelling.{IsName}
 
 abbrev pub no_row : Row
 no_row = record { name = []; base = 0 }

@@ -1,37 +1,11 @@
 -- The files of a restored log stand for what is restored.
-use Rattle.std.proofs.Common.{◌≡◌, ℕ, zero, suc, ◌+◌, ◌-◌, ◌*◌, ◌<◌, ◌≤◌, min, max, Bool, true, false, cond, eqb, if◌then◌else◌, List, [], ◌∷◌, ◌++◌, length, drop, map, filter, Some, None, Result, Ok, refl, sym, ◌∙◌, ap, subst, append_assoc, append-nil, arith}
-use Rattle.std.specs.Prelude.{All}
-use Rattle.std.specs.List.{fold, range_with_len}
-use Rattle.std.proofs.lemmas.Bool.{eq-eqb, ne_eqb}
-use Rattle.std.proofs.lemmas.List.{length-map}
-use Rattle.std.proofs.lemmas.List.Elements.{All-cons, All-nil, filter-append}
-use Rattle.std.proofs.lemmas.List.FromFn.{length-range_with_len}
+use Rattle.clfs_archive_form.proofs.Words.{◌≡◌, ℕ, zero, suc, ◌+◌, ◌-◌, ◌*◌, ◌<◌, ◌≤◌, min, max, Bool, true, false, cond, eqb, if◌then◌else◌, List, [], ◌∷◌, ◌++◌, length, drop, map, filter, Some, None, Result, Ok, refl, sym, ◌∙◌, ap, subst, append_assoc, append-nil, arith, All, fold, range_with_len, eq-eqb, ne_eqb, length-map, All-cons, All-nil, filter-append, length-range_with_len, lsn_number, container_of, frontier, IsShape, LogEntry, Place, Shape, Files, block_sectors, Opens, total, AreReadAsWritten, ◌>>=◌, BaseImage, Row, row_in, streams_with, State, state_of, FitsUpTo, stored_state, HasLog, HaveBlocks, stored_in, stored_records, stored_end, stored_place, shape_of, base_with, bases_with, image_fault, LoadRefusal, Archive, below, AreExact, blocks_at, kept_ids, kept_records, in_container, end_of_last, restored_place, restored_bases, restored_parts, restored, kept_count, lowered_rows, restored_copy, IsReadable, HoldsKept}
 use Rattle.std.proofs.lemmas.Simd.{map-map}
-use Rattle.clfs_lsn.specs.Lsn.{lsn_number, container_of}
-use Rattle.clfs_lsn.specs.Place.{frontier}
-use Rattle.clfs_lsn.specs.Size.{IsShape}
-use Rattle.clfs_lsn.specs.declared.entry.LogEntry.{LogEntry}
-use Rattle.clfs_lsn.specs.declared.place.Place.{Place}
-use Rattle.clfs_lsn.specs.declared.shape.Shape.{Shape}
 use Rattle.clfs_lsn.specs.declared.stream.Stream.{Stream}
-use Rattle.clfs_disk.specs.Files.{Files}
-use Rattle.clfs_container.specs.OpenBlocks.{block_sectors, Opens, total}
-use Rattle.clfs_block.specs.Judging.{AreReadAsWritten}
-use Rattle.clfs_block.specs.Records.{◌>>=◌}
-use Rattle.clfs_base.specs.declared.image.BaseImage.{BaseImage}
-use Rattle.clfs_base.specs.declared.image.Row.{Row}
-use Rattle.clfs_base.specs.Spelling.{row_in}
-use Rattle.clfs_base.specs.Streams.{streams_with}
-use Rattle.clfs_model.specs.declared.state.State.{State}
-use Rattle.clfs_recover.specs.Files.{StandsFor, state_of}
-use Rattle.clfs_recover.specs.Logs.{IsLogWith, FitsUpTo, stored_state}
-use Rattle.clfs_recover.specs.Stored.{HasLog, HaveBlocks, stored_in, stored_records, stored_end, stored_place}
-use Rattle.clfs_recover.specs.Walk.{shape_of, base_with, bases_with, image_fault}
-use Rattle.clfs_recover.specs.declared.refusal.LoadRefusal.{LoadRefusal}
-use Rattle.clfs_archive_form.specs.declared.archive.Archive.{Archive}
-use Rattle.clfs_archive_form.specs.Kept.{below, AreExact}
-use Rattle.clfs_archive_form.specs.Restoring.{blocks_at, kept_ids, were_read, kept_records, in_container, end_of_last, restored_place, restored_bases, restored_parts, restored}
-use Rattle.clfs_archive_form.specs.Written.{kept_count, lowered_rows, restored_copy, IsReadable, HoldsKept, AreRestored}
+use Rattle.clfs_recover.specs.Files.{StandsFor}
+use Rattle.clfs_recover.specs.Logs.{IsLogWith}
+use Rattle.clfs_archive_form.specs.Restoring.{were_read}
+use Rattle.clfs_archive_form.specs.Written.{AreRestored}
 use Rattle.clfs_archive_form.proofs.BlockEnds.{HaveLowBases, bases_both, ends_at, stored_below}
 use Rattle.clfs_archive_form.proofs.Blocks.{ReadAlone}
 use Rattle.clfs_archive_form.proofs.KeptEnds.{AreBelow, AreFrom, below-append, below_both, below_higher, from_both, from_lower, stored_from}

@@ -1,36 +1,5 @@
 -- What is restored of the archive of a log alone is that log.
-use Rattle.std.proofs.Common.{⊎_elim, ◌≡◌, ℕ, zero, suc, ◌+◌, ◌-◌, ◌*◌, ◌<◌, ◌≤◌, min, Bool, true, false, cond, if◌then◌else◌, List, [], ◌∷◌, length, drop, get_or, map, Option, Some, None, Result, Ok, refl, sym, ◌∙◌, ap, subst, arith}
-use Rattle.std.specs.Prelude.{is_none}
-use Rattle.std.specs.List.{find, range_with_len, flat_map, zip}
-use Rattle.std.specs.Option.{option_map_or}
-use Rattle.std.proofs.lemmas.Bool.{cases_lt}
-use Rattle.clfs_lsn.specs.Lsn.{lsn_number, container_of}
-use Rattle.clfs_lsn.specs.Place.{frontier}
-use Rattle.clfs_lsn.specs.declared.entry.LogEntry.{LogEntry}
-use Rattle.clfs_lsn.specs.declared.shape.Shape.{Shape}
-use Rattle.clfs_disk.specs.Files.{Files}
-use Rattle.clfs_container.specs.OpenBlocks.{AreWhole, total}
-use Rattle.clfs_block.specs.Judging.{AreReadAsWritten}
-use Rattle.clfs_base.specs.declared.image.BaseImage.{BaseImage}
-use Rattle.clfs_base.specs.declared.image.Row.{Row}
-use Rattle.clfs_base.specs.Spelling.{IsImage, current, row_in}
-use Rattle.clfs_base.specs.Streams.{streams_with}
-use Rattle.clfs_model.specs.declared.state.State.{State}
-use Rattle.clfs_recover.specs.Files.{state_of}
-use Rattle.clfs_recover.specs.Logs.{FitsUpTo, stored_state}
-use Rattle.clfs_recover.specs.Stored.{HaveBlocks, stored_in, stored_records, stored_end, stored_place}
-use Rattle.clfs_recover.specs.Walk.{shape_of, bases_with}
-use Rattle.clfs_recover.specs.declared.refusal.LoadRefusal.{LoadRefusal}
-use Rattle.clfs_archive_form.specs.declared.archive.Archive.{Archive}
-use Rattle.clfs_archive_form.specs.declared.archive.Stored.{Stored}
-use Rattle.clfs_archive_form.specs.declared.refusal.InputRefusal.{InputRefusal}
-use Rattle.clfs_archive_form.specs.Form.{archived_image, piece_bytes, archive_bytes, archived_pieces}
-use Rattle.clfs_archive_form.specs.Archives.{wanted_count}
-use Rattle.clfs_archive_form.specs.Containers.{blocks_in, part_of}
-use Rattle.clfs_archive_form.specs.Kept.{below}
-use Rattle.clfs_archive_form.specs.ReadBack.{archive_alone}
-use Rattle.clfs_archive_form.specs.Restoring.{is_missing, gap_in, end_in, high_bound, chosen_unless, chosen, blocks_at, kept_ids, kept_records, in_container, end_of_last, restored_place, restored_bases, restored_parts, restored}
-use Rattle.clfs_archive_form.specs.Written.{lowered_rows, IsReadable, HoldsKept}
+use Rattle.clfs_archive_form.proofs.Words.{⊎_elim, ◌≡◌, ℕ, zero, suc, ◌+◌, ◌-◌, ◌*◌, ◌<◌, ◌≤◌, min, Bool, true, false, cond, if◌then◌else◌, List, [], ◌∷◌, length, drop, get_or, map, Option, Some, None, Result, Ok, refl, sym, ◌∙◌, ap, subst, arith, is_none, find, range_with_len, flat_map, zip, option_map_or, cases_lt, lsn_number, container_of, frontier, LogEntry, Shape, Files, AreWhole, total, AreReadAsWritten, BaseImage, Row, IsImage, current, row_in, streams_with, State, state_of, FitsUpTo, stored_state, HaveBlocks, stored_in, stored_records, stored_end, stored_place, shape_of, bases_with, LoadRefusal, Archive, Stored, InputRefusal, archived_image, piece_bytes, archive_bytes, archived_pieces, wanted_count, blocks_in, part_of, below, archive_alone, is_missing, gap_in, end_in, high_bound, chosen_unless, chosen, blocks_at, kept_ids, kept_records, in_container, end_of_last, restored_place, restored_bases, restored_parts, restored, lowered_rows, IsReadable, HoldsKept}
 use Rattle.clfs_archive_form.proofs.BlockEnds.{HaveLowBases, stored_below}
 use Rattle.clfs_archive_form.proofs.Blocks.{ReadAlone}
 use Rattle.clfs_archive_form.proofs.CopyBack.{Written, HaveLength}

@@ -1,7 +1,5 @@
 -- The first number that fails a test.
-use Rattle.std.proofs.Common.{◌≡◌, ℕ, suc, ◌+◌, ◌-◌, ◌<◌, ◌≤◌, Bool, true, false, cond, Some, None, sym, ◌∙◌, ap, arith}
-use Rattle.std.specs.List.{find, range_with_len}
-use Rattle.clfs_block.specs.Checks.{first_failing}
+use Rattle.clfs_archive_form.proofs.Words.{◌≡◌, ℕ, suc, ◌+◌, ◌-◌, ◌<◌, ◌≤◌, Bool, true, false, cond, Some, None, sym, ◌∙◌, ap, arith, find, range_with_len, first_failing}
 
 module _ (test : ℕ → Bool) (i end : ℕ) where
   one_more : i < end → first_failing test i (end - i) ≡ cond (test i) (first_failing test (i + 1) (end - (i + 1))) (Some i)

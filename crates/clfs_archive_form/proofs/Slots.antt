@@ -1,19 +1,9 @@
 -- The base copy of an archive, from what was decided of its slot.
-use Rattle.std.proofs.Common.{⊎_elim, ◌≡◌, ℕ, ◌+◌, ◌-◌, ◌*◌, ◌%◌, ◌<◌, ◌≤◌, Bool, true, false, cond, ltb, List, length, take, drop, Option, None, Result, Ok, refl, sym, ◌∙◌, ap, subst, arith}
+use Rattle.clfs_archive_form.proofs.Words.{⊎_elim, ◌≡◌, ℕ, ◌+◌, ◌-◌, ◌*◌, ◌%◌, ◌<◌, ◌≤◌, Bool, true, false, cond, ltb, List, length, take, drop, Option, None, Result, Ok, refl, sym, ◌∙◌, ap, subst, arith, get_or-take, get_or-drop, length-take, length-drop, lt-ltb, le-ltb, cases_lt, Demands, BaseImage, image_of, fault_within, Meets, layout_in, number_at, AreBytes, told_as, copy_there, Suits, first_listed, with_tail, slot_in}
 use Rattle.std.proofs.Math.ListN.{get_or-eq_default}
-use Rattle.std.proofs.lemmas.List.{get_or-take, get_or-drop, length-take, length-drop}
-use Rattle.std.proofs.lemmas.Bool.{lt-ltb, le-ltb, cases_lt}
 use Rattle.clfs_lsn.specs.Checks.{unless_wrong}
-use Rattle.clfs_base.specs.declared.demands.Demands.{Demands}
-use Rattle.clfs_base.specs.declared.image.BaseImage.{BaseImage}
-use Rattle.clfs_base.specs.Checks.{is_short, image_of}
-use Rattle.clfs_base.specs.Demands.{fault_within, Meets}
-use Rattle.clfs_base.specs.Layout.{layout_in, number_at}
-use Rattle.clfs_block.specs.Frame.{AreBytes}
-use Rattle.clfs_block.specs.Records.{told_as}
-use Rattle.clfs_archive_form.specs.Archives.{copy_there}
-use Rattle.clfs_archive_form.specs.Reading.{Suits}
-use Rattle.clfs_archive_form.specs.Copies.{first_listed, with_tail, slot_in, count_in, field_width, row_width, width_at, copy_told, copy_judged}
+use Rattle.clfs_base.specs.Checks.{is_short}
+use Rattle.clfs_archive_form.specs.Copies.{count_in, field_width, row_width, width_at, copy_told, copy_judged}
 
 module _ (bytes : List ℕ) (at wrong : ℕ) (slot : List ℕ) (width : ℕ) (here : slot ≡ slot_in bytes at) (wide : width ≡ width_at slot wrong) where
   test : (b : Bool) → is_short slot wrong width ≡ b → is_short (slot_in bytes at) wrong (width_at (slot_in bytes at) wrong) ≡ b

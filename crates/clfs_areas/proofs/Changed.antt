@@ -1,14 +1,6 @@
 -- One area that is changed.
-use Rattle.std.proofs.Common.{◌≡◌, ℕ, ◌<◌, sym, ap, ◌∙◌, subst, List, length, map}
-use Rattle.std.specs.Prelude.{AllPairs, slice_set}
+use Rattle.clfs_areas.proofs.Words.{◌≡◌, ℕ, ◌<◌, sym, ap, ◌∙◌, subst, List, length, map, AllPairs, slice_set, Area, change_first, is_area, AreaTable, no_area, area_at, name_in, AreDifferentRows, inside_areas, table_of, AreParts, AreJoined, AreaRow, Inside}
 use Rattle.std.proofs.lemmas.List.{get_or-set_same, length-set}
-use Rattle.clfs_model.specs.declared.state.Area.{Area}
-use Rattle.clfs_model.specs.State.{change_first, is_area}
-use Rattle.clfs_areas.specs.Table.{AreaTable, no_area, area_at}
-use Rattle.clfs_areas.specs.Rows.{name_in, AreDifferentRows}
-use Rattle.clfs_areas.specs.Kept.{inside_areas, table_of, AreParts, AreJoined}
-use Rattle.clfs_areas.specs.declared.row.AreaRow.{AreaRow}
-use Rattle.clfs_areas.specs.declared.areas.Areas.TheInside.{Inside}
 use Rattle.clfs_areas.proofs.First.{IsFirst, change_at}
 use Rattle.clfs_areas.proofs.Named.{different_areas, named_first}
 use Rattle.clfs_areas.proofs.Parts.{parts_tell, parts_kept, parts_seen}

@@ -1,14 +1,7 @@
 -- The cursors of one area that are changed.
-use Rattle.std.proofs.Common.{◌≡◌, ℕ, ◌<◌, refl, sym, ap, ◌∙◌, List, length, map}
-use Rattle.std.specs.Prelude.{slice_set}
-use Rattle.std.proofs.lemmas.List.{map-set, get_or-map}
-use Rattle.clfs_model.specs.declared.state.Area.{Area}
-use Rattle.clfs_lsn.specs.declared.cursor.Cursor.{Cursor}
+use Rattle.clfs_areas.proofs.Words.{◌≡◌, ℕ, ◌<◌, refl, sym, ap, ◌∙◌, List, length, map, slice_set, map-set, get_or-map, Area, Cursor, AreaCursors, AreaTable, no_area, area_at, row_of, cursors_of, reservation_of, table_of, AreParts, AreJoined, Inside}
 use Rattle.clfs_cursor.specs.Rows as seen
-use Rattle.clfs_cursor.specs.Rows.{AreaCursors, no_cursors, with_cursors}
-use Rattle.clfs_areas.specs.Table.{AreaTable, no_area, area_at}
-use Rattle.clfs_areas.specs.Kept.{row_of, cursors_of, reservation_of, table_of, AreParts, AreJoined}
-use Rattle.clfs_areas.specs.declared.areas.Areas.TheInside.{Inside}
+use Rattle.clfs_cursor.specs.Rows.{no_cursors, with_cursors}
 use Rattle.clfs_areas.proofs.First.{change_leaves}
 use Rattle.clfs_areas.proofs.Changed.{after, after_is}
 use Rattle.clfs_areas.proofs.Parts.{parts_seen}

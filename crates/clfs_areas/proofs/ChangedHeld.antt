@@ -1,13 +1,6 @@
 -- What one area holds that is changed.
-use Rattle.std.proofs.Common.{◌≡◌, ℕ, ◌<◌, refl, sym, ap, ◌∙◌, arith, List, length, map}
-use Rattle.std.specs.Prelude.{slice_set}
-use Rattle.std.proofs.lemmas.List.{length-map, map-set, get_or-map}
-use Rattle.clfs_model.specs.declared.state.Area.{Area}
-use Rattle.clfs_ledger.specs.declared.row.Reservation.{Reservation}
+use Rattle.clfs_areas.proofs.Words.{◌≡◌, ℕ, ◌<◌, refl, sym, ap, ◌∙◌, arith, List, length, map, slice_set, length-map, map-set, get_or-map, Area, Reservation, AreaTable, no_area, area_at, row_of, cursors_of, reservation_of, table_of, AreParts, AreJoined, Inside}
 use Rattle.clfs_ledger.specs.Rows.{no_row, row_at, with_held_at}
-use Rattle.clfs_areas.specs.Table.{AreaTable, no_area, area_at}
-use Rattle.clfs_areas.specs.Kept.{row_of, cursors_of, reservation_of, table_of, AreParts, AreJoined}
-use Rattle.clfs_areas.specs.declared.areas.Areas.TheInside.{Inside}
 use Rattle.clfs_areas.proofs.First.{change_leaves}
 use Rattle.clfs_areas.proofs.Changed.{after, after_is}
 use Rattle.clfs_areas.proofs.Parts.{parts_seen}

@@ -1,17 +1,9 @@
 -- The areas of a client, by their rows.
-use Rattle.std.proofs.Common.{◌≡◌, ℕ, ◌+◌, Bool, true, false, not, ◌||◌, refl, sym, ap, ◌∙◌, List, [], ◌∷◌, length, map, Option}
-use Rattle.std.specs.Prelude.{◌==◌, count_by, sum_by, find, cond, unwrap_or}
-use Rattle.std.specs.List.{list_any, range_with_len}
-use Rattle.std.proofs.lemmas.List.Sums.{sum_by-cons, length-filter}
-use Rattle.clfs_model.specs.declared.state.Area.{Area}
+use Rattle.clfs_areas.proofs.Words.{◌≡◌, ℕ, ◌+◌, Bool, true, false, not, ◌||◌, refl, sym, ap, ◌∙◌, List, [], ◌∷◌, length, map, Option, ◌==◌, count_by, find, cond, unwrap_or, list_any, range_with_len, sum_by-cons, Area, least_unused, has_row, client_areas, is_client_row, is_row, is_used, row_of, reservation_of, AreaRow}
+use Rattle.std.specs.Prelude.{sum_by}
+use Rattle.std.proofs.lemmas.List.Sums.{length-filter}
 use Rattle.clfs_model.specs.declared.state.State.{State}
-use Rattle.clfs_lsn.specs.Numbers.{least_unused}
 use Rattle.clfs_model.specs.Answers.{unused_area}
-use Rattle.clfs_ledger.specs.Rows.{has_row}
-use Rattle.clfs_areas.specs.Table.{client_areas}
-use Rattle.clfs_areas.specs.Rows.{is_client_row, is_row, is_used}
-use Rattle.clfs_areas.specs.Kept.{row_of, reservation_of}
-use Rattle.clfs_areas.specs.declared.row.AreaRow.{AreaRow}
 
 -- a sum over what f gives
 pub sum_of_map : {X Y : Type 0} (f : X → Y) (g : Y → ℕ) (xs : List X) → sum_by g (map f xs) ≡ sum_by (λ x. g (f x)) xs

@@ -1,10 +1,6 @@
 -- Cursors of which no two have the same number.
-use Rattle.std.proofs.Common.{◌≡◌, ◌≢◌, ℕ, ◌+◌, ◌<◌, ◌≤◌, Bool, true, cond, sym, ap, ◌∙◌, subst, arith, zero, suc, List, [], ◌∷◌, length, get_or}
-use Rattle.std.specs.Prelude.{◌==◌, AllPairs, count_by}
-use Rattle.std.proofs.lemmas.Bool.Decides.{nat_tests}
-use Rattle.std.proofs.lemmas.List.Sums.{sum_by-cons}
-use Rattle.clfs_lsn.specs.declared.cursor.Cursor.{Cursor}
-use Rattle.clfs_cursor.specs.Rows.{HaveDifferentNumbers}
+use Rattle.clfs_areas.proofs.Words.{◌≡◌, ◌≢◌, ℕ, ◌+◌, ◌<◌, ◌≤◌, Bool, true, sym, ap, ◌∙◌, subst, arith, zero, suc, List, [], ◌∷◌, length, get_or, ◌==◌, AllPairs, count_by, nat_tests, sum_by-cons, Cursor, HaveDifferentNumbers}
+use Rattle.std.proofs.Common.{cond}
 
 -- one that passes is counted
 one_counted : {X : Type 0} (p : X → Bool) (xs : List X) (i : ℕ) (d : X) → i < length xs → p (get_or xs i d) ≡ true → 1 ≤ count_by p xs

@@ -1,13 +1,10 @@
 -- The first element that passes a test.
-use Rattle.std.proofs.Common.{◌≡◌, ℕ, ◌+◌, ◌<◌, ◌≤◌, Bool, true, false, refl, sym, ap, ap₂, ◌∙◌, arith, zero, suc, List, [], ◌∷◌, length, map, get_or, Some, None, ◌⊎◌, inl, inr}
-use Rattle.std.specs.Prelude.{cond, find, filter, not, nat_lt, position, slice_set, slice_get}
-use Rattle.std.specs.List.{position_or_len, prefix_len, remove}
-use Rattle.std.specs.Option.{option_map}
+use Rattle.clfs_areas.proofs.Words.{◌≡◌, ℕ, ◌+◌, ◌<◌, ◌≤◌, Bool, true, false, refl, sym, ap, ap₂, ◌∙◌, arith, zero, suc, List, [], ◌∷◌, length, map, get_or, Some, None, ◌⊎◌, inl, inr, cond, find, filter, position, slice_set, remove, option_map, length-map, change_first}
+use Rattle.std.specs.Prelude.{not, nat_lt, slice_get}
+use Rattle.std.specs.List.{position_or_len, prefix_len}
 use Rattle.std.proofs.lemmas.Bool.{cases_lt, lt-ltb, le-ltb}
-use Rattle.std.proofs.lemmas.List.{length-map}
 use Rattle.std.proofs.lemmas.List.Folds.{find_at}
 use Rattle.std.proofs.lemmas.List.Quantifiers.{position-Some}
-use Rattle.clfs_model.specs.State.{change_first}
 
 -- the element at this place is the first that passes
 pub record IsFirst {X : Type 0} (p : X → Bool) (xs : List X) (place : ℕ) (d : X) : Type 0 where

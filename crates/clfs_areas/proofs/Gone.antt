@@ -1,22 +1,7 @@
 -- An area that goes.
-use Rattle.std.proofs.Common.{◌≡◌, ℕ, ◌<◌, false, refl, sym, ap, ◌∙◌, subst, arith, zero, suc, List, [], ◌∷◌, length, map, Option, Some, None}
-use Rattle.std.specs.Prelude.{AllPairs, filter, not, position}
-use Rattle.std.specs.List.{remove}
-use Rattle.std.specs.Option.{option_map}
-use Rattle.std.proofs.lemmas.List.{length-map}
+use Rattle.clfs_areas.proofs.Words.{◌≡◌, ℕ, ◌<◌, false, refl, sym, ap, ◌∙◌, subst, arith, zero, suc, List, [], ◌∷◌, length, map, Option, Some, None, AllPairs, filter, position, remove, option_map, length-map, Area, is_area, AreDifferentAreas, AreaCursors, Reservation, without, AreaTable, no_area, area_at, AreDifferentRows, is_name, name_in, row_of, cursors_of, reservation_of, inside_areas, table_of, AreParts, AreJoined, AreaName, AreaRow, Inside}
+use Rattle.std.specs.Prelude.{not}
 use Rattle.std.proofs.lemmas.List.Quantifiers.{all_pairs_remove}
-use Rattle.clfs_model.specs.declared.state.Area.{Area}
-use Rattle.clfs_model.specs.State.{is_area}
-use Rattle.clfs_model.specs.Valid.{AreDifferentAreas}
-use Rattle.clfs_cursor.specs.Rows.{AreaCursors}
-use Rattle.clfs_ledger.specs.declared.row.Reservation.{Reservation}
-use Rattle.clfs_ledger.specs.Rows.{without}
-use Rattle.clfs_areas.specs.Table.{AreaTable, no_area, area_at}
-use Rattle.clfs_areas.specs.Rows.{AreDifferentRows, is_name, name_in}
-use Rattle.clfs_areas.specs.Kept.{row_of, cursors_of, reservation_of, inside_areas, table_of, AreParts, AreJoined}
-use Rattle.clfs_areas.specs.declared.row.AreaName.{AreaName}
-use Rattle.clfs_areas.specs.declared.row.AreaRow.{AreaRow}
-use Rattle.clfs_areas.specs.declared.areas.Areas.TheInside.{Inside}
 use Rattle.clfs_areas.proofs.First.{IsFirst, found_first, first_rest, find_at_place, others_left, removed_left}
 use Rattle.clfs_areas.proofs.Named.{place_named, different_areas, named_client, named_number, name_of_other}
 use Rattle.clfs_areas.proofs.Parts.{parts_tell, parts_kept, parts_seen}

@@ -10,3 +10,4 @@ pub mod Clients
 pub mod Numbers
 pub mod Made
 pub mod Gone
+mod Words

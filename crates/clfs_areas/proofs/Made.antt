@@ -1,23 +1,11 @@
 -- An area that is made.
-use Rattle.std.proofs.Common.{◌≡◌, ◌≢◌, ℕ, ◌<◌, Bool, true, false, if◌then◌else◌, refl, sym, ap, ◌∙◌, subst, arith, zero, suc, List, [], ◌∷◌, ◌++◌, length, map, get_or, ◌⊎◌, inl, inr}
-use Rattle.std.specs.Prelude.{AllPairs, count_by}
-use Rattle.std.specs.List.{list_any}
+use Rattle.clfs_areas.proofs.Words.{◌≡◌, ◌≢◌, ℕ, ◌<◌, Bool, true, false, refl, sym, ap, ◌∙◌, subst, arith, zero, suc, List, [], ◌∷◌, ◌++◌, length, map, get_or, ◌⊎◌, inl, inr, AllPairs, count_by, list_any, nat_tests, Area, least_unused, AreaCursors, Reservation, has_row, without, AreaTable, AreDifferentRows, is_client_row, is_name, is_row, is_used, name_in, row_of, cursors_of, reservation_of, inside_areas, table_of, AreParts, AreJoined, AreaName, AreaRow, Inside}
+use Rattle.std.proofs.Common.{if◌then◌else◌}
 use Rattle.std.proofs.lemmas.Bool.{cases_eq}
-use Rattle.std.proofs.lemmas.Bool.Decides.{nat_tests}
 use Rattle.std.proofs.lemmas.List.{map-append}
 use Rattle.std.proofs.lemmas.List.Quantifiers.{all_pairs_push}
-use Rattle.clfs_model.specs.declared.state.Area.{Area}
-use Rattle.clfs_lsn.specs.Numbers.{least_unused}
-use Rattle.clfs_cursor.specs.Rows.{AreaCursors}
-use Rattle.clfs_ledger.specs.declared.row.Reservation.{Reservation}
-use Rattle.clfs_ledger.specs.Rows.{has_row, is_of, without}
+use Rattle.clfs_ledger.specs.Rows.{is_of}
 use Rattle.indexmap.specs.IndexSet.{insert_key}
-use Rattle.clfs_areas.specs.Table.{AreaTable}
-use Rattle.clfs_areas.specs.Rows.{AreDifferentRows, is_client_row, is_name, is_row, is_used, name_in}
-use Rattle.clfs_areas.specs.Kept.{row_of, cursors_of, reservation_of, inside_areas, table_of, AreParts, AreJoined}
-use Rattle.clfs_areas.specs.declared.row.AreaName.{AreaName}
-use Rattle.clfs_areas.specs.declared.row.AreaRow.{AreaRow}
-use Rattle.clfs_areas.specs.declared.areas.Areas.TheInside.{Inside}
 use Rattle.clfs_areas.proofs.Clients.{held_row_seen}
 use Rattle.clfs_areas.proofs.Named.{used_named}
 use Rattle.clfs_areas.proofs.Numbers.{least_is_unused}

@@ -1,17 +1,5 @@
 -- An area is named by its client and its number.
-use Rattle.std.proofs.Common.{◌≡◌, ℕ, ◌<◌, Bool, true, false, ◌||◌, refl, ap, ap₂, ◌∙◌, subst, arith, List, [], ◌∷◌, length, map, get_or, inl, inr}
-use Rattle.std.specs.Prelude.{AllPairs, position}
-use Rattle.std.specs.List.{list_any}
-use Rattle.std.proofs.lemmas.Bool.Decides.{nat_tests}
-use Rattle.std.proofs.lemmas.List.{length-map, get_or-map}
-use Rattle.clfs_model.specs.declared.state.Area.{Area}
-use Rattle.clfs_model.specs.State.{is_area}
-use Rattle.clfs_model.specs.Valid.{AreDifferentAreas}
-use Rattle.clfs_areas.specs.Table.{no_area, area_at}
-use Rattle.clfs_areas.specs.Rows.{AreDifferentRows, is_name, is_row, is_used, name_in}
-use Rattle.clfs_areas.specs.Kept.{row_of}
-use Rattle.clfs_areas.specs.declared.row.AreaName.{AreaName}
-use Rattle.clfs_areas.specs.declared.row.AreaRow.{AreaRow}
+use Rattle.clfs_areas.proofs.Words.{◌≡◌, ℕ, ◌<◌, Bool, true, false, ◌||◌, refl, ap, ap₂, ◌∙◌, subst, arith, List, [], ◌∷◌, length, map, get_or, inl, inr, AllPairs, position, list_any, nat_tests, length-map, get_or-map, Area, is_area, AreDifferentAreas, no_area, area_at, AreDifferentRows, is_name, is_row, is_used, name_in, row_of, AreaName, AreaRow}
 use Rattle.clfs_areas.proofs.First.{IsFirst, position_alike, position_of_map}
 
 -- rows stand where their areas stand

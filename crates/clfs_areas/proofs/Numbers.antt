@@ -1,12 +1,6 @@
 -- The least number that a client doesn't use is not used.
-use Rattle.std.proofs.Common.{◌≡◌, ℕ, ◌+◌, ◌<◌, ◌≤◌, Bool, true, false, not, cond, refl, ap, ◌∙◌, arith, zero, suc, List, [], ◌∷◌, add-one, below_more, Option, Some, None}
-use Rattle.std.specs.Prelude.{count_by, find, unwrap_or}
-use Rattle.std.specs.List.{list_any, range_with_len}
-use Rattle.std.proofs.lemmas.Bool.Decides.{nat_tests}
-use Rattle.std.proofs.lemmas.List.Sums.{sum_by-cons}
-use Rattle.clfs_lsn.specs.Numbers.{least_unused}
-use Rattle.clfs_areas.specs.Rows.{is_client_row, is_row, is_used}
-use Rattle.clfs_areas.specs.declared.row.AreaRow.{AreaRow}
+use Rattle.clfs_areas.proofs.Words.{◌≡◌, ℕ, ◌+◌, ◌<◌, ◌≤◌, Bool, true, false, not, refl, ap, ◌∙◌, arith, zero, suc, List, [], ◌∷◌, Option, Some, None, count_by, find, unwrap_or, list_any, range_with_len, nat_tests, sum_by-cons, least_unused, is_client_row, is_row, is_used, AreaRow}
+use Rattle.std.proofs.Common.{cond, add-one, below_more}
 
 -- the first, and the others
 counted_first : {X : Type 0} (p : X → Bool) (x : X) (xs : List X) → count_by p (x ∷ xs) ≡ cond (p x) 1 0 + count_by p xs

@@ -1,12 +1,6 @@
 -- The parts of the table and the areas that they tell.
-use Rattle.std.proofs.Common.{◌≡◌, refl, sym, ap, subst, List, [], ◌∷◌, map}
-use Rattle.clfs_model.specs.declared.state.Area.{Area}
-use Rattle.clfs_cursor.specs.Rows.{AreaCursors}
-use Rattle.clfs_ledger.specs.declared.row.Reservation.{Reservation}
-use Rattle.clfs_areas.specs.Table.{AreaTable}
-use Rattle.clfs_areas.specs.Kept.{areas_by, row_of, cursors_of, reservation_of, table_of, AreParts, AreJoined}
-use Rattle.clfs_areas.specs.declared.row.AreaRow.{AreaRow}
-use Rattle.clfs_areas.specs.declared.areas.Areas.TheInside.{Inside}
+use Rattle.clfs_areas.proofs.Words.{◌≡◌, refl, sym, ap, subst, List, [], ◌∷◌, map, Area, AreaCursors, Reservation, AreaTable, row_of, cursors_of, reservation_of, table_of, AreParts, AreJoined, AreaRow, Inside}
+use Rattle.clfs_areas.specs.Kept.{areas_by}
 
 -- the parts of areas tell these areas
 joined_again : (areas : List Area) → areas_by (map row_of areas) (map cursors_of areas) (map reservation_of areas) ≡ areas

@@ -1,26 +1,8 @@
 -- Fields of which narrower ranges are asked.
-use Rattle.std.proofs.Common.{◌≡◌, ℕ, ◌≤◌, Bool, true, false, not, ◌&&◌, ◌||◌, leb, cond, List, [], ◌∷◌, length, find, Option, Some, None, Result, Ok, Err, refl, sym, ◌∙◌, ap, subst, arith}
-use Rattle.std.proofs.lemmas.Bool.Decides.{nat_tests}
-use Rattle.std.specs.List.{zip}
-use Rattle.std.specs.Option.{option_map, option_or}
-use Rattle.std.proofs.lemmas.List.FromFn.{length-map-range_with_len}
-use Rattle.std.specs.Prelude.{IfOk}
-use Rattle.clfs_base.specs.declared.demands.Asked.{Asked}
-use Rattle.clfs_base.specs.declared.demands.Asked.TheVariants.{Anything, Between}
-use Rattle.clfs_base.specs.declared.demands.Demands.{Demands}
-use Rattle.clfs_base.specs.declared.image.BaseImage.{BaseImage}
-use Rattle.clfs_base.specs.declared.layout.Field.{Field}
-use Rattle.clfs_base.specs.declared.layout.Layout.{Layout}
-use Rattle.clfs_base.specs.declared.layout.Numbers.{Numbers}
-use Rattle.clfs_base.specs.declared.refusal.BaseRefusal.{BaseRefusal}
+use Rattle.clfs_base.proofs.Words.{◌≡◌, ℕ, ◌≤◌, Bool, true, false, not, ◌&&◌, ◌||◌, leb, cond, List, [], ◌∷◌, length, find, Option, Some, None, Result, Ok, Err, refl, sym, ◌∙◌, ap, subst, arith, nat_tests, zip, option_map, option_or, length-map-range_with_len, IfOk, Asked, Anything, Demands, BaseImage, Field, Layout, Numbers, BaseRefusal, unless_wrong, most_containers, numbers_of, layout_in, fields, flag, is_wrong_field, wrong_field, behind_fields, row_of, slot_fault, image_of, image_at, Gives, anything, asked, is_wrong_within, wrong_within, fault_within}
+use Rattle.clfs_base.specs.declared.demands.Asked.TheVariants.{Between}
 use Rattle.clfs_base.specs.declared.refusal.BaseRefusal.TheVariants as refusals
-use Rattle.clfs_lsn.specs.Checks.{unless_wrong}
-use Rattle.clfs_lsn.specs.Limits.{most_containers}
-use Rattle.clfs_base.specs.Layout.{numbers_of, layout_in, fields}
-use Rattle.clfs_base.specs.Spelling.{flag}
-use Rattle.clfs_base.specs.Checks.{is_wrong_field, wrong_field, behind_fields, row_of, slot_fault, image_of, image_at}
-use Rattle.clfs_base.specs.Decoding.{Gives}
-use Rattle.clfs_base.specs.Demands.{anything, asked, is_asked, is_wrong_within, wrong_within, fault_within, IsAsked, Meets}
+use Rattle.clfs_base.specs.Demands.{is_asked, IsAsked, Meets}
 use Rattle.clfs_base.proofs.Searches.{both_none, goes_on}
 use Rattle.clfs_base.proofs.Ranges.{all_pass, pass_right}
 use Rattle.clfs_base.proofs.Taken.{few_listed, flag_back}

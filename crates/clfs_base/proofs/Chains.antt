@@ -1,13 +1,6 @@
 -- The first wrong byte of a slot, part by part.
-use Rattle.std.proofs.Common.{◌≡◌, ℕ, List, Option, sym, ap}
-use Rattle.std.specs.List.{zip}
-use Rattle.std.specs.Option.{option_or}
-use Rattle.clfs_base.specs.declared.layout.Layout.{Layout}
-use Rattle.clfs_base.specs.declared.layout.Numbers.{Numbers}
-use Rattle.clfs_base.specs.Layout.{slot_bytes, fields_end, files_at, rows_at, file_place, row_place, numbers_of, fields}
-use Rattle.clfs_base.specs.Checks.{other_byte, wrong_field, wrong_file, wrong_row, behind_fields, slot_fault}
-use Rattle.clfs_base.specs.Demands.{asked, wrong_within, fault_within}
-use Rattle.clfs_base.specs.declared.demands.Demands.{Demands}
+use Rattle.clfs_base.proofs.Words.{◌≡◌, ℕ, List, Option, sym, ap, zip, option_or, Layout, Numbers, slot_bytes, file_place, row_place, numbers_of, fields, other_byte, wrong_field, wrong_file, wrong_row, behind_fields, slot_fault, asked, wrong_within, fault_within, Demands}
+use Rattle.clfs_base.specs.Layout.{fields_end, files_at, rows_at}
 
 -- the same with the numbers that were read
 abbrev pub chain : Layout → List ℕ → Numbers → Option ℕ

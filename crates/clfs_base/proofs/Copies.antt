@@ -1,21 +1,11 @@
 -- The newest copy of a base file whose other slot is written.
-use Rattle.std.proofs.Common.{◌≡◌, ◌≢◌, ◌⊎◌, inl, inr, ⊎_elim, ℕ, zero, suc, ◌+◌, ◌-◌, ◌*◌, ◌%◌, ◌<◌, ◌≤◌, Bool, true, false, cond, ◌&&◌, ◌||◌, eqb, ltb, List, [], ◌∷◌, ◌++◌, length, get_or, take, drop}
-use Rattle.std.proofs.Common.{Option, Result, Ok, Err, refl, sym, ◌∙◌, ap, subst, arith, length-drop}
-use Rattle.std.proofs.lemmas.Bool.{cases_eq, cases_lt}
-use Rattle.std.proofs.lemmas.Bool.Decides.{nat_tests}
-use Rattle.std.proofs.lemmas.List.{ext_get_or, length-take, get_or-take, get_or-drop, drop_more, append-nil}
-use Rattle.clfs_disk.specs.Files.{Files, Torn, TornIn, WrittenIn, Unchanged, overwritten}
-use Rattle.clfs_disk.specs.State.{DiskState, Leaves}
+use Rattle.clfs_base.proofs.Words.{◌≡◌, ◌≢◌, inl, inr, ⊎_elim, ℕ, zero, suc, ◌+◌, ◌-◌, ◌*◌, ◌%◌, ◌<◌, ◌≤◌, Bool, true, false, cond, ◌&&◌, ◌||◌, eqb, ltb, List, [], ◌∷◌, ◌++◌, length, get_or, take, drop, Option, Result, Ok, Err, refl, sym, ◌∙◌, ap, subst, arith, length-drop, cases_eq, cases_lt, nat_tests, ext_get_or, length-take, get_or-take, get_or-drop, drop_more, append-nil, Files, TornIn, WrittenIn, Unchanged, DiskState, Leaves, BaseImage, NewestRefusal, version_one, version_two, layout_of, layout_in, numbers_of, fields, IsImage, spelled, unless_wrong, unless_ok, slot_fault, image_of, image_at, slot_place, slot_of, is_open_slot, used_slot, copy_in, copy_of, newest_of, HasNewest, EitherNewest, NoneOrFirst}
+use Rattle.std.proofs.Common.{◌⊎◌}
+use Rattle.clfs_disk.specs.Files.{Torn, overwritten}
 use Rattle.clfs_disk.specs.Overwriting.{StandsInPlace}
-use Rattle.clfs_base.specs.declared.image.BaseImage.{BaseImage}
-use Rattle.clfs_base.specs.declared.refusal.NewestRefusal.{NewestRefusal}
 use Rattle.clfs_base.specs.declared.refusal.NewestRefusal.TheVariants as refusals
-use Rattle.clfs_base.specs.Layout.{version_one, version_two, layout_of, layout_in, numbers_of, fields}
-use Rattle.clfs_base.specs.Spelling.{IsImage, spelled}
-use Rattle.clfs_lsn.specs.Checks.{unless_wrong, unless_ok}
-use Rattle.clfs_base.specs.Checks.{slot_fault, image_of, image_at}
-use Rattle.clfs_base.specs.Slots.{slot_place, slot_of, is_open_slot, turn_of, is_wrong_turn, newer_slot, used_slot, copy_in, copy_of, newest_of}
-use Rattle.clfs_base.specs.Writing.{older_of, body_of, HasNewest, IsOlder, IsFilled, IsFirst, EitherNewest, HasNoCopy, NoneOrFirst}
+use Rattle.clfs_base.specs.Slots.{turn_of, is_wrong_turn, newer_slot}
+use Rattle.clfs_base.specs.Writing.{older_of, body_of, IsOlder, IsFilled, IsFirst, HasNoCopy}
 use Rattle.clfs_base.proofs.Searches.{both_none}
 use Rattle.clfs_base.proofs.Chains.{chained}
 use Rattle.clfs_base.proofs.Ranges.{all_pass, pass_right}

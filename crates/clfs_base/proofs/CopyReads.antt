@@ -1,16 +1,9 @@
 -- What bytes the newest copy is told by.
-use Rattle.std.proofs.Common.{◌≡◌, ◌<◌, ◌≤◌, ℕ, List, [], length, Result, Ok, Err, ⊎_elim, refl, sym, ap, subst, ◌∙◌, arith}
-use Rattle.std.proofs.lemmas.Bool.{cases_lt}
-use Rattle.clfs_disk.specs.Files.{Files, Unchanged}
-use Rattle.clfs_disk.specs.State.{DiskState, MayLeave, Passes}
-use Rattle.clfs_base.specs.declared.image.BaseImage.{BaseImage}
+use Rattle.clfs_base.proofs.Words.{◌≡◌, ◌<◌, ◌≤◌, ℕ, List, [], length, Result, Ok, Err, ⊎_elim, refl, sym, ap, subst, ◌∙◌, arith, cases_lt, Files, Unchanged, DiskState, Passes, BaseImage, NewestRefusal, slot_bytes, image_at, front_of, slot_by, copy_in, GivesNewest}
+use Rattle.clfs_disk.specs.State.{MayLeave}
 use Rattle.clfs_base.specs.declared.newest.Front.{Front}
-use Rattle.clfs_base.specs.declared.refusal.NewestRefusal.{NewestRefusal}
 use Rattle.clfs_base.specs.declared.refusal.NewestRefusal.TheVariants as newest
-use Rattle.clfs_base.specs.Layout.{slot_bytes}
-use Rattle.clfs_base.specs.Checks.{image_at}
-use Rattle.clfs_base.specs.Slots.{front_of, slot_by, copy_in}
-use Rattle.clfs_base.specs.Decoding.{GivesNewest, IsOutside}
+use Rattle.clfs_base.specs.Decoding.{IsOutside}
 use Rattle.clfs_base.specs.Reading.{copy_with, IsUsedSlot, IsReadCopy}
 
 abbrev Slot : Type 0

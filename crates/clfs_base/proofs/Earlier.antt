@@ -1,6 +1,5 @@
 -- Lists that are made by the places of their elements.
-use Rattle.std.proofs.Common.{◌≡◌, ℕ, ◌<◌, Bool, true, false, map, refl, sym, ◌∙◌, arith}
-use Rattle.std.specs.List.{range_with_len, list_any}
+use Rattle.clfs_base.proofs.Words.{◌≡◌, ℕ, ◌<◌, Bool, true, false, map, refl, sym, ◌∙◌, arith, range_with_len, list_any}
 use Rattle.clfs_base.proofs.Places.{each_fails}
 
 module _ {X : Type 0} (p : X → Bool) (g : ℕ → X) (n k : ℕ) (lt : k < n) (is : p (g k) ≡ true) where

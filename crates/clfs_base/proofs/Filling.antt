@@ -1,14 +1,8 @@
 -- Bytes that are put after a front, where all after it is zeros.
-use Rattle.std.proofs.Common.{◌≡◌, ℕ, zero, suc, ◌+◌, ◌-◌, ◌*◌, ◌%◌, ◌<◌, ◌≤◌, List, [], ◌∷◌, ◌++◌, length, get_or, take, drop, replicate, refl, sym, ◌∙◌, ap, subst, arith}
-use Rattle.std.proofs.Math.Nat.{mul-le-mul_left}
-use Rattle.std.proofs.Common.{length-append, length-drop, append_assoc}
-use Rattle.std.proofs.lemmas.List.{length-replicate, replicate-append-replicate, take_at, drop_at, drop-drop, drop-replicate, take_more, flat_map_more, get_or_read, append-nil, drop_all, take_all}
+use Rattle.clfs_base.proofs.Words.{◌≡◌, ℕ, zero, suc, ◌+◌, ◌-◌, ◌*◌, ◌%◌, ◌<◌, ◌≤◌, List, [], ◌∷◌, ◌++◌, length, get_or, take, drop, replicate, refl, sym, ◌∙◌, ap, subst, arith, mul-le-mul_left, length-append, length-drop, append_assoc, length-replicate, take_at, drop_at, drop-drop, append-nil, drop_all, take_all, flat_map, little_bytes, Row, filled, row_in, spelled_row}
+use Rattle.std.proofs.lemmas.List.{replicate-append-replicate, drop-replicate, take_more, flat_map_more, get_or_read}
 use Rattle.std.specs.Int.{bytes_low_first}
 use borrow.Rule.Slice.PartMut.{put_mid, post_of}
-use Rattle.std.specs.List.{flat_map}
-use Rattle.byteorder.specs.Endian.{little_bytes}
-use Rattle.clfs_base.specs.declared.image.Row.{Row}
-use Rattle.clfs_base.specs.Spelling.{filled, row_in, spelled_row}
 
 abbrev zeros : ℕ → List ℕ
 zeros n = replicate n 0

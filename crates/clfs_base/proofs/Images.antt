@@ -1,16 +1,8 @@
 -- Images and the bytes that spell them.
-use Rattle.std.proofs.Common.{◌≡◌, ℕ, ◌+◌, ◌^◌, ◌<◌, ◌≤◌, Bool, true, false, eqb, cond, List, [], ◌∷◌, ◌++◌, length, get_or, take, drop, None, Result, Ok, Err, IfOk, refl, sym, ◌∙◌, ap, subst, arith}
-use Rattle.std.proofs.Common.{length-drop, take-append-drop}
-use Rattle.std.proofs.lemmas.List.{take_at, drop_more, length-take}
-use Rattle.clfs_base.specs.declared.image.BaseImage.{BaseImage}
-use Rattle.clfs_base.specs.declared.refusal.BaseRefusal.{BaseRefusal}
+use Rattle.clfs_base.proofs.Words.{◌≡◌, ℕ, ◌+◌, ◌^◌, ◌<◌, ◌≤◌, Bool, true, false, eqb, cond, List, [], ◌∷◌, ◌++◌, length, get_or, take, drop, None, Result, Ok, Err, refl, sym, ◌∙◌, ap, subst, arith, length-drop, take-append-drop, take_at, drop_more, length-take, BaseImage, BaseRefusal, version_one, version_two, layout_of, layout_in, most_dedicated, IsImage, row_in, flag, spelled, IsShape, unless_ok, slot_fault, image_of, image_at, Gives}
+use Rattle.std.proofs.Common.{IfOk}
 use Rattle.clfs_base.specs.declared.refusal.BaseRefusal.TheVariants as refusals
-use Rattle.clfs_base.specs.Layout.{version_one, version_two, layout_of, layout_in, most_dedicated}
-use Rattle.clfs_base.specs.Spelling.{IsImage, FitsOne, row_in, flag, current, spelled}
-use Rattle.clfs_lsn.specs.Size.{IsShape}
-use Rattle.clfs_lsn.specs.Checks.{unless_ok}
-use Rattle.clfs_base.specs.Checks.{slot_fault, image_of, image_at}
-use Rattle.clfs_base.specs.Decoding.{Gives}
+use Rattle.clfs_base.specs.Spelling.{FitsOne, current}
 use Rattle.clfs_base.proofs.Spelled.{length-spelled}
 use Rattle.clfs_base.proofs.Taken.{IsBytes, HaveSmallBases, limits_hold, image_may_be, read_is_spelled}
 use Rattle.clfs_base.proofs.Copies.{layout_fits, written}

@@ -12,3 +12,4 @@ pub mod Images
 pub mod AskedFields
 pub mod Earlier
 pub mod Telling
+mod Words

@@ -1,15 +1,7 @@
 -- What the table's checks say of the numbers in the fields.
-use Rattle.std.proofs.Common.{◌≡◌, ◌≢◌, inl, inr, ℕ, ◌+◌, ◌-◌, ◌*◌, ◌^◌, ◌≤◌, Bool, true, false, not, ◌||◌, ◌&&◌, eqb, leb, ltb, cond, List, [], ◌∷◌, length, find, Option, Some, None, refl, ◌∙◌, ap, arith}
-use Rattle.std.proofs.lemmas.Bool.{cases_eq}
-use Rattle.std.proofs.lemmas.Bool.Decides.{nat_tests}
-use Rattle.std.specs.Option.{option_map}
-use Rattle.clfs_lsn.specs.Limits.{most_block_sectors, most_container_sectors, most_containers}
-use Rattle.clfs_base.specs.declared.layout.Field.{Field}
-use Rattle.clfs_base.specs.declared.layout.Layout.{Layout}
-use Rattle.clfs_base.specs.declared.layout.Numbers.{Numbers}
-use Rattle.clfs_base.specs.Layout.{fields, most_listed, most_minimum, most_tail, most_dedicated}
-use Rattle.clfs_base.specs.Spelling.{IsPolicy}
-use Rattle.clfs_base.specs.Checks.{is_wrong_field, wrong_field}
+use Rattle.clfs_base.proofs.Words.{◌≡◌, ◌≢◌, inl, inr, ℕ, ◌+◌, ◌-◌, ◌*◌, ◌^◌, ◌≤◌, Bool, true, false, not, ◌||◌, ◌&&◌, eqb, leb, ltb, cond, List, [], ◌∷◌, length, find, Option, Some, None, refl, ◌∙◌, ap, arith, cases_eq, nat_tests, option_map, most_containers, Field, Layout, Numbers, fields, most_minimum, most_tail, most_dedicated, IsPolicy, is_wrong_field, wrong_field}
+use Rattle.clfs_lsn.specs.Limits.{most_block_sectors, most_container_sectors}
+use Rattle.clfs_base.specs.Layout.{most_listed}
 
 -- the ranges of the table
 pub record IsRight (layout : Layout) (n : Numbers) : Type 0 where

@@ -1,12 +1,5 @@
 -- The table of the fields: each field stands after the one before it.
-use Rattle.std.proofs.Common.{◌≡◌, ℕ, zero, suc, ◌+◌, ◌-◌, ◌≤◌, ◌<◌, Bool, true, false, ◌&&◌, eqb, leb, List, [], ◌∷◌, length, get_or, take, drop, ◌++◌, refl, ◌∙◌, ap, arith, length-append}
-use Rattle.std.proofs.lemmas.Bool.Decides.{nat_tests}
-use Rattle.std.specs.List.{flat_map}
-use Rattle.clfs_base.specs.declared.layout.Field.{Field}
-use Rattle.clfs_base.specs.declared.layout.Layout.{Layout}
-use Rattle.clfs_base.specs.declared.layout.Numbers.{Numbers}
-use Rattle.clfs_base.specs.Layout.{fields}
-use Rattle.clfs_base.specs.Spelling.{filled, field_bytes}
+use Rattle.clfs_base.proofs.Words.{◌≡◌, ℕ, zero, suc, ◌+◌, ◌-◌, ◌≤◌, ◌<◌, Bool, true, false, ◌&&◌, eqb, leb, List, [], ◌∷◌, length, get_or, take, drop, ◌++◌, refl, ◌∙◌, ap, arith, length-append, nat_tests, flat_map, Field, Layout, Numbers, fields, filled, field_bytes}
 use Rattle.clfs_base.proofs.Filling.{length-low, put_more}
 
 abbrev pub no_field : Field

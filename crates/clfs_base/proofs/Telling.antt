@@ -1,13 +1,7 @@
 -- What a slot that is right tells without its image.
-use Rattle.std.proofs.Common.{◌≡◌, ℕ, ◌<◌, ◌≤◌, Bool, true, false, cond, leb, ltb, List, length, map, Option, Some, None, slice_get, refl, sym, ◌∙◌, ap, arith, ⊎_elim, ◌&&◌}
-use Rattle.std.proofs.lemmas.Bool.{cases_lt, lt-ltb, le-ltb}
-use Rattle.std.proofs.lemmas.List.FromFn.{length-map-range_with_len, get_or-map-range_with_len}
+use Rattle.clfs_base.proofs.Words.{◌≡◌, ℕ, ◌<◌, ◌≤◌, Bool, true, false, cond, leb, ltb, List, length, map, Option, Some, None, slice_get, refl, sym, ◌∙◌, ap, arith, ⊎_elim, ◌&&◌, cases_lt, length-map-range_with_len, get_or-map-range_with_len, range_with_len, Layout, numbers_of, fields, most_dedicated, numbers_for, file_in, row_of, slot_fault, image_of}
+use Rattle.std.proofs.lemmas.Bool.{lt-ltb, le-ltb}
 use Rattle.std.proofs.lemmas.Option.{slice_get-get_or, slice_get_past}
-use Rattle.std.specs.List.{range_with_len}
-use Rattle.clfs_base.specs.declared.layout.Layout.{Layout}
-use Rattle.clfs_base.specs.Layout.{numbers_of, fields, most_dedicated}
-use Rattle.clfs_base.specs.Spelling.{numbers_for}
-use Rattle.clfs_base.specs.Checks.{file_in, row_of, slot_fault, image_of}
 use Rattle.clfs_base.proofs.Searches.{both_none}
 use Rattle.clfs_base.proofs.Chains.{chained}
 use Rattle.clfs_base.proofs.Ranges.{all_pass, pass_right}

@@ -1,11 +1,6 @@
 -- Where the payload of a block stands.
-use Rattle.std.proofs.Common.{◌≡◌, ⊎_elim, ℕ, ◌+◌, ◌-◌, ◌*◌, ◌%◌, ◌<◌, ◌≤◌, List, ◌++◌, length, get_or, take}
-use Rattle.std.proofs.Common.{drop, refl, sym, ◌∙◌, ap, arith}
-use Rattle.std.proofs.Common.{length-append, length-drop}
-use Rattle.std.proofs.lemmas.List.{ext_get_or, length-take-le, get_or-take, get_or-drop, get_or_append_left, get_or-append_right}
+use Rattle.clfs_block.proofs.Words.{◌≡◌, ⊎_elim, ℕ, ◌+◌, ◌-◌, ◌*◌, ◌%◌, ◌<◌, ◌≤◌, List, ◌++◌, length, get_or, take, drop, refl, sym, ◌∙◌, ap, arith, length-append, length-drop, ext_get_or, length-take-le, get_or-take, get_or-drop, get_or_append_left, get_or-append_right, cases_lt, place_of, payload_of, payload_from}
 use Rattle.std.proofs.lemmas.List.FromFn.{length-map-range_with_len, get_or-map-range_with_len}
-use Rattle.std.proofs.lemmas.Bool.{cases_lt}
-use Rattle.clfs_block.specs.Frame.{place_of, payload_of, payload_from}
 
 pub length-payload_of : (count : ℕ) (block : List ℕ) → length (payload_of count block) ≡ count
 length-payload_of count block = length-map-range_with_len (λ p. get_or block (place_of p) 0) 0 count

@@ -1,9 +1,5 @@
 -- The gate of a block, and what the block says in its first bytes.
-use Rattle.std.proofs.Common.{◌≡◌, ℕ, zero, suc, ◌+◌, ◌*◌, ◌^◌, ◌<◌, ◌≤◌, List, ◌∷◌, get_or, drop, refl, sym, ◌∙◌, ap, arith}
-use Rattle.std.proofs.Common.{length-drop}
-use Rattle.std.proofs.lemmas.List.{get_or-drop}
-use Rattle.clfs_lsn.specs.Size.{sectors}
-use Rattle.clfs_block.specs.Frame.{place_of, used_bytes, used_payload, SpellsBlock}
+use Rattle.clfs_block.proofs.Words.{◌≡◌, ℕ, zero, suc, ◌+◌, ◌*◌, ◌^◌, ◌<◌, ◌≤◌, List, ◌∷◌, get_or, drop, refl, sym, ◌∙◌, ap, arith, length-drop, get_or-drop, sectors, place_of, used_bytes, used_payload, SpellsBlock}
 use Rattle.clfs_block.proofs.Frames.{get_or-payload_of, payload_is}
 use Rattle.clfs_block.proofs.Splices.{same_address}
 

@@ -4,6 +4,7 @@ mod Gates
 mod Reading
 mod Sealing
 mod Searches
+mod Words
 mod Zeros
 mod Spellings
 mod Splices

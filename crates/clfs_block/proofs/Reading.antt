@@ -1,23 +1,9 @@
 -- What is read is spelled so, and what is spelled so is read.
-use Rattle.std.proofs.Common.{◌≡◌, ℕ, ◌+◌, ◌-◌, ◌*◌, ◌/◌, ◌%◌, ◌^◌, ◌<◌, ◌≤◌, false, cond, eqb, ltb}
-use Rattle.std.proofs.Common.{not, ◌||◌}
-use Rattle.std.proofs.Common.{List, [], ◌∷◌, ◌++◌, length, get_or, take, drop, Option, Some, None, Result, Ok, Err, IfOk, refl, sym, ◌∙◌, ap, subst, arith}
-use Rattle.std.proofs.Common.{length-append, length-drop, take-append-drop}
-use Rattle.std.proofs.lemmas.List.{length-take-le, get_or-take, get_or-drop, get_or_append_left}
+use Rattle.clfs_block.proofs.Words.{◌≡◌, ℕ, ◌+◌, ◌-◌, ◌*◌, ◌/◌, ◌%◌, ◌^◌, ◌<◌, ◌≤◌, false, cond, eqb, ltb, not, ◌||◌, List, [], ◌∷◌, ◌++◌, length, get_or, take, drop, Option, Some, None, Result, Ok, Err, IfOk, refl, sym, ◌∙◌, ap, subst, arith, length-append, length-drop, take-append-drop, length-take-le, get_or-take, get_or-drop, get_or_append_left, ltb-false, le-ltb, eq-eqb, ne_eqb, nat_tests, little_number, sectors, Shape, place_of, payload_of, address, address_in, head_bytes, used_bytes, used_payload, AreBytes, SpellsBlock, head_of, is_wrong_count, is_wrong_records, head_fault, address_place, payload_place, unless_wrong, unless_ok, no_fault, pass_check, guard_ok, pass_guard, sectors_at, frame_at, rest_at, head_for, IsFramed, BlockHead, BlockRefusal, BadByte, Closed}
 use Rattle.std.proofs.lemmas.List.FromFn.{take-map-range_with_len}
-use Rattle.std.proofs.lemmas.Bool.{ltb-false, le-ltb, eqb-true, eq-eqb, not-false, ne_eqb, or_parts}
-use Rattle.std.proofs.lemmas.Bool.Decides.{nat_tests}
-use Rattle.byteorder.specs.Endian.{little_number}
-use Rattle.clfs_lsn.specs.Size.{sectors}
-use Rattle.clfs_lsn.specs.declared.shape.Shape.{Shape}
-use Rattle.clfs_block.specs.Frame.{place_of, payload_of, address, address_in, head_bytes, used_bytes, used_payload, AreBytes, SpellsBlock}
-use Rattle.clfs_block.specs.Checks.{head_of, left_from, is_wrong_count, is_wrong_records, head_fault, wrong_sector, other_byte}
-use Rattle.clfs_block.specs.Checks.{address_place, payload_place}
-use Rattle.clfs_lsn.specs.Checks.{unless_wrong, unless_ok, no_fault, pass_check, guard_ok, pass_guard}
-use Rattle.clfs_block.specs.Checks.{sectors_at, frame_at, rest_at, head_for, IsCount, HasFrame, IsFramed, IsWrongBehind}
-use Rattle.clfs_block.specs.declared.head.BlockHead.{BlockHead}
-use Rattle.clfs_block.specs.declared.head.BlockRefusal.{BlockRefusal}
-use Rattle.clfs_block.specs.declared.head.BlockRefusal.TheVariants.{BadByte, Closed}
+use Rattle.std.proofs.lemmas.Bool.{eqb-true, not-false, or_parts}
+use Rattle.clfs_block.specs.Checks.{left_from, wrong_sector, other_byte}
+use Rattle.clfs_block.specs.Checks.{IsCount, HasFrame, IsWrongBehind}
 use Rattle.clfs_block.proofs.Frames.{length-payload_of, get_or-payload_of, payload_is, place_within}
 use Rattle.clfs_block.proofs.Searches.{none_fails, each_passes}
 use Rattle.clfs_block.proofs.Splices.{same_address}

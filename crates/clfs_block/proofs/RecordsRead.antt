@@ -1,26 +1,14 @@
 -- What is known of the records that are read of a block.
-use Rattle.std.proofs.Common.{◌≡◌, ℕ, zero, suc, ◌+◌, ◌*◌, ◌≤◌, inl, Bool, true, false, cond, eqb, ltb, leb, not, ◌||◌, List, [], ◌∷◌, length, take, drop, Option, Some, None, Result, Ok, Err}
-use Rattle.std.proofs.Common.{refl, sym, ◌∙◌, ap, subst, arith, length-drop}
+use Rattle.clfs_block.proofs.Words.{◌≡◌, ℕ, zero, suc, ◌+◌, ◌*◌, ◌≤◌, Bool, true, false, cond, eqb, ltb, leb, not, ◌||◌, List, [], ◌∷◌, length, take, drop, Option, Some, None, Result, Ok, Err, refl, sym, ◌∙◌, ap, subst, arith, length-drop, length-take, ltb-false, nat_tests, unless_wrong, unless_ok, no_fault, pass_check, guard_ok, size, Shape, payload_of, little_number, AreJudgedAlone, head_of, frame_at, rest_at, block_same, BlockHead, BlockRefusal, BadByte}
+use Rattle.std.proofs.Common.{inl}
 use Rattle.std.specs.Prelude.{slice_get, if◌then◌else◌}
-use Rattle.std.proofs.lemmas.List.{length-take}
 use Rattle.std.proofs.lemmas.Option.{slice_get_within}
-use Rattle.std.proofs.lemmas.Bool.{ltb-false}
-use Rattle.std.proofs.lemmas.Bool.Decides.{nat_tests}
-use Rattle.clfs_lsn.specs.Checks.{unless_wrong, unless_ok, no_fault, pass_check, guard_ok}
-use Rattle.clfs_lsn.specs.Size.{size, longest}
+use Rattle.clfs_lsn.specs.Size.{longest}
 use Rattle.clfs_lsn.specs.Spelling.{Header, record_at, header_of, header_fault, filling_fault, is_wrong_base, entry_of}
 use Rattle.clfs_lsn.specs.declared.entry.LogEntry.{LogEntry}
-use Rattle.clfs_lsn.specs.declared.shape.Shape.{Shape}
-use Rattle.clfs_block.specs.Frame.{payload_of}
-use Rattle.byteorder.specs.Endian.{little_number}
-use Rattle.clfs_block.specs.Judging.{AreJudgedAlone}
-use Rattle.clfs_block.specs.Checks.{head_of, frame_at, rest_at}
 use Rattle.clfs_block.specs.Records.{◌>>=◌, told_as, records_from, block_records}
 use Rattle.clfs_block.proofs.Fronts.{two}
-use Rattle.clfs_block.specs.RecordLaws.{block_same, behind, block_refused, block_framed, block_read, record_taken, record_wrong}
-use Rattle.clfs_block.specs.declared.head.BlockHead.{BlockHead}
-use Rattle.clfs_block.specs.declared.head.BlockRefusal.{BlockRefusal}
-use Rattle.clfs_block.specs.declared.head.BlockRefusal.TheVariants.{BadByte}
+use Rattle.clfs_block.specs.RecordLaws.{behind, block_refused, block_framed, block_read, record_taken, record_wrong}
 use Rattle.clfs_block.proofs.Frames.{length-payload_of}
 use Rattle.clfs_block.proofs.Reading.{has_frame}
 

@@ -1,15 +1,5 @@
 -- The first number that fails a test.
-use Rattle.std.proofs.Common.{◌≡◌, ℕ, zero, suc, ◌+◌, ◌-◌, ◌*◌, ◌<◌, ◌≤◌, Bool, true, false, cond, eqb, List, get_or, Option, Some, None, Result, Ok, refl}
-use Rattle.std.proofs.Common.{sym, ◌∙◌, ap, arith}
-use Rattle.std.proofs.Common.{⊎_elim}
-use Rattle.std.proofs.lemmas.Bool.{cases_eq}
-use Rattle.clfs_block.specs.Frame.{place_of}
-use Rattle.clfs_block.specs.Checks.{first_failing, payload_place, rest_at}
-use Rattle.clfs_lsn.specs.Checks.{unless_wrong}
-use Rattle.clfs_lsn.specs.Size.{sectors}
-use Rattle.clfs_block.specs.declared.head.BlockHead.{BlockHead}
-use Rattle.clfs_block.specs.declared.head.BlockRefusal.{BlockRefusal}
-use Rattle.clfs_block.specs.declared.head.BlockRefusal.TheVariants.{BadByte}
+use Rattle.clfs_block.proofs.Words.{◌≡◌, ℕ, zero, suc, ◌+◌, ◌-◌, ◌*◌, ◌<◌, ◌≤◌, Bool, true, false, cond, eqb, List, get_or, Option, Some, None, Result, Ok, refl, sym, ◌∙◌, ap, arith, ⊎_elim, cases_eq, place_of, first_failing, payload_place, rest_at, unless_wrong, sectors, BlockHead, BlockRefusal, BadByte}
 
 abbrev answered : BlockHead → Result BlockHead BlockRefusal
 answered head = Ok head

@@ -1,10 +1,5 @@
 -- A block has one spelling.
-use Rattle.std.proofs.Common.{◌≡◌, ⊎_elim, ℕ, zero, suc, ◌+◌, ◌-◌, ◌*◌, ◌/◌, ◌%◌, ◌<◌, ◌≤◌, List, get_or, drop, sym, ◌∙◌, ap, arith}
-use Rattle.std.proofs.lemmas.List.{ext_get_or, get_or-drop}
-use Rattle.std.proofs.lemmas.Bool.{cases_lt, cases_eq}
-use Rattle.byteorder.specs.Endian.{little_from}
-use Rattle.clfs_lsn.specs.Size.{sectors}
-use Rattle.clfs_block.specs.Frame.{place_of, address_in, used_bytes, AreBytes, SpellsBlock}
+use Rattle.clfs_block.proofs.Words.{◌≡◌, ⊎_elim, ℕ, zero, suc, ◌+◌, ◌-◌, ◌*◌, ◌/◌, ◌%◌, ◌<◌, ◌≤◌, List, get_or, drop, sym, ◌∙◌, ap, arith, ext_get_or, get_or-drop, cases_lt, cases_eq, little_from, sectors, place_of, address_in, used_bytes, AreBytes, SpellsBlock}
 use Rattle.clfs_block.proofs.Frames.{get_or-payload_of}
 
 -- numbers are equal in their lowest byte and in what is above it

@@ -1,11 +1,8 @@
 -- Eight bytes that are written in their place.
-use Rattle.std.proofs.Common.{◌≡◌, ℕ, zero, suc, ◌+◌, ◌-◌, ◌*◌, ◌^◌, ◌<◌, ◌≤◌, List, ◌++◌, length, get_or}
-use Rattle.std.proofs.Common.{take, drop}
-use Rattle.std.proofs.Common.{refl, sym, ◌∙◌, ap, arith, append_assoc, length-append, length-drop}
-use Rattle.std.proofs.lemmas.List.{length-take-le, get_or-take, get_or-drop, get_or_append_left, get_or-append_right, drop_at, take-append-le, take-take}
-use Rattle.byteorder.specs.Endian.{little_bytes, little_number, little_from}
+use Rattle.clfs_block.proofs.Words.{◌≡◌, ℕ, zero, suc, ◌+◌, ◌-◌, ◌*◌, ◌^◌, ◌<◌, ◌≤◌, List, ◌++◌, length, get_or, take, drop, refl, sym, ◌∙◌, ap, arith, append_assoc, length-append, length-drop, length-take-le, get_or-take, get_or-drop, get_or_append_left, get_or-append_right, drop_at, take-append-le, little_number, little_from, address_in}
+use Rattle.std.proofs.lemmas.List.{take-take}
+use Rattle.byteorder.specs.Endian.{little_bytes}
 use Rattle.byteorder.specs.Numbers.{little_number-reads_back}
-use Rattle.clfs_block.specs.Frame.{address_in}
 
 module _ (old : List ℕ) (at number : ℕ) (room : at + 8 ≤ length old) (new : List ℕ)
     (put : new ≡ take at old ++ little_bytes 8 number ++ drop (at + 8) old) where

@@ -1,12 +1,11 @@
 -- Bytes that are all 0.
-use Rattle.std.proofs.Common.{◌≡◌, ℕ, zero, suc, ◌+◌, ◌-◌, ◌<◌, ◌≤◌, true, ◌&&◌, eqb, List, length, take, drop, get_or, None, sym, ◌∙◌, ap, arith, bit_or, refl}
-use Rattle.std.proofs.lemmas.Bool.{ne_eqb}
-use Rattle.std.proofs.lemmas.List.{get_or-take, get_or-drop, length-take-le, length-drop}
+use Rattle.clfs_block.proofs.Words.{◌≡◌, ℕ, zero, suc, ◌+◌, ◌-◌, ◌<◌, ◌≤◌, true, ◌&&◌, eqb, List, length, take, drop, get_or, None, sym, ◌∙◌, ap, arith, refl, ne_eqb, get_or-take, get_or-drop, length-take-le, list_all, first_failing}
+use Rattle.std.proofs.Common.{bit_or}
+use Rattle.std.proofs.lemmas.List.{length-drop}
 use Rattle.std.proofs.lemmas.List.Folds.{list_all_more}
 use Rattle.std.proofs.lemmas.List.Recursion.{and_at}
 use Rattle.std.proofs.lemmas.Nat.{le_or_l}
-use Rattle.std.specs.List.{list_all, slice_range}
-use Rattle.clfs_block.specs.Checks.{first_failing}
+use Rattle.std.specs.List.{slice_range}
 use Rattle.clfs_block.proofs.Searches.{none_fails}
 
 -- two numbers joined are 0 where both are

@@ -1,17 +1,14 @@
 -- What a change of the table of blocks leaves in it.
-use Rattle.std.proofs.Common.{◌≡◌, ◌⊎◌, inl, inr, ⊎_elim, ℕ, zero, suc, ◌-◌, Bool, true, false, cond, List, [], ◌∷◌, take, Option, Some, None, refl, sym, ◌∙◌, ap, subst, arith}
-use Rattle.std.specs.Prelude.{Contains, IsSome, slice_get}
+use Rattle.clfs_buffers.proofs.Words.{◌≡◌, ℕ, zero, suc, ◌-◌, List, [], ◌∷◌, take, Option, Some, None, refl, sym, ◌∙◌, ap, subst, arith, slice_get, option_map, lru_cache, LogEntry, BlockPlace, first_lsn, HaveLsns, Blocks, is_same_place, kept_at}
+use Rattle.std.proofs.Common.{◌⊎◌, inl, inr, ⊎_elim, Bool, true, false, cond}
+use Rattle.std.specs.Prelude.{Contains, IsSome}
 use Rattle.std.specs.Map.{lookup, lookup_entry, remove_entry}
-use Rattle.std.specs.Option.{is_some, option_map, option_map_or}
+use Rattle.std.specs.Option.{is_some, option_map_or}
 use Rattle.std.proofs.lemmas.Bool.Decides.{nat_tests}
 use Rattle.std.proofs.lemmas.List.Elements.{Contains-append_cases, Contains-push_cases}
-use Rattle.lru.specs.LruCache.{LruCache, lru_cache, promoted, put_entries}
+use Rattle.lru.specs.LruCache.{LruCache, promoted, put_entries}
 use Rattle.lru.proofs.CallerLemmas.{Contains-take, Contains-lookup_entry, Contains-lookup, Contains-promoted}
-use Rattle.clfs_lsn.specs.declared.entry.LogEntry.{LogEntry}
-use Rattle.clfs_buffers.specs.declared.place.BlockPlace.{BlockPlace}
-use Rattle.clfs_buffers.specs.Reading.{first_lsn}
-use Rattle.clfs_buffers.specs.Kept.{HaveLsns}
-use Rattle.clfs_buffers.specs.Buffered.{Blocks, Buffered, is_same_place, kept_at, with_used, with_block, of_table, IsBuffered}
+use Rattle.clfs_buffers.specs.Buffered.{Buffered, with_used, with_block, of_table, IsBuffered}
 
 -- where nothing is found, no entry is there
 pub no_entry : {K V : Type 0} (test : K → Bool) (es : List (K × V)) → lookup test es ≡ None → lookup_entry test es ≡ None

@@ -1,17 +1,8 @@
 -- A block that is read of the first bytes that are there is the one that is read of all of them.
-use Rattle.std.proofs.Common.{◌≡◌, ℕ, ◌*◌, ◌≤◌, List, take, Result, Ok, Err, sym, ◌∙◌, ap, arith}
-use Rattle.std.proofs.lemmas.List.{take-take, length-take}
-use Rattle.std.proofs.Common.{refl}
-use Rattle.clfs_lsn.specs.Format.{sector_bytes}
-use Rattle.clfs_lsn.specs.declared.entry.LogEntry.{LogEntry}
-use Rattle.clfs_lsn.specs.declared.shape.Shape.{Shape}
-use Rattle.clfs_block.specs.Checks.{head_of, frame_at}
+use Rattle.clfs_buffers.proofs.Words.{◌≡◌, ℕ, ◌*◌, ◌≤◌, List, take, Result, Ok, Err, sym, ◌∙◌, ap, arith, length-take, refl, sector_bytes, LogEntry, Shape, frame_at, told_as, block_records, block_refused, BlockHead, BlockRefusal, refused_at}
+use Rattle.std.proofs.lemmas.List.{take-take}
+use Rattle.clfs_block.specs.Checks.{head_of}
 use Rattle.clfs_block.specs.Judging.{AreReadAsWritten}
-use Rattle.clfs_block.specs.Records.{told_as, block_records}
-use Rattle.clfs_block.specs.RecordLaws.{block_refused}
-use Rattle.clfs_block.specs.declared.head.BlockHead.{BlockHead}
-use Rattle.clfs_block.specs.declared.head.BlockRefusal.{BlockRefusal}
-use Rattle.clfs_buffers.specs.Reading.{refused_at}
 
 -- records that are told are those
 pub told_ok : (read : Result (List LogEntry) BlockRefusal) (records : List LogEntry) → told_as refused_at read ≡ Ok records → read ≡ Ok records

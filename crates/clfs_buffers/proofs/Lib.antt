@@ -2,3 +2,4 @@ mod Positions
 mod Fronts
 mod Changes
 mod Told
+mod Words

@@ -1,19 +1,14 @@
 -- The records of a block by their positions in it.
-use Rattle.std.proofs.Common.{◌≡◌, ℕ, zero, suc, ◌+◌, ◌<◌, ◌≤◌, List, [], ◌∷◌, ◌++◌, length, get_or, drop, Some, None, Result, Ok, Err}
-use Rattle.std.proofs.Common.{refl, sym, ◌∙◌, ap, subst, arith}
-use Rattle.std.specs.Prelude.{slice_get}
+use Rattle.clfs_buffers.proofs.Words.{◌≡◌, ℕ, zero, suc, ◌+◌, ◌≤◌, List, [], ◌∷◌, ◌++◌, length, get_or, drop, Some, None, Result, Ok, Err, refl, sym, ◌∙◌, ap, subst, arith, slice_get, size, record_at, entry_of, header_of, LogEntry, records_at, IsStart, AreStarts, HaveLsns, wrong_in}
+use Rattle.std.proofs.Common.{◌<◌}
 use Rattle.std.proofs.lemmas.Bool.{ltb-false}
 use Rattle.std.proofs.lemmas.Option.{slice_get_past}
 use Rattle.clfs_lsn.specs.Format.{record_header}
 use Rattle.clfs_lsn.specs.Checks.{guard_ok, unless_ok}
-use Rattle.clfs_lsn.specs.Size.{size}
-use Rattle.clfs_lsn.specs.Spelling.{record_at, entry_of, header_of}
-use Rattle.clfs_lsn.specs.declared.entry.LogEntry.{LogEntry}
 use Rattle.clfs_lsn.specs.declared.entry.Head.{Head}
 use Rattle.clfs_record.specs.Decoding.{head_read}
 use Rattle.clfs_record.specs.declared.refusal.HeadRefusal.{HeadRefusal}
 use Rattle.clfs_record.specs.declared.refusal.HeadRefusal.TheVariants.{BadByte}
-use Rattle.clfs_buffers.specs.Kept.{records_at, IsStart, AreStarts, HaveLsns, wrong_in}
 
 module _ (payload : List ℕ) where
   -- one record more stands after the others

@@ -1,14 +1,7 @@
 -- Of which bytes damage is told.
-use Rattle.std.proofs.Common.{◌≡◌, ◌≤◌, ◌*◌, ℕ, List, length, take, arith, length-take, Option, Some, None, Result, Ok, Err, ap, sym}
-use Rattle.std.specs.Option.{ok_or}
-use Rattle.clfs_lsn.specs.Format.{sector_bytes}
-use Rattle.clfs_lsn.specs.declared.entry.LogEntry.{LogEntry}
-use Rattle.clfs_lsn.specs.declared.shape.Shape.{Shape}
-use Rattle.clfs_block.specs.Records.{told_as, block_records}
-use Rattle.clfs_block.specs.declared.head.BlockRefusal.{BlockRefusal}
-use Rattle.clfs_block.specs.declared.head.BlockRefusal.TheVariants.{Closed, BadByte, NoMemory}
-use Rattle.clfs_buffers.specs.Kept.{RefusesAs}
-use Rattle.clfs_buffers.specs.Reading.{refused_at, as_read, TellsBlock}
+use Rattle.clfs_buffers.proofs.Words.{◌≡◌, ◌≤◌, ◌*◌, ℕ, List, length, take, arith, Option, Some, None, Result, Ok, Err, ap, sym, ok_or, sector_bytes, LogEntry, Shape, told_as, block_records, BlockRefusal, Closed, BadByte, NoMemory, RefusesAs, refused_at, TellsBlock}
+use Rattle.std.proofs.Common.{length-take}
+use Rattle.clfs_buffers.specs.Reading.{as_read}
 
 -- what is read into bytes isn't longer than they are
 pub fronts_are_short : (n room most : ℕ) (bytes : List ℕ) → n ≤ room → room ≤ most → length (take n bytes) ≤ most

@@ -1,12 +1,11 @@
 -- What is computed of a plan is a way to carry it out.
-use Rattle.std.proofs.Common.{◌≡◌, ℕ, zero, suc, Bool, true, false, [], ◌∷◌, Some, refl, sym, subst}
-use Rattle.std.specs.Prelude.{not, ◌&&◌}
+use Rattle.clfs_cells.proofs.Words.{◌≡◌, ℕ, zero, suc, Bool, true, false, [], ◌∷◌, Some, refl, sym, subst, ◌&&◌, Fine, asks, fine_outcome}
+use Rattle.std.specs.Prelude.{not}
 use Rattle.clfs_model.specs.declared.call.Call.{Call}
 use Rattle.clfs_model.specs.declared.refusal.Refusal.TheVariants as refusals
-use Rattle.clfs_model.specs.declared.reply.Happened.TheVariants.{Fine}
 use Rattle.clfs_model.specs.declared.reply.Reply.TheVariants as replies
 use Rattle.clfs_model.specs.declared.state.State.{State}
-use Rattle.clfs_model.specs.Run.{asks, Run, fine_outcome}
+use Rattle.clfs_model.specs.Run.{Run}
 use Rattle.clfs_model.specs.Step.{Step, takes_memory}
 use Rattle.clfs_cells.proofs.Actions.{guarded}
 use Rattle.clfs_cells.specs.Plans.{Plan, ends, calls, never, Ended, CarriesOut, fine_end, end_without_memory}

@@ -6,3 +6,4 @@ mod Places
 mod Undoing
 mod OpenOnes
 mod Replaying
+mod Words

@@ -1,14 +1,10 @@
 -- Numbers that stand in bytes one after the other, and the bytes that spell them.
-use Rattle.std.proofs.Common.{◌≡◌, ℕ, zero, suc, ◌+◌, ◌*◌, ◌^◌, ◌<◌, ◌≤◌, List, [], ◌∷◌, ◌++◌, length, take, drop, get_or, refl, sym, ap, ◌∙◌, arith, inl, inr}
-use Rattle.std.proofs.Common.{length-drop, take-append-drop}
+use Rattle.clfs_cells.proofs.Words.{◌≡◌, ℕ, zero, suc, ◌+◌, ◌*◌, ◌^◌, ◌<◌, ◌≤◌, List, [], ◌∷◌, ◌++◌, length, take, drop, get_or, refl, sym, ap, ◌∙◌, arith, inl, inr, length-drop, take-append-drop, flat_map, length-take-le, length-take, get_or-take, drop-drop, little_number, little_bytes, IsRead, little_number-reads_back, little_from-lt, numbers_in}
 use Rattle.std.specs.Int.{w16, w32, w64, from_le_bytes}
-use Rattle.std.specs.List.{flat_map}
 use Rattle.std.proofs.lemmas.Nat.{le_bytes_2, le_bytes_4, le_bytes_8}
-use Rattle.std.proofs.lemmas.List.{length-take-le, length-take, get_or-take, get_or-drop, get_or_past, drop-drop, drop-append-le}
+use Rattle.std.proofs.lemmas.List.{get_or-drop, get_or_past, drop-append-le}
 use Rattle.std.proofs.lemmas.Bool.{cases_lt}
-use Rattle.byteorder.specs.Endian.{little_number, little_bytes, IsRead}
-use Rattle.byteorder.specs.Numbers.{little_number-reads_back, little_from-lt, little_from-append}
-use Rattle.clfs_cells.specs.Layout.{numbers_in}
+use Rattle.byteorder.specs.Numbers.{little_from-append}
 
 -- bytes, and not larger numbers
 abbrev pub IsBytes : List ℕ → Type 0

@@ -1,16 +1,9 @@
 -- Open transactions by their places: the one that is found, one replaced, one taken out.
-use Rattle.std.proofs.Common.{◌≡◌, ℕ, zero, suc, ◌+◌, ◌-◌, ◌<◌, ◌≤◌, Bool, false, List, [], ◌∷◌, ◌++◌, length, take, Option, Some, None, find, position, slice_set, slice_index_or, remove, refl, ap, sym, ◌∙◌, arith, inl, inr}
-use Rattle.std.specs.Prelude.{map}
-use Rattle.std.specs.List.{position_or_len}
-use Rattle.std.proofs.Math.Seq.{take-set-lt}
-use Rattle.std.proofs.lemmas.Bool.{cases_Bool}
-use Rattle.std.proofs.lemmas.List.{get_or-map, map-set, length-take, length-map}
-use Rattle.clfs_model.specs.State.{change_first}
+use Rattle.clfs_cells.proofs.Words.{◌≡◌, ℕ, zero, suc, ◌+◌, ◌<◌, ◌≤◌, Bool, false, List, [], ◌∷◌, ◌++◌, length, take, Option, Some, None, find, position, slice_set, slice_index_or, refl, ap, sym, ◌∙◌, arith, inl, inr, map, position_or_len, take-set-lt, cases_Bool, length-take, length-map, change_first, transaction_of, Made, Change, Memory, Transaction, is_numbered, with_one_undone}
+use Rattle.std.proofs.Common.{◌-◌, remove}
+use Rattle.std.proofs.lemmas.List.{get_or-map, map-set}
 use Rattle.clfs_cells.specs.declared.begun.Transaction.{Transaction as Code}
-use Rattle.clfs_cells.specs.Kept.{transaction_of}
-use Rattle.clfs_cells.specs.declared.begun.Made.{Made}
-use Rattle.clfs_cells.specs.declared.row.Change.{Change}
-use Rattle.clfs_cells.specs.Stored.{Memory, Transaction, is_numbered, newest_standing, transaction, with_set, with_transaction, with_undone, with_one_undone, without_first}
+use Rattle.clfs_cells.specs.Stored.{newest_standing, transaction, with_set, with_transaction, with_undone, without_first}
 use Rattle.clfs_cells.proofs.Places.{StandsAt, stands_at, rest, found, absent, unchanged, changed_there, far, position-map}
 
 -- a transaction that stands for any

@@ -1,13 +1,8 @@
 -- The first element of a list that passes a test: where it stands, and what a write to it or its removal makes of the list.
-use Rattle.std.proofs.Common.{◌≡◌, ℕ, zero, suc, ◌+◌, ◌<◌, ◌≤◌, if◌then◌else◌, Bool, true, false, List, [], ◌∷◌, length, Some, None, find, position}
-use Rattle.std.proofs.Common.{slice_set, slice_index_or, filter, not, refl, ap, ◌∙◌, arith, inl, inr}
-use Rattle.std.specs.Prelude.{map, nat_lt}
-use Rattle.std.proofs.lemmas.List.{length-map}
-use Rattle.std.specs.List.{position_or_len, prefix_len}
-use Rattle.std.proofs.lemmas.Bool.{cases_Bool, ltb-false}
+use Rattle.clfs_cells.proofs.Words.{◌≡◌, ℕ, zero, suc, ◌+◌, ◌<◌, ◌≤◌, if◌then◌else◌, Bool, true, false, List, [], ◌∷◌, length, Some, None, find, position, slice_set, slice_index_or, filter, not, refl, ap, ◌∙◌, arith, inl, inr, map, nat_lt, length-map, position_or_len, cases_Bool, change_first, Made}
+use Rattle.std.specs.List.{prefix_len}
+use Rattle.std.proofs.lemmas.Bool.{ltb-false}
 use Rattle.std.proofs.lemmas.List.Quantifiers.{position-Some}
-use Rattle.clfs_model.specs.State.{change_first}
-use Rattle.clfs_cells.specs.declared.begun.Made.{Made}
 
 -- the element at this place is the first that passes
 pub record StandsAt {X : Type 0} (p : X → Bool) (xs : List X) (place : ℕ) : Type 0 where

@@ -1,13 +1,9 @@
 -- A table that is brought up to date record by record.
-use Rattle.std.proofs.Common.{◌≡◌, ℕ, suc, ◌+◌, ◌<◌, Bool, refl, sym, ap, ◌∙◌, inl, inr, get_or, List, [], ◌∷◌, ◌++◌, length, take, arith}
+use Rattle.clfs_cells.proofs.Words.{◌≡◌, ℕ, suc, ◌+◌, ◌<◌, Bool, refl, sym, ap, ◌∙◌, inl, inr, get_or, List, [], ◌∷◌, ◌++◌, length, take, arith, ◌==◌, ◌&&◌, cases_Bool, append-nil, TxnRecord, last_number, changed, is_committed}
 use Rattle.std.proofs.Math.Seq.{take-suc as take_suc}
-use Rattle.std.specs.Prelude.{cond, filter, max, if◌then◌else◌, ◌==◌, ◌&&◌, ◌||◌}
-use Rattle.std.proofs.lemmas.Bool.{cases_Bool}
-use Rattle.std.proofs.lemmas.List.{append-nil}
+use Rattle.std.specs.Prelude.{cond, filter, max, if◌then◌else◌, ◌||◌}
 use Rattle.std.proofs.lemmas.List.Elements.{filter_more}
-use Rattle.clfs_cells.specs.declared.row.TxnRecord.{TxnRecord}
-use Rattle.clfs_cells.specs.Loading.{last_number}
-use Rattle.clfs_cells.specs.Table.{after_action, changed, is_commit, is_committed}
+use Rattle.clfs_cells.specs.Table.{after_action, is_commit}
 
 pub changed_more : (cells : List ℕ) (records : List TxnRecord) (r : TxnRecord) → changed cells (records ++ r ∷ []) ≡ after_action (changed cells records) r.action
 changed_more cells [] r = refl

@@ -1,14 +1,12 @@
 -- A restart area's data: the numbers of the cells, and then the last number of a transaction.
-use Rattle.std.proofs.Common.{◌≡◌, ℕ, ◌*◌, ◌≤◌, List, [], ◌++◌, length, take, drop, Option, Some, sym, ap, subst, ◌∙◌, arith, length-append, length-drop, take-append-drop}
+use Rattle.clfs_cells.proofs.Words.{◌≡◌, ℕ, ◌*◌, ◌≤◌, List, [], ◌++◌, length, take, drop, Option, Some, sym, ap, subst, ◌∙◌, arith, length-drop, take-append-drop, flat_map, drop_all, length-take, length-take-le, little_bytes, little_number, IsRead, little_number-reads_back, little_from-lt, numbers_in}
+use Rattle.std.proofs.Common.{length-append}
 use Rattle.std.proofs.Common.{append-nil}
-use Rattle.std.specs.List.{flat_map}
 use Rattle.std.proofs.lemmas.Bool.{eq-eqb}
-use Rattle.std.proofs.lemmas.List.{take_at, drop_at, drop_all, length-take, length-take-le}
+use Rattle.std.proofs.lemmas.List.{take_at, drop_at}
 use borrow.Rule.Slice.PartMut.{put_mid, post_of}
-use Rattle.byteorder.specs.Endian.{little_bytes, little_number, IsRead}
-use Rattle.byteorder.specs.Numbers.{little_number-reads_back, little_from-lt}
 use Rattle.clfs_cells.specs.declared.checkpoint.Checkpoint.{Checkpoint}
-use Rattle.clfs_cells.specs.Layout.{numbers_in, checkpoint_bytes, checkpoint_of, IsCheckpoint}
+use Rattle.clfs_cells.specs.Layout.{checkpoint_bytes, checkpoint_of, IsCheckpoint}
 use Rattle.clfs_cells.proofs.Actions.{guarded, equal}
 use Rattle.clfs_cells.proofs.Numbers.{IsBytes, IsBytes-drop, four, read_one_by_one, numbers_in_front, length-numbers_in, numbers_fit, spelled_is_read, length-spelled, read_is_spelled}
 

@@ -1,11 +1,7 @@
 -- Taking back one set of a transaction.
-use Rattle.std.proofs.Common.{◌≡◌, ℕ, ◌<◌, true, false, List, length, take, Some, None, position, sym, ap, ◌∙◌}
-use Rattle.std.specs.Prelude.{slice_get, slice_set, slice_index_or}
-use Rattle.std.proofs.Math.Seq.{take-set-lt}
-use Rattle.std.proofs.lemmas.List.{get_or-take}
+use Rattle.clfs_cells.proofs.Words.{◌≡◌, ℕ, ◌<◌, true, false, List, length, take, Some, None, position, sym, ap, ◌∙◌, slice_get, take-set-lt, get_or-take, Made, Transaction, is_at, with_one_undone}
+use Rattle.std.specs.Prelude.{slice_set, slice_index_or}
 use Rattle.std.proofs.lemmas.Option.{get_or_from_slice_get, slice_get-get_or}
-use Rattle.clfs_cells.specs.declared.begun.Made.{Made}
-use Rattle.clfs_cells.specs.Stored.{Transaction, is_at, with_one_undone}
 use Rattle.clfs_cells.proofs.Places.{stands_at, changed_there, unchanged, far}
 
 -- a set that was taken back

@@ -1,10 +1,7 @@
 -- The records of a stream above an LSN, as reading forward comes to them.
-use Rattle.std.proofs.Common.{◌≡◌, ℕ, suc, ◌+◌, ◌<◌, Bool, refl, sym, ap, ◌∙◌, subst, inl, inr, arith, List, [], ◌∷◌}
-use Rattle.std.specs.Prelude.{Some, None, find, filter, map, nat_lt, slice_index}
-use Rattle.std.specs.List.{AllByRecursion}
+use Rattle.clfs_cells_laws.proofs.Words.{◌≡◌, ℕ, suc, ◌+◌, ◌<◌, Bool, refl, sym, ap, ◌∙◌, subst, inl, inr, arith, List, [], ◌∷◌, find, filter, map, nat_lt, slice_index, AllByRecursion, cases_Bool, lt-ltb, le-ltb, ltb-true, LogEntry}
+use Rattle.std.specs.Prelude.{Some, None}
 use Rattle.std.specs.List.Sorted.{IsStrictlyIncreasing}
-use Rattle.std.proofs.lemmas.Bool.{cases_Bool, lt-ltb, le-ltb, ltb-true}
-use Rattle.clfs_lsn.specs.declared.entry.LogEntry.{LogEntry}
 
 -- each record lies below all after it
 abbrev pub Rises : List LogEntry → Type 0

@@ -1,28 +1,7 @@
 -- An append of a transaction's record, and what it leaves of the log.
-use Rattle.std.proofs.Common.{◌≡◌, ℕ, ◌-◌, ◌≤◌, Bool, true, false, refl, subst, ap, ◌∙◌, List, [], ◌∷◌, ◌++◌, length, Option, Some}
-use Rattle.std.specs.Option.{option_map_or}
-use Rattle.clfs_lsn.specs.Place.{frontier}
-use Rattle.clfs_lsn.specs.Size.{own}
-use Rattle.clfs_lsn.specs.declared.cursor.Cursor.{Cursor}
-use Rattle.clfs_lsn.specs.declared.entry.LogEntry.{LogEntry}
-use Rattle.clfs_model.specs.declared.call.Draft.{Draft}
+use Rattle.clfs_cells_laws.proofs.Words.{◌≡◌, ℕ, ◌-◌, ◌≤◌, Bool, true, false, refl, subst, ap, ◌∙◌, List, [], ◌∷◌, ◌++◌, length, Option, Some, option_map_or, frontier, own, Cursor, LogEntry, Draft, Happened, Reply, Area, State, Outcome, answer, outcome, flushed, appended, next_lsn, plain_record, with_less_held, area_of, Step, Comes, IsReply, IsValid, Action, append_call, txn_bytes, txn_record, Memory, Transaction, IsStoreWith, sectors_held, store_area}
 use Rattle.clfs_model.specs.declared.refusal.Refusal.TheVariants as refusals
-use Rattle.clfs_model.specs.declared.reply.Happened.{Happened}
-use Rattle.clfs_model.specs.declared.reply.Reply.{Reply}
 use Rattle.clfs_model.specs.declared.reply.Reply.TheVariants as replies
-use Rattle.clfs_model.specs.declared.state.Area.{Area}
-use Rattle.clfs_model.specs.declared.state.State.{State}
-use Rattle.clfs_model.specs.Answers.{Outcome, answer, outcome}
-use Rattle.clfs_model.specs.Flush.{flushed}
-use Rattle.clfs_model.specs.Put.{appended, next_lsn, plain_record, with_less_held}
-use Rattle.clfs_model.specs.State.{area_of}
-use Rattle.clfs_model.specs.Step.{Step, Comes, IsReply}
-use Rattle.clfs_model.specs.Valid.{IsValid}
-use Rattle.clfs_cells.specs.declared.row.Action.{Action}
-use Rattle.clfs_cells.specs.Calls.{append_call}
-use Rattle.clfs_cells.specs.Layout.{txn_bytes, txn_record}
-use Rattle.clfs_cells.specs.Stored.{Memory, Transaction}
-use Rattle.clfs_cells_laws.specs.Stores.{IsStoreWith, sectors_held, store_area}
 use Rattle.clfs_cells_laws.proofs.Grown.{Grows}
 use Rattle.clfs_cells_laws.proofs.Links.{draft_of}
 use Rattle.clfs_cells_laws.proofs.OwnCalls.{Laws, added_above, appended_is, area_after}

@@ -1,35 +1,12 @@
 -- Along the calls of a table's store: what is always true of its log, and what a crash leaves in each call of the log.
-use Rattle.std.proofs.Common.{◌≡◌, ◌⊎◌, ℕ, ◌≤◌, Bool, true, false, refl, sym, subst, ap, ◌∙◌, inl, inr, List, [], ◌∷◌, Option, Some, None}
-use Rattle.std.specs.Prelude.{if◌then◌else◌, find, IsTrue, MatchBool, MatchOption}
-use Rattle.std.specs.Option.{option_map, option_map_or}
+use Rattle.clfs_cells_laws.proofs.Words.{◌≡◌, ◌⊎◌, ℕ, ◌≤◌, Bool, true, false, refl, sym, subst, ap, ◌∙◌, inl, inr, List, [], ◌∷◌, Option, Some, None, if◌then◌else◌, find, MatchBool, MatchOption, option_map, option_map_or, LogEntry, Stream, Call, Refusal, Happened, Fine, Reply, Area, State, Outcome, answer, outcome, flushed, live_at, hold_sizes, with_less_held, with_more_held, without_cursor, refusal, stream_number, asks, fine_outcome, grown, own_sum, area_of, change_area, change_first, is_area, log_of, Step, Comes, Goes, IsBroken, takes_memory, IsSurvivor, IsValid, Plan, is_committed, records_after, table, table_name, Along, IsSafe, IsSafeFrom, LeavesEither}
+use Rattle.std.specs.Prelude.{IsTrue}
 use Rattle.clfs_lsn.specs.declared.cursor.Mode.{Mode}
-use Rattle.clfs_lsn.specs.declared.entry.LogEntry.{LogEntry}
-use Rattle.clfs_lsn.specs.declared.stream.Stream.{Stream}
-use Rattle.clfs_model.specs.declared.call.Call.{Call}
 use Rattle.clfs_model.specs.declared.call.Call.TheVariants as calls
-use Rattle.clfs_model.specs.declared.refusal.Refusal.{Refusal}
 use Rattle.clfs_model.specs.declared.refusal.Refusal.TheVariants as refusals
-use Rattle.clfs_model.specs.declared.reply.Happened.{Happened}
-use Rattle.clfs_model.specs.declared.reply.Happened.TheVariants.{Fine}
-use Rattle.clfs_model.specs.declared.reply.Reply.{Reply}
 use Rattle.clfs_model.specs.declared.reply.Reply.TheVariants as replies
-use Rattle.clfs_model.specs.declared.state.Area.{Area}
-use Rattle.clfs_model.specs.declared.state.State.{State}
-use Rattle.clfs_model.specs.Answers.{Outcome, answer, outcome}
-use Rattle.clfs_model.specs.Flush.{flushed}
-use Rattle.clfs_model.specs.Live.{live_at}
-use Rattle.clfs_model.specs.Put.{hold_sizes, with_less_held, with_more_held}
-use Rattle.clfs_model.specs.Reading.{without_cursor}
-use Rattle.clfs_model.specs.Refusals.{refusal, stream_number}
-use Rattle.clfs_model.specs.Run.{asks, fine_outcome}
-use Rattle.clfs_model.specs.Space.{grown, own_sum}
-use Rattle.clfs_model.specs.State.{area_of, change_area, change_first, is_area, log_of}
-use Rattle.clfs_model.specs.Step.{Step, Comes, Goes, IsBroken, IsOutOfMemory, takes_memory}
-use Rattle.clfs_model.specs.Survivors.{IsSurvivor}
-use Rattle.clfs_model.specs.Valid.{IsValid}
-use Rattle.clfs_cells.specs.Plans.{Plan, calls as then_calls}
-use Rattle.clfs_cells.specs.Table.{is_committed, records_after, table, table_name}
-use Rattle.clfs_cells_laws.specs.Crashes.{Along, IsSafe, IsSafeFrom, LeavesEither}
+use Rattle.clfs_model.specs.Step.{IsOutOfMemory}
+use Rattle.clfs_cells.specs.Plans.{calls as then_calls}
 use Rattle.clfs_cells_laws.proofs.FirstRestart.{keeps_grown, table_by}
 use Rattle.clfs_cells_laws.proofs.LeftBy.{quiet_left, safe_higher}
 use Rattle.clfs_cells_laws.proofs.OwnCalls.{Laws, find_changed}

@@ -1,24 +1,9 @@
 -- All calls of a store: what a crash leaves in them, and how they end.
-use Rattle.std.proofs.Common.{◌≡◌, ◌⊎◌, ℕ, Bool, true, false, refl, sym, subst, inl, inr, List, [], Ok, length}
-use Rattle.clfs_model.specs.declared.call.Call.{Call}
+use Rattle.clfs_cells_laws.proofs.Words.{◌≡◌, ◌⊎◌, ℕ, Bool, true, false, refl, sym, subst, inl, inr, List, [], Ok, length, Call, State, bad_line, fine_outcome, areas_of, Survives, IsValid, TxnCall, TxnReply, Answered, TxnStep, txn_plan, unless, LoadStep, load_plan, Plan, ends, never, CarriesOut, Memory, Store, table, Along, EndsSafe, IsSafe, IsSafeLog, LeavesEither, LoadsSafe, table_once, HasArguments, IsStore}
 use Rattle.clfs_model.specs.declared.refusal.Refusal.TheVariants as refusals
-use Rattle.clfs_model.specs.declared.state.State.{State}
-use Rattle.clfs_model.specs.Run.{bad_line, fine_outcome}
-use Rattle.clfs_model.specs.State.{areas_of}
-use Rattle.clfs_model.specs.Survivors.{Survives}
-use Rattle.clfs_model.specs.Valid.{IsValid}
-use Rattle.clfs_cells.specs.declared.asked.TxnCall.{TxnCall}
 use Rattle.clfs_cells.specs.declared.asked.TxnCall.TheVariants as asked
 use Rattle.clfs_cells.specs.declared.told.TxnRefusal.TheVariants as denials
-use Rattle.clfs_cells.specs.declared.told.TxnReply.{TxnReply}
-use Rattle.clfs_cells.specs.Calls.{Answered, TxnStep, txn_plan, unless}
-use Rattle.clfs_cells.specs.Loading.{LoadStep, load_plan}
-use Rattle.clfs_cells.specs.Plans.{Plan, ends, calls as then_calls, never, CarriesOut}
-use Rattle.clfs_cells.specs.Stored.{Memory, Store}
-use Rattle.clfs_cells.specs.Table.{table}
-use Rattle.clfs_cells_laws.specs.Crashes.{Along, EndsSafe, IsSafe, IsSafeLog, LeavesEither, LoadsSafe, table_once}
-use Rattle.clfs_cells_laws.specs.Steps.{HasArguments}
-use Rattle.clfs_cells_laws.specs.Stores.{IsStore}
+use Rattle.clfs_cells.specs.Plans.{calls as then_calls}
 use Rattle.clfs_cells_laws.proofs.Along.{Rising}
 use Rattle.clfs_cells_laws.proofs.AlongCalls.{EndsAs, along_back, along_begin, along_rollback, along_set}
 use Rattle.clfs_cells_laws.proofs.AlongCheckpoint.{along_checkpoint}

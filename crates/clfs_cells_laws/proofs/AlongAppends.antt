@@ -1,37 +1,10 @@
 -- Along a store's calls that append records of a transaction: what each append leaves of the log, and to a crash.
-use Rattle.std.proofs.Common.{◌≡◌, ◌⊎◌, ℕ, ◌≤◌, Bool, true, false, refl, sym, subst, ap, ◌∙◌, inl, inr, arith, List, [], ◌∷◌, ◌++◌, length, Option, Some, None}
-use Rattle.std.specs.Prelude.{nat_lt}
-use Rattle.std.specs.List.{AllByRecursion}
-use Rattle.std.specs.Option.{option_map_or}
-use Rattle.std.proofs.lemmas.Bool.{cases_Bool, ltb-false}
-use Rattle.std.proofs.lemmas.List.Elements.{recursion_from_All}
-use Rattle.clfs_lsn.specs.Place.{frontier}
+use Rattle.clfs_cells_laws.proofs.Words.{◌≡◌, ◌⊎◌, ℕ, ◌≤◌, Bool, true, false, refl, sym, subst, ap, ◌∙◌, inl, inr, arith, List, [], ◌∷◌, ◌++◌, length, Option, Some, None, nat_lt, AllByRecursion, option_map_or, cases_Bool, ltb-false, recursion_from_All, frontier, LogEntry, Call, Fine, Reply, Area, State, answer, outcome, flush, flushed, appended, next_lsn, plain_record, with_less_held, refusal, asks, area_of, change_first, is_area, IsSurvivor, IsRecord, IsValid, Action, TxnRecord, append_call, IsTxnRecord, txn_bytes, txn_record, Plan, Memory, Transaction, is_commit, is_committed, records_after, table, Along, LeavesEither}
 use Rattle.clfs_lsn.specs.Size.{own as sectors_of}
 use Rattle.clfs_lsn.specs.Lsn.{lsn_number}
-use Rattle.clfs_lsn.specs.declared.entry.LogEntry.{LogEntry}
-use Rattle.clfs_model.specs.declared.call.Call.{Call}
 use Rattle.clfs_model.specs.declared.refusal.Refusal.TheVariants as refusals
-use Rattle.clfs_model.specs.declared.reply.Happened.TheVariants.{Fine}
-use Rattle.clfs_model.specs.declared.reply.Reply.{Reply}
 use Rattle.clfs_model.specs.declared.reply.Reply.TheVariants as replies
-use Rattle.clfs_model.specs.declared.state.Area.{Area}
-use Rattle.clfs_model.specs.declared.state.State.{State}
-use Rattle.clfs_model.specs.Answers.{answer, outcome}
-use Rattle.clfs_model.specs.Flush.{flush, flushed}
-use Rattle.clfs_model.specs.Put.{appended, next_lsn, plain_record, with_less_held}
-use Rattle.clfs_model.specs.Refusals.{refusal}
-use Rattle.clfs_model.specs.Run.{asks}
-use Rattle.clfs_model.specs.State.{area_of, change_first, is_area}
-use Rattle.clfs_model.specs.Survivors.{IsSurvivor}
-use Rattle.clfs_model.specs.Valid.{IsRecord, IsValid}
-use Rattle.clfs_cells.specs.declared.row.Action.{Action}
-use Rattle.clfs_cells.specs.declared.row.TxnRecord.{TxnRecord}
-use Rattle.clfs_cells.specs.Calls.{append_call}
-use Rattle.clfs_cells.specs.Layout.{IsTxnRecord, txn_bytes, txn_record}
-use Rattle.clfs_cells.specs.Plans.{Plan, calls as then_calls}
-use Rattle.clfs_cells.specs.Stored.{Memory, Transaction}
-use Rattle.clfs_cells.specs.Table.{is_commit, is_committed, records_after, table}
-use Rattle.clfs_cells_laws.specs.Crashes.{Along, LeavesEither}
+use Rattle.clfs_cells.specs.Plans.{calls as then_calls}
 use Rattle.clfs_cells_laws.proofs.Along.{IsKept, IsOf, IsOwn, IsTable, Rising, along_call, fine_state, fine_step, named_by, own_changed, safe_by, step_state}
 use Rattle.clfs_cells_laws.proofs.FirstRestart.{table_by}
 use Rattle.clfs_cells_laws.proofs.LeftBy.{IsRow, append_left, joined_safe, joined_table, quiet_left, safe_higher}

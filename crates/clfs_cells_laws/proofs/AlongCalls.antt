@@ -1,32 +1,11 @@
 -- A store's calls, from the first call of the log to the end: what a crash leaves in each, and what they leave themselves.
-use Rattle.std.proofs.Common.{◌≡◌, ◌⊎◌, ℕ, zero, suc, ◌+◌, ◌-◌, ◌<◌, ◌≤◌, Bool, true, false, refl, sym, subst, ◌∙◌, inl, inr, arith, List, [], length, Option, Some, None}
-use Rattle.std.specs.Prelude.{◌^◌, ◌==◌, find, nat_le, nat_lt, replicate}
-use Rattle.std.specs.List.{AllByRecursion}
-use Rattle.std.specs.Option.{option_map_or}
-use Rattle.clfs_lsn.specs.Lsn.{null_lsn}
-use Rattle.clfs_lsn.specs.declared.cursor.Mode.TheVariants.{UndoNext}
-use Rattle.clfs_lsn.specs.declared.entry.LogEntry.{LogEntry}
-use Rattle.clfs_model.specs.declared.call.Call.{Call}
+use Rattle.clfs_cells_laws.proofs.Words.{◌≡◌, ◌⊎◌, ℕ, zero, suc, ◌+◌, ◌-◌, ◌<◌, ◌≤◌, Bool, true, false, refl, sym, subst, ◌∙◌, inl, inr, arith, List, [], length, Option, Some, None, ◌^◌, ◌==◌, find, nat_le, nat_lt, replicate, AllByRecursion, option_map_or, null_lsn, UndoNext, LogEntry, Call, Refusal, Reply, State, Made, RolledBack, Set, Change, TxnRefusal, TxnReply, Answered, answers, append_call, back_plan, begin_plan, change_to, compensation, end_plan, greatest_number, most_transactions, over_transaction, rollback_plan, set_cell, set_plan, stops, undo_from, undo_set, undo_sets, unless, with_read_ended, IsChange, cell_count, Plan, never, on_found, on_held, on_next, on_placed, Memory, Transaction, holder, is_at, is_numbered, most_records, newest_standing, records_made, standing, transaction, with_begun, with_one_undone, with_set, with_undone, without_transaction, changed, committed, first_cells, is_committed, records_after, table, Along, EndsSafe, IsSafe, LeavesEither, IsStore, store_area, IsInTable}
 use Rattle.clfs_model.specs.declared.call.Call.TheVariants as calls
-use Rattle.clfs_model.specs.declared.refusal.Refusal.{Refusal}
-use Rattle.clfs_model.specs.declared.reply.Reply.{Reply}
 use Rattle.clfs_model.specs.declared.reply.Reply.TheVariants as replies
-use Rattle.clfs_model.specs.declared.state.State.{State}
-use Rattle.clfs_cells.specs.declared.begun.Made.{Made}
-use Rattle.clfs_cells.specs.declared.row.Action.TheVariants.{RolledBack, Set}
-use Rattle.clfs_cells.specs.declared.row.Change.{Change}
-use Rattle.clfs_cells.specs.declared.told.TxnRefusal.{TxnRefusal}
 use Rattle.clfs_cells.specs.declared.told.TxnRefusal.TheVariants as denials
-use Rattle.clfs_cells.specs.declared.told.TxnReply.{TxnReply}
 use Rattle.clfs_cells.specs.declared.told.TxnReply.TheVariants as told_replies
-use Rattle.clfs_cells.specs.Calls.{Answered, answers, append_call, back_plan, begin_plan, change_to, compensation, end_plan, greatest_number, most_transactions, over_transaction, record_length, rollback_plan, set_cell, set_plan, stops, undo_from, undo_set, undo_sets, unless, with_read_ended}
-use Rattle.clfs_cells.specs.Layout.{IsChange, cell_count}
-use Rattle.clfs_cells.specs.Plans.{Plan, calls as then_calls, never, on_found, on_held, on_next, on_placed}
-use Rattle.clfs_cells.specs.Stored.{Memory, Transaction, holder, is_at, is_numbered, most_records, newest_standing, records_made, standing, transaction, with_begun, with_one_undone, with_set, with_undone, without_transaction}
-use Rattle.clfs_cells.specs.Table.{changed, committed, first_cells, is_committed, records_after, table}
-use Rattle.clfs_cells_laws.specs.Crashes.{Along, EndsSafe, IsSafe, LeavesEither}
-use Rattle.clfs_cells_laws.specs.Stores.{IsStore, store_area}
-use Rattle.clfs_cells_laws.specs.Tables.{IsInTable}
+use Rattle.clfs_cells.specs.Calls.{record_length}
+use Rattle.clfs_cells.specs.Plans.{calls as then_calls}
 use Rattle.clfs_cells_laws.proofs.Adding.{now_of}
 use Rattle.clfs_cells_laws.proofs.Along.{IsKept, IsOf, IsTable, Rising, along_quiet, ends_read, reads, reads_on, releases, reserves}
 use Rattle.clfs_cells_laws.proofs.AlongAppends.{along_append}

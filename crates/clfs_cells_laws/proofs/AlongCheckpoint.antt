@@ -1,38 +1,12 @@
 -- A checkpoint: a crash in it leaves the table from before, since the restart area has just that.
-use Rattle.std.proofs.Common.{◌≡◌, ℕ, ◌+◌, ◌-◌, ◌≤◌, Bool, true, false, refl, sym, subst, ap, ◌∙◌, inl, inr, arith, List, [], ◌∷◌, length, Option, None}
-use Rattle.std.specs.Prelude.{◌==◌, map, nat_lt}
-use Rattle.std.specs.Option.{option_map_or}
-use Rattle.std.proofs.lemmas.Bool.{cases_Bool, ne_eqb}
-use Rattle.clfs_lsn.specs.Lsn.{null_lsn}
-use Rattle.clfs_lsn.specs.Place.{frontier}
-use Rattle.clfs_lsn.specs.Streams.{set_base}
-use Rattle.clfs_lsn.specs.declared.stream.Stream.{Stream}
-use Rattle.clfs_model.specs.declared.call.Call.{Call}
+use Rattle.clfs_cells_laws.proofs.Words.{◌≡◌, ℕ, ◌+◌, ◌-◌, ◌≤◌, Bool, true, false, refl, sym, subst, ap, ◌∙◌, inl, inr, arith, List, [], ◌∷◌, length, Option, None, ◌==◌, map, nat_lt, option_map_or, cases_Bool, ne_eqb, null_lsn, frontier, set_base, Stream, Call, LogInfo, Fine, Reply, Area, State, answer, info_of, outcome, restart_record, restarted, flush, flushed, last_live, need_of, next_lsn, put, spend_if, refusal, asks, grown, IsSurvivor, Answered, answers, checkpoint_plan, stops, unless, checkpoint_bytes, Plan, on_info, on_placed, Memory, table, Along, IsSafe, LeavesEither, IsStore, store_area}
 use Rattle.clfs_model.specs.declared.call.Call.TheVariants as calls
-use Rattle.clfs_model.specs.declared.info.LogInfo.{LogInfo}
 use Rattle.clfs_model.specs.declared.refusal.Refusal.TheVariants as refusals
-use Rattle.clfs_model.specs.declared.reply.Happened.TheVariants.{Fine}
-use Rattle.clfs_model.specs.declared.reply.Reply.{Reply}
 use Rattle.clfs_model.specs.declared.reply.Reply.TheVariants as replies
-use Rattle.clfs_model.specs.declared.state.Area.{Area}
-use Rattle.clfs_model.specs.declared.state.State.{State}
-use Rattle.clfs_model.specs.Answers.{answer, info_of, outcome, rebased, restart_record, restarted}
-use Rattle.clfs_model.specs.Flush.{flush, flushed}
-use Rattle.clfs_model.specs.Live.{last_live}
-use Rattle.clfs_model.specs.Put.{need_of, next_lsn, put, spend_if}
-use Rattle.clfs_model.specs.Refusals.{refusal}
-use Rattle.clfs_model.specs.Run.{asks}
-use Rattle.clfs_model.specs.Space.{grown}
-use Rattle.clfs_model.specs.Survivors.{IsSurvivor}
+use Rattle.clfs_model.specs.Answers.{rebased}
 use Rattle.clfs_cells.specs.declared.told.TxnRefusal.TheVariants as denials
 use Rattle.clfs_cells.specs.declared.told.TxnReply.TheVariants as told_replies
-use Rattle.clfs_cells.specs.Calls.{Answered, answers, checkpoint_plan, stops, unless}
-use Rattle.clfs_cells.specs.Layout.{checkpoint_bytes}
-use Rattle.clfs_cells.specs.Plans.{Plan, calls as then_calls, on_info, on_placed}
-use Rattle.clfs_cells.specs.Stored.{Memory}
-use Rattle.clfs_cells.specs.Table.{table}
-use Rattle.clfs_cells_laws.specs.Crashes.{Along, IsSafe, LeavesEither}
-use Rattle.clfs_cells_laws.specs.Stores.{IsStore, store_area}
+use Rattle.clfs_cells.specs.Plans.{calls as then_calls}
 use Rattle.clfs_cells_laws.proofs.Along.{IsTable, Rising, asks_of, fine_state, fine_step, quiet_survives}
 use Rattle.clfs_cells_laws.proofs.AlongCalls.{EndsAs, placed_along, store_on}
 use Rattle.clfs_cells_laws.proofs.AlongCommit.{flushed_safe}

@@ -1,36 +1,11 @@
 -- A commit, from its append to its end: a crash in it leaves the table from before or that with its transaction.
-use Rattle.std.proofs.Common.{◌≡◌, ◌⊎◌, ℕ, ◌-◌, ◌<◌, true, refl, sym, subst, ap, ◌∙◌, inl, inr, arith, List, [], ◌∷◌, ◌++◌, length, Some, None}
-use Rattle.std.specs.List.{AllByRecursion}
-use Rattle.std.proofs.lemmas.List.Elements.{recursion_from_All}
-use Rattle.clfs_lsn.specs.Lsn.{null_lsn}
-use Rattle.clfs_lsn.specs.Place.{frontier}
-use Rattle.clfs_lsn.specs.declared.entry.LogEntry.{LogEntry}
-use Rattle.clfs_model.specs.declared.call.Call.{Call}
+use Rattle.clfs_cells_laws.proofs.Words.{◌≡◌, ◌⊎◌, ℕ, ◌-◌, ◌<◌, true, refl, sym, subst, ap, ◌∙◌, inl, inr, arith, List, [], ◌∷◌, ◌++◌, length, Some, None, AllByRecursion, recursion_from_All, null_lsn, frontier, LogEntry, Call, Refusal, Reply, Area, State, answer, flush, flushed, appended, need_of, plain_record, put, spend_if, refusal, asks, grown, IsSurvivor, IsRecord, IsValid, Commit, Answered, answers, append_call, commit_plan, end_plan, stops, IsTxnRecord, txn_bytes, txn_record, on_held, on_placed, Memory, Transaction, most_records, records_made, transaction, without_transaction, table, Along, IsSafeFrom, IsSafe, LeavesEither, table_joined, IsStore, store_area}
 use Rattle.clfs_model.specs.declared.call.Call.TheVariants as calls
-use Rattle.clfs_model.specs.declared.refusal.Refusal.{Refusal}
 use Rattle.clfs_model.specs.declared.refusal.Refusal.TheVariants as refusals
-use Rattle.clfs_model.specs.declared.reply.Reply.{Reply}
 use Rattle.clfs_model.specs.declared.reply.Reply.TheVariants as replies
-use Rattle.clfs_model.specs.declared.state.Area.{Area}
-use Rattle.clfs_model.specs.declared.state.State.{State}
-use Rattle.clfs_model.specs.Answers.{answer}
-use Rattle.clfs_model.specs.Flush.{flush, flushed}
-use Rattle.clfs_model.specs.Put.{appended, need_of, plain_record, put, spend_if}
-use Rattle.clfs_model.specs.Refusals.{refusal}
-use Rattle.clfs_model.specs.Run.{asks}
-use Rattle.clfs_model.specs.Space.{grown}
-use Rattle.clfs_model.specs.Survivors.{IsSurvivor}
-use Rattle.clfs_model.specs.Valid.{IsRecord, IsValid}
-use Rattle.clfs_cells.specs.declared.row.Action.TheVariants.{Commit}
 use Rattle.clfs_cells.specs.declared.told.TxnRefusal.TheVariants as denials
 use Rattle.clfs_cells.specs.declared.told.TxnReply.TheVariants as told_replies
-use Rattle.clfs_cells.specs.Calls.{Answered, answers, append_call, commit_plan, end_plan, stops}
-use Rattle.clfs_cells.specs.Layout.{IsTxnRecord, txn_bytes, txn_record}
-use Rattle.clfs_cells.specs.Plans.{calls as then_calls, on_held, on_placed}
-use Rattle.clfs_cells.specs.Stored.{Memory, Transaction, most_records, records_made, transaction, without_transaction}
-use Rattle.clfs_cells.specs.Table.{table}
-use Rattle.clfs_cells_laws.specs.Crashes.{Along, IsSafeFrom, IsSafe, LeavesEither, table_joined}
-use Rattle.clfs_cells_laws.specs.Stores.{IsStore, store_area}
+use Rattle.clfs_cells.specs.Plans.{calls as then_calls}
 use Rattle.clfs_cells_laws.proofs.Along.{IsKept, IsTable, Rising, along_quiet, fine_state, named_by, releases}
 use Rattle.clfs_cells_laws.proofs.AlongAppends.{HasRow, append_leaves, flushed_all, has_row, next_is}
 use Rattle.clfs_cells_laws.proofs.AlongCalls.{EndsAs, ends_answered, ends_refused, held_along, one_of, option_along, placed_along}

@@ -1,45 +1,10 @@
 -- Loading: a crash in it leaves the table as it is.
-use Rattle.std.proofs.Common.{◌≡◌, ◌⊎◌, ℕ, zero, suc, ◌<◌, ◌≤◌, Bool, true, false, refl, sym, subst, ap, ◌∙◌, inl, inr, arith, List, [], ◌∷◌, ◌++◌, length, Option, Some, None, Ok, Err}
-use Rattle.std.specs.Prelude.{if◌then◌else◌, ◌&&◌, ◌==◌}
-use Rattle.std.specs.List.{AllByRecursion}
-use Rattle.std.specs.Option.{option_map_or}
-use Rattle.std.proofs.lemmas.List.Elements.{recursion_from_All}
-use Rattle.clfs_lsn.specs.Lsn.{null_lsn}
-use Rattle.clfs_lsn.specs.Place.{frontier}
-use Rattle.clfs_lsn.specs.Streams.{stream_number_from}
-use Rattle.clfs_lsn.specs.declared.cursor.Mode.TheVariants.{Forward}
-use Rattle.clfs_lsn.specs.declared.entry.LogEntry.{LogEntry}
-use Rattle.clfs_lsn.specs.declared.stream.Stream.{Stream}
-use Rattle.clfs_model.specs.declared.call.Call.{Call}
+use Rattle.clfs_cells_laws.proofs.Words.{◌≡◌, ◌⊎◌, ℕ, zero, suc, ◌<◌, ◌≤◌, Bool, true, false, refl, sym, subst, ap, ◌∙◌, inl, inr, arith, List, [], ◌∷◌, ◌++◌, length, Option, Some, None, Ok, Err, if◌then◌else◌, ◌&&◌, ◌==◌, AllByRecursion, option_map_or, recursion_from_All, null_lsn, frontier, stream_number_from, Forward, LogEntry, Stream, Call, LogInfo, Refusal, Fine, Reply, Area, State, answer, info_of, outcome, restart_record, restarted, cut, flushed, is_live, last_live, live, need_of, next_lsn, put, refusal, stream_number, Request, asks, bad_line, fine_outcome, grown, area_of, IsSurvivor, Survives, IsRecord, IsValid, Checkpoint, TxnRecord, TxnLoadRefusal, blank_cells, blank_checkpoint, checkpoint_bytes, checkpoint_of, txn_record_of, gives_up, load_above, load_area, load_new, load_stream, load_table, memory_of, on_more, read_records, stopped, ends, on_info, on_placed, Memory, table, table_in, table_name, Along, IsSafe, IsSafeLog, LeavesEither, LoadsSafe}
 use Rattle.clfs_model.specs.declared.call.Call.TheVariants as calls
-use Rattle.clfs_model.specs.declared.info.LogInfo.{LogInfo}
-use Rattle.clfs_model.specs.declared.refusal.Refusal.{Refusal}
 use Rattle.clfs_model.specs.declared.refusal.Refusal.TheVariants as refusals
-use Rattle.clfs_model.specs.declared.reply.Happened.TheVariants.{Fine}
-use Rattle.clfs_model.specs.declared.reply.Reply.{Reply}
 use Rattle.clfs_model.specs.declared.reply.Reply.TheVariants as replies
-use Rattle.clfs_model.specs.declared.state.Area.{Area}
-use Rattle.clfs_model.specs.declared.state.State.{State}
-use Rattle.clfs_model.specs.Answers.{answer, info_of, outcome, restart_record, restarted}
-use Rattle.clfs_model.specs.Flush.{cut, flushed}
-use Rattle.clfs_model.specs.Live.{is_live, last_live, live}
-use Rattle.clfs_model.specs.Put.{need_of, next_lsn, put}
-use Rattle.clfs_model.specs.Refusals.{refusal, stream_number}
-use Rattle.clfs_model.specs.Run.{Request, asks, bad_line, fine_outcome}
-use Rattle.clfs_model.specs.Space.{grown}
-use Rattle.clfs_model.specs.State.{area_of}
-use Rattle.clfs_model.specs.Survivors.{IsSurvivor, Survives}
-use Rattle.clfs_model.specs.Valid.{IsRecord, IsValid}
-use Rattle.clfs_cells.specs.declared.checkpoint.Checkpoint.{Checkpoint}
-use Rattle.clfs_cells.specs.declared.row.TxnRecord.{TxnRecord}
-use Rattle.clfs_cells.specs.declared.told.TxnLoadRefusal.{TxnLoadRefusal}
 use Rattle.clfs_cells.specs.declared.told.TxnLoadRefusal.TheVariants as denials
-use Rattle.clfs_cells.specs.Layout.{blank_cells, blank_checkpoint, checkpoint_bytes, checkpoint_of, txn_record_of}
-use Rattle.clfs_cells.specs.Loading.{gives_up, load_above, load_area, load_new, load_stream, load_table, memory_of, on_more, read_records, stopped}
-use Rattle.clfs_cells.specs.Plans.{calls as then_calls, ends, on_info, on_placed}
-use Rattle.clfs_cells.specs.Stored.{Memory}
-use Rattle.clfs_cells.specs.Table.{table, table_in, table_name}
-use Rattle.clfs_cells_laws.specs.Crashes.{Along, IsSafe, IsSafeLog, LeavesEither, LoadsSafe}
+use Rattle.clfs_cells.specs.Plans.{calls as then_calls}
 use Rattle.clfs_cells_laws.proofs.Above.{kept}
 use Rattle.clfs_cells_laws.proofs.Along.{IsKept, IsTable, Rising, along_call, along_quiet, asks_of, ends_read, fine_state, fine_step, named_by, own_same, quiet_survives, reads, reads_on, reads_restart, step_state}
 use Rattle.clfs_cells_laws.proofs.AlongCalls.{found_along, option_along, placed_along}

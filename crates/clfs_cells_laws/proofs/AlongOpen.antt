@@ -1,40 +1,10 @@
 -- Loading from its beginning: the stream is opened, and the client gets its area.
-use Rattle.std.proofs.Common.{◌≡◌, ℕ, zero, suc, ◌+◌, ◌-◌, ◌<◌, ◌≤◌, Bool, true, false, refl, sym, subst, ap, ◌∙◌, inl, inr, arith, List, [], ◌∷◌, ◌++◌, length, Option, Some, None, Err}
-use Rattle.std.specs.Prelude.{◌==◌, filter, find, nat_lt, slice_get}
-use Rattle.std.specs.List.{AllByRecursion}
-use Rattle.std.specs.Option.{option_map_or}
-use Rattle.std.proofs.lemmas.Bool.{cases_Bool}
-use Rattle.std.proofs.lemmas.List.Elements.{recursion_from_All}
-use Rattle.clfs_lsn.specs.Heads.{is_restart}
-use Rattle.clfs_lsn.specs.Lsn.{null_lsn}
-use Rattle.clfs_lsn.specs.Place.{frontier}
-use Rattle.clfs_lsn.specs.Streams.{stream_number_from}
-use Rattle.clfs_lsn.specs.declared.entry.LogEntry.{LogEntry}
-use Rattle.clfs_lsn.specs.declared.stream.Stream.{Stream}
-use Rattle.clfs_model.specs.declared.call.Call.{Call}
+use Rattle.clfs_cells_laws.proofs.Words.{◌≡◌, ℕ, zero, suc, ◌+◌, ◌-◌, ◌<◌, ◌≤◌, Bool, true, false, refl, sym, subst, ap, ◌∙◌, inl, inr, arith, List, [], ◌∷◌, ◌++◌, length, Option, Some, None, Err, ◌==◌, filter, find, nat_lt, slice_get, AllByRecursion, option_map_or, cases_Bool, recursion_from_All, is_restart, null_lsn, frontier, stream_number_from, LogEntry, Stream, Call, Happened, Reply, Area, State, Outcome, answer, outcome, unused_area, flushed, live, lsn_or_null, newest_restart, stream_number, Request, asks, area_of, areas_of, base_of, is_area, IsReply, Step, HasBases, IsSurvivor, IsRecord, IsValid, blank_cells, table_stream, with_stream, area_largest, area_reads, load_area, load_plan, ends, on_area, on_stream, records_after, table, table_in, table_name, Along, CountsForNothing, IsSafe, IsSafeFrom, IsSafeLog, LeavesEither, LoadsSafe}
 use Rattle.clfs_model.specs.declared.call.Call.TheVariants as calls
-use Rattle.clfs_model.specs.declared.reply.Happened.{Happened}
-use Rattle.clfs_model.specs.declared.reply.Reply.{Reply}
 use Rattle.clfs_model.specs.declared.reply.Reply.TheVariants as replies
-use Rattle.clfs_model.specs.declared.state.Area.{Area}
-use Rattle.clfs_model.specs.declared.state.State.{State}
-use Rattle.clfs_model.specs.Answers.{Outcome, answer, new_area, outcome, unused_area}
-use Rattle.clfs_model.specs.Flush.{flushed}
-use Rattle.clfs_model.specs.Live.{live, lsn_or_null}
-use Rattle.clfs_model.specs.Reading.{newest_restart}
-use Rattle.clfs_model.specs.Refusals.{stream_number}
-use Rattle.clfs_model.specs.Run.{Request, asks}
-use Rattle.clfs_model.specs.State.{area_of, areas_of, base_of, is_area}
-use Rattle.clfs_model.specs.Step.{IsReply, Step}
-use Rattle.clfs_model.specs.Survivors.{HasBases, IsSurvivor}
-use Rattle.clfs_model.specs.Valid.{IsRecord, IsValid}
+use Rattle.clfs_model.specs.Answers.{new_area}
 use Rattle.clfs_cells.specs.declared.told.TxnLoadRefusal.TheVariants as denials
-use Rattle.clfs_cells.specs.Layout.{blank_cells}
-use Rattle.clfs_cells.specs.Loaded.{table_stream, with_stream}
-use Rattle.clfs_cells.specs.Loading.{area_largest, area_reads, load_area, load_plan}
-use Rattle.clfs_cells.specs.Plans.{calls as then_calls, ends, on_area, on_stream}
-use Rattle.clfs_cells.specs.Table.{records_after, table, table_in, table_name}
-use Rattle.clfs_cells_laws.specs.Crashes.{Along, CountsForNothing, IsSafe, IsSafeFrom, IsSafeLog, LeavesEither, LoadsSafe}
+use Rattle.clfs_cells.specs.Plans.{calls as then_calls}
 use Rattle.clfs_cells_laws.proofs.Along.{IsOf, IsOwn, IsTable, Rising, fine_state}
 use Rattle.clfs_cells_laws.proofs.AlongLoad.{area_along, quiet_log_left}
 use Rattle.clfs_cells_laws.proofs.Dropped.{left_table}

@@ -1,34 +1,13 @@
 -- What a store's calls leave of a log that isn't broken: it stays so unless the call tells a fault of the disk or damage, and is broken then.
-use Rattle.std.proofs.Common.{◌≡◌, ◌≢◌, ◌⊎◌, ℕ, zero, suc, ◌+◌, Bool, true, false, refl, sym, ap, subst, ◌∙◌, inl, inr, Option, Some, None, length}
-use Rattle.std.specs.Prelude.{find, slice_index}
-use Rattle.std.specs.Option.{option_map_or}
-use Rattle.clfs_lsn.specs.declared.entry.LogEntry.{LogEntry}
-use Rattle.clfs_model.specs.declared.call.Call.{Call}
+use Rattle.clfs_cells_laws.proofs.Words.{◌≡◌, ◌⊎◌, ℕ, zero, suc, ◌+◌, Bool, true, false, refl, sym, ap, subst, ◌∙◌, inl, inr, Option, Some, None, length, find, slice_index, option_map_or, LogEntry, Call, LogInfo, Refusal, Happened, Fine, Fault, Damage, Reply, State, Step, IsBroken, reads_disk, is_reply_of, TxnCall, Made, Action, Commit, RolledBack, TxnRefusal, TxnReply, Answered, TxnStep, append_call, answers, refuses, stops, unless, over_transaction, change_to, compensation, with_read_ended, undo_set, undo_from, undo_sets, end_plan, begin_plan, set_plan, back_plan, rollback_plan, checkpoint_plan, txn_plan, Plan, ends, calls, never, CarriesOut, on_placed, on_held, on_found, on_next, on_info, Memory, Store, Transaction, is_at, holder, standing, transaction, with_begun, with_set, with_undone, without_transaction, breaks_log, tells_break, tells_table_broken, tells_table_damage, reads_back}
+use Rattle.std.proofs.Common.{◌≢◌}
 use Rattle.clfs_model.specs.declared.call.Call.TheVariants as log_calls
-use Rattle.clfs_model.specs.declared.info.LogInfo.{LogInfo}
-use Rattle.clfs_model.specs.declared.refusal.Refusal.{Refusal}
 use Rattle.clfs_model.specs.declared.refusal.Refusal.TheVariants as log_refusals
-use Rattle.clfs_model.specs.declared.reply.Happened.{Happened}
-use Rattle.clfs_model.specs.declared.reply.Happened.TheVariants.{Fine, Fault, Damage}
-use Rattle.clfs_model.specs.declared.reply.Reply.{Reply}
 use Rattle.clfs_model.specs.declared.reply.Reply.TheVariants as log_replies
-use Rattle.clfs_model.specs.declared.state.State.{State}
 use Rattle.clfs_model.specs.Happened.{happened_of}
-use Rattle.clfs_model.specs.Step.{Step, IsBroken, reads_disk}
-use Rattle.clfs_laws.specs.ReplyKinds.{is_reply_of}
-use Rattle.clfs_cells.specs.declared.asked.TxnCall.{TxnCall}
 use Rattle.clfs_cells.specs.declared.asked.TxnCall.TheVariants as asked
-use Rattle.clfs_cells.specs.declared.begun.Made.{Made}
-use Rattle.clfs_cells.specs.declared.row.Action.{Action}
-use Rattle.clfs_cells.specs.declared.row.Action.TheVariants.{Commit, RolledBack}
-use Rattle.clfs_cells.specs.declared.told.TxnRefusal.{TxnRefusal}
 use Rattle.clfs_cells.specs.declared.told.TxnRefusal.TheVariants as refusals
-use Rattle.clfs_cells.specs.declared.told.TxnReply.{TxnReply}
 use Rattle.clfs_cells.specs.declared.told.TxnReply.TheVariants as replies
-use Rattle.clfs_cells.specs.Calls.{Answered, TxnStep, append_call, answers, refuses, stops, unless, over_transaction, change_to, compensation, with_read_ended, undo_set, undo_from, undo_sets, end_plan, begin_plan, set_plan, back_plan, rollback_plan, checkpoint_plan, txn_plan}
-use Rattle.clfs_cells.specs.Plans.{Plan, ends, calls, never, CarriesOut, on_placed, on_held, on_found, on_next, on_info}
-use Rattle.clfs_cells.specs.Stored.{Memory, Store, Transaction, is_at, holder, standing, transaction, with_begun, with_set, with_undone, without_transaction}
-use Rattle.clfs_cells_laws.specs.Breaking.{breaks_log, tells_break, tells_table_broken, tells_table_damage, reads_back}
 
 -- what is used of the log's laws
 pub record LogLaws : Type 0 where

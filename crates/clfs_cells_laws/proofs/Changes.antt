@@ -1,18 +1,6 @@
 -- An open transaction after a further set, and after its newest one that stands is taken back.
-use Rattle.std.proofs.Common.{◌≡◌, ◌⊎◌, ℕ, ◌+◌, ◌<◌, ◌≤◌, true, false, refl, sym, subst, ap, ◌∙◌, inl, inr, arith, List, [], ◌∷◌, ◌++◌, length}
-use Rattle.std.specs.Prelude.{not, ◌==◌, nat_le, slice_index, slice_set}
-use Rattle.std.specs.List.{AllByRecursion, list_any}
-use Rattle.std.proofs.lemmas.Bool.{cases_Bool, eqb-true, eq-eqb, leb-false}
+use Rattle.clfs_cells_laws.proofs.Words.{◌≡◌, ◌⊎◌, ℕ, ◌+◌, ◌<◌, ◌≤◌, true, false, refl, sym, subst, ap, ◌∙◌, inl, inr, arith, List, [], ◌∷◌, ◌++◌, length, not, ◌==◌, nat_le, slice_index, slice_set, AllByRecursion, list_any, cases_Bool, eqb-true, eq-eqb, leb-false, frontier, State, IsValid, Made, Change, change_to, cell_count, Memory, Transaction, is_at, newest_standing, standing, with_one_undone, AreStacked, IsInLog, IsLiveRecord, IsOpen, is_of_cell, value_before, value_by}
 use Rattle.std.proofs.lemmas.List.{get_or-set_same, get_or-set_other}
-use Rattle.clfs_lsn.specs.Place.{frontier}
-use Rattle.clfs_model.specs.declared.state.State.{State}
-use Rattle.clfs_model.specs.Valid.{IsValid}
-use Rattle.clfs_cells.specs.declared.begun.Made.{Made}
-use Rattle.clfs_cells.specs.declared.row.Change.{Change}
-use Rattle.clfs_cells.specs.Calls.{change_to}
-use Rattle.clfs_cells.specs.Layout.{cell_count}
-use Rattle.clfs_cells.specs.Stored.{Memory, Transaction, is_at, newest_standing, standing, with_one_undone}
-use Rattle.clfs_cells_laws.specs.Stores.{AreStacked, IsInLog, IsLiveRecord, IsOpen, is_of_cell, value_before, value_by}
 use Rattle.clfs_cells_laws.proofs.Grown.{Grows, in_log_on, live_below}
 use Rattle.clfs_cells_laws.proofs.Stacks.{each, each_held, first_before, first_changed, left_standing, more_before, more_rise, more_standing, none_by, none_held, stacked_as, standing_has, taken_back, taken_before, taken_holds, taken_length, taken_rise, undone, with_last}
 

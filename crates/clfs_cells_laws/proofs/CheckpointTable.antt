@@ -1,26 +1,6 @@
 -- What a table's log says after a checkpoint: the cells, and nothing above them.
-use Rattle.std.proofs.Common.{◌≡◌, ℕ, zero, suc, ◌+◌, ◌-◌, ◌<◌, ◌≤◌, Bool, true, false, refl, sym, subst, ap, ◌∙◌, inl, inr, arith, List, [], ◌∷◌, ◌++◌, length, Option, Some, None}
-use Rattle.std.specs.Prelude.{◌&&◌, ◌||◌, ◌==◌, filter, is_none, is_some, nat_le, nat_lt, slice_get}
-use Rattle.std.specs.List.{AllByRecursion, last_or}
-use Rattle.std.specs.Option.{option_and_then, option_map_or}
-use Rattle.std.proofs.lemmas.Bool.{cases_Bool, eq-eqb, eqb-true, le-leb, leb-true, leb-false, lt-leb, le-ltb, ltb-true, ne_eqb}
-use Rattle.std.proofs.lemmas.List.Elements.{filter-append, recursion_from_All}
-use Rattle.clfs_lsn.specs.Heads.{is_restart}
-use Rattle.clfs_lsn.specs.Lsn.{null_lsn}
-use Rattle.clfs_lsn.specs.Place.{frontier}
-use Rattle.clfs_lsn.specs.Streams.{set_base}
-use Rattle.clfs_lsn.specs.declared.entry.LogEntry.{LogEntry}
-use Rattle.clfs_lsn.specs.declared.stream.Stream.{Stream}
-use Rattle.clfs_model.specs.declared.state.State.{State}
-use Rattle.clfs_model.specs.Live.{is_live, last_live, live, live_at, lsn_or_null}
-use Rattle.clfs_model.specs.Refusals.{is_base, stream_number}
-use Rattle.clfs_model.specs.State.{base_of, stream_at}
-use Rattle.clfs_model.specs.Valid.{IsRecord, IsValid}
-use Rattle.clfs_cells.specs.declared.checkpoint.Checkpoint.{Checkpoint}
-use Rattle.clfs_cells.specs.Layout.{blank_cells, cell_count, checkpoint_bytes, checkpoint_of}
-use Rattle.clfs_cells.specs.Stored.{Memory}
-use Rattle.clfs_cells.specs.Table.{first_cells, records_after, table_name}
-use Rattle.clfs_cells_laws.specs.Tables.{IsInTable, IsTabled}
+use Rattle.clfs_cells_laws.proofs.Words.{◌≡◌, ℕ, zero, suc, ◌+◌, ◌-◌, ◌<◌, ◌≤◌, Bool, true, false, refl, sym, subst, ap, ◌∙◌, inl, inr, arith, List, [], ◌∷◌, ◌++◌, length, Option, Some, None, ◌&&◌, ◌||◌, ◌==◌, filter, is_none, is_some, nat_le, nat_lt, slice_get, AllByRecursion, last_or, option_and_then, option_map_or, cases_Bool, eq-eqb, eqb-true, le-leb, leb-false, le-ltb, ltb-true, ne_eqb, filter-append, recursion_from_All, is_restart, null_lsn, frontier, set_base, LogEntry, Stream, State, is_live, last_live, live, live_at, lsn_or_null, is_base, stream_number, base_of, stream_at, IsRecord, IsValid, Checkpoint, blank_cells, cell_count, checkpoint_bytes, checkpoint_of, Memory, first_cells, records_after, table_name, IsInTable, IsTabled}
+use Rattle.std.proofs.lemmas.Bool.{leb-true, lt-leb}
 use Rattle.clfs_cells_laws.proofs.Above.{Rises, above, filter_rises, kept, rises}
 use Rattle.clfs_cells_laws.proofs.Ground.{newest_in, spelled}
 use Rattle.clfs_cells_laws.proofs.Opening.{stream_is_there}

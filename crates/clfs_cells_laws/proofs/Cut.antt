@@ -1,16 +1,6 @@
 -- The table of the flushed part of a log, and of logs that are the same.
-use Rattle.std.proofs.Common.{◌≡◌, ℕ, ◌<◌, Bool, true, refl, sym, ap, ◌∙◌, inl, inr, List, [], ◌∷◌, Option, Some, None}
-use Rattle.std.specs.Prelude.{◌&&◌, ◌==◌, filter, nat_lt}
-use Rattle.std.specs.List.{AllByRecursion}
-use Rattle.std.specs.Option.{option_map_or}
-use Rattle.std.proofs.lemmas.Bool.{cases_Bool, lt-ltb}
-use Rattle.clfs_lsn.specs.declared.entry.LogEntry.{LogEntry}
-use Rattle.clfs_model.specs.declared.state.State.{State}
-use Rattle.clfs_model.specs.Flush.{IsSame, cut, flushed}
-use Rattle.clfs_model.specs.Live.{is_live, live}
-use Rattle.clfs_model.specs.Refusals.{stream_number}
-use Rattle.clfs_cells.specs.Layout.{blank_cells}
-use Rattle.clfs_cells.specs.Table.{table, table_in, table_name}
+use Rattle.clfs_cells_laws.proofs.Words.{◌≡◌, ℕ, ◌<◌, Bool, true, refl, sym, ap, ◌∙◌, inl, inr, List, [], ◌∷◌, Option, Some, None, ◌&&◌, ◌==◌, filter, nat_lt, AllByRecursion, option_map_or, cases_Bool, lt-ltb, LogEntry, State, cut, flushed, is_live, live, stream_number, blank_cells, table, table_in, table_name}
+use Rattle.clfs_model.specs.Flush.{IsSame}
 use Rattle.clfs_cells_laws.proofs.Ground.{cells_in}
 
 -- those that pass one test, of those that pass another one, where all of them do

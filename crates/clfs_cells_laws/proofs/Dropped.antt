@@ -1,19 +1,5 @@
 -- The table of what is left of a log, where what is gone counted for nothing.
-use Rattle.std.proofs.Common.{◌≡◌, ℕ, ◌<◌, ◌≤◌, Bool, true, false, refl, sym, subst, ap, ◌∙◌, inl, inr, List, [], ◌∷◌, Option, Some, None}
-use Rattle.std.specs.Prelude.{◌&&◌, ◌||◌, ◌==◌, filter, nat_lt, reverse, slice_get}
-use Rattle.std.specs.List.{AllByRecursion, list_any}
-use Rattle.std.specs.Option.{option_and_then, option_map_or}
-use Rattle.std.proofs.lemmas.Bool.{cases_Bool, eq-eqb, lt-ltb, ltb-false}
-use Rattle.clfs_lsn.specs.Heads.{is_restart}
-use Rattle.clfs_lsn.specs.declared.entry.LogEntry.{LogEntry}
-use Rattle.clfs_model.specs.declared.state.State.{State}
-use Rattle.clfs_model.specs.Live.{is_live, live, lsn_or_null}
-use Rattle.clfs_model.specs.Refusals.{stream_number}
-use Rattle.clfs_cells.specs.declared.row.TxnRecord.{TxnRecord}
-use Rattle.clfs_cells.specs.declared.checkpoint.Checkpoint.{Checkpoint}
-use Rattle.clfs_cells.specs.Layout.{blank_cells, checkpoint_of, txn_record_of}
-use Rattle.clfs_cells.specs.Table.{changed, committed, entries_after, first_cells, is_commit, is_committed, records_after, table, table_in, table_name}
-use Rattle.clfs_cells_laws.specs.Crashes.{CountsForNothing, IsSafeFrom}
+use Rattle.clfs_cells_laws.proofs.Words.{◌≡◌, ℕ, ◌<◌, ◌≤◌, Bool, true, false, refl, sym, subst, ap, ◌∙◌, inl, inr, List, [], ◌∷◌, Option, Some, None, ◌&&◌, ◌||◌, ◌==◌, filter, nat_lt, reverse, slice_get, AllByRecursion, list_any, option_and_then, option_map_or, cases_Bool, eq-eqb, lt-ltb, ltb-false, is_restart, LogEntry, State, is_live, live, lsn_or_null, stream_number, TxnRecord, Checkpoint, blank_cells, checkpoint_of, txn_record_of, changed, committed, entries_after, first_cells, is_commit, is_committed, records_after, table, table_in, table_name, CountsForNothing, IsSafeFrom}
 use Rattle.clfs_cells_laws.proofs.Above.{above}
 use Rattle.clfs_cells_laws.proofs.FirstRestart.{table_by}
 use Rattle.clfs_cells_laws.proofs.Ground.{newest_in, spelled}

@@ -1,36 +1,13 @@
 -- How the calls of a store end: begin, set, and the end of a transaction.
-use Rattle.std.proofs.Common.{◌≡◌, ℕ, zero, suc, ◌<◌, ◌≤◌, Bool, true, false, refl, sym, subst, ap, ◌∙◌, arith, List, [], ◌∷◌, length, Option, Some, None}
-use Rattle.std.specs.Prelude.{◌^◌, nat_le}
-use Rattle.std.specs.Option.{option_map_or}
-use Rattle.std.proofs.lemmas.Bool.{eq-eqb, ne_eqb}
-use Rattle.clfs_lsn.specs.declared.cursor.Mode.TheVariants.{UndoNext}
-use Rattle.clfs_lsn.specs.declared.entry.LogEntry.{LogEntry}
+use Rattle.clfs_cells_laws.proofs.Words.{◌≡◌, ℕ, zero, suc, ◌<◌, ◌≤◌, Bool, true, false, refl, sym, subst, ap, ◌∙◌, arith, List, [], ◌∷◌, length, Option, Some, None, ◌^◌, nat_le, option_map_or, eq-eqb, ne_eqb, UndoNext, LogEntry, Refusal, Happened, Reply, State, next_lsn, free, Step, Made, Action, Set, Change, TxnRefusal, TxnReply, Answered, answers, append_call, change_to, refuses, set_cell, set_plan, stops, undo_from, undo_sets, unless, cell_count, txn_bytes, txn_record, Plan, CarriesOut, on_found, on_placed, Memory, Transaction, holder, is_numbered, newest_standing, standing, transaction, with_set, reason_if, table_reason, IsSetTo, from_outside, is_of_log, IsOpen, IsStore, newest_of, sectors_held}
 use Rattle.clfs_model.specs.declared.call.Call.TheVariants as calls
-use Rattle.clfs_model.specs.declared.refusal.Refusal.{Refusal}
 use Rattle.clfs_model.specs.declared.refusal.Refusal.TheVariants as refusals
-use Rattle.clfs_model.specs.declared.reply.Happened.{Happened}
-use Rattle.clfs_model.specs.declared.reply.Reply.{Reply}
 use Rattle.clfs_model.specs.declared.reply.Reply.TheVariants as replies
-use Rattle.clfs_model.specs.declared.state.State.{State}
-use Rattle.clfs_model.specs.Put.{next_lsn}
-use Rattle.clfs_model.specs.Space.{free}
-use Rattle.clfs_model.specs.Step.{Step}
 use Rattle.clfs_cells.specs.declared.asked.TxnCall.TheVariants as asked
-use Rattle.clfs_cells.specs.declared.begun.Made.{Made}
-use Rattle.clfs_cells.specs.declared.row.Action.{Action}
-use Rattle.clfs_cells.specs.declared.row.Action.TheVariants.{Set}
-use Rattle.clfs_cells.specs.declared.row.Change.{Change}
-use Rattle.clfs_cells.specs.declared.told.TxnRefusal.{TxnRefusal}
 use Rattle.clfs_cells.specs.declared.told.TxnRefusal.TheVariants as denials
-use Rattle.clfs_cells.specs.declared.told.TxnReply.{TxnReply}
 use Rattle.clfs_cells.specs.declared.told.TxnReply.TheVariants as told_replies
-use Rattle.clfs_cells.specs.Calls.{Answered, answers, append_call, change_to, refuses, set_cell, set_plan, stops, undo_from, undo_sets, unless}
-use Rattle.clfs_cells.specs.Layout.{cell_count, txn_bytes, txn_record}
-use Rattle.clfs_cells.specs.Plans.{Plan, calls as asks, CarriesOut, on_found, on_placed}
-use Rattle.clfs_cells.specs.Stored.{Memory, Transaction, holder, is_numbered, newest_standing, standing, transaction, with_set}
-use Rattle.clfs_cells_laws.specs.Reasons.{reason_if, set_reason, table_reason}
-use Rattle.clfs_cells_laws.specs.Steps.{IsSetTo, from_outside, is_of_log}
-use Rattle.clfs_cells_laws.specs.Stores.{IsOpen, IsStore, newest_of, sectors_held}
+use Rattle.clfs_cells.specs.Plans.{calls as asks}
+use Rattle.clfs_cells_laws.specs.Reasons.{set_reason}
 use Rattle.clfs_cells_laws.proofs.Changes.{others_stay, written}
 use Rattle.clfs_cells_laws.proofs.Links.{append_passes, some_held, some_left, standing_live}
 use Rattle.clfs_cells_laws.proofs.OneOf.{placed}

@@ -1,25 +1,8 @@
 -- A table's first restart area: what writing it leaves of the log.
-use Rattle.std.proofs.Common.{◌≡◌, ℕ, ◌≤◌, Bool, true, false, refl, sym, ap, ◌∙◌, inl, inr, arith, List, [], ◌∷◌, ◌++◌, length, Option, Some}
-use Rattle.std.specs.Prelude.{◌≢◌, ◌&&◌, ◌==◌, filter, nat_lt}
-use Rattle.std.specs.Option.{option_map_or}
-use Rattle.std.proofs.lemmas.Bool.{cases_Bool, eq-eqb, le-leb, le-ltb}
-use Rattle.std.proofs.lemmas.List.Elements.{filter-append}
-use Rattle.clfs_lsn.specs.Lsn.{null_lsn}
+use Rattle.clfs_cells_laws.proofs.Words.{◌≡◌, ℕ, ◌≤◌, Bool, true, false, refl, sym, ap, ◌∙◌, inl, inr, arith, List, [], ◌∷◌, ◌++◌, length, Option, Some, ◌≢◌, ◌&&◌, ◌==◌, filter, nat_lt, option_map_or, cases_Bool, eq-eqb, le-leb, le-ltb, filter-append, null_lsn, LogEntry, Stream, Area, State, restarted, restart_record, flush, is_live, live, need_of, next_lsn, put, stream_number, grown, grown_if, base_of, log_of, TxnRecord, blank_cells, blank_checkpoint, checkpoint_bytes, records_after, table, table_in, table_name}
 use Rattle.clfs_lsn.specs.Place.{joins, begins_here}
-use Rattle.clfs_lsn.specs.declared.entry.LogEntry.{LogEntry}
-use Rattle.clfs_lsn.specs.declared.stream.Stream.{Stream}
-use Rattle.clfs_model.specs.declared.state.Area.{Area}
-use Rattle.clfs_model.specs.declared.state.State.{State}
-use Rattle.clfs_model.specs.Answers.{restarted, restart_record}
-use Rattle.clfs_model.specs.Flush.{flush, seal}
-use Rattle.clfs_model.specs.Live.{is_live, live}
-use Rattle.clfs_model.specs.Put.{made_ready, need_of, next_lsn, put}
-use Rattle.clfs_model.specs.Refusals.{stream_number}
-use Rattle.clfs_model.specs.Space.{grown, grown_if}
-use Rattle.clfs_model.specs.State.{base_of, log_of}
-use Rattle.clfs_cells.specs.declared.row.TxnRecord.{TxnRecord}
-use Rattle.clfs_cells.specs.Layout.{blank_cells, blank_checkpoint, checkpoint_bytes}
-use Rattle.clfs_cells.specs.Table.{records_after, table, table_in, table_name}
+use Rattle.clfs_model.specs.Flush.{seal}
+use Rattle.clfs_model.specs.Put.{made_ready}
 use Rattle.clfs_cells_laws.proofs.Ground.{after_in, cells_in, spelled}
 
 -- ---- a table is read of the records and the streams alone

@@ -1,20 +1,7 @@
 -- A table that was loaded is a store.
-use Rattle.std.proofs.Common.{◌≡◌, ℕ, Bool, true, refl, sym, subst, ap, ◌∙◌, List, [], ◌∷◌, length, Option}
+use Rattle.clfs_cells_laws.proofs.Words.{◌≡◌, ℕ, Bool, true, refl, sym, subst, ap, ◌∙◌, List, [], ◌∷◌, length, Option, option_map_or, AllByRecursion, State, area_of, IsValid, Loaded, LoadStep, load_plan, Plan, CarriesOut, calls, ends, never, Memory, Transaction, IsLoaded, AllApart, IsOpen, IsStore, sectors_held, store_area, TxnRecord, blank_cells, changed, records_after, table, table_in, AreExclusive, IsInTable, IsTabled, done_by, numbers_of}
 use Rattle.std.specs.Prelude.{Some}
-use Rattle.std.specs.Option.{option_map_or}
-use Rattle.std.specs.List.{AllByRecursion}
-use Rattle.clfs_model.specs.declared.state.State.{State}
-use Rattle.clfs_model.specs.State.{area_of}
-use Rattle.clfs_model.specs.Valid.{IsValid}
-use Rattle.clfs_cells.specs.Loading.{Loaded, LoadStep, load_plan}
-use Rattle.clfs_cells.specs.Plans.{Plan, CarriesOut, calls, ends, never}
-use Rattle.clfs_cells.specs.Stored.{Memory, Transaction}
-use Rattle.clfs_cells_laws.specs.Loads.{IsLoaded}
-use Rattle.clfs_cells_laws.specs.Stores.{AllApart, IsOpen, IsStore, sectors_held, store_area}
-use Rattle.clfs_cells.specs.declared.row.TxnRecord.{TxnRecord}
-use Rattle.clfs_cells.specs.Layout.{blank_cells}
-use Rattle.clfs_cells.specs.Table.{changed, records_after, table, table_in}
-use Rattle.clfs_cells_laws.specs.Tables.{HasNumbers, AreExclusive, IsInTable, IsTabled, done_by, numbers_of}
+use Rattle.clfs_cells_laws.specs.Tables.{HasNumbers}
 use Rattle.clfs_cells_laws.proofs.OwnCalls.{Laws}
 
 -- a plan that was carried out leaves a log that can be

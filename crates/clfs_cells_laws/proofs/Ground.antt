@@ -1,38 +1,10 @@
 -- What loading stands on once the client has its area, and what it comes to.
-use Rattle.std.proofs.Common.{◌≡◌, ℕ, ◌<◌, ◌≤◌, Bool, true, false, refl, sym, subst, ap, ◌∙◌, inl, inr, List, [], Option, Some, None, Ok, Err}
-use Rattle.std.specs.Prelude.{◌==◌, if◌then◌else◌, find, filter, is_none, reverse, slice_get}
-use Rattle.std.specs.List.{AllByRecursion, filter_map, last_or}
-use Rattle.std.specs.Option.{option_map, option_map_or, option_and_then}
-use Rattle.clfs_lsn.specs.Heads.{is_restart}
-use Rattle.clfs_lsn.specs.Lsn.{null_lsn}
-use Rattle.clfs_lsn.specs.declared.cursor.Cursor.{Cursor}
-use Rattle.clfs_lsn.specs.declared.entry.LogEntry.{LogEntry}
-use Rattle.clfs_model.specs.declared.call.Call.{Call}
+use Rattle.clfs_cells_laws.proofs.Words.{◌≡◌, ℕ, ◌<◌, ◌≤◌, Bool, true, false, refl, sym, subst, ap, ◌∙◌, inl, inr, List, [], Option, Some, None, Ok, Err, ◌==◌, if◌then◌else◌, find, filter, is_none, reverse, slice_get, AllByRecursion, last_or, option_map, option_map_or, option_and_then, is_restart, null_lsn, Cursor, LogEntry, Call, Refusal, Reply, Area, State, answer, flushed, live, lsn_or_null, refusal, stream_number, need_of, next_lsn, grown, areas_of, base_of, stream_at, Comes, IsDamaged, with_broken, Checkpoint, TxnRecord, TxnLoadRefusal, Log, NotATable, blank_cells, checkpoint_of, txn_record_of, first_restart, load_refusal, table_area, table_stream, Loaded, area_largest, area_reads, gives_up, last_number, stopped, Plan, calls, ends, CarriesOut, changed, committed, table, table_name, IsLoadCause, IsLoaded, IsNotLoaded}
+use Rattle.std.specs.List.{filter_map}
 use Rattle.clfs_model.specs.declared.call.Call.TheVariants as calls
-use Rattle.clfs_model.specs.declared.refusal.Refusal.{Refusal}
 use Rattle.clfs_model.specs.declared.refusal.Refusal.TheVariants as refusals
-use Rattle.clfs_model.specs.declared.reply.Reply.{Reply}
 use Rattle.clfs_model.specs.declared.reply.Reply.TheVariants as replies
-use Rattle.clfs_model.specs.declared.state.Area.{Area}
-use Rattle.clfs_model.specs.declared.state.State.{State}
-use Rattle.clfs_model.specs.Answers.{answer}
-use Rattle.clfs_model.specs.Flush.{flushed}
-use Rattle.clfs_model.specs.Live.{live, lsn_or_null}
-use Rattle.clfs_model.specs.Refusals.{refusal, stream_number}
-use Rattle.clfs_model.specs.Put.{need_of, next_lsn}
-use Rattle.clfs_model.specs.Space.{grown}
-use Rattle.clfs_model.specs.State.{areas_of, base_of, stream_at}
-use Rattle.clfs_model.specs.Step.{Comes, IsDamaged, with_broken}
-use Rattle.clfs_cells.specs.declared.checkpoint.Checkpoint.{Checkpoint}
-use Rattle.clfs_cells.specs.declared.row.TxnRecord.{TxnRecord}
-use Rattle.clfs_cells.specs.declared.told.TxnLoadRefusal.{TxnLoadRefusal}
-use Rattle.clfs_cells.specs.declared.told.TxnLoadRefusal.TheVariants.{Log, NotATable}
-use Rattle.clfs_cells.specs.Layout.{blank_cells, checkpoint_of, txn_record_of}
-use Rattle.clfs_cells.specs.Loaded.{first_restart, last_of, load_refusal, table_area, table_stream}
-use Rattle.clfs_cells.specs.Loading.{Loaded, area_largest, area_reads, gives_up, last_number, stopped}
-use Rattle.clfs_cells.specs.Plans.{Plan, calls, ends, CarriesOut}
-use Rattle.clfs_cells.specs.Table.{changed, committed, table, table_name}
-use Rattle.clfs_cells_laws.specs.Loads.{IsLoadCause, IsLoaded, IsNotLoaded}
+use Rattle.clfs_cells.specs.Loaded.{last_of}
 use Rattle.clfs_cells_laws.proofs.OwnArea.{with_own, find_own, delete_own}
 use Rattle.clfs_cells_laws.proofs.Ways.{Way, called, came, lacked, refused, faulted, damaged, broken_way, by_reply}
 use Rattle.clfs_cells_laws.proofs.Above.{Rises, above}

@@ -1,21 +1,5 @@
 -- What a log has that has got more records: its old ones, live as before.
-use Rattle.std.proofs.Common.{◌≡◌, ℕ, ◌<◌, ◌≤◌, Bool, true, refl, sym, subst, ap, ◌∙◌, inl, inr, List, [], ◌∷◌, ◌++◌, Option, Some}
-use Rattle.std.specs.Prelude.{◌≢◌, ◌&&◌, ◌==◌, find, filter}
-use Rattle.std.specs.Option.{option_map_or, option_or}
-use Rattle.std.proofs.lemmas.Bool.{cases_Bool, eqb-true, eq-eqb, le-leb}
-use Rattle.std.proofs.lemmas.List.Elements.{filter-append, recursion_from_All}
-use Rattle.std.proofs.lemmas.List.Folds.{find-append}
-use Rattle.clfs_lsn.specs.Lsn.{null_lsn}
-use Rattle.clfs_lsn.specs.Place.{frontier}
-use Rattle.clfs_lsn.specs.Streams.{stream_in}
-use Rattle.clfs_lsn.specs.declared.entry.LogEntry.{LogEntry}
-use Rattle.clfs_lsn.specs.declared.stream.Stream.{Stream}
-use Rattle.clfs_model.specs.declared.state.State.{State}
-use Rattle.clfs_model.specs.Live.{is_live, live, live_at}
-use Rattle.clfs_model.specs.State.{base_of, log_of}
-use Rattle.clfs_model.specs.Valid.{IsRecord, IsValid}
-use Rattle.clfs_cells.specs.declared.begun.Made.{Made}
-use Rattle.clfs_cells_laws.specs.Stores.{IsInLog, IsLiveRecord}
+use Rattle.clfs_cells_laws.proofs.Words.{◌≡◌, ℕ, ◌<◌, ◌≤◌, Bool, true, refl, sym, subst, ap, ◌∙◌, inl, inr, List, [], ◌∷◌, ◌++◌, Option, Some, ◌≢◌, ◌&&◌, ◌==◌, find, filter, option_map_or, option_or, cases_Bool, eqb-true, eq-eqb, le-leb, filter-append, recursion_from_All, find-append, null_lsn, frontier, stream_in, LogEntry, Stream, State, is_live, live, live_at, base_of, log_of, IsRecord, IsValid, Made, IsInLog, IsLiveRecord}
 use Rattle.clfs_cells_laws.proofs.Stacks.{first_has, first_passes}
 
 -- the streams are as they were, and there are more records

@@ -1,33 +1,10 @@
 -- What a crash leaves of a table's log while a call of the log is under way, by what the call does.
-use Rattle.std.proofs.Common.{◌≡◌, ◌⊎◌, ℕ, suc, ◌+◌, ◌-◌, ◌<◌, ◌≤◌, Bool, true, false, refl, sym, subst, ap, ◌∙◌, inl, inr, arith, List, [], ◌∷◌, ◌++◌, Option, Some}
-use Rattle.std.specs.Prelude.{◌&&◌, ◌||◌, ◌==◌, All, filter, map, nat_lt, slice_get}
-use Rattle.std.specs.List.{AllByRecursion}
-use Rattle.std.specs.Option.{option_map_or}
-use Rattle.std.proofs.lemmas.Bool.{cases_Bool, eq-eqb, lt-ltb, ltb-true, ltb-false, le-ltb, ne_eqb}
-use Rattle.std.proofs.lemmas.List.{append-nil}
-use Rattle.std.proofs.lemmas.List.Elements.{All-from_recursion, filter-append, recursion_from_All}
+use Rattle.clfs_cells_laws.proofs.Words.{◌≡◌, ◌⊎◌, ℕ, suc, ◌+◌, ◌-◌, ◌<◌, ◌≤◌, Bool, true, false, refl, sym, subst, ap, ◌∙◌, inl, inr, arith, List, [], ◌∷◌, ◌++◌, Option, Some, ◌&&◌, ◌||◌, ◌==◌, All, filter, map, nat_lt, slice_get, AllByRecursion, option_map_or, cases_Bool, eq-eqb, lt-ltb, ltb-true, ltb-false, le-ltb, ne_eqb, append-nil, All-from_recursion, filter-append, recursion_from_All, is_restart, frontier, LogEntry, Stream, State, flushed, is_live, live, lsn_or_null, newest_restart, stream_number, Request, asks, base_of, HasBases, IsSurvivor, IsRecord, IsValid, Commit, TxnRecord, blank_cells, txn_record, txn_record_of, changed, committed, entries_after, first_cells, is_commit, is_committed, records_after, table, table_in, table_name, CountsForNothing, IsSafe, IsSafeFrom, table_joined}
 use Rattle.std.proofs.lemmas.List.Quantifiers.{Any-push}
-use Rattle.clfs_lsn.specs.Heads.{is_restart}
-use Rattle.clfs_lsn.specs.Place.{frontier}
 use Rattle.clfs_lsn.specs.declared.entry.Kind.{Kind}
 use Rattle.clfs_lsn.specs.declared.entry.Kind.TheVariants.{Plain, Restart}
-use Rattle.clfs_lsn.specs.declared.entry.LogEntry.{LogEntry}
-use Rattle.clfs_lsn.specs.declared.stream.Stream.{Stream}
 use Rattle.clfs_model.specs.declared.call.Call.TheVariants as calls
-use Rattle.clfs_model.specs.declared.state.State.{State}
-use Rattle.clfs_model.specs.Flush.{flushed}
-use Rattle.clfs_model.specs.Live.{is_live, live, lsn_or_null}
-use Rattle.clfs_model.specs.Reading.{newest_restart}
-use Rattle.clfs_model.specs.Refusals.{stream_number}
-use Rattle.clfs_model.specs.Run.{Request, asks}
-use Rattle.clfs_model.specs.State.{base_of}
-use Rattle.clfs_model.specs.Survivors.{HasBases, HasMore, IsSurvivor, names_of, records_below}
-use Rattle.clfs_model.specs.Valid.{IsRecord, IsValid}
-use Rattle.clfs_cells.specs.declared.row.Action.TheVariants.{Commit}
-use Rattle.clfs_cells.specs.declared.row.TxnRecord.{TxnRecord}
-use Rattle.clfs_cells.specs.Layout.{blank_cells, txn_record, txn_record_of}
-use Rattle.clfs_cells.specs.Table.{changed, committed, entries_after, first_cells, is_commit, is_committed, records_after, table, table_in, table_name}
-use Rattle.clfs_cells_laws.specs.Crashes.{CountsForNothing, IsSafe, IsSafeFrom, table_joined}
+use Rattle.clfs_model.specs.Survivors.{HasMore, names_of, records_below}
 use Rattle.clfs_cells_laws.proofs.Above.{kept}
 use Rattle.clfs_cells_laws.proofs.Dropped.{left_table, under}
 use Rattle.clfs_cells_laws.proofs.FirstRestart.{table_by}

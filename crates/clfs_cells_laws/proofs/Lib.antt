@@ -1,3 +1,4 @@
+mod Words
 mod Written
 mod Ways
 mod OwnArea

@@ -1,28 +1,7 @@
 -- The room and the links of a store's next record: neither is refused.
-use Rattle.std.proofs.Common.{◌≡◌, ◌⊎◌, ℕ, ◌+◌, ◌-◌, ◌≤◌, Bool, true, false, refl, ap, ◌∙◌, inl, inr, arith, List, [], ◌∷◌, ◌++◌, length, Option, Some, None, length-append}
-use Rattle.std.specs.Prelude.{not, ◌||◌, ◌==◌, filter, nat_lt, is_some}
-use Rattle.std.specs.List.{AllByRecursion}
-use Rattle.std.specs.Option.{option_map_or}
-use Rattle.std.proofs.lemmas.Bool.{cases_Bool, le-ltb}
-use Rattle.std.proofs.lemmas.List.Elements.{filter-append}
-use Rattle.clfs_lsn.specs.Lsn.{null_lsn}
-use Rattle.clfs_lsn.specs.declared.cursor.Cursor.{Cursor}
-use Rattle.clfs_model.specs.declared.call.Draft.{Draft}
-use Rattle.clfs_model.specs.declared.refusal.Refusal.{Refusal}
+use Rattle.clfs_cells_laws.proofs.Words.{◌≡◌, ◌⊎◌, ℕ, ◌+◌, ◌-◌, ◌≤◌, Bool, true, false, refl, ap, ◌∙◌, inl, inr, arith, List, [], ◌∷◌, ◌++◌, length, Option, Some, None, length-append, not, ◌||◌, ◌==◌, filter, nat_lt, is_some, AllByRecursion, option_map_or, cases_Bool, le-ltb, filter-append, null_lsn, Cursor, Draft, Refusal, Area, State, live_at, refusal, refused_if, free, grown, has_room, reserved, base_of, Made, Action, Change, append_call, txn_bytes, txn_record, Memory, Transaction, newest_standing, standing, with_one_undone, IsInLog, IsLiveRecord, IsOpen, IsStoreWith, newest_of, records_left, sectors_held, store_area}
 use Rattle.clfs_model.specs.declared.refusal.Refusal.TheVariants as refusals
-use Rattle.clfs_model.specs.declared.state.Area.{Area}
-use Rattle.clfs_model.specs.declared.state.State.{State}
-use Rattle.clfs_model.specs.Live.{live_at}
-use Rattle.clfs_model.specs.Refusals.{append_refusal, is_link, refusal, refused_if}
-use Rattle.clfs_model.specs.Space.{free, grown, has_room, reserved}
-use Rattle.clfs_model.specs.State.{base_of}
-use Rattle.clfs_cells.specs.declared.begun.Made.{Made}
-use Rattle.clfs_cells.specs.declared.row.Action.{Action}
-use Rattle.clfs_cells.specs.declared.row.Change.{Change}
-use Rattle.clfs_cells.specs.Calls.{append_call}
-use Rattle.clfs_cells.specs.Layout.{txn_bytes, txn_record}
-use Rattle.clfs_cells.specs.Stored.{Memory, Transaction, newest_standing, standing, with_one_undone}
-use Rattle.clfs_cells_laws.specs.Stores.{IsInLog, IsLiveRecord, IsOpen, IsStoreWith, newest_of, records_left, sectors_held, store_area}
+use Rattle.clfs_model.specs.Refusals.{append_refusal, is_link}
 use Rattle.clfs_cells_laws.proofs.Changes.{new_made, with_made}
 use Rattle.clfs_cells_laws.proofs.Grown.{live_there}
 use Rattle.clfs_cells_laws.proofs.OneOf.{sectors_parts}

@@ -1,43 +1,15 @@
 -- Loading, once the client has its area: the stream is asked for, and its table is read or begun.
-use Rattle.std.proofs.Common.{◌≤◌, ◌≡◌, ◌⊎◌, ℕ, Bool, true, false, refl, sym, subst, ap, ◌∙◌, inl, inr, List, [], ◌∷◌, length, drop, Option, Some, None, Ok}
-use Rattle.std.specs.Prelude.{◌==◌, if◌then◌else◌, find, is_none}
-use Rattle.std.specs.List.{AllByRecursion, last_or}
-use Rattle.std.specs.Option.{option_map, option_map_or}
-use Rattle.std.proofs.lemmas.Bool.{cases_Bool}
-use Rattle.clfs_lsn.specs.Cursors.{unused_cursor}
-use Rattle.clfs_lsn.specs.Lsn.{null_lsn}
-use Rattle.clfs_lsn.specs.declared.cursor.Cursor.{Cursor}
+use Rattle.clfs_cells_laws.proofs.Words.{◌≤◌, ◌≡◌, ◌⊎◌, ℕ, Bool, true, false, refl, sym, subst, ap, ◌∙◌, inl, inr, List, [], ◌∷◌, length, drop, Option, Some, None, Ok, ◌==◌, if◌then◌else◌, find, is_none, AllByRecursion, last_or, option_map, option_map_or, cases_Bool, unused_cursor, null_lsn, Cursor, Records, Forward, LogEntry, LogInfo, Refusal, Reply, Area, State, Outcome, answer, found_with_cursor, info_of, outcome, read_at, restarted, flushed, lsn_or_null, next_lsn, newest_restart, with_cursor, Stream, table, table_name, read_refusal, refusal, refused_if, stream_number, area_of, Comes, IsReply, Checkpoint, TxnRecord, Log, NotATable, blank_cells, blank_checkpoint, cell_count, checkpoint_bytes, checkpoint_of, first_restart, load_refusal, Loaded, gives_up, load_above, load_area, load_new, load_stream, load_table, memory_of, read_records, stopped, Plan, ends, CarriesOut, on_found, on_info, on_placed, IsLoadCause}
 use Rattle.clfs_lsn.specs.declared.cursor.CursorKind.{CursorKind}
-use Rattle.clfs_lsn.specs.declared.cursor.CursorKind.TheVariants.{Records, RestartAreas}
-use Rattle.clfs_lsn.specs.declared.cursor.Mode.TheVariants.{Forward}
-use Rattle.clfs_lsn.specs.declared.entry.LogEntry.{LogEntry}
+use Rattle.clfs_lsn.specs.declared.cursor.CursorKind.TheVariants.{RestartAreas}
 use Rattle.clfs_model.specs.declared.call.Call.TheVariants as calls
-use Rattle.clfs_model.specs.declared.info.LogInfo.{LogInfo}
-use Rattle.clfs_model.specs.declared.refusal.Refusal.{Refusal}
 use Rattle.clfs_model.specs.declared.refusal.Refusal.TheVariants as refusals
-use Rattle.clfs_model.specs.declared.reply.Reply.{Reply}
 use Rattle.clfs_model.specs.declared.reply.Reply.TheVariants as replies
-use Rattle.clfs_model.specs.declared.state.Area.{Area}
-use Rattle.clfs_model.specs.declared.state.State.{State}
-use Rattle.clfs_model.specs.Answers.{Outcome, answer, found_with_cursor, info_of, outcome, read_at, read_newest_restart, restarted}
-use Rattle.clfs_model.specs.Flush.{flushed}
-use Rattle.clfs_model.specs.Live.{lsn_or_null}
-use Rattle.clfs_model.specs.Put.{next_lsn}
-use Rattle.clfs_model.specs.Reading.{newest_restart, with_cursor}
-use Rattle.clfs_lsn.specs.declared.stream.Stream.{Stream}
-use Rattle.clfs_cells.specs.Table.{table, table_name}
-use Rattle.clfs_model.specs.Refusals.{read_refusal, refusal, refused_if, stream_number, too_many_cursors}
-use Rattle.clfs_model.specs.State.{area_of}
-use Rattle.clfs_model.specs.Step.{Comes, IsReply}
-use Rattle.clfs_cells.specs.declared.checkpoint.Checkpoint.{Checkpoint}
-use Rattle.clfs_cells.specs.declared.row.TxnRecord.{TxnRecord}
-use Rattle.clfs_cells.specs.declared.told.TxnLoadRefusal.TheVariants.{Log, NotATable}
+use Rattle.clfs_model.specs.Answers.{read_newest_restart}
+use Rattle.clfs_model.specs.Refusals.{too_many_cursors}
 use Rattle.byteorder.specs.Endian.{little_number}
-use Rattle.clfs_cells.specs.Layout.{blank_cells, blank_checkpoint, cell_count, checkpoint_bytes, checkpoint_of, numbers_in}
-use Rattle.clfs_cells.specs.Loaded.{first_restart, load_refusal}
-use Rattle.clfs_cells.specs.Loading.{Loaded, gives_up, load_above, load_area, load_new, load_stream, load_table, memory_of, read_records, stopped}
-use Rattle.clfs_cells.specs.Plans.{Plan, calls as asks, ends, CarriesOut, on_found, on_info, on_placed}
-use Rattle.clfs_cells_laws.specs.Loads.{IsLoadCause}
+use Rattle.clfs_cells.specs.Layout.{numbers_in}
+use Rattle.clfs_cells.specs.Plans.{calls as asks}
 use Rattle.clfs_cells_laws.proofs.Above.{above}
 use Rattle.clfs_cells_laws.proofs.FirstRestart.{Restarted, first_lives, no_rows, restarts, zeros}
 use Rattle.clfs_cells_laws.proofs.Ground.{Ground, End, Met, at, cells_in, denied, done, end_by, gave, given_up, last_in, met, newest_in, no_table_in, own_area, spelled, strange, stranger_in}

@@ -1,27 +1,11 @@
 -- Loading leaves a log that isn't broken so, unless it is refused for a fault of the disk or damage.
-use Rattle.std.proofs.Common.{◌≡◌, ℕ, zero, suc, Bool, true, false, sym, ap, ◌∙◌, inl, inr, List, [], ◌∷◌, ◌++◌, Option, Some, None, Ok, Err, length}
-use Rattle.std.specs.Prelude.{◌==◌, if◌then◌else◌}
-use Rattle.std.specs.Option.{option_map_or}
-use Rattle.clfs_lsn.specs.Lsn.{null_lsn}
-use Rattle.clfs_lsn.specs.declared.entry.LogEntry.{LogEntry}
-use Rattle.clfs_model.specs.declared.call.Call.{Call}
+use Rattle.clfs_cells_laws.proofs.Words.{◌≡◌, ℕ, zero, suc, Bool, true, false, sym, ap, ◌∙◌, inl, inr, List, [], ◌∷◌, ◌++◌, Option, Some, None, Ok, Err, length, ◌==◌, if◌then◌else◌, option_map_or, null_lsn, LogEntry, Call, LogInfo, Refusal, Reply, State, is_reply_of, Checkpoint, TxnRecord, TxnLoadRefusal, blank_checkpoint, checkpoint_of, txn_record_of, Loaded, LoadStep, gives_up, load_above, load_area, load_new, load_stream, load_table, memory_of, on_more, read_records, stopped, Plan, ends, calls, never, CarriesOut, on_area, on_found, on_info, on_placed, on_stream, Memory, breaks_log}
 use Rattle.clfs_model.specs.declared.call.Call.TheVariants as log_calls
-use Rattle.clfs_model.specs.declared.info.LogInfo.{LogInfo}
-use Rattle.clfs_model.specs.declared.refusal.Refusal.{Refusal}
 use Rattle.clfs_model.specs.declared.refusal.Refusal.TheVariants as log_refusals
-use Rattle.clfs_model.specs.declared.reply.Reply.{Reply}
 use Rattle.clfs_model.specs.declared.reply.Reply.TheVariants as log_replies
-use Rattle.clfs_model.specs.declared.state.State.{State}
-use Rattle.clfs_laws.specs.ReplyKinds.{is_reply_of}
-use Rattle.clfs_cells.specs.declared.checkpoint.Checkpoint.{Checkpoint}
-use Rattle.clfs_cells.specs.declared.row.TxnRecord.{TxnRecord}
-use Rattle.clfs_cells.specs.declared.told.TxnLoadRefusal.{TxnLoadRefusal}
 use Rattle.clfs_cells.specs.declared.told.TxnLoadRefusal.TheVariants as refusals
-use Rattle.clfs_cells.specs.Layout.{blank_checkpoint, checkpoint_of, txn_record_of}
-use Rattle.clfs_cells.specs.Loading.{Loaded, LoadStep, gives_up, in_table_area, load_above, load_area, load_new, load_stream, load_table, memory_of, on_more, read_records, stopped}
-use Rattle.clfs_cells.specs.Plans.{Plan, ends, calls, never, CarriesOut, on_area, on_found, on_info, on_placed, on_stream}
-use Rattle.clfs_cells.specs.Stored.{Memory}
-use Rattle.clfs_cells_laws.specs.Breaking.{breaks_log, breaks_loading}
+use Rattle.clfs_cells.specs.Loading.{in_table_area}
+use Rattle.clfs_cells_laws.specs.Breaking.{breaks_loading}
 use Rattle.clfs_cells_laws.proofs.Breaking.{LogLaws, IsBreak, fine_or_break, no_break_of_end}
 
 -- a plan that leaves a log that isn't broken so, unless it ends with a fault or damage

@@ -1,40 +1,13 @@
 -- What loading comes to.
-use Rattle.std.proofs.Common.{◌≡◌, ℕ, ◌<◌, ◌≤◌, Bool, true, false, refl, sym, subst, ap, ◌∙◌, inl, inr, arith, List, [], ◌∷◌, length, Option, Some, None, Ok, Err}
-use Rattle.std.specs.Prelude.{◌==◌, ◌&&◌, filter, find, if◌then◌else◌, is_none, nat_lt}
-use Rattle.std.specs.List.{AllByRecursion, last_or}
-use Rattle.std.specs.Option.{option_map, option_map_or}
-use Rattle.std.proofs.lemmas.Bool.{cases_Bool, le-ltb}
-use Rattle.std.proofs.lemmas.List.Elements.{recursion_from_All}
-use Rattle.clfs_lsn.specs.Lsn.{null_lsn}
+use Rattle.clfs_cells_laws.proofs.Words.{◌≡◌, ℕ, ◌<◌, ◌≤◌, Bool, true, false, refl, sym, subst, ap, ◌∙◌, inl, inr, arith, List, [], ◌∷◌, length, Option, Some, None, Ok, Err, ◌==◌, ◌&&◌, filter, find, if◌then◌else◌, is_none, nat_lt, AllByRecursion, last_or, option_map, option_map_or, cases_Bool, le-ltb, recursion_from_All, null_lsn, LogEntry, Call, Refusal, Fine, Reply, Area, State, Outcome, answer, outcome, restarted, unused_area, flushed, is_live, live, lsn_or_null, refusal, refused_if, need_of, next_lsn, grown, areas_of, base_of, stream_at, IsReply, with_broken, IsRecord, IsValid, TxnLoadRefusal, Log, NotATable, blank_cells, blank_checkpoint, checkpoint_bytes, first_restart, load_refusal, table_area, table_stream, with_stream, Loaded, LoadStep, load_area, Plan, ends, CarriesOut, on_area, on_stream, table, table_name, table_in, IsLoaded, IsNotLoaded}
 use Rattle.clfs_lsn.specs.Size.{IsShape, longest}
-use Rattle.clfs_lsn.specs.declared.entry.LogEntry.{LogEntry}
 use Rattle.clfs_lsn.specs.declared.shape.Shape.{Shape}
-use Rattle.clfs_model.specs.declared.call.Call.{Call}
 use Rattle.clfs_model.specs.declared.call.Call.TheVariants as calls
-use Rattle.clfs_model.specs.declared.refusal.Refusal.{Refusal}
 use Rattle.clfs_model.specs.declared.refusal.Refusal.TheVariants as refusals
-use Rattle.clfs_model.specs.declared.reply.Happened.TheVariants.{Fine}
-use Rattle.clfs_model.specs.declared.reply.Reply.{Reply}
 use Rattle.clfs_model.specs.declared.reply.Reply.TheVariants as replies
-use Rattle.clfs_model.specs.declared.state.Area.{Area}
-use Rattle.clfs_model.specs.declared.state.State.{State}
-use Rattle.clfs_model.specs.Answers.{Outcome, answer, outcome, restarted, unused_area}
-use Rattle.clfs_model.specs.Flush.{flushed}
-use Rattle.clfs_model.specs.Live.{is_live, live, lsn_or_null}
-use Rattle.clfs_model.specs.Refusals.{open_refusal, refusal, refused_if}
-use Rattle.clfs_model.specs.Put.{need_of, next_lsn}
-use Rattle.clfs_model.specs.Space.{grown}
-use Rattle.clfs_model.specs.State.{areas_of, base_of, stream_at}
-use Rattle.clfs_model.specs.Step.{IsReply, with_broken}
-use Rattle.clfs_model.specs.Valid.{IsRecord, IsValid}
-use Rattle.clfs_cells.specs.declared.told.TxnLoadRefusal.{TxnLoadRefusal}
-use Rattle.clfs_cells.specs.declared.told.TxnLoadRefusal.TheVariants.{Log, NotATable}
-use Rattle.clfs_cells.specs.Layout.{blank_cells, blank_checkpoint, checkpoint_bytes}
-use Rattle.clfs_cells.specs.Loaded.{first_restart, load_refusal, table_area, table_stream, with_stream, with_table_area}
-use Rattle.clfs_cells.specs.Loading.{Loaded, LoadStep, load_area}
-use Rattle.clfs_cells.specs.Plans.{Plan, calls as asks, ends, CarriesOut, on_area, on_stream}
-use Rattle.clfs_cells.specs.Table.{table, table_name, table_in}
-use Rattle.clfs_cells_laws.specs.Loads.{IsLoaded, IsNotLoaded}
+use Rattle.clfs_model.specs.Refusals.{open_refusal}
+use Rattle.clfs_cells.specs.Loaded.{with_table_area}
+use Rattle.clfs_cells.specs.Plans.{calls as asks}
 use Rattle.clfs_cells_laws.proofs.Above.{Rises, filter_rises, kept, rises}
 use Rattle.clfs_cells_laws.proofs.Along.{fine_step}
 use Rattle.clfs_cells_laws.proofs.FirstRestart.{Restarted, put_record, restarts, table_by}

@@ -1,14 +1,6 @@
 -- The newest restart area and the last record of a list are among it.
-use Rattle.std.proofs.Common.{◌≡◌, ℕ, ◌<◌, Bool, true, false, refl, sym, subst, ap, ◌∙◌, inl, inr, arith, List, [], ◌∷◌, Option, Some, None}
-use Rattle.std.specs.Prelude.{◌==◌, find, filter, reverse, slice_get}
-use Rattle.std.specs.List.{AllByRecursion, last_or}
-use Rattle.std.proofs.lemmas.Bool.{cases_Bool, eq-eqb, eqb-true}
-use Rattle.std.proofs.lemmas.List.Elements.{All-from_recursion, recursion_from_All}
+use Rattle.clfs_cells_laws.proofs.Words.{◌≡◌, ℕ, ◌<◌, Bool, true, false, refl, sym, subst, ap, ◌∙◌, inl, inr, arith, List, [], ◌∷◌, Option, Some, None, ◌==◌, find, filter, reverse, slice_get, AllByRecursion, last_or, cases_Bool, eq-eqb, eqb-true, All-from_recursion, recursion_from_All, is_restart, null_lsn, LogEntry, lsn_or_null}
 use Rattle.std.proofs.lemmas.List.Sorted.{All-permutation, IsPermutation-reverse}
-use Rattle.clfs_lsn.specs.Heads.{is_restart}
-use Rattle.clfs_lsn.specs.Lsn.{null_lsn}
-use Rattle.clfs_lsn.specs.declared.entry.LogEntry.{LogEntry}
-use Rattle.clfs_model.specs.Live.{lsn_or_null}
 use Rattle.clfs_cells_laws.proofs.Above.{kept}
 use Rattle.clfs_cells_laws.proofs.Ground.{newest_in}
 

@@ -1,11 +1,5 @@
 -- One of several open transactions: found, changed, or gone.
-use Rattle.std.proofs.Common.{◌≡◌, ℕ, ◌+◌, Bool, true, false, refl, sym, subst, ap, ◌∙◌, inl, inr, arith, List, [], ◌∷◌, ◌++◌, Some}
-use Rattle.std.specs.Prelude.{find}
-use Rattle.std.specs.List.{AllByRecursion}
-use Rattle.std.proofs.lemmas.Bool.{cases_Bool}
-use Rattle.clfs_model.specs.State.{change_first}
-use Rattle.clfs_cells.specs.Stored.{Transaction, without_first}
-use Rattle.clfs_cells_laws.specs.Stores.{AllApart, AreApart, records_left, sectors_held}
+use Rattle.clfs_cells_laws.proofs.Words.{◌≡◌, ℕ, ◌+◌, Bool, true, false, refl, sym, subst, ap, ◌∙◌, inl, inr, arith, List, [], ◌∷◌, ◌++◌, Some, find, AllByRecursion, cases_Bool, change_first, Transaction, without_first, AllApart, AreApart, records_left, sectors_held}
 
 -- the first that passes, and what stands before and after it
 pub record Placed {X : Type 0} (p : X → Bool) (xs : List X) (x : X) : Type 0 where

@@ -1,26 +1,8 @@
 -- The table's stream, open: what is read of the log and of the log with the stream is the same.
-use Rattle.std.proofs.Common.{◌≡◌, ℕ, suc, ◌+◌, ◌-◌, ◌<◌, true, false, refl, sym, subst, ap, ◌∙◌, inl, inr, arith, List, [], ◌∷◌, ◌++◌, length, Option, Some, None}
-use Rattle.std.specs.Prelude.{IsSome, ◌&&◌, ◌==◌, filter, is_none, slice_get}
-use Rattle.std.specs.List.{AllByRecursion}
-use Rattle.std.specs.Option.{option_map_or}
-use Rattle.std.specs.Str.{bytes_eq}
-use Rattle.std.proofs.lemmas.Bool.{cases_Bool, eqb-true}
+use Rattle.clfs_cells_laws.proofs.Words.{◌≡◌, ℕ, suc, ◌+◌, ◌-◌, ◌<◌, true, false, refl, sym, subst, ap, ◌∙◌, inl, inr, arith, List, [], ◌∷◌, ◌++◌, length, Option, Some, None, IsSome, ◌&&◌, ◌==◌, filter, is_none, slice_get, AllByRecursion, option_map_or, bytes_eq, cases_Bool, eqb-true, recursion_from_All, null_lsn, stream_in, stream_number_from, LogEntry, Stream, State, Outcome, outcome, is_live, live, stream_number, stream_at, IsRecord, IsValid, blank_cells, table_stream, with_stream, table, table_in, table_name}
 use Rattle.std.proofs.lemmas.Option.{slice_get_past}
-use Rattle.std.proofs.lemmas.List.Elements.{recursion_from_All}
-use Rattle.clfs_lsn.specs.Lsn.{null_lsn}
-use Rattle.clfs_lsn.specs.Streams.{stream_in, stream_number_from}
-use Rattle.clfs_lsn.specs.declared.entry.LogEntry.{LogEntry}
-use Rattle.clfs_lsn.specs.declared.stream.Stream.{Stream}
 use Rattle.clfs_model.specs.declared.reply.Reply.TheVariants as replies
-use Rattle.clfs_model.specs.declared.state.State.{State}
-use Rattle.clfs_model.specs.Answers.{Outcome, opened, outcome}
-use Rattle.clfs_model.specs.Live.{is_live, live}
-use Rattle.clfs_model.specs.Refusals.{stream_number}
-use Rattle.clfs_model.specs.State.{stream_at}
-use Rattle.clfs_model.specs.Valid.{IsRecord, IsValid}
-use Rattle.clfs_cells.specs.Layout.{blank_cells}
-use Rattle.clfs_cells.specs.Loaded.{table_stream, with_stream}
-use Rattle.clfs_cells.specs.Table.{table, table_in, table_name}
+use Rattle.clfs_model.specs.Answers.{opened}
 use Rattle.clfs_cells_laws.proofs.Ground.{cells_in}
 
 -- the log with the stream

@@ -1,48 +1,13 @@
 -- How a transaction begins, and how a checkpoint is written: what is left of the store.
-use Rattle.std.proofs.Common.{◌≡◌, ℕ, zero, suc, ◌+◌, ◌-◌, ◌*◌, ◌<◌, Bool, true, false, refl, sym, subst, ap, ◌∙◌, inl, inr, arith, List, [], ◌∷◌, ◌++◌, length, Option, Some, None}
-use Rattle.std.specs.Prelude.{◌≢◌, if◌then◌else◌, ◌^◌, not, ◌==◌, find, nat_le, nat_lt, replicate}
-use Rattle.std.specs.List.{AllByRecursion}
-use Rattle.std.specs.Option.{option_map_or}
-use Rattle.std.specs.Str.{bytes_eq}
-use Rattle.std.proofs.lemmas.Bool.{eq-eqb, cases_Bool, ne_eqb, ltb-false}
-use Rattle.std.proofs.lemmas.List.{append-nil}
+use Rattle.clfs_cells_laws.proofs.Words.{◌≡◌, ℕ, zero, suc, ◌+◌, ◌-◌, ◌*◌, ◌<◌, Bool, true, false, refl, sym, subst, ap, ◌∙◌, inl, inr, arith, List, [], ◌∷◌, ◌++◌, length, Option, Some, None, ◌≢◌, if◌then◌else◌, ◌^◌, not, ◌==◌, find, nat_le, nat_lt, replicate, AllByRecursion, option_map_or, bytes_eq, eq-eqb, cases_Bool, ne_eqb, ltb-false, append-nil, null_lsn, own, set_base, stream_number_from, LogEntry, Stream, Call, LogInfo, Refusal, Happened, Reply, Area, State, Outcome, answer, info_of, outcome, reserved_for, restart_record, restarted, flush, flushed, last_live, live, hold_sizes, need_of, next_lsn, put, with_more_held, full, is_base, refusal, refused_if, restart_refusal, too_long, free, grown, has_room, own_sum, reserved, base_of, change_area, change_first, is_area, Step, Comes, IsReply, IsValid, TxnRefusal, TxnReply, Answered, answers, begin_plan, checkpoint_plan, greatest_number, most_transactions, stops, unless, checkpoint_bytes, Plan, CarriesOut, on_held, on_info, on_placed, Memory, Transaction, most_records, with_begun, begin_reason, reason_if, table_reason, for_room_or_outside, from_outside, AllApart, AreApart, IsOpen, IsStore, records_left, sectors_held, store_area, first_cells, records_after, table_name, IsTabled}
 use Rattle.std.proofs.lemmas.List.Folds.{sum_by-replicate}
-use Rattle.clfs_lsn.specs.Lsn.{null_lsn}
-use Rattle.clfs_lsn.specs.Size.{own}
-use Rattle.clfs_lsn.specs.Streams.{set_base, stream_number_from}
-use Rattle.clfs_lsn.specs.declared.entry.LogEntry.{LogEntry}
-use Rattle.clfs_lsn.specs.declared.stream.Stream.{Stream}
-use Rattle.clfs_model.specs.declared.call.Call.{Call}
 use Rattle.clfs_model.specs.declared.call.Call.TheVariants as calls
-use Rattle.clfs_model.specs.declared.info.LogInfo.{LogInfo}
-use Rattle.clfs_model.specs.declared.refusal.Refusal.{Refusal}
 use Rattle.clfs_model.specs.declared.refusal.Refusal.TheVariants as refusals
-use Rattle.clfs_model.specs.declared.reply.Happened.{Happened}
-use Rattle.clfs_model.specs.declared.reply.Reply.{Reply}
 use Rattle.clfs_model.specs.declared.reply.Reply.TheVariants as replies
-use Rattle.clfs_model.specs.declared.state.Area.{Area}
-use Rattle.clfs_model.specs.declared.state.State.{State}
-use Rattle.clfs_model.specs.Answers.{Outcome, answer, info_of, outcome, reserved_for, restart_record, restarted}
-use Rattle.clfs_model.specs.Flush.{flush, flushed}
-use Rattle.clfs_model.specs.Live.{last_live, live}
-use Rattle.clfs_model.specs.Put.{hold_sizes, need_of, next_lsn, put, with_more_held}
-use Rattle.clfs_model.specs.Refusals.{full, is_base, refusal, refused_if, restart_refusal, too_long}
-use Rattle.clfs_model.specs.Space.{free, grown, has_room, own_sum, reserved}
-use Rattle.clfs_model.specs.State.{base_of, change_area, change_first, is_area}
-use Rattle.clfs_model.specs.Step.{Step, Comes, IsReply}
-use Rattle.clfs_model.specs.Valid.{IsValid}
 use Rattle.clfs_cells.specs.declared.asked.TxnCall.TheVariants as asked
-use Rattle.clfs_cells.specs.declared.told.TxnRefusal.{TxnRefusal}
 use Rattle.clfs_cells.specs.declared.told.TxnRefusal.TheVariants as denials
-use Rattle.clfs_cells.specs.declared.told.TxnReply.{TxnReply}
 use Rattle.clfs_cells.specs.declared.told.TxnReply.TheVariants as told_replies
-use Rattle.clfs_cells.specs.Calls.{Answered, answers, begin_plan, checkpoint_plan, greatest_number, most_transactions, stops, unless}
-use Rattle.clfs_cells.specs.Layout.{checkpoint_bytes}
-use Rattle.clfs_cells.specs.Plans.{Plan, calls as asks, CarriesOut, on_held, on_info, on_placed}
-use Rattle.clfs_cells.specs.Stored.{Memory, Transaction, most_records, with_begun}
-use Rattle.clfs_cells_laws.specs.Reasons.{begin_reason, reason_if, table_reason}
-use Rattle.clfs_cells_laws.specs.Steps.{for_room_or_outside, from_outside}
-use Rattle.clfs_cells_laws.specs.Stores.{AllApart, AreApart, IsOpen, IsStore, records_left, sectors_held, store_area}
+use Rattle.clfs_cells.specs.Plans.{calls as asks}
 use Rattle.clfs_cells_laws.proofs.Ends.{IsDone, Out, denied, done, stopped, stopped_by}
 use Rattle.clfs_cells_laws.proofs.FirstRestart.{keeps_flush, keeps_grown, keeps_ready}
 use Rattle.clfs_cells_laws.proofs.Grown.{Grows, still_some}
@@ -51,12 +16,10 @@ use Rattle.clfs_cells_laws.proofs.Opening.{stream_is_there}
 use Rattle.clfs_cells_laws.proofs.OwnCalls.{added_above, Laws, area_after, damage_of}
 use Rattle.clfs_cells_laws.proofs.Stacks.{each}
 use Rattle.clfs_cells_laws.proofs.StoreCalls.{open_on, stream_same}
-use Rattle.clfs_cells.specs.Table.{first_cells, records_after, table_name}
 use Rattle.clfs_cells_laws.proofs.Tabled.{begun_keeps}
 use Rattle.clfs_cells_laws.proofs.TabledRows.{keeps_as}
 use Rattle.clfs_cells_laws.proofs.CheckpointTable.{checkpoint_lives, checkpoint_tabled, stream_there}
 use Rattle.clfs_cells_laws.proofs.TableLog.{reads_as}
-use Rattle.clfs_cells_laws.specs.Tables.{IsTabled}
 use Rattle.clfs_cells_laws.proofs.Undoes.{behind_reply, halted_store, same_log}
 use Rattle.clfs_cells_laws.proofs.UndoReads.{left_broken, left_whole}
 use Rattle.clfs_cells_laws.proofs.Ways.{Way, came, damaged, faulted, lacked, refused, way}

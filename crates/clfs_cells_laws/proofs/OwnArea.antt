@@ -1,10 +1,6 @@
 -- A log whose last area is a client's only one.
-use Rattle.std.proofs.Common.{◌≡◌, ℕ, Bool, true, false, refl, ap, inl, inr, List, [], ◌∷◌, ◌++◌}
-use Rattle.std.specs.Prelude.{Some, filter, find, not, ◌==◌}
-use Rattle.std.proofs.lemmas.Bool.{cases_Bool, eq-eqb}
-use Rattle.clfs_model.specs.declared.state.Area.{Area}
-use Rattle.clfs_model.specs.declared.state.State.{State}
-use Rattle.clfs_model.specs.State.{area_of, areas_of, change_area, change_first, is_area}
+use Rattle.clfs_cells_laws.proofs.Words.{◌≡◌, ℕ, Bool, true, false, refl, ap, inl, inr, List, [], ◌∷◌, ◌++◌, filter, find, not, ◌==◌, cases_Bool, eq-eqb, Area, State, area_of, areas_of, change_area, change_first, is_area}
+use Rattle.std.specs.Prelude.{Some}
 
 -- the log with an area more
 abbrev pub with_own : State → Area → State

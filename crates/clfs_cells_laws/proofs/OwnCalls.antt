@@ -1,40 +1,13 @@
 -- One call of the log on an area that is known: how it goes if nothing refuses it, and what it leaves.
-use Rattle.std.proofs.Common.{◌≡◌, ◌⊎◌, ℕ, zero, suc, ◌+◌, ◌-◌, ◌<◌, ◌≤◌, Bool, true, false, refl, sym, subst, ap, ◌∙◌, inl, inr, arith, List, [], ◌∷◌, ◌++◌, length, Option, Some, None}
-use Rattle.std.specs.Prelude.{All, ◌&&◌, ◌==◌, find, nat_lt, slice_get}
-use Rattle.std.specs.List.{AllByRecursion}
-use Rattle.std.specs.Option.{option_map, option_map_or, option_or}
-use Rattle.std.proofs.lemmas.Bool.{cases_Bool, eq-eqb, ne_eqb}
+use Rattle.clfs_cells_laws.proofs.Words.{◌≡◌, ◌⊎◌, ℕ, zero, suc, ◌+◌, ◌-◌, ◌<◌, ◌≤◌, Bool, true, false, refl, sym, subst, ap, ◌∙◌, inl, inr, arith, List, [], ◌∷◌, ◌++◌, length, Option, Some, None, All, ◌&&◌, ◌==◌, find, nat_lt, slice_get, AllByRecursion, option_map, option_map_or, option_or, cases_Bool, eq-eqb, ne_eqb, recursion_from_All, find-append, null_lsn, frontier, own, LogEntry, Stream, Call, Draft, Refusal, Happened, Reply, Area, State, answer, flushed, appended, next_lsn, plain_record, put, with_less_held, refusal, free, grown, grown_if, reserved, area_of, base_of, change_area, change_first, is_area, Step, Comes, IsDamaged, calls_disk, reads_disk, takes_memory, with_broken, IsRecord, IsValid, Checkpoint, TxnRecord, IsTxnRecord, checkpoint_bytes, checkpoint_of, txn_bytes, txn_record_of, from_outside, IsLiveRecord}
 use Rattle.std.proofs.lemmas.List.{append_cancel_left}
-use Rattle.std.proofs.lemmas.List.Elements.{recursion_from_All}
-use Rattle.std.proofs.lemmas.List.Folds.{find-append}
-use Rattle.clfs_lsn.specs.Lsn.{null_lsn}
-use Rattle.clfs_lsn.specs.Place.{frontier}
-use Rattle.clfs_lsn.specs.Size.{own}
-use Rattle.clfs_lsn.specs.declared.entry.LogEntry.{LogEntry}
-use Rattle.clfs_lsn.specs.declared.stream.Stream.{Stream}
-use Rattle.clfs_model.specs.declared.call.Call.{Call}
 use Rattle.clfs_model.specs.declared.call.Call.TheVariants as calls
-use Rattle.clfs_model.specs.declared.call.Draft.{Draft}
-use Rattle.clfs_model.specs.declared.refusal.Refusal.{Refusal}
 use Rattle.clfs_model.specs.declared.refusal.Refusal.TheVariants as refusals
-use Rattle.clfs_model.specs.declared.reply.Happened.{Happened}
-use Rattle.clfs_model.specs.declared.reply.Reply.{Reply}
 use Rattle.clfs_model.specs.declared.reply.Reply.TheVariants as replies
-use Rattle.clfs_model.specs.declared.state.Area.{Area}
-use Rattle.clfs_model.specs.declared.state.State.{State}
-use Rattle.clfs_model.specs.Answers.{answer}
-use Rattle.clfs_model.specs.Flush.{block_start, first_or, flushed}
-use Rattle.clfs_model.specs.Put.{appended, flush_if, next_lsn, plain_record, put, seal_if, with_less_held}
-use Rattle.clfs_model.specs.Refusals.{refusal}
-use Rattle.clfs_model.specs.Space.{free, grown, grown_if, reserved}
-use Rattle.clfs_model.specs.State.{area_of, base_of, change_area, change_first, is_area}
-use Rattle.clfs_model.specs.Step.{Step, Comes, IsDamaged, calls_disk, reads_disk, takes_memory, with_broken}
-use Rattle.clfs_model.specs.Valid.{IsRecord, IsValid, IsWaiting}
-use Rattle.clfs_cells.specs.declared.checkpoint.Checkpoint.{Checkpoint}
-use Rattle.clfs_cells.specs.declared.row.TxnRecord.{TxnRecord}
-use Rattle.clfs_cells.specs.Layout.{IsCheckpoint, IsTxnRecord, checkpoint_bytes, checkpoint_of, txn_bytes, txn_record_of}
-use Rattle.clfs_cells_laws.specs.Steps.{from_outside}
-use Rattle.clfs_cells_laws.specs.Stores.{IsLiveRecord}
+use Rattle.clfs_model.specs.Flush.{block_start, first_or}
+use Rattle.clfs_model.specs.Put.{flush_if, seal_if}
+use Rattle.clfs_model.specs.Valid.{IsWaiting}
+use Rattle.clfs_cells.specs.Layout.{IsCheckpoint}
 use Rattle.clfs_cells_laws.proofs.FirstRestart.{KeepsLists, keeps_flush, keeps_grown, keeps_ready, keeps_same}
 use Rattle.clfs_cells_laws.proofs.Grown.{base_same}
 use Rattle.clfs_cells_laws.proofs.Ways.{Way, came, damaged, faulted, lacked, refused}

@@ -1,25 +1,8 @@
 -- What reading answers over a log whose last area is the client's only one.
-use Rattle.std.proofs.Common.{◌≡◌, ℕ, Bool, true, false, refl, ap, ◌∙◌, List, [], ◌∷◌, Option, Some, None}
-use Rattle.std.specs.Prelude.{MatchBool, find, is_none, nat_lt}
-use Rattle.std.specs.Option.{option_map_or}
-use Rattle.std.proofs.lemmas.Bool.{eq-eqb}
-use Rattle.clfs_lsn.specs.declared.cursor.Cursor.{Cursor}
-use Rattle.clfs_lsn.specs.declared.cursor.CursorKind.TheVariants.{Records}
-use Rattle.clfs_lsn.specs.declared.cursor.Mode.TheVariants.{Forward}
-use Rattle.clfs_lsn.specs.declared.entry.LogEntry.{LogEntry}
-use Rattle.clfs_lsn.specs.Cursors.{cursors_moved, cursors_without, record_cursor_in, cursor_in}
+use Rattle.clfs_cells_laws.proofs.Words.{◌≡◌, ℕ, Bool, true, false, refl, ap, ◌∙◌, List, [], ◌∷◌, Option, Some, None, MatchBool, find, is_none, nat_lt, option_map_or, eq-eqb, Cursor, Records, Forward, LogEntry, cursors_moved, cursors_without, record_cursor_in, cursor_in, Reply, Area, State, answer, moved_on, outcome, live, cursor_of, record_cursor, with_cursor_at, without_cursor, next_refusal, refusal, refused_if, area_of, change_area, IsReply}
 use Rattle.clfs_model.specs.declared.call.Call.TheVariants as calls
 use Rattle.clfs_model.specs.declared.refusal.Refusal.TheVariants as refusals
-use Rattle.clfs_model.specs.declared.reply.Reply.{Reply}
 use Rattle.clfs_model.specs.declared.reply.Reply.TheVariants as replies
-use Rattle.clfs_model.specs.declared.state.Area.{Area}
-use Rattle.clfs_model.specs.declared.state.State.{State}
-use Rattle.clfs_model.specs.Answers.{answer, moved_on, outcome}
-use Rattle.clfs_model.specs.Live.{live}
-use Rattle.clfs_model.specs.Reading.{cursor_of, record_cursor, with_cursor_at, without_cursor}
-use Rattle.clfs_model.specs.Refusals.{next_refusal, refusal, refused_if}
-use Rattle.clfs_model.specs.State.{area_of, change_area}
-use Rattle.clfs_model.specs.Step.{IsReply}
 use Rattle.clfs_cells_laws.proofs.OwnArea.{find_own, change_own}
 use Rattle.clfs_cells_laws.proofs.Ground.{Ground, at, own_area}
 

@@ -1,49 +1,17 @@
 -- Why the calls of a store are refused: each for the first of its reasons.
-use Rattle.std.proofs.Common.{◌≡◌, ℕ, zero, suc, ◌+◌, ◌*◌, ◌<◌, Bool, true, false, refl, sym, subst, ap, ◌∙◌, inl, inr, arith, List, [], ◌∷◌, length, Option, Some, None, length-append}
-use Rattle.std.specs.Prelude.{◌≢◌, ◌&&◌, ◌||◌, ◌==◌, if◌then◌else◌, not, MatchOption, is_some, nat_le, nat_lt}
+use Rattle.clfs_cells_laws.proofs.Words.{◌≡◌, ℕ, zero, suc, ◌+◌, ◌*◌, ◌<◌, Bool, true, false, refl, sym, subst, ap, ◌∙◌, inl, inr, arith, List, [], ◌∷◌, length, Option, Some, None, length-append, ◌≢◌, ◌&&◌, ◌||◌, ◌==◌, if◌then◌else◌, not, MatchOption, is_some, nat_le, nat_lt, option_map, option_map_or, option_or, cases_Bool, eq-eqb, le-ltb, lt-ltb, ne_eqb, recursion_from_All, null_lsn, own, LogEntry, Call, LogInfo, Refusal, Happened, Fine, Fault, Damage, Reply, Area, State, Outcome, answer, info_of, outcome, reserved_for, restarted, flushed, is_live, last_live, live, live_at, hold_sizes, need_of, next_lsn, full, is_base, refusal, refused_if, restart_refusal, short, too_long, grown, own_sum, base_of, Step, Comes, Goes, calls_disk, reads_disk, takes_memory, IsRecord, IsValid, TxnCall, TxnRefusal, TxnReply, Answered, TxnStep, answers, begin_plan, checkpoint_plan, greatest_number, most_transactions, stops, unless, cell_count, checkpoint_bytes, area_largest, Plan, CarriesOut, on_held, on_info, on_placed, Memory, Store, most_records, with_begun, reads_back, tells_break, tells_table_broken, tells_table_damage, asks_log, reason_if, table_reason, HasArguments, for_room_or_outside, from_outside, is_of_log, IsKeptStore, IsStore, sectors_held, store_area}
 use Rattle.std.specs.List.{flat_map}
-use Rattle.std.specs.Option.{option_map, option_map_or, option_or}
-use Rattle.std.proofs.lemmas.Bool.{cases_Bool, eq-eqb, le-ltb, lt-ltb, ne_eqb}
-use Rattle.std.proofs.lemmas.List.Elements.{recursion_from_All}
 use Rattle.byteorder.specs.Endian.{little_bytes}
-use Rattle.clfs_lsn.specs.Lsn.{null_lsn}
-use Rattle.clfs_lsn.specs.Size.{own}
-use Rattle.clfs_lsn.specs.declared.entry.LogEntry.{LogEntry}
-use Rattle.clfs_model.specs.declared.call.Call.{Call}
 use Rattle.clfs_model.specs.declared.call.Call.TheVariants as calls
-use Rattle.clfs_model.specs.declared.info.LogInfo.{LogInfo}
-use Rattle.clfs_model.specs.declared.refusal.Refusal.{Refusal}
 use Rattle.clfs_model.specs.declared.refusal.Refusal.TheVariants as refusals
-use Rattle.clfs_model.specs.declared.reply.Happened.{Happened}
-use Rattle.clfs_model.specs.declared.reply.Happened.TheVariants.{Fine, Fault, Damage}
-use Rattle.clfs_model.specs.declared.reply.Reply.{Reply}
 use Rattle.clfs_model.specs.declared.reply.Reply.TheVariants as replies
-use Rattle.clfs_model.specs.declared.state.Area.{Area}
-use Rattle.clfs_model.specs.declared.state.State.{State}
-use Rattle.clfs_model.specs.Answers.{Outcome, answer, info_of, outcome, reserved_for, restarted}
-use Rattle.clfs_model.specs.Flush.{flushed}
-use Rattle.clfs_model.specs.Live.{is_live, last_live, live, live_at}
-use Rattle.clfs_model.specs.Put.{hold_sizes, need_of, next_lsn, spent_of}
-use Rattle.clfs_model.specs.Refusals.{full, is_base, refusal, refused_if, restart_refusal, short, too_long, unless_two_containers}
-use Rattle.clfs_model.specs.Space.{grown, own_sum}
-use Rattle.clfs_model.specs.State.{base_of}
-use Rattle.clfs_model.specs.Step.{Step, Comes, Goes, calls_disk, reads_disk, takes_memory}
-use Rattle.clfs_model.specs.Valid.{IsRecord, IsValid}
-use Rattle.clfs_cells.specs.declared.asked.TxnCall.{TxnCall}
+use Rattle.clfs_model.specs.Put.{spent_of}
+use Rattle.clfs_model.specs.Refusals.{unless_two_containers}
 use Rattle.clfs_cells.specs.declared.asked.TxnCall.TheVariants as asked
-use Rattle.clfs_cells.specs.declared.told.TxnRefusal.{TxnRefusal}
 use Rattle.clfs_cells.specs.declared.told.TxnRefusal.TheVariants as denials
-use Rattle.clfs_cells.specs.declared.told.TxnReply.{TxnReply}
 use Rattle.clfs_cells.specs.declared.told.TxnReply.TheVariants as told_replies
-use Rattle.clfs_cells.specs.Calls.{Answered, TxnStep, answers, begin_plan, checkpoint_plan, greatest_number, most_transactions, stops, unless}
-use Rattle.clfs_cells.specs.Layout.{cell_count, checkpoint_bytes}
-use Rattle.clfs_cells.specs.Loading.{area_largest}
-use Rattle.clfs_cells.specs.Plans.{Plan, calls as asks, CarriesOut, on_held, on_info, on_placed}
-use Rattle.clfs_cells.specs.Stored.{Memory, Store, most_records, with_begun}
-use Rattle.clfs_cells_laws.specs.Breaking.{reads_back, tells_break, tells_table_broken, tells_table_damage}
-use Rattle.clfs_cells_laws.specs.Reasons.{IsForReason, asks_log, first_reason, log_refusal, reason_if, room_refusal, table_reason}
-use Rattle.clfs_cells_laws.specs.Steps.{HasArguments, for_room_or_outside, from_outside, is_of_log}
-use Rattle.clfs_cells_laws.specs.Stores.{IsKeptStore, IsStore, sectors_held, store_area}
+use Rattle.clfs_cells.specs.Plans.{calls as asks}
+use Rattle.clfs_cells_laws.specs.Reasons.{IsForReason, first_reason, log_refusal, room_refusal}
 use Rattle.clfs_cells_laws.proofs.Ends.{IsDone, Lengths, Out, denied, done, stopped}
 use Rattle.clfs_cells_laws.proofs.Loads.{above_null}
 use Rattle.clfs_cells_laws.proofs.Newest.{none_last}

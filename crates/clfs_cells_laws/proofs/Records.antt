@@ -1,37 +1,9 @@
 -- Reading the records above a restart area, to the end of the stream.
-use Rattle.std.proofs.Common.{◌≤◌, arith, ◌≡◌, ◌⊎◌, ℕ, zero, suc, Bool, true, false, refl, sym, subst, ap, ◌∙◌, inl, inr, List, [], ◌∷◌, ◌++◌, length, Option, Some, None, Ok}
-use Rattle.std.specs.Prelude.{max, IsSome, MatchBool, ◌==◌, if◌then◌else◌, find, is_none, is_some, nat_lt}
-use Rattle.std.specs.Option.{option_and_then, option_map, option_map_or}
-use Rattle.std.proofs.lemmas.Bool.{cases_Bool, eq-eqb}
-use Rattle.std.proofs.lemmas.List.{append-nil, append_assoc, length-set}
-use Rattle.clfs_lsn.specs.Lsn.{null_lsn}
-use Rattle.clfs_lsn.specs.declared.cursor.Cursor.{Cursor}
-use Rattle.clfs_lsn.specs.declared.entry.LogEntry.{LogEntry}
+use Rattle.clfs_cells_laws.proofs.Words.{◌≤◌, arith, ◌≡◌, ◌⊎◌, ℕ, zero, suc, Bool, true, false, refl, sym, subst, ap, ◌∙◌, inl, inr, List, [], ◌∷◌, ◌++◌, length, Option, Some, None, Ok, IsSome, MatchBool, ◌==◌, if◌then◌else◌, find, is_none, is_some, nat_lt, option_and_then, option_map, option_map_or, cases_Bool, eq-eqb, append-nil, append_assoc, length-set, null_lsn, Cursor, LogEntry, Refusal, Reply, Area, State, Outcome, answer, outcome, flushed, live, live_at, lsn_or_null, refusal, refused_if, Comes, Checkpoint, TxnRecord, Log, NotATable, Action, Set, Compensation, Commit, RolledBack, blank_cells, cell_count, checkpoint_of, txn_record_of, first_restart, load_refusal, table_stream, Loaded, gives_up, last_number, memory_of, on_more, read_records, Plan, calls, ends, CarriesOut, Memory, after_action, changed, committed, AllByRecursion, last_or, IsLoadCause}
+use Rattle.std.specs.Prelude.{max}
 use Rattle.clfs_model.specs.declared.call.Call.TheVariants as calls
-use Rattle.clfs_model.specs.declared.refusal.Refusal.{Refusal}
 use Rattle.clfs_model.specs.declared.refusal.Refusal.TheVariants as refusals
-use Rattle.clfs_model.specs.declared.reply.Reply.{Reply}
 use Rattle.clfs_model.specs.declared.reply.Reply.TheVariants as replies
-use Rattle.clfs_model.specs.declared.state.Area.{Area}
-use Rattle.clfs_model.specs.declared.state.State.{State}
-use Rattle.clfs_model.specs.Answers.{Outcome, answer, outcome}
-use Rattle.clfs_model.specs.Flush.{flushed}
-use Rattle.clfs_model.specs.Live.{live, live_at, lsn_or_null}
-use Rattle.clfs_model.specs.Refusals.{refusal, refused_if}
-use Rattle.clfs_model.specs.Step.{Comes}
-use Rattle.clfs_cells.specs.declared.checkpoint.Checkpoint.{Checkpoint}
-use Rattle.clfs_cells.specs.declared.row.TxnRecord.{TxnRecord}
-use Rattle.clfs_cells.specs.declared.told.TxnLoadRefusal.TheVariants.{Log, NotATable}
-use Rattle.clfs_cells.specs.declared.row.Action.{Action}
-use Rattle.clfs_cells.specs.declared.row.Action.TheVariants.{Set, Compensation, Commit, RolledBack}
-use Rattle.clfs_cells.specs.Layout.{blank_cells, cell_count, checkpoint_of, txn_record_of}
-use Rattle.clfs_cells.specs.Loaded.{first_restart, load_refusal, table_stream}
-use Rattle.clfs_cells.specs.Loading.{Loaded, gives_up, last_number, memory_of, on_more, read_records}
-use Rattle.clfs_cells.specs.Plans.{Plan, calls, ends, CarriesOut}
-use Rattle.clfs_cells.specs.Stored.{Memory}
-use Rattle.clfs_cells.specs.Table.{after_action, changed, committed}
-use Rattle.std.specs.List.{AllByRecursion, last_or}
-use Rattle.clfs_cells_laws.specs.Loads.{IsLoadCause}
 use Rattle.clfs_cells_laws.proofs.Above.{above, next_above, none_above}
 use Rattle.clfs_cells_laws.proofs.Ground.{Ground, End, Met, Stops, after_in, at, cells_in, done, denied, end_by, gave, given_up, last_in, met, newest_in, no_table_in, restart_in, spelled, strange, stranger_in}
 use Rattle.clfs_cells_laws.proofs.ReadBack.{IsRead, ended, end_answered, forward, next_answered, next_in, next_read, next_refused, there}

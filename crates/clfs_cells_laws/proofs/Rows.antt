@@ -1,16 +1,8 @@
 -- The cells after records, and records taken out of their order.
-use Rattle.std.proofs.Common.{◌≡◌, ◌≢◌, ℕ, Bool, true, false, refl, sym, ap, ◌∙◌, inl, inr, List, [], ◌∷◌, ◌++◌}
-use Rattle.std.specs.Prelude.{not, ◌&&◌, ◌||◌, ◌==◌, filter, slice_index}
-use Rattle.std.specs.List.{AllByRecursion}
-use Rattle.std.proofs.lemmas.Bool.{cases_Bool, eq-eqb}
-use Rattle.std.proofs.lemmas.List.{append-nil, set_comm}
-use Rattle.std.proofs.lemmas.List.Elements.{filter-append}
+use Rattle.clfs_cells_laws.proofs.Words.{◌≡◌, ℕ, Bool, true, false, refl, sym, ap, ◌∙◌, inl, inr, List, [], ◌∷◌, ◌++◌, not, ◌&&◌, ◌||◌, ◌==◌, filter, slice_index, AllByRecursion, cases_Bool, eq-eqb, append-nil, filter-append, Action, Set, Compensation, Commit, RolledBack, TxnRecord, after_action, changed, committed, is_commit, is_committed, changes}
+use Rattle.std.proofs.Common.{◌≢◌}
+use Rattle.std.proofs.lemmas.List.{set_comm}
 use Rattle.std.proofs.lemmas.List.Folds.{list_any-append}
-use Rattle.clfs_cells.specs.declared.row.Action.{Action}
-use Rattle.clfs_cells.specs.declared.row.Action.TheVariants.{Set, Compensation, Commit, RolledBack}
-use Rattle.clfs_cells.specs.declared.row.TxnRecord.{TxnRecord}
-use Rattle.clfs_cells.specs.Table.{after_action, changed, committed, is_commit, is_committed}
-use Rattle.clfs_cells_laws.specs.Tables.{changes}
 use Rattle.clfs_cells_laws.proofs.Changes.{others_stay}
 
 -- ---- one after the other

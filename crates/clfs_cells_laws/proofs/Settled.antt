@@ -1,15 +1,6 @@
 -- The table of a store's log, as the store knows it, and what a commit makes of it.
-use Rattle.std.proofs.Common.{◌≡◌, ℕ, Bool, true, false, refl, sym, subst, ap, ◌∙◌, inl, inr, List, [], ◌∷◌, ◌++◌, Option, Some, None}
-use Rattle.std.specs.Prelude.{find, slice_index}
-use Rattle.std.specs.List.{AllByRecursion}
-use Rattle.std.specs.Option.{option_map_or}
-use Rattle.std.proofs.lemmas.Bool.{cases_Bool}
-use Rattle.clfs_model.specs.declared.state.State.{State}
-use Rattle.clfs_cells.specs.Stored.{Memory, Store, Transaction, holds, is_numbered, without_first}
-use Rattle.clfs_cells.specs.Table.{changed, committed, first_cells, records_after, table, table_in}
-use Rattle.clfs_cells_laws.specs.Steps.{IsCommitted}
-use Rattle.clfs_cells_laws.specs.Stores.{AllApart, AreApart, IsStore, value_before}
-use Rattle.clfs_cells_laws.specs.Tables.{IsInTable, JoinsTable, settled}
+use Rattle.clfs_cells_laws.proofs.Words.{◌≡◌, ℕ, Bool, true, false, refl, sym, subst, ap, ◌∙◌, inl, inr, List, [], ◌∷◌, ◌++◌, Option, Some, None, find, slice_index, AllByRecursion, option_map_or, cases_Bool, State, Memory, Store, Transaction, holds, is_numbered, without_first, changed, committed, first_cells, records_after, table, table_in, IsCommitted, AllApart, AreApart, IsStore, value_before, IsInTable}
+use Rattle.clfs_cells_laws.specs.Tables.{JoinsTable, settled}
 use Rattle.clfs_cells_laws.proofs.FromLoading.{table_of}
 use Rattle.clfs_cells_laws.proofs.OneOf.{apart_parts, placed, without_at}
 use Rattle.clfs_cells_laws.proofs.Stacks.{each, first_has, first_passes}

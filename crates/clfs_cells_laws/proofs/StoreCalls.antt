@@ -1,27 +1,5 @@
 -- What a call of the log leaves of a store.
-use Rattle.std.proofs.Common.{◌≡◌, ℕ, ◌-◌, ◌<◌, ◌≤◌, Bool, true, false, refl, sym, subst, ap, ◌∙◌, inl, inr, arith, List, [], ◌∷◌, ◌++◌, length, Some, None}
-use Rattle.std.specs.Prelude.{not, ◌^◌, ◌&&◌, ◌==◌, find, nat_le, slice_index, slice_set}
-use Rattle.std.specs.List.{AllByRecursion, list_any}
-use Rattle.std.proofs.lemmas.Bool.{cases_Bool, eqb-true, ne_eqb}
-use Rattle.std.proofs.lemmas.List.{append-nil, length-set}
-use Rattle.clfs_lsn.specs.Size.{own}
-use Rattle.clfs_lsn.specs.declared.cursor.Cursor.{Cursor}
-use Rattle.clfs_lsn.specs.declared.entry.LogEntry.{LogEntry}
-use Rattle.clfs_lsn.specs.declared.stream.Stream.{Stream}
-use Rattle.clfs_lsn.specs.Streams.{stream_number_from}
-use Rattle.clfs_model.specs.declared.state.Area.{Area}
-use Rattle.clfs_model.specs.declared.state.State.{State}
-use Rattle.clfs_model.specs.Refusals.{stream_number}
-use Rattle.clfs_model.specs.State.{change_area, change_first}
-use Rattle.clfs_model.specs.Valid.{IsValid}
-use Rattle.clfs_cells.specs.declared.begun.Made.{Made}
-use Rattle.clfs_cells.specs.declared.row.Action.TheVariants.{Set}
-use Rattle.clfs_cells.specs.declared.row.Change.{Change}
-use Rattle.clfs_cells.specs.Calls.{change_to, compensation}
-use Rattle.clfs_cells.specs.Layout.{cell_count}
-use Rattle.clfs_cells.specs.Stored.{Memory, Transaction, holder, holds, is_holder, is_numbered, newest_standing, standing, transaction, with_one_undone, with_set, with_undone}
-use Rattle.clfs_cells.specs.Table.{table_name}
-use Rattle.clfs_cells_laws.specs.Stores.{AllApart, AreApart, IsInLog, IsLiveRecord, IsOpen, IsStoreWith, is_of_cell, records_left, sectors_held, store_area}
+use Rattle.clfs_cells_laws.proofs.Words.{◌≡◌, ℕ, ◌-◌, ◌<◌, ◌≤◌, Bool, true, false, refl, sym, subst, ap, ◌∙◌, inl, inr, arith, List, [], ◌∷◌, ◌++◌, length, Some, None, not, ◌^◌, ◌&&◌, ◌==◌, find, nat_le, slice_index, slice_set, AllByRecursion, list_any, cases_Bool, eqb-true, ne_eqb, append-nil, length-set, own, Cursor, LogEntry, Stream, stream_number_from, Area, State, stream_number, change_area, change_first, IsValid, Made, Set, Change, change_to, compensation, cell_count, Memory, Transaction, holder, holds, is_holder, is_numbered, newest_standing, standing, transaction, with_one_undone, with_set, with_undone, table_name, AllApart, AreApart, IsInLog, IsLiveRecord, IsOpen, IsStoreWith, is_of_cell, records_left, sectors_held, store_area, IsTabled, Keeps, TxnRecord, first_cells, records_after}
 use Rattle.clfs_cells_laws.proofs.Changes.{made_holds, new_made, others_stay, set_open, undone_open, undone_standing, with_made}
 use Rattle.clfs_cells_laws.proofs.Grown.{Grows, in_log_on, live_on, still_some}
 use Rattle.clfs_cells_laws.proofs.Links.{held_less, made_left, some_left, undone_left}
@@ -31,9 +9,6 @@ use Rattle.clfs_cells_laws.proofs.Stacks.{each, first_has, first_passes, taken_h
 pub use Rattle.clfs_cells_laws.proofs.Adding.{Added, added, append_came, entry_of, grows_by, now_of}
 use Rattle.clfs_cells_laws.proofs.TabledRows.{all_free, row_tabled, set_in_table, undone_in_table}
 use Rattle.clfs_cells_laws.proofs.TableLog.{reads_as}
-use Rattle.clfs_cells_laws.specs.Tables.{IsTabled, Keeps}
-use Rattle.clfs_cells.specs.declared.row.TxnRecord.{TxnRecord}
-use Rattle.clfs_cells.specs.Table.{first_cells, records_after}
 
 pub stream_same : (s u : State) → u.streams ≡ s.streams → stream_number u table_name ≡ stream_number s table_name
 stream_same s u same = ap (λ (streams : List Stream). stream_number_from 1 table_name streams) same

@@ -1,18 +1,6 @@
 -- A store's table where a transaction ends: what was committed joins it, and what was rolled back leaves no trace.
-use Rattle.std.proofs.Common.{◌≡◌, ℕ, ◌≤◌, Bool, true, false, refl, sym, subst, ap, ◌∙◌, inl, inr, List, [], ◌∷◌, ◌++◌}
-use Rattle.std.specs.Prelude.{◌&&◌, ◌||◌, ◌==◌, filter, slice_index}
-use Rattle.std.specs.List.{AllByRecursion}
-use Rattle.std.proofs.lemmas.Bool.{cases_Bool, eq-eqb, eqb-true}
+use Rattle.clfs_cells_laws.proofs.Words.{◌≡◌, ℕ, ◌≤◌, Bool, true, false, refl, sym, subst, ap, ◌∙◌, inl, inr, List, [], ◌∷◌, ◌++◌, ◌&&◌, ◌||◌, ◌==◌, filter, slice_index, AllByRecursion, cases_Bool, eq-eqb, eqb-true, filter-append, Action, Set, Compensation, Commit, RolledBack, TxnRecord, txn_record, Memory, Transaction, holds, changed, committed, is_committed, AreApart, value_before, AreExclusive, AreOwn, IsInTable, IsOwn, Keeps, changes, done_by, is_among, numbers_of}
 use Rattle.std.proofs.lemmas.List.{ext_get_or}
-use Rattle.std.proofs.lemmas.List.Elements.{filter-append}
-use Rattle.clfs_cells.specs.declared.row.Action.{Action}
-use Rattle.clfs_cells.specs.declared.row.Action.TheVariants.{Set, Compensation, Commit, RolledBack}
-use Rattle.clfs_cells.specs.declared.row.TxnRecord.{TxnRecord}
-use Rattle.clfs_cells.specs.Layout.{txn_record}
-use Rattle.clfs_cells.specs.Stored.{Memory, Transaction, holds}
-use Rattle.clfs_cells.specs.Table.{changed, committed, is_committed}
-use Rattle.clfs_cells_laws.specs.Stores.{AreApart, value_before}
-use Rattle.clfs_cells_laws.specs.Tables.{AreExclusive, AreOwn, IsInTable, IsOwn, Keeps, changes, done_by, is_among, numbers_of}
 use Rattle.clfs_cells_laws.proofs.OneOf.{all_parts}
 use Rattle.clfs_cells_laws.proofs.Records.{changed_long}
 use Rattle.clfs_cells_laws.proofs.Rows.{ComeAfter, changed_then, for_all, one_more_commit, same_committed, same_test, split, untouched}

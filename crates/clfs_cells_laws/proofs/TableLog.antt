@@ -1,23 +1,6 @@
 -- What a table's log says after a record of it, and after a checkpoint.
-use Rattle.std.proofs.Common.{◌≡◌, ℕ, ◌<◌, ◌≤◌, Bool, true, false, refl, ap, ◌∙◌, arith, List, [], ◌∷◌, ◌++◌, Option, Some, None}
-use Rattle.std.specs.Prelude.{◌&&◌, ◌==◌, filter, nat_lt, reverse, slice_get}
-use Rattle.std.specs.List.{AllByRecursion}
-use Rattle.std.specs.Option.{option_and_then, option_map_or}
-use Rattle.std.proofs.lemmas.Bool.{eq-eqb, le-leb, lt-ltb}
-use Rattle.std.proofs.lemmas.List.{append-nil}
-use Rattle.std.proofs.lemmas.List.Elements.{filter-append, filter_map-append, recursion_from_All}
-use Rattle.clfs_lsn.specs.Heads.{is_restart}
-use Rattle.clfs_lsn.specs.Place.{frontier}
-use Rattle.clfs_lsn.specs.declared.entry.LogEntry.{LogEntry}
-use Rattle.clfs_lsn.specs.declared.stream.Stream.{Stream}
-use Rattle.clfs_model.specs.declared.state.State.{State}
-use Rattle.clfs_model.specs.Live.{is_live, live, lsn_or_null}
-use Rattle.clfs_model.specs.State.{base_of, log_of}
-use Rattle.clfs_model.specs.Valid.{IsRecord, IsValid}
-use Rattle.clfs_cells.specs.declared.checkpoint.Checkpoint.{Checkpoint}
-use Rattle.clfs_cells.specs.declared.row.TxnRecord.{TxnRecord}
-use Rattle.clfs_cells.specs.Layout.{blank_cells, checkpoint_of, txn_record_of}
-use Rattle.clfs_cells.specs.Table.{entries_after, first_cells, records_after}
+use Rattle.clfs_cells_laws.proofs.Words.{◌≡◌, ℕ, ◌<◌, ◌≤◌, Bool, true, false, refl, ap, ◌∙◌, arith, List, [], ◌∷◌, ◌++◌, Option, Some, None, ◌&&◌, ◌==◌, filter, nat_lt, reverse, slice_get, AllByRecursion, option_and_then, option_map_or, eq-eqb, le-leb, lt-ltb, append-nil, filter-append, recursion_from_All, is_restart, frontier, LogEntry, Stream, State, is_live, live, lsn_or_null, base_of, log_of, IsRecord, IsValid, Checkpoint, TxnRecord, blank_cells, checkpoint_of, txn_record_of, entries_after, first_cells, records_after}
+use Rattle.std.proofs.lemmas.List.Elements.{filter_map-append}
 use Rattle.clfs_cells_laws.proofs.Above.{above, kept}
 use Rattle.clfs_cells_laws.proofs.Ground.{newest_in, spelled}
 use Rattle.clfs_cells_laws.proofs.Newest.{newest_has}

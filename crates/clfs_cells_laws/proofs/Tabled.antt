@@ -1,18 +1,6 @@
 -- A store's table while its transactions begin, go on, and end.
-use Rattle.std.proofs.Common.{◌≡◌, ℕ, ◌+◌, ◌<◌, ◌≤◌, ◌^◌, Bool, true, false, refl, sym, subst, ap, ◌∙◌, inl, inr, arith, List, [], ◌∷◌, ◌++◌}
-use Rattle.std.specs.Prelude.{not, ◌||◌, ◌==◌, filter, slice_index}
-use Rattle.std.specs.List.{AllByRecursion}
-use Rattle.std.proofs.lemmas.Bool.{cases_Bool, eq-eqb, eqb-true, ne_eqb}
-use Rattle.std.proofs.lemmas.List.{append-nil}
-use Rattle.std.proofs.lemmas.List.Elements.{filter-append}
-use Rattle.clfs_lsn.specs.Lsn.{null_lsn}
-use Rattle.clfs_cells.specs.declared.row.Action.{Action}
-use Rattle.clfs_cells.specs.declared.row.Action.TheVariants.{Set, Compensation, Commit, RolledBack}
-use Rattle.clfs_cells.specs.declared.row.TxnRecord.{TxnRecord}
-use Rattle.clfs_cells.specs.Stored.{Memory, Transaction, holds, with_begun}
-use Rattle.clfs_cells.specs.Table.{after_action, changed, committed, is_commit, is_committed}
-use Rattle.clfs_cells_laws.specs.Stores.{AreApart}
-use Rattle.clfs_cells_laws.specs.Tables.{AreExclusive, AreOwn, IsInTable, IsOwn, Keeps, changes, done_by, is_among, numbers_of}
+use Rattle.clfs_cells_laws.proofs.Words.{◌≡◌, ℕ, ◌+◌, ◌<◌, ◌≤◌, Bool, true, false, refl, sym, subst, ap, ◌∙◌, inl, inr, arith, List, [], ◌∷◌, ◌++◌, not, ◌||◌, ◌==◌, filter, slice_index, AllByRecursion, cases_Bool, eq-eqb, eqb-true, ne_eqb, append-nil, filter-append, null_lsn, Action, Set, Compensation, Commit, RolledBack, TxnRecord, Memory, Transaction, holds, with_begun, after_action, changed, committed, is_commit, is_committed, AreApart, AreExclusive, AreOwn, IsInTable, IsOwn, Keeps, changes, done_by, is_among, numbers_of}
+use Rattle.std.proofs.Common.{◌^◌}
 use Rattle.clfs_cells_laws.proofs.OneOf.{all_join, all_parts}
 use Rattle.clfs_cells_laws.proofs.Rows.{AreSeparate, ComeAfter, changed_then, same_committed, same_test, untouched}
 use Rattle.clfs_cells_laws.proofs.Stacks.{each, with_last}

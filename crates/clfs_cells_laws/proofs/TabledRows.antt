@@ -1,23 +1,6 @@
 -- A record of an open transaction that joins its table.
-use Rattle.std.proofs.Common.{◌≡◌, ℕ, ◌<◌, ◌≤◌, ◌^◌, Bool, true, false, refl, sym, subst, ap, ◌∙◌, inl, inr, arith, List, [], ◌∷◌, ◌++◌, length}
-use Rattle.std.specs.Prelude.{not, ◌&&◌, ◌==◌, slice_index, slice_set}
-use Rattle.std.specs.List.{AllByRecursion, list_any}
-use Rattle.std.proofs.lemmas.Bool.{cases_Bool, eq-eqb, eqb-true, ne_eqb}
-use Rattle.clfs_lsn.specs.declared.entry.LogEntry.{LogEntry}
-use Rattle.clfs_model.specs.declared.state.State.{State}
-use Rattle.clfs_model.specs.Valid.{IsValid}
-use Rattle.clfs_lsn.specs.declared.cursor.Cursor.{Cursor}
-use Rattle.clfs_cells.specs.declared.begun.Made.{Made}
-use Rattle.clfs_cells.specs.declared.row.Action.{Action}
-use Rattle.clfs_cells.specs.declared.row.Action.TheVariants.{Set}
-use Rattle.clfs_cells.specs.declared.row.Change.{Change}
-use Rattle.clfs_cells.specs.declared.row.TxnRecord.{TxnRecord}
-use Rattle.clfs_cells.specs.Calls.{change_to, compensation}
-use Rattle.clfs_cells.specs.Layout.{IsAction, IsChange, cell_count, txn_record}
-use Rattle.clfs_cells.specs.Stored.{Memory, Transaction, holds, is_at, is_holder, is_numbered, standing, with_one_undone}
-use Rattle.clfs_cells.specs.Table.{after_action, changed, committed, first_cells, records_after}
-use Rattle.clfs_cells_laws.specs.Stores.{AreApart, IsLiveRecord, is_of_cell, value_before}
-use Rattle.clfs_cells_laws.specs.Tables.{IsInTable, IsOwn, IsTabled, Keeps}
+use Rattle.clfs_cells_laws.proofs.Words.{◌≡◌, ℕ, ◌<◌, ◌≤◌, Bool, true, false, refl, sym, subst, ap, ◌∙◌, inl, inr, arith, List, [], ◌∷◌, ◌++◌, length, not, ◌&&◌, ◌==◌, slice_index, slice_set, AllByRecursion, list_any, cases_Bool, eq-eqb, eqb-true, ne_eqb, LogEntry, State, IsValid, Cursor, Made, Action, Set, Change, TxnRecord, change_to, compensation, IsAction, IsChange, cell_count, txn_record, Memory, Transaction, holds, is_at, is_holder, is_numbered, standing, with_one_undone, after_action, changed, committed, first_cells, records_after, AreApart, IsLiveRecord, is_of_cell, value_before, IsInTable, IsOwn, IsTabled, Keeps}
+use Rattle.std.proofs.Common.{◌^◌}
 use Rattle.clfs_cells_laws.proofs.Adding.{Added, entry_of, now_of}
 use Rattle.clfs_cells_laws.proofs.Changes.{made_holds, new_made, others_stay, with_made, written}
 use Rattle.clfs_cells_laws.proofs.Grown.{live_named}

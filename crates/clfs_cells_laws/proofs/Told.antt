@@ -1,22 +1,12 @@
 -- What the steps of a store come to, call by call.
-use Rattle.std.proofs.Common.{◌≡◌, ◌⊎◌, ℕ, ◌<◌, Bool, true, false, refl, sym, subst, ap, ◌∙◌, inl, inr}
-use Rattle.std.specs.Prelude.{◌^◌, Option, slice_index}
-use Rattle.clfs_model.specs.declared.refusal.Refusal.{Refusal}
+use Rattle.clfs_cells_laws.proofs.Words.{◌≡◌, ◌⊎◌, ℕ, ◌<◌, Bool, true, false, refl, sym, subst, ap, ◌∙◌, inl, inr, ◌^◌, slice_index, Refusal, State, TxnCall, TxnRefusal, TxnReply, Answered, TxnStep, back_plan, begin_plan, checkpoint_plan, commit_plan, rollback_plan, set_plan, unless, cell_count, Plan, CarriesOut, Memory, Store, with_begun, asks_log, begin_reason, table_reason, HasArguments, IsCommitted, IsRolledBack, IsSetTo, IsTakenBack, for_room_or_outside, from_outside, is_of_log, IsKeptStore, IsStore}
+use Rattle.std.specs.Prelude.{Option}
 use Rattle.clfs_model.specs.declared.refusal.Refusal.TheVariants as log_refusals
-use Rattle.clfs_model.specs.declared.state.State.{State}
-use Rattle.clfs_cells.specs.declared.asked.TxnCall.{TxnCall}
 use Rattle.clfs_cells.specs.declared.asked.TxnCall.TheVariants as asked
-use Rattle.clfs_cells.specs.declared.told.TxnRefusal.{TxnRefusal}
 use Rattle.clfs_cells.specs.declared.told.TxnRefusal.TheVariants as denials
-use Rattle.clfs_cells.specs.declared.told.TxnReply.{TxnReply}
 use Rattle.clfs_cells.specs.declared.told.TxnReply.TheVariants as told_replies
-use Rattle.clfs_cells.specs.Calls.{Answered, TxnStep, back_plan, begin_plan, checkpoint_plan, commit_plan, rollback_plan, set_plan, unbroken, unless}
-use Rattle.clfs_cells.specs.Layout.{cell_count}
-use Rattle.clfs_cells.specs.Plans.{Plan, CarriesOut}
-use Rattle.clfs_cells.specs.Stored.{Memory, Store, with_begun}
-use Rattle.clfs_cells_laws.specs.Reasons.{asks_log, begin_reason, table_reason}
-use Rattle.clfs_cells_laws.specs.Steps.{HasArguments, IsCommitted, IsRolledBack, IsSetTo, IsTakenBack, for_room_or_outside, from_outside, is_of_log, is_within}
-use Rattle.clfs_cells_laws.specs.Stores.{IsKeptStore, IsStore}
+use Rattle.clfs_cells.specs.Calls.{unbroken}
+use Rattle.clfs_cells_laws.specs.Steps.{is_within}
 use Rattle.clfs_cells_laws.proofs.Ends.{IsDone, Lengths, Out, denied, done, set_out, stopped}
 use Rattle.clfs_cells_laws.proofs.OtherEnds.{IsBegunAs, any_refusal, begin_out, checkpoint_out}
 use Rattle.clfs_cells_laws.proofs.OwnCalls.{Laws}

@@ -1,40 +1,16 @@
 -- How a transaction ends, and how sets are taken back: what is left of the store.
-use Rattle.std.proofs.Common.{◌≡◌, ℕ, ◌+◌, ◌-◌, ◌≤◌, Bool, true, false, refl, sym, subst, ap, ◌∙◌, inl, inr, arith, List, [], ◌∷◌, ◌++◌, length, drop, Option, Some, None}
-use Rattle.std.specs.Prelude.{find, nat_lt, slice_index}
-use Rattle.std.specs.List.{AllByRecursion}
-use Rattle.std.specs.Option.{option_map_or}
+use Rattle.clfs_cells_laws.proofs.Words.{◌≡◌, ℕ, ◌+◌, ◌-◌, ◌≤◌, Bool, true, false, refl, sym, subst, ap, ◌∙◌, inl, inr, arith, List, [], ◌∷◌, ◌++◌, length, drop, Option, Some, None, find, nat_lt, slice_index, AllByRecursion, option_map_or, ne_eqb, le-ltb, ltb-false, null_lsn, LogEntry, Reply, Area, State, Outcome, answer, outcome, flushed, next_lsn, with_less_held, refusal, refused_if, short, change_area, Comes, IsReply, IsValid, Made, Action, Commit, RolledBack, TxnRefusal, Answered, answers, append_call, back_plan, commit_plan, end_plan, over_transaction, refuses, rollback_plan, stops, undo_sets, unless, txn_bytes, txn_record, Plan, CarriesOut, on_held, on_placed, Memory, Transaction, is_numbered, most_records, records_made, standing, transaction, without_first, without_transaction, reason_if, table_reason, IsCommitted, IsRolledBack, IsTakenBack, from_outside, AllApart, AreApart, IsOpen, IsStore, records_left, sectors_held, store_area, value_before, value_by, IsAction, changed, committed, first_cells, records_after, IsInTable, IsTabled, Keeps}
 use Rattle.std.proofs.Math.Seq.{drop-append_seam}
-use Rattle.std.proofs.lemmas.Bool.{ne_eqb, le-ltb, ltb-false}
 use Rattle.std.proofs.lemmas.List.{length-append}
-use Rattle.clfs_lsn.specs.Lsn.{null_lsn}
-use Rattle.clfs_lsn.specs.declared.entry.LogEntry.{LogEntry}
 use Rattle.clfs_model.specs.declared.call.Call.TheVariants as calls
 use Rattle.clfs_model.specs.declared.refusal.Refusal.TheVariants as refusals
-use Rattle.clfs_model.specs.declared.reply.Reply.{Reply}
 use Rattle.clfs_model.specs.declared.reply.Reply.TheVariants as replies
-use Rattle.clfs_model.specs.declared.state.Area.{Area}
-use Rattle.clfs_model.specs.declared.state.State.{State}
-use Rattle.clfs_model.specs.Answers.{Outcome, answer, outcome, released}
-use Rattle.clfs_model.specs.Flush.{flushed}
-use Rattle.clfs_model.specs.Put.{next_lsn, with_less_held}
-use Rattle.clfs_model.specs.Refusals.{refusal, refused_if, short}
-use Rattle.clfs_model.specs.State.{change_area}
-use Rattle.clfs_model.specs.Step.{Comes, IsReply}
-use Rattle.clfs_model.specs.Valid.{IsValid}
-use Rattle.clfs_cells.specs.declared.begun.Made.{Made}
-use Rattle.clfs_cells.specs.declared.row.Action.{Action}
-use Rattle.clfs_cells.specs.declared.row.Action.TheVariants.{Commit, RolledBack}
+use Rattle.clfs_model.specs.Answers.{released}
 use Rattle.clfs_cells.specs.declared.asked.TxnCall.TheVariants as asked
-use Rattle.clfs_cells.specs.declared.told.TxnRefusal.{TxnRefusal}
 use Rattle.clfs_cells.specs.declared.told.TxnRefusal.TheVariants as denials
 use Rattle.clfs_cells.specs.declared.told.TxnReply.TheVariants as told_replies
-use Rattle.clfs_cells.specs.Calls.{Answered, answers, append_call, back_plan, commit_plan, end_plan, over_transaction, refuses, rollback_plan, stops, undo_sets, unless}
-use Rattle.clfs_cells.specs.Layout.{txn_bytes, txn_record}
-use Rattle.clfs_cells.specs.Plans.{Plan, calls as asks, CarriesOut, on_held, on_placed}
-use Rattle.clfs_cells.specs.Stored.{Memory, Transaction, is_numbered, most_records, records_made, standing, transaction, without_first, without_transaction}
-use Rattle.clfs_cells_laws.specs.Reasons.{back_reason, reason_if, reason_within, table_reason}
-use Rattle.clfs_cells_laws.specs.Steps.{IsCommitted, IsRolledBack, IsTakenBack, from_outside}
-use Rattle.clfs_cells_laws.specs.Stores.{AllApart, AreApart, IsOpen, IsStore, records_left, sectors_held, store_area, value_before, value_by}
+use Rattle.clfs_cells.specs.Plans.{calls as asks}
+use Rattle.clfs_cells_laws.specs.Reasons.{back_reason, reason_within}
 use Rattle.clfs_cells_laws.proofs.Ends.{IsDone, Lengths, Out, denied, done, stopped, stopped_by, undo_started}
 use Rattle.clfs_cells_laws.proofs.Grown.{Grows, live_named, still_some}
 use Rattle.clfs_cells_laws.proofs.Links.{append_passes, some_held, some_left}
@@ -42,9 +18,6 @@ use Rattle.clfs_cells_laws.proofs.OneOf.{Placed, all_parts, apart_parts, placed,
 use Rattle.clfs_cells_laws.proofs.OwnCalls.{joined_live, Laws, Went, area_after, broke, gave, kept, went}
 use Rattle.clfs_cells_laws.proofs.Stacks.{first_has, each}
 use Rattle.clfs_cells_laws.proofs.StoreCalls.{tabled_on, Added, added, append_came, entry_of, found_by_its, number_found, open_found, open_on, stream_same}
-use Rattle.clfs_cells.specs.Layout.{IsAction}
-use Rattle.clfs_cells.specs.Table.{changed, committed, first_cells, records_after}
-use Rattle.clfs_cells_laws.specs.Tables.{IsInTable, IsTabled, Keeps}
 use Rattle.clfs_cells_laws.proofs.TableEnds.{commit_keeps, rollback_keeps}
 use Rattle.clfs_cells_laws.proofs.TableLog.{row_joins}
 use Rattle.clfs_cells_laws.proofs.TabledRows.{keeps_as}

@@ -1,33 +1,9 @@
 -- Reading along the undo-next links, for a store: from the newest set of a transaction that stands to the one below it, and the end of the cursor.
-use Rattle.std.proofs.Common.{◌≡◌, ℕ, Bool, true, refl, subst, ap, ◌∙◌, inl, inr, [], ◌∷◌, Option, Some, None}
-use Rattle.std.specs.Prelude.{◌==◌, is_none}
-use Rattle.std.specs.Option.{option_and_then, option_map_or}
-use Rattle.std.proofs.lemmas.Bool.{eq-eqb, eqb-true}
-use Rattle.clfs_lsn.specs.Cursors.{cursor_in, cursors_moved, cursors_without, record_cursor_in, unused_cursor}
-use Rattle.clfs_lsn.specs.declared.cursor.Cursor.{Cursor}
-use Rattle.clfs_lsn.specs.declared.cursor.CursorKind.TheVariants.{Records}
-use Rattle.clfs_lsn.specs.declared.cursor.Mode.TheVariants.{UndoNext}
-use Rattle.clfs_lsn.specs.declared.entry.LogEntry.{LogEntry}
+use Rattle.clfs_cells_laws.proofs.Words.{◌≡◌, ℕ, Bool, true, refl, subst, ap, ◌∙◌, inl, inr, [], ◌∷◌, Option, Some, None, ◌==◌, is_none, option_and_then, option_map_or, eq-eqb, eqb-true, cursor_in, cursors_moved, cursors_without, record_cursor_in, unused_cursor, Cursor, Records, UndoNext, LogEntry, Refusal, Happened, Reply, Area, State, Outcome, answer, found_with_cursor, moved_on, outcome, read_at, flushed, live, live_at, cursor_of, record_cursor, with_cursor, with_cursor_at, without_cursor, next_refusal, read_refusal, refusal, refused_if, change_area, Step, Comes, with_broken, Answered, with_read_ended, Plan, CarriesOut, Memory, from_outside, IsLiveRecord, IsStoreWith, store_area}
 use Rattle.clfs_model.specs.declared.call.Call.TheVariants as calls
-use Rattle.clfs_model.specs.declared.refusal.Refusal.{Refusal}
 use Rattle.clfs_model.specs.declared.refusal.Refusal.TheVariants as refusals
-use Rattle.clfs_model.specs.declared.reply.Happened.{Happened}
-use Rattle.clfs_model.specs.declared.reply.Reply.{Reply}
 use Rattle.clfs_model.specs.declared.reply.Reply.TheVariants as replies
-use Rattle.clfs_model.specs.declared.state.Area.{Area}
-use Rattle.clfs_model.specs.declared.state.State.{State}
-use Rattle.clfs_model.specs.Answers.{Outcome, answer, found_with_cursor, moved_on, outcome, read_at}
-use Rattle.clfs_model.specs.Flush.{flushed}
-use Rattle.clfs_model.specs.Live.{live, live_at}
-use Rattle.clfs_model.specs.Reading.{cursor_of, entry_at, record_cursor, with_cursor, with_cursor_at, without_cursor}
-use Rattle.clfs_model.specs.Refusals.{next_refusal, read_refusal, refusal, refused_if}
-use Rattle.clfs_model.specs.State.{change_area}
-use Rattle.clfs_model.specs.Step.{Step, Comes, with_broken}
-use Rattle.clfs_cells.specs.Calls.{Answered, with_read_ended}
-use Rattle.clfs_cells.specs.Plans.{Plan, CarriesOut}
-use Rattle.clfs_cells.specs.Stored.{Memory}
-use Rattle.clfs_cells_laws.specs.Steps.{from_outside}
-use Rattle.clfs_cells_laws.specs.Stores.{IsLiveRecord, IsStoreWith, store_area}
+use Rattle.clfs_model.specs.Reading.{entry_at}
 use Rattle.clfs_cells_laws.proofs.Grown.{live_there}
 use Rattle.clfs_cells_laws.proofs.OwnCalls.{Laws, Went, broke, gave, kept, went}
 use Rattle.clfs_cells_laws.proofs.ReadBack.{found_read, next_read}

@@ -1,32 +1,12 @@
 -- Taking back sets of a transaction, the newest that stands first.
-use Rattle.std.proofs.Common.{◌≡◌, ◌⊎◌, ℕ, zero, suc, ◌+◌, ◌≤◌, Bool, true, false, refl, sym, subst, ap, ◌∙◌, inl, inr, arith, List, [], ◌∷◌, ◌++◌, length, Option, Some, None, append_assoc, length-append}
-use Rattle.std.specs.Prelude.{◌==◌, find, slice_index}
-use Rattle.std.specs.List.{AllByRecursion}
-use Rattle.std.specs.Option.{option_map_or}
-use Rattle.std.proofs.lemmas.Bool.{cases_Bool, eqb-true}
-use Rattle.clfs_lsn.specs.declared.cursor.Cursor.{Cursor}
-use Rattle.clfs_lsn.specs.declared.entry.LogEntry.{LogEntry}
+use Rattle.clfs_cells_laws.proofs.Words.{◌≡◌, ◌⊎◌, ℕ, zero, suc, ◌+◌, ◌≤◌, Bool, true, false, refl, sym, subst, ap, ◌∙◌, inl, inr, arith, List, [], ◌∷◌, ◌++◌, length, Option, Some, None, length-append, ◌==◌, find, slice_index, AllByRecursion, option_map_or, cases_Bool, eqb-true, Cursor, LogEntry, Refusal, Happened, Reply, State, next_lsn, refusal, change_first, Step, Made, Action, Answered, append_call, compensation, stops, undo_from, undo_set, with_read_ended, txn_bytes, txn_record, Plan, never, CarriesOut, on_next, on_placed, Memory, Transaction, holds, is_at, is_numbered, standing, transaction, with_one_undone, with_undone, from_outside, AreStacked, IsInLog, IsOpen, IsStore, IsStoreWith, newest_of, sectors_held, value_before}
+use Rattle.std.proofs.Common.{append_assoc}
 use Rattle.clfs_model.specs.declared.call.Call.TheVariants as calls
-use Rattle.clfs_model.specs.declared.refusal.Refusal.{Refusal}
 use Rattle.clfs_model.specs.declared.refusal.Refusal.TheVariants as refusals
-use Rattle.clfs_model.specs.declared.reply.Happened.{Happened}
-use Rattle.clfs_model.specs.declared.reply.Reply.{Reply}
 use Rattle.clfs_model.specs.declared.reply.Reply.TheVariants as replies
-use Rattle.clfs_model.specs.declared.state.State.{State}
-use Rattle.clfs_model.specs.Put.{next_lsn}
-use Rattle.clfs_model.specs.Refusals.{refusal}
-use Rattle.clfs_model.specs.State.{change_first}
-use Rattle.clfs_model.specs.Step.{Step}
-use Rattle.clfs_cells.specs.declared.begun.Made.{Made}
-use Rattle.clfs_cells.specs.declared.row.Action.{Action}
 use Rattle.clfs_cells.specs.declared.told.TxnRefusal.TheVariants as denials
 use Rattle.clfs_cells.specs.declared.told.TxnReply.TheVariants as told_replies
-use Rattle.clfs_cells.specs.Calls.{Answered, append_call, compensation, stops, undo_from, undo_set, with_read_ended}
-use Rattle.clfs_cells.specs.Layout.{txn_bytes, txn_record}
-use Rattle.clfs_cells.specs.Plans.{Plan, calls as asks, never, CarriesOut, on_next, on_placed}
-use Rattle.clfs_cells.specs.Stored.{Memory, Transaction, holds, is_at, is_numbered, standing, transaction, with_one_undone, with_undone}
-use Rattle.clfs_cells_laws.specs.Steps.{from_outside}
-use Rattle.clfs_cells_laws.specs.Stores.{AreStacked, IsInLog, IsOpen, IsStore, IsStoreWith, newest_of, sectors_held, value_before}
+use Rattle.clfs_cells.specs.Plans.{calls as asks}
 use Rattle.clfs_cells_laws.proofs.Changes.{others_stay}
 use Rattle.clfs_cells_laws.proofs.Grown.{Grows, in_log_on}
 use Rattle.clfs_cells_laws.proofs.Links.{IsNullOrLive, append_passes, newest_live, some_held, some_left}

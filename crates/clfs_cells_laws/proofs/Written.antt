@@ -1,6 +1,5 @@
 -- Facts of tests and options.
-use Rattle.std.proofs.Common.{◌≡◌, Bool, true, false}
-use Rattle.std.specs.Prelude.{MatchBool}
+use Rattle.clfs_cells_laws.proofs.Words.{◌≡◌, Bool, true, false, MatchBool}
 
 pub where_not : (b : Bool) (A B : Type 0) → b ≡ false → MatchBool b A B → B
 where_not true A B e x = absurd (cc e)

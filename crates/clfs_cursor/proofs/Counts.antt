@@ -1,12 +1,7 @@
 -- How many cursors of an area have a number.
-use Rattle.std.proofs.Common.{◌≡◌, ℕ, ◌+◌, ◌<◌, ◌≤◌, Bool, true, false, cond, refl, ap, ◌∙◌, arith, zero, suc, List, [], ◌∷◌, ◌++◌, length, add-one, zero-add, below_more}
-use Rattle.std.specs.Prelude.{not, filter, count_by}
+use Rattle.clfs_cursor.proofs.Words.{◌≡◌, ℕ, ◌+◌, ◌<◌, ◌≤◌, Bool, true, false, cond, refl, ap, ◌∙◌, arith, zero, suc, List, [], ◌∷◌, ◌++◌, length, not, filter, count_by, nat_tests, sum_by-cons, sum_by_push, sum_by-filter_both, AreDifferent, has_number, is_numbered, Numbered}
+use Rattle.std.proofs.Common.{add-one, zero-add, below_more}
 use Rattle.std.specs.List.{list_any}
-use Rattle.std.proofs.lemmas.Bool.Decides.{nat_tests}
-use Rattle.std.proofs.lemmas.List.Sums.{sum_by-cons, sum_by_push}
-use Rattle.std.proofs.lemmas.List.Filters.{sum_by-filter_both}
-use Rattle.clfs_cursor.specs.Keys.{AreDifferent, has_number, is_numbered}
-use Rattle.clfs_cursor.specs.declared.keys.Numbered.{Numbered}
 
 -- the first, and the others
 counted_first : {X : Type 0} (p : X → Bool) (x : X) (xs : List X) → count_by p (x ∷ xs) ≡ cond (p x) 1 0 + count_by p xs

@@ -1,15 +1,6 @@
 -- A cursor that ended: a key of the slab and of its area less.
-use Rattle.std.proofs.Common.{◌≡◌, ◌≢◌, ℕ, ◌+◌, ◌<◌, ◌≤◌, Bool, true, false, not, cond, refl, sym, ap, ◌∙◌, subst, arith, List, [], ◌∷◌, length, map, get_or, Option, Some, None, is_some}
-use Rattle.std.specs.Prelude.{◌==◌, find, filter, sum_by, slice_set}
-use Rattle.std.proofs.lemmas.Bool.Decides.{nat_tests}
-use Rattle.std.proofs.lemmas.List.Sums.{sum_by-cons, sum_by-set}
-use Rattle.slab.specs.Slab.{Slab, get, slab_len, Updates}
-use Rattle.clfs_lsn.specs.declared.cursor.Cursor.{Cursor}
-use Rattle.clfs_cursor.specs.Rows.{AreaCursors, area_at, with_cursors}
-use Rattle.clfs_cursor.specs.Keys.{Keys, AreDifferent, has_number}
-use Rattle.clfs_cursor.specs.Kept.{area_by, has_key, uses_in, uses, AreOwned}
-use Rattle.clfs_cursor.specs.declared.keys.Numbered.{Numbered}
-use Rattle.clfs_cursor.specs.declared.standing.Standing.{Standing}
+use Rattle.clfs_cursor.proofs.Words.{◌≡◌, ◌≢◌, ℕ, ◌+◌, ◌<◌, ◌≤◌, Bool, true, false, cond, refl, sym, ap, ◌∙◌, subst, arith, List, [], ◌∷◌, length, map, get_or, Option, Some, None, is_some, ◌==◌, find, filter, sum_by, slice_set, nat_tests, sum_by-cons, sum_by-set, Slab, get, slab_len, Updates, Cursor, AreaCursors, area_at, with_cursors, Keys, AreDifferent, has_number, area_by, has_key, uses_in, uses, AreOwned, Numbered, Standing}
+use Rattle.std.proofs.Common.{not}
 use Rattle.clfs_cursor.proofs.Found.{sum_without}
 use Rattle.clfs_cursor.proofs.Frames.{same_cursors, one_area, has_own_key}
 use Rattle.clfs_cursor.proofs.Owned.{found_counts, in_row, key_is_used_once}

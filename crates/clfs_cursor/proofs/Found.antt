@@ -1,14 +1,7 @@
 -- The cursor of a number, where no number stands twice.
-use Rattle.std.proofs.Common.{◌≡◌, ℕ, ◌+◌, ◌≤◌, Bool, true, false, not, cond, refl, sym, ap, ◌∙◌, arith, List, [], ◌∷◌, map, Some, None}
-use Rattle.std.specs.Prelude.{◌==◌, ◌&&◌, find, filter, count_by, sum_by}
-use Rattle.std.proofs.lemmas.List.Filters.{sum_by-filter_both}
-use Rattle.slab.specs.Slab.{Slab}
-use Rattle.clfs_lsn.specs.declared.cursor.Cursor.{Cursor}
-use Rattle.clfs_cursor.specs.Rows.{HaveDifferentNumbers}
-use Rattle.clfs_cursor.specs.Keys.{AreDifferent, has_number}
-use Rattle.clfs_cursor.specs.Kept.{cursor_by}
-use Rattle.clfs_cursor.specs.declared.keys.Numbered.{Numbered}
-use Rattle.clfs_cursor.specs.declared.standing.Standing.{Standing}
+use Rattle.clfs_cursor.proofs.Words.{◌≡◌, ℕ, ◌+◌, ◌≤◌, Bool, true, false, cond, refl, sym, ap, ◌∙◌, arith, List, [], ◌∷◌, map, Some, None, ◌==◌, find, filter, count_by, sum_by, sum_by-filter_both, Slab, Cursor, HaveDifferentNumbers, AreDifferent, has_number, cursor_by, Numbered, Standing}
+use Rattle.std.proofs.Common.{not}
+use Rattle.std.specs.Prelude.{◌&&◌}
 use Rattle.clfs_cursor.proofs.Counts.{counted_more, counted_same}
 
 -- numbers of cursors are those of their keys

@@ -1,15 +1,5 @@
 -- What a change of the slab leaves of the areas.
-use Rattle.std.proofs.Common.{◌≡◌, ℕ, ◌+◌, ◌<◌, ◌≤◌, true, refl, ap, ap₂, arith, zero, suc, List, [], ◌∷◌, length, map, get_or}
-use Rattle.std.specs.Prelude.{count_by, slice_set}
-use Rattle.std.proofs.lemmas.Bool.Decides.{nat_tests}
-use Rattle.std.proofs.lemmas.List.Sums.{sum_by-cons, get_or-le-sum_by}
-use Rattle.slab.specs.Slab.{Slab, get}
-use Rattle.clfs_lsn.specs.declared.cursor.Cursor.{Cursor}
-use Rattle.clfs_cursor.specs.Rows.{AreaCursors}
-use Rattle.clfs_cursor.specs.Keys.{Keys}
-use Rattle.clfs_cursor.specs.Kept.{cursor_by, area_by, has_key, uses_in, uses}
-use Rattle.clfs_cursor.specs.declared.keys.Numbered.{Numbered}
-use Rattle.clfs_cursor.specs.declared.standing.Standing.{Standing}
+use Rattle.clfs_cursor.proofs.Words.{◌≡◌, ℕ, ◌+◌, ◌<◌, ◌≤◌, true, refl, ap, ap₂, arith, zero, suc, List, [], ◌∷◌, length, map, get_or, count_by, slice_set, nat_tests, sum_by-cons, get_or-le-sum_by, Slab, get, Cursor, AreaCursors, Keys, cursor_by, area_by, has_key, uses_in, uses, Numbered, Standing}
 use Rattle.clfs_cursor.proofs.Counts.{counted_more, counted_le}
 
 -- where each of its keys has what it had, the cursor is as it was

@@ -1,12 +1,6 @@
 -- Cursors that are taken out of the slab, key by key.
-use Rattle.std.proofs.Common.{◌≡◌, ◌≢◌, ℕ, ◌+◌, ◌<◌, ◌≤◌, Bool, true, false, cond, refl, ap, ◌∙◌, subst, arith, List, length, take, get_or, None, is_some}
-use Rattle.std.specs.Prelude.{count_by}
-use Rattle.std.proofs.lemmas.Bool.Decides.{nat_tests}
-use Rattle.std.proofs.lemmas.List.Sums.{sum_by_more, sum_by_more_le, get_or-le-sum_by}
-use Rattle.slab.specs.Slab.{Slab, get, Updates}
-use Rattle.clfs_cursor.specs.Kept.{has_key}
-use Rattle.clfs_cursor.specs.declared.keys.Numbered.{Numbered}
-use Rattle.clfs_cursor.specs.declared.standing.Standing.{Standing}
+use Rattle.clfs_cursor.proofs.Words.{◌≡◌, ◌≢◌, ℕ, ◌+◌, ◌<◌, ◌≤◌, Bool, true, false, cond, refl, ap, ◌∙◌, subst, arith, List, length, take, get_or, None, is_some, count_by, nat_tests, get_or-le-sum_by, Slab, get, Updates, has_key, Numbered, Standing}
+use Rattle.std.proofs.lemmas.List.Sums.{sum_by_more, sum_by_more_le}
 use Rattle.clfs_cursor.proofs.Frames.{has_own_key}
 
 -- what counts once at most and stands somewhere is there

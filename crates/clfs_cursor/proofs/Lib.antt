@@ -11,3 +11,4 @@ pub mod Ended
 pub mod Moved
 pub mod Opened
 pub mod Freed
+mod Words

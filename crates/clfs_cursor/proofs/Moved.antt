@@ -1,16 +1,6 @@
 -- A cursor that moved to another record: what the slab has at its key.
-use Rattle.std.proofs.Common.{◌≡◌, ◌≢◌, ℕ, ◌<◌, ◌≤◌, Bool, true, false, cond, refl, sym, ap, ap₂, ◌∙◌, subst, arith, List, [], ◌∷◌, length, map, get_or, Option, Some, None, is_some}
-use Rattle.std.specs.Prelude.{◌==◌, if◌then◌else◌, find, count_by, slice_set}
-use Rattle.std.specs.Option.{option_map}
-use Rattle.std.proofs.lemmas.Bool.Decides.{nat_tests}
-use Rattle.std.proofs.lemmas.List.{set-get_or}
-use Rattle.slab.specs.Slab.{Slab, get, slab_len}
-use Rattle.clfs_lsn.specs.declared.cursor.Cursor.{Cursor}
-use Rattle.clfs_cursor.specs.Rows.{AreaCursors, area_at, with_cursors}
-use Rattle.clfs_cursor.specs.Keys.{Keys, AreDifferent, has_number}
-use Rattle.clfs_cursor.specs.Kept.{cursor_by, area_by, has_key, uses_in, uses, kind_of, last_of, AreOwned}
-use Rattle.clfs_cursor.specs.declared.keys.Numbered.{Numbered}
-use Rattle.clfs_cursor.specs.declared.standing.Standing.{Standing}
+use Rattle.clfs_cursor.proofs.Words.{◌≡◌, ◌≢◌, ℕ, ◌<◌, ◌≤◌, Bool, true, false, cond, refl, sym, ap, ap₂, ◌∙◌, subst, arith, List, [], ◌∷◌, length, map, get_or, Option, Some, None, is_some, ◌==◌, find, count_by, slice_set, option_map, nat_tests, set-get_or, Slab, get, slab_len, Cursor, AreaCursors, area_at, with_cursors, Keys, AreDifferent, has_number, cursor_by, area_by, has_key, uses_in, uses, kind_of, last_of, AreOwned, Numbered, Standing}
+use Rattle.std.specs.Prelude.{if◌then◌else◌}
 use Rattle.clfs_cursor.proofs.Counts.{counted_more, counted_le}
 use Rattle.clfs_cursor.proofs.Found.{none_found}
 use Rattle.clfs_cursor.proofs.Frames.{same_cursors, same_cursor, one_area, has_own_key}

@@ -1,9 +1,7 @@
 -- Cursors of one kind, where no number stands twice.
-use Rattle.std.proofs.Common.{◌≡◌, ℕ, ◌∙◌, Bool, List, not, cond, ap, Some, None}
-use Rattle.std.specs.Prelude.{◌==◌}
-use Rattle.clfs_lsn.specs.Cursors.{is_over_restarts, cursor_in, record_cursor_in, restart_cursor_in}
-use Rattle.clfs_lsn.specs.declared.cursor.Cursor.{Cursor}
-use Rattle.clfs_cursor.specs.Rows.{HaveDifferentNumbers}
+use Rattle.clfs_cursor.proofs.Words.{◌≡◌, ℕ, ◌∙◌, Bool, List, cond, ap, Some, None, ◌==◌, cursor_in, Cursor, HaveDifferentNumbers}
+use Rattle.std.proofs.Common.{not}
+use Rattle.clfs_lsn.specs.Cursors.{is_over_restarts, record_cursor_in, restart_cursor_in}
 use Rattle.clfs_cursor.proofs.Found.{found_with, none_found_with}
 
 module _ (cursors : List Cursor) (number : ℕ) where

@@ -1,17 +1,8 @@
 -- The table of cursors, and its parts.
-use Rattle.std.proofs.Common.{◌≡◌, ℕ, ◌<◌, ◌∙◌, ap, sym, subst, true, length, map, get_or, List, Option, Some, None, is_some}
-use Rattle.std.specs.Prelude.{◌==◌, find}
-use Rattle.std.specs.Option.{option_map}
-use Rattle.std.proofs.lemmas.List.{length-map, set-get_or, get_or_default}
-use Rattle.slab.specs.Slab.{get}
-use Rattle.clfs_lsn.specs.declared.cursor.Cursor.{Cursor}
-use Rattle.clfs_lsn.specs.Cursors.{cursor_in, cursors_without, cursors_moved}
-use Rattle.clfs_cursor.specs.Rows.{AreaCursors, Table, HaveDifferentNumbers, no_cursors, area_at, with_cursors}
-use Rattle.clfs_cursor.specs.Keys.{Keys, AreDifferent, has_number}
-use Rattle.clfs_cursor.specs.Kept.{area_by, cursor_by, AreOwned}
+use Rattle.clfs_cursor.proofs.Words.{◌≡◌, ℕ, ◌<◌, ◌∙◌, ap, sym, subst, true, length, map, get_or, List, Option, Some, None, is_some, ◌==◌, find, option_map, length-map, set-get_or, get, Cursor, cursor_in, cursors_without, cursors_moved, AreaCursors, Table, HaveDifferentNumbers, no_cursors, area_at, with_cursors, Keys, AreDifferent, has_number, area_by, cursor_by, AreOwned, Numbered}
+use Rattle.std.proofs.lemmas.List.{get_or_default}
 use Rattle.clfs_cursor.specs.Table.{table_of}
 use Rattle.clfs_cursor.specs.declared.cursors.Cursors.TheInside.{Inside}
-use Rattle.clfs_cursor.specs.declared.keys.Numbered.{Numbered}
 use Rattle.clfs_cursor.proofs.Found.{different_seen, none_goes}
 use Rattle.clfs_cursor.proofs.Moved.{none_moves}
 use Rattle.clfs_cursor.proofs.Owned.{found_counts, key_is_there}

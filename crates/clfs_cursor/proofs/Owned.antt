@@ -1,13 +1,5 @@
 -- A key that stands in an area is in the slab, and stands nowhere else.
-use Rattle.std.proofs.Common.{◌≡◌, ℕ, ◌≤◌, ◌<◌, Bool, true, false, cond, refl, sym, ap, ◌∙◌, subst, arith, List, [], ◌∷◌, length, get_or, Option, Some, None, is_some}
-use Rattle.std.specs.Prelude.{find, count_by}
-use Rattle.std.proofs.lemmas.Bool.Decides.{nat_tests}
-use Rattle.std.proofs.lemmas.List.Sums.{get_or-le-sum_by}
-use Rattle.slab.specs.Slab.{Slab, get}
-use Rattle.clfs_cursor.specs.Keys.{Keys, has_number}
-use Rattle.clfs_cursor.specs.Kept.{has_key, uses_in, uses, AreOwned}
-use Rattle.clfs_cursor.specs.declared.keys.Numbered.{Numbered}
-use Rattle.clfs_cursor.specs.declared.standing.Standing.{Standing}
+use Rattle.clfs_cursor.proofs.Words.{◌≡◌, ℕ, ◌≤◌, ◌<◌, Bool, true, false, cond, refl, sym, ap, ◌∙◌, subst, arith, List, [], ◌∷◌, length, get_or, Option, Some, None, is_some, find, count_by, nat_tests, get_or-le-sum_by, Slab, get, Keys, has_number, has_key, uses_in, uses, AreOwned, Numbered, Standing}
 use Rattle.clfs_cursor.proofs.Counts.{counted_more, counted_le}
 use Rattle.clfs_cursor.proofs.Frames.{has_own_key}
 

@@ -1,13 +1,8 @@
 -- An area that went with its cursors.
-use Rattle.std.proofs.Common.{◌≡◌, ℕ, ◌+◌, ◌<◌, ◌≤◌, Bool, true, false, cond, refl, sym, ap, ◌∙◌, arith, zero, suc, List, [], ◌∷◌, length, map, get_or, Option, None, is_some, ◌⊎◌, inl, inr}
-use Rattle.std.specs.Prelude.{count_by}
-use Rattle.std.specs.List.{remove}
+use Rattle.clfs_cursor.proofs.Words.{◌≡◌, ℕ, ◌+◌, ◌<◌, ◌≤◌, Bool, true, false, cond, refl, sym, ap, ◌∙◌, arith, zero, suc, List, [], ◌∷◌, length, map, get_or, Option, None, is_some, count_by, remove, Slab, get, slab_len, Keys, area_by, has_key, uses_in, uses, AreOwned, Standing}
+use Rattle.std.proofs.Common.{◌⊎◌, inl, inr}
 use Rattle.std.proofs.lemmas.Bool.{cases_lt}
 use Rattle.std.proofs.lemmas.List.Sums.{sum_by-remove}
-use Rattle.slab.specs.Slab.{Slab, get, slab_len}
-use Rattle.clfs_cursor.specs.Keys.{Keys}
-use Rattle.clfs_cursor.specs.Kept.{area_by, has_key, uses_in, uses, AreOwned}
-use Rattle.clfs_cursor.specs.declared.standing.Standing.{Standing}
 use Rattle.clfs_cursor.proofs.Frames.{same_areas}
 use Rattle.clfs_cursor.proofs.Owned.{in_row, key_is_used_once}
 

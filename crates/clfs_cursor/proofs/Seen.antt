@@ -1,17 +1,8 @@
 -- What contracts see of the keys of an area.
-use Rattle.std.proofs.Common.{◌≡◌, ℕ, ◌+◌, Bool, true, false, not, refl, ap, ◌∙◌, List, [], ◌∷◌, length, map, Option}
-use Rattle.std.specs.Prelude.{◌==◌, ◌||◌, find, filter, unwrap_or}
-use Rattle.std.specs.List.{range_with_len}
-use Rattle.std.specs.Option.{option_map}
-use Rattle.std.proofs.lemmas.List.{length-map}
-use Rattle.slab.specs.Slab.{Slab}
-use Rattle.clfs_lsn.specs.Numbers.{least_unused}
-use Rattle.clfs_lsn.specs.declared.cursor.Cursor.{Cursor}
-use Rattle.clfs_lsn.specs.Cursors.{is_cursor_number, unused_cursor}
-use Rattle.clfs_cursor.specs.Keys.{has_number, is_numbered}
-use Rattle.clfs_cursor.specs.Kept.{cursor_by}
-use Rattle.clfs_cursor.specs.declared.keys.Numbered.{Numbered}
-use Rattle.clfs_cursor.specs.declared.standing.Standing.{Standing}
+use Rattle.clfs_cursor.proofs.Words.{◌≡◌, ℕ, ◌+◌, Bool, true, false, refl, ap, ◌∙◌, List, [], ◌∷◌, length, map, Option, ◌==◌, find, filter, unwrap_or, range_with_len, option_map, length-map, Slab, least_unused, Cursor, unused_cursor, has_number, is_numbered, cursor_by, Numbered, Standing}
+use Rattle.std.proofs.Common.{not}
+use Rattle.std.specs.Prelude.{◌||◌}
+use Rattle.clfs_lsn.specs.Cursors.{is_cursor_number}
 
 -- a number is a cursor's where it is a key's
 numbers_seen : (slots : Slab Standing) (keys : List Numbered) (number : ℕ) → is_cursor_number (map (cursor_by slots) keys) number ≡ is_numbered keys number

@@ -1,25 +1,12 @@
 -- What is told of a block, against what reading its records gives.
-use Rattle.std.proofs.Common.{◌≡◌, ℕ, zero, suc, ◌+◌, ◌*◌, Bool, true, false, cond, not, eqb, ltb, List, [], ◌∷◌, length, get_or, drop, Option, Some, None, Result, Ok, Err, refl, sym, ◌∙◌, ap, arith}
+use Rattle.clfs_dump.proofs.Words.{◌≡◌, ℕ, zero, suc, ◌+◌, ◌*◌, cond, List, [], ◌∷◌, length, get_or, drop, Option, Some, None, Result, Ok, Err, refl, sym, ◌∙◌, ap, arith, unless_wrong, lsn_number, record_at, LogEntry, Shape, Row, block_sectors, payload_of, frame_at, sectors_at, rest_at, AreReadAsWritten, ◌>>=◌, told_as, records_from, block_records, BlockHead, BlockRefusal, damage_at, Told, met_with, records_met, block_end, framed_told, block_told, Selection}
+use Rattle.std.proofs.Common.{Bool, true, false, not, eqb, ltb}
 use Rattle.std.proofs.lemmas.List.{get_or-drop}
 use Rattle.std.proofs.lemmas.Bool.{eq-eqb}
-use Rattle.clfs_lsn.specs.Checks.{unless_wrong}
-use Rattle.clfs_lsn.specs.Lsn.{lsn_number}
-use Rattle.clfs_lsn.specs.Spelling.{record_at}
-use Rattle.clfs_lsn.specs.declared.entry.LogEntry.{LogEntry}
-use Rattle.clfs_lsn.specs.declared.shape.Shape.{Shape}
-use Rattle.clfs_base.specs.declared.image.Row.{Row}
-use Rattle.clfs_container.specs.OpenBlocks.{block_sectors}
-use Rattle.clfs_block.specs.Frame.{place_of, payload_of}
-use Rattle.clfs_block.specs.Checks.{head_of, frame_at, sectors_at, rest_at, head_fault, wrong_sector, address_place, other_byte, payload_place}
-use Rattle.clfs_block.specs.Judging.{AreReadAsWritten}
-use Rattle.clfs_block.specs.Records.{◌>>=◌, told_as, records_from, block_records}
+use Rattle.clfs_block.specs.Frame.{place_of}
+use Rattle.clfs_block.specs.Checks.{head_of, head_fault, wrong_sector, address_place, other_byte, payload_place}
 use Rattle.clfs_block.specs.RecordLaws.{block_framed, block_refused}
-use Rattle.clfs_block.specs.declared.head.BlockHead.{BlockHead}
-use Rattle.clfs_block.specs.declared.head.BlockRefusal.{BlockRefusal}
 use Rattle.clfs_block.specs.declared.head.BlockRefusal.TheVariants as blocks
-use Rattle.clfs_recover.specs.Walk.{damage_at}
-use Rattle.clfs_dump.specs.Telling.{Told, met_with, records_met, block_end, framed_told, block_told}
-use Rattle.clfs_dump.specs.declared.selection.Selection.{Selection}
 use Rattle.clfs_dump.proofs.BlockTold.{told_refused}
 
 -- ---- answers that come of earlier ones

@@ -1,25 +1,9 @@
 -- What is told of a block, by the answers of its checks, and that it is told of a front of what begins with it.
-use Rattle.std.proofs.Common.{◌≡◌, inr, ⊎_elim, ℕ, ◌+◌, ◌*◌, ◌/◌, ◌-◌, ◌%◌, ◌^◌, ◌<◌, ◌≤◌, List, ◌++◌, length, take, Option, Some, None, Result, Ok, Err, refl, sym, ◌∙◌, ap, arith, append_assoc}
-use Rattle.std.specs.List.{flat_map}
-use Rattle.clfs_lsn.specs.Lsn.{lsn_number}
-use Rattle.clfs_lsn.specs.Size.{IsShape}
-use Rattle.clfs_lsn.specs.declared.entry.LogEntry.{LogEntry}
-use Rattle.clfs_lsn.specs.declared.shape.Shape.{Shape}
-use Rattle.clfs_base.specs.declared.image.Row.{Row}
-use Rattle.clfs_block.specs.Frame.{payload_of}
-use Rattle.clfs_block.specs.Checks.{frame_at, rest_at, left_from, IsEnough}
-use Rattle.clfs_block.specs.Judging.{AreJudgedAlone, AreReadAsWritten}
-use Rattle.clfs_block.specs.Records.{block_records, records_from}
-use Rattle.clfs_block.specs.RecordLaws.{records_refused, rest_refused, block_read, block_same}
-use Rattle.clfs_block.specs.declared.head.BlockHead.{BlockHead}
-use Rattle.clfs_block.specs.declared.head.BlockRefusal.{BlockRefusal}
+use Rattle.clfs_dump.proofs.Words.{◌≡◌, inr, ⊎_elim, ℕ, ◌+◌, ◌*◌, ◌/◌, ◌-◌, ◌%◌, ◌^◌, ◌<◌, ◌≤◌, List, ◌++◌, length, take, Option, Some, None, Result, Ok, Err, refl, sym, ◌∙◌, ap, arith, append_assoc, flat_map, lsn_number, IsShape, LogEntry, Shape, Row, payload_of, frame_at, rest_at, AreJudgedAlone, AreReadAsWritten, block_records, records_from, block_same, BlockHead, BlockRefusal, IsFrontOf, LoadRefusal, Damaged, first_wrong, Told, only, records_met, record_text, block_end, framed_told, block_told, Selection}
+use Rattle.clfs_block.specs.Checks.{left_from, IsEnough}
+use Rattle.clfs_block.specs.RecordLaws.{records_refused, rest_refused, block_read}
 use Rattle.clfs_block.specs.declared.head.BlockRefusal.TheVariants as blocks
-use Rattle.clfs_recover.specs.Fronts.{IsFrontOf}
-use Rattle.clfs_recover.specs.declared.refusal.LoadRefusal.{LoadRefusal}
-use Rattle.clfs_recover.specs.declared.refusal.LoadRefusal.TheVariants.{Damaged}
-use Rattle.clfs_dump.specs.Reading.{first_wrong}
-use Rattle.clfs_dump.specs.Telling.{Told, only, records_met, record_text, block_text, block_end, framed_told, block_told}
-use Rattle.clfs_dump.specs.declared.selection.Selection.{Selection}
+use Rattle.clfs_dump.specs.Telling.{block_text}
 
 -- what was read where no byte is wrong, and where one is
 pub none_wrong : {T : Type 0} (r : Result T ℕ) → first_wrong r ≡ None → (value : T) × (r ≡ Ok value)

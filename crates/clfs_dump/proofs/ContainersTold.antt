@@ -1,12 +1,6 @@
 -- What is told of containers and of logs, over files that are the same.
-use Rattle.std.proofs.Common.{ℕ, List, Option, Result, subst}
-use Rattle.clfs_lsn.specs.declared.shape.Shape.{Shape}
-use Rattle.clfs_base.specs.declared.image.Row.{Row}
-use Rattle.clfs_disk.specs.Files.{Files, Unchanged}
-use Rattle.clfs_dump.specs.Lines.{container_line}
-use Rattle.clfs_dump.specs.Telling.{behind_lines, blocks_told, container_told}
-use Rattle.clfs_dump.specs.declared.refusal.DumpRefusal.{DumpRefusal}
-use Rattle.clfs_dump.specs.declared.selection.Selection.{Selection}
+use Rattle.clfs_dump.proofs.Words.{ℕ, List, Option, Result, subst, Shape, Row, Files, Unchanged, container_line, blocks_told, container_told, DumpRefusal, Selection}
+use Rattle.clfs_dump.specs.Telling.{behind_lines}
 use Rattle.clfs_dump.proofs.Walks.{PrintsTold}
 
 -- a container that was printed of files is printed of those that hold the same

@@ -1,19 +1,8 @@
 -- What is printed where there is no newest base copy.
-use Rattle.std.proofs.Common.{◌≡◌, ℕ, List, Option, Result, Err, refl, sym, ap, ◌∙◌, subst}
-use Rattle.clfs_disk.specs.Files.{Files}
-use Rattle.clfs_base.specs.Slots.{newest_of}
+use Rattle.clfs_dump.proofs.Words.{◌≡◌, ℕ, List, Option, Result, Err, refl, sym, ap, ◌∙◌, subst, Files, newest_of, BaseImage, NewestRefusal, without_copy, slot_offset, LoadRefusal, Told, copy_told, files_told, as_dump, DumpRefusal, Selection}
 use Rattle.clfs_base.specs.Decoding.{GivesNewest}
-use Rattle.clfs_base.specs.declared.image.BaseImage.{BaseImage}
-use Rattle.clfs_base.specs.declared.refusal.NewestRefusal.{NewestRefusal}
 use Rattle.clfs_base.specs.declared.refusal.NewestRefusal.TheVariants as newest
-use Rattle.clfs_recover.specs.Files.{without_copy}
-use Rattle.clfs_recover.specs.Walk.{slot_offset}
-use Rattle.clfs_recover.specs.declared.refusal.LoadRefusal.{LoadRefusal}
 use Rattle.clfs_recover.specs.declared.refusal.LoadRefusal.TheVariants as logs
-use Rattle.clfs_dump.specs.Telling.{Told, copy_told, files_told}
-use Rattle.clfs_dump.specs.Printing.{as_dump}
-use Rattle.clfs_dump.specs.declared.refusal.DumpRefusal.{DumpRefusal}
-use Rattle.clfs_dump.specs.declared.selection.Selection.{Selection}
 use Rattle.clfs_dump.proofs.Walks.{PrintsTold}
 use Rattle.clfs_dump.proofs.Written.{appends_none, front_of_none}
 

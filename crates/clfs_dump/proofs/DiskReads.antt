@@ -1,12 +1,10 @@
 -- What reads one after the other leave of a disk.
-use Rattle.std.proofs.Common.{IsTrue, Result, Ok, refl, sym, ◌∙◌, ◌≡◌, subst, arith}
+use Rattle.clfs_dump.proofs.Words.{Result, Ok, refl, sym, ◌∙◌, ◌≡◌, subst, arith, Unchanged, TellsContents, DumpRefusal, DiskFault}
+use Rattle.std.proofs.Common.{IsTrue}
 use Rattle.std.specs.Prelude.{IsErrOf}
 use Rattle.clfs_disk.specs.Joining.{CallsJoin}
-use Rattle.clfs_disk.specs.Files.{Unchanged}
-use Rattle.clfs_disk.specs.State.{DiskState, Nature, TellsContents, IsSteady, Passes, Rises}
+use Rattle.clfs_disk.specs.State.{DiskState, Nature, IsSteady, Passes, Rises}
 use Rattle.clfs_dump.specs.Printing.{OnlyReads}
-use Rattle.clfs_dump.specs.declared.refusal.DumpRefusal.{DumpRefusal}
-use Rattle.clfs_dump.specs.declared.refusal.DumpRefusal.TheVariants.{DiskFault}
 
 -- a disk that tells its contents tells them still
 pub tells_still : (old new : DiskState) → Passes Unchanged old new → TellsContents old → TellsContents new

@@ -1,8 +1,7 @@
 -- What a piece that was read ahead has of its file.
-use Rattle.std.proofs.Common.{◌≡◌, inl, inr, ⊎_elim, ℕ, ◌+◌, ◌-◌, ◌<◌, ◌≤◌, List, length, take, drop, sym, ◌∙◌, ap, subst, arith, length-drop}
-use Rattle.std.proofs.lemmas.List.{drop-take, drop-drop, drop_all, take_all, length-take}
-use Rattle.std.proofs.lemmas.Bool.{cases_lt}
-use Rattle.clfs_recover.specs.Fronts.{IsFrontOf, Piece, Shows, Reaches}
+use Rattle.clfs_dump.proofs.Words.{◌≡◌, inl, inr, ⊎_elim, ℕ, ◌+◌, ◌-◌, ◌<◌, ◌≤◌, List, length, take, drop, sym, ◌∙◌, ap, subst, arith, length-drop, drop-drop, drop_all, take_all, cases_lt, IsFrontOf, Shows}
+use Rattle.std.proofs.lemmas.List.{drop-take, length-take}
+use Rattle.clfs_recover.specs.Fronts.{Piece, Reaches}
 
 -- the bytes of a piece from a place on are a front of those of its file
 pub shown_front : (file : List ℕ) (piece : Piece) (at least : ℕ) → Shows file piece → Reaches at least piece

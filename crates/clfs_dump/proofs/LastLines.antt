@@ -1,12 +1,6 @@
 -- A text, and after it the last line.
-use Rattle.std.proofs.Common.{◌≡◌, ℕ, List, ◌++◌, Option, Result, Ok, Err, sym, ap, ◌∙◌, subst}
-use Rattle.std.proofs.lemmas.List.{append-nil}
-use Rattle.std.specs.Io.KnownBytes.{Appends}
-use Rattle.clfs_recover.specs.declared.refusal.LoadRefusal.{LoadRefusal}
-use Rattle.clfs_dump.specs.Telling.{last_line}
-use Rattle.clfs_dump.specs.Printing.{Prints}
-use Rattle.clfs_dump.specs.declared.refusal.DumpRefusal.{DumpRefusal}
-use Rattle.clfs_dump.specs.declared.refusal.DumpRefusal.TheVariants.{NoBase, Damaged, DiskFault, NoMemory, SinkFault}
+use Rattle.clfs_dump.proofs.Words.{◌≡◌, ℕ, List, ◌++◌, Option, Result, Ok, Err, sym, ap, ◌∙◌, subst, append-nil, Appends, LoadRefusal, last_line, Prints, DumpRefusal, NoBase, DiskFault, NoMemory, SinkFault}
+use Rattle.clfs_dump.specs.declared.refusal.DumpRefusal.TheVariants.{Damaged}
 use Rattle.clfs_dump.proofs.Written.{appends_more, front_behind, front_longer}
 
 -- refusals of which no line is told here

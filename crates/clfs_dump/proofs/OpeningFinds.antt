@@ -1,34 +1,13 @@
 -- What is told of containers and of logs, against what opening finds there.
-use Rattle.std.proofs.Common.{◌≡◌, inl, inr, ⊎_elim, ℕ, zero, suc, ◌+◌, ◌-◌, ◌*◌, ◌/◌, ◌^◌, ◌<◌, ◌≤◌, cond, List, [], ◌∷◌, ◌++◌, length, drop, Option, Some, None, Result, Ok, Err, refl, sym, ◌∙◌, ap, subst, arith}
-use Rattle.std.proofs.lemmas.List.{append-nil, drop-drop, length-take-le}
-use Rattle.std.proofs.lemmas.Bool.{cases_lt, lt-leb, le-leb}
-use Rattle.clfs_lsn.specs.Checks.{unless_wrong}
-use Rattle.clfs_lsn.specs.Lsn.{lsn_number}
-use Rattle.clfs_lsn.specs.Place.{frontier}
-use Rattle.clfs_lsn.specs.Size.{IsShape}
-use Rattle.clfs_lsn.specs.declared.entry.LogEntry.{LogEntry}
-use Rattle.clfs_lsn.specs.declared.shape.Shape.{Shape}
-use Rattle.clfs_disk.specs.Files.{Files}
+use Rattle.clfs_dump.proofs.Words.{◌≡◌, inl, inr, ⊎_elim, ℕ, zero, suc, ◌+◌, ◌-◌, ◌*◌, ◌/◌, ◌^◌, ◌<◌, ◌≤◌, cond, List, [], ◌∷◌, ◌++◌, length, drop, Option, Some, None, Result, Ok, Err, refl, sym, ◌∙◌, ap, subst, arith, append-nil, drop-drop, cases_lt, lt-leb, le-leb, unless_wrong, lsn_number, frontier, IsShape, LogEntry, Shape, Files, newest_of, BaseImage, Row, NewestRefusal, block_sectors, frame_at, AreJudgedAlone, AreReadAsWritten, ◌>>=◌, told_as, block_records, block_same, BlockHead, BlockRefusal, without_copy, damage_at, shape_of, slot_offset, LoadRefusal, Damaged, Told, only, followed_by, then_told, block_told, behind_block, blocks_told, container_told, listed_told, place_at, log_end, image_told, copy_told, files_told, Selection}
+use Rattle.std.proofs.lemmas.List.{length-take-le}
 use Rattle.clfs_base.specs.Checks.{image_at}
-use Rattle.clfs_base.specs.Slots.{slot_of, used_slot, copy_in, copy_of, newest_of}
-use Rattle.clfs_base.specs.declared.image.BaseImage.{BaseImage}
-use Rattle.clfs_base.specs.declared.image.Row.{Row}
-use Rattle.clfs_base.specs.declared.refusal.NewestRefusal.{NewestRefusal}
-use Rattle.clfs_container.specs.OpenBlocks.{block_sectors, Opens, Ends, total}
-use Rattle.clfs_block.specs.Checks.{frame_at}
-use Rattle.clfs_block.specs.Judging.{AreJudgedAlone, AreReadAsWritten}
-use Rattle.clfs_block.specs.Records.{◌>>=◌, told_as, block_records}
-use Rattle.clfs_block.specs.RecordLaws.{block_same}
-use Rattle.clfs_block.specs.declared.head.BlockHead.{BlockHead}
-use Rattle.clfs_block.specs.declared.head.BlockRefusal.{BlockRefusal}
+use Rattle.clfs_base.specs.Slots.{slot_of, used_slot, copy_in, copy_of}
+use Rattle.clfs_container.specs.OpenBlocks.{Opens, Ends, total}
 use Rattle.clfs_block.specs.declared.head.BlockRefusal.TheVariants as blocks
-use Rattle.clfs_recover.specs.Files.{AreListed, FindsBehind, Finds, without_copy}
-use Rattle.clfs_recover.specs.Walk.{Container, damage_at, end_at, blocks_end, blocks_records, container_records, listed_records, last_end, shape_of, place_behind, image_fault, slot_offset, parts_with, walked}
+use Rattle.clfs_recover.specs.Files.{AreListed, FindsBehind, Finds}
+use Rattle.clfs_recover.specs.Walk.{Container, end_at, blocks_end, blocks_records, container_records, listed_records, last_end, place_behind, image_fault, parts_with, walked}
 use Rattle.clfs_recover.specs.declared.parts.Parts.{Parts}
-use Rattle.clfs_recover.specs.declared.refusal.LoadRefusal.{LoadRefusal}
-use Rattle.clfs_recover.specs.declared.refusal.LoadRefusal.TheVariants.{Damaged}
-use Rattle.clfs_dump.specs.Telling.{Told, only, followed_by, then_told, block_told, behind_block, blocks_told, container_told, listed_told, place_at, log_end, image_told, copy_told, files_told}
-use Rattle.clfs_dump.specs.declared.selection.Selection.{Selection}
 use Rattle.clfs_dump.proofs.BlockMatches.{sectors_said, block_matches}
 use Rattle.clfs_dump.proofs.BlockTold.{told_refused, block_ends}
 use Rattle.clfs_dump.proofs.Walks.{ended, begun}

@@ -1,13 +1,7 @@
 -- Parts of a log that are printed, one after the other.
-use Rattle.std.proofs.Common.{◌≡◌, ℕ, List, [], ◌++◌, Option, Result, Ok, Err, refl, ap, subst}
-use Rattle.std.specs.Io.KnownBytes.{Appends}
-use Rattle.clfs_lsn.specs.declared.entry.LogEntry.{LogEntry}
-use Rattle.clfs_recover.specs.declared.refusal.LoadRefusal.{LoadRefusal}
+use Rattle.clfs_dump.proofs.Words.{◌≡◌, ℕ, List, [], ◌++◌, Option, Result, Ok, Err, refl, ap, subst, Appends, LogEntry, LoadRefusal, Told, followed_by, then_told, AppendsFront, Prints, as_dump, DumpRefusal, NoBase, DiskFault, NoMemory, SinkFault}
 use Rattle.clfs_recover.specs.declared.refusal.LoadRefusal.TheVariants as logs
-use Rattle.clfs_dump.specs.Telling.{Told, followed_by, then_told}
-use Rattle.clfs_dump.specs.Printing.{AppendsFront, Prints, as_dump}
-use Rattle.clfs_dump.specs.declared.refusal.DumpRefusal.{DumpRefusal}
-use Rattle.clfs_dump.specs.declared.refusal.DumpRefusal.TheVariants.{NoBase, Damaged, DiskFault, NoMemory, SinkFault}
+use Rattle.clfs_dump.specs.declared.refusal.DumpRefusal.TheVariants.{Damaged}
 use Rattle.clfs_dump.proofs.Written.{appends_more, appends_none, front_of_all, front_behind, front_longer}
 
 -- what was found, with all of its text

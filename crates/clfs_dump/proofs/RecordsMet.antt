@@ -1,10 +1,5 @@
 -- The records of a block that are met up to the first wrong one, one after the other, and their text.
-use Rattle.std.proofs.Common.{◌≡◌, ℕ, suc, ◌+◌, ◌-◌, ◌<◌, ◌≤◌, List, [], ◌∷◌, ◌++◌, drop, Result, Ok, Err, sym, ◌∙◌, ap, arith, append_assoc}
-use Rattle.std.proofs.lemmas.List.{append-nil}
-use Rattle.std.specs.List.{flat_map}
-use Rattle.clfs_lsn.specs.Spelling.{record_at}
-use Rattle.clfs_lsn.specs.declared.entry.LogEntry.{LogEntry}
-use Rattle.clfs_dump.specs.Telling.{met_with, records_met}
+use Rattle.clfs_dump.proofs.Words.{◌≡◌, ℕ, suc, ◌+◌, ◌-◌, ◌<◌, ◌≤◌, List, [], ◌∷◌, ◌++◌, drop, Result, Ok, Err, sym, ◌∙◌, ap, arith, append_assoc, append-nil, flat_map, record_at, LogEntry, met_with, records_met}
 
 module _ (streams : ℕ) (payload : List ℕ) (count start : ℕ) where
   -- those that are met from a position of the block on, and from a byte of its payload

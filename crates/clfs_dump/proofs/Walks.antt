@@ -1,15 +1,6 @@
 -- Going through the blocks of a container, and through the containers of a log: whatever is printed of the rest, all is printed with it.
-use Rattle.std.proofs.Common.{◌≡◌, ℕ, zero, suc, ◌+◌, ◌*◌, ◌<◌, ◌≤◌, cond, List, length, get_or, drop, Option, Some, None, Result, Ok, Err, refl, sym, ◌∙◌, ap, subst, arith}
-use Rattle.std.proofs.lemmas.Bool.{lt-leb, le-leb}
-use Rattle.std.proofs.lemmas.List.{drop_more, drop_all}
-use Rattle.clfs_lsn.specs.declared.shape.Shape.{Shape}
-use Rattle.clfs_base.specs.declared.image.Row.{Row}
-use Rattle.clfs_disk.specs.Files.{Files}
-use Rattle.clfs_dump.specs.Telling.{Told, only, then_told, block_told, behind_block, blocks_told, container_told, listed_told}
-use Rattle.clfs_dump.specs.Printing.{Prints}
-use Rattle.clfs_dump.specs.declared.refusal.DumpRefusal.{DumpRefusal}
-use Rattle.clfs_dump.specs.declared.refusal.DumpRefusal.TheVariants.{DiskFault}
-use Rattle.clfs_dump.specs.declared.selection.Selection.{Selection}
+use Rattle.clfs_dump.proofs.Words.{◌≡◌, ℕ, zero, suc, ◌+◌, ◌*◌, ◌<◌, ◌≤◌, cond, List, length, get_or, drop, Option, Some, None, Result, Ok, Err, refl, sym, ◌∙◌, ap, subst, arith, lt-leb, le-leb, drop_all, Shape, Row, Files, Told, only, then_told, block_told, behind_block, blocks_told, container_told, listed_told, Prints, DumpRefusal, DiskFault, Selection}
+use Rattle.std.proofs.lemmas.List.{drop_more}
 use Rattle.clfs_dump.proofs.Written.{front_of_none}
 use Rattle.clfs_dump.proofs.PrintedParts.{prints_first, prints_next, prints_only}
 

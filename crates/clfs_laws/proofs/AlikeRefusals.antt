@@ -1,39 +1,10 @@
 -- States that look alike, though they differ in records, refuse each call alike, and call the disk in the same calls.
-use Rattle.std.proofs.Common.{◌≡◌, ℕ, ◌+◌, Bool, true, false, refl, sym, ap, ◌∙◌, inl, inr, List, [], ◌∷◌, length}
-use Rattle.std.specs.Prelude.{Option, Some, None, is_some, is_none, not, nat_lt, nat_le, ◌&&◌, ◌||◌, ◌==◌, if◌then◌else◌, max, unwrap_or, filter, find, reverse, slice_get}
-use Rattle.std.specs.List.{last_or}
-use Rattle.std.specs.Option.{option_map_or}
-use Rattle.std.proofs.lemmas.Bool.{cases_Bool}
-use Rattle.clfs_lsn.specs.Lsn.{null_lsn}
-use Rattle.clfs_lsn.specs.Place.{joins, begins_here}
-use Rattle.clfs_lsn.specs.Space.{active_containers, free_sectors, growth, least_containers}
-use Rattle.clfs_lsn.specs.declared.entry.LogEntry.{LogEntry}
-use Rattle.clfs_lsn.specs.declared.policy.Policy.{Policy}
+use Rattle.clfs_laws.proofs.Words.{◌≡◌, ℕ, ◌+◌, Bool, true, false, refl, sym, ap, ◌∙◌, inl, inr, List, [], ◌∷◌, length, Option, Some, None, is_some, is_none, not, nat_lt, nat_le, ◌&&◌, ◌||◌, ◌==◌, if◌then◌else◌, max, unwrap_or, filter, find, reverse, slice_get, last_or, option_map_or, cases_Bool, null_lsn, joins, begins_here, active_containers, free_sectors, growth, LogEntry, Policy, PolicyKind, Call, Draft, Mode, Refusal, State, Area, Cursor, CursorKind, Records, RestartAreas, base_of, area_of, hold, active, live, live_at, last_live, lsn_or_null, free, reserved, own_sum, with_containers, growth_rate, size_limit, grown_if, grown, has_room, seal, flush, made_ready, need_of, spent_of, next, restart_areas, newest_restart, record_cursor, restart_cursor, next_of_cursor, is_restart, extents, policy_refusal, is_installed, needed_containers, refusal, refused_if, in_area, unless_two_containers, too_long, is_link, short, full, append_refusal, too_many_cursors, read_refusal, end_of_kind, next_refusal, is_base, invalid_base, restart_refusal, size_refusal, calls_disk, grows, making_ready_writes, fills_buffers}
+use Rattle.clfs_lsn.specs.Space.{least_containers}
 use Rattle.clfs_lsn.specs.declared.policy.Policy.TheVariants as policies
-use Rattle.clfs_lsn.specs.declared.policy.PolicyKind.{PolicyKind}
 use Rattle.clfs_lsn.specs.declared.policy.PolicyKind.TheVariants as kinds
-use Rattle.clfs_model.specs.declared.call.Call.{Call}
 use Rattle.clfs_model.specs.declared.call.Call.TheVariants as calls
-use Rattle.clfs_model.specs.declared.call.Draft.{Draft}
-use Rattle.clfs_lsn.specs.declared.cursor.Mode.{Mode}
-use Rattle.clfs_model.specs.declared.refusal.Refusal.{Refusal}
 use Rattle.clfs_model.specs.declared.refusal.Refusal.TheVariants as refusals
-use Rattle.clfs_model.specs.declared.state.State.{State}
-use Rattle.clfs_model.specs.declared.state.Area.{Area}
-use Rattle.clfs_lsn.specs.declared.cursor.Cursor.{Cursor}
-use Rattle.clfs_lsn.specs.declared.cursor.CursorKind.{CursorKind}
-use Rattle.clfs_lsn.specs.declared.cursor.CursorKind.TheVariants.{Records, RestartAreas}
-use Rattle.clfs_model.specs.State.{base_of, area_of}
-use Rattle.clfs_model.specs.Live.{hold, active, live, live_at, last_live, lsn_or_null}
-use Rattle.clfs_model.specs.Space.{free, reserved, own_sum, with_containers, growth_rate, size_limit, grown_if, grown, has_room}
-use Rattle.clfs_model.specs.Flush.{seal, flush}
-use Rattle.clfs_model.specs.Put.{made_ready, need_of, spent_of}
-use Rattle.clfs_model.specs.Reading.{next, restart_areas, newest_restart, record_cursor, restart_cursor, next_of_cursor}
-use Rattle.clfs_lsn.specs.Heads.{is_restart}
-use Rattle.clfs_model.specs.Archive.{extents}
-use Rattle.clfs_model.specs.Policies.{policy_refusal, is_installed, needed_containers}
-use Rattle.clfs_model.specs.Refusals.{refusal, refused_if, in_area, unless_two_containers, too_long, is_link, short, full, append_refusal, too_many_cursors, read_refusal, end_of_kind, next_refusal, is_base, invalid_base, restart_refusal, size_refusal}
-use Rattle.clfs_model.specs.Step.{calls_disk, grows, making_ready_writes, fills_buffers}
 use Rattle.clfs_laws.proofs.SameRecords.{with_records}
 use Rattle.clfs_laws.proofs.ValidSettings.{grown_is}
 

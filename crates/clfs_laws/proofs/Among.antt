@@ -1,9 +1,6 @@
 -- What a search finds is among what is searched, and passes the test.
-use Rattle.std.proofs.Common.{◌≡◌, Bool, true, refl, sym, ap, ◌∙◌, subst, inl, inr, ◌⊎◌, List, [], ◌∷◌}
-use Rattle.std.specs.Prelude.{Some, find, filter, All, Contains}
-use Rattle.std.specs.List.{AllByRecursion}
-use Rattle.std.proofs.lemmas.Bool.{cases_Bool}
-use Rattle.std.proofs.lemmas.List.Elements.{recursion_from_All, All-from_recursion, All-contains, Contains-append_left, Contains-append_right, Contains-push}
+use Rattle.clfs_laws.proofs.Words.{◌≡◌, Bool, true, refl, sym, ap, ◌∙◌, subst, inl, inr, ◌⊎◌, List, [], ◌∷◌, Some, find, filter, All, Contains, AllByRecursion, cases_Bool, recursion_from_All, All-from_recursion, Contains-append_left}
+use Rattle.std.proofs.lemmas.List.Elements.{All-contains, Contains-append_right, Contains-push}
 
 -- an element of a list
 abbrev pub IsAmong : {X : Type 0} → X → List X → Type 0

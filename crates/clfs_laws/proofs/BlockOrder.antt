@@ -1,14 +1,5 @@
 -- Blocks that lie one after the other: their front, one record more, and where the next record lies.
-use Rattle.std.proofs.Common.{◌≡◌, ℕ, ◌+◌, ◌*◌, ◌/◌, ◌%◌, ◌≤◌, Bool, true, false, refl, ap, ◌∙◌, subst, inl, inr, arith, List, [], ◌∷◌, ◌++◌, length}
-use Rattle.std.proofs.lemmas.Bool.{ne_eqb, eq-eqb}
-use Rattle.std.proofs.lemmas.Bool.Decides.{nat_tests}
-use Rattle.clfs_lsn.specs.Lsn.{lsn_number, container_of, offset_of, sequence_of}
-use Rattle.clfs_lsn.specs.Size.{IsShape, size}
-use Rattle.clfs_lsn.specs.Place.{IsWithin, begun, sealed, frontier, block_end, joins, begins_here}
-use Rattle.clfs_lsn.specs.declared.place.Place.{Place}
-use Rattle.clfs_lsn.specs.declared.shape.Shape.{Shape}
-use Rattle.clfs_lsn.specs.declared.entry.LogEntry.{LogEntry}
-use Rattle.clfs_model.specs.Storable.{behind, behind_all, LiesBehind, LieInBlocks, GoesOnAt}
+use Rattle.clfs_laws.proofs.Words.{◌≡◌, ℕ, ◌+◌, ◌*◌, ◌/◌, ◌%◌, ◌≤◌, Bool, true, false, refl, ap, ◌∙◌, subst, inl, inr, arith, List, [], ◌∷◌, ◌++◌, length, ne_eqb, eq-eqb, nat_tests, lsn_number, container_of, offset_of, sequence_of, IsShape, size, IsWithin, begun, sealed, frontier, block_end, joins, begins_here, Place, Shape, LogEntry, behind, behind_all, LiesBehind, LieInBlocks, GoesOnAt}
 use Rattle.clfs_laws.proofs.LsnOrder.{small_end}
 use Rattle.clfs_laws.proofs.ValidPuts.{after_by}
 

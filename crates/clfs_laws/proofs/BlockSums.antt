@@ -1,20 +1,6 @@
 -- What the records of blocks that lie one after the other come to: each block is as long as its records make it, and ends within its
 -- container.
-use Rattle.std.proofs.Common.{◌≡◌, ℕ, ◌+◌, ◌*◌, ◌%◌, ◌<◌, ◌≤◌, true, false, refl, sym, ap, ◌∙◌, subst, append_assoc, inl, inr, ◌⊎◌, arith, List, [], ◌∷◌, ◌++◌, length}
-use Rattle.std.specs.Prelude.{filter, sum_by, ◌==◌}
-use Rattle.std.specs.List.{AllByRecursion}
-use Rattle.std.proofs.lemmas.Bool.{cases_Bool, eqb-true, eqb-false, and_parts}
-use Rattle.std.proofs.lemmas.List.{append-nil}
-use Rattle.std.proofs.lemmas.List.Elements.{filter-append}
-use Rattle.std.proofs.lemmas.List.Sums.{sum_by-append}
-use Rattle.clfs_lsn.specs.Lsn.{lsn_number, container_of, offset_of}
-use Rattle.clfs_lsn.specs.Size.{IsShape, size, sectors, longest}
-use Rattle.clfs_lsn.specs.Place.{IsWithin, IsClosed, IsOpen, begun, frontier, block_end}
-use Rattle.clfs_lsn.specs.declared.place.Place.{Place}
-use Rattle.clfs_lsn.specs.declared.shape.Shape.{Shape}
-use Rattle.clfs_lsn.specs.declared.entry.LogEntry.{LogEntry}
-use Rattle.clfs_model.specs.Archive.{end_of_block}
-use Rattle.clfs_model.specs.Storable.{before_all, behind, behind_all, LiesBehind, LieInBlocks}
+use Rattle.clfs_laws.proofs.Words.{◌≡◌, ℕ, ◌+◌, ◌*◌, ◌%◌, ◌<◌, ◌≤◌, true, false, refl, sym, ap, ◌∙◌, subst, append_assoc, inl, inr, ◌⊎◌, arith, List, [], ◌∷◌, ◌++◌, length, filter, sum_by, ◌==◌, AllByRecursion, cases_Bool, eqb-true, eqb-false, and_parts, append-nil, filter-append, sum_by-append, lsn_number, container_of, offset_of, IsShape, size, sectors, longest, IsWithin, IsClosed, IsOpen, begun, frontier, block_end, Place, Shape, LogEntry, end_of_block, before_all, behind, behind_all, LiesBehind, LieInBlocks}
 use Rattle.clfs_laws.proofs.Among.{IsAmong}
 use Rattle.clfs_laws.proofs.BlockOrder.{behind_begun, behind_joined}
 use Rattle.clfs_laws.proofs.LsnOrder.{is_of_block, none_of_block, equal_true}

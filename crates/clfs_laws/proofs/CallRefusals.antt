@@ -1,34 +1,9 @@
 -- What it tells that a call is refused, or that it isn't.
-use Rattle.std.proofs.Common.{◌≡◌, ℕ, Bool, true, false, refl, sym, ap, subst, List, [], ◌∷◌}
-use Rattle.std.specs.Prelude.{Option, Some, None, if◌then◌else◌, not, ◌==◌, ◌||◌, ◌&&◌, nat_lt, nat_le, find, length, is_none, unwrap_or}
-use Rattle.std.specs.Option.{option_map_or}
-use Rattle.clfs_lsn.specs.Limits.{most_streams}
-use Rattle.clfs_lsn.specs.Lsn.{null_lsn}
-use Rattle.clfs_lsn.specs.Size.{longest}
-use Rattle.clfs_lsn.specs.Place.{frontier}
-use Rattle.clfs_lsn.specs.declared.policy.Policy.{Policy}
+use Rattle.clfs_laws.proofs.Words.{◌≡◌, ℕ, Bool, true, false, refl, sym, ap, subst, List, [], ◌∷◌, Option, Some, None, if◌then◌else◌, not, ◌==◌, ◌||◌, ◌&&◌, nat_lt, nat_le, find, is_none, unwrap_or, option_map_or, most_streams, null_lsn, longest, frontier, Policy, Call, Draft, Previous, UndoNext, Forward, Refusal, State, Area, Cursor, CursorKind, Records, RestartAreas, area_of, areas_of, base_of, stream_at, live_at, last_live, active, own_sum, free, reserved, grown, has_room, size_limit, flushed, need_of, spent_of, newest_restart, next_of_cursor, record_cursor, restart_cursor, cursor_of, outside, policy_refusal, is_installed, needed_containers, refused_if, in_area, unless_two_containers, too_long, short, full, name_fault, stream_number, append_refusal, restart_refusal, invalid_base, invalid_link, too_many_cursors, read_refusal, next_refusal, end_of_kind, is_link, is_base, create_refusal, size_refusal, refusal, is_of_call, needed_sectors, taken_sectors, area_number, held_if_there}
+use Rattle.std.specs.Prelude.{length}
 use Rattle.clfs_lsn.specs.declared.policy.Policy.TheVariants as policies
-use Rattle.clfs_model.specs.declared.call.Call.{Call}
 use Rattle.clfs_model.specs.declared.call.Call.TheVariants as calls
-use Rattle.clfs_model.specs.declared.call.Draft.{Draft}
-use Rattle.clfs_lsn.specs.declared.cursor.Mode.TheVariants.{Previous, UndoNext, Forward}
-use Rattle.clfs_model.specs.declared.refusal.Refusal.{Refusal}
 use Rattle.clfs_model.specs.declared.refusal.Refusal.TheVariants as refusals
-use Rattle.clfs_model.specs.declared.state.State.{State}
-use Rattle.clfs_model.specs.declared.state.Area.{Area}
-use Rattle.clfs_lsn.specs.declared.cursor.Cursor.{Cursor}
-use Rattle.clfs_lsn.specs.declared.cursor.CursorKind.{CursorKind}
-use Rattle.clfs_lsn.specs.declared.cursor.CursorKind.TheVariants.{Records, RestartAreas}
-use Rattle.clfs_model.specs.State.{area_of, areas_of, base_of, stream_at}
-use Rattle.clfs_model.specs.Live.{live_at, last_live, active}
-use Rattle.clfs_model.specs.Space.{own_sum, free, reserved, grown, has_room, size_limit}
-use Rattle.clfs_model.specs.Flush.{flushed}
-use Rattle.clfs_model.specs.Put.{need_of, spent_of}
-use Rattle.clfs_model.specs.Reading.{newest_restart, next_of_cursor, record_cursor, restart_cursor, cursor_of}
-use Rattle.clfs_model.specs.Policies.{outside, policy_refusal, is_installed, needed_containers}
-use Rattle.clfs_model.specs.Refusals.{refused_if, in_area, unless_two_containers, too_long, short, full, name_fault, stream_number, append_refusal, restart_refusal, invalid_base, invalid_link, too_many_cursors, read_refusal, next_refusal, end_of_kind, is_link, is_base, create_refusal, size_refusal, refusal}
-use Rattle.clfs_laws.specs.Refused.{is_of_call}
-use Rattle.clfs_laws.specs.Needs.{needed_sectors, taken_sectors, area_number, held_if_there}
 
 -- what a call needs, and what its area has for it
 pub record Terms : Type 0 where

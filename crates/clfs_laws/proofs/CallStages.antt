@@ -1,35 +1,12 @@
 -- The flushed part of each state between the small changes of a call survives the call: an append, a restart area, a reservation, an
 -- advance; and of other requests that before it, and that of what it leaves.
-use Rattle.std.proofs.Common.{◌≡◌, ℕ, ◌≤◌, Bool, true, false, refl, sym, ap, ◌∙◌, subst, inr, arith, List, [], ◌∷◌, ◌++◌, length}
-use Rattle.std.specs.Prelude.{Option, Some, None, ◌⊎◌, All, MatchBool, MatchOption, IsTrue, if◌then◌else◌}
-use Rattle.std.specs.Option.{option_map_or}
-use Rattle.std.proofs.lemmas.List.{append-nil}
-use Rattle.std.proofs.lemmas.List.Elements.{All-from_recursion}
-use Rattle.clfs_lsn.specs.declared.entry.LogEntry.{LogEntry}
-use Rattle.clfs_lsn.specs.declared.entry.Kind.TheVariants.{Plain}
-use Rattle.clfs_model.specs.declared.call.Call.{Call}
+use Rattle.clfs_laws.proofs.Words.{◌≡◌, ℕ, ◌≤◌, Bool, true, false, refl, sym, ap, ◌∙◌, subst, inr, arith, List, [], ◌∷◌, ◌++◌, length, Option, Some, None, All, MatchBool, MatchOption, IsTrue, if◌then◌else◌, option_map_or, append-nil, All-from_recursion, LogEntry, Plain, Call, Draft, Refusal, Fine, State, Area, area_of, own_sum, grown, flushed, flush, cut, next_lsn, put, need_of, spend_if, hold_sizes, seal_if, flush_if, plain_record, appended, refusal, in_area, append_refusal, restart_refusal, Outcome, outcome, answer, restart_record, restarted, rebased, advanced, reserved_for, Request, asks, reopens, bad_line, fine_outcome, Step, Comes, Goes, IsBroken, IsOutOfMemory, takes_memory, HasBlocks, IsStorable, HasBasesOfRequest, IsSurvivor, IsValid, HasSpaceLaws, IsWhole, TakesThrough, ready_stages}
+use Rattle.std.specs.Prelude.{◌⊎◌}
 use Rattle.clfs_model.specs.declared.call.Call.TheVariants as calls
-use Rattle.clfs_model.specs.declared.call.Draft.{Draft}
-use Rattle.clfs_model.specs.declared.refusal.Refusal.{Refusal}
 use Rattle.clfs_model.specs.declared.refusal.Refusal.TheVariants as refusals
-use Rattle.clfs_model.specs.declared.reply.Happened.TheVariants.{Fine}
 use Rattle.clfs_model.specs.declared.reply.Reply.TheVariants as replies
-use Rattle.clfs_model.specs.declared.state.State.{State}
-use Rattle.clfs_model.specs.declared.state.Area.{Area}
-use Rattle.clfs_model.specs.State.{area_of}
-use Rattle.clfs_model.specs.Space.{own_sum, grown}
-use Rattle.clfs_model.specs.Flush.{flushed, flush, cut}
-use Rattle.clfs_model.specs.Put.{next_lsn, put, need_of, spend_if, hold_sizes, seal_if, flush_if, plain_record, appended}
-use Rattle.clfs_model.specs.Refusals.{refusal, in_area, append_refusal, restart_refusal}
-use Rattle.clfs_model.specs.Answers.{Outcome, outcome, answer, restart_record, restarted, rebased, advanced, reserved_for}
-use Rattle.clfs_model.specs.Run.{Request, asks, reopens, bad_line, fine_outcome}
-use Rattle.clfs_model.specs.Step.{Step, Comes, Goes, IsBroken, IsOutOfMemory, takes_memory}
-use Rattle.clfs_model.specs.Storable.{HasBlocks, IsStorable}
-use Rattle.clfs_model.specs.Survivors.{HasBasesOfRequest, IsSurvivor, Survives}
-use Rattle.clfs_model.specs.Valid.{IsValid}
-use Rattle.clfs_space.specs.SpaceLaws.{HasSpaceLaws}
-use Rattle.clfs_laws.specs.Between.{IsWhole, TakesThrough}
-use Rattle.clfs_laws.specs.Stages.{ready_stages, append_stages, restart_stages, reserve_stages, advance_stages}
+use Rattle.clfs_model.specs.Survivors.{Survives}
+use Rattle.clfs_laws.specs.Stages.{append_stages, restart_stages, reserve_stages, advance_stages}
 use Rattle.clfs_laws.proofs.CutSurvives.{survives_before, survives_after, reopening_survives, bad_line_survives as cut_survives, restart_more}
 use Rattle.clfs_laws.proofs.FlushedRises.{flushed_grown, flushed_spend, flushed_hold, rises_seal_if, rises_flush_if, flushed_rebased}
 use Rattle.clfs_laws.proofs.KeptSettings.{kept_on, kept_put, kept_hold, kept_seal_if, kept_flush_if, kept_flush, kept_base, kept_rebased}

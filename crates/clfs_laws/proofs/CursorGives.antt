@@ -1,18 +1,5 @@
 -- What a cursor still gives after it was made, and after it moved.
-use Rattle.std.proofs.Common.{◌≡◌, ℕ, zero, suc, refl, ap, ◌∙◌, List, ◌∷◌, length}
-use Rattle.std.specs.Prelude.{Option, Some, None}
-use Rattle.clfs_lsn.specs.declared.entry.LogEntry.{LogEntry}
-use Rattle.clfs_lsn.specs.declared.cursor.Mode.{Mode}
-use Rattle.clfs_lsn.specs.declared.cursor.Mode.TheVariants.{Previous, UndoNext, Forward}
-use Rattle.clfs_model.specs.declared.state.State.{State}
-use Rattle.clfs_model.specs.declared.state.Area.{Area}
-use Rattle.clfs_lsn.specs.declared.cursor.Cursor.{Cursor}
-use Rattle.clfs_lsn.specs.declared.cursor.CursorKind.{CursorKind}
-use Rattle.clfs_lsn.specs.declared.cursor.CursorKind.TheVariants.{Records, RestartAreas}
-use Rattle.clfs_model.specs.State.{area_of, change_area}
-use Rattle.clfs_model.specs.Reading.{next, chain_from, with_cursor, with_cursor_at}
-use Rattle.clfs_lsn.specs.Cursors.{unused_cursor}
-use Rattle.clfs_laws.specs.Cursors.{cursor_of_kind, still_to_come, StillGives}
+use Rattle.clfs_laws.proofs.Words.{◌≡◌, ℕ, zero, suc, refl, ap, ◌∙◌, List, ◌∷◌, length, Option, Some, None, LogEntry, Mode, Previous, UndoNext, Forward, State, Area, Cursor, CursorKind, Records, RestartAreas, area_of, change_area, next, chain_from, with_cursor, with_cursor_at, unused_cursor, cursor_of_kind, still_to_come, StillGives}
 use Rattle.clfs_laws.proofs.CursorSteps.{new_cursor, changed_there, made_there, moved_to, moved_there}
 
 -- chains go over records and streams, whatever the areas are

@@ -1,19 +1,5 @@
 -- Where a cursor is after it was made, and after it moved.
-use Rattle.std.proofs.Common.{◌≡◌, ◌≢◌, ℕ, Bool, true, false, refl, sym, ap, ◌∙◌, inl, inr, List, [], ◌∷◌}
-use Rattle.std.specs.Prelude.{Option, Some, None, find, map, not, ◌&&◌, ◌==◌, if◌then◌else◌}
-use Rattle.std.specs.List.{AllByRecursion}
-use Rattle.std.specs.Option.{option_map, option_or}
-use Rattle.std.proofs.lemmas.Bool.{cases_Bool, eqb-true, eq-eqb, ne_eqb, and_parts}
-use Rattle.std.proofs.lemmas.List.Folds.{find-append}
-use Rattle.clfs_model.specs.declared.state.State.{State}
-use Rattle.clfs_model.specs.declared.state.Area.{Area}
-use Rattle.clfs_lsn.specs.declared.cursor.Cursor.{Cursor}
-use Rattle.clfs_lsn.specs.declared.cursor.CursorKind.{CursorKind}
-use Rattle.clfs_lsn.specs.declared.cursor.CursorKind.TheVariants.{Records, RestartAreas}
-use Rattle.clfs_model.specs.State.{area_of, change_area, is_area}
-use Rattle.clfs_model.specs.Reading.{with_cursor, with_cursor_at}
-use Rattle.clfs_lsn.specs.Cursors.{is_over_restarts, unused_cursor}
-use Rattle.clfs_laws.specs.Cursors.{cursor_of_kind}
+use Rattle.clfs_laws.proofs.Words.{◌≡◌, ◌≢◌, ℕ, Bool, true, false, refl, sym, ap, ◌∙◌, inl, inr, List, [], ◌∷◌, Option, Some, None, find, map, not, ◌&&◌, ◌==◌, if◌then◌else◌, AllByRecursion, option_map, option_or, cases_Bool, eqb-true, eq-eqb, ne_eqb, and_parts, find-append, State, Area, Cursor, CursorKind, Records, RestartAreas, area_of, change_area, is_area, with_cursor, with_cursor_at, is_over_restarts, unused_cursor, cursor_of_kind}
 use Rattle.clfs_laws.proofs.Finding.{KeepsName, find_changed}
 use Rattle.clfs_laws.proofs.RowSteps.{named_change}
 use Rattle.clfs_laws.proofs.Unused.{unused_is_new, none_has}

@@ -1,21 +1,6 @@
 -- Where the flushed part of a log lies: at the end of a block or the start of the container after one, unless it is where it was.
-use Rattle.std.proofs.Common.{◌≡◌, ℕ, suc, ◌+◌, ◌*◌, ◌%◌, ◌<◌, ◌≤◌, ◌^◌, true, refl, sym, ap, ◌∙◌, subst, inl, inr, ◌⊎◌, arith, List, [], ◌∷◌, ◌++◌, length}
-use Rattle.std.specs.Prelude.{Any, filter, sum_by, nat_lt, slice_index_or, ◌==◌}
-use Rattle.std.specs.List.{AllByRecursion}
-use Rattle.std.proofs.lemmas.Bool.{cases_Bool, eqb-true, and_parts, ltb-true, ltb-false}
-use Rattle.std.proofs.lemmas.List.Elements.{filter-append}
-use Rattle.std.proofs.lemmas.List.Sums.{sum_by-append}
-use Rattle.clfs_lsn.specs.Lsn.{container_of, offset_of}
-use Rattle.clfs_lsn.specs.Size.{size, sectors}
-use Rattle.clfs_lsn.specs.Place.{frontier, block_end, sealed}
-use Rattle.clfs_lsn.specs.declared.place.Place.{Place}
-use Rattle.clfs_lsn.specs.declared.entry.LogEntry.{LogEntry}
-use Rattle.clfs_model.specs.declared.state.State.{State}
-use Rattle.clfs_model.specs.Archive.{is_in_block}
-use Rattle.clfs_model.specs.Flush.{flushed, cut}
-use Rattle.clfs_model.specs.Storable.{before_all, behind_all, LieInBlocks, GoesOnAt, HasBlocks}
-use Rattle.clfs_model.specs.Survivors.{EndsBlockOf, SplitsNoBlock}
-use Rattle.clfs_model.specs.Valid.{IsValid}
+use Rattle.clfs_laws.proofs.Words.{◌≡◌, ℕ, suc, ◌+◌, ◌*◌, ◌%◌, ◌<◌, ◌≤◌, ◌^◌, true, refl, sym, ap, ◌∙◌, subst, inl, inr, ◌⊎◌, arith, List, [], ◌∷◌, ◌++◌, length, Any, filter, sum_by, nat_lt, slice_index_or, ◌==◌, AllByRecursion, cases_Bool, eqb-true, and_parts, ltb-true, ltb-false, filter-append, sum_by-append, container_of, offset_of, size, sectors, frontier, block_end, sealed, Place, LogEntry, State, is_in_block, flushed, cut, before_all, behind_all, LieInBlocks, GoesOnAt, HasBlocks, EndsBlockOf, IsValid}
+use Rattle.clfs_model.specs.Survivors.{SplitsNoBlock}
 use Rattle.clfs_laws.proofs.Among.{IsAmong, among_all}
 use Rattle.clfs_laws.proofs.BlockOrder.{laid_front}
 use Rattle.clfs_laws.proofs.BlockSums.{paid, IsPaid, paid_last}

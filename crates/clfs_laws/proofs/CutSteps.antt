@@ -1,20 +1,9 @@
 -- Opening a log again may come to its flushed part, so what is computed where nothing happens is a run.
-use Rattle.std.proofs.Common.{◌≡◌, ℕ, Bool, true, false, refl, sym, ap, subst, inr, List, [], ◌∷◌}
-use Rattle.std.specs.Prelude.{All, MatchBool, if◌then◌else◌}
-use Rattle.std.specs.List.{AllByRecursion, list_all}
-use Rattle.std.proofs.lemmas.List.Elements.{recursion_from_All}
+use Rattle.clfs_laws.proofs.Words.{◌≡◌, ℕ, Bool, true, false, refl, sym, ap, subst, inr, List, [], ◌∷◌, All, MatchBool, if◌then◌else◌, AllByRecursion, recursion_from_All, Fine, State, flushed, cut, IsSame, Outcome, outcome, ReopenStep, Reopens, IsOpenedAnew, IsStorable, Request, asks, reopens, bad_line, RequestStep, Run, fine_outcome, IsValid, HasSpaceLaws, RequestMeets}
+use Rattle.std.specs.List.{list_all}
 use Rattle.clfs_model.specs.declared.refusal.Refusal.TheVariants as refusals
-use Rattle.clfs_model.specs.declared.reply.Happened.TheVariants.{Fine}
 use Rattle.clfs_model.specs.declared.reply.Reply.TheVariants as replies
-use Rattle.clfs_model.specs.declared.state.State.{State}
-use Rattle.clfs_model.specs.Flush.{flushed, cut, IsSame}
-use Rattle.clfs_model.specs.Answers.{Outcome, outcome}
-use Rattle.clfs_model.specs.Step.{ReopenStep, Reopens, IsOpenedAnew}
-use Rattle.clfs_model.specs.Storable.{IsStorable}
-use Rattle.clfs_model.specs.Run.{Request, asks, reopens, bad_line, RequestStep, Run, all_fine, fine_outcome, replies_of, state_after, is_no_reopening}
-use Rattle.clfs_model.specs.Valid.{IsValid}
-use Rattle.clfs_space.specs.SpaceLaws.{HasSpaceLaws}
-use Rattle.clfs_laws.specs.Meets.{RequestMeets}
+use Rattle.clfs_model.specs.Run.{all_fine, replies_of, state_after, is_no_reopening}
 use Rattle.clfs_laws.proofs.StorableCuts.{storable_cut}
 use Rattle.clfs_laws.proofs.StorableRuns.{IsKept, request_keeps}
 use Rattle.clfs_laws.proofs.ValidCuts.{valid_cut, flushed_cut}

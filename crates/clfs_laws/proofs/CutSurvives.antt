@@ -1,34 +1,8 @@
 -- The flushed part of a log survives each request, and so does that of what a call leaves.
-use Rattle.std.proofs.Common.{◌≡◌, ℕ, ◌<◌, ◌≤◌, Bool, refl, sym, ap, ◌∙◌, subst, inl, inr, arith, List, [], ◌∷◌, ◌++◌, length}
-use Rattle.std.specs.Prelude.{Some, None, All, nat_lt, ◌==◌}
-use Rattle.std.specs.List.{AllByRecursion}
-use Rattle.std.proofs.lemmas.Bool.{cases_Bool, ltb-false}
-use Rattle.std.proofs.lemmas.List.{append-nil}
-use Rattle.std.proofs.lemmas.List.Elements.{All-weaker, All-filter, All-from_recursion, filter-append}
-use Rattle.clfs_lsn.specs.Lsn.{null_lsn}
-use Rattle.clfs_lsn.specs.Place.{frontier}
-use Rattle.clfs_lsn.specs.declared.entry.LogEntry.{LogEntry}
-use Rattle.clfs_model.specs.declared.call.Call.{Call}
+use Rattle.clfs_laws.proofs.Words.{◌≡◌, ℕ, ◌<◌, ◌≤◌, Bool, refl, sym, ap, ◌∙◌, subst, inl, inr, arith, List, [], ◌∷◌, ◌++◌, length, Some, None, All, nat_lt, ◌==◌, AllByRecursion, cases_Bool, ltb-false, append-nil, All-weaker, All-filter, All-from_recursion, filter-append, null_lsn, frontier, LogEntry, Call, Fine, Reply, State, Area, area_of, set_base, grown, block_start, first_or, flushed, flush, cut, next_lsn, put, need_of, spend_if, in_area, restart_refusal, outcome, restart_record, restarted, rebased, Request, asks, reopens, bad_line, Step, IsStorable, HasSettings, HasBasesOfRequest, IsSurvivor, IsValid, HasSpaceLaws, LeavesStable}
 use Rattle.clfs_model.specs.declared.call.Call.TheVariants as calls
-use Rattle.clfs_model.specs.declared.reply.Happened.TheVariants.{Fine}
-use Rattle.clfs_model.specs.declared.reply.Reply.{Reply}
 use Rattle.clfs_model.specs.declared.reply.Reply.TheVariants as replies
-use Rattle.clfs_model.specs.declared.state.State.{State}
-use Rattle.clfs_model.specs.declared.state.Area.{Area}
-use Rattle.clfs_model.specs.State.{area_of}
-use Rattle.clfs_lsn.specs.Streams.{set_base}
-use Rattle.clfs_model.specs.Space.{grown}
-use Rattle.clfs_model.specs.Flush.{block_start, first_or, flushed, flush, cut}
-use Rattle.clfs_model.specs.Put.{next_lsn, put, need_of, spend_if}
-use Rattle.clfs_model.specs.Refusals.{in_area, restart_refusal}
-use Rattle.clfs_model.specs.Answers.{outcome, restart_record, restarted, rebased}
-use Rattle.clfs_model.specs.Run.{Request, asks, reopens, bad_line}
-use Rattle.clfs_model.specs.Step.{Step}
-use Rattle.clfs_model.specs.Storable.{IsStorable}
-use Rattle.clfs_model.specs.Survivors.{HasSettings, HasMore, HasBasesOfRestart, HasBasesOfRequest, IsSurvivor}
-use Rattle.clfs_model.specs.Valid.{IsValid}
-use Rattle.clfs_space.specs.SpaceLaws.{HasSpaceLaws}
-use Rattle.clfs_laws.specs.Stable.{LeavesStable}
+use Rattle.clfs_model.specs.Survivors.{HasMore, HasBasesOfRestart}
 use Rattle.clfs_laws.proofs.Among.{IsAmong, each_among, at_each}
 use Rattle.clfs_laws.proofs.BlockSums.{among_last}
 use Rattle.clfs_laws.proofs.CutPlaces.{frontier_cut, splits_none, any_among, cut_ends}

@@ -1,11 +1,5 @@
 -- Being the same is an equivalence, and the flushed parts of states that are the same are the same.
-use Rattle.std.proofs.Common.{◌≡◌, ℕ, refl, sym, ap, ◌∙◌, Bool, arith}
-use Rattle.std.specs.Prelude.{filter, nat_lt}
-use Rattle.clfs_lsn.specs.declared.entry.LogEntry.{LogEntry}
-use Rattle.clfs_model.specs.declared.state.State.{State}
-use Rattle.clfs_model.specs.Live.{hold}
-use Rattle.clfs_model.specs.Flush.{flushed, cut, IsSame}
-use Rattle.clfs_model.specs.Valid.{IsValid}
+use Rattle.clfs_laws.proofs.Words.{◌≡◌, ℕ, refl, sym, ap, ◌∙◌, Bool, arith, filter, nat_lt, LogEntry, State, hold, flushed, cut, IsSame, IsValid}
 use Rattle.clfs_laws.proofs.HoldRises.{hold_cut}
 use Rattle.clfs_laws.proofs.SameRecords.{with_records, is_from, from_same, same_from, filter_swap}
 

@@ -1,13 +1,6 @@
 -- The restart areas of a stream fall, newest first; below one of them are those after it.
-use Rattle.std.proofs.Common.{◌≡◌, ℕ, suc, ◌+◌, ◌<◌, Bool, refl, sym, ap, ◌∙◌, subst, inl, inr, arith, List, [], ◌∷◌, ◌++◌}
-use Rattle.std.specs.Prelude.{Some, None, find, filter, map, reverse, nat_lt, slice_index}
-use Rattle.std.specs.List.{AllByRecursion}
-use Rattle.std.specs.List.Sorted.{IsStrictlyIncreasing}
-use Rattle.std.proofs.lemmas.Bool.{cases_Bool, lt-ltb, le-ltb, ltb-true, ltb-false}
-use Rattle.std.proofs.lemmas.Grind.{reverse_onto}
-use Rattle.std.proofs.lemmas.List.Elements.{All-from_recursion, recursion_from_All}
+use Rattle.clfs_laws.proofs.Words.{◌≡◌, ℕ, suc, ◌+◌, ◌<◌, Bool, refl, sym, ap, ◌∙◌, subst, inl, inr, arith, List, [], ◌∷◌, ◌++◌, Some, None, find, filter, map, reverse, nat_lt, slice_index, AllByRecursion, IsStrictlyIncreasing, cases_Bool, lt-ltb, le-ltb, ltb-true, ltb-false, reverse_onto, All-from_recursion, recursion_from_All, LogEntry}
 use Rattle.std.proofs.lemmas.List.Sorted.{All-permutation, IsPermutation-reverse}
-use Rattle.clfs_lsn.specs.declared.entry.LogEntry.{LogEntry}
 
 -- each record lies below all after it, or above them
 abbrev pub Rises : List LogEntry → Type 0

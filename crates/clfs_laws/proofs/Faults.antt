@@ -1,21 +1,8 @@
 -- A call that met a disk fault or damage leaves the log broken.
-use Rattle.std.proofs.Common.{◌≡◌, ℕ, Bool, true, false, refl, ap, ◌∙◌, inl, inr, ◌⊎◌}
-use Rattle.std.specs.Prelude.{Option, Some, None, MatchOption}
-use Rattle.clfs_model.specs.declared.call.Call.{Call}
-use Rattle.clfs_model.specs.declared.refusal.Refusal.{Refusal}
+use Rattle.clfs_laws.proofs.Words.{◌≡◌, ℕ, Bool, true, false, refl, ap, ◌∙◌, inl, inr, ◌⊎◌, Option, Some, None, MatchOption, Call, Refusal, Happened, Fine, Fault, Damage, Reply, State, happened_of, happened_of_refusal, flushed, refusal, answer, Step, Goes, Comes, IsReply, IsReplyRead, is_of_call, is_own_reply}
 use Rattle.clfs_model.specs.declared.refusal.Refusal.TheVariants as refusals
-use Rattle.clfs_model.specs.declared.reply.Happened.{Happened}
-use Rattle.clfs_model.specs.declared.reply.Happened.TheVariants.{Fine, Fault, Damage}
-use Rattle.clfs_model.specs.declared.reply.Reply.{Reply}
 use Rattle.clfs_model.specs.declared.reply.Reply.TheVariants as replies
-use Rattle.clfs_model.specs.declared.state.State.{State}
-use Rattle.clfs_model.specs.Happened.{happened_of, happened_of_refusal}
-use Rattle.clfs_model.specs.Flush.{flushed}
-use Rattle.clfs_model.specs.Refusals.{refusal}
-use Rattle.clfs_model.specs.Answers.{answer}
-use Rattle.clfs_model.specs.Step.{Step, Goes, Comes, IsReply, IsReplyRead}
 use Rattle.clfs_laws.proofs.CallRefusals.{Told, own_of, terms_of, refusal_told}
-use Rattle.clfs_laws.specs.Refused.{is_of_call, is_own_reply}
 use Rattle.clfs_laws.proofs.OwnAnswers.{answer_own}
 use Rattle.clfs_laws.proofs.StepCases.{broken_step, whole_step}
 

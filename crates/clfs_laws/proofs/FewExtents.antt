@@ -1,29 +1,11 @@
 -- A valid log has no more extents than there can be containers.
-use Rattle.std.proofs.Common.{◌≡◌, ℕ, ◌+◌, ◌-◌, ◌≤◌, Bool, true, false, refl, sym, ap, ◌∙◌, inl, inr, arith, List, [], ◌∷◌, length}
-use Rattle.std.specs.Prelude.{Option, Some, None, MatchOption}
-use Rattle.std.specs.List.{AllByRecursion, filter_map, range_with_len, cons_option}
-use Rattle.std.specs.Option.{option_map_or, option_to_list}
+use Rattle.clfs_laws.proofs.Words.{◌≡◌, ℕ, ◌+◌, ◌-◌, ◌≤◌, Bool, true, false, refl, sym, ap, ◌∙◌, inl, inr, arith, List, [], ◌∷◌, length, Option, Some, None, MatchOption, AllByRecursion, filter_map, range_with_len, option_map_or, option_to_list, container_of, Call, Extent, Refusal, Happened, Fine, Fault, Damage, Reply, State, answer, extents, extents_from, extent_in, flushed, hold, refusal, Step, Goes, Comes, IsReply, IsValid, is_reply_of}
+use Rattle.std.specs.List.{cons_option}
 use Rattle.std.proofs.lemmas.List.FromFn.{length-range_with_len}
 use Rattle.clfs_lsn.specs.Limits.{most_containers}
-use Rattle.clfs_lsn.specs.Lsn.{container_of}
-use Rattle.clfs_model.specs.declared.call.Call.{Call}
 use Rattle.clfs_model.specs.declared.call.Call.TheVariants as calls
-use Rattle.clfs_model.specs.declared.info.Extent.{Extent}
-use Rattle.clfs_model.specs.declared.refusal.Refusal.{Refusal}
 use Rattle.clfs_model.specs.declared.refusal.Refusal.TheVariants as refusals
-use Rattle.clfs_model.specs.declared.reply.Happened.{Happened}
-use Rattle.clfs_model.specs.declared.reply.Happened.TheVariants.{Fine, Fault, Damage}
-use Rattle.clfs_model.specs.declared.reply.Reply.{Reply}
 use Rattle.clfs_model.specs.declared.reply.Reply.TheVariants as replies
-use Rattle.clfs_model.specs.declared.state.State.{State}
-use Rattle.clfs_model.specs.Answers.{answer}
-use Rattle.clfs_model.specs.Archive.{extents, extents_from, extent_in}
-use Rattle.clfs_model.specs.Flush.{flushed}
-use Rattle.clfs_model.specs.Live.{hold}
-use Rattle.clfs_model.specs.Refusals.{refusal}
-use Rattle.clfs_model.specs.Step.{Step, Goes, Comes, IsReply}
-use Rattle.clfs_model.specs.Valid.{IsValid}
-use Rattle.clfs_laws.specs.ReplyKinds.{is_reply_of}
 use Rattle.clfs_laws.proofs.HoldOrder.{hold_below_archive}
 use Rattle.clfs_laws.proofs.ReplyKinds.{answer_kind}
 use Rattle.clfs_laws.proofs.StepCases.{broken_step, whole_step}

@@ -1,10 +1,5 @@
 -- Finding an area among areas of which one has changed, is new or is gone.
-use Rattle.std.proofs.Common.{◌≡◌, ℕ, Bool, true, false, refl, sym, ap, ◌∙◌, inl, inr, List, [], ◌∷◌, ◌++◌}
-use Rattle.std.specs.Prelude.{Some, None, find, filter, not, if◌then◌else◌}
-use Rattle.std.specs.Option.{option_map}
-use Rattle.std.proofs.lemmas.Bool.{cases_Bool}
-use Rattle.clfs_model.specs.declared.state.Area.{Area}
-use Rattle.clfs_model.specs.State.{is_area, change_first}
+use Rattle.clfs_laws.proofs.Words.{◌≡◌, ℕ, Bool, true, false, refl, sym, ap, ◌∙◌, inl, inr, List, [], ◌∷◌, ◌++◌, Some, None, find, filter, not, if◌then◌else◌, option_map, cases_Bool, Area, is_area, change_first}
 
 -- a change that leaves an area's client and number
 pub record KeepsName (change : Area → Area) : Type 0 where

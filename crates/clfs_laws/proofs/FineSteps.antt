@@ -1,18 +1,7 @@
 -- What a call comes to where nothing happened and memory sufficed, on a log that isn't broken.
-use Rattle.std.proofs.Common.{◌≡◌, ◌≢◌, ℕ, Bool, true, false, refl, subst, inl, inr}
-use Rattle.std.specs.Prelude.{Option, Some, None, MatchOption}
-use Rattle.clfs_lsn.specs.declared.entry.LogEntry.{LogEntry}
-use Rattle.clfs_model.specs.declared.call.Call.{Call}
-use Rattle.clfs_model.specs.declared.refusal.Refusal.{Refusal}
+use Rattle.clfs_laws.proofs.Words.{◌≡◌, ◌≢◌, ℕ, Bool, true, false, refl, subst, inl, inr, Option, Some, None, MatchOption, LogEntry, Call, Refusal, Fine, Reply, State, flushed, refusal, Outcome, answer, Step, Comes, IsReply}
 use Rattle.clfs_model.specs.declared.refusal.Refusal.TheVariants as refusals
-use Rattle.clfs_model.specs.declared.reply.Happened.TheVariants.{Fine}
-use Rattle.clfs_model.specs.declared.reply.Reply.{Reply}
 use Rattle.clfs_model.specs.declared.reply.Reply.TheVariants as replies
-use Rattle.clfs_model.specs.declared.state.State.{State}
-use Rattle.clfs_model.specs.Flush.{flushed}
-use Rattle.clfs_model.specs.Refusals.{refusal}
-use Rattle.clfs_model.specs.Answers.{Outcome, answer}
-use Rattle.clfs_model.specs.Step.{Step, Comes, IsReply}
 use Rattle.clfs_laws.proofs.StepCases.{broken_step, whole_step}
 
 -- a step that isn't stopped

@@ -1,40 +1,10 @@
 -- What is on the disk stays there, in every step.
-use Rattle.std.proofs.Common.{◌≡◌, ℕ, ◌+◌, ◌≤◌, Bool, true, false, refl, ap, inl, inr, arith, List, [], ◌∷◌, ◌++◌, length}
-use Rattle.std.specs.Prelude.{Option, Some, None, nat_lt, is_none, ◌==◌}
-use Rattle.std.specs.Option.{option_map_or, option_and_then}
-use Rattle.std.proofs.lemmas.Bool.{cases_Bool}
-use Rattle.clfs_lsn.specs.Lsn.{null_lsn}
-use Rattle.clfs_lsn.specs.declared.entry.LogEntry.{LogEntry}
-use Rattle.clfs_lsn.specs.declared.policy.Policy.{Policy}
+use Rattle.clfs_laws.proofs.Words.{◌≡◌, ℕ, ◌+◌, ◌≤◌, Bool, true, false, refl, ap, inl, inr, arith, List, [], ◌∷◌, ◌++◌, length, Option, Some, None, nat_lt, is_none, ◌==◌, option_map_or, option_and_then, cases_Bool, null_lsn, LogEntry, Policy, PolicyKind, Call, Draft, Entry, Refusal, Happened, Reply, State, Area, CursorKind, Records, RestartAreas, area_of, change_area, live_at, own_sum, grown, flushed, flush, GoesOn, IsLegal, with_policy, without_policy, next_lsn, put, need_of, spend_if, hold_sizes, seal_if, flush_if, plain_record, appended, newest_restart, record_cursor, restart_cursor, next_of_cursor, with_cursor_at, refusal, in_area, append_refusal, restart_refusal, invalid_base, read_refusal, next_refusal, too_many_cursors, refused_if, too_long, full, short, stream_number, Outcome, outcome, answer, found_with_cursor, read_at, read_newest_restart, moved_on, reserved_for, released, restart_record, rebased, restarted, advanced, archiving, flushed_to, Step, IsValid, HasSpaceLaws}
 use Rattle.clfs_lsn.specs.declared.policy.Policy.TheVariants as policies
-use Rattle.clfs_lsn.specs.declared.policy.PolicyKind.{PolicyKind}
 use Rattle.clfs_lsn.specs.declared.policy.PolicyKind.TheVariants as kinds
-use Rattle.clfs_model.specs.declared.call.Call.{Call}
 use Rattle.clfs_model.specs.declared.call.Call.TheVariants as calls
-use Rattle.clfs_model.specs.declared.call.Draft.{Draft}
-use Rattle.clfs_model.specs.declared.journal.Entry.{Entry}
-use Rattle.clfs_model.specs.declared.refusal.Refusal.{Refusal}
 use Rattle.clfs_model.specs.declared.refusal.Refusal.TheVariants as refusals
-use Rattle.clfs_model.specs.declared.reply.Happened.{Happened}
-use Rattle.clfs_model.specs.declared.reply.Reply.{Reply}
 use Rattle.clfs_model.specs.declared.reply.Reply.TheVariants as replies
-use Rattle.clfs_model.specs.declared.state.State.{State}
-use Rattle.clfs_model.specs.declared.state.Area.{Area}
-use Rattle.clfs_lsn.specs.declared.cursor.CursorKind.{CursorKind}
-use Rattle.clfs_lsn.specs.declared.cursor.CursorKind.TheVariants.{Records, RestartAreas}
-use Rattle.clfs_model.specs.State.{area_of, change_area}
-use Rattle.clfs_model.specs.Live.{live_at}
-use Rattle.clfs_model.specs.Space.{own_sum, grown}
-use Rattle.clfs_model.specs.Flush.{flushed, flush}
-use Rattle.clfs_model.specs.Journals.{GoesOn, IsLegal}
-use Rattle.clfs_model.specs.Policies.{with_policy, without_policy}
-use Rattle.clfs_model.specs.Put.{next_lsn, put, need_of, spend_if, hold_sizes, seal_if, flush_if, plain_record, appended}
-use Rattle.clfs_model.specs.Reading.{newest_restart, record_cursor, restart_cursor, next_of_cursor, with_cursor_at}
-use Rattle.clfs_model.specs.Refusals.{refusal, in_area, append_refusal, restart_refusal, invalid_base, read_refusal, next_refusal, too_many_cursors, refused_if, too_long, full, short, stream_number}
-use Rattle.clfs_model.specs.Answers.{Outcome, outcome, answer, found_with_cursor, read_at, read_newest_restart, moved_on, reserved_for, released, restart_record, rebased, restarted, advanced, archiving, flushed_to}
-use Rattle.clfs_model.specs.Step.{Step}
-use Rattle.clfs_model.specs.Valid.{IsValid}
-use Rattle.clfs_space.specs.SpaceLaws.{HasSpaceLaws}
 use Rattle.clfs_laws.proofs.StepLeads.{step_leads}
 use Rattle.clfs_laws.proofs.ValidSettings.{valid_grown, grown_is, grown_no_fewer}
 use Rattle.clfs_laws.proofs.ValidPlaces.{sound_of, flushed_seal, flushed_flush}

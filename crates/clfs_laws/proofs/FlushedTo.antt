@@ -1,20 +1,8 @@
 -- A flush up to an LSN answers an LSN above it.
-use Rattle.std.proofs.Common.{◌≡◌, ℕ, ◌<◌, ◌≤◌, Bool, true, false, refl, sym, ap, ◌∙◌, inl, inr, arith}
-use Rattle.std.specs.Prelude.{Option, Some, None, nat_lt, nat_le}
-use Rattle.std.proofs.lemmas.Bool.{cases_Bool, ltb-true, ltb-false, leb-false}
-use Rattle.clfs_lsn.specs.Place.{frontier}
+use Rattle.clfs_laws.proofs.Words.{◌≡◌, ℕ, ◌<◌, ◌≤◌, Bool, true, false, refl, sym, ap, ◌∙◌, inl, inr, arith, Option, Some, None, nat_lt, nat_le, cases_Bool, ltb-true, ltb-false, leb-false, frontier, Happened, Fine, Fault, Damage, State, area_of, flushed, flush, refusal, refused_if, flushed_to, Step, Goes, IsReply, IsValid}
 use Rattle.clfs_model.specs.declared.call.Call.TheVariants as calls
 use Rattle.clfs_model.specs.declared.refusal.Refusal.TheVariants as refusals
-use Rattle.clfs_model.specs.declared.reply.Happened.{Happened}
-use Rattle.clfs_model.specs.declared.reply.Happened.TheVariants.{Fine, Fault, Damage}
 use Rattle.clfs_model.specs.declared.reply.Reply.TheVariants as replies
-use Rattle.clfs_model.specs.declared.state.State.{State}
-use Rattle.clfs_model.specs.State.{area_of}
-use Rattle.clfs_model.specs.Flush.{flushed, flush}
-use Rattle.clfs_model.specs.Refusals.{refusal, refused_if}
-use Rattle.clfs_model.specs.Answers.{flushed_to}
-use Rattle.clfs_model.specs.Step.{Step, Goes, IsReply}
-use Rattle.clfs_model.specs.Valid.{IsValid}
 use Rattle.clfs_laws.proofs.FineSteps.{ComesBy}
 use Rattle.clfs_laws.proofs.NotRefused.{passed, passed_area}
 use Rattle.clfs_laws.proofs.StepCases.{broken_step, whole_step}

@@ -1,28 +1,9 @@
 -- A read finds its record where a chain begins there and the area has a free cursor.
-use Rattle.std.proofs.Common.{◌≡◌, ◌≢◌, ℕ, zero, suc, ◌<◌, Bool, true, false, refl, ap, ◌∙◌, List, ◌∷◌, length}
-use Rattle.std.specs.Prelude.{Option, Some, None, is_none, slice_get}
-use Rattle.std.specs.Option.{option_map_or}
+use Rattle.clfs_laws.proofs.Words.{◌≡◌, ◌≢◌, ℕ, zero, suc, ◌<◌, Bool, true, false, refl, ap, ◌∙◌, List, ◌∷◌, length, Option, Some, None, is_none, slice_get, option_map_or, LogEntry, Call, Mode, Refusal, Fine, Reply, State, Area, CursorKind, Records, RestartAreas, area_of, live_at, flushed, chain, chain_from, newest_restart, restart_areas, refusal, refused_if, read_refusal, too_many_cursors, outcome, answer, found_with_cursor, read_at, read_newest_restart, Step, IsReply}
 use Rattle.std.proofs.lemmas.Bool.{lt-leb}
-use Rattle.clfs_lsn.specs.declared.entry.LogEntry.{LogEntry}
-use Rattle.clfs_model.specs.declared.call.Call.{Call}
 use Rattle.clfs_model.specs.declared.call.Call.TheVariants as calls
-use Rattle.clfs_lsn.specs.declared.cursor.Mode.{Mode}
-use Rattle.clfs_model.specs.declared.refusal.Refusal.{Refusal}
 use Rattle.clfs_model.specs.declared.refusal.Refusal.TheVariants as refusals
-use Rattle.clfs_model.specs.declared.reply.Happened.TheVariants.{Fine}
-use Rattle.clfs_model.specs.declared.reply.Reply.{Reply}
 use Rattle.clfs_model.specs.declared.reply.Reply.TheVariants as replies
-use Rattle.clfs_model.specs.declared.state.State.{State}
-use Rattle.clfs_model.specs.declared.state.Area.{Area}
-use Rattle.clfs_lsn.specs.declared.cursor.CursorKind.{CursorKind}
-use Rattle.clfs_lsn.specs.declared.cursor.CursorKind.TheVariants.{Records, RestartAreas}
-use Rattle.clfs_model.specs.State.{area_of}
-use Rattle.clfs_model.specs.Live.{live_at}
-use Rattle.clfs_model.specs.Flush.{flushed}
-use Rattle.clfs_model.specs.Reading.{chain, chain_from, newest_restart, restart_areas}
-use Rattle.clfs_model.specs.Refusals.{refusal, refused_if, read_refusal, too_many_cursors}
-use Rattle.clfs_model.specs.Answers.{outcome, answer, found_with_cursor, read_at, read_newest_restart}
-use Rattle.clfs_model.specs.Step.{Step, IsReply}
 use Rattle.clfs_laws.proofs.FineSteps.{fine_answered, comes_as}
 use Rattle.clfs_laws.proofs.ReadCalls.{in_area_is, over_area_is}
 

@@ -1,20 +1,7 @@
 -- A call without room that no other test refuses is refused for space, and one whose area holds too little for that.
-use Rattle.std.proofs.Common.{◌≡◌, ℕ, Bool, true, false, refl, ap, ◌∙◌, List, [], ◌∷◌, length}
-use Rattle.std.specs.Prelude.{Option, Some, None, not, ◌==◌, ◌||◌, if◌then◌else◌, nat_lt}
-use Rattle.std.specs.Option.{option_map_or}
-use Rattle.clfs_lsn.specs.Lsn.{null_lsn}
+use Rattle.clfs_laws.proofs.Words.{◌≡◌, ℕ, Bool, true, false, refl, ap, ◌∙◌, List, [], ◌∷◌, length, Option, Some, None, not, ◌==◌, ◌||◌, if◌then◌else◌, nat_lt, option_map_or, null_lsn, Draft, Refusal, State, Area, area_of, base_of, last_live, own_sum, free, reserved, grown, has_room, need_of, spent_of, refused_if, in_area, unless_two_containers, too_long, invalid_link, invalid_base, short, full, is_link, is_base, append_refusal, restart_refusal, refusal, HasSpaceLaws}
 use Rattle.clfs_model.specs.declared.call.Call.TheVariants as calls
-use Rattle.clfs_model.specs.declared.call.Draft.{Draft}
-use Rattle.clfs_model.specs.declared.refusal.Refusal.{Refusal}
 use Rattle.clfs_model.specs.declared.refusal.Refusal.TheVariants as refusals
-use Rattle.clfs_model.specs.declared.state.State.{State}
-use Rattle.clfs_model.specs.declared.state.Area.{Area}
-use Rattle.clfs_model.specs.State.{area_of, base_of}
-use Rattle.clfs_model.specs.Live.{last_live}
-use Rattle.clfs_model.specs.Space.{own_sum, free, reserved, grown, has_room}
-use Rattle.clfs_model.specs.Put.{need_of, spent_of}
-use Rattle.clfs_model.specs.Refusals.{refused_if, in_area, unless_two_containers, too_long, invalid_link, invalid_base, short, full, is_link, is_base, append_refusal, restart_refusal, refusal}
-use Rattle.clfs_space.specs.SpaceLaws.{HasSpaceLaws}
 use Rattle.clfs_laws.specs.Needs.{first_too_long}
 use Rattle.clfs_laws.proofs.Room.{as_it_is}
 

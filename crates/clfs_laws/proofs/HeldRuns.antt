@@ -1,29 +1,9 @@
 -- What an area holds in a legal journal, by its client's own entries alone.
-use Rattle.std.proofs.Common.{◌≡◌, ℕ, ◌+◌, ◌-◌, Bool, true, false, refl, sym, ap, ◌∙◌, subst, inl, inr, arith, List, [], ◌∷◌, ◌++◌, length}
-use Rattle.std.specs.Prelude.{Option, Some, None, MatchOption, ◌==◌, if◌then◌else◌}
-use Rattle.std.specs.Option.{option_map, option_map_or, option_and_then}
-use Rattle.std.proofs.lemmas.Bool.{cases_Bool, eqb-true, eqb-false, ne_eqb}
-use Rattle.clfs_lsn.specs.declared.entry.LogEntry.{LogEntry}
-use Rattle.clfs_model.specs.declared.call.Call.{Call}
+use Rattle.clfs_laws.proofs.Words.{◌≡◌, ℕ, ◌+◌, ◌-◌, Bool, true, false, refl, sym, ap, ◌∙◌, subst, inl, inr, arith, List, [], ◌∷◌, ◌++◌, length, Option, Some, None, MatchOption, ◌==◌, if◌then◌else◌, option_map, option_map_or, option_and_then, cases_Bool, eqb-true, eqb-false, ne_eqb, LogEntry, Call, Entry, Refusal, Happened, Fine, Fault, Damage, Reply, State, Area, area_of, live_at, next_of_cursor, record_cursor, restart_cursor, newest_restart, refusal, stream_number, flushed, Outcome, outcome, answer, Step, Goes, Comes, IsReply, IsReplyRead, GoesOn, IsLegal, mine, held_in, held_by, AreaRow, row_of, row_in, row_after}
 use Rattle.clfs_model.specs.declared.call.Call.TheVariants as calls
-use Rattle.clfs_model.specs.declared.journal.Entry.{Entry}
-use Rattle.clfs_model.specs.declared.refusal.Refusal.{Refusal}
 use Rattle.clfs_model.specs.declared.refusal.Refusal.TheVariants as refusals
-use Rattle.clfs_model.specs.declared.reply.Happened.{Happened}
-use Rattle.clfs_model.specs.declared.reply.Happened.TheVariants.{Fine, Fault, Damage}
-use Rattle.clfs_model.specs.declared.reply.Reply.{Reply}
 use Rattle.clfs_model.specs.declared.reply.Reply.TheVariants as replies
-use Rattle.clfs_model.specs.declared.state.State.{State}
-use Rattle.clfs_model.specs.declared.state.Area.{Area}
-use Rattle.clfs_model.specs.State.{area_of}
-use Rattle.clfs_model.specs.Live.{live_at}
-use Rattle.clfs_model.specs.Reading.{next_of_cursor, record_cursor, restart_cursor, newest_restart}
-use Rattle.clfs_model.specs.Refusals.{refusal, stream_number}
-use Rattle.clfs_model.specs.Flush.{flushed}
-use Rattle.clfs_model.specs.Answers.{Outcome, outcome, answer}
-use Rattle.clfs_model.specs.Step.{Step, Goes, Comes, IsReply, IsReplyRead}
-use Rattle.clfs_model.specs.Journals.{GoesOn, IsLegal, mine, held_in, held_after, held_through, held_by}
-use Rattle.clfs_laws.specs.Rows.{AreaRow, row_of, row_in, row_after}
+use Rattle.clfs_model.specs.Journals.{held_after, held_through}
 use Rattle.clfs_laws.proofs.RowRuns.{step_rows, damage_is}
 use Rattle.clfs_laws.proofs.StepCases.{broken_step, whole_step}
 

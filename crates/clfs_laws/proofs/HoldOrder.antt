@@ -1,19 +1,6 @@
 -- The hold is the least of what the log needs, so it isn't earlier where only later LSNs are needed.
-use Rattle.std.proofs.Common.{◌≡◌, ℕ, ◌≤◌, Bool, true, false, inl, inr, arith, List, [], ◌∷◌, ◌++◌}
-use Rattle.std.specs.Prelude.{Option, Some, None, filter, map, fold, min, IfSome}
-use Rattle.std.specs.List.{AllByRecursion}
-use Rattle.std.specs.Option.{option_to_list}
-use Rattle.std.proofs.lemmas.Bool.{cases_Bool}
-use Rattle.std.proofs.lemmas.List.Elements.{All-weaker, recursion_from_All}
-use Rattle.clfs_lsn.specs.Place.{frontier}
-use Rattle.clfs_lsn.specs.Space.{active_containers, free_sectors}
-use Rattle.clfs_lsn.specs.declared.place.Place.{Place}
-use Rattle.clfs_lsn.specs.declared.shape.Shape.{Shape}
-use Rattle.clfs_lsn.specs.declared.entry.LogEntry.{LogEntry}
-use Rattle.clfs_model.specs.declared.state.State.{State}
-use Rattle.clfs_model.specs.Live.{hold, live_lsns, is_live}
-use Rattle.clfs_lsn.specs.Heads.{least_or}
-use Rattle.clfs_model.specs.Valid.{IsRecord}
+use Rattle.clfs_laws.proofs.Words.{◌≡◌, ℕ, ◌≤◌, Bool, true, false, inl, inr, arith, List, [], ◌∷◌, ◌++◌, Option, Some, None, filter, map, IfSome, AllByRecursion, option_to_list, cases_Bool, All-weaker, recursion_from_All, frontier, active_containers, free_sectors, Place, Shape, LogEntry, State, hold, live_lsns, is_live, least_or, IsRecord}
+use Rattle.std.specs.Prelude.{fold, min}
 use Rattle.clfs_laws.proofs.ValidPlaces.{IsSound, flushed_below}
 
 fold_at_least : (x n : ℕ) (ns : List ℕ) → x ≤ n → AllByRecursion (λ m. x ≤ m) ns → x ≤ fold min n ns

@@ -1,42 +1,10 @@
 -- The hold never falls: no step needs again what the log didn't need before it.
-use Rattle.std.proofs.Common.{◌≡◌, ℕ, ◌-◌, ◌≤◌, Bool, true, false, refl, sym, ap, ◌∙◌, subst, inl, inr, arith, List, [], ◌∷◌, ◌++◌, length}
-use Rattle.std.specs.Prelude.{Option, Some, None, IsSome, nat_lt, not, ◌||◌, ◌==◌}
-use Rattle.std.specs.List.{AllByRecursion}
-use Rattle.std.specs.Option.{option_map_or, option_to_list}
-use Rattle.std.proofs.lemmas.Bool.{cases_Bool, ltb-false}
-use Rattle.std.proofs.lemmas.List.Elements.{All-weaker, recursion_from_All}
-use Rattle.clfs_lsn.specs.Lsn.{null_lsn}
-use Rattle.clfs_lsn.specs.Place.{frontier, joins, begins_here}
-use Rattle.clfs_lsn.specs.declared.entry.LogEntry.{LogEntry}
-use Rattle.clfs_lsn.specs.declared.policy.Policy.{Policy}
+use Rattle.clfs_laws.proofs.Words.{◌≡◌, ℕ, ◌-◌, ◌≤◌, Bool, true, false, refl, sym, ap, ◌∙◌, subst, inl, inr, arith, List, [], ◌∷◌, ◌++◌, length, Option, Some, None, IsSome, nat_lt, not, ◌||◌, ◌==◌, AllByRecursion, option_map_or, option_to_list, cases_Bool, ltb-false, All-weaker, recursion_from_All, null_lsn, frontier, joins, begins_here, LogEntry, Policy, PolicyKind, Call, Draft, Refusal, Happened, Reply, State, Area, Stream, Cursor, stream_at, base_of, area_of, set_base, is_live, hold, last_live, live_at, grown, seal, flush, flushed, cut, next_lsn, put, need_of, spend_if, hold_sizes, seal_if, flush_if, plain_record, appended, with_policy, without_policy, newest_restart, record_cursor, restart_cursor, refusal, in_area, refused_if, restart_refusal, is_base, invalid_base, stream_number, Outcome, outcome, answer, over_area, moved_on, restart_record, restarted, rebased, archiving, advanced, flushed_to, Step, with_broken, IsValid, IsRecord, HasSpaceLaws}
 use Rattle.clfs_lsn.specs.declared.policy.Policy.TheVariants as policies
-use Rattle.clfs_lsn.specs.declared.policy.PolicyKind.{PolicyKind}
 use Rattle.clfs_lsn.specs.declared.policy.PolicyKind.TheVariants as kinds
-use Rattle.clfs_model.specs.declared.call.Call.{Call}
 use Rattle.clfs_model.specs.declared.call.Call.TheVariants as calls
-use Rattle.clfs_model.specs.declared.call.Draft.{Draft}
-use Rattle.clfs_model.specs.declared.refusal.Refusal.{Refusal}
 use Rattle.clfs_model.specs.declared.refusal.Refusal.TheVariants as refusals
-use Rattle.clfs_model.specs.declared.reply.Happened.{Happened}
-use Rattle.clfs_model.specs.declared.reply.Reply.{Reply}
 use Rattle.clfs_model.specs.declared.reply.Reply.TheVariants as replies
-use Rattle.clfs_model.specs.declared.state.State.{State}
-use Rattle.clfs_model.specs.declared.state.Area.{Area}
-use Rattle.clfs_lsn.specs.declared.stream.Stream.{Stream}
-use Rattle.clfs_lsn.specs.declared.cursor.Cursor.{Cursor}
-use Rattle.clfs_model.specs.State.{stream_at, base_of, area_of}
-use Rattle.clfs_lsn.specs.Streams.{set_base}
-use Rattle.clfs_model.specs.Live.{is_live, hold, last_live, live_at}
-use Rattle.clfs_model.specs.Space.{grown}
-use Rattle.clfs_model.specs.Flush.{seal, flush, flushed, cut}
-use Rattle.clfs_model.specs.Put.{next_lsn, put, need_of, spend_if, hold_sizes, seal_if, flush_if, plain_record, appended}
-use Rattle.clfs_model.specs.Policies.{with_policy, without_policy}
-use Rattle.clfs_model.specs.Reading.{newest_restart, record_cursor, restart_cursor}
-use Rattle.clfs_model.specs.Refusals.{refusal, in_area, refused_if, restart_refusal, is_base, invalid_base, stream_number}
-use Rattle.clfs_model.specs.Answers.{Outcome, outcome, answer, over_area, moved_on, restart_record, restarted, rebased, archiving, advanced, flushed_to}
-use Rattle.clfs_model.specs.Step.{Step, with_broken}
-use Rattle.clfs_model.specs.Valid.{IsValid, IsRecord}
-use Rattle.clfs_space.specs.SpaceLaws.{HasSpaceLaws}
 use Rattle.clfs_laws.proofs.HoldOrder.{hold_later, hold_below_archive, hold_below_live, hold_below_frontier}
 use Rattle.clfs_laws.proofs.Links.{next_above}
 use Rattle.clfs_laws.proofs.NotRefused.{passed}

@@ -1,19 +1,5 @@
 -- The hold's container never falls, in a step, where the log is opened again, and along a journal.
-use Rattle.std.proofs.Common.{◌≡◌, ℕ, ◌≤◌, Bool, true, false, ap, inl, inr, ◌⊎◌, arith, List, [], ◌∷◌, ◌++◌}
-use Rattle.std.specs.Prelude.{MatchBool}
-use Rattle.clfs_lsn.specs.Lsn.{container_of}
-use Rattle.clfs_model.specs.declared.call.Call.{Call}
-use Rattle.clfs_model.specs.declared.journal.Entry.{Entry}
-use Rattle.clfs_model.specs.declared.reply.Happened.{Happened}
-use Rattle.clfs_model.specs.declared.reply.Happened.TheVariants.{Fine, Fault, Damage}
-use Rattle.clfs_model.specs.declared.reply.Reply.{Reply}
-use Rattle.clfs_model.specs.declared.state.State.{State}
-use Rattle.clfs_model.specs.Live.{hold}
-use Rattle.clfs_model.specs.Flush.{cut}
-use Rattle.clfs_model.specs.Journals.{GoesOn, IsLegal}
-use Rattle.clfs_model.specs.Step.{Step, ReopenStep, Reopens, IsBroken, IsOutOfMemory}
-use Rattle.clfs_model.specs.Valid.{IsValid}
-use Rattle.clfs_space.specs.SpaceLaws.{HasSpaceLaws}
+use Rattle.clfs_laws.proofs.Words.{◌≡◌, ℕ, ◌≤◌, Bool, true, false, ap, inl, inr, ◌⊎◌, arith, List, [], ◌∷◌, ◌++◌, MatchBool, container_of, Call, Entry, Happened, Fine, Fault, Damage, Reply, State, hold, cut, GoesOn, IsLegal, Step, ReopenStep, Reopens, IsBroken, IsOutOfMemory, IsValid, HasSpaceLaws}
 use Rattle.clfs_laws.proofs.HoldRises.{hold_rises, hold_cut}
 use Rattle.clfs_laws.proofs.ValidSteps.{valid_step}
 

@@ -1,13 +1,5 @@
 -- Journals cut in two and joined, and their numbers.
-use Rattle.std.proofs.Common.{◌≡◌, ℕ, ◌+◌, Bool, true, false, refl, sym, ap, ◌∙◌, subst, append_assoc, length-append, inl, inr, List, [], ◌∷◌, ◌++◌, length}
-use Rattle.std.specs.Prelude.{map, ◌==◌}
-use Rattle.std.specs.List.{range_with_len}
-use Rattle.std.proofs.lemmas.Bool.{cases_Bool, eqb-true}
-use Rattle.std.proofs.lemmas.List.{append-nil}
-use Rattle.std.proofs.lemmas.List.Elements.{filter-append}
-use Rattle.clfs_model.specs.declared.journal.Entry.{Entry}
-use Rattle.clfs_model.specs.declared.state.State.{State}
-use Rattle.clfs_model.specs.Journals.{GoesOn, IsLegal, mine}
+use Rattle.clfs_laws.proofs.Words.{◌≡◌, ℕ, ◌+◌, Bool, true, false, refl, sym, ap, ◌∙◌, subst, append_assoc, length-append, inl, inr, List, [], ◌∷◌, ◌++◌, length, map, ◌==◌, range_with_len, cases_Bool, eqb-true, append-nil, filter-append, Entry, State, GoesOn, IsLegal, mine}
 use Rattle.clfs_laws.specs.Chains.{AreSteps}
 
 -- entries that go on after others, cut in two

@@ -1,18 +1,5 @@
 -- Making a log ready, putting a record, sealing, flushing and moving a base leave the settings.
-use Rattle.std.proofs.Common.{◌≡◌, ℕ, ◌-◌, Bool, true, false, refl, sym, ap, ◌∙◌, inl, inr, List, [], ◌∷◌, length}
-use Rattle.std.specs.Prelude.{map, nat_lt, ◌==◌}
-use Rattle.std.proofs.lemmas.Bool.{cases_Bool}
-use Rattle.clfs_lsn.specs.Lsn.{null_lsn}
-use Rattle.clfs_lsn.specs.Place.{joins, begins_here}
-use Rattle.clfs_lsn.specs.declared.entry.LogEntry.{LogEntry}
-use Rattle.clfs_model.specs.declared.state.State.{State}
-use Rattle.clfs_model.specs.declared.state.Area.{Area}
-use Rattle.clfs_lsn.specs.declared.stream.Stream.{Stream}
-use Rattle.clfs_lsn.specs.Streams.{set_base}
-use Rattle.clfs_model.specs.Answers.{rebased}
-use Rattle.clfs_model.specs.Flush.{seal, flush, cut}
-use Rattle.clfs_model.specs.Put.{put, hold_sizes, seal_if, flush_if}
-use Rattle.clfs_model.specs.Survivors.{HasSettings}
+use Rattle.clfs_laws.proofs.Words.{◌≡◌, ℕ, ◌-◌, Bool, true, false, refl, sym, ap, ◌∙◌, inl, inr, List, [], ◌∷◌, length, map, nat_lt, ◌==◌, cases_Bool, null_lsn, joins, begins_here, LogEntry, State, Area, Stream, set_base, rebased, seal, flush, cut, put, hold_sizes, seal_if, flush_if, HasSettings}
 use Rattle.clfs_laws.proofs.ValidPuts.{put_by}
 
 -- of a state itself, backwards, and one after the other

@@ -1,28 +1,5 @@
 -- A record that a log has room for leaves a laid log, and a whole one where it is plain, or on the disk with its base moved.
-use Rattle.std.proofs.Common.{◌≡◌, ℕ, ◌+◌, ◌≤◌, Bool, true, false, refl, sym, ap, ◌∙◌, subst, inl, inr, arith, List, [], ◌∷◌, ◌++◌, length}
-use Rattle.std.specs.Prelude.{Option, All, IsSome, nat_lt, ◌==◌}
-use Rattle.std.specs.List.{AllByRecursion}
-use Rattle.std.specs.Option.{option_to_list}
-use Rattle.std.proofs.lemmas.Bool.{cases_Bool}
-use Rattle.std.proofs.lemmas.List.Elements.{All-weaker, All-push, recursion_from_All}
-use Rattle.clfs_lsn.specs.Lsn.{null_lsn}
-use Rattle.clfs_lsn.specs.Size.{own}
-use Rattle.clfs_lsn.specs.Place.{frontier, joins, begins_here}
-use Rattle.clfs_lsn.specs.Spelling.{BaseFits}
-use Rattle.clfs_lsn.specs.declared.entry.LogEntry.{LogEntry}
-use Rattle.clfs_lsn.specs.declared.entry.Kind.{Kind}
-use Rattle.clfs_lsn.specs.declared.entry.Kind.TheVariants.{Plain, Restart}
-use Rattle.clfs_model.specs.declared.state.State.{State}
-use Rattle.clfs_model.specs.State.{stream_at}
-use Rattle.clfs_model.specs.Live.{hold, is_live}
-use Rattle.clfs_model.specs.Space.{free, reserved}
-use Rattle.clfs_model.specs.Flush.{flushed, seal, flush}
-use Rattle.clfs_model.specs.Put.{next_lsn, put}
-use Rattle.clfs_model.specs.Answers.{rebased}
-use Rattle.clfs_model.specs.Storable.{IsStorable}
-use Rattle.clfs_model.specs.Valid.{IsValid, IsRecord}
-use Rattle.clfs_space.specs.SpaceLaws.{HasSpaceLaws}
-use Rattle.clfs_laws.specs.Between.{IsWhole, IsLaid, MayPut, MayMove, KeepsTables}
+use Rattle.clfs_laws.proofs.Words.{◌≡◌, ℕ, ◌+◌, ◌≤◌, Bool, true, false, refl, sym, ap, ◌∙◌, subst, inl, inr, arith, List, [], ◌∷◌, ◌++◌, length, Option, All, IsSome, nat_lt, ◌==◌, AllByRecursion, option_to_list, cases_Bool, All-weaker, All-push, recursion_from_All, null_lsn, own, frontier, joins, begins_here, BaseFits, LogEntry, Kind, Plain, Restart, State, stream_at, hold, is_live, free, reserved, flushed, seal, flush, next_lsn, put, rebased, IsStorable, IsValid, IsRecord, HasSpaceLaws, IsWhole, IsLaid, MayPut, MayMove, KeepsTables}
 use Rattle.clfs_laws.proofs.HoldOrder.{hold_later, hold_below_archive, hold_below_live, hold_below_frontier}
 use Rattle.clfs_laws.proofs.LaidStates.{laid_of, sound_laid}
 use Rattle.clfs_laws.proofs.Links.{next_above}

@@ -1,17 +1,5 @@
 -- A state that is valid and that files can hold but for the restart area that was put last: sealing and flushing keep it such.
-use Rattle.std.proofs.Common.{◌≡◌, refl, sym, subst, inl, inr, arith, List, []}
-use Rattle.std.specs.Prelude.{All, nat_lt}
-use Rattle.std.proofs.lemmas.Bool.{cases_Bool}
-use Rattle.std.proofs.lemmas.List.Elements.{All-weaker}
-use Rattle.clfs_lsn.specs.Lsn.{container_of}
-use Rattle.clfs_lsn.specs.Spelling.{BaseFits}
-use Rattle.clfs_lsn.specs.declared.entry.LogEntry.{LogEntry}
-use Rattle.clfs_model.specs.declared.state.State.{State}
-use Rattle.clfs_model.specs.Live.{hold}
-use Rattle.clfs_model.specs.Flush.{seal, flush}
-use Rattle.clfs_model.specs.Storable.{HasBlocks, IsWithinLimits, HasMovedBase, IsStorable}
-use Rattle.clfs_model.specs.Valid.{IsValid}
-use Rattle.clfs_laws.specs.Between.{IsWhole, IsLaid, KeepsTables}
+use Rattle.clfs_laws.proofs.Words.{◌≡◌, refl, sym, subst, inl, inr, arith, List, [], All, nat_lt, cases_Bool, All-weaker, container_of, BaseFits, LogEntry, State, hold, seal, flush, HasBlocks, IsWithinLimits, HasMovedBase, IsStorable, IsValid, IsWhole, IsLaid, KeepsTables}
 use Rattle.clfs_laws.proofs.RecordsOfCalls.{seal_records}
 use Rattle.clfs_laws.proofs.StorableBases.{bases_as, same_bases}
 use Rattle.clfs_laws.proofs.StorableBlocks.{blocks_seal, blocks_flush}

@@ -93,3 +93,4 @@ pub mod KeptSettings
 pub mod ReadyStages
 pub mod StagesSurvive
 pub mod CallStages
+mod Words

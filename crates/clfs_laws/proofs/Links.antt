@@ -1,24 +1,5 @@
 -- Links lie below the next record, and bases and live records below the frontier.
-use Rattle.std.proofs.Common.{◌≡◌, ℕ, zero, suc, ◌-◌, ◌<◌, ◌≤◌, Bool, true, false, refl, subst, inl, inr, ◌⊎◌, arith, List, [], ◌∷◌}
-use Rattle.std.specs.Prelude.{Option, Some, None, is_some, find, filter, slice_get, nat_lt, ◌&&◌, ◌||◌, ◌==◌}
-use Rattle.std.specs.List.{AllByRecursion}
-use Rattle.std.specs.Option.{option_map_or}
-use Rattle.std.proofs.lemmas.Bool.{cases_Bool, eqb-true, ltb-true}
-use Rattle.std.proofs.lemmas.List.Elements.{All-weaker, recursion_from_All}
-use Rattle.clfs_lsn.specs.Lsn.{null_lsn}
-use Rattle.clfs_lsn.specs.Place.{IsWithin, frontier, joins, begins_here}
-use Rattle.clfs_lsn.specs.Size.{IsShape}
-use Rattle.clfs_lsn.specs.declared.place.Place.{Place}
-use Rattle.clfs_lsn.specs.declared.shape.Shape.{Shape}
-use Rattle.clfs_lsn.specs.declared.entry.LogEntry.{LogEntry}
-use Rattle.clfs_model.specs.declared.state.State.{State}
-use Rattle.clfs_lsn.specs.declared.stream.Stream.{Stream}
-use Rattle.clfs_model.specs.State.{base_of}
-use Rattle.clfs_model.specs.Live.{is_live, live_at}
-use Rattle.clfs_model.specs.Flush.{flushed}
-use Rattle.clfs_model.specs.Put.{next_lsn}
-use Rattle.clfs_model.specs.Refusals.{is_link}
-use Rattle.clfs_model.specs.Valid.{IsRecord}
+use Rattle.clfs_laws.proofs.Words.{◌≡◌, ℕ, zero, suc, ◌-◌, ◌<◌, ◌≤◌, Bool, true, false, refl, subst, inl, inr, ◌⊎◌, arith, List, [], ◌∷◌, Option, Some, None, is_some, find, filter, slice_get, nat_lt, ◌&&◌, ◌||◌, ◌==◌, AllByRecursion, option_map_or, cases_Bool, eqb-true, ltb-true, All-weaker, recursion_from_All, null_lsn, IsWithin, frontier, joins, begins_here, IsShape, Place, Shape, LogEntry, State, Stream, base_of, is_live, live_at, flushed, next_lsn, is_link, IsRecord}
 use Rattle.clfs_laws.proofs.LsnOrder.{small_offset, few_records, frontier_sealed}
 use Rattle.clfs_laws.proofs.ValidPlaces.{IsSound, flushed_below}
 use Rattle.clfs_laws.proofs.ValidPuts.{after_by}

@@ -1,16 +1,5 @@
 -- How LSNs lie to blocks and containers.
-use Rattle.std.proofs.Common.{◌≡◌, ℕ, ◌*◌, ◌%◌, ◌^◌, ◌<◌, ◌≤◌, Bool, true, false, refl, inl, inr, ◌⊎◌, arith, List, [], ◌∷◌}
-use Rattle.std.specs.Prelude.{filter, map, find, IsSome, ◌&&◌, ◌==◌}
-use Rattle.std.specs.List.{AllByRecursion}
-use Rattle.std.proofs.lemmas.Bool.{cases_Bool, eqb-true}
-use Rattle.std.proofs.lemmas.Bool.Decides.{nat_tests}
-use Rattle.clfs_lsn.specs.Lsn.{lsn_number, container_of, offset_of, sequence_of}
-use Rattle.clfs_lsn.specs.Size.{IsShape}
-use Rattle.clfs_lsn.specs.Place.{IsWithin, IsClosed, IsOpen, sealed, frontier, block_end}
-use Rattle.clfs_lsn.specs.declared.place.Place.{Place}
-use Rattle.clfs_lsn.specs.declared.shape.Shape.{Shape}
-use Rattle.clfs_lsn.specs.declared.entry.LogEntry.{LogEntry}
-use Rattle.clfs_model.specs.Flush.{block_start}
+use Rattle.clfs_laws.proofs.Words.{◌≡◌, ℕ, ◌*◌, ◌%◌, ◌^◌, ◌<◌, ◌≤◌, Bool, true, false, refl, inl, inr, ◌⊎◌, arith, List, [], ◌∷◌, filter, map, find, IsSome, ◌&&◌, ◌==◌, AllByRecursion, cases_Bool, eqb-true, nat_tests, lsn_number, container_of, offset_of, sequence_of, IsShape, IsWithin, IsClosed, IsOpen, sealed, frontier, block_end, Place, Shape, LogEntry, block_start}
 
 -- an LSN below the start of a block isn't of this block
 pub below_block : (lsn container offset : ℕ) → offset % 512 ≡ 0 → offset < 2 ^ 32 → lsn < lsn_number container offset 0

@@ -1,17 +1,9 @@
 -- An area is what the last of its client's entries that made it says.
-use Rattle.std.proofs.Common.{◌≡◌, ℕ, Bool, true, false, refl, sym, ap, subst, ◌∙◌, List, [], ◌∷◌, ◌++◌, eq-eqb}
-use Rattle.std.specs.Prelude.{Option, Some, None, ◌==◌, if◌then◌else◌}
-use Rattle.std.specs.Option.{option_map}
-use Rattle.clfs_model.specs.declared.call.Call.{Call}
+use Rattle.clfs_laws.proofs.Words.{◌≡◌, ℕ, Bool, true, false, refl, sym, ap, subst, ◌∙◌, List, [], ◌∷◌, ◌++◌, Option, Some, None, ◌==◌, if◌then◌else◌, option_map, Call, Entry, Reply, State, Area, area_of, IsLegal, mine, AreaRow, row_of, row_in, row_after, row_through, changed_where, with_held, with_changed_held}
+use Rattle.std.proofs.Common.{eq-eqb}
 use Rattle.clfs_model.specs.declared.call.Call.TheVariants as calls
-use Rattle.clfs_model.specs.declared.journal.Entry.{Entry}
-use Rattle.clfs_model.specs.declared.reply.Reply.{Reply}
 use Rattle.clfs_model.specs.declared.reply.Reply.TheVariants as replies
-use Rattle.clfs_model.specs.declared.state.State.{State}
-use Rattle.clfs_model.specs.declared.state.Area.{Area}
-use Rattle.clfs_model.specs.State.{area_of}
-use Rattle.clfs_model.specs.Journals.{IsLegal, mine}
-use Rattle.clfs_laws.specs.Rows.{AreaRow, row_of, row_in, row_after, row_through, changed_where, with_held, with_changed_held, makes_or_ends, NoneMakesOrEnds}
+use Rattle.clfs_laws.specs.Rows.{makes_or_ends, NoneMakesOrEnds}
 use Rattle.clfs_laws.proofs.RowRuns.{rows_through}
 
 module _ (stream largest reads : ℕ) where

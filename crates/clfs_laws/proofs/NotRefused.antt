@@ -1,11 +1,6 @@
 -- What follows from a call that isn't refused.
-use Rattle.std.proofs.Common.{◌≡◌, ℕ, Bool, true, false, refl, List}
-use Rattle.std.specs.Prelude.{Option, Some, None, find, nat_lt, ◌&&◌}
-use Rattle.std.specs.Option.{option_map_or}
-use Rattle.clfs_model.specs.declared.refusal.Refusal.{Refusal}
+use Rattle.clfs_laws.proofs.Words.{◌≡◌, ℕ, Bool, true, false, refl, List, Option, Some, None, find, nat_lt, ◌&&◌, option_map_or, Refusal, Area, refused_if, too_long}
 use Rattle.clfs_model.specs.declared.refusal.Refusal.TheVariants as refusals
-use Rattle.clfs_model.specs.declared.state.Area.{Area}
-use Rattle.clfs_model.specs.Refusals.{refused_if, too_long}
 
 -- a test of a call that isn't refused fails, and no test after it refuses
 pub passed : (test : Bool) (given : Refusal) (others : Option Refusal) → refused_if test given others ≡ None → (test ≡ false) × (others ≡ None)

@@ -1,21 +1,5 @@
 -- The numbers of a state that files can hold.
-use Rattle.std.proofs.Common.{◌≡◌, ℕ, ◌<◌, ◌≤◌, ◌^◌, sym, ap, subst, inl, inr, ◌⊎◌, arith, length}
-use Rattle.std.specs.Prelude.{Option, Some, None, All, Any, IfSome, slice_index_or, ◌==◌}
-use Rattle.std.proofs.lemmas.Bool.{eqb-true}
-use Rattle.std.proofs.lemmas.List.Elements.{All-weaker, All-from_recursion}
-use Rattle.clfs_lsn.specs.Lsn.{null_lsn}
-use Rattle.clfs_lsn.specs.Size.{longest}
-use Rattle.clfs_lsn.specs.Place.{frontier}
-use Rattle.clfs_lsn.specs.declared.place.Place.{Place}
-use Rattle.clfs_lsn.specs.declared.entry.LogEntry.{LogEntry}
-use Rattle.clfs_model.specs.declared.state.State.{State}
-use Rattle.clfs_model.specs.declared.state.Area.{Area}
-use Rattle.clfs_lsn.specs.declared.cursor.Cursor.{Cursor}
-use Rattle.clfs_lsn.specs.declared.stream.Stream.{Stream}
-use Rattle.clfs_model.specs.Flush.{flushed, cut}
-use Rattle.clfs_model.specs.Storable.{HasMovedBase, HasBlocks, IsCursor, IsAreaWithinLimits, IsStorable}
-use Rattle.clfs_model.specs.Survivors.{EndsBlockOf}
-use Rattle.clfs_model.specs.Valid.{IsValid, IsRecord, IsWaiting}
+use Rattle.clfs_laws.proofs.Words.{◌≡◌, ℕ, ◌<◌, ◌≤◌, ◌^◌, sym, ap, subst, inl, inr, ◌⊎◌, arith, length, Option, Some, None, All, Any, IfSome, slice_index_or, ◌==◌, eqb-true, All-weaker, All-from_recursion, null_lsn, longest, frontier, Place, LogEntry, State, Area, Cursor, Stream, flushed, cut, HasMovedBase, HasBlocks, IsCursor, IsAreaWithinLimits, IsStorable, EndsBlockOf, IsValid, IsRecord, IsWaiting}
 use Rattle.clfs_laws.proofs.Among.{found, at_each}
 use Rattle.clfs_laws.proofs.BlockSums.{EndsWithin, paid_last}
 use Rattle.clfs_laws.proofs.Links.{base_stable}

@@ -1,14 +1,6 @@
 -- Where the open block ends, and the record that was put last.
-use Rattle.std.proofs.Common.{◌≡◌, ℕ, ◌+◌, ◌*◌, ◌≤◌, sym, ap, subst, inl, inr, arith}
+use Rattle.clfs_laws.proofs.Words.{◌≡◌, ℕ, ◌+◌, ◌*◌, ◌≤◌, sym, ap, subst, inl, inr, arith, container_of, offset_of, IsShape, sectors, frontier, block_end, Place, LogEntry, State, end_of_block, HasBlocks, GoesOnAt, before_all, behind_all}
 use Rattle.std.specs.List.{Any}
-use Rattle.clfs_lsn.specs.Lsn.{container_of, offset_of}
-use Rattle.clfs_lsn.specs.Size.{IsShape, sectors}
-use Rattle.clfs_lsn.specs.Place.{frontier, block_end}
-use Rattle.clfs_lsn.specs.declared.place.Place.{Place}
-use Rattle.clfs_lsn.specs.declared.entry.LogEntry.{LogEntry}
-use Rattle.clfs_model.specs.declared.state.State.{State}
-use Rattle.clfs_model.specs.Archive.{end_of_block}
-use Rattle.clfs_model.specs.Storable.{HasBlocks, GoesOnAt, before_all, behind_all}
 use Rattle.clfs_laws.proofs.BlockSums.{paid, IsPaid, paid_last}
 use Rattle.clfs_laws.proofs.CutPlaces.{any_among}
 

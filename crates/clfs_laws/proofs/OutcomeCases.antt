@@ -1,15 +1,8 @@
 -- What holds of each outcome that a call can have holds of the one that it has.
-use Rattle.std.specs.Prelude.{ℕ, Option, Some, None}
-use Rattle.std.specs.Option.{option_map_or, option_and_then}
-use Rattle.clfs_lsn.specs.declared.entry.LogEntry.{LogEntry}
+use Rattle.clfs_laws.proofs.Words.{Option, Some, None, option_map_or, option_and_then, LogEntry, State, Area, Cursor, area_of, change_area, next_of_cursor, with_cursor_at, Outcome, outcome, over_area, moved_on}
+use Rattle.std.specs.Prelude.{ℕ}
 use Rattle.clfs_model.specs.declared.refusal.Refusal.TheVariants as refusals
 use Rattle.clfs_model.specs.declared.reply.Reply.TheVariants as replies
-use Rattle.clfs_model.specs.declared.state.State.{State}
-use Rattle.clfs_model.specs.declared.state.Area.{Area}
-use Rattle.clfs_lsn.specs.declared.cursor.Cursor.{Cursor}
-use Rattle.clfs_model.specs.State.{area_of, change_area}
-use Rattle.clfs_model.specs.Reading.{next_of_cursor, with_cursor_at}
-use Rattle.clfs_model.specs.Answers.{Outcome, outcome, over_area, moved_on}
 
 -- an outcome of an option
 pub of_option : {A : Type 0} (P : Outcome → Type 0) (found : Option A) (f : A → Outcome) (other : Outcome)

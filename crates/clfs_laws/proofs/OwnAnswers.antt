@@ -1,17 +1,6 @@
 -- No answer tells of memory, of the disk, of an earlier call or of a bad line.
-use Rattle.std.proofs.Common.{true, ◌≡◌, ℕ, refl}
-use Rattle.std.specs.Prelude.{Option}
-use Rattle.clfs_lsn.specs.declared.entry.LogEntry.{LogEntry}
-use Rattle.clfs_model.specs.declared.call.Call.{Call}
+use Rattle.clfs_laws.proofs.Words.{true, ◌≡◌, ℕ, refl, Option, LogEntry, Call, State, Area, Cursor, live_at, newest_restart, record_cursor, restart_cursor, stream_number, Outcome, answer, over_area, moved_on, is_own_reply}
 use Rattle.clfs_model.specs.declared.call.Call.TheVariants as calls
-use Rattle.clfs_model.specs.declared.state.State.{State}
-use Rattle.clfs_model.specs.declared.state.Area.{Area}
-use Rattle.clfs_lsn.specs.declared.cursor.Cursor.{Cursor}
-use Rattle.clfs_model.specs.Live.{live_at}
-use Rattle.clfs_model.specs.Reading.{newest_restart, record_cursor, restart_cursor}
-use Rattle.clfs_model.specs.Refusals.{stream_number}
-use Rattle.clfs_model.specs.Answers.{Outcome, answer, over_area, moved_on}
-use Rattle.clfs_laws.specs.Refused.{is_own_reply}
 use Rattle.clfs_laws.proofs.OutcomeCases.{of_option, of_area, of_cursor}
 
 -- an outcome whose reply is the call's own

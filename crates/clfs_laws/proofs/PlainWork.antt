@@ -1,37 +1,8 @@
 -- Plain work takes no more of the free sectors than its own records need, and leaves the number of containers.
-use Rattle.std.proofs.Common.{◌≡◌, ℕ, ◌+◌, ◌≤◌, Bool, true, false, refl, sym, ◌∙◌, subst, inl, inr, arith, List, [], ◌∷◌, ◌++◌, length}
-use Rattle.std.specs.Prelude.{Option, Some, None, All, MatchOption, nat_lt}
-use Rattle.std.specs.List.{AllByRecursion}
-use Rattle.std.specs.Option.{option_map_or}
-use Rattle.std.proofs.lemmas.Bool.{cases_Bool}
-use Rattle.std.proofs.lemmas.List.Elements.{recursion_from_All}
-use Rattle.clfs_lsn.specs.Size.{own}
-use Rattle.clfs_lsn.specs.Lsn.{null_lsn}
-use Rattle.clfs_lsn.specs.Place.{joins, begins_here}
-use Rattle.clfs_lsn.specs.declared.entry.LogEntry.{LogEntry}
-use Rattle.clfs_model.specs.declared.call.Call.{Call}
+use Rattle.clfs_laws.proofs.Words.{◌≡◌, ℕ, ◌+◌, ◌≤◌, Bool, true, false, refl, sym, ◌∙◌, subst, inl, inr, arith, List, [], ◌∷◌, ◌++◌, length, Option, Some, None, All, MatchOption, nat_lt, AllByRecursion, option_map_or, cases_Bool, recursion_from_All, own, null_lsn, joins, begins_here, LogEntry, Call, Draft, Entry, Refusal, Happened, Fine, Fault, Damage, Reply, State, Area, area_of, hold, free, reserved, grown, seal, flush, flushed, GoesOn, next_lsn, need_of, put, plain_record, seal_if, flush_if, appended, refusal, in_area, append_refusal, stream_number, Outcome, outcome, answer, flushed_to, Step, Goes, Comes, IsReply, with_broken, IsValid, HasSpaceLaws}
 use Rattle.clfs_model.specs.declared.call.Call.TheVariants as calls
-use Rattle.clfs_model.specs.declared.call.Draft.{Draft}
-use Rattle.clfs_model.specs.declared.journal.Entry.{Entry}
-use Rattle.clfs_model.specs.declared.refusal.Refusal.{Refusal}
 use Rattle.clfs_model.specs.declared.refusal.Refusal.TheVariants as refusals
-use Rattle.clfs_model.specs.declared.reply.Happened.{Happened}
-use Rattle.clfs_model.specs.declared.reply.Happened.TheVariants.{Fine, Fault, Damage}
-use Rattle.clfs_model.specs.declared.reply.Reply.{Reply}
 use Rattle.clfs_model.specs.declared.reply.Reply.TheVariants as replies
-use Rattle.clfs_model.specs.declared.state.State.{State}
-use Rattle.clfs_model.specs.declared.state.Area.{Area}
-use Rattle.clfs_model.specs.State.{area_of}
-use Rattle.clfs_model.specs.Live.{hold}
-use Rattle.clfs_model.specs.Space.{free, reserved, grown}
-use Rattle.clfs_model.specs.Flush.{seal, flush, flushed}
-use Rattle.clfs_model.specs.Journals.{GoesOn}
-use Rattle.clfs_model.specs.Put.{next_lsn, need_of, put, plain_record, seal_if, flush_if, appended}
-use Rattle.clfs_model.specs.Refusals.{refusal, in_area, append_refusal, stream_number}
-use Rattle.clfs_model.specs.Answers.{Outcome, outcome, answer, flushed_to}
-use Rattle.clfs_model.specs.Step.{Step, Goes, Comes, IsReply, with_broken}
-use Rattle.clfs_model.specs.Valid.{IsValid}
-use Rattle.clfs_space.specs.SpaceLaws.{HasSpaceLaws}
 use Rattle.clfs_laws.specs.PlainWork.{is_plain_work, sectors_of_record, sectors_of_records}
 use Rattle.clfs_laws.proofs.HoldOrder.{free_later}
 use Rattle.clfs_laws.proofs.HoldRises.{hold_rises}

@@ -1,32 +1,11 @@
 -- A call that doesn't call the disk leaves what is on the disk as it was.
-use Rattle.std.proofs.Common.{◌≡◌, ℕ, ◌+◌, ◌*◌, ◌<◌, ◌≤◌, Bool, true, false, refl, sym, ap, ◌∙◌, inl, inr, arith, List, [], ◌∷◌, ◌++◌, length}
-use Rattle.std.specs.Prelude.{Option, Some, None, if◌then◌else◌, filter, nat_lt, nat_le, not, ◌&&◌, ◌||◌, ◌==◌, is_none, is_some}
-use Rattle.std.specs.Option.{option_map_or}
-use Rattle.std.proofs.lemmas.Bool.{cases_Bool, eqb-true, lt-ltb, ltb-false, leb-false, le-leb}
-use Rattle.std.proofs.lemmas.List.{append-nil, length-append}
-use Rattle.std.proofs.lemmas.List.Elements.{filter-append}
-use Rattle.clfs_lsn.specs.Lsn.{lsn_number, container_of, offset_of}
-use Rattle.clfs_lsn.specs.Place.{joins, begins_here, block_end, place_after}
-use Rattle.clfs_lsn.specs.declared.entry.LogEntry.{LogEntry}
-use Rattle.clfs_lsn.specs.declared.place.Place.{Place}
-use Rattle.clfs_model.specs.declared.call.Call.{Call}
+use Rattle.clfs_laws.proofs.Words.{◌≡◌, ℕ, ◌+◌, ◌*◌, ◌<◌, ◌≤◌, Bool, true, false, refl, sym, ap, ◌∙◌, inl, inr, arith, List, [], ◌∷◌, ◌++◌, length, Option, Some, None, if◌then◌else◌, filter, nat_lt, nat_le, not, ◌&&◌, ◌||◌, ◌==◌, is_none, is_some, option_map_or, cases_Bool, eqb-true, lt-ltb, ltb-false, leb-false, le-leb, append-nil, filter-append, lsn_number, container_of, offset_of, joins, begins_here, block_end, place_after, LogEntry, Place, Call, Draft, Happened, Reply, State, Area, area_of, own_sum, grown, with_containers, block_start, first_or, flushed, seal, flush, cut, need_of, made_ready, next_lsn, put, spend_if, hold_sizes, seal_if, plain_record, appended, stream_number, Outcome, outcome, answer, reserved_for, flushed_to, archiving, Step, calls_disk, fills_buffers, grows, making_ready_writes, append_writes, IsValid, HasSpaceLaws}
+use Rattle.std.proofs.lemmas.List.{length-append}
 use Rattle.clfs_model.specs.declared.call.Call.TheVariants as calls
-use Rattle.clfs_model.specs.declared.call.Draft.{Draft}
-use Rattle.clfs_model.specs.declared.reply.Happened.{Happened}
 use Rattle.clfs_model.specs.declared.refusal.Refusal.TheVariants as refusals
-use Rattle.clfs_model.specs.declared.reply.Reply.{Reply}
 use Rattle.clfs_model.specs.declared.reply.Reply.TheVariants as replies
-use Rattle.clfs_model.specs.declared.state.State.{State}
-use Rattle.clfs_model.specs.declared.state.Area.{Area}
-use Rattle.clfs_model.specs.State.{area_of}
-use Rattle.clfs_model.specs.Space.{own_sum, grown, with_containers}
-use Rattle.clfs_model.specs.Flush.{block_start, first_or, flushed, kept_waiting, seal, flush, cut}
-use Rattle.clfs_model.specs.Put.{need_of, made_ready, next_lsn, put, spend_if, hold_sizes, seal_if, plain_record, appended}
-use Rattle.clfs_model.specs.Refusals.{stream_number}
-use Rattle.clfs_model.specs.Answers.{Outcome, outcome, answer, reserved_for, flushed_to, archiving}
-use Rattle.clfs_model.specs.Step.{Step, calls_disk, is_pending, fills_buffers, grows, making_ready_writes, append_writes}
-use Rattle.clfs_model.specs.Valid.{IsValid}
-use Rattle.clfs_space.specs.SpaceLaws.{HasSpaceLaws}
+use Rattle.clfs_model.specs.Flush.{kept_waiting}
+use Rattle.clfs_model.specs.Step.{is_pending}
 use Rattle.clfs_laws.proofs.OutcomeCases.{of_area}
 use Rattle.clfs_laws.proofs.StepLeads.{step_leads}
 use Rattle.clfs_laws.proofs.SurvivingRecords.{new_above, none_below}

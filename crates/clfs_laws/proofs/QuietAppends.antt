@@ -1,16 +1,5 @@
 -- Where an append makes no call on the disk, none of the small changes that it is made of wants one.
-use Rattle.std.proofs.Common.{◌≡◌, ℕ, Bool, true, false, refl, ap, ◌∙◌, arith, List, [], ◌∷◌, length}
-use Rattle.std.specs.Prelude.{◌&&◌, ◌||◌, if◌then◌else◌}
-use Rattle.std.proofs.lemmas.Bool.{ltb-false}
-use Rattle.clfs_lsn.specs.Place.{joins, begins_here}
-use Rattle.clfs_model.specs.declared.call.Draft.{Draft}
-use Rattle.clfs_model.specs.declared.state.State.{State}
-use Rattle.clfs_model.specs.declared.state.Area.{Area}
-use Rattle.clfs_model.specs.Space.{with_containers, grown}
-use Rattle.clfs_model.specs.Flush.{seal, flush}
-use Rattle.clfs_model.specs.Put.{made_ready, put, need_of, spend_if, hold_sizes, plain_record}
-use Rattle.clfs_model.specs.Step.{grows, fills_buffers, making_ready_writes, append_writes}
-use Rattle.clfs_space.specs.SpaceLaws.{HasSpaceLaws}
+use Rattle.clfs_laws.proofs.Words.{◌≡◌, ℕ, Bool, true, false, refl, ap, ◌∙◌, arith, List, [], ◌∷◌, length, ◌&&◌, ◌||◌, if◌then◌else◌, ltb-false, joins, begins_here, Draft, State, Area, with_containers, grown, seal, flush, made_ready, put, need_of, spend_if, hold_sizes, plain_record, grows, fills_buffers, making_ready_writes, append_writes, HasSpaceLaws}
 use Rattle.clfs_laws.proofs.ValidAppends.{seal_with_areas, flush_with_areas}
 use Rattle.clfs_laws.proofs.ValidSettings.{grown_is, grown_no_fewer}
 

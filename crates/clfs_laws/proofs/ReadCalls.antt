@@ -1,35 +1,12 @@
 -- What the calls that read come to.
-use Rattle.std.proofs.Common.{◌≡◌, ◌≢◌, ℕ, zero, suc, Bool, true, false, refl, sym, ap, ◌∙◌, subst, List, [], ◌∷◌, ◌++◌, length, arith}
-use Rattle.std.specs.Prelude.{Option, Some, None, is_none, filter, slice_get, ◌==◌, ◌&&◌}
+use Rattle.clfs_laws.proofs.Words.{◌≡◌, ◌≢◌, ℕ, zero, suc, Bool, true, false, refl, sym, ap, ◌∙◌, subst, List, [], ◌∷◌, ◌++◌, length, arith, Option, Some, None, is_none, filter, slice_get, ◌==◌, ◌&&◌, option_map_or, LogEntry, Call, Mode, Previous, UndoNext, Forward, Refusal, Fine, Reply, State, Area, Cursor, CursorKind, Records, RestartAreas, area_of, change_area, live, live_at, is_live, next, chain_from, chain, restart_areas, is_restart, newest_restart, next_of_cursor, record_cursor, restart_cursor, with_cursor_at, unused_cursor, flushed, refusal, refused_if, read_refusal, next_refusal, too_many_cursors, end_of_kind, Outcome, outcome, answer, read_at, read_newest_restart, found_with_cursor, moved_on, Step, Comes, IsReply, IsValid, cursor_of_kind, still_to_come, StillGives}
 use Rattle.std.specs.List.{AllZip}
-use Rattle.std.specs.Option.{option_map_or}
-use Rattle.clfs_lsn.specs.declared.entry.LogEntry.{LogEntry}
-use Rattle.clfs_model.specs.declared.call.Call.{Call}
 use Rattle.clfs_model.specs.declared.call.Call.TheVariants as calls
-use Rattle.clfs_lsn.specs.declared.cursor.Mode.{Mode}
-use Rattle.clfs_lsn.specs.declared.cursor.Mode.TheVariants.{Previous, UndoNext, Forward}
-use Rattle.clfs_model.specs.declared.refusal.Refusal.{Refusal}
 use Rattle.clfs_model.specs.declared.refusal.Refusal.TheVariants as refusals
-use Rattle.clfs_model.specs.declared.reply.Happened.TheVariants.{Fine}
-use Rattle.clfs_model.specs.declared.reply.Reply.{Reply}
 use Rattle.clfs_model.specs.declared.reply.Reply.TheVariants as replies
-use Rattle.clfs_model.specs.declared.state.State.{State}
-use Rattle.clfs_model.specs.declared.state.Area.{Area}
-use Rattle.clfs_lsn.specs.declared.cursor.Cursor.{Cursor}
-use Rattle.clfs_lsn.specs.declared.cursor.CursorKind.{CursorKind}
-use Rattle.clfs_lsn.specs.declared.cursor.CursorKind.TheVariants.{Records, RestartAreas}
-use Rattle.clfs_model.specs.State.{area_of, change_area}
-use Rattle.clfs_model.specs.Live.{live, live_at, is_live}
-use Rattle.clfs_model.specs.Reading.{next, chain_from, chain, restart_areas, restart_below}
-use Rattle.clfs_lsn.specs.Heads.{is_restart}
-use Rattle.clfs_model.specs.Reading.{newest_restart, next_of_cursor, record_cursor, restart_cursor, with_cursor_at}
-use Rattle.clfs_lsn.specs.Cursors.{unused_cursor}
-use Rattle.clfs_model.specs.Flush.{flushed}
-use Rattle.clfs_model.specs.Refusals.{refusal, refused_if, read_refusal, next_refusal, too_many_cursors, end_of_mode, end_of_kind}
-use Rattle.clfs_model.specs.Answers.{Outcome, outcome, answer, read_at, read_newest_restart, found_with_cursor, moved_on}
-use Rattle.clfs_model.specs.Step.{Step, Comes, IsReply}
-use Rattle.clfs_model.specs.Valid.{IsValid}
-use Rattle.clfs_laws.specs.Cursors.{cursor_of_kind, still_to_come, StillGives, read_on, Repeats}
+use Rattle.clfs_model.specs.Reading.{restart_below}
+use Rattle.clfs_model.specs.Refusals.{end_of_mode}
+use Rattle.clfs_laws.specs.Cursors.{read_on, Repeats}
 use Rattle.clfs_laws.proofs.ChainLengths.{live_is, comes_behind, chain_is}
 use Rattle.clfs_laws.proofs.FallingLists.{Falls, rises, filter_rises, reverse_falls, below_lsn, below_first, below_next, found_first, none_passes}
 use Rattle.clfs_laws.proofs.CursorGives.{made_gives, moved_gives}

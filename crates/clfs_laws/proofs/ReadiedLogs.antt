@@ -1,29 +1,6 @@
 -- A log that is made ready for a record is whole and has room for it, and the record goes where it would have gone.
-use Rattle.std.proofs.Common.{◌≡◌, ℕ, ◌+◌, ◌-◌, ◌*◌, ◌<◌, ◌≤◌, Bool, true, false, refl, sym, ap, ◌∙◌, subst, inl, inr, ◌⊎◌, arith, List, [], ◌∷◌, ◌++◌, length}
-use Rattle.std.specs.Prelude.{IsSome, map, nat_lt, nat_le, if◌then◌else◌}
-use Rattle.std.proofs.lemmas.Bool.{cases_Bool, ltb-false}
-use Rattle.std.proofs.lemmas.Bool.Decides.{nat_tests}
-use Rattle.std.proofs.lemmas.List.{append-nil}
-use Rattle.std.proofs.lemmas.List.Elements.{All-weaker, recursion_from_All}
-use Rattle.clfs_lsn.specs.Lsn.{lsn_number, sequence_of}
-use Rattle.clfs_lsn.specs.Size.{IsShape, own, longest}
-use Rattle.clfs_lsn.specs.Place.{IsWithin, IsClosed, IsOpen, frontier, block_end, begun, sealed, joins, begins_here}
-use Rattle.clfs_lsn.specs.Space.{free_sectors}
-use Rattle.clfs_lsn.specs.Spelling.{BaseFits}
-use Rattle.clfs_lsn.specs.declared.place.Place.{Place}
-use Rattle.clfs_lsn.specs.declared.shape.Shape.{Shape}
-use Rattle.clfs_lsn.specs.declared.entry.LogEntry.{LogEntry}
-use Rattle.clfs_model.specs.declared.state.State.{State}
-use Rattle.clfs_lsn.specs.declared.stream.Stream.{Stream}
-use Rattle.clfs_model.specs.State.{stream_at}
-use Rattle.clfs_model.specs.Live.{hold}
-use Rattle.clfs_model.specs.Space.{free, reserved}
-use Rattle.clfs_model.specs.Flush.{flushed, seal, flush}
-use Rattle.clfs_model.specs.Put.{next_lsn, put, made_ready}
-use Rattle.clfs_model.specs.Storable.{before_all, behind_all, IsStorable}
-use Rattle.clfs_model.specs.Valid.{IsValid, IsRecord}
-use Rattle.clfs_space.specs.SpaceLaws.{HasSpaceLaws}
-use Rattle.clfs_laws.specs.Between.{MayPut, turned, readied, KeepsTables, IsReadiedFor, MayTurn}
+use Rattle.clfs_laws.proofs.Words.{◌≡◌, ℕ, ◌+◌, ◌-◌, ◌*◌, ◌<◌, ◌≤◌, Bool, true, false, refl, sym, ap, ◌∙◌, subst, inl, inr, ◌⊎◌, arith, List, [], ◌∷◌, ◌++◌, length, IsSome, map, nat_lt, nat_le, if◌then◌else◌, cases_Bool, ltb-false, nat_tests, append-nil, All-weaker, recursion_from_All, lsn_number, sequence_of, IsShape, own, longest, IsWithin, IsClosed, IsOpen, frontier, block_end, begun, sealed, joins, begins_here, free_sectors, BaseFits, Place, Shape, LogEntry, State, Stream, stream_at, hold, free, reserved, flushed, seal, flush, next_lsn, put, made_ready, before_all, behind_all, IsStorable, IsValid, IsRecord, HasSpaceLaws, MayPut, turned, readied, KeepsTables}
+use Rattle.clfs_laws.specs.Between.{IsReadiedFor, MayTurn}
 use Rattle.clfs_laws.proofs.BlockOrder.{last_container}
 use Rattle.clfs_laws.proofs.HoldOrder.{hold_below_frontier, active_later, free_later}
 use Rattle.clfs_laws.proofs.LaidPuts.{takes_of, hold_with}

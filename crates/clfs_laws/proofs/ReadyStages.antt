@@ -1,24 +1,6 @@
 -- The states that a log goes through while it is made ready for a record, and what is flushed of it once the record is put.
-use Rattle.std.proofs.Common.{◌≡◌, ℕ, ◌+◌, ◌≤◌, Bool, true, false, refl, sym, ap, ◌∙◌, subst, inl, inr, ◌⊎◌, arith, List, [], ◌∷◌, ◌++◌, length}
-use Rattle.std.specs.Prelude.{nat_lt, if◌then◌else◌}
-use Rattle.std.specs.List.{AllByRecursion}
-use Rattle.std.proofs.lemmas.Bool.{cases_Bool}
-use Rattle.std.proofs.lemmas.List.{append-nil}
-use Rattle.std.proofs.lemmas.List.Elements.{filter-append}
-use Rattle.clfs_lsn.specs.Lsn.{container_of, offset_of}
-use Rattle.clfs_lsn.specs.Place.{IsWithin, IsClosed, begun, block_end, joins, begins_here, place_after}
-use Rattle.clfs_lsn.specs.declared.place.Place.{Place}
-use Rattle.clfs_lsn.specs.declared.shape.Shape.{Shape}
-use Rattle.clfs_lsn.specs.declared.entry.LogEntry.{LogEntry}
-use Rattle.clfs_model.specs.declared.state.State.{State}
-use Rattle.clfs_model.specs.Flush.{block_start, first_or, flushed, seal, flush, cut}
-use Rattle.clfs_model.specs.Put.{next_lsn, put, made_ready}
-use Rattle.clfs_model.specs.Storable.{HasBlocks, IsStorable}
-use Rattle.clfs_model.specs.Survivors.{HasSettings}
-use Rattle.clfs_model.specs.Valid.{IsValid}
-use Rattle.clfs_space.specs.SpaceLaws.{HasSpaceLaws}
-use Rattle.clfs_laws.specs.Between.{MayPut, turned, readied, IsReadyFor}
-use Rattle.clfs_laws.specs.Stages.{ready_stages}
+use Rattle.clfs_laws.proofs.Words.{◌≡◌, ℕ, ◌+◌, ◌≤◌, Bool, true, false, refl, sym, ap, ◌∙◌, subst, inl, inr, ◌⊎◌, arith, List, [], ◌∷◌, ◌++◌, length, nat_lt, if◌then◌else◌, AllByRecursion, cases_Bool, append-nil, filter-append, container_of, offset_of, IsWithin, IsClosed, begun, block_end, joins, begins_here, place_after, Place, Shape, LogEntry, State, block_start, first_or, flushed, seal, flush, cut, next_lsn, put, made_ready, HasBlocks, IsStorable, HasSettings, IsValid, HasSpaceLaws, MayPut, turned, readied, ready_stages}
+use Rattle.clfs_laws.specs.Between.{IsReadyFor}
 use Rattle.clfs_laws.proofs.FallingLists.{below_lsn}
 use Rattle.clfs_laws.proofs.KeptSettings.{kept, kept_seal, kept_flush}
 use Rattle.clfs_laws.proofs.Links as of_links

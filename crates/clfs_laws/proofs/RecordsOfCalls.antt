@@ -1,31 +1,8 @@
 -- A call adds records only after all others, at the LSN that is next.
-use Rattle.std.proofs.Common.{◌≡◌, ℕ, Bool, true, false, refl, sym, ap, ◌∙◌, inl, inr, List, [], ◌∷◌, ◌++◌, length}
-use Rattle.std.specs.Prelude.{Option, nat_lt, ◌==◌}
-use Rattle.std.specs.List.{AllByRecursion}
-use Rattle.std.proofs.lemmas.Bool.{cases_Bool}
-use Rattle.std.proofs.lemmas.List.{append-nil}
-use Rattle.clfs_lsn.specs.declared.entry.LogEntry.{LogEntry}
-use Rattle.clfs_lsn.specs.declared.policy.Policy.{Policy}
+use Rattle.clfs_laws.proofs.Words.{◌≡◌, ℕ, Bool, true, false, refl, sym, ap, ◌∙◌, inl, inr, List, [], ◌∷◌, ◌++◌, length, Option, nat_lt, ◌==◌, AllByRecursion, cases_Bool, append-nil, LogEntry, Policy, PolicyKind, Call, Draft, Happened, Reply, State, Area, Cursor, live_at, grown, seal, flush, flushed, next_lsn, put, need_of, spend_if, hold_sizes, seal_if, flush_if, plain_record, appended, newest_restart, record_cursor, restart_cursor, with_policy, without_policy, stream_number, Outcome, answer, over_area, moved_on, restart_record, restarted, rebased, archiving, flushed_to, Step, with_broken}
 use Rattle.clfs_lsn.specs.declared.policy.Policy.TheVariants as policies
-use Rattle.clfs_lsn.specs.declared.policy.PolicyKind.{PolicyKind}
 use Rattle.clfs_lsn.specs.declared.policy.PolicyKind.TheVariants as kinds
-use Rattle.clfs_model.specs.declared.call.Call.{Call}
 use Rattle.clfs_model.specs.declared.call.Call.TheVariants as calls
-use Rattle.clfs_model.specs.declared.call.Draft.{Draft}
-use Rattle.clfs_model.specs.declared.reply.Happened.{Happened}
-use Rattle.clfs_model.specs.declared.reply.Reply.{Reply}
-use Rattle.clfs_model.specs.declared.state.State.{State}
-use Rattle.clfs_model.specs.declared.state.Area.{Area}
-use Rattle.clfs_lsn.specs.declared.cursor.Cursor.{Cursor}
-use Rattle.clfs_model.specs.Live.{live_at}
-use Rattle.clfs_model.specs.Space.{grown}
-use Rattle.clfs_model.specs.Flush.{seal, flush, flushed}
-use Rattle.clfs_model.specs.Put.{next_lsn, put, need_of, spend_if, hold_sizes, seal_if, flush_if, plain_record, appended}
-use Rattle.clfs_model.specs.Reading.{newest_restart, record_cursor, restart_cursor}
-use Rattle.clfs_model.specs.Policies.{with_policy, without_policy}
-use Rattle.clfs_model.specs.Refusals.{stream_number}
-use Rattle.clfs_model.specs.Answers.{Outcome, answer, over_area, moved_on, restart_record, restarted, rebased, archiving, flushed_to}
-use Rattle.clfs_model.specs.Step.{Step, with_broken}
 use Rattle.clfs_laws.proofs.OutcomeCases.{of_option, of_area, of_cursor}
 use Rattle.clfs_laws.proofs.StepLeads.{step_leads}
 use Rattle.clfs_laws.proofs.ValidSettings.{grown_is}

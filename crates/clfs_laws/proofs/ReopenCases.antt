@@ -1,16 +1,7 @@
 -- What opening again leaves, case by case.
-use Rattle.std.proofs.Common.{◌≡◌, Bool, true, false, sym, ap, ◌∙◌, ◌⊎◌, inl, inr, ℕ, []}
-use Rattle.std.specs.Prelude.{MatchBool}
-use Rattle.clfs_model.specs.declared.refusal.Refusal.{Refusal}
+use Rattle.clfs_laws.proofs.Words.{◌≡◌, Bool, true, false, sym, ap, ◌∙◌, ◌⊎◌, inl, inr, ℕ, [], MatchBool, Refusal, Happened, Fine, Fault, Damage, Reply, State, happened_of, happened_of_refusal, flushed, cut, IsSame, ReopenStep, Reopens, IsOpenedAnew, IsBroken, IsOutOfMemory}
 use Rattle.clfs_model.specs.declared.refusal.Refusal.TheVariants as refusals
-use Rattle.clfs_model.specs.declared.reply.Happened.{Happened}
-use Rattle.clfs_model.specs.declared.reply.Happened.TheVariants.{Fine, Fault, Damage}
-use Rattle.clfs_model.specs.declared.reply.Reply.{Reply}
 use Rattle.clfs_model.specs.declared.reply.Reply.TheVariants as replies
-use Rattle.clfs_model.specs.declared.state.State.{State}
-use Rattle.clfs_model.specs.Happened.{happened_of, happened_of_refusal}
-use Rattle.clfs_model.specs.Flush.{flushed, cut, IsSame}
-use Rattle.clfs_model.specs.Step.{ReopenStep, Reopens, IsOpenedAnew, IsBroken, IsOutOfMemory}
 use Rattle.clfs_laws.proofs.StepCases.{damage_told}
 
 refused_as : (a b : Refusal) → replies.Refused a ≡ replies.Refused b → a ≡ b

@@ -1,32 +1,8 @@
 -- A call that isn't refused isn't answered by a refusal, and one that is answers the first of its list.
-use Rattle.std.proofs.Common.{◌≡◌, ℕ, Bool, true, false, refl, ap, ◌∙◌, subst, inl, inr}
-use Rattle.std.specs.Prelude.{Option, Some, None, MatchOption, is_none}
-use Rattle.std.specs.Option.{option_map_or}
-use Rattle.clfs_lsn.specs.declared.entry.LogEntry.{LogEntry}
-use Rattle.clfs_model.specs.declared.call.Call.{Call}
+use Rattle.clfs_laws.proofs.Words.{◌≡◌, ℕ, Bool, true, false, refl, ap, ◌∙◌, subst, inl, inr, Option, Some, None, MatchOption, is_none, option_map_or, LogEntry, Call, Refusal, Happened, Fine, Fault, Damage, Reply, State, Area, Cursor, CursorKind, Records, RestartAreas, area_of, change_area, live_at, own_sum, flushed, next_lsn, newest_restart, record_cursor, restart_cursor, next_of_cursor, with_cursor_at, refusal, refused_if, in_area, append_refusal, restart_refusal, invalid_base, read_refusal, next_refusal, too_many_cursors, too_long, full, short, end_of_kind, stream_number, Outcome, outcome, answer, found_with_cursor, read_at, read_newest_restart, moved_on, reserved_for, released, restarted, advanced, appended, Step, Goes, Comes, IsReply, IsDamaged, is_of_call}
 use Rattle.clfs_model.specs.declared.call.Call.TheVariants as calls
-use Rattle.clfs_model.specs.declared.refusal.Refusal.{Refusal}
 use Rattle.clfs_model.specs.declared.refusal.Refusal.TheVariants as refusals
-use Rattle.clfs_model.specs.declared.reply.Happened.{Happened}
-use Rattle.clfs_model.specs.declared.reply.Happened.TheVariants.{Fine, Fault, Damage}
-use Rattle.clfs_model.specs.declared.reply.Reply.{Reply}
 use Rattle.clfs_model.specs.declared.reply.Reply.TheVariants as replies
-use Rattle.clfs_model.specs.declared.state.State.{State}
-use Rattle.clfs_model.specs.declared.state.Area.{Area}
-use Rattle.clfs_lsn.specs.declared.cursor.Cursor.{Cursor}
-use Rattle.clfs_lsn.specs.declared.cursor.CursorKind.{CursorKind}
-use Rattle.clfs_lsn.specs.declared.cursor.CursorKind.TheVariants.{Records, RestartAreas}
-use Rattle.clfs_model.specs.State.{area_of, change_area}
-use Rattle.clfs_model.specs.Live.{live_at}
-use Rattle.clfs_model.specs.Space.{own_sum}
-use Rattle.clfs_model.specs.Flush.{flushed}
-use Rattle.clfs_model.specs.Put.{next_lsn}
-use Rattle.clfs_model.specs.Reading.{newest_restart, record_cursor, restart_cursor, next_of_cursor, with_cursor_at}
-use Rattle.clfs_model.specs.Refusals.{refusal, refused_if, in_area, append_refusal, restart_refusal, invalid_base, read_refusal, next_refusal, too_many_cursors, too_long, full, short, end_of_kind, stream_number}
-use Rattle.clfs_model.specs.Answers.{Outcome, outcome, answer, found_with_cursor, read_at, read_newest_restart, moved_on, reserved_for, released, restarted, advanced}
-use Rattle.clfs_model.specs.Put.{appended}
-use Rattle.clfs_model.specs.Step.{Step, Goes, Comes, IsReply, IsDamaged}
-use Rattle.clfs_laws.specs.Refused.{is_of_call}
 use Rattle.clfs_laws.proofs.CallRefusals.{Told, own_of, terms_of, refusal_told}
 use Rattle.clfs_laws.proofs.FineSteps.{IsNoRefusal}
 use Rattle.clfs_laws.proofs.NotRefused.{passed}

@@ -1,43 +1,11 @@
 -- Each call is answered by a reply of its own kind, or refused by a refusal that it may meet.
-use Rattle.std.proofs.Common.{◌≡◌, ℕ, Bool, true, false, refl, ap, ◌∙◌, subst, inl, inr, List, [], ◌∷◌, length}
-use Rattle.std.specs.Prelude.{Option, Some, None, MatchOption, IsTrue, if◌then◌else◌, not, ◌==◌, ◌||◌, ◌&&◌, nat_lt, nat_le, find, is_none}
-use Rattle.std.specs.Option.{option_map_or}
-use Rattle.clfs_lsn.specs.Limits.{most_streams}
-use Rattle.clfs_lsn.specs.Lsn.{null_lsn}
-use Rattle.clfs_lsn.specs.Size.{longest}
-use Rattle.clfs_lsn.specs.declared.entry.LogEntry.{LogEntry}
-use Rattle.clfs_lsn.specs.declared.policy.Policy.{Policy}
+use Rattle.clfs_laws.proofs.Words.{◌≡◌, ℕ, Bool, true, false, refl, ap, ◌∙◌, subst, inl, inr, List, [], ◌∷◌, length, Option, Some, None, MatchOption, IsTrue, if◌then◌else◌, not, ◌==◌, ◌||◌, ◌&&◌, nat_lt, nat_le, find, is_none, option_map_or, most_streams, null_lsn, longest, LogEntry, Policy, Call, Draft, Mode, Previous, UndoNext, Forward, Refusal, Happened, Fine, Fault, Damage, Reply, State, Area, Cursor, CursorKind, Records, RestartAreas, area_of, base_of, stream_at, live_at, last_live, active, own_sum, free, reserved, grown, has_room, size_limit, flushed, need_of, spent_of, newest_restart, next_of_cursor, record_cursor, restart_cursor, is_over_restarts, policy_refusal, needed_containers, refused_if, too_long, short, full, name_fault, stream_number, append_refusal, restart_refusal, invalid_base, invalid_link, too_many_cursors, next_refusal, end_of_kind, is_link, is_base, refusal, Outcome, answer, Step, Goes, Comes, IsReply, IsReplyRead, IsDamaged, calls_disk, is_of_call, area_number, is_reply_of}
 use Rattle.clfs_lsn.specs.declared.policy.Policy.TheVariants as policies
-use Rattle.clfs_model.specs.declared.call.Call.{Call}
 use Rattle.clfs_model.specs.declared.call.Call.TheVariants as calls
-use Rattle.clfs_model.specs.declared.call.Draft.{Draft}
-use Rattle.clfs_lsn.specs.declared.cursor.Mode.{Mode}
-use Rattle.clfs_lsn.specs.declared.cursor.Mode.TheVariants.{Previous, UndoNext, Forward}
-use Rattle.clfs_model.specs.declared.refusal.Refusal.{Refusal}
 use Rattle.clfs_model.specs.declared.refusal.Refusal.TheVariants as refusals
-use Rattle.clfs_model.specs.declared.reply.Happened.{Happened}
-use Rattle.clfs_model.specs.declared.reply.Happened.TheVariants.{Fine, Fault, Damage}
-use Rattle.clfs_model.specs.declared.reply.Reply.{Reply}
 use Rattle.clfs_model.specs.declared.reply.Reply.TheVariants as replies
-use Rattle.clfs_model.specs.declared.state.State.{State}
-use Rattle.clfs_model.specs.declared.state.Area.{Area}
-use Rattle.clfs_lsn.specs.declared.cursor.Cursor.{Cursor}
-use Rattle.clfs_lsn.specs.declared.cursor.CursorKind.{CursorKind}
-use Rattle.clfs_lsn.specs.declared.cursor.CursorKind.TheVariants.{Records, RestartAreas}
-use Rattle.clfs_model.specs.State.{area_of, base_of, stream_at}
-use Rattle.clfs_model.specs.Live.{live_at, last_live, active}
-use Rattle.clfs_model.specs.Space.{own_sum, free, reserved, grown, has_room, size_limit}
-use Rattle.clfs_model.specs.Flush.{flushed}
-use Rattle.clfs_model.specs.Put.{need_of, spent_of}
-use Rattle.clfs_model.specs.Reading.{newest_restart, next_of_cursor, record_cursor, restart_cursor}
-use Rattle.clfs_lsn.specs.Cursors.{is_over_restarts}
-use Rattle.clfs_model.specs.Policies.{policy_refusal, needed_containers}
-use Rattle.clfs_model.specs.Refusals.{refused_if, too_long, short, full, name_fault, stream_number, append_refusal, restart_refusal, invalid_base, invalid_link, too_many_cursors, next_refusal, end_of_kind, is_link, is_base, refusal}
-use Rattle.clfs_model.specs.Answers.{Outcome, answer}
-use Rattle.clfs_model.specs.Step.{Step, Goes, Comes, IsReply, IsReplyRead, IsDamaged, reads_disk, calls_disk}
-use Rattle.clfs_laws.specs.Refused.{is_of_call}
-use Rattle.clfs_laws.specs.Needs.{area_number}
-use Rattle.clfs_laws.specs.ReplyKinds.{refuses_name, refuses_area, refuses_missing, refuses_reserve, refuses_release, refuses_align, refuses_append, refuses_flush_to, refuses_read, refuses_next, refuses_end, refuses_restart, refuses_newest, refuses_previous, refuses_base, refuses_tail, refuses_extents, refuses_policy, refuses_removal, refuses_size, refuses_stream, is_listed, may_call_disk, may_refuse, is_reply_of}
+use Rattle.clfs_model.specs.Step.{reads_disk}
+use Rattle.clfs_laws.specs.ReplyKinds.{refuses_name, refuses_area, refuses_missing, refuses_reserve, refuses_release, refuses_align, refuses_append, refuses_flush_to, refuses_read, refuses_next, refuses_end, refuses_restart, refuses_newest, refuses_previous, refuses_base, refuses_tail, refuses_extents, refuses_policy, refuses_removal, refuses_size, refuses_stream, is_listed, may_call_disk, may_refuse}
 use Rattle.clfs_laws.proofs.Among.{found}
 use Rattle.clfs_laws.proofs.CallRefusals.{Told, own_of, terms_of, refusal_told}
 use Rattle.clfs_laws.proofs.LsnOrder.{both_true}

@@ -1,28 +1,8 @@
 -- When a call is refused for space, and when it can't be.
-use Rattle.std.proofs.Common.{◌≡◌, ℕ, ◌+◌, ◌≤◌, ◌<◌, Bool, true, false, refl, ap, subst, arith, inl, inr, List, [], ◌∷◌, length}
-use Rattle.std.specs.Prelude.{Option, Some, None, nat_lt, ◌&&◌, find, sum_by, unwrap_or}
-use Rattle.std.proofs.lemmas.Bool.{cases_Bool, ltb-true, le-leb, le-ltb}
-use Rattle.std.proofs.lemmas.List.Sums.{sum_by-cons}
-use Rattle.clfs_lsn.specs.Size.{own}
-use Rattle.clfs_model.specs.declared.call.Call.{Call}
+use Rattle.clfs_laws.proofs.Words.{◌≡◌, ℕ, ◌+◌, ◌≤◌, ◌<◌, Bool, true, false, refl, ap, subst, arith, inl, inr, List, [], ◌∷◌, length, Option, Some, None, nat_lt, ◌&&◌, find, sum_by, unwrap_or, cases_Bool, ltb-true, le-leb, le-ltb, sum_by-cons, own, Call, Draft, Refusal, State, Area, area_of, is_area, free, reserved, grown, has_room, refusal, IsValid, HasSpaceLaws, needed_sectors, taken_sectors, area_number, held_if_there, ◌∙◌, nat_le, growth, hold, grown_if, with_containers, growth_rate, size_limit}
 use Rattle.clfs_model.specs.declared.call.Call.TheVariants as calls
-use Rattle.clfs_model.specs.declared.call.Draft.{Draft}
-use Rattle.clfs_model.specs.declared.refusal.Refusal.{Refusal}
 use Rattle.clfs_model.specs.declared.refusal.Refusal.TheVariants as refusals
-use Rattle.clfs_model.specs.declared.state.State.{State}
-use Rattle.clfs_model.specs.declared.state.Area.{Area}
-use Rattle.clfs_model.specs.State.{area_of, is_area}
-use Rattle.clfs_model.specs.Space.{free, reserved, grown, has_room}
-use Rattle.clfs_model.specs.Refusals.{refusal}
-use Rattle.clfs_model.specs.Valid.{IsValid}
-use Rattle.clfs_space.specs.SpaceLaws.{HasSpaceLaws}
-use Rattle.clfs_laws.specs.Needs.{needed_sectors, taken_sectors, area_number, held_if_there}
 use Rattle.clfs_laws.proofs.CallRefusals.{Told, HasRoom, terms_of, refusal_told}
-use Rattle.std.proofs.Common.{◌∙◌}
-use Rattle.std.specs.Prelude.{nat_le}
-use Rattle.clfs_lsn.specs.Space.{growth}
-use Rattle.clfs_model.specs.Live.{hold}
-use Rattle.clfs_model.specs.Space.{grown_if, with_containers, growth_rate, size_limit}
 
 -- what it tells that a call is refused so, or isn't
 told_at : (s : State) (client : ℕ) (call : Call) (given : Option Refusal) → refusal s client call ≡ given → Told (terms_of s client call) given

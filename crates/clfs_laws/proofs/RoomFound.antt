@@ -1,26 +1,6 @@
 -- A log that has grown for a call and whose area has spent is whole, and has room for the call's record and for those to come.
-use Rattle.std.proofs.Common.{◌≡◌, ℕ, ◌+◌, ◌<◌, ◌≤◌, Bool, true, false, refl, sym, ap, ◌∙◌, subst, inl, inr, ◌⊎◌, arith, List, [], length}
-use Rattle.std.specs.Prelude.{Option, Some, None, IsSome, find, not, ◌==◌}
-use Rattle.std.proofs.lemmas.Bool.{cases_Bool, eqb-true}
-use Rattle.clfs_lsn.specs.Lsn.{null_lsn}
-use Rattle.clfs_lsn.specs.Place.{frontier}
-use Rattle.clfs_lsn.specs.Spelling.{BaseFits}
-use Rattle.clfs_lsn.specs.declared.entry.LogEntry.{LogEntry}
-use Rattle.clfs_lsn.specs.declared.entry.Kind.TheVariants.{Plain}
-use Rattle.clfs_model.specs.declared.call.Draft.{Draft}
+use Rattle.clfs_laws.proofs.Words.{◌≡◌, ℕ, ◌+◌, ◌<◌, ◌≤◌, Bool, true, false, refl, sym, ap, ◌∙◌, subst, inl, inr, ◌⊎◌, arith, List, [], length, Option, Some, None, IsSome, find, not, ◌==◌, cases_Bool, eqb-true, null_lsn, frontier, BaseFits, LogEntry, Plain, Draft, State, Area, is_area, area_of, hold, free, reserved, own_sum, with_containers, grown, has_room, next_lsn, put, need_of, spend_if, plain_record, hold_sizes, is_base, append_refusal, restart_refusal, too_long, full, restart_record, IsStorable, IsValid, HasSpaceLaws, IsWhole, MayMove, TakesThrough}
 use Rattle.clfs_model.specs.declared.refusal.Refusal.TheVariants as refusals
-use Rattle.clfs_model.specs.declared.state.State.{State}
-use Rattle.clfs_model.specs.declared.state.Area.{Area}
-use Rattle.clfs_model.specs.State.{is_area, area_of}
-use Rattle.clfs_model.specs.Live.{hold}
-use Rattle.clfs_model.specs.Space.{free, reserved, own_sum, with_containers, grown, has_room}
-use Rattle.clfs_model.specs.Put.{next_lsn, put, need_of, spend_if, plain_record, hold_sizes}
-use Rattle.clfs_model.specs.Refusals.{is_base, append_refusal, restart_refusal, too_long, full}
-use Rattle.clfs_model.specs.Answers.{restart_record}
-use Rattle.clfs_model.specs.Storable.{IsStorable}
-use Rattle.clfs_model.specs.Valid.{IsValid}
-use Rattle.clfs_space.specs.SpaceLaws.{HasSpaceLaws}
-use Rattle.clfs_laws.specs.Between.{IsWhole, MayMove, TakesThrough}
 use Rattle.clfs_laws.proofs.LaidPuts.{whole_put, room_put}
 use Rattle.clfs_laws.proofs.Links.{next_above}
 use Rattle.clfs_laws.proofs.NotRefused.{passed, passed_long}

@@ -1,25 +1,9 @@
 -- What a step's reply tells of room, and that a reserved append that is covered isn't refused for it.
-use Rattle.std.proofs.Common.{◌≡◌, ℕ, ◌≤◌, ◌<◌, Bool, true, false, refl, inl, inr, [], length}
-use Rattle.std.specs.Prelude.{Some}
-use Rattle.std.proofs.lemmas.Bool.{cases_Bool}
-use Rattle.clfs_lsn.specs.Size.{own}
-use Rattle.clfs_model.specs.declared.call.Call.{Call}
+use Rattle.clfs_laws.proofs.Words.{◌≡◌, ℕ, ◌≤◌, ◌<◌, Bool, true, false, refl, inl, inr, [], length, Some, cases_Bool, own, Call, Draft, Refusal, Happened, State, Area, area_of, free, reserved, has_room, refusal, Step, IsValid, HasSpaceLaws, needed_sectors, taken_sectors, area_number, held_if_there, is_of_call}
 use Rattle.clfs_model.specs.declared.call.Call.TheVariants as calls
-use Rattle.clfs_model.specs.declared.call.Draft.{Draft}
-use Rattle.clfs_model.specs.declared.refusal.Refusal.{Refusal}
 use Rattle.clfs_model.specs.declared.refusal.Refusal.TheVariants as refusals
-use Rattle.clfs_model.specs.declared.reply.Happened.{Happened}
 use Rattle.clfs_model.specs.declared.reply.Reply.TheVariants as replies
-use Rattle.clfs_model.specs.declared.state.State.{State}
-use Rattle.clfs_model.specs.declared.state.Area.{Area}
-use Rattle.clfs_model.specs.State.{area_of}
-use Rattle.clfs_model.specs.Space.{free, reserved, has_room}
-use Rattle.clfs_model.specs.Refusals.{refusal}
-use Rattle.clfs_model.specs.Step.{Step}
-use Rattle.clfs_model.specs.Valid.{IsValid}
-use Rattle.clfs_space.specs.SpaceLaws.{HasSpaceLaws}
-use Rattle.clfs_laws.specs.Needs.{needed_sectors, taken_sectors, area_number, held_if_there, is_for_room}
-use Rattle.clfs_laws.specs.Refused.{is_of_call}
+use Rattle.clfs_laws.specs.Needs.{is_for_room}
 use Rattle.clfs_laws.proofs.Replies.{first_refusal}
 use Rattle.clfs_laws.proofs.Room.{full_told, full_as_it_is, short_told, never_full, never_short, never_few}
 

@@ -1,11 +1,5 @@
 -- How a call changes the rows of areas.
-use Rattle.std.proofs.Common.{◌≡◌, ℕ, Bool, true, false, refl, sym, ap, ◌∙◌, subst, inl, inr, List}
-use Rattle.std.specs.Prelude.{Option, Some, None, find, ◌&&◌, ◌==◌}
-use Rattle.std.specs.Option.{option_map}
-use Rattle.std.proofs.lemmas.Bool.{cases_Bool, eqb-true, eqb-false, ne_eqb}
-use Rattle.clfs_model.specs.declared.state.Area.{Area}
-use Rattle.clfs_model.specs.State.{is_area, change_first}
-use Rattle.clfs_laws.specs.Rows.{AreaRow, row_of, changed_where}
+use Rattle.clfs_laws.proofs.Words.{◌≡◌, ℕ, Bool, true, false, refl, sym, ap, ◌∙◌, subst, inl, inr, List, Option, Some, None, find, ◌&&◌, ◌==◌, option_map, cases_Bool, eqb-true, eqb-false, ne_eqb, Area, is_area, change_first, AreaRow, row_of, changed_where}
 use Rattle.clfs_laws.proofs.Finding.{KeepsName, find_changed, find_other, found_passes}
 
 -- the row of a number among areas

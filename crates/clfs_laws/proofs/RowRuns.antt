@@ -1,25 +1,8 @@
 -- The rows of a client's areas in a legal journal, by its own entries alone.
-use Rattle.std.proofs.Common.{◌≡◌, ℕ, Bool, true, false, refl, sym, ap, ◌∙◌, subst, inl, inr, List, [], ◌∷◌, ◌++◌}
-use Rattle.std.specs.Prelude.{Option, Some, None, MatchOption, ◌==◌}
-use Rattle.std.proofs.lemmas.Bool.{cases_Bool, eqb-true, eqb-false, ne_eqb}
-use Rattle.clfs_lsn.specs.declared.entry.LogEntry.{LogEntry}
-use Rattle.clfs_model.specs.declared.call.Call.{Call}
+use Rattle.clfs_laws.proofs.Words.{◌≡◌, ℕ, Bool, true, false, refl, sym, ap, ◌∙◌, subst, inl, inr, List, [], ◌∷◌, ◌++◌, Option, Some, None, MatchOption, ◌==◌, cases_Bool, eqb-true, eqb-false, ne_eqb, LogEntry, Call, Entry, Refusal, Happened, Fine, Fault, Damage, Reply, State, Area, flushed, refusal, answer, Step, Goes, Comes, IsReply, IsReplyRead, IsDamaged, GoesOn, mine, AreaRow, row_in, row_after, row_through}
 use Rattle.clfs_model.specs.declared.call.Call.TheVariants as calls
-use Rattle.clfs_model.specs.declared.journal.Entry.{Entry}
-use Rattle.clfs_model.specs.declared.refusal.Refusal.{Refusal}
 use Rattle.clfs_model.specs.declared.refusal.Refusal.TheVariants as refusals
-use Rattle.clfs_model.specs.declared.reply.Happened.{Happened}
-use Rattle.clfs_model.specs.declared.reply.Happened.TheVariants.{Fine, Fault, Damage}
-use Rattle.clfs_model.specs.declared.reply.Reply.{Reply}
 use Rattle.clfs_model.specs.declared.reply.Reply.TheVariants as replies
-use Rattle.clfs_model.specs.declared.state.State.{State}
-use Rattle.clfs_model.specs.declared.state.Area.{Area}
-use Rattle.clfs_model.specs.Flush.{flushed}
-use Rattle.clfs_model.specs.Refusals.{refusal}
-use Rattle.clfs_model.specs.Answers.{answer}
-use Rattle.clfs_model.specs.Step.{Step, Goes, Comes, IsReply, IsReplyRead, IsDamaged}
-use Rattle.clfs_model.specs.Journals.{GoesOn, mine}
-use Rattle.clfs_laws.specs.Rows.{AreaRow, row_in, row_after, row_through}
 use Rattle.clfs_laws.proofs.RowChanges.{row_among}
 use Rattle.clfs_laws.proofs.RowsOfCalls.{answer_rows}
 use Rattle.clfs_laws.proofs.StepCases.{broken_step, whole_step}

@@ -1,22 +1,7 @@
 -- Each call changes the rows of areas by its reply alone.
-use Rattle.std.proofs.Common.{◌≡◌, ℕ, ◌+◌, ◌-◌, Bool, true, false, refl, sym, ap, ◌∙◌, inl, inr, arith, List, [], ◌∷◌, length}
-use Rattle.std.specs.Prelude.{Option, Some, None, ◌==◌, nat_lt, if◌then◌else◌}
-use Rattle.std.specs.Option.{option_map, option_map_or}
-use Rattle.std.proofs.lemmas.Bool.{cases_Bool}
-use Rattle.clfs_lsn.specs.Size.{own}
-use Rattle.clfs_lsn.specs.Place.{joins, begins_here}
-use Rattle.clfs_lsn.specs.declared.entry.LogEntry.{LogEntry}
-use Rattle.clfs_model.specs.declared.call.Call.{Call}
+use Rattle.clfs_laws.proofs.Words.{◌≡◌, ℕ, ◌+◌, ◌-◌, Bool, true, false, refl, sym, ap, ◌∙◌, inl, inr, arith, List, [], ◌∷◌, length, Option, Some, None, ◌==◌, nat_lt, if◌then◌else◌, option_map, option_map_or, cases_Bool, own, joins, begins_here, LogEntry, Call, State, Area, area_of, is_area, change_first, own_sum, grown, grown_if, seal, flush, put, spend_if, hold_sizes, seal_if, flush_if, spent_of, with_less_held, with_more_held, Outcome, outcome, AreaRow, row_of, row_after, changed_where, with_changed_held}
 use Rattle.clfs_model.specs.declared.refusal.Refusal.TheVariants as refusals
 use Rattle.clfs_model.specs.declared.reply.Reply.TheVariants as replies
-use Rattle.clfs_model.specs.declared.state.State.{State}
-use Rattle.clfs_model.specs.declared.state.Area.{Area}
-use Rattle.clfs_model.specs.State.{area_of, is_area, change_first}
-use Rattle.clfs_model.specs.Space.{own_sum, grown, grown_if}
-use Rattle.clfs_model.specs.Flush.{seal, flush}
-use Rattle.clfs_model.specs.Put.{put, spend_if, hold_sizes, seal_if, flush_if, spent_of, with_less_held, with_more_held}
-use Rattle.clfs_model.specs.Answers.{Outcome, outcome}
-use Rattle.clfs_laws.specs.Rows.{AreaRow, row_of, row_after, changed_where, with_changed_held}
 use Rattle.clfs_laws.proofs.RowChanges.{row_among, area_named, Changes, own_row, others_row}
 
 -- an outcome that changes the rows of the client by the reply alone, and those of no other client

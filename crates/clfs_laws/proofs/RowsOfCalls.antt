@@ -1,35 +1,10 @@
 -- Every call changes the rows of areas by its reply alone.
-use Rattle.std.proofs.Common.{◌≡◌, ℕ, ◌+◌, ◌-◌, Bool, true, false, refl, sym, ap, ◌∙◌, subst, inl, inr, arith, List, [], ◌∷◌, ◌++◌, length}
-use Rattle.std.specs.Prelude.{Option, Some, None, find, filter, not, ◌==◌, nat_lt, if◌then◌else◌}
-use Rattle.std.specs.Option.{option_map, option_map_or, option_and_then}
-use Rattle.std.proofs.lemmas.Bool.{cases_Bool, eqb-true, eqb-false, ne_eqb, eq-eqb}
-use Rattle.clfs_lsn.specs.declared.entry.LogEntry.{LogEntry}
-use Rattle.clfs_lsn.specs.declared.policy.Policy.{Policy}
+use Rattle.clfs_laws.proofs.Words.{◌≡◌, ℕ, ◌+◌, ◌-◌, Bool, true, false, refl, sym, ap, ◌∙◌, subst, inl, inr, arith, List, [], ◌∷◌, ◌++◌, length, Option, Some, None, find, filter, not, ◌==◌, nat_lt, if◌then◌else◌, option_map, option_map_or, option_and_then, cases_Bool, eqb-true, eqb-false, ne_eqb, eq-eqb, LogEntry, Policy, PolicyKind, Call, Draft, Refusal, State, Area, Cursor, CursorKind, Records, RestartAreas, area_of, areas_of, is_area, change_area, change_first, live_at, own_sum, grown, flush, flushed, put, spent_of, with_less_held, plain_record, need_of, seal_if, hold_sizes, spend_if, appended, next_of_cursor, record_cursor, restart_cursor, newest_restart, with_cursor, with_cursor_at, without_cursor, unused_cursor, with_policy, without_policy, stream_number, refusal, Outcome, outcome, answer, found_with_cursor, restarted, restart_record, rebased, archiving, flushed_to, new_area, AreaRow, row_of, row_after, changed_where, with_held, with_changed_held}
 use Rattle.clfs_lsn.specs.declared.policy.Policy.TheVariants as policies
-use Rattle.clfs_lsn.specs.declared.policy.PolicyKind.{PolicyKind}
 use Rattle.clfs_lsn.specs.declared.policy.PolicyKind.TheVariants as kinds
-use Rattle.clfs_model.specs.declared.call.Call.{Call}
 use Rattle.clfs_model.specs.declared.call.Call.TheVariants as calls
-use Rattle.clfs_model.specs.declared.call.Draft.{Draft}
-use Rattle.clfs_model.specs.declared.refusal.Refusal.{Refusal}
 use Rattle.clfs_model.specs.declared.refusal.Refusal.TheVariants as refusals
 use Rattle.clfs_model.specs.declared.reply.Reply.TheVariants as replies
-use Rattle.clfs_model.specs.declared.state.State.{State}
-use Rattle.clfs_model.specs.declared.state.Area.{Area}
-use Rattle.clfs_lsn.specs.declared.cursor.Cursor.{Cursor}
-use Rattle.clfs_lsn.specs.declared.cursor.CursorKind.{CursorKind}
-use Rattle.clfs_lsn.specs.declared.cursor.CursorKind.TheVariants.{Records, RestartAreas}
-use Rattle.clfs_model.specs.State.{area_of, areas_of, is_area, change_area, change_first}
-use Rattle.clfs_model.specs.Live.{live_at}
-use Rattle.clfs_model.specs.Space.{own_sum, grown}
-use Rattle.clfs_model.specs.Flush.{flush, flushed}
-use Rattle.clfs_model.specs.Put.{put, spent_of, with_less_held, plain_record, need_of, seal_if, hold_sizes, spend_if, appended}
-use Rattle.clfs_model.specs.Reading.{next_of_cursor, record_cursor, restart_cursor, newest_restart, with_cursor, with_cursor_at, without_cursor}
-use Rattle.clfs_lsn.specs.Cursors.{unused_cursor}
-use Rattle.clfs_model.specs.Policies.{with_policy, without_policy}
-use Rattle.clfs_model.specs.Refusals.{stream_number, refusal}
-use Rattle.clfs_model.specs.Answers.{Outcome, outcome, answer, found_with_cursor, restarted, restart_record, rebased, archiving, flushed_to, new_area}
-use Rattle.clfs_laws.specs.Rows.{AreaRow, row_of, row_after, changed_where, with_held, with_changed_held}
 use Rattle.clfs_laws.proofs.Finding.{find_behind, find_not_behind, find_gone, find_not_gone}
 use Rattle.clfs_laws.proofs.RowChanges.{row_among, Changes, other_number, other_client}
 use Rattle.clfs_laws.proofs.RowSteps.{ChangesRows, rows_kept, row_changed, cursor_changed, seal_areas, seal_if_areas, flush_if_areas, grown_areas, joined_areas, with_spent, spent_changes, spent_areas, in_the_area, named_change, cursors_change}

@@ -1,9 +1,5 @@
 -- Runs join and part.
-use Rattle.std.proofs.Common.{Bool, refl, ap, subst, List, [], ◌∷◌, ◌++◌}
-use Rattle.clfs_model.specs.declared.reply.Happened.{Happened}
-use Rattle.clfs_model.specs.declared.reply.Reply.{Reply}
-use Rattle.clfs_model.specs.declared.state.State.{State}
-use Rattle.clfs_model.specs.Run.{Request, Run}
+use Rattle.clfs_laws.proofs.Words.{Bool, refl, ap, subst, List, [], ◌∷◌, ◌++◌, Happened, Reply, State, Request, Run}
 use Rattle.clfs_laws.specs.Fronts.{RunsBy}
 
 pub run_joined : (told : Bool) (s mid t : State) (front rest : List Request) (of_front of_rest : List Happened) (replies more : List Reply)

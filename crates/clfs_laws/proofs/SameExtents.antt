@@ -1,17 +1,6 @@
 -- The same is to be archived of states that are the same.
-use Rattle.std.proofs.Common.{◌≡◌, ℕ, ◌+◌, ◌-◌, ◌*◌, ◌≤◌, Bool, true, refl, sym, ap, ◌∙◌, inl, inr, arith, List, [], ◌∷◌, length, zero, suc}
-use Rattle.std.specs.Prelude.{Option, Some, None, filter, nat_le, nat_lt, ◌&&◌, ◌==◌, slice_get, sum_by}
-use Rattle.std.specs.List.{AllByRecursion, range_with_len, filter_map, last_or}
-use Rattle.std.specs.Option.{option_map, option_map_or, option_to_list}
-use Rattle.std.proofs.lemmas.Bool.{cases_Bool, eqb-true}
-use Rattle.clfs_lsn.specs.Lsn.{container_of, offset_of}
-use Rattle.clfs_lsn.specs.Size.{size, sectors}
-use Rattle.clfs_lsn.specs.declared.entry.LogEntry.{LogEntry}
-use Rattle.clfs_model.specs.declared.info.Extent.{Extent}
-use Rattle.clfs_model.specs.declared.state.State.{State}
-use Rattle.clfs_model.specs.Live.{hold}
-use Rattle.clfs_model.specs.Flush.{flushed, IsSame}
-use Rattle.clfs_model.specs.Archive.{is_in_block, end_of_block, archived_in, extent_in, extents_from, extents}
+use Rattle.clfs_laws.proofs.Words.{◌≡◌, ℕ, ◌+◌, ◌-◌, ◌*◌, ◌≤◌, Bool, true, refl, sym, ap, ◌∙◌, inl, inr, arith, List, [], ◌∷◌, length, zero, suc, Option, Some, None, filter, nat_le, nat_lt, ◌&&◌, ◌==◌, slice_get, sum_by, AllByRecursion, range_with_len, filter_map, last_or, option_map, option_map_or, option_to_list, cases_Bool, eqb-true, container_of, offset_of, size, sectors, LogEntry, Extent, State, hold, flushed, IsSame, is_in_block, end_of_block, extent_in, extents_from, extents}
+use Rattle.clfs_model.specs.Archive.{archived_in}
 use Rattle.clfs_laws.proofs.HoldOrder.{hold_below_archive}
 use Rattle.clfs_laws.proofs.LsnOrder.{both_true}
 use Rattle.clfs_laws.proofs.SameRecords.{with_records, records_from, passed_same, passes_each, from_same}

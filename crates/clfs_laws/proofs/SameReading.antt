@@ -1,19 +1,5 @@
 -- Reading goes on to the same record in states that are the same, wherever a cursor is.
-use Rattle.std.proofs.Common.{◌≡◌, ℕ, ◌≤◌, ◌<◌, Bool, true, refl, sym, ap, ◌∙◌, inl, inr, ◌⊎◌, arith, List, [], ◌∷◌}
-use Rattle.std.specs.Prelude.{Option, Some, None, filter, find, nat_le, nat_lt, ◌&&◌, ◌==◌}
-use Rattle.std.specs.List.{AllByRecursion}
-use Rattle.std.specs.Option.{option_and_then}
-use Rattle.std.proofs.lemmas.Bool.{cases_Bool, le-leb, leb-true, leb-false, eqb-true}
-use Rattle.std.proofs.lemmas.List.Elements.{recursion_from_All, All-weaker}
-use Rattle.clfs_lsn.specs.Lsn.{null_lsn, container_of}
-use Rattle.clfs_lsn.specs.declared.entry.LogEntry.{LogEntry}
-use Rattle.clfs_model.specs.declared.state.State.{State}
-use Rattle.clfs_lsn.specs.declared.cursor.Mode.{Mode}
-use Rattle.clfs_lsn.specs.declared.cursor.Mode.TheVariants.{Previous, UndoNext, Forward}
-use Rattle.clfs_model.specs.Live.{hold, is_live, live_at}
-use Rattle.clfs_model.specs.Flush.{IsSame}
-use Rattle.clfs_model.specs.Reading.{entry_at, next}
-use Rattle.clfs_model.specs.Valid.{IsValid, IsRecord}
+use Rattle.clfs_laws.proofs.Words.{◌≡◌, ℕ, ◌≤◌, ◌<◌, Bool, true, refl, sym, ap, ◌∙◌, inl, inr, ◌⊎◌, arith, List, [], ◌∷◌, Option, Some, None, filter, find, nat_le, nat_lt, ◌&&◌, ◌==◌, AllByRecursion, option_and_then, cases_Bool, le-leb, leb-true, leb-false, eqb-true, recursion_from_All, All-weaker, null_lsn, container_of, LogEntry, State, Mode, Previous, UndoNext, Forward, hold, is_live, live_at, IsSame, entry_at, next, IsValid, IsRecord}
 use Rattle.clfs_laws.proofs.HoldOrder.{hold_below_live}
 use Rattle.clfs_laws.proofs.LsnOrder.{both_true}
 use Rattle.clfs_laws.proofs.SameRecords.{is_from, records_from, from_same, live_of_same}

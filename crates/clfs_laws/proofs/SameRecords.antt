@@ -1,16 +1,5 @@
 -- What states have in common that are the same but for records in containers below the hold's: the hold, and all live records.
-use Rattle.std.proofs.Common.{◌≡◌, ℕ, ◌≤◌, Bool, true, refl, sym, ap, ◌∙◌, inl, inr, arith, List, [], ◌∷◌, ◌++◌}
-use Rattle.std.specs.Prelude.{filter, map, nat_le, ◌&&◌, ◌==◌}
-use Rattle.std.specs.List.{AllByRecursion}
-use Rattle.std.specs.Option.{option_to_list}
-use Rattle.std.proofs.lemmas.Bool.{cases_Bool, le-leb, leb-true}
-use Rattle.clfs_lsn.specs.Lsn.{container_of}
-use Rattle.clfs_lsn.specs.Place.{frontier}
-use Rattle.clfs_lsn.specs.declared.entry.LogEntry.{LogEntry}
-use Rattle.clfs_model.specs.declared.state.State.{State}
-use Rattle.clfs_model.specs.Live.{hold, is_live, live, live_lsns}
-use Rattle.clfs_lsn.specs.Heads.{least_or}
-use Rattle.clfs_model.specs.Flush.{IsSame}
+use Rattle.clfs_laws.proofs.Words.{◌≡◌, ℕ, ◌≤◌, Bool, true, refl, sym, ap, ◌∙◌, inl, inr, arith, List, [], ◌∷◌, ◌++◌, filter, map, nat_le, ◌&&◌, ◌==◌, AllByRecursion, option_to_list, cases_Bool, le-leb, leb-true, container_of, frontier, LogEntry, State, hold, is_live, live, live_lsns, least_or, IsSame}
 use Rattle.clfs_laws.proofs.HoldOrder.{hold_below_live}
 use Rattle.clfs_laws.proofs.LsnOrder.{both_true}
 

@@ -1,15 +1,6 @@
 -- Logs that are the same open again alike, and requests come to the same from both.
-use Rattle.std.proofs.Common.{◌≡◌, Bool, true, false, refl, sym, ap, ◌∙◌, subst, inl, inr, ◌⊎◌, List, [], ◌∷◌}
-use Rattle.std.specs.Prelude.{MatchBool}
-use Rattle.clfs_model.specs.declared.reply.Happened.{Happened}
-use Rattle.clfs_model.specs.declared.reply.Happened.TheVariants.{Fine, Fault, Damage}
-use Rattle.clfs_model.specs.declared.reply.Reply.{Reply}
-use Rattle.clfs_model.specs.declared.state.State.{State}
-use Rattle.clfs_model.specs.Flush.{flushed, cut, IsSame}
-use Rattle.clfs_model.specs.Step.{ReopenStep, Reopens, IsReopened, IsOpenedAnew, IsBroken, IsOutOfMemory, with_broken}
-use Rattle.clfs_model.specs.Run.{Request, asks, reopens, bad_line, RequestStep, Run}
-use Rattle.clfs_model.specs.Valid.{IsValid}
-use Rattle.clfs_space.specs.SpaceLaws.{HasSpaceLaws}
+use Rattle.clfs_laws.proofs.Words.{◌≡◌, Bool, true, false, refl, sym, ap, ◌∙◌, subst, inl, inr, ◌⊎◌, List, [], ◌∷◌, MatchBool, Happened, Fine, Fault, Damage, Reply, State, flushed, cut, IsSame, ReopenStep, Reopens, IsOpenedAnew, IsBroken, IsOutOfMemory, with_broken, Request, asks, reopens, bad_line, RequestStep, Run, IsValid, HasSpaceLaws}
+use Rattle.clfs_model.specs.Step.{IsReopened}
 use Rattle.clfs_laws.proofs.Equivalence.{same_itself, same_turned, same_through, same_cut}
 use Rattle.clfs_laws.proofs.SameSteps.{broken_same, steps_alike}
 use Rattle.clfs_laws.proofs.ValidRuns.{valid_reopened}

@@ -1,20 +1,6 @@
 -- States that are the same answer each call alike, and what they come to is the same again.
-use Rattle.std.proofs.Common.{◌≡◌, ℕ, Bool, true, false, refl, sym, ap, ◌∙◌, subst, inl, inr, ◌⊎◌, ◌++◌}
-use Rattle.std.specs.Prelude.{Option, Some, None, MatchBool, MatchOption, IsTrue}
-use Rattle.clfs_model.specs.declared.call.Call.{Call}
-use Rattle.clfs_model.specs.declared.refusal.Refusal.{Refusal}
-use Rattle.clfs_model.specs.declared.reply.Happened.{Happened}
-use Rattle.clfs_model.specs.declared.reply.Happened.TheVariants.{Fine, Fault, Damage}
-use Rattle.clfs_model.specs.declared.reply.Reply.{Reply}
+use Rattle.clfs_laws.proofs.Words.{◌≡◌, ℕ, Bool, true, false, refl, sym, ap, ◌∙◌, subst, inl, inr, ◌⊎◌, ◌++◌, Option, Some, None, MatchBool, MatchOption, IsTrue, Call, Refusal, Happened, Fine, Fault, Damage, Reply, State, flushed, IsSame, extents, refusal, answer, Step, Goes, Comes, IsReply, IsBroken, IsOutOfMemory, takes_memory, calls_disk, with_broken, IsValid, HasSpaceLaws}
 use Rattle.clfs_model.specs.declared.reply.Reply.TheVariants as replies
-use Rattle.clfs_model.specs.declared.state.State.{State}
-use Rattle.clfs_model.specs.Flush.{flushed, IsSame}
-use Rattle.clfs_model.specs.Archive.{extents}
-use Rattle.clfs_model.specs.Refusals.{refusal}
-use Rattle.clfs_model.specs.Answers.{answer}
-use Rattle.clfs_model.specs.Step.{Step, Goes, Comes, IsReply, IsBroken, IsOutOfMemory, takes_memory, calls_disk, with_broken}
-use Rattle.clfs_model.specs.Valid.{IsValid}
-use Rattle.clfs_space.specs.SpaceLaws.{HasSpaceLaws}
 use Rattle.clfs_laws.proofs.AlikeAnswers.{AnswersAlike, answers_alike}
 use Rattle.clfs_laws.proofs.AlikeRefusals.{LooksAlike, refusal_alike, disk_alike}
 use Rattle.clfs_laws.proofs.HoldRuns.{container_rises}

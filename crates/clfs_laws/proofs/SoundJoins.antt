@@ -1,19 +1,5 @@
 -- The three ways in which a record joins: into the open block, into a new block after it, into the next container.
-use Rattle.std.proofs.Common.{◌≡◌, ℕ, suc, ◌+◌, ◌*◌, ◌<◌, ◌≤◌, true, refl, sym, ap, ◌∙◌, subst, inl, inr, ◌⊎◌, arith, List, [], ◌∷◌, ◌++◌}
-use Rattle.std.specs.Prelude.{filter, map, All, IsSome, ◌==◌}
-use Rattle.std.specs.List.{range_with_len}
-use Rattle.std.proofs.lemmas.List.Elements.{All-weaker, All-from_recursion, recursion_from_All}
-use Rattle.clfs_lsn.specs.Lsn.{null_lsn, lsn_number, container_of, offset_of, sequence_of}
-use Rattle.clfs_lsn.specs.Place.{IsWithin, frontier, begun}
-use Rattle.clfs_lsn.specs.Space.{active_containers, free_sectors}
-use Rattle.clfs_lsn.specs.declared.place.Place.{Place}
-use Rattle.clfs_lsn.specs.declared.entry.LogEntry.{LogEntry}
-use Rattle.clfs_model.specs.declared.state.State.{State}
-use Rattle.clfs_model.specs.State.{stream_at}
-use Rattle.clfs_model.specs.Live.{hold}
-use Rattle.clfs_model.specs.Space.{free, reserved}
-use Rattle.clfs_model.specs.Flush.{block_start, first_or, flushed}
-use Rattle.clfs_model.specs.Valid.{IsRecord, IsWaiting, HasWaiting}
+use Rattle.clfs_laws.proofs.Words.{◌≡◌, ℕ, suc, ◌+◌, ◌*◌, ◌<◌, ◌≤◌, true, refl, sym, ap, ◌∙◌, subst, inl, inr, ◌⊎◌, arith, List, [], ◌∷◌, ◌++◌, filter, map, All, IsSome, ◌==◌, range_with_len, All-weaker, All-from_recursion, recursion_from_All, null_lsn, lsn_number, container_of, offset_of, sequence_of, IsWithin, frontier, begun, active_containers, free_sectors, Place, LogEntry, State, stream_at, hold, free, reserved, block_start, first_or, flushed, IsRecord, IsWaiting, HasWaiting}
 use Rattle.clfs_laws.proofs.LsnOrder.{small_offset, is_of_block, none_of_block, equal_true}
 use Rattle.clfs_laws.proofs.ValidPlaces.{IsSound}
 use Rattle.clfs_laws.proofs.SoundPuts.{with_record, IsNext, sound_with_record, free_with_record, filter_push, map_push, find_more, range_push}

@@ -1,21 +1,6 @@
 -- A record that joins a log with room for it leaves a sound state.
-use Rattle.std.proofs.Common.{◌≡◌, ℕ, zero, suc, ◌+◌, ◌<◌, ◌≤◌, Bool, true, refl, sym, ap, ◌∙◌, subst, inl, inr, ◌⊎◌, arith, List, [], ◌∷◌, ◌++◌}
-use Rattle.std.specs.Prelude.{filter, map, find, IsSome}
-use Rattle.std.specs.List.{AllByRecursion, range_with_len}
-use Rattle.std.specs.List.Sorted.{IsStrictlyIncreasing}
-use Rattle.std.proofs.lemmas.Bool.{cases_Bool}
-use Rattle.std.proofs.lemmas.List.Elements.{All-weaker, All-push, recursion_from_All}
-use Rattle.clfs_lsn.specs.Lsn.{null_lsn}
-use Rattle.clfs_lsn.specs.Place.{IsWithin, frontier}
-use Rattle.clfs_lsn.specs.Space.{active_containers, free_sectors}
-use Rattle.clfs_lsn.specs.declared.place.Place.{Place}
-use Rattle.clfs_lsn.specs.declared.entry.LogEntry.{LogEntry}
-use Rattle.clfs_model.specs.declared.state.State.{State}
-use Rattle.clfs_model.specs.State.{stream_at}
-use Rattle.clfs_model.specs.Live.{hold, is_live}
-use Rattle.clfs_model.specs.Space.{free, reserved}
-use Rattle.clfs_model.specs.Flush.{flushed}
-use Rattle.clfs_model.specs.Valid.{IsRecord, HasWaiting, open_sequences}
+use Rattle.clfs_laws.proofs.Words.{◌≡◌, ℕ, zero, suc, ◌+◌, ◌<◌, ◌≤◌, Bool, true, refl, sym, ap, ◌∙◌, subst, inl, inr, ◌⊎◌, arith, List, [], ◌∷◌, ◌++◌, filter, map, find, IsSome, AllByRecursion, range_with_len, IsStrictlyIncreasing, cases_Bool, All-weaker, All-push, recursion_from_All, null_lsn, IsWithin, frontier, active_containers, free_sectors, Place, LogEntry, State, stream_at, hold, is_live, free, reserved, flushed, IsRecord, HasWaiting}
+use Rattle.clfs_model.specs.Valid.{open_sequences}
 use Rattle.clfs_laws.proofs.ValidPlaces.{moved, IsSound, sound_moved, stable_still, increasing_push}
 use Rattle.clfs_laws.proofs.HoldOrder.{hold_later, hold_below_archive, hold_below_live, hold_below_frontier, active_later, free_later}
 

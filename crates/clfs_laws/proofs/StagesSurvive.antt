@@ -1,26 +1,5 @@
 -- The flushed parts of the states between the small changes of a call survive the call.
-use Rattle.std.proofs.Common.{◌≡◌, ℕ, ◌+◌, ◌*◌, ◌≤◌, ◌^◌, refl, sym, ap, ◌∙◌, subst, inl, inr, ◌⊎◌, arith, List, [], ◌∷◌, ◌++◌, length}
-use Rattle.std.specs.Prelude.{Any, nat_lt}
-use Rattle.std.specs.List.{AllByRecursion}
-use Rattle.std.proofs.lemmas.List.{append-nil}
-use Rattle.std.proofs.lemmas.List.Elements.{filter-append}
-use Rattle.clfs_lsn.specs.Lsn.{container_of, offset_of}
-use Rattle.clfs_lsn.specs.Size.{sectors}
-use Rattle.clfs_lsn.specs.Place.{frontier}
-use Rattle.clfs_lsn.specs.declared.place.Place.{Place}
-use Rattle.clfs_lsn.specs.declared.entry.LogEntry.{LogEntry}
-use Rattle.clfs_model.specs.declared.state.State.{State}
-use Rattle.clfs_lsn.specs.declared.stream.Stream.{Stream}
-use Rattle.clfs_model.specs.State.{base_of}
-use Rattle.clfs_model.specs.Flush.{flushed, cut}
-use Rattle.clfs_model.specs.Put.{next_lsn, put}
-use Rattle.clfs_model.specs.Run.{Request}
-use Rattle.clfs_model.specs.Storable.{HasBlocks, IsStorable}
-use Rattle.clfs_model.specs.Survivors.{HasSettings, HasBases, HasBasesOfRequest, EndsBlockOf, IsSurvivor}
-use Rattle.clfs_model.specs.Valid.{IsValid}
-use Rattle.clfs_space.specs.SpaceLaws.{HasSpaceLaws}
-use Rattle.clfs_laws.specs.Between.{MayPut, readied}
-use Rattle.clfs_laws.specs.Stages.{ready_stages}
+use Rattle.clfs_laws.proofs.Words.{◌≡◌, ℕ, ◌+◌, ◌*◌, ◌≤◌, ◌^◌, refl, sym, ap, ◌∙◌, subst, inl, inr, ◌⊎◌, arith, List, [], ◌∷◌, ◌++◌, length, Any, nat_lt, AllByRecursion, append-nil, filter-append, container_of, offset_of, sectors, frontier, Place, LogEntry, State, Stream, base_of, flushed, cut, next_lsn, put, Request, HasBlocks, IsStorable, HasSettings, HasBases, HasBasesOfRequest, EndsBlockOf, IsSurvivor, IsValid, HasSpaceLaws, MayPut, readied, ready_stages}
 use Rattle.clfs_laws.proofs.Among.{IsAmong}
 use Rattle.clfs_laws.proofs.CutPlaces.{frontier_cut, splits_none, any_among, among_front, cut_ends, paid_front, at_lsn}
 use Rattle.clfs_laws.proofs.CutSurvives.{its_own}

@@ -1,32 +1,9 @@
 -- Every step keeps the blocks of a log one after the other, whatever the call's arguments.
-use Rattle.std.proofs.Common.{◌≡◌, ℕ, Bool, true, false, refl, length}
-use Rattle.std.specs.Prelude.{Option, Some, None}
-use Rattle.clfs_lsn.specs.declared.entry.LogEntry.{LogEntry}
-use Rattle.clfs_lsn.specs.declared.policy.Policy.{Policy}
+use Rattle.clfs_laws.proofs.Words.{◌≡◌, ℕ, Bool, true, false, refl, length, Option, Some, None, LogEntry, Policy, PolicyKind, Call, Happened, Reply, State, Area, Cursor, area_of, live_at, own_sum, grown, with_containers, flush, next_lsn, appended, with_policy, without_policy, newest_restart, record_cursor, restart_cursor, refusal, in_area, stream_number, append_refusal, restart_refusal, Outcome, outcome, answer, over_area, moved_on, archiving, advanced, restarted, Step, with_broken, HasBlocks, IsValid, HasSpaceLaws}
 use Rattle.clfs_lsn.specs.declared.policy.Policy.TheVariants as policies
-use Rattle.clfs_lsn.specs.declared.policy.PolicyKind.{PolicyKind}
 use Rattle.clfs_lsn.specs.declared.policy.PolicyKind.TheVariants as kinds
-use Rattle.clfs_model.specs.declared.call.Call.{Call}
 use Rattle.clfs_model.specs.declared.call.Call.TheVariants as calls
-use Rattle.clfs_model.specs.declared.reply.Happened.{Happened}
-use Rattle.clfs_model.specs.declared.reply.Reply.{Reply}
 use Rattle.clfs_model.specs.declared.reply.Reply.TheVariants as replies
-use Rattle.clfs_model.specs.declared.state.State.{State}
-use Rattle.clfs_model.specs.declared.state.Area.{Area}
-use Rattle.clfs_lsn.specs.declared.cursor.Cursor.{Cursor}
-use Rattle.clfs_model.specs.State.{area_of}
-use Rattle.clfs_model.specs.Live.{live_at}
-use Rattle.clfs_model.specs.Space.{own_sum, grown, with_containers}
-use Rattle.clfs_model.specs.Flush.{flush}
-use Rattle.clfs_model.specs.Put.{next_lsn, appended}
-use Rattle.clfs_model.specs.Policies.{with_policy, without_policy}
-use Rattle.clfs_model.specs.Reading.{newest_restart, record_cursor, restart_cursor}
-use Rattle.clfs_model.specs.Refusals.{refusal, in_area, stream_number, append_refusal, restart_refusal}
-use Rattle.clfs_model.specs.Answers.{Outcome, outcome, answer, over_area, moved_on, archiving, advanced, restarted}
-use Rattle.clfs_model.specs.Step.{Step, with_broken}
-use Rattle.clfs_model.specs.Storable.{HasBlocks}
-use Rattle.clfs_model.specs.Valid.{IsValid}
-use Rattle.clfs_space.specs.SpaceLaws.{HasSpaceLaws}
 use Rattle.clfs_laws.proofs.OutcomeCases.{of_option, of_area, of_cursor}
 use Rattle.clfs_laws.proofs.StepLeads.{step_leads}
 use Rattle.clfs_laws.proofs.StorableBlocks.{blocks_as, blocks_flush, blocks_flushed_to, blocks_grown, blocks_hold, blocks_appended, blocks_restarted}

@@ -1,19 +1,7 @@
 -- A step is one of five ways, and what each leaves.
-use Rattle.std.proofs.Common.{◌≡◌, ℕ, Bool, true, false, refl, sym, ◌∙◌, inl, inr, ◌⊎◌, subst}
-use Rattle.std.specs.Prelude.{Option, Some, None, MatchBool, MatchOption, IsTrue}
-use Rattle.clfs_model.specs.declared.call.Call.{Call}
-use Rattle.clfs_model.specs.declared.refusal.Refusal.{Refusal}
+use Rattle.clfs_laws.proofs.Words.{◌≡◌, ℕ, Bool, true, false, refl, sym, ◌∙◌, inl, inr, ◌⊎◌, subst, Option, Some, None, MatchBool, MatchOption, IsTrue, Call, Refusal, Happened, Fine, Fault, Damage, Reply, State, happened_of_refusal, flushed, refusal, answer, Step, Goes, Comes, IsReply, IsBroken, IsOutOfMemory, IsDamaged, takes_memory}
 use Rattle.clfs_model.specs.declared.refusal.Refusal.TheVariants as refusals
-use Rattle.clfs_model.specs.declared.reply.Happened.{Happened}
-use Rattle.clfs_model.specs.declared.reply.Happened.TheVariants.{Fine, Fault, Damage}
-use Rattle.clfs_model.specs.declared.reply.Reply.{Reply}
 use Rattle.clfs_model.specs.declared.reply.Reply.TheVariants as replies
-use Rattle.clfs_model.specs.declared.state.State.{State}
-use Rattle.clfs_model.specs.Happened.{happened_of_refusal}
-use Rattle.clfs_model.specs.Flush.{flushed}
-use Rattle.clfs_model.specs.Refusals.{refusal}
-use Rattle.clfs_model.specs.Answers.{answer}
-use Rattle.clfs_model.specs.Step.{Step, Goes, Comes, IsReply, IsBroken, IsOutOfMemory, IsDamaged, takes_memory}
 use Rattle.clfs_laws.proofs.Answered.{answer_keeps}
 
 -- the fact that belongs to a test's case

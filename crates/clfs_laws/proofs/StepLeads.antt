@@ -1,17 +1,6 @@
 -- A step leaves the state as it was, or as it was and broken, or as the answer says.
-use Rattle.std.proofs.Common.{◌≡◌, ℕ, Bool, true, false, refl, sym, subst, inl, inr}
-use Rattle.std.specs.Prelude.{Option, Some, None, MatchOption}
-use Rattle.clfs_model.specs.declared.call.Call.{Call}
-use Rattle.clfs_model.specs.declared.refusal.Refusal.{Refusal}
-use Rattle.clfs_model.specs.declared.reply.Happened.{Happened}
-use Rattle.clfs_model.specs.declared.reply.Happened.TheVariants.{Fine, Fault, Damage}
-use Rattle.clfs_model.specs.declared.reply.Reply.{Reply}
+use Rattle.clfs_laws.proofs.Words.{◌≡◌, ℕ, Bool, true, false, refl, sym, subst, inl, inr, Option, Some, None, MatchOption, Call, Refusal, Happened, Fine, Fault, Damage, Reply, State, flushed, refusal, answer, Step, Goes, Comes, with_broken}
 use Rattle.clfs_model.specs.declared.reply.Reply.TheVariants as replies
-use Rattle.clfs_model.specs.declared.state.State.{State}
-use Rattle.clfs_model.specs.Flush.{flushed}
-use Rattle.clfs_model.specs.Refusals.{refusal}
-use Rattle.clfs_model.specs.Answers.{answer}
-use Rattle.clfs_model.specs.Step.{Step, Goes, Comes, with_broken}
 use Rattle.clfs_laws.proofs.StepCases.{broken_step, whole_step}
 
 -- what holds of those three states

@@ -1,31 +1,8 @@
 -- New streams, areas and cursors are within their limits, and so are cursors that move and areas and cursors that end.
-use Rattle.std.proofs.Common.{◌≡◌, ℕ, zero, suc, ◌+◌, ◌<◌, ◌≤◌, Bool, true, refl, sym, ap, ◌∙◌, subst, inl, inr, arith, List, [], ◌∷◌, ◌++◌, length, length-append}
-use Rattle.std.specs.Prelude.{Option, Some, None, All, find, filter, map, not, nat_le, is_none, ◌==◌, ◌&&◌, unwrap_or}
-use Rattle.std.specs.List.{range_with_len}
-use Rattle.std.specs.Option.{option_map_or}
-use Rattle.std.proofs.lemmas.Bool.{cases_Bool, eqb-true, leb-false, and_parts}
-use Rattle.std.proofs.lemmas.List.{append-nil, length-map}
-use Rattle.std.proofs.lemmas.List.Elements.{All-weaker, All-push, All-filter, All-from_recursion, recursion_from_All, filter-append}
-use Rattle.clfs_lsn.specs.Limits.{most_streams}
-use Rattle.clfs_lsn.specs.Lsn.{null_lsn}
-use Rattle.clfs_lsn.specs.Size.{longest}
-use Rattle.clfs_lsn.specs.declared.entry.LogEntry.{LogEntry}
+use Rattle.clfs_laws.proofs.Words.{◌≡◌, ℕ, zero, suc, ◌+◌, ◌<◌, ◌≤◌, Bool, true, refl, sym, ap, ◌∙◌, subst, inl, inr, arith, List, [], ◌∷◌, ◌++◌, length, length-append, Option, Some, None, All, find, filter, map, not, nat_le, is_none, ◌==◌, ◌&&◌, unwrap_or, range_with_len, option_map_or, cases_Bool, eqb-true, leb-false, and_parts, append-nil, length-map, All-weaker, All-push, All-filter, All-from_recursion, recursion_from_All, filter-append, most_streams, null_lsn, longest, LogEntry, State, Area, Cursor, CursorKind, Stream, IsClient, stream_at, is_area, area_of, areas_of, change_area, least_unused, next_of_cursor, record_cursor, restart_cursor, with_cursor, with_cursor_at, without_cursor, unused_cursor, is_over_restarts, name_fault, stream_number, open_refusal, create_refusal, refused_if, too_long, too_many_cursors, outcome, opened, new_area, found_with_cursor, moved_on, IsCursor, IsAreaWithinLimits, IsWithinLimits, IsValid, IsArea}
 use Rattle.clfs_model.specs.declared.refusal.Refusal.TheVariants as refusals
 use Rattle.clfs_model.specs.declared.reply.Reply.TheVariants as replies
-use Rattle.clfs_model.specs.declared.state.State.{State}
-use Rattle.clfs_model.specs.declared.state.Area.{Area}
-use Rattle.clfs_lsn.specs.declared.cursor.Cursor.{Cursor}
-use Rattle.clfs_lsn.specs.declared.cursor.CursorKind.{CursorKind}
-use Rattle.clfs_lsn.specs.declared.stream.Stream.{Stream}
-use Rattle.clfs_model.specs.Conditions.{IsClient}
-use Rattle.clfs_model.specs.State.{stream_at, is_area, area_of, areas_of, change_area}
-use Rattle.clfs_lsn.specs.Numbers.{least_unused}
-use Rattle.clfs_model.specs.Reading.{next_of_cursor, record_cursor, restart_cursor, with_cursor, with_cursor_at, without_cursor}
-use Rattle.clfs_lsn.specs.Cursors.{unused_cursor, is_over_restarts, is_cursor_number}
-use Rattle.clfs_model.specs.Refusals.{name_fault, stream_number, open_refusal, create_refusal, refused_if, too_long, too_many_cursors}
-use Rattle.clfs_model.specs.Answers.{outcome, opened, new_area, found_with_cursor, moved_on}
-use Rattle.clfs_model.specs.Storable.{IsCursor, IsAreaWithinLimits, IsWithinLimits}
-use Rattle.clfs_model.specs.Valid.{IsValid, IsArea}
+use Rattle.clfs_lsn.specs.Cursors.{is_cursor_number}
 use Rattle.clfs_laws.proofs.Among.{IsAmong, found}
 use Rattle.clfs_laws.proofs.CursorSteps.{moved_if}
 use Rattle.clfs_laws.proofs.NotRefused.{passed, passed_option, passed_long, second_false}

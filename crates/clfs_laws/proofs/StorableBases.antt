@@ -1,26 +1,6 @@
 -- The new bases of records stay where their streams' bases are, or further.
-use Rattle.std.proofs.Common.{◌≡◌, ℕ, zero, suc, ◌-◌, ◌≤◌, Bool, true, false, refl, sym, ap, ◌∙◌, subst, inl, inr, arith, List, [], ◌∷◌, ◌++◌, length}
-use Rattle.std.specs.Prelude.{Option, Some, None, All, IsSome, slice_get, not, ◌==◌, if◌then◌else◌}
-use Rattle.std.specs.Option.{option_map_or}
-use Rattle.std.proofs.lemmas.Bool.{cases_Bool, eqb-true, eqb-false}
-use Rattle.std.proofs.lemmas.List.Elements.{All-weaker, All-push}
-use Rattle.clfs_lsn.specs.Lsn.{null_lsn}
-use Rattle.clfs_lsn.specs.declared.entry.LogEntry.{LogEntry}
-use Rattle.clfs_model.specs.declared.call.Draft.{Draft}
+use Rattle.clfs_laws.proofs.Words.{◌≡◌, ℕ, zero, suc, ◌-◌, ◌≤◌, Bool, true, false, refl, sym, ap, ◌∙◌, subst, inl, inr, arith, List, [], ◌∷◌, ◌++◌, length, Option, Some, None, All, IsSome, slice_get, not, ◌==◌, if◌then◌else◌, option_map_or, cases_Bool, eqb-true, eqb-false, All-weaker, All-push, null_lsn, LogEntry, Draft, State, Area, Stream, stream_at, base_of, area_of, set_base, last_live, grown, flush, next_lsn, put, need_of, spend_if, hold_sizes, seal_if, flush_if, plain_record, appended, is_base, invalid_base, restart_refusal, restart_record, restarted, rebased, advanced, HasMovedBase, IsValid}
 use Rattle.clfs_model.specs.declared.refusal.Refusal.TheVariants as refusals
-use Rattle.clfs_model.specs.declared.state.State.{State}
-use Rattle.clfs_model.specs.declared.state.Area.{Area}
-use Rattle.clfs_lsn.specs.declared.stream.Stream.{Stream}
-use Rattle.clfs_model.specs.State.{stream_at, base_of, area_of}
-use Rattle.clfs_lsn.specs.Streams.{set_base}
-use Rattle.clfs_model.specs.Live.{last_live}
-use Rattle.clfs_model.specs.Space.{grown}
-use Rattle.clfs_model.specs.Flush.{flush}
-use Rattle.clfs_model.specs.Put.{next_lsn, put, need_of, spend_if, hold_sizes, seal_if, flush_if, plain_record, appended}
-use Rattle.clfs_model.specs.Refusals.{is_base, invalid_base, restart_refusal}
-use Rattle.clfs_model.specs.Answers.{restart_record, restarted, rebased, advanced}
-use Rattle.clfs_model.specs.Storable.{HasMovedBase}
-use Rattle.clfs_model.specs.Valid.{IsValid}
 use Rattle.clfs_laws.proofs.NotRefused.{passed}
 use Rattle.clfs_laws.proofs.Links.{next_above}
 use Rattle.clfs_laws.proofs.RecordsOfCalls.{seal_records, placed_record, appended_records, restarted_records}

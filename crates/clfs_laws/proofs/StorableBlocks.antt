@@ -1,28 +1,6 @@
 -- The blocks of a log lie one after the other after each change of its records and its place.
-use Rattle.std.proofs.Common.{◌≡◌, ℕ, ◌+◌, ◌-◌, ◌<◌, ◌≤◌, ◌^◌, Bool, true, false, refl, sym, ap, ◌∙◌, subst, inl, inr, arith, List, [], ◌∷◌, ◌++◌, length}
-use Rattle.std.specs.Prelude.{Some, None, nat_lt, ◌==◌}
-use Rattle.std.proofs.lemmas.Bool.{cases_Bool, ltb-true}
-use Rattle.std.proofs.lemmas.Bool.Decides.{nat_tests}
-use Rattle.clfs_lsn.specs.Size.{own}
-use Rattle.clfs_lsn.specs.Place.{IsWithin, block_end, joins, begins_here}
-use Rattle.clfs_lsn.specs.Space.{left_sectors}
-use Rattle.clfs_lsn.specs.declared.place.Place.{Place}
-use Rattle.clfs_lsn.specs.declared.shape.Shape.{Shape}
-use Rattle.clfs_lsn.specs.declared.entry.LogEntry.{LogEntry}
-use Rattle.clfs_model.specs.declared.call.Draft.{Draft}
-use Rattle.clfs_model.specs.declared.state.State.{State}
-use Rattle.clfs_model.specs.declared.state.Area.{Area}
-use Rattle.clfs_model.specs.State.{area_of}
-use Rattle.clfs_lsn.specs.Streams.{set_base}
-use Rattle.clfs_model.specs.Space.{free, reserved, with_containers, grown}
-use Rattle.clfs_model.specs.Flush.{flushed, seal, flush}
-use Rattle.clfs_model.specs.Put.{next_lsn, put, need_of, spend_if, hold_sizes, seal_if, flush_if, plain_record, appended}
-use Rattle.clfs_model.specs.Refusals.{append_refusal, restart_refusal}
-use Rattle.clfs_model.specs.Answers.{flushed_to, restart_record, restarted, rebased}
-use Rattle.clfs_model.specs.Storable.{before_all, behind_all, LieInBlocks, GoesOnAt, HasBlocks}
-use Rattle.clfs_model.specs.Valid.{IsValid}
+use Rattle.clfs_laws.proofs.Words.{◌≡◌, ℕ, ◌+◌, ◌-◌, ◌<◌, ◌≤◌, ◌^◌, Bool, true, false, refl, sym, ap, ◌∙◌, subst, inl, inr, arith, List, [], ◌∷◌, ◌++◌, length, Some, None, nat_lt, ◌==◌, cases_Bool, ltb-true, nat_tests, own, IsWithin, block_end, joins, begins_here, left_sectors, Place, Shape, LogEntry, Draft, State, Area, area_of, set_base, free, reserved, with_containers, grown, flushed, seal, flush, next_lsn, put, need_of, spend_if, hold_sizes, seal_if, flush_if, plain_record, appended, append_refusal, restart_refusal, flushed_to, restart_record, restarted, rebased, before_all, behind_all, LieInBlocks, GoesOnAt, HasBlocks, IsValid, HasSpaceLaws}
 use Rattle.clfs_laws.proofs.OwnSectors.{own_fits}
-use Rattle.clfs_space.specs.SpaceLaws.{HasSpaceLaws}
 use Rattle.clfs_laws.proofs.BlockOrder.{behind_more, laid_push, next_goes_on, sealed_goes_on}
 use Rattle.clfs_laws.proofs.SoundJoins.{IsJoining}
 use Rattle.clfs_laws.proofs.ValidPlaces.{IsSound, sound_of}

@@ -1,26 +1,7 @@
 -- A cursor's last record is there, in its area's stream, and of the kind that the cursor goes over.
-use Rattle.std.proofs.Common.{◌≡◌, ℕ, suc, ◌<◌, ◌≤◌, Bool, true, refl, sym, ap, ◌∙◌, subst, inl, inr, arith, List, [], ◌∷◌, ◌++◌}
-use Rattle.std.specs.Prelude.{Option, Some, None, find, filter, map, AllPairs, ◌≢◌, nat_lt, ◌==◌, ◌&&◌}
-use Rattle.std.specs.List.{AllByRecursion}
-use Rattle.std.specs.Option.{option_or, option_and_then}
-use Rattle.std.proofs.lemmas.Bool.{cases_Bool, eqb-true, eq-eqb, ne_eqb, and_parts}
-use Rattle.std.proofs.lemmas.List.Elements.{recursion_from_All}
-use Rattle.std.proofs.lemmas.List.Folds.{find-append}
-use Rattle.clfs_lsn.specs.declared.entry.LogEntry.{LogEntry}
-use Rattle.clfs_lsn.specs.declared.entry.Kind.{Kind}
-use Rattle.clfs_lsn.specs.declared.entry.Kind.TheVariants.{Plain, Restart}
-use Rattle.clfs_lsn.specs.declared.cursor.Mode.{Mode}
-use Rattle.clfs_lsn.specs.declared.cursor.Mode.TheVariants.{Previous, UndoNext, Forward}
-use Rattle.clfs_model.specs.declared.state.State.{State}
-use Rattle.clfs_model.specs.declared.state.Area.{Area}
-use Rattle.clfs_lsn.specs.declared.cursor.Cursor.{Cursor}
-use Rattle.clfs_lsn.specs.declared.cursor.CursorKind.{CursorKind}
-use Rattle.clfs_lsn.specs.declared.cursor.CursorKind.TheVariants.{Records, RestartAreas}
-use Rattle.clfs_model.specs.Live.{is_live, live, live_at}
-use Rattle.clfs_model.specs.Reading.{entry_at, next, restart_areas, newest_restart, next_of_cursor}
-use Rattle.clfs_lsn.specs.Heads.{is_restart}
-use Rattle.clfs_model.specs.Storable.{IsOfCursor, IsCursor}
-use Rattle.clfs_model.specs.Valid.{IsValid}
+use Rattle.clfs_laws.proofs.Words.{◌≡◌, ℕ, suc, ◌<◌, ◌≤◌, Bool, true, refl, sym, ap, ◌∙◌, subst, inl, inr, arith, List, [], ◌∷◌, ◌++◌, Option, Some, None, find, filter, map, AllPairs, nat_lt, ◌==◌, ◌&&◌, AllByRecursion, option_or, option_and_then, cases_Bool, eqb-true, eq-eqb, ne_eqb, and_parts, recursion_from_All, find-append, LogEntry, Kind, Plain, Restart, Mode, Previous, UndoNext, Forward, State, Area, Cursor, CursorKind, Records, RestartAreas, is_live, live, live_at, entry_at, next, restart_areas, newest_restart, next_of_cursor, is_restart, IsCursor, IsValid}
+use Rattle.std.specs.Prelude.{◌≢◌}
+use Rattle.clfs_model.specs.Storable.{IsOfCursor}
 use Rattle.clfs_laws.proofs.Among.{IsAmong, found, each_among, among_recursion}
 use Rattle.clfs_laws.proofs.CursorSteps.{moved_if}
 use Rattle.clfs_laws.proofs.FallingLists.{Rises, rises}

@@ -1,23 +1,5 @@
 -- Files can hold the fresh state, and the flushed part of a state that they can hold.
-use Rattle.std.proofs.Common.{◌≡◌, ℕ, ◌%◌, ◌<◌, ◌≤◌, Bool, refl, sym, ap, ◌∙◌, subst, inl, inr, ◌⊎◌, arith, List, [], ◌∷◌, ◌++◌}
-use Rattle.std.specs.Prelude.{Option, Some, None, All, IsSome, nat_lt, ◌==◌}
-use Rattle.std.specs.List.{AllByRecursion}
-use Rattle.std.proofs.lemmas.Bool.{cases_Bool, lt-ltb, le-ltb, ltb-true, ltb-false, eqb-true}
-use Rattle.std.proofs.lemmas.List.Elements.{All-filter, All-from_recursion}
-use Rattle.clfs_lsn.specs.Lsn.{container_of, offset_of, sequence_of}
-use Rattle.clfs_lsn.specs.Size.{IsShape}
-use Rattle.clfs_lsn.specs.Place.{IsWithin, IsClosed, IsOpen, sealed, frontier, block_end}
-use Rattle.clfs_lsn.specs.declared.place.Place.{Place}
-use Rattle.clfs_lsn.specs.declared.shape.Shape.{Shape}
-use Rattle.clfs_lsn.specs.declared.entry.LogEntry.{LogEntry}
-use Rattle.clfs_model.specs.declared.state.State.{State}
-use Rattle.clfs_lsn.specs.declared.stream.Stream.{Stream}
-use Rattle.clfs_model.specs.State.{fresh}
-use Rattle.clfs_model.specs.Flush.{block_start, first_or, flushed, cut}
-use Rattle.clfs_model.specs.Reading.{entry_at}
-use Rattle.clfs_model.specs.Refusals.{name_fault}
-use Rattle.clfs_model.specs.Storable.{before_all, behind, behind_all, LiesBehind, LieInBlocks, GoesOnAt, HasMovedBase, HasBlocks, IsAreaWithinLimits, IsStorable}
-use Rattle.clfs_model.specs.Valid.{IsValid, IsWaiting}
+use Rattle.clfs_laws.proofs.Words.{◌≡◌, ℕ, ◌%◌, ◌<◌, ◌≤◌, Bool, refl, sym, ap, ◌∙◌, subst, inl, inr, ◌⊎◌, arith, List, [], ◌∷◌, ◌++◌, Option, Some, None, All, IsSome, nat_lt, ◌==◌, AllByRecursion, cases_Bool, lt-ltb, le-ltb, ltb-true, ltb-false, eqb-true, All-filter, All-from_recursion, container_of, offset_of, sequence_of, IsShape, IsWithin, IsClosed, IsOpen, sealed, frontier, block_end, Place, Shape, LogEntry, State, Stream, fresh, block_start, first_or, flushed, cut, entry_at, name_fault, before_all, behind, behind_all, LiesBehind, LieInBlocks, GoesOnAt, HasMovedBase, HasBlocks, IsAreaWithinLimits, IsStorable, IsValid, IsWaiting}
 use Rattle.clfs_laws.proofs.Among.{IsAmong, found, among_recursion}
 use Rattle.clfs_laws.proofs.BlockOrder.{laid_front, laid_rest}
 use Rattle.clfs_laws.proofs.FallingLists.{Rises, rises, below_lsn, all_below}

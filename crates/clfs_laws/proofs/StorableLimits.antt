@@ -1,26 +1,5 @@
 -- Streams, areas and cursors stay within their limits.
-use Rattle.std.proofs.Common.{◌≡◌, ℕ, suc, ◌-◌, Bool, true, false, refl, sym, ap, ◌∙◌, subst, inl, inr, arith, List, [], ◌∷◌, ◌++◌, length}
-use Rattle.std.specs.Prelude.{Some, None, All, find, filter, nat_lt, ◌==◌}
-use Rattle.std.specs.List.{AllByRecursion}
-use Rattle.std.proofs.lemmas.Bool.{cases_Bool}
-use Rattle.std.proofs.lemmas.List.{append-nil}
-use Rattle.std.proofs.lemmas.List.Elements.{All-weaker, All-from_recursion, recursion_from_All}
-use Rattle.clfs_lsn.specs.Lsn.{null_lsn}
-use Rattle.clfs_lsn.specs.declared.entry.LogEntry.{LogEntry}
-use Rattle.clfs_model.specs.declared.call.Draft.{Draft}
-use Rattle.clfs_model.specs.declared.state.State.{State}
-use Rattle.clfs_model.specs.declared.state.Area.{Area}
-use Rattle.clfs_lsn.specs.declared.cursor.Cursor.{Cursor}
-use Rattle.clfs_lsn.specs.declared.stream.Stream.{Stream}
-use Rattle.clfs_model.specs.Conditions.{IsClient}
-use Rattle.clfs_model.specs.State.{is_area, areas_of, change_first, change_area}
-use Rattle.clfs_lsn.specs.Streams.{set_base}
-use Rattle.clfs_model.specs.Space.{own_sum, with_containers, grown}
-use Rattle.clfs_model.specs.Flush.{flushed, seal, flush}
-use Rattle.clfs_model.specs.Put.{put, need_of, with_less_held, with_more_held, spend_if, hold_sizes, seal_if, flush_if, plain_record, appended}
-use Rattle.clfs_model.specs.Refusals.{name_fault}
-use Rattle.clfs_model.specs.Answers.{flushed_to, restart_record, restarted, rebased, advanced}
-use Rattle.clfs_model.specs.Storable.{IsCursor, IsAreaWithinLimits, IsWithinLimits}
+use Rattle.clfs_laws.proofs.Words.{◌≡◌, ℕ, suc, ◌-◌, Bool, true, false, refl, sym, ap, ◌∙◌, subst, inl, inr, arith, List, [], ◌∷◌, ◌++◌, length, Some, None, All, find, filter, nat_lt, ◌==◌, AllByRecursion, cases_Bool, append-nil, All-weaker, All-from_recursion, recursion_from_All, null_lsn, LogEntry, Draft, State, Area, Cursor, Stream, IsClient, is_area, areas_of, change_first, change_area, set_base, own_sum, with_containers, grown, flushed, seal, flush, put, need_of, with_less_held, with_more_held, spend_if, hold_sizes, seal_if, flush_if, plain_record, appended, name_fault, flushed_to, restart_record, restarted, rebased, advanced, IsCursor, IsAreaWithinLimits, IsWithinLimits}
 use Rattle.clfs_laws.proofs.RecordsOfCalls.{seal_records}
 use Rattle.clfs_laws.proofs.RowSteps.{put_areas, seal_areas}
 use Rattle.clfs_laws.proofs.StorableCursors.{cursor_kept}

@@ -1,21 +1,5 @@
 -- What files can hold stays so over steps, journals and runs.
-use Rattle.std.proofs.Common.{◌≡◌, Bool, true, false, refl, sym, subst, inl, inr, ◌⊎◌, List, [], ◌∷◌, ◌++◌}
-use Rattle.std.specs.Prelude.{All, MatchBool}
-use Rattle.std.specs.List.{AllByRecursion}
-use Rattle.std.proofs.lemmas.List.Elements.{recursion_from_All}
-use Rattle.clfs_model.specs.declared.journal.Entry.{Entry}
-use Rattle.clfs_model.specs.declared.reply.Happened.{Happened}
-use Rattle.clfs_model.specs.declared.reply.Happened.TheVariants.{Fine, Fault, Damage}
-use Rattle.clfs_model.specs.declared.reply.Reply.{Reply}
-use Rattle.clfs_model.specs.declared.state.State.{State}
-use Rattle.clfs_model.specs.Conditions.{MeetsCondition}
-use Rattle.clfs_model.specs.Journals.{GoesOn, IsLegal}
-use Rattle.clfs_model.specs.Run.{Request, asks, reopens, bad_line, RequestStep, Run}
-use Rattle.clfs_model.specs.Step.{ReopenStep, Reopens, IsBroken, IsOutOfMemory, with_broken}
-use Rattle.clfs_model.specs.Storable.{IsStorable}
-use Rattle.clfs_model.specs.Valid.{IsValid}
-use Rattle.clfs_space.specs.SpaceLaws.{HasSpaceLaws}
-use Rattle.clfs_laws.specs.Meets.{RequestMeets}
+use Rattle.clfs_laws.proofs.Words.{◌≡◌, Bool, true, false, refl, sym, subst, inl, inr, ◌⊎◌, List, [], ◌∷◌, ◌++◌, All, MatchBool, AllByRecursion, recursion_from_All, Entry, Happened, Fine, Fault, Damage, Reply, State, MeetsCondition, GoesOn, IsLegal, Request, asks, reopens, bad_line, RequestStep, Run, ReopenStep, Reopens, IsBroken, IsOutOfMemory, with_broken, IsStorable, IsValid, HasSpaceLaws, RequestMeets}
 use Rattle.clfs_laws.proofs.StorableSteps.{storable_same, storable_step}
 use Rattle.clfs_laws.proofs.ValidRuns.{valid_reopened}
 use Rattle.clfs_laws.proofs.ValidSteps.{valid_step}

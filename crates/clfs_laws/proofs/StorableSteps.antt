@@ -1,40 +1,10 @@
 -- Every step keeps a state such that files can hold it.
-use Rattle.std.proofs.Common.{◌≡◌, ℕ, ◌+◌, Bool, true, false, refl, sym, subst, inl, inr, List, [], ◌∷◌, ◌++◌, length}
-use Rattle.std.specs.Prelude.{Option, Some, None, not, is_none, nat_lt}
-use Rattle.std.specs.Option.{option_map_or}
-use Rattle.std.proofs.lemmas.Bool.{cases_Bool}
-use Rattle.clfs_lsn.specs.Lsn.{null_lsn}
-use Rattle.clfs_lsn.specs.declared.entry.LogEntry.{LogEntry}
-use Rattle.clfs_lsn.specs.declared.policy.Policy.{Policy}
+use Rattle.clfs_laws.proofs.Words.{◌≡◌, ℕ, ◌+◌, Bool, true, false, refl, sym, subst, inl, inr, List, [], ◌∷◌, ◌++◌, length, Option, Some, None, not, is_none, nat_lt, option_map_or, cases_Bool, null_lsn, LogEntry, Policy, PolicyKind, Call, Refusal, Happened, Reply, State, Area, CursorKind, Records, RestartAreas, Stream, MeetsCondition, area_of, is_area, change_area, live_at, own_sum, grown, with_containers, flushed, flush, next_lsn, appended, hold_sizes, with_policy, without_policy, newest_restart, record_cursor, restart_cursor, with_cursor_at, refusal, in_area, too_long, full, short, stream_number, append_refusal, restart_refusal, invalid_base, read_refusal, next_refusal, too_many_cursors, refused_if, Outcome, outcome, answer, archiving, found_with_cursor, read_at, read_newest_restart, moved_on, reserved_for, released, advanced, restarted, flushed_to, Step, with_broken, IsWithinLimits, IsStorable, IsValid, HasSpaceLaws}
 use Rattle.clfs_lsn.specs.declared.policy.Policy.TheVariants as policies
-use Rattle.clfs_lsn.specs.declared.policy.PolicyKind.{PolicyKind}
 use Rattle.clfs_lsn.specs.declared.policy.PolicyKind.TheVariants as kinds
-use Rattle.clfs_model.specs.declared.call.Call.{Call}
 use Rattle.clfs_model.specs.declared.call.Call.TheVariants as calls
-use Rattle.clfs_model.specs.declared.refusal.Refusal.{Refusal}
 use Rattle.clfs_model.specs.declared.refusal.Refusal.TheVariants as refusals
-use Rattle.clfs_model.specs.declared.reply.Happened.{Happened}
-use Rattle.clfs_model.specs.declared.reply.Reply.{Reply}
 use Rattle.clfs_model.specs.declared.reply.Reply.TheVariants as replies
-use Rattle.clfs_model.specs.declared.state.State.{State}
-use Rattle.clfs_model.specs.declared.state.Area.{Area}
-use Rattle.clfs_lsn.specs.declared.cursor.CursorKind.{CursorKind}
-use Rattle.clfs_lsn.specs.declared.cursor.CursorKind.TheVariants.{Records, RestartAreas}
-use Rattle.clfs_lsn.specs.declared.stream.Stream.{Stream}
-use Rattle.clfs_model.specs.Conditions.{MeetsCondition}
-use Rattle.clfs_model.specs.State.{area_of, is_area, change_area}
-use Rattle.clfs_model.specs.Live.{live_at}
-use Rattle.clfs_model.specs.Space.{own_sum, grown, with_containers}
-use Rattle.clfs_model.specs.Flush.{flushed, flush}
-use Rattle.clfs_model.specs.Put.{next_lsn, appended, hold_sizes}
-use Rattle.clfs_model.specs.Policies.{with_policy, without_policy}
-use Rattle.clfs_model.specs.Reading.{newest_restart, record_cursor, restart_cursor, with_cursor_at}
-use Rattle.clfs_model.specs.Refusals.{refusal, in_area, too_long, full, short, stream_number, append_refusal, restart_refusal, invalid_base, read_refusal, next_refusal, too_many_cursors, refused_if}
-use Rattle.clfs_model.specs.Answers.{Outcome, outcome, answer, archiving, found_with_cursor, read_at, read_newest_restart, moved_on, reserved_for, released, advanced, restarted, flushed_to}
-use Rattle.clfs_model.specs.Step.{Step, with_broken}
-use Rattle.clfs_model.specs.Storable.{IsWithinLimits, IsStorable}
-use Rattle.clfs_model.specs.Valid.{IsValid}
-use Rattle.clfs_space.specs.SpaceLaws.{HasSpaceLaws}
 use Rattle.clfs_laws.proofs.NotRefused.{passed}
 use Rattle.clfs_laws.proofs.RecordsOfCalls.{seal_records, flushed_to_records}
 use Rattle.clfs_laws.proofs.StepLeads.{step_leads}

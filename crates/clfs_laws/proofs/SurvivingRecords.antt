@@ -1,22 +1,6 @@
 -- A survivor begins with the records that were on the disk, and what it has after them lies at or above the flushed LSN.
-use Rattle.std.proofs.Common.{◌≡◌, ℕ, ◌<◌, ◌≤◌, Bool, refl, sym, ap, ◌∙◌, subst, append_assoc, inl, inr, arith, List, [], ◌∷◌, ◌++◌}
-use Rattle.std.specs.Prelude.{filter, nat_lt, All, Contains, slice_index_or}
-use Rattle.std.specs.List.{AllByRecursion}
-use Rattle.std.proofs.lemmas.Bool.{cases_Bool, lt-ltb, le-ltb, ltb-true, ltb-false}
-use Rattle.std.proofs.lemmas.List.Elements.{filter-append, All-contains_itself, Contains-append_left}
-use Rattle.clfs_lsn.specs.Place.{frontier}
-use Rattle.clfs_lsn.specs.declared.entry.Kind.TheVariants.{Restart}
-use Rattle.clfs_lsn.specs.declared.entry.LogEntry.{LogEntry}
-use Rattle.clfs_model.specs.declared.call.Call.{Call}
-use Rattle.clfs_model.specs.declared.reply.Happened.TheVariants.{Fine}
-use Rattle.clfs_model.specs.declared.reply.Reply.{Reply}
-use Rattle.clfs_model.specs.declared.state.State.{State}
-use Rattle.clfs_model.specs.Flush.{flushed, cut}
-use Rattle.clfs_model.specs.Put.{next_lsn}
-use Rattle.clfs_model.specs.Run.{asks}
-use Rattle.clfs_model.specs.Step.{Step}
-use Rattle.clfs_model.specs.Survivors.{IsSurvivor}
-use Rattle.clfs_model.specs.Valid.{IsValid}
+use Rattle.clfs_laws.proofs.Words.{◌≡◌, ℕ, ◌<◌, ◌≤◌, Bool, refl, sym, ap, ◌∙◌, subst, append_assoc, inl, inr, arith, List, [], ◌∷◌, ◌++◌, filter, nat_lt, All, Contains, slice_index_or, AllByRecursion, cases_Bool, lt-ltb, le-ltb, ltb-true, ltb-false, filter-append, Contains-append_left, frontier, Restart, LogEntry, Call, Fine, Reply, State, flushed, cut, next_lsn, asks, Step, IsSurvivor, IsValid}
+use Rattle.std.proofs.lemmas.List.Elements.{All-contains_itself}
 use Rattle.clfs_laws.proofs.Among.{contains_passing}
 use Rattle.clfs_laws.proofs.FallingLists.{Rises, rises, below_lsn}
 use Rattle.clfs_laws.proofs.Links.{next_within}

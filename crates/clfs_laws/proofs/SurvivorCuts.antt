@@ -1,30 +1,6 @@
 -- Where a call leaves the flushed part of the log, a survivor is that part.
-use Rattle.std.proofs.Common.{◌≡◌, ℕ, suc, ◌+◌, ◌-◌, ◌<◌, ◌%◌, ◌^◌, Bool, false, refl, sym, ap, ◌∙◌, subst, inl, inr, ◌⊎◌, arith, List, [], ◌∷◌, ◌++◌}
-use Rattle.std.specs.Prelude.{Option, map, nat_lt, ◌==◌, slice_get, Any}
-use Rattle.std.specs.Option.{option_map_or}
-use Rattle.std.proofs.lemmas.Bool.{ne_eqb}
-use Rattle.std.proofs.lemmas.List.{append-nil}
-use Rattle.std.proofs.lemmas.List.Elements.{filter-append}
-use Rattle.clfs_lsn.specs.Lsn.{container_of, offset_of}
-use Rattle.clfs_lsn.specs.Place.{IsClosed, frontier}
-use Rattle.clfs_lsn.specs.declared.entry.LogEntry.{LogEntry}
-use Rattle.clfs_lsn.specs.declared.place.Place.{Place}
-use Rattle.clfs_lsn.specs.declared.shape.Shape.{Shape}
-use Rattle.clfs_model.specs.declared.call.Call.{Call}
-use Rattle.clfs_model.specs.declared.reply.Happened.TheVariants.{Fine}
-use Rattle.clfs_model.specs.declared.reply.Reply.{Reply}
-use Rattle.clfs_model.specs.declared.state.State.{State}
-use Rattle.clfs_model.specs.declared.state.Area.{Area}
-use Rattle.clfs_lsn.specs.declared.stream.Stream.{Stream}
-use Rattle.clfs_model.specs.State.{base_of}
-use Rattle.clfs_model.specs.Flush.{flushed, cut, IsSame}
-use Rattle.clfs_model.specs.Run.{Request, asks}
-use Rattle.clfs_model.specs.Step.{Step}
-use Rattle.clfs_model.specs.Storable.{IsStorable}
-use Rattle.clfs_model.specs.Survivors.{names_of, HasSettings, HasBases, EndsBlockOf, IsSurvivor}
-use Rattle.clfs_model.specs.Valid.{IsValid}
-use Rattle.clfs_space.specs.SpaceLaws.{HasSpaceLaws}
-use Rattle.clfs_laws.specs.Stable.{LeavesStable}
+use Rattle.clfs_laws.proofs.Words.{◌≡◌, ℕ, suc, ◌+◌, ◌-◌, ◌<◌, ◌%◌, ◌^◌, Bool, false, refl, sym, ap, ◌∙◌, subst, inl, inr, ◌⊎◌, arith, List, [], ◌∷◌, ◌++◌, Option, map, nat_lt, ◌==◌, slice_get, Any, option_map_or, ne_eqb, append-nil, filter-append, container_of, offset_of, IsClosed, frontier, LogEntry, Place, Shape, Call, Fine, Reply, State, Area, Stream, base_of, flushed, cut, IsSame, Request, asks, Step, IsStorable, HasSettings, HasBases, EndsBlockOf, IsSurvivor, IsValid, HasSpaceLaws, LeavesStable}
+use Rattle.clfs_model.specs.Survivors.{names_of}
 use Rattle.clfs_laws.proofs.FallingLists.{below_lsn}
 use Rattle.clfs_laws.proofs.Numbers.{survivor_low}
 use Rattle.clfs_laws.proofs.RecordsOfCalls.{step_adds}

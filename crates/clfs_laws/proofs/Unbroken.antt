@@ -1,39 +1,10 @@
 -- A step without fault and damage leaves a log that isn't broken so, and its reply doesn't say that the log is broken.
-use Rattle.std.proofs.Common.{◌≡◌, ◌≢◌, ℕ, ◌+◌, Bool, true, false, refl, sym, ap, ◌∙◌, subst, inl, inr, ◌⊎◌, List, [], ◌∷◌, ◌++◌, length}
-use Rattle.std.specs.Prelude.{Option, Some, None, All, MatchBool, MatchOption, nat_lt, if◌then◌else◌}
-use Rattle.std.specs.List.{AllByRecursion}
-use Rattle.std.proofs.lemmas.List.Elements.{All-from_recursion, recursion_from_All}
-use Rattle.clfs_lsn.specs.declared.entry.LogEntry.{LogEntry}
-use Rattle.clfs_lsn.specs.declared.policy.Policy.{Policy}
+use Rattle.clfs_laws.proofs.Words.{◌≡◌, ◌≢◌, ℕ, ◌+◌, Bool, true, false, refl, sym, ap, ◌∙◌, subst, inl, inr, ◌⊎◌, List, [], ◌∷◌, ◌++◌, length, Option, Some, None, All, MatchBool, MatchOption, nat_lt, if◌then◌else◌, AllByRecursion, All-from_recursion, recursion_from_All, LogEntry, Policy, PolicyKind, joins, begins_here, Call, Draft, Entry, Refusal, Happened, Fine, Fault, Damage, Reply, State, Area, Cursor, happened_of, seal, flush, flushed, GoesOn, live_at, with_policy, without_policy, appended, made_ready, put, spend_if, hold_sizes, seal_if, flush_if, need_of, plain_record, newest_restart, record_cursor, restart_cursor, refusal, stream_number, grown, grown_if, reserved, own_sum, Outcome, answer, over_area, moved_on, archiving, restart_record, rebased, restarted, Step, ReopenStep, Reopens, Goes, Comes, IsDamaged, IsOutOfMemory, is_of_call}
 use Rattle.clfs_lsn.specs.declared.policy.Policy.TheVariants as policies
-use Rattle.clfs_lsn.specs.declared.policy.PolicyKind.{PolicyKind}
 use Rattle.clfs_lsn.specs.declared.policy.PolicyKind.TheVariants as kinds
-use Rattle.clfs_lsn.specs.Place.{joins, begins_here}
-use Rattle.clfs_model.specs.declared.call.Call.{Call}
 use Rattle.clfs_model.specs.declared.call.Call.TheVariants as calls
-use Rattle.clfs_model.specs.declared.call.Draft.{Draft}
-use Rattle.clfs_model.specs.declared.journal.Entry.{Entry}
-use Rattle.clfs_model.specs.declared.refusal.Refusal.{Refusal}
 use Rattle.clfs_model.specs.declared.refusal.Refusal.TheVariants as refusals
-use Rattle.clfs_model.specs.declared.reply.Happened.{Happened}
-use Rattle.clfs_model.specs.declared.reply.Happened.TheVariants.{Fine, Fault, Damage}
-use Rattle.clfs_model.specs.declared.reply.Reply.{Reply}
 use Rattle.clfs_model.specs.declared.reply.Reply.TheVariants as replies
-use Rattle.clfs_model.specs.declared.state.State.{State}
-use Rattle.clfs_model.specs.declared.state.Area.{Area}
-use Rattle.clfs_lsn.specs.declared.cursor.Cursor.{Cursor}
-use Rattle.clfs_model.specs.Happened.{happened_of}
-use Rattle.clfs_model.specs.Flush.{seal, flush, flushed}
-use Rattle.clfs_model.specs.Journals.{GoesOn}
-use Rattle.clfs_model.specs.Live.{live_at}
-use Rattle.clfs_model.specs.Policies.{with_policy, without_policy}
-use Rattle.clfs_model.specs.Put.{appended, made_ready, put, spend_if, hold_sizes, seal_if, flush_if, need_of, plain_record}
-use Rattle.clfs_model.specs.Reading.{newest_restart, record_cursor, restart_cursor}
-use Rattle.clfs_model.specs.Refusals.{refusal, stream_number}
-use Rattle.clfs_model.specs.Space.{grown, grown_if, reserved, own_sum}
-use Rattle.clfs_model.specs.Answers.{Outcome, answer, over_area, moved_on, archiving, restart_record, rebased, restarted}
-use Rattle.clfs_model.specs.Step.{Step, ReopenStep, Reopens, Goes, Comes, IsDamaged, IsOutOfMemory}
-use Rattle.clfs_laws.specs.Refused.{is_of_call}
 use Rattle.clfs_laws.proofs.Faults.{fine_told}
 use Rattle.clfs_laws.proofs.OutcomeCases.{of_option, of_area, of_cursor}
 use Rattle.clfs_laws.proofs.CallRefusals.{refusal_told}

@@ -1,11 +1,7 @@
 -- A new number is new.
-use Rattle.std.proofs.Common.{◌≡◌, ℕ, zero, suc, ◌+◌, ◌≤◌, ◌<◌, Bool, true, false, refl, sym, ap, ◌∙◌, inl, inr, arith, List, [], ◌∷◌, length}
-use Rattle.std.specs.Prelude.{Option, Some, None, find, filter, not, ◌==◌, unwrap_or, nat_lt, ◌≢◌}
-use Rattle.std.specs.List.{list_any, range_with_len, AllByRecursion}
-use Rattle.std.proofs.lemmas.Bool.{cases_Bool, eqb-true, eqb-false, ne_eqb, ltb-true, ltb-false}
-use Rattle.clfs_model.specs.declared.state.Area.{Area}
-use Rattle.clfs_model.specs.State.{is_area}
-use Rattle.clfs_lsn.specs.Numbers.{least_unused}
+use Rattle.clfs_laws.proofs.Words.{◌≡◌, ℕ, zero, suc, ◌+◌, ◌≤◌, ◌<◌, Bool, true, false, refl, sym, ap, ◌∙◌, inl, inr, arith, List, [], ◌∷◌, length, Option, Some, None, find, filter, not, ◌==◌, unwrap_or, nat_lt, range_with_len, AllByRecursion, cases_Bool, eqb-true, eqb-false, ne_eqb, ltb-true, ltb-false, Area, is_area, least_unused}
+use Rattle.std.specs.Prelude.{◌≢◌}
+use Rattle.std.specs.List.{list_any}
 
 -- whether one of some things has this number
 abbrev pub has_number : {X : Type 0} → (X → ℕ) → List X → ℕ → Bool

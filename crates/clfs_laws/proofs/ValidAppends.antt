@@ -1,25 +1,7 @@
 -- An append and a restart area leave a valid state.
-use Rattle.std.proofs.Common.{◌≡◌, ℕ, ◌+◌, ◌<◌, ◌≤◌, Bool, true, false, refl, sym, ap, ◌∙◌, subst, inl, inr, ◌⊎◌, arith, List, [], ◌∷◌, length}
-use Rattle.std.specs.Prelude.{Some, None, IsSome, find, nat_lt, not}
-use Rattle.std.specs.Option.{option_map}
-use Rattle.std.proofs.lemmas.Bool.{cases_Bool, ltb-false}
-use Rattle.std.proofs.lemmas.List.Elements.{All-push}
-use Rattle.clfs_lsn.specs.Lsn.{null_lsn}
-use Rattle.clfs_lsn.specs.Size.{own, longest}
-use Rattle.clfs_lsn.specs.Place.{frontier, joins, begins_here}
-use Rattle.clfs_lsn.specs.declared.entry.LogEntry.{LogEntry}
-use Rattle.clfs_lsn.specs.declared.entry.Kind.TheVariants.{Plain, Restart}
-use Rattle.clfs_model.specs.declared.call.Draft.{Draft}
+use Rattle.clfs_laws.proofs.Words.{◌≡◌, ℕ, ◌+◌, ◌<◌, ◌≤◌, Bool, true, false, refl, sym, ap, ◌∙◌, subst, inl, inr, ◌⊎◌, arith, List, [], ◌∷◌, length, Some, None, IsSome, find, nat_lt, not, option_map, cases_Bool, ltb-false, All-push, null_lsn, own, longest, frontier, joins, begins_here, LogEntry, Plain, Restart, Draft, State, Area, stream_at, is_area, area_of, change_first, change_area, free, reserved, own_sum, with_containers, grown, has_room, flushed, seal, flush, next_lsn, put, need_of, spent_of, with_less_held, with_more_held, spend_if, hold_sizes, seal_if, flush_if, plain_record, appended, is_link, invalid_link, short, full, append_refusal, IsValid, HasSpaceLaws}
 use Rattle.clfs_model.specs.declared.refusal.Refusal.TheVariants as refusals
-use Rattle.clfs_model.specs.declared.state.State.{State}
-use Rattle.clfs_model.specs.declared.state.Area.{Area}
-use Rattle.clfs_model.specs.State.{stream_at, is_area, area_of, change_first, change_area}
-use Rattle.clfs_model.specs.Space.{free, reserved, own_sum, with_containers, grown, has_room}
-use Rattle.clfs_model.specs.Flush.{flushed, seal, flush}
-use Rattle.clfs_model.specs.Put.{next_lsn, put, own_unless, need_of, spent_of, with_less_held, with_more_held, spend_if, hold_sizes, seal_if, flush_if, plain_record, appended}
-use Rattle.clfs_model.specs.Refusals.{is_link, invalid_link, short, full, append_refusal}
-use Rattle.clfs_model.specs.Valid.{IsValid}
-use Rattle.clfs_space.specs.SpaceLaws.{HasSpaceLaws}
+use Rattle.clfs_model.specs.Put.{own_unless}
 use Rattle.clfs_laws.proofs.Finding.{find_changed}
 use Rattle.clfs_laws.proofs.NotRefused.{passed, passed_long}
 use Rattle.clfs_laws.proofs.RowSteps.{put_areas}

@@ -1,37 +1,15 @@
 -- Calls that change areas alone, or areas after growth, keep a state valid.
-use Rattle.std.proofs.Common.{◌≡◌, ◌≢◌, ℕ, zero, suc, ◌+◌, ◌<◌, ◌≤◌, Bool, true, false, refl, sym, ap, ◌∙◌, subst, inl, inr, ◌⊎◌, arith, List, [], ◌∷◌, ◌++◌, length}
-use Rattle.std.specs.Prelude.{Option, Some, None, filter, map, All, IsSome, is_none, slice_index_or, ◌==◌, not, find, nat_le, nat_lt, if◌then◌else◌}
-use Rattle.std.specs.List.{AllByRecursion}
-use Rattle.std.proofs.lemmas.Bool.{cases_Bool, eqb-false, ltb-false, leb-true}
-use Rattle.std.proofs.lemmas.List.Elements.{All-weaker, All-push, All-filter, All-from_recursion, recursion_from_All}
+use Rattle.clfs_laws.proofs.Words.{◌≡◌, ◌≢◌, ℕ, zero, suc, ◌+◌, ◌<◌, ◌≤◌, Bool, true, false, refl, sym, ap, ◌∙◌, subst, inl, inr, ◌⊎◌, arith, List, [], ◌∷◌, ◌++◌, length, Option, Some, None, filter, map, All, IsSome, is_none, slice_index_or, ◌==◌, not, find, nat_le, nat_lt, if◌then◌else◌, AllByRecursion, cases_Bool, eqb-false, ltb-false, leb-true, All-weaker, All-push, All-filter, All-from_recursion, recursion_from_All, all_pairs_push, length-map, longest, Refusal, State, Area, Cursor, CursorKind, stream_at, is_area, area_of, areas_of, change_first, change_area, free, reserved, own_sum, grown, has_room, with_less_held, with_more_held, hold_sizes, with_cursor, with_cursor_at, without_cursor, unused_cursor, refused_if, too_long, refusal, new_area, IsValid, AreDifferentAreas, IsArea, HasSpaceLaws, option_map_or}
 use Rattle.std.proofs.lemmas.List.Kept.{AllPairs-filter}
-use Rattle.std.proofs.lemmas.List.Quantifiers.{all_pairs_push}
-use Rattle.std.proofs.lemmas.List.{length-map}
 use Rattle.std.proofs.lemmas.List.Filters.{sum_by-filter_both}
 use Rattle.std.proofs.lemmas.List.Sums.{sum_by_push}
-use Rattle.clfs_lsn.specs.Size.{longest}
 use Rattle.clfs_model.specs.declared.call.Call.TheVariants as calls
-use Rattle.clfs_model.specs.declared.refusal.Refusal.{Refusal}
 use Rattle.clfs_model.specs.declared.refusal.Refusal.TheVariants as refusals
-use Rattle.clfs_model.specs.declared.state.State.{State}
-use Rattle.clfs_model.specs.declared.state.Area.{Area}
-use Rattle.clfs_lsn.specs.declared.cursor.Cursor.{Cursor}
-use Rattle.clfs_lsn.specs.declared.cursor.CursorKind.{CursorKind}
-use Rattle.clfs_model.specs.State.{stream_at, is_area, area_of, areas_of, change_first, change_area}
-use Rattle.clfs_model.specs.Space.{free, reserved, own_sum, grown, has_room}
-use Rattle.clfs_model.specs.Put.{with_less_held, with_more_held, hold_sizes}
-use Rattle.clfs_model.specs.Reading.{with_cursor, with_cursor_at, without_cursor}
-use Rattle.clfs_lsn.specs.Cursors.{unused_cursor}
-use Rattle.clfs_model.specs.Refusals.{refused_if, too_long, refusal}
-use Rattle.clfs_model.specs.Answers.{new_area}
-use Rattle.clfs_model.specs.Valid.{IsValid, AreDifferentAreas, IsArea}
-use Rattle.clfs_space.specs.SpaceLaws.{HasSpaceLaws}
 use Rattle.clfs_laws.proofs.Finding.{KeepsName}
 use Rattle.clfs_laws.proofs.NotRefused.{passed}
 use Rattle.clfs_laws.proofs.RowChanges.{area_named}
 use Rattle.clfs_laws.proofs.Unused.{unused_is_new, none_has, not_there, area_number_of}
 use Rattle.clfs_laws.proofs.ValidSettings.{valid_grown, grown_is, grown_no_fewer}
-use Rattle.std.specs.Option.{option_map_or}
 use Rattle.clfs_laws.proofs.ValidAreas.{held_sum, valid_areas, numbers_changed, sum_changed}
 
 -- what holds of all areas, and of the changed one, holds after the change

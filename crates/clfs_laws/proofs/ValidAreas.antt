@@ -1,15 +1,5 @@
 -- A valid state whose areas change is valid where the areas are such as a log can have.
-use Rattle.std.proofs.Common.{◌≡◌, ℕ, zero, suc, ◌+◌, ◌<◌, ◌≤◌, Bool, refl, sym, ap, ◌∙◌, inl, inr, arith, List, [], ◌∷◌, length}
-use Rattle.std.specs.Prelude.{Some, None, sum_by, All, AllPairs, slice_index_or, find}
-use Rattle.std.specs.List.{AllByRecursion}
-use Rattle.std.proofs.lemmas.Bool.{cases_Bool}
-use Rattle.std.proofs.lemmas.List.Elements.{All-weaker, All-from_recursion, recursion_from_All}
-use Rattle.std.proofs.lemmas.List.Sums.{sum_by-cons}
-use Rattle.clfs_model.specs.declared.state.State.{State}
-use Rattle.clfs_model.specs.declared.state.Area.{Area}
-use Rattle.clfs_model.specs.State.{change_first}
-use Rattle.clfs_model.specs.Space.{free}
-use Rattle.clfs_model.specs.Valid.{IsValid, AreDifferentAreas, IsArea, IsRecord, IsWaiting}
+use Rattle.clfs_laws.proofs.Words.{◌≡◌, ℕ, zero, suc, ◌+◌, ◌<◌, ◌≤◌, Bool, refl, sym, ap, ◌∙◌, inl, inr, arith, List, [], ◌∷◌, length, Some, None, sum_by, All, AllPairs, slice_index_or, find, AllByRecursion, cases_Bool, All-weaker, All-from_recursion, recursion_from_All, sum_by-cons, State, Area, change_first, free, IsValid, AreDifferentAreas, IsArea, IsRecord, IsWaiting}
 use Rattle.clfs_laws.proofs.Finding.{KeepsName}
 
 -- the sectors that areas hold

@@ -1,21 +1,5 @@
 -- A valid state stays valid where bases and the archive tail don't fall, and lie on the disk.
-use Rattle.std.proofs.Common.{◌≡◌, ◌≢◌, ℕ, zero, suc, ◌+◌, ◌-◌, ◌<◌, ◌≤◌, Bool, true, false, refl, sym, ap, ◌∙◌, subst, inl, inr, arith, List, [], ◌∷◌, length}
-use Rattle.std.specs.Prelude.{Option, Some, None, All, AllPairs, IfSome, IsSome, is_some, filter, slice_get, slice_index_or, nat_lt, ◌&&◌, ◌||◌, ◌==◌}
-use Rattle.std.specs.List.{AllByRecursion, last_or}
-use Rattle.std.specs.Option.{option_map_or, option_to_list}
-use Rattle.std.proofs.lemmas.Bool.{cases_Bool, eqb-true, eqb-false, ltb-true, ltb-false, leb-true, le-leb}
-use Rattle.std.proofs.lemmas.List.Elements.{All-weaker, All-from_recursion, recursion_from_All}
-use Rattle.clfs_lsn.specs.Lsn.{null_lsn}
-use Rattle.clfs_lsn.specs.Place.{frontier}
-use Rattle.clfs_lsn.specs.declared.entry.LogEntry.{LogEntry}
-use Rattle.clfs_model.specs.declared.state.State.{State}
-use Rattle.clfs_lsn.specs.declared.stream.Stream.{Stream}
-use Rattle.clfs_model.specs.State.{stream_at, base_of}
-use Rattle.clfs_lsn.specs.Streams.{set_base}
-use Rattle.clfs_model.specs.Live.{is_live, live, live_at, hold, last_live, lsn_or_null}
-use Rattle.clfs_model.specs.Flush.{flushed, flush}
-use Rattle.clfs_model.specs.Refusals.{is_base}
-use Rattle.clfs_model.specs.Valid.{IsValid, IsArea, IsRecord, IsWaiting}
+use Rattle.clfs_laws.proofs.Words.{◌≡◌, ◌≢◌, ℕ, zero, suc, ◌+◌, ◌-◌, ◌<◌, ◌≤◌, Bool, true, false, refl, sym, ap, ◌∙◌, subst, inl, inr, arith, List, [], ◌∷◌, length, Option, Some, None, All, AllPairs, IfSome, IsSome, is_some, filter, slice_get, slice_index_or, nat_lt, ◌&&◌, ◌||◌, ◌==◌, AllByRecursion, last_or, option_map_or, option_to_list, cases_Bool, eqb-true, eqb-false, ltb-true, ltb-false, leb-true, le-leb, All-weaker, All-from_recursion, recursion_from_All, null_lsn, frontier, LogEntry, State, Stream, stream_at, base_of, set_base, is_live, live, live_at, hold, last_live, lsn_or_null, flushed, flush, is_base, IsValid, IsArea, IsRecord, IsWaiting}
 use Rattle.clfs_laws.proofs.LsnOrder.{frontier_sealed}
 use Rattle.clfs_laws.proofs.ValidPlaces.{IsSound, sound_of}
 use Rattle.clfs_laws.proofs.HoldOrder.{hold_later, hold_below_archive, hold_below_live, hold_below_frontier, active_later, free_later}

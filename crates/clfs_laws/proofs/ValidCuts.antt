@@ -1,22 +1,6 @@
 -- The fresh state is valid, and so is the flushed part of a valid state.
-use Rattle.std.proofs.Common.{◌≡◌, ℕ, ◌/◌, ◌<◌, ◌≤◌, Bool, true, refl, sym, ap, subst, inl, inr, arith, List, [], ◌∷◌}
-use Rattle.std.specs.Prelude.{Option, Some, None, filter, map, IfSome, nat_lt}
-use Rattle.std.specs.List.{AllByRecursion}
-use Rattle.std.specs.List.Sorted.{IsStrictlyIncreasing}
-use Rattle.std.proofs.lemmas.Bool.{cases_Bool, ltb-true}
-use Rattle.std.proofs.lemmas.List.Elements.{All-weaker, All-filter, All-from_recursion, recursion_from_All}
+use Rattle.clfs_laws.proofs.Words.{◌≡◌, ℕ, ◌/◌, ◌<◌, ◌≤◌, Bool, true, refl, sym, ap, subst, inl, inr, arith, List, [], ◌∷◌, Option, Some, None, filter, map, IfSome, nat_lt, AllByRecursion, IsStrictlyIncreasing, cases_Bool, ltb-true, All-weaker, All-filter, All-from_recursion, recursion_from_All, lsn_number, container_of, offset_of, sequence_of, IsShape, Shape, LogEntry, Restart, State, Stream, fresh, hold, is_live, block_start, first_or, flushed, cut, IsValid, IsArea, IsRecord, IsWaiting}
 use Rattle.std.proofs.lemmas.List.Kept.{IsStrictlyIncreasing-filter}
-use Rattle.clfs_lsn.specs.Lsn.{lsn_number, container_of, offset_of, sequence_of}
-use Rattle.clfs_lsn.specs.Size.{IsShape}
-use Rattle.clfs_lsn.specs.declared.shape.Shape.{Shape}
-use Rattle.clfs_lsn.specs.declared.entry.LogEntry.{LogEntry}
-use Rattle.clfs_lsn.specs.declared.entry.Kind.TheVariants.{Restart}
-use Rattle.clfs_model.specs.declared.state.State.{State}
-use Rattle.clfs_lsn.specs.declared.stream.Stream.{Stream}
-use Rattle.clfs_model.specs.State.{fresh}
-use Rattle.clfs_model.specs.Live.{hold, is_live}
-use Rattle.clfs_model.specs.Flush.{block_start, first_or, flushed, cut}
-use Rattle.clfs_model.specs.Valid.{IsValid, IsArea, IsRecord, IsWaiting}
 use Rattle.clfs_laws.proofs.LsnOrder.{small_offset, none_of_block}
 use Rattle.clfs_laws.proofs.HoldOrder.{hold_later, hold_below_archive, hold_below_live, active_later}
 use Rattle.clfs_laws.proofs.ValidStreams.{hold_flushed}

@@ -1,26 +1,6 @@
 -- A valid state stays valid where its open block is sealed and what waits is written.
-use Rattle.std.proofs.Common.{◌≡◌, ℕ, zero, suc, ◌+◌, ◌-◌, ◌*◌, ◌<◌, ◌≤◌, Bool, true, false, refl, sym, ap, ◌∙◌, subst, inl, inr, arith, List, [], ◌∷◌, ◌++◌, length}
-use Rattle.std.specs.Prelude.{Option, Some, None, map, All, IfSome, IsSome, nat_lt, if◌then◌else◌, slice_index}
-use Rattle.std.specs.List.{AllByRecursion, range_with_len}
-use Rattle.std.specs.List.Sorted.{IsStrictlyIncreasing}
-use Rattle.std.specs.Option.{option_to_list}
-use Rattle.std.proofs.lemmas.Bool.{cases_Bool, ltb-true, ltb-false}
-use Rattle.std.proofs.lemmas.List.Elements.{All-weaker, All-push, All-from_recursion, recursion_from_All}
-use Rattle.clfs_lsn.specs.Lsn.{container_of, sequence_of}
-use Rattle.clfs_lsn.specs.Place.{IsWithin, sealed, frontier, block_end}
-use Rattle.clfs_lsn.specs.Space.{active_containers, free_sectors}
-use Rattle.clfs_lsn.specs.declared.place.Place.{Place}
-use Rattle.clfs_lsn.specs.declared.shape.Shape.{Shape}
-use Rattle.clfs_lsn.specs.declared.entry.LogEntry.{LogEntry}
-use Rattle.clfs_lsn.specs.declared.entry.Kind.TheVariants.{Restart}
-use Rattle.clfs_model.specs.declared.state.State.{State}
-use Rattle.clfs_lsn.specs.declared.stream.Stream.{Stream}
-use Rattle.clfs_model.specs.Live.{hold, active, live_lsns}
-use Rattle.clfs_lsn.specs.Heads.{least_or}
-use Rattle.clfs_model.specs.Space.{free, reserved}
-use Rattle.clfs_model.specs.Flush.{block_start, first_or, flushed, seal, flush}
-use Rattle.clfs_model.specs.Reading.{entry_at}
-use Rattle.clfs_model.specs.Valid.{IsValid, HasRanges, HasPolicies, IsArea, HasTables, IsRecord, HasRecords, IsWaiting, HasWaiting, HasSpace}
+use Rattle.clfs_laws.proofs.Words.{◌≡◌, ℕ, zero, suc, ◌+◌, ◌-◌, ◌*◌, ◌<◌, ◌≤◌, Bool, true, false, refl, sym, ap, ◌∙◌, subst, inl, inr, arith, List, [], ◌∷◌, ◌++◌, length, Option, Some, None, map, All, IfSome, IsSome, nat_lt, if◌then◌else◌, slice_index, AllByRecursion, range_with_len, IsStrictlyIncreasing, option_to_list, cases_Bool, ltb-true, ltb-false, All-weaker, All-push, All-from_recursion, recursion_from_All, container_of, sequence_of, IsWithin, sealed, frontier, block_end, active_containers, free_sectors, Place, Shape, LogEntry, Restart, State, Stream, hold, active, live_lsns, least_or, free, reserved, block_start, first_or, flushed, seal, flush, entry_at, IsValid, HasPolicies, IsArea, IsRecord, IsWaiting, HasWaiting}
+use Rattle.clfs_model.specs.Valid.{HasRanges, HasTables, HasRecords, HasSpace}
 use Rattle.clfs_laws.proofs.FallingLists.{rising_rest}
 use Rattle.clfs_laws.proofs.RecordsOfCalls.{seal_records}
 use Rattle.clfs_laws.proofs.LsnOrder.{small_offset, small_end, frontier_sealed, closed_end, start_below_sealed, container_of_frontier, none_of_block, first_of_block}

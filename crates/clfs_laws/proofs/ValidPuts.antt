@@ -1,26 +1,6 @@
 -- A record that is put into a log with room for it leaves a log that is sound, with fewer free sectors by its own at most.
-use Rattle.std.proofs.Common.{◌≡◌, ℕ, ◌+◌, ◌-◌, ◌*◌, ◌<◌, ◌≤◌, Bool, true, false, refl, sym, ap, ◌∙◌, subst, inl, inr, ◌⊎◌, arith, List, [], ◌∷◌, ◌++◌, length}
-use Rattle.std.specs.Prelude.{IsSome, sum_by, nat_lt, if◌then◌else◌}
-use Rattle.std.proofs.lemmas.Bool.{cases_Bool}
-use Rattle.std.proofs.lemmas.Bool.Decides.{nat_tests}
-use Rattle.clfs_lsn.specs.Lsn.{lsn_number, container_of}
-use Rattle.clfs_lsn.specs.Size.{IsShape, size, own, longest}
-use Rattle.clfs_lsn.specs.Place.{IsWithin, frontier, block_end, begun, joins, begins_here}
-use Rattle.clfs_lsn.specs.Space.{active_containers, free_sectors, left_sectors}
-use Rattle.clfs_lsn.specs.declared.place.Place.{Place}
-use Rattle.clfs_lsn.specs.declared.shape.Shape.{Shape}
-use Rattle.clfs_lsn.specs.declared.entry.LogEntry.{LogEntry}
-use Rattle.clfs_model.specs.declared.state.State.{State}
-use Rattle.clfs_model.specs.declared.state.Area.{Area}
-use Rattle.clfs_lsn.specs.declared.stream.Stream.{Stream}
-use Rattle.clfs_model.specs.State.{stream_at}
-use Rattle.clfs_model.specs.Live.{hold}
-use Rattle.clfs_model.specs.Space.{free, reserved}
-use Rattle.clfs_model.specs.Flush.{block_start, flushed, seal, flush}
-use Rattle.clfs_model.specs.Put.{next_lsn, put}
-use Rattle.clfs_space.specs.Appending.{HasRoom}
+use Rattle.clfs_laws.proofs.Words.{◌≡◌, ℕ, ◌+◌, ◌-◌, ◌*◌, ◌<◌, ◌≤◌, Bool, true, false, refl, sym, ap, ◌∙◌, subst, inl, inr, ◌⊎◌, arith, List, [], ◌∷◌, ◌++◌, length, IsSome, sum_by, nat_lt, if◌then◌else◌, cases_Bool, nat_tests, lsn_number, container_of, IsShape, size, own, longest, IsWithin, frontier, block_end, begun, joins, begins_here, active_containers, free_sectors, left_sectors, Place, Shape, LogEntry, State, Area, Stream, stream_at, hold, free, reserved, block_start, flushed, seal, flush, next_lsn, put, HasRoom, HasSpaceLaws}
 use Rattle.clfs_laws.proofs.OwnSectors.{own_fits}
-use Rattle.clfs_space.specs.SpaceLaws.{HasSpaceLaws}
 use Rattle.clfs_laws.proofs.ValidPlaces.{IsSound, IsReady, sealed_hold, sealed_within, sound_seal, sound_flush, ready_seal, flushed_seal, flushed_flush, active_by, free_by}
 use Rattle.clfs_laws.proofs.SoundPuts.{with_record}
 use Rattle.clfs_laws.proofs.SoundJoins.{IsJoining, HasPlace, sound_joined, sound_begun}

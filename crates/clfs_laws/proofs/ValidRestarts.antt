@@ -1,31 +1,6 @@
 -- A restart area leaves a valid state: it is on the disk before its base moves.
-use Rattle.std.proofs.Common.{◌≡◌, ℕ, ◌+◌, ◌<◌, ◌≤◌, Bool, true, false, refl, sym, ap, ◌∙◌, subst, inl, inr, ◌⊎◌, arith, List, [], ◌∷◌, ◌++◌, length}
-use Rattle.std.specs.Prelude.{Option, Some, None, IfSome, IsSome, find, filter, reverse, slice_get, nat_lt, not, ◌&&◌, ◌==◌, if◌then◌else◌}
-use Rattle.std.specs.List.{AllByRecursion}
-use Rattle.std.proofs.lemmas.Bool.{cases_Bool, ltb-false}
-use Rattle.std.proofs.lemmas.Grind.{reverse_onto}
-use Rattle.clfs_lsn.specs.Lsn.{null_lsn}
-use Rattle.clfs_lsn.specs.Size.{IsShape, longest}
-use Rattle.clfs_lsn.specs.Place.{IsWithin, frontier, joins, begins_here}
-use Rattle.clfs_lsn.specs.declared.place.Place.{Place}
-use Rattle.clfs_lsn.specs.declared.shape.Shape.{Shape}
-use Rattle.clfs_lsn.specs.declared.entry.LogEntry.{LogEntry}
-use Rattle.clfs_model.specs.declared.refusal.Refusal.{Refusal}
+use Rattle.clfs_laws.proofs.Words.{◌≡◌, ℕ, ◌+◌, ◌<◌, ◌≤◌, Bool, true, false, refl, sym, ap, ◌∙◌, subst, inl, inr, ◌⊎◌, arith, List, [], ◌∷◌, ◌++◌, length, Option, Some, None, IfSome, IsSome, find, filter, reverse, slice_get, nat_lt, not, ◌&&◌, ◌==◌, if◌then◌else◌, AllByRecursion, cases_Bool, ltb-false, reverse_onto, null_lsn, IsShape, longest, IsWithin, frontier, joins, begins_here, Place, Shape, LogEntry, Refusal, State, Area, stream_at, base_of, area_of, set_base, is_live, live, last_live, lsn_or_null, free, reserved, own_sum, with_containers, grown, has_room, flushed, flush, next_lsn, put, need_of, spent_of, spend_if, restart_areas, newest_restart, is_restart, is_base, invalid_base, short, full, restart_refusal, restart_record, restarted, IsValid, HasSpaceLaws}
 use Rattle.clfs_model.specs.declared.refusal.Refusal.TheVariants as refusals
-use Rattle.clfs_model.specs.declared.state.State.{State}
-use Rattle.clfs_model.specs.declared.state.Area.{Area}
-use Rattle.clfs_model.specs.State.{stream_at, base_of, area_of}
-use Rattle.clfs_lsn.specs.Streams.{set_base}
-use Rattle.clfs_model.specs.Live.{is_live, live, last_live, lsn_or_null}
-use Rattle.clfs_model.specs.Space.{free, reserved, own_sum, with_containers, grown, has_room}
-use Rattle.clfs_model.specs.Flush.{flushed, flush}
-use Rattle.clfs_model.specs.Put.{next_lsn, put, need_of, spent_of, spend_if}
-use Rattle.clfs_model.specs.Reading.{restart_areas, newest_restart}
-use Rattle.clfs_lsn.specs.Heads.{is_restart}
-use Rattle.clfs_model.specs.Refusals.{is_base, invalid_base, short, full, restart_refusal}
-use Rattle.clfs_model.specs.Answers.{restart_record, restarted}
-use Rattle.clfs_model.specs.Valid.{IsValid}
-use Rattle.clfs_space.specs.SpaceLaws.{HasSpaceLaws}
 use Rattle.clfs_laws.proofs.NotRefused.{passed, passed_long}
 use Rattle.clfs_laws.proofs.LsnOrder.{small_offset, few_records, frontier_sealed}
 use Rattle.clfs_laws.proofs.ValidSettings.{valid_grown, grown_is}

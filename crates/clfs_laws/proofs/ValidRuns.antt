@@ -1,19 +1,5 @@
 -- What a valid state stays over steps and journals.
-use Rattle.std.proofs.Common.{◌≡◌, ℕ, ◌≤◌, Bool, true, false, refl, sym, subst, inl, inr, ◌⊎◌, arith, List, [], ◌∷◌, ◌++◌}
-use Rattle.std.specs.Prelude.{Option, Some, None, MatchBool}
-use Rattle.std.specs.Option.{option_map_or}
-use Rattle.clfs_lsn.specs.Size.{own}
-use Rattle.clfs_model.specs.declared.journal.Entry.{Entry}
-use Rattle.clfs_model.specs.declared.reply.Happened.{Happened}
-use Rattle.clfs_model.specs.declared.reply.Happened.TheVariants.{Fine, Fault, Damage}
-use Rattle.clfs_model.specs.declared.reply.Reply.{Reply}
-use Rattle.clfs_model.specs.declared.state.State.{State}
-use Rattle.clfs_model.specs.declared.state.Area.{Area}
-use Rattle.clfs_model.specs.State.{area_of}
-use Rattle.clfs_model.specs.Journals.{GoesOn, IsLegal, mine, held_by, held_in}
-use Rattle.clfs_model.specs.Step.{ReopenStep, IsBroken, IsOutOfMemory, Reopens, with_broken}
-use Rattle.clfs_model.specs.Valid.{IsValid}
-use Rattle.clfs_space.specs.SpaceLaws.{HasSpaceLaws}
+use Rattle.clfs_laws.proofs.Words.{◌≡◌, ℕ, ◌≤◌, Bool, true, false, refl, sym, subst, inl, inr, ◌⊎◌, arith, List, [], ◌∷◌, ◌++◌, Option, Some, None, MatchBool, option_map_or, own, Entry, Happened, Fine, Fault, Damage, Reply, State, Area, area_of, GoesOn, IsLegal, mine, held_by, held_in, ReopenStep, IsBroken, IsOutOfMemory, Reopens, with_broken, IsValid, HasSpaceLaws}
 use Rattle.clfs_laws.proofs.HeldRuns.{held_is}
 use Rattle.clfs_laws.proofs.ValidAreas.{valid_broken}
 use Rattle.clfs_laws.proofs.ValidSteps.{valid_step}

@@ -1,24 +1,9 @@
 -- A valid state stays valid when its number of containers or its policies change as a call changes them.
-use Rattle.std.proofs.Common.{◌≡◌, ℕ, ◌+◌, ◌<◌, ◌≤◌, Bool, true, false, refl, inl, inr, arith}
-use Rattle.std.specs.Prelude.{Option, Some, None, IfSome, unwrap_or, max, nat_lt, ◌||◌, ◌&&◌}
-use Rattle.std.proofs.lemmas.Bool.{cases_Bool, ltb-true, ltb-false}
-use Rattle.std.proofs.lemmas.Bool.Decides.{nat_tests}
-use Rattle.std.proofs.lemmas.List.Elements.{All-weaker}
-use Rattle.clfs_lsn.specs.Space.{free_sectors, growth}
-use Rattle.clfs_lsn.specs.declared.place.Place.{Place}
-use Rattle.clfs_lsn.specs.declared.shape.Shape.{Shape}
-use Rattle.clfs_lsn.specs.declared.policy.Policy.{Policy}
+use Rattle.clfs_laws.proofs.Words.{◌≡◌, ℕ, ◌+◌, ◌<◌, ◌≤◌, Bool, true, false, refl, inl, inr, arith, Option, Some, None, IfSome, unwrap_or, max, nat_lt, ◌||◌, ◌&&◌, cases_Bool, ltb-true, ltb-false, nat_tests, All-weaker, free_sectors, growth, Place, Shape, Policy, PolicyKind, State, hold, active, free, reserved, with_containers, growth_rate, size_limit, grown_if, grown, outside, policy_refusal, with_policy, without_policy, needed_containers, size_refusal, IsValid, HasPolicies, IsArea, IsRecord, IsWaiting, HasSpaceLaws}
 use Rattle.clfs_lsn.specs.declared.policy.Policy.TheVariants as policies
-use Rattle.clfs_lsn.specs.declared.policy.PolicyKind.{PolicyKind}
 use Rattle.clfs_lsn.specs.declared.policy.PolicyKind.TheVariants as kinds
-use Rattle.clfs_model.specs.declared.state.State.{State}
-use Rattle.clfs_model.specs.Live.{hold, active}
-use Rattle.clfs_model.specs.Space.{free, reserved, with_containers, growth_rate, size_limit, grown_if, grown, containers_for_reserved}
-use Rattle.clfs_model.specs.Policies.{outside, policy_refusal, with_policy, without_policy, needed_containers}
-use Rattle.clfs_model.specs.Refusals.{size_refusal}
+use Rattle.clfs_model.specs.Space.{containers_for_reserved}
 use Rattle.clfs_model.specs.declared.refusal.Refusal.TheVariants as refusals
-use Rattle.clfs_model.specs.Valid.{IsValid, HasPolicies, IsArea, IsRecord, IsWaiting}
-use Rattle.clfs_space.specs.SpaceLaws.{HasSpaceLaws}
 use Rattle.clfs_laws.proofs.NotRefused.{passed}
 
 -- with more containers there are no fewer free sectors

@@ -1,28 +1,11 @@
 -- A new stream, archiving and a new base keep a state valid.
-use Rattle.std.proofs.Common.{◌≡◌, ◌≢◌, ℕ, zero, suc, ◌+◌, ◌-◌, ◌<◌, ◌≤◌, Bool, true, false, refl, sym, ap, subst, inl, inr, arith, List, [], ◌∷◌, ◌++◌, length, length-append}
-use Rattle.std.specs.Prelude.{Option, Some, None, IfSome, IsSome, is_none, find, slice_get, nat_lt, nat_le, not, ◌&&◌, ◌||◌, ◌==◌}
-use Rattle.std.specs.List.{AllByRecursion}
-use Rattle.std.specs.Option.{option_map_or, option_to_list}
+use Rattle.clfs_laws.proofs.Words.{◌≡◌, ◌≢◌, ℕ, zero, suc, ◌+◌, ◌-◌, ◌<◌, ◌≤◌, Bool, true, false, refl, sym, ap, subst, inl, inr, arith, List, [], ◌∷◌, ◌++◌, length, length-append, Option, Some, None, IfSome, IsSome, is_none, find, slice_get, nat_lt, nat_le, not, ◌&&◌, ◌||◌, ◌==◌, AllByRecursion, option_map_or, option_to_list, cases_Bool, eqb-true, ltb-true, ltb-false, leb-false, le-leb, All-push, All-from_recursion, recursion_from_All, all_pairs_push, most_streams, null_lsn, frontier, LogEntry, State, Stream, stream_at, base_of, set_base, is_live, hold, last_live, block_start, first_or, flushed, flush, refused_if, name_fault, stream_number, open_refusal, is_base, invalid_base, outcome, opened, archiving, advanced, IsValid, IsWaiting}
 use Rattle.std.specs.Str.{bytes_eq}
-use Rattle.std.proofs.lemmas.Bool.{cases_Bool, eqb-true, ltb-true, ltb-false, leb-false, le-leb}
-use Rattle.std.proofs.lemmas.List.Elements.{All-push, All-from_recursion, recursion_from_All}
-use Rattle.std.proofs.lemmas.List.Quantifiers.{all_pairs_push}
 use Rattle.std.proofs.lemmas.Slice.Eq.{bytes_eq-Decides}
-use Rattle.clfs_lsn.specs.Limits.{most_streams}
-use Rattle.clfs_lsn.specs.Lsn.{null_lsn}
-use Rattle.clfs_lsn.specs.Place.{frontier}
-use Rattle.clfs_lsn.specs.declared.entry.LogEntry.{LogEntry}
 use Rattle.clfs_model.specs.declared.refusal.Refusal.TheVariants as refusals
-use Rattle.clfs_model.specs.declared.state.State.{State}
-use Rattle.clfs_lsn.specs.declared.stream.Stream.{Stream}
-use Rattle.clfs_model.specs.State.{stream_at, base_of}
-use Rattle.clfs_lsn.specs.Streams.{set_base, stream_number_from}
-use Rattle.clfs_model.specs.Live.{is_live, hold, last_live}
-use Rattle.clfs_model.specs.Flush.{block_start, first_or, flushed, flush}
-use Rattle.clfs_model.specs.Refusals.{refused_if, name_fault, stream_number, open_refusal, is_base, invalid_base, tail_refusal}
+use Rattle.clfs_lsn.specs.Streams.{stream_number_from}
+use Rattle.clfs_model.specs.Refusals.{tail_refusal}
 use Rattle.clfs_model.specs.declared.reply.Reply.TheVariants as replies
-use Rattle.clfs_model.specs.Answers.{outcome, opened, archiving, advanced}
-use Rattle.clfs_model.specs.Valid.{IsValid, IsWaiting}
 use Rattle.clfs_laws.proofs.NotRefused.{passed, passed_option, second_false}
 use Rattle.clfs_laws.proofs.ValidPlaces.{IsSound, sound_of, opened_first, valid_flush}
 use Rattle.clfs_laws.proofs.HoldOrder.{hold_below_archive, hold_below_live, hold_below_frontier}

@@ -1,10 +1,7 @@
 -- A copy that is written over the older slot.
-use Rattle.std.proofs.Common.{◌≡◌, inl, inr, ⊎_elim, ℕ, false, List, ◌∙◌}
-use Rattle.clfs_disk.specs.Files.{Files}
-use Rattle.clfs_disk.specs.State.{DiskState, Leaves}
-use Rattle.clfs_base.specs.declared.image.BaseImage.{BaseImage}
+use Rattle.clfs_physical.proofs.Words.{◌≡◌, inl, inr, ⊎_elim, ℕ, false, List, ◌∙◌, Files, DiskState, Leaves, BaseImage, HasNewest, EitherNewest}
 use Rattle.clfs_base.specs.Slots.{is_open_slot}
-use Rattle.clfs_base.specs.Writing.{body_of, HasNewest, IsOlder, IsFilled, EitherNewest}
+use Rattle.clfs_base.specs.Writing.{body_of, IsOlder, IsFilled}
 use Rattle.clfs_physical.specs.Joined.{Follows}
 use Rattle.clfs_physical.proofs.Joining.{leaves_weaker}
 

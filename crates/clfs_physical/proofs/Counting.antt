@@ -1,8 +1,6 @@
 -- That a file is free where fewer are listed than were made.
-use Rattle.std.proofs.Common.{◌≡◌, ◌≢◌, ⊎_elim, ℕ, zero, suc, ◌+◌, ◌-◌, ◌<◌, ◌≤◌, List, [], ◌∷◌, length, get_or, refl, sym, ◌∙◌, ap, arith}
-use Rattle.std.proofs.lemmas.Bool.{cases_lt, cases_eq}
-use Rattle.clfs_physical.specs.Stored.{IsIn}
-use Rattle.clfs_physical.specs.Taking.{IsFree}
+use Rattle.clfs_physical.proofs.Words.{◌≡◌, ◌≢◌, ⊎_elim, ℕ, ◌+◌, ◌-◌, ◌<◌, ◌≤◌, List, [], ◌∷◌, length, get_or, refl, sym, ◌∙◌, ap, arith, cases_lt, cases_eq, IsIn, IsFree}
+use Rattle.std.proofs.Common.{zero, suc}
 
 -- a list without one of its elements
 abbrev without : ℕ → List ℕ → List ℕ

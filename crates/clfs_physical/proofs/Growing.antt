@@ -1,15 +1,5 @@
 -- A log whose other files have grown.
-use Rattle.std.proofs.Common.{◌≡◌, ◌⊎◌, inl, ⊎_elim, ℕ, ◌*◌, ◌<◌, ◌≤◌, Bool, true, List, length, sym, ◌∙◌, ap, subst, arith}
-use Rattle.std.proofs.lemmas.Bool.{cases_lt}
-use Rattle.clfs_disk.specs.Files.{Files}
-use Rattle.clfs_disk.specs.State.{DiskState, IsSettled, Passes, Leaves}
-use Rattle.clfs_container.specs.OpenBlocks.{AreWhole}
-use Rattle.clfs_base.specs.declared.image.BaseImage.{BaseImage}
-use Rattle.clfs_base.specs.Spelling.{IsImage}
-use Rattle.clfs_base.specs.Slots.{newest_of}
-use Rattle.clfs_physical.specs.Changes.{with_containers}
-use Rattle.clfs_physical.specs.Joined.{GrownAbove}
-use Rattle.clfs_physical.specs.Stored.{Blocks, Newest, AreMade, IsLog, Stores}
+use Rattle.clfs_physical.proofs.Words.{◌≡◌, ◌⊎◌, inl, ⊎_elim, ℕ, ◌*◌, ◌<◌, ◌≤◌, Bool, true, List, length, sym, ◌∙◌, ap, subst, arith, cases_lt, Files, DiskState, IsSettled, Passes, Leaves, AreWhole, BaseImage, IsImage, newest_of, with_containers, GrownAbove, Blocks, Newest, AreMade, IsLog, Stores}
 use Rattle.clfs_physical.proofs.Joining.{leaves_after}
 use Rattle.clfs_physical.proofs.Logs.{listed_made}
 

@@ -1,8 +1,7 @@
 -- How calls on a disk are joined.
-use Rattle.std.proofs.Common.{◌≡◌, IsTrue, refl, ⊎_elim, ℕ, ◌<◌, ◌≤◌, sym, ◌∙◌, subst, arith}
-use Rattle.std.proofs.lemmas.Bool.{cases_lt}
-use Rattle.clfs_disk.specs.Files.{Files, Unchanged}
-use Rattle.clfs_disk.specs.State.{DiskState, Nature, Passes, Later, Leaves, IsSettled}
+use Rattle.clfs_physical.proofs.Words.{◌≡◌, IsTrue, refl, ⊎_elim, ℕ, ◌<◌, ◌≤◌, sym, ◌∙◌, subst, arith, cases_lt, Files, DiskState, Nature, Passes, Leaves, IsSettled}
+use Rattle.clfs_disk.specs.Files.{Unchanged}
+use Rattle.clfs_disk.specs.State.{Later}
 
 -- a call that says what changes lets time go on
 pub later_from : (R : Files → Files → Type 0) (a b : DiskState) → Passes R a b → Later a b

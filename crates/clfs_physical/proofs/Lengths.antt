@@ -1,8 +1,5 @@
 -- How long files are after a write.
-use Rattle.std.proofs.Common.{◌≡◌, ◌≢◌, ⊎_elim, ℕ, length, sym, ◌∙◌, ap, subst}
-use Rattle.std.proofs.lemmas.Bool.{cases_eq}
-use Rattle.clfs_disk.specs.Files.{Files, TornIn}
-use Rattle.clfs_physical.specs.Joined.{SameLengths}
+use Rattle.clfs_physical.proofs.Words.{◌≡◌, ◌≢◌, ⊎_elim, ℕ, length, sym, ◌∙◌, ap, subst, cases_eq, Files, TornIn, SameLengths}
 
 -- a write leaves the lengths, whatever it wrote
 pub torn_lengths : (file at n : ℕ) (old new : Files) → TornIn file at n old new → SameLengths old new

@@ -8,3 +8,4 @@ pub mod Counting
 pub mod Taken
 pub mod Growing
 pub mod NextCopies
+mod Words

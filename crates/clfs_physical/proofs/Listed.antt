@@ -1,15 +1,6 @@
 -- Which files the next copy lists.
-use Rattle.std.proofs.Common.{◌≡◌, ◌⊎◌, ℕ, ◌+◌, ◌-◌, ◌%◌, ◌<◌, Bool, true, List, length, get_or, drop, refl, sym, ◌∙◌, ap, subst, arith, length-drop}
-use Rattle.std.proofs.lemmas.List.{get_or-drop}
-use Rattle.clfs_disk.specs.Files.{Files}
-use Rattle.clfs_base.specs.declared.image.BaseImage.{BaseImage}
-use Rattle.clfs_base.specs.declared.image.Row.{Row}
-use Rattle.clfs_disk.specs.State.{DiskState, Leaves}
-use Rattle.clfs_base.specs.Spelling.{IsImage}
-use Rattle.clfs_physical.specs.declared.change.Change.{Change}
+use Rattle.clfs_physical.proofs.Words.{◌≡◌, ◌⊎◌, ℕ, ◌+◌, ◌-◌, ◌%◌, ◌<◌, Bool, true, List, length, get_or, drop, refl, sym, ◌∙◌, ap, subst, arith, length-drop, get_or-drop, Files, BaseImage, Row, DiskState, Leaves, IsImage, Change, with_stream, with_containers, next_copy, Blocks, Lists, AreMade, Holds, IsLog, Newest, Stores}
 use Rattle.clfs_physical.specs.declared.change.Change.TheVariants as changes
-use Rattle.clfs_physical.specs.Changes.{with_stream, with_containers, next_copy}
-use Rattle.clfs_physical.specs.Stored.{Blocks, Lists, AreMade, Holds, IsLog, Newest, Stores}
 
 -- a copy that lists files of another and counts the same
 record Relists (image next : BaseImage) : Type 0 where

@@ -1,20 +1,12 @@
 -- What is still a log after a file of it has changed.
-use Rattle.std.proofs.Common.{◌≡◌, ◌≢◌, ◌⊎◌, inl, inr, ⊎_elim, ℕ, ◌+◌, ◌-◌, ◌*◌, ◌/◌, ◌<◌, ◌≤◌, Bool, true, false, cond, eqb, List, [], ◌∷◌, ◌++◌, length, get_or, drop}
-use Rattle.std.proofs.Common.{Ok, refl, sym, ◌∙◌, ap, subst, arith, length-drop}
-use Rattle.std.proofs.lemmas.Bool.{cases_eq, eq-eqb}
-use Rattle.std.proofs.lemmas.Bool.Decides.{nat_tests}
-use Rattle.std.proofs.lemmas.List.{length-take-le, get_or-drop, append-nil}
-use Rattle.clfs_disk.specs.Files.{Files}
-use Rattle.clfs_disk.specs.State.{DiskState, Leaves}
-use Rattle.clfs_container.specs.OpenBlocks.{block_sectors, Opens, total, AreWhole}
-use Rattle.clfs_container.specs.Writing.{IsBehind, HasBlocks, IsGroup}
-use Rattle.clfs_base.specs.declared.image.BaseImage.{BaseImage}
-use Rattle.clfs_base.specs.Spelling.{IsImage}
-use Rattle.clfs_base.specs.Slots.{newest_of}
-use Rattle.clfs_base.specs.Writing.{HasNewest, EitherNewest}
-use Rattle.clfs_physical.specs.Joined.{SameLengths, HasGroup, HasNone}
+use Rattle.clfs_physical.proofs.Words.{◌≡◌, ◌≢◌, ◌⊎◌, inl, inr, ⊎_elim, ℕ, ◌+◌, ◌-◌, ◌*◌, ◌<◌, ◌≤◌, Bool, true, false, cond, eqb, List, [], ◌∷◌, ◌++◌, length, get_or, drop, refl, sym, ◌∙◌, ap, subst, arith, length-drop, cases_eq, eq-eqb, nat_tests, get_or-drop, Files, DiskState, Leaves, AreWhole, IsBehind, HasBlocks, BaseImage, IsImage, newest_of, HasNewest, EitherNewest, SameLengths, HasGroup, HasNone, Blocks, Lists, AreMade, Holds, IsLog, with_blocks, IsPlaced, with_group}
+use Rattle.std.proofs.Common.{◌/◌}
+use Rattle.std.proofs.Common.{Ok}
+use Rattle.std.proofs.lemmas.List.{length-take-le, append-nil}
+use Rattle.clfs_container.specs.OpenBlocks.{block_sectors, Opens, total}
+use Rattle.clfs_container.specs.Writing.{IsGroup}
 use Rattle.clfs_physical.proofs.Joining.{leaves_weaker}
-use Rattle.clfs_physical.specs.Stored.{Blocks, Lists, AreMade, Holds, IsLog, with_blocks, last_file, IsPlaced, with_group}
+use Rattle.clfs_physical.specs.Stored.{last_file}
 
 -- ---- lengths
 

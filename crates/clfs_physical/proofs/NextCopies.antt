@@ -1,17 +1,12 @@
 -- That the next copy is one that a log can have.
-use Rattle.std.proofs.Common.{◌≡◌, ◌≢◌, ⊎_elim, ℕ, ◌+◌, ◌-◌, ◌^◌, ◌<◌, ◌≤◌, max, Bool, true, false, List, [], ◌∷◌, ◌++◌, length, drop, refl, sym, ◌∙◌, ap, subst, arith, length-drop, length-append}
-use Rattle.std.proofs.Math.ListN.{get_or-append}
-use Rattle.std.proofs.Math.Seq.{get_or-append_seam}
-use Rattle.std.proofs.lemmas.Bool.{cases_lt, cases_eq}
-use Rattle.std.proofs.lemmas.List.{get_or-drop, get_or-set_same, get_or-set_other, length-set}
-use Rattle.clfs_base.specs.declared.image.BaseImage.{BaseImage}
-use Rattle.clfs_base.specs.declared.image.Row.{Row}
+use Rattle.clfs_physical.proofs.Words.{◌≡◌, ◌≢◌, ⊎_elim, ℕ, ◌+◌, ◌-◌, ◌<◌, ◌≤◌, max, Bool, true, false, List, [], ◌∷◌, ◌++◌, length, drop, refl, sym, ◌∙◌, ap, subst, arith, length-drop, length-append, get_or-append, get_or-append_seam, cases_lt, cases_eq, get_or-drop, BaseImage, Row, IsImage, AreFiles, current, Change, with_next_turn, listed_from, with_stream, with_containers, changed, next_copy}
+use Rattle.std.proofs.Common.{◌^◌}
+use Rattle.std.proofs.lemmas.List.{get_or-set_same, get_or-set_other, length-set}
 use Rattle.clfs_base.specs.Layout.{version_two, layout_of, most_dedicated}
-use Rattle.clfs_base.specs.Spelling.{IsImage, AreFiles, AreRows, IsName, row_in, current, flag}
+use Rattle.clfs_base.specs.Spelling.{AreRows, IsName, row_in, flag}
 use Rattle.clfs_lsn.specs.Limits.{longest_name}
-use Rattle.clfs_physical.specs.declared.change.Change.{Change}
 use Rattle.clfs_physical.specs.declared.change.Change.TheVariants as changes
-use Rattle.clfs_physical.specs.Changes.{with_next_turn, listed_from, with_base, with_stream, with_containers, changed, next_copy, Suits, CanHave, IsNewRow}
+use Rattle.clfs_physical.specs.Changes.{with_base, Suits, CanHave, IsNewRow}
 
 -- files of a list without its front, of which as many were made or more
 fewer_files : (made more gone : ℕ) (files : List ℕ) → made ≤ more → AreFiles made files → AreFiles more (drop gone files)

@@ -1,18 +1,7 @@
 -- The copy that lists another file, and what is a log under it.
-use Rattle.std.proofs.Common.{◌≡◌, ◌≢◌, ◌⊎◌, inl, inr, ⊎_elim, ℕ, ◌+◌, ◌-◌, ◌%◌, ◌<◌, ◌≤◌, Bool, true, false, cond, eqb, List, [], ◌∷◌, ◌++◌, length, get_or, drop, refl, sym, ◌∙◌, ap, subst, arith, length-append}
-use Rattle.std.proofs.Math.ListN.{get_or-append}
-use Rattle.std.proofs.Math.Seq.{get_or-append_seam}
-use Rattle.std.proofs.lemmas.Bool.{cases_lt, cases_eq, eq-eqb}
-use Rattle.clfs_disk.specs.Files.{Files, TornIn}
-use Rattle.clfs_disk.specs.State.{DiskState, Leaves}
-use Rattle.clfs_container.specs.OpenBlocks.{AreWhole}
-use Rattle.clfs_base.specs.declared.image.BaseImage.{BaseImage}
-use Rattle.clfs_base.specs.Spelling.{IsImage, AreFiles, current}
+use Rattle.clfs_physical.proofs.Words.{◌≡◌, ◌≢◌, ◌⊎◌, inl, inr, ⊎_elim, ℕ, ◌+◌, ◌-◌, ◌%◌, ◌<◌, ◌≤◌, Bool, true, false, cond, eqb, List, [], ◌∷◌, ◌++◌, length, get_or, drop, refl, sym, ◌∙◌, ap, subst, arith, length-append, get_or-append, get_or-append_seam, cases_lt, cases_eq, eq-eqb, Files, TornIn, DiskState, Leaves, AreWhole, BaseImage, IsImage, AreFiles, current, nat_tests, with_next_turn, with_file, next_copy, Blocks, IsIn, Lists, AreMade, Holds, IsLog, Newest, Stores, with_blocks, IsFree, low_of, taken_of}
 use Rattle.clfs_physical.specs.declared.change.Change.TheVariants as changes
-use Rattle.std.proofs.lemmas.Bool.Decides.{nat_tests}
-use Rattle.clfs_physical.specs.Changes.{with_next_turn, with_file, next_copy}
-use Rattle.clfs_physical.specs.Stored.{Blocks, IsIn, Lists, AreMade, Holds, IsLog, Newest, Stores, with_blocks}
-use Rattle.clfs_physical.specs.Taking.{IsFree, HasRoom, low_of, taken_of}
+use Rattle.clfs_physical.specs.Taking.{HasRoom}
 use Rattle.clfs_physical.proofs.Joining.{leaves_weaker, leaves_then}
 use Rattle.clfs_physical.proofs.Lengths.{torn_lengths}
 use Rattle.clfs_physical.proofs.Logs.{here, elsewhere, newest_same, holds_with, holds_beside}

@@ -1,19 +1,9 @@
 -- The bytes of the blocks that wait are those of a group.
-use Rattle.std.proofs.Common.{◌≡◌, ◌≢◌, inl, inr, ℕ, ◌+◌, ◌-◌, ◌*◌, ◌/◌, ◌%◌, ◌<◌, ◌≤◌, ◌^◌, List, [], ◌∷◌, ◌++◌, length, get_or, take, drop}
-use Rattle.std.proofs.Common.{refl, sym, ◌∙◌, ap, subst, arith, append_assoc, length-append, length-drop}
-use Rattle.std.specs.List.{flat_map, concat}
-use Rattle.std.proofs.lemmas.List.{append-nil, get_or_append_left, take_at, take_all, drop_at, drop_more, get_or_at}
-use Rattle.clfs_lsn.specs.Place.{IsClosed}
-use Rattle.clfs_lsn.specs.Size.{sectors}
-use Rattle.clfs_lsn.specs.Spelling.{record_bytes}
-use Rattle.clfs_lsn.specs.declared.shape.Shape.{Shape}
-use Rattle.clfs_lsn.specs.declared.entry.LogEntry.{LogEntry}
-use Rattle.clfs_block.specs.Frame.{used_bytes, SpellsBlock}
-use Rattle.clfs_container.specs.OpenBlocks.{block_sectors, BeginsWith, Opens, total}
-use Rattle.clfs_queue.specs.Queued.{Queued}
-use Rattle.clfs_queue.specs.Rows.{IsBlock, AreBlocks}
-use Rattle.clfs_queue.specs.Group.{EndsAt, IsGroupOf}
-use Rattle.clfs_queue.specs.Kept.{IsKept}
+use Rattle.clfs_queue.proofs.Words.{◌≡◌, inl, inr, ℕ, ◌+◌, ◌-◌, ◌*◌, ◌%◌, ◌<◌, ◌≤◌, ◌^◌, List, [], ◌∷◌, ◌++◌, length, get_or, take, drop, refl, sym, ◌∙◌, ap, subst, arith, append_assoc, length-append, length-drop, flat_map, concat, append-nil, take_at, take_all, drop_at, drop_more, IsClosed, sectors, record_bytes, Shape, LogEntry, used_bytes, SpellsBlock, total, Queued, IsBlock, AreBlocks, IsGroupOf, IsKept}
+use Rattle.std.proofs.Common.{◌≢◌, ◌/◌}
+use Rattle.std.proofs.lemmas.List.{get_or_append_left, get_or_at}
+use Rattle.clfs_container.specs.OpenBlocks.{block_sectors, BeginsWith, Opens}
+use Rattle.clfs_queue.specs.Group.{EndsAt}
 use Rattle.clfs_queue.proofs.Blocks.{length-concat, total_whole, no_bytes}
 use Rattle.clfs_queue.proofs.Keeping.{closed_end, kept_length}
 

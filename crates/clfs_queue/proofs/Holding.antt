@@ -1,14 +1,5 @@
 -- A record that a block holds, and those before it.
-use Rattle.std.proofs.Common.{◌≡◌, ℕ, ◌+◌, ◌<◌, ◌≤◌, ◌^◌, List, ◌∷◌, ◌++◌, length, get_or, take, drop, replicate}
-use Rattle.std.proofs.Common.{refl, sym, ◌∙◌, ap, subst, arith, append_assoc, take-append-drop}
-use Rattle.std.specs.List.{flat_map}
-use Rattle.std.proofs.lemmas.List.{length-take-le, drop_more, drop-drop, drop_at, take_at}
-use Rattle.clfs_lsn.specs.Size.{size}
-use Rattle.clfs_lsn.specs.Spelling.{header_bytes, filling, record_bytes}
-use Rattle.clfs_lsn.specs.declared.entry.LogEntry.{LogEntry}
-use Rattle.clfs_block.specs.Frame.{payload_from}
-use Rattle.clfs_queue.specs.Rows.{AreInRow}
-use Rattle.clfs_queue.specs.Held.{IsHeld, payload_before}
+use Rattle.clfs_queue.proofs.Words.{◌≡◌, ℕ, ◌+◌, ◌<◌, ◌≤◌, ◌^◌, List, ◌∷◌, ◌++◌, length, get_or, take, drop, replicate, refl, sym, ◌∙◌, ap, subst, arith, append_assoc, take-append-drop, flat_map, length-take-le, drop_more, drop-drop, drop_at, take_at, size, header_bytes, filling, record_bytes, LogEntry, payload_from, AreInRow, IsHeld, payload_before}
 use Rattle.clfs_queue.proofs.InRow.{row_at}
 use Rattle.clfs_queue.proofs.Contents.{part_of_content, content_behind, record_within, record_in_payload}
 

@@ -1,8 +1,5 @@
 -- Records in a row.
-use Rattle.std.proofs.Common.{ℕ, ◌+◌, List, [], ◌∷◌, ◌++◌, length, subst, arith}
-use Rattle.clfs_lsn.specs.Spelling.{FitsAt}
-use Rattle.clfs_lsn.specs.declared.entry.LogEntry.{LogEntry}
-use Rattle.clfs_queue.specs.Rows.{AreInRow}
+use Rattle.clfs_queue.proofs.Words.{ℕ, ◌+◌, List, [], ◌∷◌, ◌++◌, length, subst, arith, FitsAt, LogEntry, AreInRow}
 
 -- a record of a row is at its own LSN
 pub row_at : (lsn : ℕ) (before behind : List LogEntry) (entry : LogEntry) → AreInRow lsn (before ++ entry ∷ behind)

@@ -1,16 +1,7 @@
 -- What a queue keeps while nothing waits, and how much memory it has left.
-use Rattle.std.proofs.Common.{◌≡◌, inl, inr, ℕ, ◌+◌, ◌-◌, ◌*◌, ◌≤◌, List, [], ◌∷◌, length, take, drop}
-use Rattle.std.proofs.Common.{refl, sym, ◌∙◌, ap, subst, arith, length-append}
+use Rattle.clfs_queue.proofs.Words.{◌≡◌, inl, inr, ℕ, ◌+◌, ◌-◌, ◌*◌, ◌≤◌, List, [], ◌∷◌, length, take, drop, refl, sym, ◌∙◌, ap, subst, arith, length-append, concat, take_at, drop_at, IsWithin, IsClosed, Place, LogEntry, Queued, AreBlocks, IsOpenPart, EndsWith, IsKept}
 use Rattle.std.proofs.Math.Nat.{mul-le-mul_left}
-use Rattle.std.specs.List.{concat}
-use Rattle.std.proofs.lemmas.List.{take_at, drop_at}
-use Rattle.clfs_lsn.specs.Place.{IsWithin, IsClosed}
 use Rattle.clfs_lsn.specs.Size.{IsShape}
-use Rattle.clfs_lsn.specs.declared.place.Place.{Place}
-use Rattle.clfs_lsn.specs.declared.entry.LogEntry.{LogEntry}
-use Rattle.clfs_queue.specs.Queued.{Queued}
-use Rattle.clfs_queue.specs.Rows.{AreBlocks}
-use Rattle.clfs_queue.specs.Kept.{IsOpenPart, EndsWith, IsKept}
 use Rattle.clfs_queue.proofs.Blocks.{length-concat, total_few}
 
 -- a queue with nothing in it

@@ -8,3 +8,4 @@ pub mod Sealing
 pub mod Taking
 pub mod Grouping
 pub mod Locating
+mod Words

@@ -1,24 +1,9 @@
 -- Where a record lies in the bytes of a queue, by its LSN.
-use Rattle.std.proofs.Common.{◌≡◌, ◌⊎◌, inl, inr, ⊎_elim, ℕ, ◌+◌, ◌-◌, ◌*◌, ◌%◌, ◌<◌, ◌≤◌, ◌==◌, List, [], ◌∷◌, ◌++◌, length, drop}
-use Rattle.std.proofs.Common.{refl, sym, ◌∙◌, ap, subst, arith, append_assoc, length-append}
-use Rattle.std.specs.Prelude.{Some, IsSome}
-use Rattle.std.specs.List.{flat_map, concat}
+use Rattle.clfs_queue.proofs.Words.{◌≡◌, inl, inr, ⊎_elim, ℕ, ◌+◌, ◌-◌, ◌*◌, ◌%◌, ◌<◌, ◌≤◌, List, [], ◌∷◌, ◌++◌, length, drop, refl, sym, ◌∙◌, ap, subst, arith, append_assoc, length-append, Some, IsSome, flat_map, concat, nat_tests, drop-drop, drop_at, lsn_number, offset_of, sequence_of, sectors, record_bytes, Shape, Place, LogEntry, used_bytes, total, Queued, data_at, AreInRow, IsBlock, AreBlocks, IsHeld, IsOpenPart, EndsWith, IsKept}
+use Rattle.std.proofs.Common.{◌⊎◌, ◌==◌}
 use Rattle.std.proofs.lemmas.Bool.{cases_Bool}
-use Rattle.std.proofs.lemmas.Bool.Decides.{nat_tests}
-use Rattle.std.proofs.lemmas.List.{drop-drop, drop_at}
-use Rattle.clfs_lsn.specs.Lsn.{lsn_number, offset_of, sequence_of}
-use Rattle.clfs_lsn.specs.Size.{sectors}
-use Rattle.clfs_lsn.specs.Spelling.{record_bytes}
-use Rattle.clfs_lsn.specs.declared.shape.Shape.{Shape}
-use Rattle.clfs_lsn.specs.declared.place.Place.{Place}
-use Rattle.clfs_lsn.specs.declared.entry.LogEntry.{LogEntry}
-use Rattle.clfs_block.specs.Frame.{used_bytes, head_bytes}
+use Rattle.clfs_block.specs.Frame.{head_bytes}
 use Rattle.clfs_block.specs.Judging.{AreReadAsWritten}
-use Rattle.clfs_container.specs.OpenBlocks.{total}
-use Rattle.clfs_queue.specs.Queued.{Queued, data_at}
-use Rattle.clfs_queue.specs.Rows.{AreInRow, IsBlock, AreBlocks}
-use Rattle.clfs_queue.specs.Held.{IsHeld}
-use Rattle.clfs_queue.specs.Kept.{IsOpenPart, EndsWith, IsKept}
 use Rattle.clfs_queue.proofs.InRow.{row_at}
 use Rattle.clfs_queue.proofs.Blocks.{length-concat, total_whole}
 use Rattle.clfs_queue.proofs.Sealing.{is_open}

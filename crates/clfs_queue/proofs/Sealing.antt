@@ -1,20 +1,6 @@
 -- The open block becomes one that waits.
-use Rattle.std.proofs.Common.{◌≡◌, inl, ⊎_elim, ℕ, ◌+◌, ◌-◌, ◌*◌, ◌≤◌, List, [], ◌∷◌, ◌++◌, length, take, drop}
-use Rattle.std.proofs.Common.{refl, sym, ◌∙◌, ap, subst, arith, length-drop}
-use Rattle.std.specs.List.{flat_map}
-use Rattle.std.proofs.lemmas.List.{append-nil, length_push}
-use Rattle.clfs_lsn.specs.Lsn.{lsn_number, offset_of}
-use Rattle.clfs_lsn.specs.Place.{IsWithin, IsOpen, sealed}
-use Rattle.clfs_lsn.specs.Size.{sectors}
-use Rattle.clfs_lsn.specs.Spelling.{record_bytes}
-use Rattle.clfs_lsn.specs.declared.shape.Shape.{Shape}
-use Rattle.clfs_lsn.specs.declared.place.Place.{Place}
-use Rattle.clfs_lsn.specs.declared.entry.LogEntry.{LogEntry}
-use Rattle.clfs_container.specs.OpenBlocks.{total}
-use Rattle.clfs_block.specs.Frame.{place_of, payload_of, used_bytes, SpellsBlock}
-use Rattle.clfs_queue.specs.Queued.{Queued}
-use Rattle.clfs_queue.specs.Rows.{AreInRow, IsBlock, AreBlocks}
-use Rattle.clfs_queue.specs.Kept.{IsOpenPart, IsKept}
+use Rattle.clfs_queue.proofs.Words.{◌≡◌, inl, ⊎_elim, ℕ, ◌+◌, ◌-◌, ◌*◌, ◌≤◌, List, [], ◌∷◌, ◌++◌, length, take, drop, refl, sym, ◌∙◌, ap, subst, arith, length-drop, flat_map, append-nil, length_push, lsn_number, offset_of, IsWithin, sectors, record_bytes, Shape, Place, LogEntry, total, place_of, payload_of, used_bytes, SpellsBlock, Queued, AreInRow, IsBlock, AreBlocks, IsOpenPart, IsKept}
+use Rattle.clfs_lsn.specs.Place.{IsOpen, sealed}
 use Rattle.clfs_queue.proofs.Blocks.{concat_push, total_push, blocks_push}
 use Rattle.clfs_queue.proofs.Contents.{length-payload}
 use Rattle.clfs_queue.proofs.Keeping.{open_end, kept_front, kept_part, kept_length, room_left}

@@ -1,5 +1,5 @@
 -- What a queue's fields show.
-use Rattle.clfs_queue.specs.Queued.{Queued}
+use Rattle.clfs_queue.proofs.Words.{Queued}
 use Rattle.clfs_queue.specs.declared.queue.Queue.TheInside.{Inside}
 
 -- the queue of these fields

@@ -1,22 +1,9 @@
 -- A record that there is room for is put after the open block's payload.
-use Rattle.std.proofs.Common.{◌≡◌, inr, ⊎_elim, ℕ, ◌+◌, ◌*◌, ◌%◌, ◌≤◌, true, false, List, [], ◌∷◌, ◌++◌, length, take, drop, replicate}
-use Rattle.std.proofs.Common.{refl, sym, ◌∙◌, ap, subst, arith, append_assoc, length-append, length-drop, take-append-drop}
+use Rattle.clfs_queue.proofs.Words.{◌≡◌, inr, ⊎_elim, ℕ, ◌+◌, ◌*◌, ◌%◌, ◌≤◌, List, [], ◌∷◌, ◌++◌, length, take, drop, replicate, refl, sym, ◌∙◌, ap, subst, arith, append_assoc, length-append, length-drop, take-append-drop, nat_tests, append-nil, take-append-le, length_push, flat_map-append, flat_map, concat, lsn_number, IsWithin, IsClosed, place_after, size, sectors, longest, FitsAt, record_bytes, Shape, Place, LogEntry, place_of, payload_of, Queued, HasRoomFor, AreInRow, IsKept}
+use Rattle.std.proofs.Common.{true, false}
 use Rattle.std.proofs.lemmas.Bool.{cases_lt}
-use Rattle.std.proofs.lemmas.Bool.Decides.{nat_tests}
-use Rattle.std.proofs.lemmas.List.{append-nil, take-append-le, drop-append-le, drop_all, length_push}
-use Rattle.std.proofs.lemmas.List.Concat.{flat_map-append}
-use Rattle.std.specs.List.{flat_map, concat}
-use Rattle.clfs_lsn.specs.Lsn.{lsn_number}
-use Rattle.clfs_lsn.specs.Place.{block_end, IsWithin, IsClosed, joins, begins_here, begun, place_after}
-use Rattle.clfs_lsn.specs.Size.{size, sectors, longest}
-use Rattle.clfs_lsn.specs.Spelling.{FitsAt, record_bytes}
-use Rattle.clfs_lsn.specs.declared.shape.Shape.{Shape}
-use Rattle.clfs_lsn.specs.declared.place.Place.{Place}
-use Rattle.clfs_lsn.specs.declared.entry.LogEntry.{LogEntry}
-use Rattle.clfs_block.specs.Frame.{place_of, payload_of}
-use Rattle.clfs_queue.specs.Queued.{Queued, HasRoomFor}
-use Rattle.clfs_queue.specs.Rows.{AreInRow}
-use Rattle.clfs_queue.specs.Kept.{IsKept}
+use Rattle.std.proofs.lemmas.List.{drop-append-le, drop_all}
+use Rattle.clfs_lsn.specs.Place.{block_end, joins, begins_here, begun}
 use Rattle.clfs_queue.proofs.InRow.{row_push}
 use Rattle.clfs_queue.proofs.Contents.{length-payload}
 use Rattle.clfs_queue.proofs.Keeping.{open_end, closed_end, kept_front, kept_part, kept_length, room_left}

@@ -1,8 +1,5 @@
 -- Answers that come of earlier ones.
-use Rattle.std.proofs.Common.{◌≡◌, List, Result, Ok, Err, refl, sym, ◌∙◌}
-use Rattle.clfs_lsn.specs.declared.entry.LogEntry.{LogEntry}
-use Rattle.clfs_block.specs.Records.{◌>>=◌, told_as}
-use Rattle.clfs_recover.specs.declared.refusal.LoadRefusal.{LoadRefusal}
+use Rattle.clfs_recover.proofs.Words.{◌≡◌, List, Result, Ok, Err, refl, sym, ◌∙◌, LogEntry, ◌>>=◌, told_as, LoadRefusal}
 
 -- what is read of a container, and an answer that these records are read
 abbrev pub Records : Type 0

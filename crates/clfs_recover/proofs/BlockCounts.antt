@@ -1,24 +1,8 @@
 -- How many blocks the records of stored blocks begin: one each.
-use Rattle.std.proofs.Common.{◌≡◌, ℕ, ◌+◌, ◌-◌, ◌*◌, ◌%◌, ◌≤◌, Bool, true, false, cond, eqb, List, [], ◌∷◌, length, drop, map, Ok, refl, sym, ◌∙◌, ap, subst, arith}
+use Rattle.clfs_recover.proofs.Words.{◌≡◌, ℕ, ◌+◌, ◌-◌, ◌*◌, ◌%◌, ◌≤◌, Bool, true, false, cond, eqb, List, [], ◌∷◌, length, drop, map, Ok, refl, sym, ◌∙◌, ap, subst, arith, AllByRecursion, eq-eqb, ne_eqb, length-take-le, recursion_from_All, lsn_number, sequence_of, LogEntry, Shape, Files, block_sectors, Opens, AreReadAsWritten, told_as, block_records, LieIn, IsLogOf, IsStoredIn, HaveBlocks, FitFrom, stored_in, stored_records, shape_of, damage_at, Parts}
 use Rattle.std.specs.Prelude.{sum_by}
-use Rattle.std.specs.List.{AllByRecursion}
-use Rattle.std.proofs.lemmas.Bool.{eq-eqb, ne_eqb}
-use Rattle.std.proofs.lemmas.List.{length-take-le}
-use Rattle.std.proofs.lemmas.List.Elements.{recursion_from_All}
 use Rattle.std.proofs.lemmas.List.Sums.{sum_by-append, sum_by-cons}
-use Rattle.clfs_lsn.specs.Lsn.{lsn_number, sequence_of}
-use Rattle.clfs_lsn.specs.declared.entry.LogEntry.{LogEntry}
-use Rattle.clfs_lsn.specs.declared.shape.Shape.{Shape}
-use Rattle.clfs_disk.specs.Files.{Files}
-use Rattle.clfs_container.specs.OpenBlocks.{block_sectors, Opens}
-use Rattle.clfs_block.specs.Judging.{AreReadAsWritten}
-use Rattle.clfs_block.specs.Records.{told_as, block_records}
 use Rattle.clfs_recover.specs.Counting.{blocks_begun}
-use Rattle.clfs_recover.specs.KnownLogs.{LieIn, IsLogOf}
-use Rattle.clfs_recover.specs.Logs.{IsStoredIn}
-use Rattle.clfs_recover.specs.Stored.{HaveBlocks, FitFrom, stored_in, stored_records}
-use Rattle.clfs_recover.specs.Walk.{shape_of, damage_at}
-use Rattle.clfs_recover.specs.declared.parts.Parts.{Parts}
 use Rattle.clfs_recover.proofs.Binding.{told_value}
 use Rattle.clfs_recover.proofs.FoundParts.{AreOpened}
 use Rattle.clfs_recover.proofs.Joined.{AreBoth, both_there}

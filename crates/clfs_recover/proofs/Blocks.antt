@@ -1,20 +1,9 @@
 -- The records of a block by the answers of its checks.
-use Rattle.std.proofs.Common.{◌≡◌, ℕ, List, Option, Some, None, Result, Ok, Err, refl}
-use Rattle.clfs_lsn.specs.Checks.{unless_wrong}
-use Rattle.clfs_lsn.specs.declared.entry.LogEntry.{LogEntry}
-use Rattle.clfs_lsn.specs.declared.shape.Shape.{Shape}
-use Rattle.clfs_base.specs.declared.image.Row.{Row}
-use Rattle.clfs_block.specs.Frame.{payload_of}
-use Rattle.clfs_block.specs.Checks.{frame_at, rest_at, other_byte, payload_place}
-use Rattle.clfs_block.specs.declared.head.BlockHead.{BlockHead}
-use Rattle.clfs_block.specs.declared.head.BlockRefusal.{BlockRefusal}
+use Rattle.clfs_recover.proofs.Words.{◌≡◌, ℕ, List, Option, Some, None, Result, Ok, Err, refl, unless_wrong, LogEntry, Shape, Row, payload_of, frame_at, rest_at, BlockHead, BlockRefusal, told_as, records_from, block_records, block_refused, damage_at, GathersBlock, RefusesAs, LoadRefusal, NoBase, Damaged, DiskFault, NoMemory}
+use Rattle.clfs_block.specs.Checks.{other_byte, payload_place}
 use Rattle.clfs_block.specs.declared.head.BlockRefusal.TheVariants as blocks
-use Rattle.clfs_block.specs.Records.{told_as, records_from, block_records}
-use Rattle.clfs_block.specs.RecordLaws.{block_refused, records_refused, rest_refused}
-use Rattle.clfs_recover.specs.Walk.{damage_at}
-use Rattle.clfs_recover.specs.Gathering.{GivesFrame, GathersBlock, RefusesAs}
-use Rattle.clfs_recover.specs.declared.refusal.LoadRefusal.{LoadRefusal}
-use Rattle.clfs_recover.specs.declared.refusal.LoadRefusal.TheVariants.{NoBase, Damaged, DiskFault, NoMemory}
+use Rattle.clfs_block.specs.RecordLaws.{records_refused, rest_refused}
+use Rattle.clfs_recover.specs.Gathering.{GivesFrame}
 
 -- the zeros after the records are no gate
 pub rest_has_no_gate : (bytes : List ℕ) (head : BlockHead) → rest_at bytes head ≡ Err blocks.Closed → ⊥

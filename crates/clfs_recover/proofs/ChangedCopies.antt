@@ -1,29 +1,6 @@
 -- A log that has more blocks or containers, or whose copy has another base in a row, a stream more, or other settings.
-use Rattle.std.proofs.Common.{◌≡◌, ◌≢◌, ⊎_elim, ℕ, ◌+◌, ◌-◌, ◌*◌, ◌<◌, ◌≤◌, Bool, true, max, List, [], ◌∷◌, ◌++◌, length, get_or, map}
-use Rattle.std.proofs.Common.{refl, sym, ◌∙◌, ap, arith, append_assoc, length-append, length-set, get_or-set_same, get_or-set_other}
-use Rattle.std.specs.Prelude.{All}
-use Rattle.std.specs.List.{AllByRecursion}
-use Rattle.std.proofs.Math.Seq.{get_or-append_seam}
-use Rattle.std.proofs.lemmas.Bool.{cases_eq}
-use Rattle.std.proofs.lemmas.List.{get_or_append_left}
-use Rattle.std.proofs.lemmas.List.Elements.{recursion_from_All}
-use Rattle.clfs_lsn.specs.Lsn.{container_of}
-use Rattle.clfs_lsn.specs.Place.{frontier}
-use Rattle.clfs_lsn.specs.declared.entry.LogEntry.{LogEntry}
-use Rattle.clfs_lsn.specs.declared.place.Place.{Place}
-use Rattle.clfs_container.specs.OpenBlocks.{total}
-use Rattle.clfs_block.specs.Judging.{AreReadAsWritten}
-use Rattle.clfs_base.specs.declared.image.BaseImage.{BaseImage}
-use Rattle.clfs_base.specs.declared.image.Row.{Row}
-use Rattle.clfs_base.specs.Spelling.{IsImage, row_in}
-use Rattle.clfs_model.specs.declared.state.State.{State}
-use Rattle.clfs_model.specs.State.{base_of}
-use Rattle.clfs_lsn.specs.Streams.{set_base}
-use Rattle.clfs_recover.specs.Bases.{raised}
-use Rattle.clfs_base.specs.Streams.{streams_with}
-use Rattle.clfs_recover.specs.Logs.{IsLogWith, HaveMore, HaveEmpty, file_at_end, stored_state, with_row_base}
-use Rattle.clfs_recover.specs.Stored.{stored_place}
-use Rattle.clfs_recover.specs.Walk.{shape_of, bases_with}
+use Rattle.clfs_recover.proofs.Words.{◌≡◌, ◌≢◌, ⊎_elim, ℕ, ◌+◌, ◌-◌, ◌*◌, ◌<◌, ◌≤◌, Bool, true, max, List, [], ◌∷◌, ◌++◌, length, get_or, map, refl, sym, ◌∙◌, ap, arith, append_assoc, length-append, length-set, get_or-set_same, get_or-set_other, All, AllByRecursion, get_or-append_seam, cases_eq, get_or_append_left, recursion_from_All, container_of, frontier, LogEntry, Place, total, AreReadAsWritten, BaseImage, Row, IsImage, row_in, State, base_of, set_base, raised, streams_with, IsLogWith, HaveMore, HaveEmpty, file_at_end, stored_state, stored_place, shape_of, bases_with}
+use Rattle.clfs_recover.specs.Logs.{with_row_base}
 use Rattle.clfs_recover.proofs.FoundStreams.{base_there}
 use Rattle.clfs_recover.proofs.LaidBlocks.{FitTheirs}
 use Rattle.clfs_recover.proofs.Raising.{base_at, bases_more, length-bases_with}

@@ -1,25 +1,6 @@
 -- Where containers are read, the open blocks of each end cleanly, and are all that its records come of.
-use Rattle.std.proofs.Common.{◌≡◌, ◌⊎◌, inl, inr, ⊎_elim, ℕ, zero, suc, ◌+◌, ◌*◌, ◌/◌, ◌<◌, ◌≤◌, cond, eqb, List, [], ◌∷◌, ◌++◌, length, get_or, drop, map}
-use Rattle.std.proofs.Common.{Result, Ok, Err, refl, sym, ◌∙◌, ap, subst, arith}
-use Rattle.std.specs.Prelude.{All}
-use Rattle.std.specs.List.{AllByRecursion}
-use Rattle.std.proofs.lemmas.Bool.{cases_lt, lt-leb, eq-eqb, cond-true}
-use Rattle.std.proofs.lemmas.List.Elements.{All-from_recursion}
-use Rattle.clfs_lsn.specs.Lsn.{lsn_number}
-use Rattle.clfs_lsn.specs.Size.{IsShape}
-use Rattle.clfs_lsn.specs.declared.entry.LogEntry.{LogEntry}
-use Rattle.clfs_lsn.specs.declared.shape.Shape.{Shape}
-use Rattle.clfs_disk.specs.Files.{Files}
-use Rattle.clfs_container.specs.OpenBlocks.{block_sectors, Ends, EndsCleanly, AreOpen, AreWhole, total}
-use Rattle.clfs_block.specs.Checks.{frame_at}
-use Rattle.clfs_block.specs.Judging.{AreReadAsWritten}
-use Rattle.clfs_block.specs.declared.head.BlockHead.{BlockHead}
-use Rattle.clfs_block.specs.declared.head.BlockRefusal.{BlockRefusal}
+use Rattle.clfs_recover.proofs.Words.{◌≡◌, ◌⊎◌, inl, inr, ⊎_elim, ℕ, zero, suc, ◌+◌, ◌*◌, ◌/◌, ◌<◌, ◌≤◌, cond, eqb, List, [], ◌∷◌, ◌++◌, length, get_or, drop, map, Result, Ok, Err, refl, sym, ◌∙◌, ap, subst, arith, All, AllByRecursion, cases_lt, lt-leb, eq-eqb, cond-true, All-from_recursion, lsn_number, IsShape, LogEntry, Shape, Files, block_sectors, Ends, EndsCleanly, AreOpen, AreWhole, total, frame_at, AreReadAsWritten, BlockHead, BlockRefusal, ◌>>=◌, told_as, block_records, Container, damage_at, end_at, blocks_end, blocks_records, container_records, listed_records, AreListed, HaveBlocks, stored_in, stored_records}
 use Rattle.clfs_block.specs.declared.head.BlockRefusal.TheVariants as blocks
-use Rattle.clfs_block.specs.Records.{◌>>=◌, told_as, block_records}
-use Rattle.clfs_recover.specs.Walk.{Container, damage_at, end_at, blocks_end, blocks_records, container_records, listed_records}
-use Rattle.clfs_recover.specs.Files.{AreListed}
-use Rattle.clfs_recover.specs.Stored.{HaveBlocks, stored_in, stored_records}
 use Rattle.clfs_recover.proofs.Binding.{read, bound}
 use Rattle.clfs_recover.proofs.Containers.{sectors_said, left_here, closed_gate}
 use Rattle.clfs_recover.proofs.Finding.{open_exist}

@@ -1,23 +1,8 @@
 -- What a block is judged by: itself and a front of what begins with it, its gate, and the sectors that are left for it.
-use Rattle.std.proofs.Common.{◌≡◌, inr, ⊎_elim, ℕ, ◌+◌, ◌-◌, ◌*◌, ◌/◌, ◌%◌, ◌^◌, ◌<◌, ◌≤◌, Bool, true, false, cond, not, eqb, ltb, List, [], ◌∷◌, length, get_or}
-use Rattle.std.proofs.Common.{Option, Some, None, Result, Ok, Err, refl, sym, ◌∙◌, ap, arith}
+use Rattle.clfs_recover.proofs.Words.{◌≡◌, inr, ⊎_elim, ℕ, ◌+◌, ◌-◌, ◌*◌, ◌/◌, ◌%◌, ◌^◌, ◌<◌, ◌≤◌, Bool, true, false, cond, not, eqb, ltb, List, [], ◌∷◌, length, get_or, Option, Some, None, Result, Ok, Err, refl, sym, ◌∙◌, ap, arith, eq-eqb, lsn_number, IsShape, unless_wrong, LogEntry, Shape, block_sectors, payload_of, head_of, left_from, frame_at, sectors_at, rest_at, IsEnough, AreJudgedAlone, AreReadAsWritten, BlockHead, BlockRefusal, ◌>>=◌, told_as, records_from, block_records, block_refused, block_framed, block_same, IsFrontOf}
 use Rattle.std.proofs.lemmas.List.{get_or-drop}
-use Rattle.std.proofs.lemmas.Bool.{eq-eqb}
-use Rattle.clfs_lsn.specs.Lsn.{lsn_number}
-use Rattle.clfs_lsn.specs.Size.{IsShape}
-use Rattle.clfs_lsn.specs.Checks.{unless_wrong}
-use Rattle.clfs_lsn.specs.declared.entry.LogEntry.{LogEntry}
-use Rattle.clfs_lsn.specs.declared.shape.Shape.{Shape}
-use Rattle.clfs_container.specs.OpenBlocks.{block_sectors}
-use Rattle.clfs_block.specs.Frame.{payload_of}
-use Rattle.clfs_block.specs.Checks.{head_of, left_from, frame_at, sectors_at, rest_at, head_fault, wrong_sector, address_place, IsEnough}
-use Rattle.clfs_block.specs.Judging.{AreJudgedAlone, AreReadAsWritten}
-use Rattle.clfs_block.specs.declared.head.BlockHead.{BlockHead}
-use Rattle.clfs_block.specs.declared.head.BlockRefusal.{BlockRefusal}
+use Rattle.clfs_block.specs.Checks.{head_fault, wrong_sector, address_place}
 use Rattle.clfs_block.specs.declared.head.BlockRefusal.TheVariants as blocks
-use Rattle.clfs_block.specs.Records.{◌>>=◌, told_as, records_from, block_records}
-use Rattle.clfs_block.specs.RecordLaws.{block_refused, block_framed, block_same}
-use Rattle.clfs_recover.specs.Fronts.{IsFrontOf}
 use Rattle.clfs_recover.proofs.Blocks.{rest_has_no_gate}
 
 abbrev BlockRecords : Type 0

@@ -1,25 +1,7 @@
 -- How many records a log can have.
-use Rattle.std.proofs.Common.{◌≡◌, ℕ, zero, suc, ◌+◌, ◌-◌, ◌*◌, ◌^◌, ◌<◌, ◌≤◌, Bool, true, false, cond, eqb, List, [], ◌∷◌, length, drop, Result, Ok, Err, refl, sym, ◌∙◌, ap, arith, length-append}
-use Rattle.std.specs.List.{AllByRecursion}
-use Rattle.std.proofs.lemmas.List.Elements.{recursion_from_All}
-use Rattle.clfs_lsn.specs.Lsn.{lsn_number}
-use Rattle.clfs_lsn.specs.Spelling.{record_at}
-use Rattle.clfs_lsn.specs.declared.entry.LogEntry.{LogEntry}
-use Rattle.clfs_lsn.specs.declared.shape.Shape.{Shape}
-use Rattle.clfs_container.specs.OpenBlocks.{block_sectors}
-use Rattle.clfs_block.specs.Frame.{place_of, payload_of}
-use Rattle.clfs_block.specs.Checks.{frame_at, rest_at}
-use Rattle.clfs_block.specs.Judging.{AreReadAsWritten}
-use Rattle.clfs_block.specs.declared.head.BlockHead.{BlockHead}
-use Rattle.clfs_block.specs.declared.head.BlockRefusal.{BlockRefusal}
+use Rattle.clfs_recover.proofs.Words.{◌≡◌, ℕ, zero, suc, ◌+◌, ◌-◌, ◌*◌, ◌^◌, ◌<◌, ◌≤◌, Bool, true, false, cond, eqb, List, [], ◌∷◌, length, drop, Result, Ok, Err, refl, sym, ◌∙◌, ap, arith, length-append, AllByRecursion, recursion_from_All, lsn_number, record_at, LogEntry, Shape, block_sectors, place_of, payload_of, frame_at, rest_at, AreReadAsWritten, BlockHead, BlockRefusal, ◌>>=◌, told_as, records_from, block_records, shape_of, damage_at, stored_in, stored_records, LieIn, IsLogOf, Parts, block_framed, block_refused}
 use Rattle.clfs_block.specs.declared.head.BlockRefusal.TheVariants as blocks
-use Rattle.clfs_block.specs.Records.{◌>>=◌, told_as, records_from, block_records}
-use Rattle.clfs_recover.specs.Walk.{shape_of, damage_at}
-use Rattle.clfs_recover.specs.Stored.{stored_in, stored_records}
-use Rattle.clfs_recover.specs.KnownLogs.{LieIn, IsLogOf}
-use Rattle.clfs_recover.specs.declared.parts.Parts.{Parts}
 use Rattle.clfs_recover.proofs.Joined.{AreBoth, both_there}
-use Rattle.clfs_block.specs.RecordLaws.{block_framed, block_refused}
 
 -- ---- of a block
 

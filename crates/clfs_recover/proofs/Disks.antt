@@ -1,9 +1,8 @@
 -- What stays over calls of a disk that change no file.
-use Rattle.std.proofs.Common.{IsTrue, Result, Ok, Err, refl, sym, ◌∙◌, subst, arith}
-use Rattle.std.specs.Prelude.{OnOk, IfErr}
+use Rattle.clfs_recover.proofs.Words.{Result, Ok, Err, refl, sym, ◌∙◌, subst, arith, OnOk, IfErr, Files, Unchanged, DiskState, TellsContents, IsSteady, Passes}
+use Rattle.std.proofs.Common.{IsTrue}
 use Rattle.clfs_disk.specs.Joining.{CallsJoin}
-use Rattle.clfs_disk.specs.Files.{Files, Unchanged}
-use Rattle.clfs_disk.specs.State.{DiskState, Nature, TellsContents, IsSteady, IsSettled, Passes}
+use Rattle.clfs_disk.specs.State.{Nature, IsSettled}
 
 -- a disk that tells its contents tells them still
 pub tells_still : (change : Files → Files → Type 0) (old new : DiskState) → Passes change old new → TellsContents old → TellsContents new

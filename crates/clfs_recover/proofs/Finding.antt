@@ -1,27 +1,8 @@
 -- What the walk finds after a base copy, and that every file has one list of open blocks.
-use Rattle.std.proofs.Common.{◌≡◌, ◌≢◌, inl, inr, ⊎_elim, ℕ, zero, suc, ◌+◌, ◌-◌, ◌*◌, ◌<◌, ◌≤◌, List, [], ◌∷◌, length, get_or, take, drop, Result, Ok, Err}
-use Rattle.std.proofs.Common.{refl, sym, ◌∙◌, ap, subst, arith}
-use Rattle.std.specs.Prelude.{IfOk, IfErr}
-use Rattle.std.proofs.lemmas.List.{length-take-le, drop-drop}
-use Rattle.std.proofs.lemmas.Bool.{cases_eq, cases_lt}
-use Rattle.clfs_lsn.specs.Place.{frontier}
-use Rattle.clfs_lsn.specs.Checks.{unless_wrong}
-use Rattle.clfs_lsn.specs.declared.entry.LogEntry.{LogEntry}
-use Rattle.clfs_disk.specs.Files.{Files, Unchanged}
-use Rattle.clfs_container.specs.OpenBlocks.{block_sectors, Ends, AreOpen, total}
-use Rattle.clfs_base.specs.declared.image.BaseImage.{BaseImage}
-use Rattle.clfs_base.specs.declared.refusal.NewestRefusal.{NewestRefusal}
+use Rattle.clfs_recover.proofs.Words.{◌≡◌, ◌≢◌, inl, inr, ⊎_elim, ℕ, zero, suc, ◌+◌, ◌-◌, ◌*◌, ◌<◌, ◌≤◌, List, [], ◌∷◌, length, get_or, take, drop, Result, Ok, Err, refl, sym, ◌∙◌, ap, subst, arith, IfOk, IfErr, length-take-le, drop-drop, cases_eq, cases_lt, frontier, unless_wrong, LogEntry, Files, Unchanged, block_sectors, Ends, AreOpen, total, BaseImage, NewestRefusal, newest_of, ◌>>=◌, Container, shape_of, listed_records, place_behind, image_fault, slot_offset, parts_with, walked, AreListed, without_copy, FindsBehind, Finds, RefusesAs, parts_of, Walked, LoadRefusal, NoBase, Damaged, DiskFault, NoMemory}
 use Rattle.clfs_base.specs.declared.refusal.NewestRefusal.TheVariants as newest
 use Rattle.clfs_base.specs.Decoding.{GivesNewest}
-use Rattle.clfs_base.specs.Slots.{newest_of}
-use Rattle.clfs_block.specs.Records.{◌>>=◌}
-use Rattle.clfs_recover.specs.Walk.{Container, shape_of, listed_records, place_behind, image_fault, slot_offset, parts_with, walked}
-use Rattle.clfs_recover.specs.Files.{AreListed, without_copy, FindsBehind, Finds}
-use Rattle.clfs_recover.specs.Gathering.{RefusesAs}
-use Rattle.clfs_recover.specs.Opening.{parts_of, IsWalked, IsRefused}
-use Rattle.clfs_recover.specs.declared.opening.Walked.{Walked}
-use Rattle.clfs_recover.specs.declared.refusal.LoadRefusal.{LoadRefusal}
-use Rattle.clfs_recover.specs.declared.refusal.LoadRefusal.TheVariants.{NoBase, Damaged, DiskFault, NoMemory}
+use Rattle.clfs_recover.specs.Opening.{IsWalked, IsRefused}
 
 -- ---- after a base copy
 

@@ -1,15 +1,8 @@
 -- The bases with records: at least those of the rows and the new ones of the records, and no further than both go.
-use Rattle.std.proofs.Common.{◌≡◌, ◌⊎◌, inl, inr, ℕ, suc, ◌+◌, ◌-◌, ◌<◌, ◌≤◌, true, max, List, [], ◌∷◌, get_or, map, refl, sym, subst, arith}
-use Rattle.std.specs.List.{All, Any, AllByRecursion, fold, filter}
-use Rattle.std.proofs.lemmas.Bool.{cases_Bool, cases_lt, eq-eqb, eqb-true}
-use Rattle.std.proofs.lemmas.List.Elements.{All-from_recursion}
-use Rattle.clfs_lsn.specs.Spelling.{BaseFits}
-use Rattle.clfs_lsn.specs.declared.entry.LogEntry.{LogEntry}
+use Rattle.clfs_recover.proofs.Words.{◌≡◌, ◌⊎◌, inl, inr, ℕ, suc, ◌+◌, ◌-◌, ◌<◌, ◌≤◌, true, max, List, [], ◌∷◌, get_or, map, refl, sym, subst, arith, Any, AllByRecursion, fold, filter, cases_Bool, cases_lt, eq-eqb, eqb-true, All-from_recursion, BaseFits, LogEntry, Restart, Row, row_in, base_with}
+use Rattle.std.specs.List.{All}
 use Rattle.clfs_lsn.specs.declared.entry.Kind.{Kind}
-use Rattle.clfs_lsn.specs.declared.entry.Kind.TheVariants.{Plain, Restart}
-use Rattle.clfs_base.specs.declared.image.Row.{Row}
-use Rattle.clfs_base.specs.Spelling.{row_in}
-use Rattle.clfs_recover.specs.Walk.{base_with}
+use Rattle.clfs_lsn.specs.declared.entry.Kind.TheVariants.{Plain}
 use Rattle.clfs_recover.proofs.KeptRecords.{weaker, numbers_of_kept, of_numbers}
 use Rattle.clfs_recover.proofs.Raising.{is_of}
 

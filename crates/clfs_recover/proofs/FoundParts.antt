@@ -1,35 +1,12 @@
 -- What is known of the parts that opening finds: the newest copy is one that a log can have, the records lie in blocks up to the place, and the
 -- copy's bases and its tail fit them.
-use Rattle.std.proofs.Common.{◌≡◌, ℕ, ◌+◌, ◌-◌, ◌*◌, ◌%◌, ◌^◌, ◌<◌, ◌≤◌, Bool, true, false, cond, eqb, ltb, ◌&&◌, ◌||◌, List, [], ◌∷◌, length, Option, Some, None, Result, Ok, Err}
-use Rattle.std.proofs.Common.{refl, sym, ◌∙◌, ap, subst, arith}
-use Rattle.std.specs.List.{position}
-use Rattle.std.specs.Option.{option_map, option_or}
-use Rattle.std.proofs.lemmas.Bool.{ltb-false, or_parts, cond_both}
+use Rattle.clfs_recover.proofs.Words.{◌≡◌, ℕ, ◌+◌, ◌-◌, ◌*◌, ◌%◌, ◌^◌, ◌<◌, ◌≤◌, Bool, true, false, cond, eqb, ltb, ◌&&◌, ◌||◌, List, [], ◌∷◌, length, Option, Some, None, Result, Ok, Err, refl, sym, ◌∙◌, ap, subst, arith, position, option_map, option_or, ltb-false, or_parts, lsn_number, container_of, IsShape, frontier, unless_wrong, unless_ok, LogEntry, Place, Shape, Files, AreReadAsWritten, BaseImage, Row, Front, NewestRefusal, layout_of, row_place, IsImage, row_in, told, image_at, slot_of, front_of, slot_by, copy_in, copy_of, newest_of, before_all, Container, shape_of, listed_records, last_end, place_behind, bases_with, high_row, is_wrong_tail, image_fault, slot_offset, parts_with, AreListed, FindsBehind, Finds, Parts, LoadRefusal, Damaged}
+use Rattle.std.proofs.lemmas.Bool.{cond_both}
 use Rattle.std.proofs.lemmas.List.Sums.{fails_before_first}
-use Rattle.clfs_lsn.specs.Lsn.{lsn_number, container_of}
-use Rattle.clfs_lsn.specs.Size.{IsShape}
-use Rattle.clfs_lsn.specs.Place.{IsClosed, frontier}
-use Rattle.clfs_lsn.specs.Checks.{unless_wrong, unless_ok}
-use Rattle.clfs_lsn.specs.declared.entry.LogEntry.{LogEntry}
-use Rattle.clfs_lsn.specs.declared.place.Place.{Place}
-use Rattle.clfs_lsn.specs.declared.shape.Shape.{Shape}
-use Rattle.clfs_disk.specs.Files.{Files}
-use Rattle.clfs_block.specs.Judging.{AreReadAsWritten}
-use Rattle.clfs_base.specs.declared.image.BaseImage.{BaseImage}
-use Rattle.clfs_base.specs.declared.image.Row.{Row}
-use Rattle.clfs_base.specs.declared.newest.Front.{Front}
-use Rattle.clfs_base.specs.declared.refusal.NewestRefusal.{NewestRefusal}
+use Rattle.clfs_lsn.specs.Place.{IsClosed}
 use Rattle.clfs_base.specs.declared.refusal.NewestRefusal.TheVariants.{NoBase, BadByte}
-use Rattle.clfs_base.specs.Layout.{layout_of, row_place}
-use Rattle.clfs_base.specs.Spelling.{IsImage, row_in, current}
-use Rattle.clfs_base.specs.Checks.{told, image_at}
-use Rattle.clfs_base.specs.Slots.{slot_of, newer_slot, front_of, slot_by, used_slot, copy_in, copy_of, newest_of}
-use Rattle.clfs_model.specs.Storable.{before_all}
-use Rattle.clfs_recover.specs.Walk.{Container, shape_of, listed_records, last_end, place_behind, bases_with, high_row, is_wrong_tail, image_fault, slot_offset, parts_with}
-use Rattle.clfs_recover.specs.Files.{AreListed, FindsBehind, Finds}
-use Rattle.clfs_recover.specs.declared.parts.Parts.{Parts}
-use Rattle.clfs_recover.specs.declared.refusal.LoadRefusal.{LoadRefusal}
-use Rattle.clfs_recover.specs.declared.refusal.LoadRefusal.TheVariants.{Damaged}
+use Rattle.clfs_base.specs.Spelling.{current}
+use Rattle.clfs_base.specs.Slots.{newer_slot, used_slot}
 use Rattle.clfs_recover.proofs.Binding.{bound, one_value}
 use Rattle.clfs_recover.proofs.LaidBlocks.{AreLaid}
 use Rattle.clfs_recover.proofs.LaidContainers.{listed_laid}

@@ -1,17 +1,7 @@
 -- What follows of records whose LSNs rise from one on and stay below another.
-use Rattle.std.proofs.Common.{◌≡◌, ◌⊎◌, inl, inr, ⊎_elim, ℕ, zero, suc, ◌+◌, ◌-◌, ◌%◌, ◌^◌, ◌<◌, ◌≤◌, Bool, ◌&&◌, eqb, List, [], ◌∷◌, length, map}
-use Rattle.std.proofs.Common.{refl, ◌∙◌, ap, subst, arith}
-use Rattle.std.specs.Prelude.{slice_index}
-use Rattle.std.specs.List.{AllByRecursion, filter}
+use Rattle.clfs_recover.proofs.Words.{◌≡◌, ◌⊎◌, inl, inr, ⊎_elim, ℕ, zero, suc, ◌+◌, ◌-◌, ◌%◌, ◌^◌, ◌<◌, ◌≤◌, Bool, ◌&&◌, eqb, List, [], ◌∷◌, length, map, refl, ◌∙◌, ap, subst, arith, slice_index, AllByRecursion, filter, cases_Bool, eqb-true, eqb-false, lsn_number, container_of, offset_of, sequence_of, size, frontier, LogEntry, Place, Shape, before_all, behind, LiesBehind, LieInBlocks}
 use Rattle.std.specs.List.Sorted.{IsStrictlyIncreasing}
-use Rattle.std.proofs.lemmas.Bool.{cases_Bool, eqb-true, eqb-false, and_parts}
-use Rattle.clfs_lsn.specs.Lsn.{lsn_number, container_of, offset_of, sequence_of}
-use Rattle.clfs_lsn.specs.Size.{size}
-use Rattle.clfs_lsn.specs.Place.{frontier}
-use Rattle.clfs_lsn.specs.declared.entry.LogEntry.{LogEntry}
-use Rattle.clfs_lsn.specs.declared.place.Place.{Place}
-use Rattle.clfs_lsn.specs.declared.shape.Shape.{Shape}
-use Rattle.clfs_model.specs.Storable.{before_all, behind, LiesBehind, LieInBlocks}
+use Rattle.std.proofs.lemmas.Bool.{and_parts}
 use Rattle.clfs_recover.proofs.LaidBlocks.{RiseWithin}
 
 -- the lower LSN is at most the higher one

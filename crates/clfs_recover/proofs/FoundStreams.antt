@@ -1,21 +1,12 @@
 -- The streams of rows with bases, by their numbers.
-use Rattle.std.proofs.Common.{◌≡◌, ◌≢◌, ℕ, zero, suc, ◌-◌, ◌<◌, ◌≤◌, not, eqb, ltb, ◌&&◌, List, [], ◌∷◌, length, get_or, Option, Some, None}
-use Rattle.std.proofs.Common.{refl, sym, ◌∙◌, ap, subst, arith}
-use Rattle.std.specs.Prelude.{All, AllPairs, IsSome}
-use Rattle.std.specs.List.{position_or_len}
+use Rattle.clfs_recover.proofs.Words.{◌≡◌, ◌≢◌, ℕ, zero, suc, ◌-◌, ◌<◌, ◌≤◌, not, eqb, ltb, ◌&&◌, List, [], ◌∷◌, length, get_or, Option, Some, None, refl, sym, ◌∙◌, ap, subst, arith, All, position_or_len, ne_eqb, le-ltb, position_or_len_is, slice_get-get_or, pass_check, Row, row_in, State, Stream, base_of, name_fault, streams_with}
+use Rattle.std.specs.Prelude.{AllPairs, IsSome}
 use Rattle.std.specs.Option.{option_map_or}
-use Rattle.std.proofs.lemmas.Bool.{ne_eqb, le-ltb, and_left, not_from_true}
-use Rattle.std.proofs.lemmas.List.Sums.{AllPass-from_list_all, position_or_len_is}
-use Rattle.std.proofs.lemmas.Option.{slice_get-get_or}
-use Rattle.clfs_lsn.specs.Checks.{pass_check}
+use Rattle.std.proofs.lemmas.Bool.{and_left, not_from_true}
+use Rattle.std.proofs.lemmas.List.Sums.{AllPass-from_list_all}
 use Rattle.clfs_lsn.specs.Names.{is_name_byte}
-use Rattle.clfs_base.specs.declared.image.Row.{Row}
-use Rattle.clfs_base.specs.Spelling.{IsName, row_in, AreRows}
-use Rattle.clfs_model.specs.declared.state.State.{State}
-use Rattle.clfs_lsn.specs.declared.stream.Stream.{Stream}
-use Rattle.clfs_model.specs.State.{stream_at, base_of}
-use Rattle.clfs_model.specs.Refusals.{name_fault}
-use Rattle.clfs_base.specs.Streams.{streams_with}
+use Rattle.clfs_base.specs.Spelling.{IsName, AreRows}
+use Rattle.clfs_model.specs.State.{stream_at}
 
 -- the stream of a row with a base
 abbrev pub stream_of : List Row → List ℕ → ℕ → Stream

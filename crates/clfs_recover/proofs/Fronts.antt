@@ -1,14 +1,8 @@
 -- The records at the front of a block make a block.
-use Rattle.std.proofs.Common.{◌≡◌, ℕ, zero, suc, ◌+◌, ◌≤◌, List, [], ◌∷◌, ◌++◌, length, take, drop, sym, ◌∙◌, ap, subst, arith, length-append, take-append-drop}
-use Rattle.std.specs.List.{flat_map}
-use Rattle.std.proofs.lemmas.List.{length-take-le}
+use Rattle.clfs_recover.proofs.Words.{◌≡◌, ℕ, zero, suc, ◌+◌, ◌≤◌, List, [], ◌∷◌, ◌++◌, length, take, drop, sym, ◌∙◌, ap, subst, arith, length-append, take-append-drop, flat_map, length-take-le, record_bytes, LogEntry, Shape, FitFrom, HasRecords}
 use Rattle.std.proofs.lemmas.List.Concat.{flat_map-append}
 use Rattle.clfs_lsn.specs.Format.{open_gate}
-use Rattle.clfs_lsn.specs.Spelling.{record_bytes}
-use Rattle.clfs_lsn.specs.declared.entry.LogEntry.{LogEntry}
-use Rattle.clfs_lsn.specs.declared.shape.Shape.{Shape}
 use Rattle.clfs_block.specs.Frame.{SpellsBlock}
-use Rattle.clfs_recover.specs.Stored.{FitFrom, HasRecords}
 
 front_fits : (streams lsn n : ℕ) (entries : List LogEntry) → FitFrom lsn streams entries → FitFrom lsn streams (take n entries)
 front_fits streams lsn zero entries fit = tt

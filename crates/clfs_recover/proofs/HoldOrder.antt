@@ -1,12 +1,6 @@
 -- The hold of a log is the least of what it needs.
-use Rattle.std.proofs.Common.{◌≡◌, ℕ, ◌<◌, ◌≤◌, min, true, List, [], ◌∷◌, ◌++◌, arith}
-use Rattle.std.specs.List.{AllByRecursion, fold}
-use Rattle.std.specs.Option.{option_to_list}
-use Rattle.clfs_lsn.specs.Place.{frontier}
-use Rattle.clfs_lsn.specs.declared.entry.LogEntry.{LogEntry}
-use Rattle.clfs_model.specs.declared.state.State.{State}
-use Rattle.clfs_model.specs.Live.{is_live, live_lsns, hold}
-use Rattle.clfs_lsn.specs.Heads.{least_or}
+use Rattle.clfs_recover.proofs.Words.{◌≡◌, ℕ, ◌<◌, ◌≤◌, true, List, [], ◌∷◌, ◌++◌, arith, AllByRecursion, fold, option_to_list, frontier, LogEntry, State, is_live, live_lsns, hold, least_or}
+use Rattle.std.proofs.Common.{min}
 use Rattle.clfs_recover.proofs.KeptRecords.{weaker, numbers_of_kept, of_numbers}
 
 least_first : (n : ℕ) (ns : List ℕ) → fold min n ns ≤ n

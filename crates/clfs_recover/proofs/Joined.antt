@@ -1,8 +1,5 @@
 -- Records of some blocks with those of others after them.
-use Rattle.std.proofs.Common.{◌≡◌, List, [], ◌++◌, Result, Ok, Err, refl, sym, ap, append_assoc}
-use Rattle.clfs_lsn.specs.declared.entry.LogEntry.{LogEntry}
-use Rattle.clfs_block.specs.Records.{◌>>=◌}
-use Rattle.clfs_recover.specs.declared.refusal.LoadRefusal.{LoadRefusal}
+use Rattle.clfs_recover.proofs.Words.{◌≡◌, List, [], ◌++◌, Result, Ok, Err, refl, sym, ap, append_assoc, LogEntry, ◌>>=◌, LoadRefusal}
 
 abbrev pub Records : Type 0
 Records = Result (List LogEntry) LoadRefusal

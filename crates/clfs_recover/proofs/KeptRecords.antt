@@ -1,8 +1,5 @@
 -- Records of which some pass a test: what is so of these, of all, and of their numbers.
-use Rattle.std.proofs.Common.{◌≡◌, inl, inr, ℕ, Bool, true, false, List, [], ◌∷◌, map, refl, ap, ◌∙◌}
-use Rattle.std.specs.List.{AllByRecursion, filter}
-use Rattle.std.proofs.lemmas.Bool.{cases_Bool}
-use Rattle.clfs_lsn.specs.declared.entry.LogEntry.{LogEntry}
+use Rattle.clfs_recover.proofs.Words.{◌≡◌, inl, inr, ℕ, Bool, true, false, List, [], ◌∷◌, map, refl, ap, ◌∙◌, AllByRecursion, filter, cases_Bool, LogEntry}
 
 -- a test doesn't fail where it passes
 clash : {A : Type 0} (b : Bool) → b ≡ true → b ≡ false → A

@@ -1,22 +1,8 @@
 -- Files in which opening finds a log: its base copy alone, in its slot, and the blocks of each container with a closed gate after them.
-use Rattle.std.proofs.Common.{◌≡◌, ◌≢◌, inr, ℕ, zero, suc, ◌-◌, ◌*◌, ◌<◌, ◌≤◌, Bool, true, false, cond, eqb, List, [], ◌∷◌, ◌++◌, length, get_or, take, drop}
-use Rattle.std.proofs.Common.{replicate, Result, Ok, refl, sym, ◌∙◌, ap, subst, arith, length-append}
-use Rattle.std.proofs.lemmas.List.{append-nil, length-replicate, get_or-replicate, get_or_append_left, get_or_at, get_or_past, take_at, take_all, drop_at, drop-drop, length-take-le}
-use Rattle.std.proofs.lemmas.List.Elements.{recursion_from_All}
-use Rattle.std.specs.List.{AllByRecursion}
-use Rattle.std.proofs.lemmas.Bool.{eq-eqb, ne_eqb}
-use Rattle.clfs_disk.specs.Files.{Files}
-use Rattle.clfs_container.specs.OpenBlocks.{block_sectors, BeginsWith, Opens, AreWhole, total}
-use Rattle.clfs_base.specs.declared.image.BaseImage.{BaseImage}
-use Rattle.clfs_base.specs.declared.newest.Front.{Front}
-use Rattle.clfs_base.specs.declared.refusal.NewestRefusal.{NewestRefusal}
-use Rattle.clfs_base.specs.Spelling.{IsImage, spelled}
-use Rattle.clfs_base.specs.Checks.{image_at}
-use Rattle.clfs_base.specs.Slots.{front_of, slot_by, slot_of, copy_in, copy_of, newest_of}
-use Rattle.clfs_recover.specs.Files.{Finds}
-use Rattle.clfs_recover.specs.Stored.{HaveBlocks, HasLog}
-use Rattle.clfs_recover.specs.KnownLogs.{LieIn, IsLogOf}
-use Rattle.clfs_recover.specs.declared.parts.Parts.{Parts}
+use Rattle.clfs_recover.proofs.Words.{◌≡◌, ◌≢◌, inr, ℕ, zero, suc, ◌-◌, ◌*◌, ◌<◌, ◌≤◌, Bool, true, false, cond, eqb, List, [], ◌∷◌, ◌++◌, length, get_or, take, drop, Result, Ok, refl, sym, ◌∙◌, ap, subst, arith, length-append, append-nil, get_or_append_left, get_or_past, take_at, take_all, drop_at, drop-drop, length-take-le, recursion_from_All, AllByRecursion, eq-eqb, ne_eqb, Files, block_sectors, BeginsWith, Opens, AreWhole, total, BaseImage, Front, NewestRefusal, IsImage, image_at, front_of, slot_by, slot_of, copy_in, copy_of, newest_of, Finds, HaveBlocks, HasLog, LieIn, IsLogOf, Parts}
+use Rattle.std.proofs.Common.{replicate}
+use Rattle.std.proofs.lemmas.List.{length-replicate, get_or-replicate, get_or_at}
+use Rattle.clfs_base.specs.Spelling.{spelled}
 use Rattle.clfs_recover.proofs.Meanings.{WholeAreOpen, stored_found}
 
 -- ---- the blocks of a container

@@ -1,17 +1,6 @@
 -- Records that were read from blocks lie in blocks one after the other, as those of a state that files hold.
-use Rattle.std.proofs.Common.{◌≡◌, ◌⊎◌, inl, inr, ℕ, ◌+◌, ◌*◌, ◌/◌, ◌%◌, ◌<◌, ◌≤◌, List, [], ◌∷◌, ◌++◌, length, refl, sym, ◌∙◌, ap, subst, arith}
-use Rattle.std.specs.List.{AllByRecursion}
-use Rattle.std.proofs.lemmas.Bool.{eq-eqb, ne_eqb}
-use Rattle.clfs_lsn.specs.Lsn.{lsn_number, container_of, offset_of, sequence_of}
-use Rattle.clfs_lsn.specs.Size.{IsShape, size, sectors}
-use Rattle.clfs_lsn.specs.Place.{IsWithin, begun, block_end}
-use Rattle.clfs_lsn.specs.Spelling.{FitsAt}
-use Rattle.clfs_lsn.specs.declared.entry.LogEntry.{LogEntry}
-use Rattle.clfs_lsn.specs.declared.place.Place.{Place}
-use Rattle.clfs_lsn.specs.declared.shape.Shape.{Shape}
-use Rattle.clfs_container.specs.OpenBlocks.{block_sectors}
-use Rattle.clfs_model.specs.Storable.{behind, behind_all, LiesBehind, LieInBlocks}
-use Rattle.clfs_recover.specs.Stored.{FitFrom}
+use Rattle.clfs_recover.proofs.Words.{◌≡◌, ◌⊎◌, inl, inr, ℕ, ◌+◌, ◌*◌, ◌/◌, ◌%◌, ◌<◌, ◌≤◌, List, [], ◌∷◌, ◌++◌, length, refl, sym, ◌∙◌, ap, subst, arith, AllByRecursion, eq-eqb, ne_eqb, lsn_number, container_of, offset_of, sequence_of, IsShape, size, sectors, IsWithin, block_end, FitsAt, LogEntry, Place, Shape, block_sectors, behind, behind_all, LiesBehind, LieInBlocks, FitFrom}
+use Rattle.clfs_lsn.specs.Place.{begun}
 use Rattle.clfs_recover.proofs.Containers.{left_here}
 use Rattle.clfs_recover.proofs.ReadBlocks.{taken_bytes, HasRead}
 

@@ -1,23 +1,6 @@
 -- The records that the walk meets in containers lie in blocks one after the other.
-use Rattle.std.proofs.Common.{◌≡◌, inl, inr, ℕ, ◌+◌, ◌-◌, ◌*◌, ◌/◌, ◌%◌, ◌<◌, ◌≤◌, Bool, true, false, cond, leb, List, [], ◌∷◌, ◌++◌, length, take, drop, Result, Ok, Err}
-use Rattle.std.proofs.Common.{refl, sym, ◌∙◌, ap, subst, arith, append_assoc}
-use Rattle.std.proofs.lemmas.List.{append-nil, length-take-le, get_or-take}
-use Rattle.clfs_lsn.specs.Lsn.{lsn_number}
-use Rattle.clfs_lsn.specs.Size.{IsShape}
-use Rattle.clfs_lsn.specs.declared.entry.LogEntry.{LogEntry}
-use Rattle.clfs_lsn.specs.declared.place.Place.{Place}
-use Rattle.clfs_lsn.specs.declared.shape.Shape.{Shape}
-use Rattle.clfs_disk.specs.Files.{Files}
-use Rattle.clfs_container.specs.OpenBlocks.{block_sectors, Opens, total}
-use Rattle.clfs_block.specs.Checks.{frame_at}
-use Rattle.clfs_block.specs.Judging.{AreReadAsWritten}
-use Rattle.clfs_block.specs.declared.head.BlockHead.{BlockHead}
-use Rattle.clfs_block.specs.declared.head.BlockRefusal.{BlockRefusal}
+use Rattle.clfs_recover.proofs.Words.{◌≡◌, inl, inr, ℕ, ◌+◌, ◌-◌, ◌*◌, ◌/◌, ◌%◌, ◌<◌, ◌≤◌, Bool, true, false, cond, leb, List, [], ◌∷◌, ◌++◌, length, take, drop, Result, Ok, Err, refl, sym, ◌∙◌, ap, subst, arith, append_assoc, append-nil, length-take-le, get_or-take, lsn_number, IsShape, LogEntry, Place, Shape, Files, block_sectors, Opens, total, frame_at, AreReadAsWritten, BlockHead, BlockRefusal, behind_all, ◌>>=◌, told_as, block_records, Container, damage_at, end_at, blocks_end, blocks_records, container_records, listed_records, last_end, AreListed}
 use Rattle.clfs_block.specs.declared.head.BlockRefusal.TheVariants as blocks
-use Rattle.clfs_model.specs.Storable.{behind_all}
-use Rattle.clfs_block.specs.Records.{◌>>=◌, told_as, block_records}
-use Rattle.clfs_recover.specs.Walk.{Container, damage_at, end_at, blocks_end, blocks_records, container_records, listed_records, last_end}
-use Rattle.clfs_recover.specs.Files.{AreListed}
 use Rattle.clfs_recover.proofs.Binding.{read, bound, one_value, told_value}
 use Rattle.clfs_recover.proofs.Listing.{end_behind, ends_on}
 use Rattle.clfs_recover.proofs.ReadBlocks.{ReadsFit, block_read}

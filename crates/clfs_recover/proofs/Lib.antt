@@ -40,3 +40,4 @@ pub mod ChangedCopies
 pub mod LowContainers
 pub mod RecordPlaces
 pub mod WholeFiles
+mod Words

@@ -1,19 +1,5 @@
 -- The listed containers as the walk takes them in, one after the other, whatever the disk told.
-use Rattle.std.proofs.Common.{◌≡◌, ℕ, suc, zero, ◌+◌, ◌<◌, ◌≤◌, List, [], ◌∷◌, ◌++◌, length, get_or, take, Ok, refl, sym, ◌∙◌, ap, subst, arith, append_assoc, length-append}
-use Rattle.std.proofs.lemmas.List.{append-nil, length-take-le, take_all, take_more}
-use Rattle.std.proofs.lemmas.List.Elements.{All-nil, All-push}
-use Rattle.clfs_lsn.specs.declared.entry.LogEntry.{LogEntry}
-use Rattle.clfs_lsn.specs.declared.shape.Shape.{Shape}
-use Rattle.clfs_base.specs.declared.image.Row.{Row}
-use Rattle.clfs_disk.specs.Files.{Files}
-use Rattle.clfs_container.specs.OpenBlocks.{AreOpen, AreWhole, total}
-use Rattle.clfs_recover.specs.Walk.{Container, container_records, listed_records, last_end}
-use Rattle.clfs_recover.specs.Files.{AreListed}
-use Rattle.clfs_recover.specs.Stored.{HaveBlocks, stored_in, stored_records, stored_end}
-use Rattle.clfs_recover.specs.KnownLogs.{LieIn}
-use Rattle.clfs_recover.specs.Gathering.{HasTaken, TakesContainer, TakesListed, RefusesAs}
-use Rattle.clfs_recover.specs.declared.refusal.LoadRefusal.{LoadRefusal}
-use Rattle.clfs_recover.specs.declared.refusal.LoadRefusal.TheVariants.{NoBase, Damaged, DiskFault, NoMemory}
+use Rattle.clfs_recover.proofs.Words.{◌≡◌, ℕ, suc, zero, ◌+◌, ◌<◌, ◌≤◌, List, [], ◌∷◌, ◌++◌, length, get_or, take, Ok, refl, sym, ◌∙◌, ap, subst, arith, append_assoc, length-append, append-nil, length-take-le, take_all, take_more, All-nil, All-push, LogEntry, Shape, Row, Files, AreOpen, AreWhole, total, Container, container_records, listed_records, last_end, AreListed, HaveBlocks, stored_in, stored_records, stored_end, LieIn, HasTaken, TakesContainer, TakesListed, RefusesAs, LoadRefusal, NoBase, Damaged, DiskFault, NoMemory}
 use Rattle.clfs_recover.proofs.Joined.{Records, joined, joined_nil, joined_assoc, AreBoth, both_there}
 use Rattle.clfs_recover.proofs.Meanings.{OneList, WholeAreOpen, whole_is}
 

@@ -1,30 +1,9 @@
 -- A log whose copy lists its low containers no more.
-use Rattle.std.proofs.Common.{◌≡◌, inl, inr, ℕ, zero, suc, ◌+◌, ◌-◌, ◌*◌, ◌<◌, ◌≤◌, Bool, true, false, cond, leb, List, [], ◌∷◌, ◌++◌, length, get_or, take, drop, map}
-use Rattle.std.proofs.Common.{Some, None, Ok, refl, sym, ◌∙◌, ap, subst, arith, length-drop, take-append-drop}
-use Rattle.std.specs.Prelude.{All}
-use Rattle.std.specs.List.{AllByRecursion, filter}
-use Rattle.std.specs.Option.{option_to_list}
-use Rattle.std.proofs.lemmas.Bool.{le-leb, lt-leb, leb-true, eq-eqb}
-use Rattle.std.proofs.lemmas.List.{length-take, length-map, drop-map, get_or-map, ext_get_or}
-use Rattle.std.proofs.lemmas.List.Elements.{All-drop, All-take, All-from_recursion, recursion_from_All, filter-append}
-use Rattle.clfs_lsn.specs.Lsn.{lsn_number, container_of}
-use Rattle.clfs_lsn.specs.Place.{frontier}
-use Rattle.clfs_lsn.specs.Spelling.{FitsAt}
-use Rattle.clfs_lsn.specs.declared.entry.LogEntry.{LogEntry}
-use Rattle.clfs_container.specs.OpenBlocks.{total}
-use Rattle.clfs_block.specs.Judging.{AreReadAsWritten}
-use Rattle.clfs_base.specs.declared.image.BaseImage.{BaseImage}
-use Rattle.clfs_base.specs.Spelling.{IsImage, row_in}
-use Rattle.clfs_model.specs.declared.state.State.{State}
-use Rattle.clfs_lsn.specs.declared.stream.Stream.{Stream}
-use Rattle.clfs_model.specs.State.{base_of}
-use Rattle.clfs_model.specs.Live.{is_live, live_lsns, hold}
-use Rattle.clfs_lsn.specs.Heads.{least_or}
+use Rattle.clfs_recover.proofs.Words.{◌≡◌, inl, inr, ℕ, zero, suc, ◌+◌, ◌-◌, ◌*◌, ◌<◌, ◌≤◌, Bool, true, false, cond, leb, List, [], ◌∷◌, ◌++◌, length, get_or, take, drop, map, Some, None, Ok, refl, sym, ◌∙◌, ap, subst, arith, length-drop, take-append-drop, All, AllByRecursion, filter, option_to_list, le-leb, lt-leb, leb-true, eq-eqb, length-take, length-map, get_or-map, ext_get_or, All-take, All-from_recursion, recursion_from_All, filter-append, lsn_number, container_of, frontier, FitsAt, LogEntry, total, AreReadAsWritten, BaseImage, IsImage, row_in, State, Stream, base_of, is_live, live_lsns, hold, least_or, streams_with, IsLogWith, stored_state, file_at_end, stored_records, stored_end, stored_place, shape_of, base_with, bases_with}
+use Rattle.std.proofs.lemmas.List.{drop-map}
+use Rattle.std.proofs.lemmas.List.Elements.{All-drop}
 use Rattle.clfs_model.specs.Flush.{IsSame}
-use Rattle.clfs_base.specs.Streams.{streams_with}
-use Rattle.clfs_recover.specs.Logs.{IsLogWith, stored_state, file_at_end, from_container, records_from_container}
-use Rattle.clfs_recover.specs.Stored.{stored_records, stored_end, stored_place}
-use Rattle.clfs_recover.specs.Walk.{shape_of, base_with, bases_with}
+use Rattle.clfs_recover.specs.Logs.{from_container, records_from_container}
 use Rattle.clfs_recover.proofs.FoundBases.{base_low, new_base_of, new_bases, greatest_first, greatest_above, greatest_below, IsFromSome, from_some}
 use Rattle.clfs_recover.proofs.FoundRecords.{all_below, all_above}
 use Rattle.clfs_recover.proofs.FoundStreams.{base_there}

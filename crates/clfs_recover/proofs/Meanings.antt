@@ -1,30 +1,7 @@
 -- Opening finds one thing in files, whatever stands outside the open blocks.
-use Rattle.std.proofs.Common.{◌≡◌, ◌≢◌, ⊎_elim, ℕ, ◌+◌, ◌-◌, ◌*◌, ◌/◌, ◌<◌, ◌≤◌, Bool, true, false, cond, not, eqb, map, List, [], ◌∷◌, ◌++◌, length, get_or, drop}
-use Rattle.std.proofs.Common.{Option, Some, None, Result, Ok, Err, refl, sym, ◌∙◌, ap, subst, arith}
-use Rattle.std.proofs.lemmas.List.{length-take-le}
-use Rattle.std.proofs.lemmas.Bool.{le-leb, lt-leb, ne_eqb, cases_lt}
-use Rattle.clfs_lsn.specs.Lsn.{lsn_number}
-use Rattle.clfs_lsn.specs.Place.{frontier}
-use Rattle.clfs_lsn.specs.Checks.{unless_wrong, pass_guard}
-use Rattle.clfs_lsn.specs.declared.entry.LogEntry.{LogEntry}
-use Rattle.clfs_lsn.specs.declared.place.Place.{Place}
-use Rattle.clfs_lsn.specs.declared.shape.Shape.{Shape}
-use Rattle.clfs_disk.specs.Files.{Files}
-use Rattle.clfs_container.specs.OpenBlocks.{block_sectors, Opens, EndsCleanly, AreOpen, AreWhole, total}
-use Rattle.clfs_block.specs.Checks.{frame_at}
+use Rattle.clfs_recover.proofs.Words.{◌≡◌, ◌≢◌, ⊎_elim, ℕ, ◌+◌, ◌-◌, ◌*◌, ◌/◌, ◌<◌, ◌≤◌, Bool, true, false, cond, not, eqb, map, List, [], ◌∷◌, ◌++◌, length, get_or, drop, Option, Some, None, Result, Ok, Err, refl, sym, ◌∙◌, ap, subst, arith, length-take-le, le-leb, lt-leb, ne_eqb, cases_lt, lsn_number, frontier, unless_wrong, pass_guard, LogEntry, Place, Shape, Files, block_sectors, Opens, EndsCleanly, AreOpen, AreWhole, total, frame_at, BaseImage, NewestRefusal, newest_of, State, ◌>>=◌, told_as, block_records, Container, shape_of, damage_at, end_at, blocks_end, blocks_records, container_records, listed_records, last_end, walked, image_fault, slot_offset, AreListed, without_copy, FindsBehind, Finds, state_of, StandsFor, HaveBlocks, HasLog, stored_in, stored_records, stored_end, stored_place, stored_parts, Parts, LoadRefusal, NoBase, Damaged}
 use Rattle.clfs_block.specs.declared.head.BlockRefusal.TheVariants as blocks
-use Rattle.clfs_base.specs.declared.image.BaseImage.{BaseImage}
-use Rattle.clfs_base.specs.declared.refusal.NewestRefusal.{NewestRefusal}
-use Rattle.clfs_base.specs.Slots.{newest_of}
-use Rattle.clfs_model.specs.declared.state.State.{State}
-use Rattle.clfs_block.specs.Records.{◌>>=◌, told_as, block_records}
-use Rattle.clfs_recover.specs.Walk.{Container, shape_of, damage_at, end_at, blocks_end, blocks_records, container_records, listed_records, last_end, walked}
-use Rattle.clfs_recover.specs.Walk.{image_fault, slot_offset}
-use Rattle.clfs_recover.specs.Files.{AreListed, without_copy, FindsBehind, Finds, state_of, StandsFor, IsDamaged, HasNoBase}
-use Rattle.clfs_recover.specs.Stored.{HaveBlocks, HasLog, stored_in, stored_records, stored_end, stored_place, stored_parts}
-use Rattle.clfs_recover.specs.declared.parts.Parts.{Parts}
-use Rattle.clfs_recover.specs.declared.refusal.LoadRefusal.{LoadRefusal}
-use Rattle.clfs_recover.specs.declared.refusal.LoadRefusal.TheVariants.{NoBase, Damaged}
+use Rattle.clfs_recover.specs.Files.{IsDamaged, HasNoBase}
 use Rattle.clfs_recover.proofs.Finding.{lists_exist}
 
 abbrev found_is : Parts → Result Parts LoadRefusal

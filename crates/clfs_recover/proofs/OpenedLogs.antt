@@ -1,24 +1,6 @@
 -- A log that was walked after a base copy, whatever the disk told, and that it is the one that opening finds where the disk tells.
-use Rattle.std.proofs.Common.{◌≡◌, ℕ, ◌+◌, ◌-◌, ◌≤◌, List, [], length, Some, None, Result, Ok, Err, refl, sym, ◌∙◌, ap, subst}
-use Rattle.std.specs.Prelude.{IfOk}
-use Rattle.clfs_lsn.specs.Place.{frontier}
-use Rattle.clfs_lsn.specs.declared.entry.LogEntry.{LogEntry}
-use Rattle.clfs_lsn.specs.declared.place.Place.{Place}
-use Rattle.clfs_disk.specs.Files.{Files, Unchanged}
-use Rattle.clfs_disk.specs.State.{DiskState, TellsContents}
-use Rattle.clfs_base.specs.declared.image.BaseImage.{BaseImage}
-use Rattle.clfs_base.specs.Spelling.{IsImage}
-use Rattle.clfs_base.specs.Slots.{newest_of}
-use Rattle.clfs_recover.specs.Walk.{Container, shape_of, slot_offset, image_fault, walked}
-use Rattle.clfs_recover.specs.Files.{AreListed, Finds}
-use Rattle.clfs_recover.specs.Stored.{HaveBlocks, HasLog, stored_place}
-use Rattle.clfs_recover.specs.Gathering.{TakesListed}
-use Rattle.clfs_recover.specs.KnownLogs.{IsOpenedFrom}
-use Rattle.clfs_recover.specs.Opening.{parts_of, IsWalkedLog}
-use Rattle.clfs_recover.specs.declared.opening.Walked.{Walked}
-use Rattle.clfs_recover.specs.declared.parts.Parts.{Parts}
-use Rattle.clfs_recover.specs.declared.refusal.LoadRefusal.{LoadRefusal}
-use Rattle.clfs_recover.specs.declared.refusal.LoadRefusal.TheVariants.{Damaged}
+use Rattle.clfs_recover.proofs.Words.{◌≡◌, ℕ, ◌+◌, ◌-◌, ◌≤◌, List, [], length, Some, None, Result, Ok, Err, refl, sym, ◌∙◌, ap, subst, IfOk, frontier, LogEntry, Place, Files, Unchanged, DiskState, TellsContents, BaseImage, IsImage, newest_of, Container, shape_of, slot_offset, image_fault, walked, AreListed, Finds, HaveBlocks, HasLog, stored_place, TakesListed, IsOpenedFrom, parts_of, Walked, Parts, LoadRefusal, Damaged}
+use Rattle.clfs_recover.specs.Opening.{IsWalkedLog}
 use Rattle.clfs_recover.proofs.Meanings.{OneList, WholeAreOpen, stored_fault, stored_found}
 
 module _ (has : List LogEntry → Type 0) (told : Type 0) (files : Files) (slot : ℕ) (image : BaseImage) where

@@ -1,15 +1,6 @@
 -- The records and the bases of parts that opening finds, place by place.
-use Rattle.std.proofs.Common.{◌≡◌, ◌⊎◌, ℕ, ◌+◌, ◌-◌, ◌<◌, ◌≤◌, length, get_or, sym, subst, arith}
-use Rattle.std.specs.Prelude.{All, Any}
-use Rattle.std.proofs.lemmas.List.Elements.{All-from_recursion, All-weaker}
-use Rattle.clfs_lsn.specs.Lsn.{lsn_number, container_of}
-use Rattle.clfs_lsn.specs.Place.{frontier}
-use Rattle.clfs_lsn.specs.Spelling.{BaseFits, FitsAt}
-use Rattle.clfs_lsn.specs.declared.entry.Kind.TheVariants.{Restart}
-use Rattle.clfs_lsn.specs.declared.entry.LogEntry.{LogEntry}
-use Rattle.clfs_base.specs.declared.image.BaseImage.{BaseImage}
-use Rattle.clfs_base.specs.Spelling.{row_in}
-use Rattle.clfs_recover.specs.declared.parts.Parts.{Parts}
+use Rattle.clfs_recover.proofs.Words.{◌≡◌, ◌⊎◌, ℕ, ◌+◌, ◌-◌, ◌<◌, ◌≤◌, length, get_or, sym, subst, arith, All, All-from_recursion, All-weaker, lsn_number, container_of, frontier, BaseFits, FitsAt, Restart, LogEntry, BaseImage, row_in, Parts}
+use Rattle.std.specs.Prelude.{Any}
 use Rattle.clfs_recover.proofs.FoundBases.{base_from_row, base_from_records, base_of_some}
 use Rattle.clfs_recover.proofs.FoundParts.{AreOpened}
 use Rattle.clfs_recover.proofs.KeptRecords.{from_both}

@@ -1,9 +1,6 @@
 -- What a piece that was read ahead has of its file.
-use Rattle.std.proofs.Common.{◌≡◌, inl, inr, ⊎_elim, ℕ, ◌+◌, ◌-◌, ◌<◌, ◌≤◌, List, length, take, drop, Result, Ok, Err, sym, ◌∙◌, ap, subst, arith, length-drop}
-use Rattle.std.proofs.lemmas.List.{drop-take, drop-drop, drop_all, take_all, length-take}
-use Rattle.std.specs.Prelude.{OnOk}
-use Rattle.std.proofs.lemmas.Bool.{cases_lt}
-use Rattle.clfs_recover.specs.Fronts.{IsFrontOf, Piece, Shows, Reaches}
+use Rattle.clfs_recover.proofs.Words.{◌≡◌, inl, inr, ⊎_elim, ℕ, ◌+◌, ◌-◌, ◌<◌, ◌≤◌, List, length, take, drop, Result, Ok, Err, sym, ◌∙◌, ap, subst, arith, length-drop, drop-take, drop-drop, drop_all, take_all, length-take, OnOk, cases_lt, IsFrontOf, Piece, Shows}
+use Rattle.clfs_recover.specs.Fronts.{Reaches}
 
 -- the bytes of a piece from a place on are a front of those of its file
 pub shown_front : (file : List ℕ) (piece : Piece) (at least : ℕ) → Shows file piece → Reaches at least piece

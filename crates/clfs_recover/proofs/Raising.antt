@@ -1,17 +1,6 @@
 -- The bases of streams, record by record.
-use Rattle.std.proofs.Common.{◌≡◌, ◌≢◌, ⊎_elim, ℕ, ◌+◌, ◌-◌, ◌<◌, ◌≤◌, Bool, true, false, cond, eqb, max, List, [], ◌∷◌, ◌++◌, length, get_or, set, map}
-use Rattle.std.proofs.Common.{refl, sym, ◌∙◌, ap, arith, get_or-set_other, get_or-set_same, length-set}
-use Rattle.std.specs.List.{fold, filter}
-use Rattle.std.proofs.lemmas.List.{ext_get_or, map-append, length-map, get_or-map}
-use Rattle.std.proofs.lemmas.List.Elements.{filter-append}
-use Rattle.std.proofs.lemmas.List.Sums.{fold-append}
-use Rattle.std.proofs.lemmas.List.FromFn.{get_or-map-range_with_len, length-map-range_with_len}
-use Rattle.std.proofs.lemmas.Bool.{cases_eq, eq-eqb, ne_eqb}
-use Rattle.clfs_lsn.specs.declared.entry.LogEntry.{LogEntry}
-use Rattle.clfs_base.specs.declared.image.Row.{Row}
-use Rattle.clfs_base.specs.Spelling.{row_in}
-use Rattle.clfs_recover.specs.Walk.{base_with, bases_with}
-use Rattle.clfs_recover.specs.Bases.{raised}
+use Rattle.clfs_recover.proofs.Words.{◌≡◌, ◌≢◌, ⊎_elim, ℕ, ◌+◌, ◌-◌, ◌<◌, ◌≤◌, Bool, true, false, cond, eqb, max, List, [], ◌∷◌, ◌++◌, length, get_or, set, map, refl, sym, ◌∙◌, ap, arith, get_or-set_other, get_or-set_same, length-set, fold, filter, ext_get_or, map-append, length-map, get_or-map, filter-append, fold-append, length-map-range_with_len, cases_eq, eq-eqb, ne_eqb, LogEntry, Row, row_in, base_with, bases_with, raised}
+use Rattle.std.proofs.lemmas.List.FromFn.{get_or-map-range_with_len}
 
 new_base_of : LogEntry → ℕ
 new_base_of entry = entry.new_base

@@ -1,24 +1,8 @@
 -- What is read of blocks and of containers, part by part.
-use Rattle.std.proofs.Common.{◌≡◌, ℕ, zero, suc, ◌+◌, ◌*◌, ◌^◌, ◌<◌, ◌≤◌, eqb, ltb, ◌||◌, List, [], ◌∷◌, ◌++◌, length, drop}
-use Rattle.std.proofs.Common.{Option, None, Result, Ok, refl, sym, ◌∙◌, ap, subst, arith, append_assoc}
-use Rattle.std.proofs.lemmas.Bool.{ltb-false, le-ltb, or_parts, or_from}
-use Rattle.std.proofs.lemmas.List.{append-nil}
-use Rattle.clfs_lsn.specs.Lsn.{lsn_number}
-use Rattle.clfs_lsn.specs.Size.{IsShape, size}
-use Rattle.clfs_lsn.specs.Checks.{unless_wrong, unless_ok, no_fault, pass_check, guard_ok, pass_guard}
-use Rattle.clfs_lsn.specs.Spelling.{Header, header_of, header_fault, filling_fault, entry_of, record_at}
-use Rattle.clfs_lsn.specs.declared.entry.LogEntry.{LogEntry}
-use Rattle.clfs_lsn.specs.declared.shape.Shape.{Shape}
-use Rattle.clfs_container.specs.OpenBlocks.{total}
-use Rattle.clfs_block.specs.Frame.{place_of, payload_of}
-use Rattle.clfs_block.specs.Checks.{frame_at, rest_at}
-use Rattle.clfs_block.specs.Judging.{AreReadAsWritten}
-use Rattle.clfs_block.specs.declared.head.BlockHead.{BlockHead}
-use Rattle.clfs_block.specs.declared.head.BlockRefusal.{BlockRefusal}
+use Rattle.clfs_recover.proofs.Words.{◌≡◌, ℕ, zero, suc, ◌+◌, ◌*◌, ◌^◌, ◌<◌, ◌≤◌, eqb, ltb, ◌||◌, List, [], ◌∷◌, ◌++◌, length, drop, Option, None, Result, Ok, refl, sym, ◌∙◌, ap, subst, arith, append_assoc, ltb-false, le-ltb, or_parts, or_from, append-nil, lsn_number, IsShape, size, unless_wrong, unless_ok, pass_check, pass_guard, record_at, LogEntry, Shape, total, place_of, payload_of, frame_at, rest_at, AreReadAsWritten, BlockHead, BlockRefusal, ◌>>=◌, told_as, records_from, block_records, damage_at, FitFrom, stored_in, stored_records, stored_end}
+use Rattle.clfs_lsn.specs.Checks.{no_fault, guard_ok}
+use Rattle.clfs_lsn.specs.Spelling.{Header, header_of, header_fault, filling_fault, entry_of}
 use Rattle.clfs_block.specs.declared.head.BlockRefusal.TheVariants as blocks
-use Rattle.clfs_block.specs.Records.{◌>>=◌, told_as, records_from, block_records}
-use Rattle.clfs_recover.specs.Walk.{damage_at}
-use Rattle.clfs_recover.specs.Stored.{FitFrom, stored_in, stored_records, stored_end}
 use Rattle.clfs_recover.specs.Logs.{HaveRecords, all_records}
 use Rattle.clfs_recover.proofs.Binding.{Records, read, bound, one_value, told_value}
 use Rattle.clfs_recover.proofs.Writings.{ReadsRecords, HaveSizes, block_written}

@@ -1,25 +1,8 @@
 -- The places at which the records of stored blocks are read: block by block and container by container, each at its LSN.
-use Rattle.std.proofs.Common.{◌≡◌, inl, ℕ, suc, ◌+◌, ◌-◌, ◌*◌, ◌%◌, ◌^◌, ◌<◌, ◌≤◌, List, [], ◌∷◌, ◌++◌, length, get_or, take, drop, map}
-use Rattle.std.proofs.Common.{Some, Ok, refl, sym, ◌∙◌, ap, subst, arith}
-use Rattle.std.specs.Prelude.{All, Contains, slice_get}
-use Rattle.std.proofs.lemmas.List.{drop-drop, length-take-le, length-map}
-use Rattle.std.proofs.lemmas.List.Elements.{All-nil, All-append, All-weaker, All-from_recursion, recursion_from_All}
-use Rattle.std.proofs.lemmas.Option.{slice_get-get_or}
-use Rattle.clfs_lsn.specs.Lsn.{lsn_number, container_of, offset_of, sequence_of}
+use Rattle.clfs_recover.proofs.Words.{◌≡◌, inl, ℕ, suc, ◌+◌, ◌-◌, ◌*◌, ◌%◌, ◌^◌, ◌<◌, ◌≤◌, List, [], ◌∷◌, ◌++◌, length, get_or, take, drop, map, Some, Ok, refl, sym, ◌∙◌, ap, subst, arith, All, drop-drop, length-take-le, length-map, All-nil, All-append, All-weaker, All-from_recursion, recursion_from_All, slice_get-get_or, lsn_number, container_of, offset_of, sequence_of, LogEntry, Shape, Files, block_sectors, BeginsWith, Opens, AreWhole, total, BaseImage, IsImage, IsEnough, AreReadAsWritten, ◌>>=◌, told_as, block_records, IsLogWith, stored_in, stored_records, damage_at, shape_of}
+use Rattle.std.specs.Prelude.{Contains, slice_get}
 use Rattle.clfs_lsn.specs.Size.{longest}
-use Rattle.clfs_lsn.specs.declared.entry.LogEntry.{LogEntry}
-use Rattle.clfs_lsn.specs.declared.shape.Shape.{Shape}
-use Rattle.clfs_disk.specs.Files.{Files}
-use Rattle.clfs_container.specs.OpenBlocks.{block_sectors, BeginsWith, Opens, AreWhole, total}
-use Rattle.clfs_base.specs.declared.image.BaseImage.{BaseImage}
-use Rattle.clfs_base.specs.Spelling.{IsImage}
-use Rattle.clfs_block.specs.Checks.{IsEnough}
-use Rattle.clfs_block.specs.Judging.{AreReadAsWritten}
-use Rattle.clfs_block.specs.Records.{◌>>=◌, told_as, block_records}
-use Rattle.clfs_recover.specs.Logs.{IsLogWith}
 use Rattle.clfs_recover.specs.Reading.{file_of, IsReadAt}
-use Rattle.clfs_recover.specs.Stored.{stored_in, stored_records}
-use Rattle.clfs_recover.specs.Walk.{damage_at, shape_of}
 use Rattle.clfs_recover.proofs.Binding.{read, bound, one_value, told_value}
 use Rattle.clfs_recover.proofs.Containers.{sectors_said}
 use Rattle.clfs_recover.proofs.FoundRecords.{all_below, all_above}

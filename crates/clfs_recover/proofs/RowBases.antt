@@ -1,20 +1,6 @@
 -- The bases of a copy's rows and those that records move, where a row, a stream or a record more changes them.
-use Rattle.std.proofs.Common.{◌≡◌, ◌≢◌, inl, inr, ⊎_elim, ℕ, zero, suc, ◌+◌, ◌-◌, ◌<◌, ◌≤◌, false, eqb, max, List, [], ◌∷◌, ◌++◌, length, get_or, set, map}
-use Rattle.std.proofs.Common.{refl, sym, ◌∙◌, ap, subst, arith, length-append, length-set, get_or-set_same, get_or-set_other}
-use Rattle.std.specs.Prelude.{All}
-use Rattle.std.specs.List.{AllByRecursion, fold, filter}
-use Rattle.std.proofs.lemmas.Bool.{cases_Bool, cases_eq, ne_eqb}
-use Rattle.std.proofs.Math.Seq.{get_or-append_seam}
-use Rattle.std.proofs.lemmas.List.{ext_get_or, map-append, get_or_append_left, set-get_or}
-use Rattle.std.proofs.lemmas.List.Elements.{filter-append, recursion_from_All}
-use Rattle.std.proofs.lemmas.List.Sums.{fold-append}
-use Rattle.clfs_lsn.specs.declared.entry.LogEntry.{LogEntry}
-use Rattle.clfs_base.specs.declared.image.Row.{Row}
-use Rattle.clfs_base.specs.Spelling.{row_in}
-use Rattle.clfs_lsn.specs.declared.stream.Stream.{Stream}
-use Rattle.clfs_lsn.specs.Streams.{set_base}
-use Rattle.clfs_base.specs.Streams.{streams_with}
-use Rattle.clfs_recover.specs.Walk.{base_with, bases_with}
+use Rattle.clfs_recover.proofs.Words.{◌≡◌, ◌≢◌, inl, inr, ⊎_elim, ℕ, zero, suc, ◌+◌, ◌-◌, ◌<◌, ◌≤◌, false, eqb, max, List, [], ◌∷◌, ◌++◌, length, get_or, set, map, refl, sym, ◌∙◌, ap, subst, arith, length-append, length-set, get_or-set_same, get_or-set_other, All, AllByRecursion, fold, filter, cases_Bool, cases_eq, ne_eqb, get_or-append_seam, ext_get_or, map-append, get_or_append_left, filter-append, recursion_from_All, fold-append, LogEntry, Row, row_in, Stream, set_base, streams_with, base_with, bases_with}
+use Rattle.std.proofs.lemmas.List.{set-get_or}
 use Rattle.clfs_recover.proofs.FoundBases.{new_bases, greatest_first, greatest_above, greatest_below}
 use Rattle.clfs_recover.proofs.FoundStreams.{length-streams_with, stream_in}
 use Rattle.clfs_recover.proofs.Raising.{is_of, base_at, length-bases_with}

@@ -1,10 +1,7 @@
 -- A piece that slides on shows its file still: what it keeps is the front of what is there, and what is read goes on after it.
-use Rattle.std.specs.Prelude.{nat_le, if◌then◌else◌}
-use Rattle.std.proofs.Common.{◌≡◌, inl, inr, ⊎_elim, ℕ, true, false, zero, suc, ◌+◌, ◌-◌, ◌<◌, ◌≤◌, List, [], ◌∷◌, ◌++◌, length, take, drop, refl, sym, ◌∙◌, ap, subst, arith, length-drop}
-use Rattle.std.proofs.lemmas.List.{drop-drop, drop-take, drop_all, take_at, take-take, take-append-le, length-take, length-append}
-use Rattle.std.proofs.lemmas.Bool.{cases_lt, leb-true}
-use Rattle.clfs_disk.specs.Files.{found_count}
-use Rattle.clfs_recover.specs.Fronts.{Piece, Shows}
+use Rattle.clfs_recover.proofs.Words.{nat_le, ◌≡◌, inl, inr, ⊎_elim, ℕ, true, false, zero, suc, ◌+◌, ◌-◌, ◌<◌, ◌≤◌, List, [], ◌∷◌, ◌++◌, length, take, drop, refl, sym, ◌∙◌, ap, subst, arith, length-drop, drop-drop, drop-take, drop_all, take_at, take-take, length-take, cases_lt, leb-true, found_count, Piece, Shows}
+use Rattle.std.specs.Prelude.{if◌then◌else◌}
+use Rattle.std.proofs.lemmas.List.{take-append-le, length-append}
 use Rattle.clfs_recover.proofs.Pieces.{shown_front}
 
 -- of two lists, so many of the first and then of the second

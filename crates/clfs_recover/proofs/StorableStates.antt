@@ -1,23 +1,8 @@
 -- The state of parts that opening finds is one that files can hold, and its own flushed part.
-use Rattle.std.proofs.Common.{◌≡◌, inl, inr, ℕ, ◌-◌, ◌<◌, ◌≤◌, true, ltb, [], length, None, refl, sym, subst, arith}
+use Rattle.clfs_recover.proofs.Words.{◌≡◌, inl, inr, ℕ, ◌-◌, ◌<◌, ◌≤◌, true, ltb, [], length, None, refl, sym, subst, arith, All-from_recursion, recursion_from_All, container_of, offset_of, frontier, FitsAt, LogEntry, Files, AreReadAsWritten, BaseImage, State, Stream, name_fault, before_all, behind_all, IsValid, base_with, state_of, StandsFor, Parts}
 use Rattle.std.proofs.lemmas.Bool.{lt-ltb}
-use Rattle.std.proofs.lemmas.List.Elements.{All-from_recursion, recursion_from_All}
-use Rattle.clfs_lsn.specs.Lsn.{container_of, offset_of}
-use Rattle.clfs_lsn.specs.Place.{frontier}
-use Rattle.clfs_lsn.specs.Spelling.{FitsAt}
-use Rattle.clfs_lsn.specs.declared.entry.LogEntry.{LogEntry}
-use Rattle.clfs_disk.specs.Files.{Files}
-use Rattle.clfs_block.specs.Judging.{AreReadAsWritten}
-use Rattle.clfs_base.specs.declared.image.BaseImage.{BaseImage}
-use Rattle.clfs_model.specs.declared.state.State.{State}
-use Rattle.clfs_lsn.specs.declared.stream.Stream.{Stream}
 use Rattle.clfs_model.specs.Flush.{flushed, cut}
-use Rattle.clfs_model.specs.Refusals.{name_fault}
-use Rattle.clfs_model.specs.Storable.{before_all, behind_all, GoesOnAt, HasMovedBase, IsAreaWithinLimits, IsStorable}
-use Rattle.clfs_model.specs.Valid.{IsValid}
-use Rattle.clfs_recover.specs.Walk.{base_with}
-use Rattle.clfs_recover.specs.Files.{state_of, StandsFor}
-use Rattle.clfs_recover.specs.declared.parts.Parts.{Parts}
+use Rattle.clfs_model.specs.Storable.{GoesOnAt, HasMovedBase, IsAreaWithinLimits, IsStorable}
 use Rattle.clfs_recover.proofs.FoundBases.{base_from_records}
 use Rattle.clfs_recover.proofs.FoundParts.{AreImagesRead, AreOpened, found_opened}
 use Rattle.clfs_recover.proofs.FoundStreams.{length-streams_with, all_streams, legal_name, base_there}

@@ -1,25 +1,6 @@
 -- Logs as copies and blocks, and the files that they are found in.
-use Rattle.std.proofs.Common.{◌≡◌, inl, inr, ℕ, ◌+◌, ◌-◌, ◌<◌, ◌≤◌, Bool, true, false, cond, ltb, ◌&&◌, ◌||◌, List, [], length, map}
-use Rattle.std.proofs.Common.{Option, Some, None, Ok, refl, sym, ◌∙◌, ap, subst, arith}
-use Rattle.std.specs.List.{position, position_or_len}
-use Rattle.std.specs.Option.{option_map, option_or}
-use Rattle.std.proofs.lemmas.Bool.{cases_Bool, le-ltb, or_from}
-use Rattle.std.proofs.lemmas.List.Sums.{position_or_len_is}
-use Rattle.clfs_lsn.specs.Lsn.{container_of}
-use Rattle.clfs_lsn.specs.Place.{frontier}
-use Rattle.clfs_lsn.specs.declared.entry.LogEntry.{LogEntry}
-use Rattle.clfs_disk.specs.Files.{Files}
-use Rattle.clfs_block.specs.Judging.{AreReadAsWritten}
-use Rattle.clfs_base.specs.declared.image.BaseImage.{BaseImage}
-use Rattle.clfs_base.specs.declared.image.Row.{Row}
-use Rattle.clfs_base.specs.Layout.{layout_of, row_place}
-use Rattle.clfs_base.specs.Spelling.{row_in}
-use Rattle.clfs_base.specs.Checks.{told}
-use Rattle.clfs_recover.specs.Walk.{Container, shape_of, last_end, high_row, is_wrong_tail, image_fault, parts_with}
-use Rattle.clfs_recover.specs.Files.{Finds, StandsFor}
-use Rattle.clfs_recover.specs.Stored.{HaveBlocks, HasLog, stored_records, stored_end, stored_parts}
-use Rattle.clfs_recover.specs.Logs.{IsLogWith, IsStoredIn, FitsUpTo, stored_state}
-use Rattle.clfs_recover.specs.declared.parts.Parts.{Parts}
+use Rattle.clfs_recover.proofs.Words.{◌≡◌, inl, inr, ℕ, ◌+◌, ◌-◌, ◌<◌, ◌≤◌, Bool, true, false, cond, ltb, ◌&&◌, ◌||◌, List, [], length, map, Option, Some, None, Ok, refl, sym, ◌∙◌, ap, subst, arith, position, position_or_len, option_map, option_or, cases_Bool, le-ltb, or_from, position_or_len_is, container_of, frontier, LogEntry, Files, AreReadAsWritten, BaseImage, Row, layout_of, row_place, row_in, told, Container, shape_of, last_end, high_row, is_wrong_tail, image_fault, parts_with, Finds, StandsFor, HaveBlocks, HasLog, stored_records, stored_end, stored_parts, IsLogWith, IsStoredIn, stored_state, Parts}
+use Rattle.clfs_recover.specs.Logs.{FitsUpTo}
 use Rattle.clfs_recover.proofs.CleanEnds.{open_in, listed_whole, listed_by_file, each_whole, blocks_within}
 use Rattle.clfs_recover.proofs.FoundParts.{AreImagesRead, IsFoundIn, found_in, both_none, rows_below, tail_within}
 use Rattle.clfs_recover.proofs.Meanings.{OneList, WholeAreOpen, last_end_is, stored_found}

@@ -1,29 +1,7 @@
 -- Blocks that the walk has taken in, one after the other, whatever the disk told.
-use Rattle.std.proofs.Common.{◌≡◌, inl, inr, ⊎_elim, ℕ, ◌+◌, ◌-◌, ◌*◌, ◌/◌, ◌%◌, ◌<◌, ◌≤◌, cond, List, [], ◌∷◌, ◌++◌, length, take, drop}
-use Rattle.std.proofs.Common.{Some, None, Result, Ok, Err, refl, sym, ◌∙◌, ap, subst, arith, append_assoc}
-use Rattle.std.proofs.lemmas.List.{append-nil, length-take-le, take-take, get_or-take, get_or_past, drop-drop}
-use Rattle.std.proofs.lemmas.Bool.{cases_lt, lt-leb}
-use Rattle.clfs_lsn.specs.Lsn.{lsn_number}
-use Rattle.clfs_lsn.specs.Size.{IsShape}
-use Rattle.clfs_lsn.specs.declared.entry.LogEntry.{LogEntry}
-use Rattle.clfs_lsn.specs.declared.shape.Shape.{Shape}
-use Rattle.clfs_container.specs.OpenBlocks.{block_sectors, BeginsWith, Opens, Ends, EndsCleanly, AreOpen, total}
-use Rattle.clfs_base.specs.declared.image.Row.{Row}
-use Rattle.clfs_block.specs.Frame.{AreBytes}
-use Rattle.clfs_block.specs.Checks.{left_from, frame_at, HasFrame, IsEnough}
-use Rattle.clfs_block.specs.Judging.{AreJudgedAlone, AreReadAsWritten}
-use Rattle.clfs_block.specs.declared.head.BlockHead.{BlockHead}
-use Rattle.clfs_block.specs.declared.head.BlockRefusal.{BlockRefusal}
+use Rattle.clfs_recover.proofs.Words.{◌≡◌, inl, inr, ⊎_elim, ℕ, ◌+◌, ◌-◌, ◌*◌, ◌/◌, ◌%◌, ◌<◌, ◌≤◌, cond, List, [], ◌∷◌, ◌++◌, length, take, drop, Some, None, Result, Ok, Err, refl, sym, ◌∙◌, ap, subst, arith, append_assoc, append-nil, length-take-le, take-take, get_or-take, get_or_past, drop-drop, cases_lt, lt-leb, lsn_number, IsShape, LogEntry, Shape, block_sectors, BeginsWith, Opens, Ends, EndsCleanly, AreOpen, total, Row, AreBytes, left_from, frame_at, IsEnough, AreJudgedAlone, AreReadAsWritten, BlockHead, BlockRefusal, block_refused, block_same, told_as, block_records, damage_at, end_at, blocks_end, blocks_records, container_records, stored_in, LieIn, HasTaken, GathersBlock, RefusesAs, TakesContainer, IsFrontOf, LoadRefusal, NoBase, Damaged, DiskFault, NoMemory}
+use Rattle.clfs_block.specs.Checks.{HasFrame}
 use Rattle.clfs_block.specs.declared.head.BlockRefusal.TheVariants as blocks
-use Rattle.clfs_block.specs.RecordLaws.{block_refused, block_same}
-use Rattle.clfs_block.specs.Records.{told_as, block_records}
-use Rattle.clfs_recover.specs.Walk.{damage_at, end_at, blocks_end, blocks_records, container_records}
-use Rattle.clfs_recover.specs.Stored.{stored_in}
-use Rattle.clfs_recover.specs.KnownLogs.{LieIn}
-use Rattle.clfs_recover.specs.Gathering.{HasTaken, GathersBlock, RefusesAs, TakesContainer}
-use Rattle.clfs_recover.specs.Fronts.{IsFrontOf}
-use Rattle.clfs_recover.specs.declared.refusal.LoadRefusal.{LoadRefusal}
-use Rattle.clfs_recover.specs.declared.refusal.LoadRefusal.TheVariants.{NoBase, Damaged, DiskFault, NoMemory}
 use Rattle.clfs_recover.proofs.Joined.{Records, joined, joined_nil, joined_assoc}
 use Rattle.clfs_recover.proofs.Containers.{front_frame, front_block, sectors_said, left_here, one_refusal, frame_closed, closed_gate, unread_gate}
 

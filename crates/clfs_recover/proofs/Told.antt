@@ -1,22 +1,9 @@
 -- Of which bytes damage is told when a log is opened.
-use Rattle.std.proofs.Common.{◌≡◌, inr, ℕ, ◌+◌, ◌*◌, ◌%◌, ◌<◌, List, [], take, Ok, Err, refl, sym, ◌∙◌, subst, arith, length-take}
-use Rattle.clfs_lsn.specs.Lsn.{lsn_number}
-use Rattle.clfs_lsn.specs.Size.{IsShape}
-use Rattle.clfs_lsn.specs.declared.entry.LogEntry.{LogEntry}
-use Rattle.clfs_lsn.specs.declared.shape.Shape.{Shape}
-use Rattle.clfs_base.specs.declared.image.BaseImage.{BaseImage}
-use Rattle.clfs_base.specs.declared.image.Row.{Row}
-use Rattle.clfs_base.specs.declared.refusal.NewestRefusal.{NewestRefusal}
+use Rattle.clfs_recover.proofs.Words.{◌≡◌, inr, ℕ, ◌+◌, ◌*◌, ◌%◌, ◌<◌, List, [], take, Ok, Err, refl, sym, ◌∙◌, subst, arith, lsn_number, IsShape, LogEntry, Shape, BaseImage, Row, NewestRefusal, AreJudgedAlone, AreReadAsWritten, block_records, block_same, without_copy, GathersBlock, TellsBlock, TellsBehind, TellsOpening, LoadRefusal, NoBase, Damaged, DiskFault, NoMemory}
+use Rattle.std.proofs.Common.{length-take}
 use Rattle.clfs_base.specs.declared.refusal.NewestRefusal.TheVariants as newest
 use Rattle.clfs_base.specs.Reading.{IsReadCopy}
-use Rattle.clfs_block.specs.Judging.{AreJudgedAlone, AreReadAsWritten}
-use Rattle.clfs_block.specs.Records.{block_records}
-use Rattle.clfs_block.specs.RecordLaws.{block_same}
-use Rattle.clfs_recover.specs.Files.{without_copy}
-use Rattle.clfs_recover.specs.Gathering.{GathersBlock}
-use Rattle.clfs_recover.specs.Telling.{IsWrongBlock, TellsBlock, TellsBehind, TellsOpening}
-use Rattle.clfs_recover.specs.declared.refusal.LoadRefusal.{LoadRefusal}
-use Rattle.clfs_recover.specs.declared.refusal.LoadRefusal.TheVariants.{NoBase, Damaged, DiskFault, NoMemory}
+use Rattle.clfs_recover.specs.Telling.{IsWrongBlock}
 
 -- a block that is refused is told of the bytes that were judged, as many as a largest block has
 pub block_told : AreJudgedAlone → AreReadAsWritten → (shape : Shape) (streams id offset : ℕ) (bytes : List ℕ) → IsShape shape → offset % 512 ≡ 0

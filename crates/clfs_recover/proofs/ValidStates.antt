@@ -1,27 +1,13 @@
 -- The state of parts that opening finds is one that a log can have.
-use Rattle.std.proofs.Common.{◌≡◌, inl, inr, ℕ, ◌<◌, ◌≤◌, Bool, true, false, cond, eqb, leb, List, [], length, get_or, map}
-use Rattle.std.proofs.Common.{Option, Some, None, refl, sym, ◌∙◌, ap, subst, arith}
-use Rattle.std.specs.Prelude.{All, IfSome}
-use Rattle.std.specs.List.{AllByRecursion, range_with_len}
-use Rattle.std.specs.Option.{option_to_list}
-use Rattle.std.proofs.lemmas.Bool.{cases_Bool, eq-eqb, eqb-true, eqb-false}
+use Rattle.clfs_recover.proofs.Words.{◌≡◌, inl, inr, ℕ, ◌<◌, ◌≤◌, Bool, true, false, cond, eqb, leb, List, [], length, get_or, map, Option, Some, None, refl, sym, ◌∙◌, ap, subst, arith, All, AllByRecursion, option_to_list, cases_Bool, eq-eqb, eqb-true, eqb-false, All-from_recursion, lsn_number, sequence_of, IsWithin, frontier, FitsAt, LogEntry, Restart, BaseImage, IsImage, State, Stream, IsValid, shape_of, base_with, state_of, Parts}
+use Rattle.std.specs.Prelude.{IfSome}
+use Rattle.std.specs.List.{range_with_len}
 use Rattle.std.proofs.lemmas.Bool.Decides.{nat_tests}
-use Rattle.std.proofs.lemmas.List.Elements.{All-from_recursion}
-use Rattle.clfs_lsn.specs.Lsn.{lsn_number, sequence_of}
 use Rattle.clfs_lsn.specs.Limits.{most_containers}
-use Rattle.clfs_lsn.specs.Place.{IsWithin, frontier}
-use Rattle.clfs_lsn.specs.Spelling.{FitsAt}
-use Rattle.clfs_lsn.specs.declared.entry.LogEntry.{LogEntry}
-use Rattle.clfs_lsn.specs.declared.entry.Kind.TheVariants.{Restart}
-use Rattle.clfs_base.specs.declared.image.BaseImage.{BaseImage}
 use Rattle.clfs_base.specs.Layout.{version_two, most_minimum, most_dedicated}
-use Rattle.clfs_base.specs.Spelling.{IsImage, IsPolicy, flag}
-use Rattle.clfs_model.specs.declared.state.State.{State}
-use Rattle.clfs_lsn.specs.declared.stream.Stream.{Stream}
-use Rattle.clfs_model.specs.Valid.{IsValid, HasRanges, HasPolicies, IsArea, IsRecord, IsWaiting}
-use Rattle.clfs_recover.specs.Walk.{shape_of, base_with}
-use Rattle.clfs_recover.specs.Files.{policy_of, state_of}
-use Rattle.clfs_recover.specs.declared.parts.Parts.{Parts}
+use Rattle.clfs_base.specs.Spelling.{IsPolicy, flag}
+use Rattle.clfs_model.specs.Valid.{HasRanges, HasPolicies, IsArea, IsRecord, IsWaiting}
+use Rattle.clfs_recover.specs.Files.{policy_of}
 use Rattle.clfs_recover.proofs.FoundBases.{base_low, base_to}
 use Rattle.clfs_recover.proofs.FoundParts.{AreOpened}
 use Rattle.clfs_recover.proofs.FoundRecords.{all_below, all_above, all_rise, none_of_block}

@@ -1,13 +1,8 @@
 -- The test tells that files are at full length.
-use Rattle.std.proofs.Common.{inl, inr, ◌≡◌, ℕ, zero, suc, ◌+◌, ◌*◌, ◌≤◌, ◌<◌, Bool, true, false, refl, sym, ap, subst, ◌∙◌, List, length, arith}
-use Rattle.std.specs.Prelude.{◌&&◌, ◌⊎◌, nat_le, Result, Ok, Err}
-use Rattle.std.proofs.lemmas.Bool.{cases_lt}
+use Rattle.clfs_recover.proofs.Words.{inl, inr, ◌≡◌, ℕ, zero, suc, ◌+◌, ◌*◌, ◌≤◌, ◌<◌, Bool, true, false, refl, sym, ap, subst, ◌∙◌, List, length, arith, nat_le, cases_lt, Files, BaseImage, NewestRefusal, newest_of}
+use Rattle.std.specs.Prelude.{◌&&◌, ◌⊎◌, Result, Ok, Err}
 use Rattle.clfs_lsn.specs.Format.{sector_bytes}
-use Rattle.clfs_disk.specs.Files.{Files}
-use Rattle.clfs_base.specs.declared.image.BaseImage.{BaseImage}
-use Rattle.clfs_base.specs.declared.refusal.NewestRefusal.{NewestRefusal}
 use Rattle.clfs_base.specs.Layout.{slot_bytes}
-use Rattle.clfs_base.specs.Slots.{newest_of}
 use Rattle.clfs_recover.specs.Files.{AreWholeFiles}
 use Rattle.clfs_recover.specs.Whole.{all_long, are_long, are_whole}
 

@@ -1,19 +1,8 @@
 -- Blocks that were written are read.
-use Rattle.std.proofs.Common.{◌≡◌, ℕ, ◌+◌, ◌^◌, ◌<◌, ◌≤◌, Bool, cond, List, [], ◌∷◌, ◌++◌, length, drop, Result, Ok, Err, refl, sym, ◌∙◌, ap, subst, arith, length-append, length-drop}
-use Rattle.std.specs.List.{flat_map}
-use Rattle.std.proofs.lemmas.List.{append-nil, drop_at, drop-drop}
-use Rattle.std.proofs.lemmas.Bool.{eq-eqb}
-use Rattle.clfs_lsn.specs.Size.{size}
-use Rattle.clfs_lsn.specs.Spelling.{FitsAt, record_bytes, record_at}
-use Rattle.clfs_lsn.specs.declared.entry.LogEntry.{LogEntry}
-use Rattle.clfs_lsn.specs.declared.shape.Shape.{Shape}
-use Rattle.clfs_block.specs.Frame.{payload_of, used_bytes, used_payload}
-use Rattle.clfs_block.specs.Checks.{frame_at, rest_at, head_for}
-use Rattle.clfs_block.specs.Judging.{AreReadAsWritten}
-use Rattle.clfs_block.specs.declared.head.BlockHead.{BlockHead}
-use Rattle.clfs_block.specs.Records.{records_from, block_records}
-use Rattle.clfs_recover.specs.Stored.{FitFrom, HasRecords}
-use Rattle.clfs_block.specs.RecordLaws.{behind, record_taken, block_read}
+use Rattle.clfs_recover.proofs.Words.{◌≡◌, ℕ, ◌+◌, ◌^◌, ◌<◌, ◌≤◌, Bool, cond, List, [], ◌∷◌, ◌++◌, length, drop, Result, Ok, Err, refl, sym, ◌∙◌, ap, subst, arith, length-append, length-drop, flat_map, append-nil, drop_at, drop-drop, eq-eqb, size, FitsAt, record_bytes, record_at, LogEntry, Shape, payload_of, frame_at, rest_at, AreReadAsWritten, BlockHead, records_from, block_records, FitFrom, HasRecords, block_read}
+use Rattle.clfs_block.specs.Frame.{used_bytes, used_payload}
+use Rattle.clfs_block.specs.Checks.{head_for}
+use Rattle.clfs_block.specs.RecordLaws.{behind, record_taken}
 
 -- a record that was written is read
 abbrev pub ReadsRecords : Type 0

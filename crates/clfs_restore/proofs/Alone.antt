@@ -1,13 +1,5 @@
 -- What is restored of one archive alone.
-use Rattle.std.proofs.Common.{◌≡◌, ℕ, List, [], ◌∷◌, Option, Some, None, Result, Ok, sym, ◌∙◌, ap, subst}
-use Rattle.clfs_disk.specs.Files.{Files}
-use Rattle.clfs_model.specs.declared.state.State.{State}
-use Rattle.clfs_recover.specs.Files.{StandsFor}
-use Rattle.clfs_archive_form.specs.declared.archive.Archive.{Archive}
-use Rattle.clfs_archive_form.specs.declared.refusal.InputRefusal.{InputRefusal}
-use Rattle.clfs_archive_form.specs.Archives.{archives_in, joined}
-use Rattle.clfs_archive_form.specs.Restoring.{chosen, restored}
-use Rattle.clfs_restore.specs.Restoring.{StandForRestored}
+use Rattle.clfs_restore.proofs.Words.{◌≡◌, ℕ, List, [], ◌∷◌, Option, Some, None, Result, Ok, sym, ◌∙◌, ap, subst, Files, State, StandsFor, Archive, InputRefusal, archives_in, joined, chosen, restored, StandForRestored}
 
 read_right : List Archive → Result (List Archive) ℕ
 read_right archives = Ok archives

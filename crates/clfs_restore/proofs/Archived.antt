@@ -1,26 +1,13 @@
 -- The bytes of an archive by its parts, and which log they are of.
-use Rattle.std.proofs.Common.{◌≡◌, ℕ, zero, suc, ◌+◌, ◌-◌, min, Bool, true, false, List, [], ◌∷◌, ◌++◌, length, drop, map, Some, None, Result, Ok, refl, sym, ◌∙◌, ap, append_assoc, arith}
+use Rattle.clfs_restore.proofs.Words.{◌≡◌, ℕ, zero, suc, ◌+◌, ◌-◌, min, Bool, true, false, List, [], ◌∷◌, ◌++◌, length, drop, map, Some, None, Result, Ok, refl, sym, ◌∙◌, ap, append_assoc, arith, flat_map, little_bytes, container_of, Files, DiskState, TellsContents, BaseImage, NewestRefusal, newest_of, spelled, State, archived_image, piece_bytes, archive_bytes, archived_pieces, front_bytes, pieces_from, ArchiveRefusal, Log, TooLong, NoMemory}
 use Rattle.std.specs.Prelude.{if◌then◌else◌}
-use Rattle.std.specs.List.{flat_map}
 use Rattle.std.proofs.lemmas.List.{drop-map}
-use Rattle.byteorder.specs.Endian.{little_bytes}
-use Rattle.clfs_lsn.specs.Lsn.{container_of}
-use Rattle.clfs_disk.specs.Files.{Files}
-use Rattle.clfs_disk.specs.State.{DiskState, TellsContents}
-use Rattle.clfs_base.specs.declared.image.BaseImage.{BaseImage}
-use Rattle.clfs_base.specs.declared.refusal.NewestRefusal.{NewestRefusal}
-use Rattle.clfs_base.specs.Slots.{newest_of}
-use Rattle.clfs_base.specs.Spelling.{spelled}
 use Rattle.clfs_model.specs.declared.refusal.Refusal.TheVariants as refusals
-use Rattle.clfs_model.specs.declared.state.State.{State}
 use Rattle.clfs_recover.specs.Files.{state_of}
 use Rattle.clfs_recover.specs.Logs.{IsStoredIn}
 use Rattle.clfs_recover.specs.declared.parts.Parts.{Parts}
-use Rattle.clfs_archive_form.specs.Form.{magic, archived_image, piece_bytes, archive_bytes, archived_pieces, IsArchiveOf}
-use Rattle.clfs_archive_form.specs.Drafting.{front_bytes}
-use Rattle.clfs_restore.specs.Archiving.{IsOfReading, IsCause, pieces_from}
-use Rattle.clfs_restore.specs.declared.refusal.ArchiveRefusal.{ArchiveRefusal}
-use Rattle.clfs_restore.specs.declared.refusal.ArchiveRefusal.TheVariants.{Log, TooLong, NoMemory}
+use Rattle.clfs_archive_form.specs.Form.{magic, IsArchiveOf}
+use Rattle.clfs_restore.specs.Archiving.{IsOfReading, IsCause}
 use Rattle.clfs_restore.proofs.Pieces.{in_pairs, length-pieces, drop-pieces}
 
 abbrev nothing : List ℕ

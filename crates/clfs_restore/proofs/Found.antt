@@ -1,16 +1,10 @@
 -- What was read of a file: the bytes that are there, as many as there is room for; and the newest copy in those of the base file.
-use Rattle.std.proofs.Common.{◌≡◌, ℕ, zero, suc, ◌-◌, ◌≤◌, min, List, [], ◌∷◌, length, take, drop, Some, None, Result, Ok, Err, refl, sym, ◌∙◌, ap, arith}
-use Rattle.std.proofs.lemmas.List.{take-take, drop-take}
+use Rattle.clfs_restore.proofs.Words.{◌≡◌, ℕ, zero, suc, ◌-◌, ◌≤◌, min, List, [], ◌∷◌, length, take, drop, Some, None, Result, Ok, Err, refl, sym, ◌∙◌, ap, arith, take-take, drop-take, GivesCopy, ArchiveRefusal, Log, TooLong, NoMemory, BaseImage, NewestRefusal, image_at, slot_of, copy_in, newest_of}
 use Rattle.clfs_model.specs.declared.refusal.Refusal.TheVariants as refusals
-use Rattle.clfs_restore.specs.Archiving.{GivesCopy}
-use Rattle.clfs_restore.specs.declared.refusal.ArchiveRefusal.{ArchiveRefusal}
-use Rattle.clfs_restore.specs.declared.refusal.ArchiveRefusal.TheVariants.{Log, TooLong, NoMemory}
-use Rattle.clfs_base.specs.declared.image.BaseImage.{BaseImage}
-use Rattle.clfs_base.specs.declared.refusal.NewestRefusal.{NewestRefusal}
 use Rattle.clfs_base.specs.declared.refusal.NewestRefusal.TheVariants as newest
 use Rattle.clfs_base.specs.Layout.{layout_in}
-use Rattle.clfs_base.specs.Checks.{slot_fault, image_of, image_at}
-use Rattle.clfs_base.specs.Slots.{slot_of, used_slot, copy_in, copy_of, newest_of}
+use Rattle.clfs_base.specs.Checks.{slot_fault, image_of}
+use Rattle.clfs_base.specs.Slots.{used_slot, copy_of}
 
 -- the bytes that a read finds are the front of the file that there is room for
 abbrev nothing : List ℕ

@@ -1,16 +1,10 @@
 -- Parts of archiving one after the other, by how they leave the log and its disk.
-use Rattle.std.proofs.Common.{◌≡◌, ℕ, ◌≤◌, Option, Some, None, Err, List, IsTrue, refl, sym, ◌∙◌, ap, subst, arith}
-use Rattle.clfs_disk.specs.Files.{Unchanged}
-use Rattle.clfs_disk.specs.State.{DiskState, Nature, TellsContents, IsSteady, Passes, Rises}
-use Rattle.clfs_model.specs.Step.{with_broken}
+use Rattle.clfs_restore.proofs.Words.{◌≡◌, ℕ, ◌≤◌, Option, Some, None, Err, List, refl, sym, ◌∙◌, ap, subst, arith, Unchanged, DiskState, Nature, TellsContents, IsSteady, Passes, Rises, with_broken, State, LoadRefusal, Reads, GoesOn, refused_as, ArchiveRefusal, Log, TooLong, NoMemory}
+use Rattle.std.proofs.Common.{IsTrue}
 use Rattle.clfs_model.specs.declared.refusal.Refusal.TheVariants as refusals
-use Rattle.clfs_model.specs.declared.state.State.{State}
-use Rattle.clfs_recover.specs.declared.refusal.LoadRefusal.{LoadRefusal}
 use Rattle.clfs_recover.specs.declared.refusal.LoadRefusal.TheVariants as loading
 use Rattle.clfs_archive_form.specs.Drafting.{EndsAt}
-use Rattle.clfs_restore.specs.Archiving.{Reads, GivesBlocks, GoesOn, refused_as}
-use Rattle.clfs_restore.specs.declared.refusal.ArchiveRefusal.{ArchiveRefusal}
-use Rattle.clfs_restore.specs.declared.refusal.ArchiveRefusal.TheVariants.{Log, TooLong, NoMemory}
+use Rattle.clfs_restore.specs.Archiving.{GivesBlocks}
 
 abbrev pub IsFault : Option ArchiveRefusal → Type 0
 IsFault refusal = refusal ≡ Some (Log refusals.DiskFault)

@@ -1,24 +1,16 @@
 -- What the files of a restored log's containers hold.
-use Rattle.std.proofs.Common.{inl, inr, ⊎_elim, ◌≡◌, ◌≢◌, ◌⊎◌, ℕ, ◌+◌, ◌-◌, ◌*◌, ◌<◌, ◌≤◌, List, [], ◌∷◌, ◌++◌, length, drop, get_or, Option, Some, None, Result, Ok, Err, refl, sym, ◌∙◌, ap, subst, append_assoc, append-nil, arith}
+use Rattle.clfs_restore.proofs.Words.{inl, inr, ⊎_elim, ◌≡◌, ◌≢◌, ◌⊎◌, ℕ, ◌+◌, ◌-◌, ◌*◌, ◌<◌, ◌≤◌, List, [], ◌∷◌, ◌++◌, length, drop, get_or, Option, Some, None, Result, Ok, Err, refl, sym, ◌∙◌, ap, subst, append_assoc, arith, container_of, LogEntry, Shape, Files, AreWhole, total, stored_in, shape_of, LoadRefusal, Archive, below, HoldsKept, IsPiece, AreFilled}
+use Rattle.std.proofs.Common.{append-nil}
 use Rattle.std.specs.Option.{option_map_or}
 use Rattle.std.proofs.Math.ListN.{get_or-append}
 use Rattle.std.proofs.lemmas.List.{length-append}
-use Rattle.clfs_lsn.specs.Lsn.{container_of}
 use Rattle.clfs_lsn.specs.Size.{IsShape}
-use Rattle.clfs_lsn.specs.declared.entry.LogEntry.{LogEntry}
-use Rattle.clfs_lsn.specs.declared.shape.Shape.{Shape}
-use Rattle.clfs_disk.specs.Files.{Files, WrittenIn}
-use Rattle.clfs_container.specs.OpenBlocks.{AreWhole, total}
-use Rattle.clfs_recover.specs.Stored.{stored_in}
-use Rattle.clfs_recover.specs.Walk.{shape_of}
-use Rattle.clfs_recover.specs.declared.refusal.LoadRefusal.{LoadRefusal}
-use Rattle.clfs_archive_form.specs.declared.archive.Archive.{Archive}
+use Rattle.clfs_disk.specs.Files.{WrittenIn}
 use Rattle.clfs_archive_form.specs.declared.archive.Stored.{Stored}
 use Rattle.clfs_archive_form.specs.Containers.{blocks_in, part_of}
-use Rattle.clfs_archive_form.specs.Kept.{below, StandIn, AreBlocksWith}
+use Rattle.clfs_archive_form.specs.Kept.{StandIn, AreBlocksWith}
 use Rattle.clfs_archive_form.specs.Restoring.{last_copy, blocks_at}
-use Rattle.clfs_archive_form.specs.Written.{IsReadable, HoldsKept}
-use Rattle.clfs_restore.specs.Restoring.{IsPiece, AreFilled}
+use Rattle.clfs_archive_form.specs.Written.{IsReadable}
 
 one_value : (r : Result (List LogEntry) LoadRefusal) (a b : List LogEntry) → r ≡ Ok a → r ≡ Ok b → a ≡ b
 one_value (Ok x) a b p q = (let first : x ≡ a = cc in let other : x ≡ b = cc in sym first ∙ other)

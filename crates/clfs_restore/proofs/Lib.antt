@@ -11,3 +11,4 @@ mod Moments
 mod Moved
 mod Pieces
 mod Told
+mod Words

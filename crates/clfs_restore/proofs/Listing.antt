@@ -1,23 +1,11 @@
 -- What asking for the parts that are to be archived says of a log: archiving is off just where it is refused for that.
-use Rattle.std.specs.Prelude.{MatchBool, MatchOption, IsTrue}
-use Rattle.std.proofs.Common.{inl, inr, ⊎_elim, ◌≡◌, ◌⊎◌, ℕ, Bool, true, false, Option, Some, None, refl, ap, subst, List}
+use Rattle.clfs_restore.proofs.Words.{MatchBool, MatchOption, IsTrue, inl, inr, ⊎_elim, ◌≡◌, ◌⊎◌, ℕ, Bool, true, false, Option, Some, None, refl, ap, subst, List, Refusal, Happened, Fine, Fault, Damage, Reply, State, answer, flushed, happened_of_refusal, refused_if, Step, Goes, Comes, IsBroken, IsOutOfMemory, Log, NoMemory}
 use Rattle.std.specs.Prelude.{is_none}
 use Rattle.clfs_model.specs.declared.call.Call.TheVariants as calls
-use Rattle.clfs_model.specs.declared.refusal.Refusal.{Refusal}
 use Rattle.clfs_model.specs.declared.refusal.Refusal.TheVariants as refusals
 use Rattle.clfs_model.specs.declared.info.Extent.{Extent}
-use Rattle.clfs_model.specs.declared.reply.Happened.{Happened}
-use Rattle.clfs_model.specs.declared.reply.Happened.TheVariants.{Fine, Fault, Damage}
-use Rattle.clfs_model.specs.declared.reply.Reply.{Reply}
 use Rattle.clfs_model.specs.declared.reply.Reply.TheVariants as replies
-use Rattle.clfs_model.specs.declared.state.State.{State}
-use Rattle.clfs_model.specs.Answers.{answer}
-use Rattle.clfs_model.specs.Flush.{flushed}
-use Rattle.clfs_model.specs.Happened.{happened_of_refusal}
-use Rattle.clfs_model.specs.Refusals.{refused_if}
-use Rattle.clfs_model.specs.Step.{Step, Goes, Comes, IsBroken, IsOutOfMemory}
 use Rattle.clfs_restore.specs.Archiving.{of_log}
-use Rattle.clfs_restore.specs.declared.refusal.ArchiveRefusal.TheVariants.{Log, NoMemory}
 
 abbrev refused : Refusal → Reply
 refused refusal = replies.Refused refusal

@@ -1,22 +1,13 @@
 -- What restoring leaves once its base copy is written, and why it is refused for what its input is.
-use Rattle.std.proofs.Common.{inl, inr, ⊎_elim, ◌≡◌, ◌⊎◌, ℕ, zero, suc, ◌*◌, ◌≤◌, Bool, true, false, cond, ltb, ◌||◌, List, length, Option, Some, None, Result, Ok, Err, refl, sym, subst, arith}
-use Rattle.clfs_lsn.specs.Lsn.{lsn_number, container_of}
-use Rattle.clfs_disk.specs.Files.{Files}
-use Rattle.clfs_disk.specs.State.{DiskState}
-use Rattle.clfs_base.specs.declared.image.BaseImage.{BaseImage}
-use Rattle.clfs_base.specs.Slots.{is_open_slot}
-use Rattle.clfs_base.specs.Writing.{HasNewest, HasNoCopy, NoneOrFirst}
-use Rattle.clfs_recover.specs.Files.{StandsFor, AreWholeFiles}
-use Rattle.clfs_format.specs.Making.{open_slot_of}
-use Rattle.clfs_archive_form.specs.declared.archive.Archive.{Archive}
-use Rattle.clfs_archive_form.specs.declared.refusal.InputRefusal.{InputRefusal}
+use Rattle.clfs_restore.proofs.Words.{inl, inr, ⊎_elim, ◌≡◌, ◌⊎◌, ℕ, zero, suc, ◌*◌, ◌≤◌, Bool, true, false, ltb, ◌||◌, List, length, Option, Some, None, Result, Ok, Err, refl, sym, subst, arith, lsn_number, container_of, Files, DiskState, BaseImage, is_open_slot, HasNoCopy, NoneOrFirst, StandsFor, open_slot_of, Archive, InputRefusal, archives_in, joined, chosen, restored, restored_copy, base_bytes, StandForRestored, AreFilled, IsFreeCause, IsRestoreCause, IsOfMaking, RestoreRefusal}
+use Rattle.std.proofs.Common.{cond}
+use Rattle.clfs_base.specs.Writing.{HasNewest}
+use Rattle.clfs_recover.specs.Files.{AreWholeFiles}
 use Rattle.clfs_archive_form.specs.declared.refusal.InputRefusal.TheVariants as inputs
-use Rattle.clfs_archive_form.specs.Archives.{archives_in, joined}
 use Rattle.clfs_archive_form.specs.Reading.{RefusesAt}
-use Rattle.clfs_archive_form.specs.Restoring.{gap_in, low_bound, high_bound, asked_for, chosen_unless, chosen, restored}
-use Rattle.clfs_archive_form.specs.Written.{restored_copy, AreRestored, CanBeRestored}
-use Rattle.clfs_restore.specs.Restoring.{base_bytes, of_input, IsChosen, AreChosen, StandForRestored, AreFilled, IsInputCause, IsFreeCause, IsRestoreCause, IsOfMaking}
-use Rattle.clfs_restore.specs.declared.refusal.RestoreRefusal.{RestoreRefusal}
+use Rattle.clfs_archive_form.specs.Restoring.{gap_in, low_bound, high_bound, asked_for, chosen_unless}
+use Rattle.clfs_archive_form.specs.Written.{AreRestored, CanBeRestored}
+use Rattle.clfs_restore.specs.Restoring.{of_input, IsChosen, AreChosen, IsInputCause}
 use Rattle.clfs_restore.specs.declared.refusal.RestoreRefusal.TheVariants as refusals
 use Rattle.clfs_restore.proofs.Kept.{filled_still}
 

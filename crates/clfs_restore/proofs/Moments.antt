@@ -1,13 +1,8 @@
 -- What a crash leaves of restoring, call by call.
-use Rattle.std.proofs.Common.{inl, inr, ⊎_elim, ◌≡◌, ◌⊎◌, ℕ, zero, suc, ◌<◌, ◌≤◌, eqb, List, length, get_or, refl, sym, ◌∙◌, ap, subst, arith}
-use Rattle.std.specs.Prelude.{IsTrue}
-use Rattle.std.proofs.lemmas.Bool.{cases_lt}
-use Rattle.clfs_disk.specs.Files.{Files, Unchanged, Grown, GrownIn, TornIn}
-use Rattle.clfs_disk.specs.State.{DiskState, Nature, TellsContents, IsSteady, IsHonest, IsSettled, MayLeave, Passes, Later, Leaves, Rises}
-use Rattle.clfs_base.specs.Slots.{is_open_slot}
-use Rattle.clfs_base.specs.Writing.{HasNoCopy}
-use Rattle.clfs_format.specs.Making.{BaseStays, KnowsLengths}
-use Rattle.clfs_restore.specs.Restoring.{base_bytes, GrowsBase, ComesAtOnce}
+use Rattle.clfs_restore.proofs.Words.{inl, inr, ⊎_elim, ◌≡◌, ◌⊎◌, ℕ, zero, suc, ◌<◌, ◌≤◌, eqb, List, length, get_or, refl, sym, ◌∙◌, ap, subst, arith, IsTrue, cases_lt, Files, Unchanged, GrownIn, DiskState, Nature, TellsContents, IsSteady, IsSettled, Passes, Leaves, Rises, is_open_slot, HasNoCopy, BaseStays, base_bytes, GrowsBase, ComesAtOnce}
+use Rattle.clfs_disk.specs.Files.{Grown, TornIn}
+use Rattle.clfs_disk.specs.State.{IsHonest, MayLeave, Later}
+use Rattle.clfs_format.specs.Making.{KnowsLengths}
 
 abbrev pub Change : Type 1
 Change = Files → Files → Type 0

@@ -1,24 +1,11 @@
 -- What moving the archive tail says of a log in which archiving is on: the tail is there, or the disk failed; and a tail above the flushed LSN is refused
 -- by telling that one.
-use Rattle.std.specs.Prelude.{MatchBool, MatchOption, IsTrue, IfSome}
-use Rattle.std.proofs.Common.{inl, inr, ⊎_elim, ◌≡◌, ◌⊎◌, ℕ, ◌<◌, ◌≤◌, Bool, true, false, ltb, ◌||◌, Option, Some, None, refl, ◌∙◌, ap, subst, arith}
-use Rattle.std.proofs.lemmas.Bool.{cases_lt}
+use Rattle.clfs_restore.proofs.Words.{MatchBool, MatchOption, IsTrue, inl, inr, ⊎_elim, ◌≡◌, ◌⊎◌, ℕ, ◌<◌, ◌≤◌, Bool, true, false, ltb, ◌||◌, Option, Some, None, refl, ◌∙◌, ap, subst, arith, cases_lt, Refusal, Happened, Fine, Fault, Damage, Reply, State, answer, flushed, happened_of_refusal, refused_if, tail_refusal, Step, Goes, Comes, IsBroken, IsOutOfMemory, with_broken, DiskState, WritesDisk}
+use Rattle.std.specs.Prelude.{IfSome}
 use Rattle.clfs_model.specs.declared.call.Call.TheVariants as calls
-use Rattle.clfs_model.specs.declared.refusal.Refusal.{Refusal}
 use Rattle.clfs_model.specs.declared.refusal.Refusal.TheVariants as refusals
-use Rattle.clfs_model.specs.declared.reply.Happened.{Happened}
-use Rattle.clfs_model.specs.declared.reply.Happened.TheVariants.{Fine, Fault, Damage}
-use Rattle.clfs_model.specs.declared.reply.Reply.{Reply}
 use Rattle.clfs_model.specs.declared.reply.Reply.TheVariants as replies
-use Rattle.clfs_model.specs.declared.state.State.{State}
-use Rattle.clfs_model.specs.Answers.{answer}
-use Rattle.clfs_model.specs.Flush.{flushed}
-use Rattle.clfs_model.specs.Happened.{happened_of_refusal}
-use Rattle.clfs_model.specs.Refusals.{refused_if, tail_refusal}
-use Rattle.clfs_model.specs.Step.{Step, Goes, Comes, IsBroken, IsOutOfMemory, with_broken}
 use Rattle.clfs_laws.specs.Refused.{is_of_call}
-use Rattle.clfs_disk.specs.State.{DiskState}
-use Rattle.clfs_manager.specs.Written.{WritesDisk}
 use Rattle.clfs_restore.specs.Archiving.{stable_of}
 
 abbrev refused : Refusal → Reply

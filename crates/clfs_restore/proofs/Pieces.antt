@@ -1,20 +1,11 @@
 -- The containers of an archive as they come one after the other.
-use Rattle.std.proofs.Common.{◌≡◌, ℕ, zero, suc, ◌+◌, ◌<◌, ◌≤◌, List, [], ◌∷◌, ◌++◌, length, take, drop, map, get_or, Result, Ok, Err, refl, sym, ◌∙◌, ap, subst, arith}
-use Rattle.std.specs.List.{flat_map, range_with_len, zip}
+use Rattle.clfs_restore.proofs.Words.{◌≡◌, ℕ, zero, suc, ◌+◌, ◌<◌, ◌≤◌, List, [], ◌∷◌, ◌++◌, length, take, drop, map, get_or, Result, Ok, Err, refl, sym, ◌∙◌, ap, subst, arith, flat_map, length-take-le, get_or-drop, length-drop, little_bytes, LogEntry, Shape, Files, AreWhole, total, stored_in, stored_records, LoadRefusal, piece_bytes, AreReadable, pieces_from}
+use Rattle.std.specs.List.{range_with_len, zip}
 use Rattle.std.proofs.Math.Seq.{take-suc}
 use Rattle.std.proofs.lemmas.Grind.{flat_map-append}
-use Rattle.std.proofs.lemmas.List.{map-append, length-take-le, get_or-drop, length-drop}
-use Rattle.byteorder.specs.Endian.{little_bytes}
-use Rattle.clfs_lsn.specs.declared.entry.LogEntry.{LogEntry}
-use Rattle.clfs_lsn.specs.declared.shape.Shape.{Shape}
-use Rattle.clfs_disk.specs.Files.{Files}
-use Rattle.clfs_container.specs.OpenBlocks.{AreWhole, total}
+use Rattle.std.proofs.lemmas.List.{map-append}
 use Rattle.clfs_block.specs.Records.{◌>>=◌}
-use Rattle.clfs_recover.specs.Stored.{stored_in, stored_records}
-use Rattle.clfs_recover.specs.declared.refusal.LoadRefusal.{LoadRefusal}
-use Rattle.clfs_archive_form.specs.Form.{piece_bytes}
 use Rattle.clfs_archive_form.specs.Drafting.{container_bytes}
-use Rattle.clfs_restore.specs.Archiving.{AreReadable, pieces_from}
 
 abbrev Blocks : Type 0
 Blocks = List (List ℕ)

@@ -1,29 +1,17 @@
 -- By what bytes damage is told that archiving meets.
-use Rattle.std.proofs.Common.{inl, inr, ◌≡◌, ◌⊎◌, ℕ, ◌+◌, ◌-◌, ◌*◌, ◌<◌, ◌≤◌, Bool, eqb, ltb, ◌||◌, List, [], ◌∷◌, length, take, drop, Result, Ok, Err, refl, sym, ◌∙◌, ap, subst, arith}
+use Rattle.clfs_restore.proofs.Words.{inl, inr, ◌≡◌, ◌⊎◌, ℕ, ◌+◌, ◌-◌, ◌*◌, ◌<◌, ◌≤◌, Bool, eqb, ltb, ◌||◌, List, [], ◌∷◌, length, take, drop, Result, Ok, Err, refl, sym, ◌∙◌, ap, subst, arith, length-drop, length-take, lsn_number, Shape, BaseImage, Front, NewestRefusal, image_at, copy_in, front_of, slot_by, slot_of, shape_of, LoadRefusal, archived_image, TellsArchived, TellsContainer, refused_as, ArchiveRefusal, Log, TooLong, NoMemory}
 use Rattle.std.proofs.lemmas.Bool.{le-ltb}
-use Rattle.std.proofs.lemmas.List.{length-drop, length-take}
-use Rattle.clfs_lsn.specs.Lsn.{lsn_number}
-use Rattle.clfs_lsn.specs.declared.shape.Shape.{Shape}
-use Rattle.clfs_base.specs.declared.image.BaseImage.{BaseImage}
-use Rattle.clfs_base.specs.declared.newest.Front.{Front}
-use Rattle.clfs_base.specs.declared.refusal.NewestRefusal.{NewestRefusal}
 use Rattle.clfs_base.specs.declared.refusal.NewestRefusal.TheVariants as newest
 use Rattle.clfs_base.specs.Layout.{slot_bytes}
-use Rattle.clfs_base.specs.Checks.{image_at}
 use Rattle.clfs_base.specs.Decoding.{GivesNewest}
 use Rattle.clfs_base.specs.Reading.{IsReadCopy, IsUsedSlot, copy_with}
-use Rattle.clfs_base.specs.Slots.{copy_in, front_of, slot_by, slot_of, slot_place}
+use Rattle.clfs_base.specs.Slots.{slot_place}
 use Rattle.clfs_block.specs.Records.{block_records}
 use Rattle.clfs_block.specs.declared.head.BlockRefusal.TheVariants as blocks
 use Rattle.clfs_model.specs.declared.refusal.Refusal.TheVariants as refusals
 use Rattle.clfs_recover.specs.Files.{without_copy}
-use Rattle.clfs_recover.specs.Walk.{shape_of}
-use Rattle.clfs_recover.specs.declared.refusal.LoadRefusal.{LoadRefusal}
 use Rattle.clfs_recover.specs.declared.refusal.LoadRefusal.TheVariants as loading
-use Rattle.clfs_archive_form.specs.Form.{archived_image}
-use Rattle.clfs_restore.specs.Archiving.{TellsArchived, TellsContainer, TellsDamage, refused_as}
-use Rattle.clfs_restore.specs.declared.refusal.ArchiveRefusal.{ArchiveRefusal}
-use Rattle.clfs_restore.specs.declared.refusal.ArchiveRefusal.TheVariants.{Log, TooLong, NoMemory}
+use Rattle.clfs_restore.specs.Archiving.{TellsDamage}
 use Rattle.clfs_restore.proofs.Archived.{skipped}
 
 -- ---- the slot that counts

@@ -1,16 +1,11 @@
 -- What a step from a broken state is, and what a step that meets a fault leaves.
-use Rattle.std.proofs.Common.{◌≡◌, ◌⊎◌, ℕ, Bool, true, false, inl, inr, subst}
-use Rattle.std.specs.Prelude.{Some, None, IsTrue, MatchBool}
-use Rattle.clfs_model.specs.declared.call.Call.{Call}
+use Rattle.clfs_rows.proofs.Words.{◌≡◌, ◌⊎◌, ℕ, Bool, true, false, inl, inr, subst, Some, None, IsTrue, MatchBool, Call, Fine, Reply, State, refusal, Step, Goes, ReopenStep, IsOutOfMemory, takes_memory, with_broken}
 use Rattle.clfs_model.specs.declared.reply.Happened.{Happened}
-use Rattle.clfs_model.specs.declared.reply.Happened.TheVariants.{Fine, Fault, Damage}
+use Rattle.clfs_model.specs.declared.reply.Happened.TheVariants.{Fault, Damage}
 use Rattle.clfs_model.specs.declared.refusal.Refusal.{Refusal}
 use Rattle.clfs_model.specs.declared.refusal.Refusal.TheVariants as refusals
-use Rattle.clfs_model.specs.declared.reply.Reply.{Reply}
 use Rattle.clfs_model.specs.declared.reply.Reply.TheVariants as replies
-use Rattle.clfs_model.specs.declared.state.State.{State}
-use Rattle.clfs_model.specs.Refusals.{refusal}
-use Rattle.clfs_model.specs.Step.{Step, Goes, ReopenStep, Reopens, IsOutOfMemory, takes_memory, calls_disk, with_broken}
+use Rattle.clfs_model.specs.Step.{Reopens, calls_disk}
 
 -- the first of two facts, where the test is true
 first_where_true : (b : Bool) (P Q : Type 0) → b ≡ true → MatchBool b P Q → P

@@ -1,10 +1,9 @@
 -- Tests that compute, each with the statement that it decides: instances of relations are shown by what a test gives.
-use Rattle.std.proofs.Common.{◌≡◌, ◌⊎◌, ℕ, zero, suc, ◌<◌, ◌≤◌, Bool, true, false, refl, sym, ap, subst, inl, inr, List, [], ◌∷◌, length, get_or, arith}
-use Rattle.std.specs.Prelude.{◌==◌, nat_lt, nat_le, not, ◌&&◌, ◌||◌, Option, Some, None, All, AllPairs, Any, IsSome, IfSome}
-use Rattle.std.specs.Bool.{Decides}
+use Rattle.clfs_rows.proofs.Words.{◌≡◌, ◌⊎◌, ℕ, ◌<◌, ◌≤◌, Bool, true, false, refl, sym, ap, subst, inl, inr, List, length, get_or, arith, ◌==◌, nat_lt, Option, Some, None, All, AllPairs, Any, IsSome, IfSome, Decides, All-nil, All-cons, All-head, All-tail}
+use Rattle.std.proofs.Common.{zero, suc, [], ◌∷◌}
+use Rattle.std.specs.Prelude.{nat_le, not, ◌&&◌, ◌||◌}
 use Rattle.std.proofs.lemmas.Bool.{ltb-true, ltb-false, leb-true}
 use Rattle.std.proofs.lemmas.Bool.Decides.{Decides-eqb, Decides-ltb, Decides-and, Decides-or, Decides-not, not_from_Decides, leb_tells}
-use Rattle.std.proofs.lemmas.List.Elements.{All-nil, All-cons, All-head, All-tail}
 use Rattle.std.proofs.lemmas.List.Kept.{AllPairs-cons}
 
 -- a test, and that it decides the statement

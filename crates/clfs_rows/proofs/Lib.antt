@@ -8,3 +8,4 @@ pub mod SameTests
 pub mod ReplyTests
 pub mod Shuffled
 pub mod OneEntry
+mod Words

@@ -1,8 +1,6 @@
 -- A journal of one entry.
-use Rattle.std.proofs.Common.{Bool, sym, subst, [], ◌∷◌}
-use Rattle.clfs_model.specs.declared.journal.Entry.{Entry}
-use Rattle.clfs_model.specs.declared.state.State.{State}
-use Rattle.clfs_model.specs.Step.{Step}
+use Rattle.clfs_rows.proofs.Words.{Bool, sym, subst, Entry, State, Step}
+use Rattle.std.proofs.Common.{[], ◌∷◌}
 use Rattle.clfs_model.specs.Journals.{IsLegal}
 
 -- It is one step of the machine.

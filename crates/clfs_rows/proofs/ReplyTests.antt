@@ -1,21 +1,12 @@
 -- Tests that decide whether a call that nothing happens to may be answered so.
-use Rattle.std.proofs.Common.{◌≡◌, ◌⊎◌, ℕ, Bool, true, false, refl, ap, subst, List}
-use Rattle.std.specs.Bool.{Decides}
-use Rattle.std.specs.Prelude.{◌==◌, nat_lt, Option, Some, None, IsTrue, MatchBool, MatchOption}
-use Rattle.clfs_lsn.specs.declared.entry.LogEntry.{LogEntry}
-use Rattle.clfs_model.specs.declared.call.Call.{Call}
+use Rattle.clfs_rows.proofs.Words.{◌≡◌, ◌⊎◌, ℕ, Bool, true, false, refl, ap, subst, List, Decides, ◌==◌, nat_lt, Option, Some, None, IsTrue, MatchBool, LogEntry, Call, Fine, Reply, State, flushed, refusal, line_request, Step, Goes, IsBroken, IsOutOfMemory, takes_memory}
+use Rattle.std.specs.Prelude.{MatchOption}
 use Rattle.clfs_model.specs.declared.refusal.Refusal.TheVariants as refusals
-use Rattle.clfs_model.specs.declared.reply.Happened.TheVariants.{Fine}
-use Rattle.clfs_model.specs.declared.reply.Reply.{Reply}
 use Rattle.clfs_model.specs.declared.reply.Reply.TheVariants as replies
-use Rattle.clfs_model.specs.declared.state.State.{State}
-use Rattle.clfs_model.specs.Flush.{flushed}
-use Rattle.clfs_model.specs.Refusals.{refusal}
 use Rattle.clfs_model.specs.Answers.{answer}
-use Rattle.clfs_model.specs.Script.{line_request}
 use Rattle.clfs_rows.specs.OwnEntries.{call_asked}
 use Rattle.clfs_rows.specs.ReadAnew.{MayReply}
-use Rattle.clfs_model.specs.Step.{Step, Goes, IsReply, IsReplyRead, IsRecordRead, IsBroken, IsOutOfMemory, takes_memory}
+use Rattle.clfs_model.specs.Step.{IsReply, IsReplyRead, IsRecordRead}
 use Rattle.clfs_rows.proofs.Decisions.{Decision, like, both, either, equal, alike, wrong}
 use Rattle.clfs_rows.proofs.SameStates.{same_entry, same_state}
 use Rattle.clfs_rows.proofs.SameTests.{matches}

@@ -1,20 +1,7 @@
 -- Whether two states, and the values that they have, are the same.
-use Rattle.std.proofs.Common.{◌≡◌, ℕ, Bool, true, false, refl, ap, List}
-use Rattle.std.specs.Prelude.{Option}
-use Rattle.std.specs.Bool.{Decides}
-use Rattle.clfs_lsn.specs.declared.entry.LogEntry.{LogEntry}
-use Rattle.clfs_lsn.specs.declared.entry.Kind.{Kind}
-use Rattle.clfs_lsn.specs.declared.entry.Kind.TheVariants.{Plain, Restart}
-use Rattle.clfs_lsn.specs.declared.place.Place.{Place}
-use Rattle.clfs_lsn.specs.declared.shape.Shape.{Shape}
+use Rattle.clfs_rows.proofs.Words.{◌≡◌, ℕ, Bool, true, false, refl, ap, List, Option, Decides, LogEntry, Kind, Plain, Restart, Place, Shape, Forward, State, Stream, Area, Cursor, CursorKind, Records, RestartAreas}
 use Rattle.clfs_lsn.specs.declared.cursor.Mode.{Mode}
-use Rattle.clfs_lsn.specs.declared.cursor.Mode.TheVariants.{Previous, UndoNext, Forward}
-use Rattle.clfs_model.specs.declared.state.State.{State}
-use Rattle.clfs_lsn.specs.declared.stream.Stream.{Stream}
-use Rattle.clfs_model.specs.declared.state.Area.{Area}
-use Rattle.clfs_lsn.specs.declared.cursor.Cursor.{Cursor}
-use Rattle.clfs_lsn.specs.declared.cursor.CursorKind.{CursorKind}
-use Rattle.clfs_lsn.specs.declared.cursor.CursorKind.TheVariants.{Records, RestartAreas}
+use Rattle.clfs_lsn.specs.declared.cursor.Mode.TheVariants.{Previous, UndoNext}
 use Rattle.clfs_rows.proofs.Decisions.{Decision, like, both, equal, alike, same_lists, same_options, wrong}
 
 abbrev pub same_numbers : (xs ys : List ℕ) → Decision (xs ≡ ys)

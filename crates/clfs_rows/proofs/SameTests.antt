@@ -1,15 +1,10 @@
 -- Tests that decide whether two states are the same but for what no reply can show, and what opening again comes to.
-use Rattle.std.proofs.Common.{◌≡◌, ◌⊎◌, ℕ, Bool, true, false, ap, []}
-use Rattle.std.specs.Prelude.{MatchBool}
-use Rattle.clfs_lsn.specs.Lsn.{container_of}
-use Rattle.clfs_model.specs.declared.reply.Happened.TheVariants.{Fine}
+use Rattle.clfs_rows.proofs.Words.{◌≡◌, ◌⊎◌, ℕ, Bool, true, false, ap, MatchBool, container_of, Fine, State, flushed, cut, IsOutOfMemory, IsBroken, ReopenStep, IsStorable, IsValid}
+use Rattle.std.proofs.Common.{[]}
 use Rattle.clfs_model.specs.declared.reply.Reply.TheVariants as replies
-use Rattle.clfs_model.specs.declared.state.State.{State}
 use Rattle.clfs_model.specs.Live.{hold}
-use Rattle.clfs_model.specs.Flush.{flushed, cut, needed_records, IsSame}
-use Rattle.clfs_model.specs.Step.{is_pending, IsOutOfMemory, IsBroken, IsOpenedAnew, IsReopened, ReopenStep}
-use Rattle.clfs_model.specs.Storable.{IsStorable}
-use Rattle.clfs_model.specs.Valid.{IsValid}
+use Rattle.clfs_model.specs.Flush.{needed_records, IsSame}
+use Rattle.clfs_model.specs.Step.{is_pending, IsOpenedAnew, IsReopened}
 use Rattle.clfs_rows.proofs.Decisions.{Decision, like, never, both, either, equal, alike, same_lists}
 use Rattle.clfs_rows.proofs.SameStates.{same_entry, same_area, same_state}
 use Rattle.clfs_rows.proofs.StorableTests.{is_storable}

@@ -1,9 +1,9 @@
 -- Shuffles, by their clients' calls and by the clients of their entries.
-use Rattle.std.proofs.Common.{◌≡◌, ℕ, refl, List, [], ◌∷◌}
-use Rattle.std.specs.Prelude.{Contains, map}
+use Rattle.clfs_rows.proofs.Words.{◌≡◌, ℕ, refl, List, map, All-nil, All-cons, Entry}
+use Rattle.std.proofs.Common.{[], ◌∷◌}
+use Rattle.std.specs.Prelude.{Contains}
 use Rattle.std.specs.List.{AllByRecursion}
-use Rattle.std.proofs.lemmas.List.Elements.{All-from_recursion, All-nil, All-cons, All-contains}
-use Rattle.clfs_model.specs.declared.journal.Entry.{Entry}
+use Rattle.std.proofs.lemmas.List.Elements.{All-from_recursion, All-contains}
 use Rattle.clfs_model.specs.Journals.{mine, ClientScript, IsShuffle}
 
 -- the entries of a script's client have its calls

@@ -1,28 +1,14 @@
 -- Tests that decide whether a state is one that files can stand for.
-use Rattle.std.proofs.Common.{◌≡◌, ◌⊎◌, ℕ, ◌*◌, ◌<◌, ◌≤◌, ◌^◌, Bool, true, false, refl, sym, subst, inl, inr, List, [], ◌∷◌, length, get_or, arith}
-use Rattle.std.specs.Prelude.{◌==◌, All, filter, Option, Some, None}
+use Rattle.clfs_rows.proofs.Words.{◌≡◌, ◌⊎◌, ℕ, ◌*◌, ◌<◌, ◌≤◌, Bool, true, false, refl, sym, subst, inl, inr, List, length, get_or, arith, ◌==◌, All, Option, Some, None, All-head, All-tail, lsn_number, container_of, block_end, sealed, frontier, Shape, Place, LogEntry, Kind, Plain, Restart, State, Stream, Area, Cursor, CursorKind, Records, RestartAreas, base_of, entry_at, IsStorable}
+use Rattle.std.proofs.Common.{◌^◌, [], ◌∷◌}
+use Rattle.std.specs.Prelude.{filter}
 use Rattle.std.proofs.lemmas.Bool.{eqb-true}
-use Rattle.std.proofs.lemmas.List.Elements.{All-head, All-tail}
 use Rattle.clfs_lsn.specs.Limits.{most_streams, most_areas, most_cursors, most_clients}
-use Rattle.clfs_lsn.specs.Lsn.{lsn_number, container_of}
-use Rattle.clfs_lsn.specs.Place.{block_end, sealed, frontier}
 use Rattle.clfs_lsn.specs.Spelling.{BaseFits}
-use Rattle.clfs_lsn.specs.declared.shape.Shape.{Shape}
-use Rattle.clfs_lsn.specs.declared.place.Place.{Place}
-use Rattle.clfs_lsn.specs.declared.entry.LogEntry.{LogEntry}
-use Rattle.clfs_lsn.specs.declared.entry.Kind.{Kind}
-use Rattle.clfs_lsn.specs.declared.entry.Kind.TheVariants.{Plain, Restart}
-use Rattle.clfs_model.specs.declared.state.State.{State}
-use Rattle.clfs_lsn.specs.declared.stream.Stream.{Stream}
-use Rattle.clfs_model.specs.declared.state.Area.{Area}
-use Rattle.clfs_lsn.specs.declared.cursor.Cursor.{Cursor}
-use Rattle.clfs_lsn.specs.declared.cursor.CursorKind.{CursorKind}
-use Rattle.clfs_lsn.specs.declared.cursor.CursorKind.TheVariants.{Records, RestartAreas}
-use Rattle.clfs_model.specs.State.{base_of, areas_of}
-use Rattle.clfs_model.specs.Reading.{entry_at}
+use Rattle.clfs_model.specs.State.{areas_of}
 use Rattle.clfs_model.specs.Refusals.{name_fault}
 use Rattle.clfs_model.specs.Conditions.{IsClient}
-use Rattle.clfs_model.specs.Storable.{HasMovedBase, before_all, behind, behind_all, LiesBehind, LieInBlocks, GoesOnAt, HasBlocks, IsOfCursor, IsCursor, IsAreaWithinLimits, IsWithinLimits, IsStorable}
+use Rattle.clfs_model.specs.Storable.{HasMovedBase, before_all, behind, behind_all, LiesBehind, LieInBlocks, GoesOnAt, HasBlocks, IsOfCursor, IsCursor, IsAreaWithinLimits, IsWithinLimits}
 use Rattle.clfs_rows.proofs.Decisions.{Decision, like, always, never, both, either, equal, less, at_most, each, lacks, same_value}
 use Rattle.clfs_rows.proofs.SameStates.{same_number_options, same_kinds, same_place}
 use Rattle.clfs_rows.proofs.ValidTests.{is_within}

@@ -1,26 +1,18 @@
 -- Tests that decide whether a state is one that a log can be in.
-use Rattle.std.proofs.Common.{◌≡◌, ◌⊎◌, ℕ, true, ◌+◌, ◌*◌, ◌%◌, ◌<◌, ◌≤◌, List, length, arith}
-use Rattle.std.specs.Prelude.{◌≢◌, All, AllPairs, IsSome, IfSome, map, slice_index}
+use Rattle.clfs_rows.proofs.Words.{◌≡◌, ◌⊎◌, ℕ, true, ◌+◌, ◌*◌, ◌<◌, ◌≤◌, List, length, arith, All, AllPairs, IsSome, IfSome, map, null_lsn, container_of, IsClosed, block_end, frontier, Shape, Place, LogEntry, Restart, State, Area, Cursor, Stream, flushed, entry_at, IsValid}
+use Rattle.std.proofs.Common.{◌%◌}
+use Rattle.std.specs.Prelude.{◌≢◌, slice_index}
 use Rattle.std.specs.List.{range_with_len}
 use Rattle.std.specs.List.Sorted.{IsStrictlyIncreasing}
 use Rattle.clfs_lsn.specs.Limits.{most_block_sectors, most_container_sectors, most_block_records, most_containers, most_write_buffers, greatest_rate}
-use Rattle.clfs_lsn.specs.Lsn.{null_lsn, container_of, sequence_of}
+use Rattle.clfs_lsn.specs.Lsn.{sequence_of}
 use Rattle.clfs_lsn.specs.Size.{IsShape, longest, sectors}
-use Rattle.clfs_lsn.specs.Place.{IsWithin, IsClosed, IsOpen, block_end, frontier}
-use Rattle.clfs_lsn.specs.declared.shape.Shape.{Shape}
-use Rattle.clfs_lsn.specs.declared.place.Place.{Place}
-use Rattle.clfs_lsn.specs.declared.entry.LogEntry.{LogEntry}
-use Rattle.clfs_lsn.specs.declared.entry.Kind.TheVariants.{Restart}
-use Rattle.clfs_model.specs.declared.state.State.{State}
-use Rattle.clfs_model.specs.declared.state.Area.{Area}
-use Rattle.clfs_lsn.specs.declared.cursor.Cursor.{Cursor}
-use Rattle.clfs_lsn.specs.declared.stream.Stream.{Stream}
+use Rattle.clfs_lsn.specs.Place.{IsWithin, IsOpen}
 use Rattle.clfs_model.specs.State.{stream_at}
 use Rattle.clfs_model.specs.Live.{active}
 use Rattle.clfs_model.specs.Space.{free, reserved}
-use Rattle.clfs_model.specs.Flush.{flushed, block_start}
-use Rattle.clfs_model.specs.Reading.{entry_at}
-use Rattle.clfs_model.specs.Valid.{HasRanges, HasPolicies, AreDifferentAreas, IsArea, HasTables, IsRecord, open_sequences, HasRecords, HasStable, IsWaiting, HasWaiting, HasSpace, IsValid}
+use Rattle.clfs_model.specs.Flush.{block_start}
+use Rattle.clfs_model.specs.Valid.{HasRanges, HasPolicies, AreDifferentAreas, IsArea, HasTables, IsRecord, open_sequences, HasRecords, HasStable, IsWaiting, HasWaiting, HasSpace}
 use Rattle.clfs_rows.proofs.Decisions.{Decision, like, both, either, implies, refuted, alike, equal, less, at_most, each, each_two, each_below, is_there, where_some}
 use Rattle.clfs_rows.proofs.SameStates.{same_numbers, same_kinds}
 

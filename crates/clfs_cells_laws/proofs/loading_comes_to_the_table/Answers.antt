@@ -1,4 +1,4 @@
-use Rattle.std.proofs.Common.{Ok, Err}
+use Rattle.clfs_cells_laws.proofs.Words.{Ok, Err}
 use Rattle.clfs_cells_laws.proofs.Loads.{loads}
 use Rattle.clfs_cells_laws.proofs.OwnCalls.{Laws}
 use Rattle.clfs_cells_laws.proofs.loading_comes_to_the_table.Goals as goal

@@ -1,8 +1,4 @@
-use Rattle.std.proofs.Common.{◌<◌}
-use Rattle.std.proofs.lemmas.List.Elements.{recursion_from_All}
-use Rattle.clfs_lsn.specs.declared.entry.LogEntry.{LogEntry}
-use Rattle.clfs_model.specs.Flush.{flushed}
-use Rattle.clfs_model.specs.Live.{live}
+use Rattle.clfs_cells_laws.proofs.Words.{◌<◌, recursion_from_All, LogEntry, flushed, live}
 use Rattle.clfs_cells_laws.proofs.Cut.{cut_table}
 use Rattle.clfs_cells_laws.proofs.the_flushed_part_has_the_table.Goals as goal
 

@@ -1,4 +1,4 @@
-use Rattle.std.proofs.lemmas.Result.{err_from_is_err_and}
+use Rattle.clfs_archive_form.proofs.Words.{err_from_is_err_and}
 use Rattle.clfs_archive_form.proofs.Grammar.{no_letters, no_copy, no_rest, archive_is}
 use Rattle.clfs_archive_form.proofs.archives.read_archive.Goals as goal
 

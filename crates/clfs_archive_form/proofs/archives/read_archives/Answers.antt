@@ -1,10 +1,4 @@
-use Rattle.std.proofs.Common.{List, ◌++◌, length, sym, ◌∙◌, ap, subst, arith}
-use Rattle.std.proofs.lemmas.List.Elements.{All-nil}
-use Rattle.std.proofs.lemmas.Result.{err_from_is_err_and}
-use Rattle.clfs_base.specs.declared.demands.Demands.{Demands}
-use Rattle.clfs_archive_form.specs.declared.archive.Stored.{Stored}
-use Rattle.clfs_archive_form.specs.Archives.{archive_there}
-use Rattle.clfs_archive_form.specs.Reading.{RefusesAt, LieWithin, Suits, IsReadableAs, AreReadable}
+use Rattle.clfs_archive_form.proofs.Words.{List, ◌++◌, length, sym, ◌∙◌, ap, subst, arith, All-nil, err_from_is_err_and, Demands, Stored, archive_there, RefusesAt, LieWithin, Suits, IsReadableAs, AreReadable}
 use Rattle.clfs_archive_form.proofs.Grammar.{ReadTo, first_refused, first_read, next_refused, next_read, all_read}
 use Rattle.clfs_archive_form.proofs.Readable.{readable_later}
 use Rattle.clfs_archive_form.proofs.archives.read_archives.Goals as goal

@@ -1,7 +1,4 @@
-use Rattle.std.proofs.Common.{◌-◌, ◌≤◌, length}
-use Rattle.clfs_lsn.specs.Lsn.{container_of}
-use Rattle.clfs_base.specs.Spelling.{IsImage}
-use Rattle.clfs_archive_form.specs.Reading.{LieWithin, AreReadable}
+use Rattle.clfs_archive_form.proofs.Words.{◌-◌, ◌≤◌, length, container_of, IsImage, LieWithin, AreReadable}
 use Rattle.clfs_archive_form.proofs.Grammar.{ReadTo}
 use Rattle.clfs_archive_form.proofs.archives.read_archives.Given as goal
 

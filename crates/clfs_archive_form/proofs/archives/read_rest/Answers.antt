@@ -1,8 +1,4 @@
-use Rattle.std.proofs.Common.{ℕ, ◌+◌, List, sym, ◌∙◌, ap, subst}
-use Rattle.std.proofs.lemmas.Result.{err_from_is_err_and}
-use Rattle.clfs_base.specs.declared.image.Row.{Row}
-use Rattle.clfs_archive_form.specs.Containers.{just_there}
-use Rattle.clfs_archive_form.specs.Reading.{RefusesAt}
+use Rattle.clfs_archive_form.proofs.Words.{ℕ, ◌+◌, List, sym, ◌∙◌, ap, subst, err_from_is_err_and, Row, just_there, RefusesAt}
 use Rattle.clfs_archive_form.proofs.Grammar.{no_count, judging, takes_rest}
 use Rattle.clfs_archive_form.proofs.Readable.{readable_more}
 use Rattle.clfs_archive_form.proofs.archives.read_rest.Goals as goal

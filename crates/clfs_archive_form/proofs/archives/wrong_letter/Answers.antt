@@ -1,5 +1,4 @@
-use Rattle.std.proofs.Common.{◌+◌, ◌≤◌, length, ◌∙◌, sym, arith}
-use Rattle.clfs_archive_form.specs.Archives.{has_letter}
+use Rattle.clfs_archive_form.proofs.Words.{◌+◌, ◌≤◌, length, ◌∙◌, sym, arith, has_letter}
 use Rattle.clfs_archive_form.proofs.Searches.{passes_on, fails_here}
 use Rattle.clfs_archive_form.proofs.archives.wrong_letter.Goals as goal
 

@@ -1,6 +1,4 @@
-use Rattle.std.proofs.Common.{◌≡◌, ◌+◌, ◌-◌, ◌≤◌, length}
-use Rattle.clfs_block.specs.Checks.{first_failing}
-use Rattle.clfs_archive_form.specs.Archives.{has_letter}
+use Rattle.clfs_archive_form.proofs.Words.{◌≡◌, ◌+◌, ◌-◌, ◌≤◌, length, first_failing, has_letter}
 use Rattle.clfs_archive_form.proofs.archives.wrong_letter.Given as goal
 
 -- the first wrong letter from here on is the first of all, and the letters before it are there

@@ -1,7 +1,4 @@
-use Rattle.std.proofs.Common.{◌≡◌, max, take}
-use Rattle.std.specs.List.{fold}
-use Rattle.clfs_lsn.specs.Lsn.{lsn_number}
-use Rattle.clfs_base.specs.declared.image.Row.{Row}
+use Rattle.clfs_archive_form.proofs.Words.{◌≡◌, max, take, fold, lsn_number, Row}
 use Rattle.clfs_archive_form.proofs.choosing.low_bound.Given as goal
 
 abbrev pub invariant-loop-row : goal.invariant-loop-row

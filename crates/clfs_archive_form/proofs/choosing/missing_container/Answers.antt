@@ -1,7 +1,5 @@
-use Rattle.std.proofs.Common.{Bool, not, Option, sym, ◌∙◌, ap}
+use Rattle.clfs_archive_form.proofs.Words.{Bool, not, Option, sym, ◌∙◌, ap, Stored, is_missing}
 use Rattle.std.specs.Prelude.{is_some, length}
-use Rattle.clfs_archive_form.specs.declared.archive.Stored.{Stored}
-use Rattle.clfs_archive_form.specs.Restoring.{is_missing}
 use Rattle.clfs_archive_form.proofs.Searches.{fails_on, passes_here, none_left}
 use Rattle.clfs_archive_form.proofs.choosing.missing_container.Goals as goal
 

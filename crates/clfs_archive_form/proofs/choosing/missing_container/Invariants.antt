@@ -1,6 +1,4 @@
-use Rattle.std.proofs.Common.{◌≡◌, ◌+◌, ◌-◌, length}
-use Rattle.std.specs.List.{find, range_with_len}
-use Rattle.clfs_archive_form.specs.Restoring.{is_missing}
+use Rattle.clfs_archive_form.proofs.Words.{◌≡◌, ◌+◌, ◌-◌, length, find, range_with_len, is_missing}
 use Rattle.clfs_archive_form.proofs.choosing.missing_container.Given as goal
 
 -- the first that is missing from here on is the first of all

@@ -1,10 +1,4 @@
-use Rattle.std.proofs.Common.{ℕ, ◌+◌, List, sym, ◌∙◌, ap, subst, arith}
-use Rattle.std.proofs.lemmas.Result.{err_from_is_err_and}
-use Rattle.clfs_lsn.specs.declared.shape.Shape.{Shape}
-use Rattle.clfs_recover.specs.Gathering.{RefusesAs}
-use Rattle.clfs_recover.specs.Stored.{stored_in}
-use Rattle.clfs_archive_form.specs.Containers.{blocks_in, length_there}
-use Rattle.clfs_archive_form.specs.Reading.{RefusesAt}
+use Rattle.clfs_archive_form.proofs.Words.{ℕ, ◌+◌, List, sym, ◌∙◌, ap, subst, arith, err_from_is_err_and, Shape, RefusesAs, stored_in, blocks_in, length_there, RefusesAt}
 use Rattle.clfs_archive_form.proofs.Grammar.{no_id, no_length, no_blocks, is_cut, is_there}
 use Rattle.clfs_archive_form.proofs.containers.read_container.Goals as goal
 

@@ -1,9 +1,4 @@
-use Rattle.std.proofs.Common.{◌+◌, List, length, sym, ◌∙◌, ap, subst, refl, arith}
-use Rattle.std.proofs.lemmas.Result.{err_from_is_err_and}
-use Rattle.clfs_archive_form.specs.declared.archive.Stored.{Stored}
-use Rattle.clfs_archive_form.specs.Containers.{container_there}
-use Rattle.clfs_archive_form.specs.Judging.{Judging}
-use Rattle.clfs_archive_form.specs.Reading.{RefusesAt, LieWithin}
+use Rattle.clfs_archive_form.proofs.Words.{◌+◌, List, length, sym, ◌∙◌, ap, subst, refl, arith, err_from_is_err_and, Stored, container_there, Judging, RefusesAt, LieWithin}
 use Rattle.clfs_archive_form.proofs.Grammar.{lie_more, none_taken, no_container, takes_one, all_taken}
 use Rattle.clfs_archive_form.proofs.containers.read_containers.Goals as goal
 

@@ -1,5 +1,4 @@
-use Rattle.std.proofs.Common.{◌≡◌, ◌≤◌, length}
-use Rattle.clfs_archive_form.specs.Reading.{LieWithin}
+use Rattle.clfs_archive_form.proofs.Words.{◌≡◌, ◌≤◌, length, LieWithin}
 use Rattle.clfs_archive_form.proofs.Grammar.{TakenTo}
 use Rattle.clfs_archive_form.proofs.containers.read_containers.Given as goal
 

@@ -1,7 +1,4 @@
-use Rattle.std.proofs.Common.{ℕ, ◌+◌, List, sym, subst, arith}
-use Rattle.clfs_block.specs.Frame.{AreBytes}
-use Rattle.clfs_base.specs.Demands.{Meets}
-use Rattle.clfs_base.specs.declared.demands.Demands.{Demands}
+use Rattle.clfs_archive_form.proofs.Words.{ℕ, ◌+◌, List, sym, subst, arith, AreBytes, Meets, Demands}
 use Rattle.clfs_archive_form.proofs.Slots.{copy_right, part_of_bytes, whole_slot, suits}
 use Rattle.clfs_archive_form.proofs.copies.read_copy.Goals as goal
 

@@ -1,4 +1,4 @@
-use Rattle.std.proofs.Common.{sym, ◌∙◌}
+use Rattle.clfs_archive_form.proofs.Words.{sym, ◌∙◌}
 use Rattle.clfs_archive_form.proofs.Slots.{of_file, of_row, of_end}
 use Rattle.clfs_archive_form.proofs.copies.width_at.Goals as goal
 

@@ -1,6 +1,4 @@
-use Rattle.std.proofs.Common.{◌≡◌, ◌-◌, ◌∙◌, ℕ, List, length, ap, arith}
-use Rattle.std.specs.List.{range_with_len}
-use Rattle.std.proofs.lemmas.List.FromFn.{length-range_with_len}
+use Rattle.clfs_archive_form.proofs.Words.{◌≡◌, ◌-◌, ◌∙◌, ℕ, List, length, ap, arith, range_with_len, length-range_with_len}
 use Rattle.clfs_archive_form.proofs.RestoredCopies.{one_file_more}
 use Rattle.clfs_archive_form.proofs.copy.first_files.Goals as goal
 

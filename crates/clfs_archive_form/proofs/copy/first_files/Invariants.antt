@@ -1,5 +1,4 @@
-use Rattle.std.proofs.Common.{◌≡◌, ◌-◌, ◌≤◌}
-use Rattle.std.specs.List.{range_with_len}
+use Rattle.clfs_archive_form.proofs.Words.{◌≡◌, ◌-◌, ◌≤◌, range_with_len}
 use Rattle.clfs_archive_form.proofs.copy.first_files.Given as goal
 
 abbrev pub invariant-loop-number : goal.invariant-loop-number

@@ -1,4 +1,4 @@
-use Rattle.std.proofs.Common.{arith}
+use Rattle.clfs_archive_form.proofs.Words.{arith}
 use Rattle.clfs_archive_form.proofs.RestoredCopies.{row_written}
 use Rattle.clfs_archive_form.proofs.copy.lower_bases.Goals as goal
 

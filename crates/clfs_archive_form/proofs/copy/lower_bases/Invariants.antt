@@ -1,5 +1,4 @@
-use Rattle.std.proofs.Common.{◌≡◌, ◌++◌, take, drop}
-use Rattle.clfs_archive_form.specs.Written.{lowered_rows}
+use Rattle.clfs_archive_form.proofs.Words.{◌≡◌, ◌++◌, take, drop, lowered_rows}
 use Rattle.clfs_archive_form.proofs.copy.lower_bases.Given as goal
 
 abbrev pub invariant-loop-i : goal.invariant-loop-i

@@ -1,8 +1,4 @@
-use Rattle.std.proofs.Common.{◌≡◌, min, ◌∙◌, sym, ap, subst, arith}
-use Rattle.std.specs.List.{range_with_len}
-use Rattle.clfs_base.specs.declared.image.BaseImage.{BaseImage}
-use Rattle.clfs_base.specs.Spelling.{IsImage}
-use Rattle.clfs_archive_form.specs.Written.{kept_count, lowered_rows, restored_copy}
+use Rattle.clfs_archive_form.proofs.Words.{◌≡◌, min, ◌∙◌, sym, ap, subst, arith, range_with_len, BaseImage, IsImage, kept_count, lowered_rows, restored_copy}
 use Rattle.clfs_archive_form.proofs.RestoredCopies.{copy_fits}
 use Rattle.clfs_archive_form.proofs.copy.restored_copy.Goals as goal
 

@@ -1,9 +1,4 @@
-use Rattle.std.proofs.Common.{◌≡◌, ℕ, List, [], Option, Result, Ok, sym, ◌∙◌, ap, subst}
-use Rattle.clfs_lsn.specs.Lsn.{lsn_number}
-use Rattle.clfs_lsn.specs.declared.entry.LogEntry.{LogEntry}
-use Rattle.clfs_block.specs.Records.{block_records}
-use Rattle.clfs_block.specs.declared.head.BlockRefusal.{BlockRefusal}
-use Rattle.clfs_recover.specs.declared.refusal.LoadRefusal.{LoadRefusal}
+use Rattle.clfs_archive_form.proofs.Words.{◌≡◌, ℕ, List, [], Option, Result, Ok, sym, ◌∙◌, ap, subst, lsn_number, LogEntry, block_records, BlockRefusal, LoadRefusal}
 use Rattle.clfs_archive_form.proofs.Bare.{bare, bare_bases}
 use Rattle.clfs_archive_form.proofs.Blocks.{gathered}
 use Rattle.clfs_archive_form.proofs.kept.block_entries.Goals as goal

@@ -1,15 +1,4 @@
-use Rattle.std.proofs.Common.{◌≡◌, ℕ, ◌+◌, ◌/◌, ◌≤◌, List, length, take, sym, ◌∙◌, ap, subst, arith}
-use Rattle.std.specs.Prelude.{All}
-use Rattle.std.specs.List.{flat_map}
-use Rattle.std.proofs.lemmas.Result.{on_ok_weaker}
-use Rattle.clfs_lsn.specs.Format.{open_gate}
-use Rattle.clfs_lsn.specs.Lsn.{lsn_number, offset_of}
-use Rattle.clfs_lsn.specs.Size.{sectors}
-use Rattle.clfs_lsn.specs.Spelling.{FitsAt, record_bytes}
-use Rattle.clfs_lsn.specs.declared.entry.LogEntry.{LogEntry}
-use Rattle.clfs_block.specs.Frame.{SpellsBlock}
-use Rattle.clfs_block.specs.Records.{block_records}
-use Rattle.clfs_recover.specs.Stored.{HasRecords}
+use Rattle.clfs_archive_form.proofs.Words.{◌≡◌, ℕ, ◌+◌, ◌/◌, ◌≤◌, List, length, take, sym, ◌∙◌, ap, subst, arith, All, flat_map, on_ok_weaker, open_gate, lsn_number, offset_of, sectors, FitsAt, record_bytes, LogEntry, SpellsBlock, block_records, HasRecords}
 use Rattle.clfs_archive_form.proofs.CutBlocks.{cut_fits, cut_few, cut_room, cut_has}
 use Rattle.clfs_archive_form.proofs.ReadRecords.{has_read, one_value}
 use Rattle.clfs_archive_form.proofs.kept.cut_block.Goals as goal

@@ -1,5 +1,4 @@
-use Rattle.std.proofs.Common.{ℕ, List, drop, sym, ◌∙◌, ap, arith}
-use Rattle.clfs_block.specs.Checks.{frame_at}
+use Rattle.clfs_archive_form.proofs.Words.{ℕ, List, drop, sym, ◌∙◌, ap, arith, frame_at}
 use Rattle.clfs_archive_form.proofs.KeptEnds.{begins, ends, goes_on, stops, no_refusal}
 use Rattle.clfs_archive_form.proofs.OpenEnds.{ends_within}
 use Rattle.clfs_archive_form.proofs.kept.kept_end.Goals as goal

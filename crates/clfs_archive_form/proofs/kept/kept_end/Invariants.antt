@@ -1,7 +1,4 @@
-use Rattle.std.proofs.Common.{◌≡◌, ◌-◌, ◌≤◌, ℕ, List, length, Ok}
-use Rattle.clfs_lsn.specs.declared.entry.LogEntry.{LogEntry}
-use Rattle.clfs_recover.specs.Stored.{stored_in}
-use Rattle.clfs_archive_form.specs.Containers.{blocks_in}
+use Rattle.clfs_archive_form.proofs.Words.{◌≡◌, ◌-◌, ◌≤◌, ℕ, List, length, Ok, LogEntry, stored_in, blocks_in}
 use Rattle.clfs_archive_form.proofs.KeptEnds.{KeptTo}
 use Rattle.clfs_archive_form.proofs.kept.kept_end.Given as goal
 

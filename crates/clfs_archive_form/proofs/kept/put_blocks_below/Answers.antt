@@ -1,7 +1,4 @@
-use Rattle.std.proofs.Common.{ℕ, ◌++◌, List, take, ◌∙◌, ap, append_assoc, arith}
-use Rattle.std.proofs.lemmas.Result.{on_ok_weaker}
-use Rattle.clfs_lsn.specs.Lsn.{lsn_number}
-use Rattle.clfs_block.specs.Records.{block_records}
+use Rattle.clfs_archive_form.proofs.Words.{ℕ, ◌++◌, List, take, ◌∙◌, ap, append_assoc, arith, on_ok_weaker, lsn_number, block_records}
 use Rattle.clfs_archive_form.proofs.CutBlocks.{keeps_whole, keeps_cut}
 use Rattle.clfs_archive_form.proofs.kept.put_blocks_below.Goals as goal
 

@@ -1,6 +1,4 @@
-use Rattle.std.proofs.Common.{◌≡◌, take}
-use Rattle.std.specs.List.{flat_map}
-use Rattle.clfs_lsn.specs.Spelling.{record_bytes}
+use Rattle.clfs_archive_form.proofs.Words.{◌≡◌, take, flat_map, record_bytes}
 use Rattle.clfs_archive_form.proofs.kept.spell.Given as goal
 
 abbrev pub invariant-loop-entry : goal.invariant-loop-entry

@@ -1,7 +1,4 @@
-use Rattle.std.proofs.Common.{◌≡◌, List, [], ◌∷◌, ℕ, Ok, sym, subst}
-use Rattle.clfs_archive_form.specs.Archives.{archives_in}
-use Rattle.clfs_archive_form.specs.Form.{archived_pieces}
-use Rattle.clfs_archive_form.specs.ReadBack.{archive_alone}
+use Rattle.clfs_archive_form.proofs.Words.{◌≡◌, List, [], ◌∷◌, ℕ, Ok, sym, subst, archives_in, archived_pieces, archive_alone}
 use Rattle.clfs_archive_form.proofs.ReadBack.{held, log_back}
 use Rattle.clfs_archive_form.proofs.laws.an_archive_is_read_back.Goals as goal
 

@@ -1,4 +1,4 @@
-use Rattle.std.proofs.Common.{arith}
+use Rattle.clfs_archive_form.proofs.Words.{arith}
 use Rattle.clfs_archive_form.proofs.RestoredFiles.{stand}
 use Rattle.clfs_archive_form.proofs.laws.restored_files_stand_for_the_log.Goals as goal
 

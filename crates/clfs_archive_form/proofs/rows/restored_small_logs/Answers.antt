@@ -1,10 +1,4 @@
-use Rattle.std.proofs.Common.{refl}
-use Rattle.clfs_lsn.specs.Spelling.{record_at}
-use Rattle.clfs_block.specs.Checks.{frame_at, sectors_at}
-use Rattle.clfs_block.specs.Records.{block_records}
-use Rattle.clfs_archive_form.specs.Archives.{copy_there, rest_there}
-use Rattle.clfs_archive_form.specs.Containers.{container_there}
-use Rattle.clfs_archive_form.specs.Restoring.{kept_records}
+use Rattle.clfs_archive_form.proofs.Words.{refl, record_at, frame_at, sectors_at, block_records, copy_there, rest_there, container_there, kept_records}
 use Rattle.clfs_archive_form.proofs.rows.restored_small_logs.Goals as goal
 
 pub returns : goal.returns

@@ -1,10 +1,4 @@
-use Rattle.std.proofs.Common.{◌≡◌, ℕ, Option, Ok, ap, sym, ◌∙◌, arith}
-use Rattle.clfs_lsn.specs.Checks.{unless_wrong}
-use Rattle.clfs_base.specs.declared.demands.Demands.{Demands}
-use Rattle.clfs_base.specs.declared.layout.Layout.{Layout}
-use Rattle.clfs_base.specs.Layout.{layout_of, layout_in}
-use Rattle.clfs_base.specs.Checks.{image_of}
-use Rattle.clfs_base.specs.Demands.{anything, fault_within}
+use Rattle.clfs_base.proofs.Words.{◌≡◌, ℕ, Option, Ok, ap, sym, ◌∙◌, arith, unless_wrong, Demands, Layout, layout_of, layout_in, image_of, anything, fault_within}
 use Rattle.clfs_base.proofs.AskedFields.{any_fault}
 use Rattle.clfs_base.proofs.Images.{found}
 use Rattle.clfs_base.proofs.checking.check_copy.Goals as goal

@@ -1,12 +1,4 @@
-use Rattle.std.proofs.Common.{◌≡◌, ℕ, List, Option, None, Result, Ok, Err, ap, sym, ◌∙◌}
-use Rattle.std.proofs.lemmas.Result.{err_from_is_err_and}
-use Rattle.clfs_lsn.specs.Checks.{unless_wrong}
-use Rattle.clfs_base.specs.declared.image.BaseImage.{BaseImage}
-use Rattle.clfs_base.specs.declared.layout.Numbers.{Numbers}
-use Rattle.clfs_base.specs.declared.refusal.NewestRefusal.{NewestRefusal}
-use Rattle.clfs_base.specs.Layout.{layout_in}
-use Rattle.clfs_base.specs.Checks.{slot_fault, image_of, image_at}
-use Rattle.clfs_base.specs.Slots.{used_slot, copy_in, copy_of, newest_of}
+use Rattle.clfs_base.proofs.Words.{◌≡◌, ℕ, List, Option, None, Result, Ok, Err, ap, sym, ◌∙◌, err_from_is_err_and, unless_wrong, BaseImage, Numbers, NewestRefusal, layout_in, slot_fault, image_of, image_at, used_slot, copy_in, copy_of, newest_of}
 use Rattle.clfs_base.specs.Slots as slots
 use Rattle.clfs_base.specs.Told.{numbers_told}
 use Rattle.clfs_base.proofs.Telling.{same_numbers}

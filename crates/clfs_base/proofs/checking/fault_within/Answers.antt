@@ -1,7 +1,4 @@
-use Rattle.std.proofs.Common.{ℕ, sym, ap, ◌∙◌}
-use Rattle.std.specs.List.{zip}
-use Rattle.clfs_base.specs.Checks.{other_byte}
-use Rattle.clfs_base.specs.Demands.{wrong_within}
+use Rattle.clfs_base.proofs.Words.{ℕ, sym, ap, ◌∙◌, zip, other_byte, wrong_within}
 use Rattle.clfs_base.proofs.Searches.{goes_on, stops_at}
 use Rattle.clfs_base.proofs.Chains.{chained_within}
 use Rattle.clfs_base.proofs.checking.fault_within.Goals as goal

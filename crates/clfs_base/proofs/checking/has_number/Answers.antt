@@ -1,7 +1,5 @@
-use Rattle.std.proofs.Common.{◌≡◌, ⊎_elim, ℕ, eqb, sym, ◌∙◌, ap, arith}
-use Rattle.std.proofs.lemmas.Bool.{cases_eq, ne_eqb, eq-eqb}
-use Rattle.clfs_base.specs.Layout.{number_at}
-use Rattle.clfs_base.specs.Checks.{file_in}
+use Rattle.clfs_base.proofs.Words.{◌≡◌, ⊎_elim, ℕ, eqb, sym, ◌∙◌, ap, arith, cases_eq, number_at, file_in}
+use Rattle.std.proofs.lemmas.Bool.{ne_eqb, eq-eqb}
 use Rattle.clfs_base.proofs.Places.{none_passes}
 use Rattle.clfs_base.proofs.Earlier.{one_passes}
 use Rattle.clfs_base.proofs.checking.has_number.Goals as goal

@@ -1,5 +1,4 @@
-use Rattle.std.proofs.Common.{◌≡◌, ◌<◌, ℕ, false, eqb}
-use Rattle.clfs_base.specs.Checks.{file_in}
+use Rattle.clfs_base.proofs.Words.{◌≡◌, ◌<◌, ℕ, false, eqb, file_in}
 use Rattle.clfs_base.proofs.checking.has_number.Given as goal
 
 -- none so far is the number

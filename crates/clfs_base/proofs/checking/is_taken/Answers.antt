@@ -1,7 +1,4 @@
-use Rattle.std.proofs.Common.{ℕ, List, sym, ◌∙◌, ap, arith}
-use Rattle.std.specs.Str.{bytes_eq}
-use Rattle.clfs_base.specs.declared.image.Row.{Row}
-use Rattle.clfs_base.specs.Checks.{name_in, row_of}
+use Rattle.clfs_base.proofs.Words.{ℕ, List, sym, ◌∙◌, ap, arith, bytes_eq, Row, name_in, row_of}
 use Rattle.clfs_base.proofs.Places.{none_passes}
 use Rattle.clfs_base.proofs.Earlier.{one_passes}
 use Rattle.clfs_base.proofs.checking.is_taken.Goals as goal

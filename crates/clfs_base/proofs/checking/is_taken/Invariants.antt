@@ -1,7 +1,4 @@
-use Rattle.std.proofs.Common.{◌≡◌, ◌<◌, ℕ, false}
-use Rattle.std.specs.Str.{bytes_eq}
-use Rattle.clfs_base.specs.Layout.{row_place}
-use Rattle.clfs_base.specs.Checks.{name_in}
+use Rattle.clfs_base.proofs.Words.{◌≡◌, ◌<◌, ℕ, false, bytes_eq, row_place, name_in}
 use Rattle.clfs_base.proofs.checking.is_taken.Given as goal
 
 -- none so far has the name

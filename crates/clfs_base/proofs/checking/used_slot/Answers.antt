@@ -1,5 +1,4 @@
-use Rattle.std.proofs.Common.{◌≡◌, ◌∙◌, arith}
-use Rattle.clfs_base.specs.Slots.{front_of, slot_by}
+use Rattle.clfs_base.proofs.Words.{◌≡◌, ◌∙◌, arith, front_of, slot_by}
 use Rattle.clfs_base.proofs.checking.used_slot.Goals as goal
 
 pub returns-clause-exact : goal.returns-clause-exact

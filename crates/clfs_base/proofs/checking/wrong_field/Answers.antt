@@ -1,11 +1,4 @@
-use Rattle.std.proofs.Common.{◌≡◌, ℕ, ◌+◌, ◌<◌, Bool, true, false, cond, List, length, get_or, drop, find, Some, sym, ◌∙◌, ap, arith}
-use Rattle.std.specs.List.{zip}
-use Rattle.std.specs.Option.{option_map}
-use Rattle.std.proofs.lemmas.List.{drop_more, drop_all}
-use Rattle.clfs_base.specs.declared.demands.Asked.{Asked}
-use Rattle.clfs_base.specs.declared.demands.Asked.TheVariants.{Anything}
-use Rattle.clfs_base.specs.declared.layout.Field.{Field}
-use Rattle.clfs_base.specs.Demands.{is_wrong_within, wrong_within}
+use Rattle.clfs_base.proofs.Words.{◌≡◌, ℕ, ◌+◌, ◌<◌, Bool, true, false, cond, List, length, get_or, drop, find, Some, sym, ◌∙◌, ap, arith, zip, option_map, drop_more, drop_all, Asked, Anything, Field, is_wrong_within, wrong_within}
 use Rattle.clfs_base.proofs.Tables.{no_field}
 use Rattle.clfs_base.proofs.checking.wrong_field.Goals as goal
 

@@ -1,6 +1,4 @@
-use Rattle.std.proofs.Common.{◌≡◌, drop}
-use Rattle.std.specs.List.{zip}
-use Rattle.clfs_base.specs.Demands.{wrong_within}
+use Rattle.clfs_base.proofs.Words.{◌≡◌, drop, zip, wrong_within}
 use Rattle.clfs_base.proofs.checking.wrong_field.Given as goal
 
 -- the first wrong field from here on is the first of all

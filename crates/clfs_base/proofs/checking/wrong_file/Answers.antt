@@ -1,6 +1,4 @@
-use Rattle.std.proofs.Common.{Bool, true, sym, ap, ◌∙◌}
-use Rattle.clfs_base.specs.Layout.{file_place}
-use Rattle.clfs_base.specs.Checks.{told, is_wrong_file}
+use Rattle.clfs_base.proofs.Words.{Bool, true, sym, ap, ◌∙◌, file_place, told, is_wrong_file}
 use Rattle.clfs_base.proofs.Searches.{passes_on, found_here, ends_here}
 use Rattle.clfs_base.proofs.checking.wrong_file.Goals as goal
 

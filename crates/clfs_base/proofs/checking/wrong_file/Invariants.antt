@@ -1,6 +1,4 @@
-use Rattle.std.proofs.Common.{◌≡◌, ◌-◌}
-use Rattle.clfs_base.specs.Layout.{file_place}
-use Rattle.clfs_base.specs.Checks.{first_some, told, is_wrong_file, wrong_file}
+use Rattle.clfs_base.proofs.Words.{◌≡◌, ◌-◌, file_place, first_some, told, is_wrong_file, wrong_file}
 use Rattle.clfs_base.proofs.checking.wrong_file.Given as goal
 
 -- the first wrong number from here on is the first of all

@@ -1,6 +1,4 @@
-use Rattle.std.proofs.Common.{sym, ◌∙◌}
-use Rattle.clfs_base.specs.Layout.{row_place}
-use Rattle.clfs_base.specs.Checks.{row_fault, rows_of}
+use Rattle.clfs_base.proofs.Words.{sym, ◌∙◌, row_place, row_fault, rows_of}
 use Rattle.clfs_base.proofs.Searches.{passes_on, found_here, ends_here}
 use Rattle.clfs_base.proofs.checking.wrong_row.Goals as goal
 

@@ -1,6 +1,4 @@
-use Rattle.std.proofs.Common.{◌≡◌, ◌-◌}
-use Rattle.clfs_base.specs.Layout.{row_place}
-use Rattle.clfs_base.specs.Checks.{first_some, row_fault, wrong_row, rows_of}
+use Rattle.clfs_base.proofs.Words.{◌≡◌, ◌-◌, row_place, first_some, row_fault, wrong_row, rows_of}
 use Rattle.clfs_base.proofs.checking.wrong_row.Given as goal
 
 -- the first wrong byte from here on is the first of all

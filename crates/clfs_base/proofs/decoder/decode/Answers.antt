@@ -1,4 +1,4 @@
-use Rattle.std.proofs.Common.{arith}
+use Rattle.clfs_base.proofs.Words.{arith}
 use Rattle.clfs_base.proofs.Copies.{written}
 use Rattle.clfs_base.proofs.Images.{if_found, if_written}
 use Rattle.clfs_base.proofs.decoder.decode.Goals as goal

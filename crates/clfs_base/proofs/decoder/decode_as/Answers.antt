@@ -1,8 +1,4 @@
-use Rattle.std.proofs.Common.{ℕ, ◌≤◌, List, sym, ap, subst, ◌∙◌}
-use Rattle.clfs_base.specs.declared.image.Row.{Row}
-use Rattle.clfs_base.specs.declared.layout.Numbers.{Numbers}
-use Rattle.clfs_lsn.specs.Limits.{most_containers}
-use Rattle.clfs_base.specs.Checks.{files_in, rows_of, image_with}
+use Rattle.clfs_base.proofs.Words.{ℕ, ◌≤◌, List, sym, ap, subst, ◌∙◌, Row, Numbers, most_containers, files_in, rows_of, image_with}
 use Rattle.clfs_base.proofs.AskedFields.{few_asked}
 use Rattle.clfs_base.proofs.decoder.decode_as.Goals as goal
 

@@ -1,9 +1,4 @@
-use Rattle.std.proofs.Common.{◌≡◌, ap, subst, ◌∙◌}
-use Rattle.clfs_base.specs.declared.layout.Layout.{Layout}
-use Rattle.clfs_base.specs.Layout.{layout_of, layout_in}
-use Rattle.clfs_base.specs.Checks.{image_of}
-use Rattle.clfs_base.specs.Decoding.{Gives}
-use Rattle.clfs_base.specs.Demands.{fault_within}
+use Rattle.clfs_base.proofs.Words.{◌≡◌, ap, subst, ◌∙◌, Layout, layout_of, layout_in, image_of, Gives, fault_within}
 use Rattle.clfs_base.proofs.AskedFields.{if_asked, if_met, if_any}
 use Rattle.clfs_base.proofs.decoder.decode_within.Goals as goal
 

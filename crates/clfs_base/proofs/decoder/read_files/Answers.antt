@@ -1,7 +1,4 @@
-use Rattle.std.proofs.Common.{◌≡◌, ◌∷◌, ◌++◌, [], ℕ, List, length, ap, sym, ◌∙◌, arith}
-use Rattle.std.proofs.lemmas.List.FromFn.{length-map-range_with_len, map-range_with_len_more}
-use Rattle.clfs_base.specs.Layout.{number_at}
-use Rattle.clfs_base.specs.Checks.{file_in, files_in}
+use Rattle.clfs_base.proofs.Words.{◌≡◌, ◌∷◌, ◌++◌, [], ℕ, List, length, ap, sym, ◌∙◌, arith, length-map-range_with_len, map-range_with_len_more, number_at, file_in, files_in}
 use Rattle.clfs_base.proofs.decoder.read_files.Goals as goal
 
 pub push-requires : goal.push-requires

@@ -1,5 +1,4 @@
-use Rattle.std.proofs.Common.{◌≡◌}
-use Rattle.clfs_base.specs.Checks.{files_in}
+use Rattle.clfs_base.proofs.Words.{◌≡◌, files_in}
 use Rattle.clfs_base.proofs.decoder.read_files.Given as goal
 
 -- the numbers so far are read

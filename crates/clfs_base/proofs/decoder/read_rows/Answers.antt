@@ -1,8 +1,4 @@
-use Rattle.std.proofs.Common.{◌≡◌, ◌+◌, ◌∷◌, ◌++◌, [], ℕ, List, sym, ap, ◌∙◌, arith}
-use Rattle.std.proofs.lemmas.List.FromFn.{map-range_with_len_more}
-use Rattle.clfs_base.specs.declared.image.Row.{Row}
-use Rattle.clfs_base.specs.Layout.{number_at}
-use Rattle.clfs_base.specs.Checks.{row_of, rows_of, name_in}
+use Rattle.clfs_base.proofs.Words.{◌≡◌, ◌+◌, ◌∷◌, ◌++◌, [], ℕ, List, sym, ap, ◌∙◌, arith, map-range_with_len_more, Row, number_at, row_of, rows_of, name_in}
 use Rattle.clfs_base.proofs.decoder.read_rows.Goals as goal
 
 abbrev same_row : List ℕ → ℕ → Row

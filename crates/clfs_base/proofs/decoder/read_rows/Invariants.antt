@@ -1,5 +1,4 @@
-use Rattle.std.proofs.Common.{◌≡◌}
-use Rattle.clfs_base.specs.Checks.{rows_of}
+use Rattle.clfs_base.proofs.Words.{◌≡◌, rows_of}
 use Rattle.clfs_base.proofs.decoder.read_rows.Given as goal
 
 -- the rows so far are read

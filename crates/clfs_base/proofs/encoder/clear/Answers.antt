@@ -1,5 +1,4 @@
-use Rattle.std.proofs.Common.{length, sym, ◌∙◌, arith}
-use Rattle.std.proofs.lemmas.List.{ext_get_or, length-replicate, get_or-replicate}
+use Rattle.clfs_base.proofs.Words.{length, sym, ◌∙◌, arith, ext_get_or, length-replicate, get_or-replicate}
 use Rattle.clfs_base.proofs.encoder.clear.Goals as goal
 
 pub returns : goal.returns

@@ -1,4 +1,4 @@
-use Rattle.std.proofs.Common.{◌≡◌, ◌<◌, ℕ, get_or}
+use Rattle.clfs_base.proofs.Words.{◌≡◌, ◌<◌, ℕ, get_or}
 use Rattle.clfs_base.proofs.encoder.clear.Given as goal
 
 -- what was gone over is zeros

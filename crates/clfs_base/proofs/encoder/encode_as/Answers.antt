@@ -1,11 +1,4 @@
-use Rattle.std.proofs.Common.{◌≡◌, ◌*◌, ◌≤◌, ℕ, List, ◌++◌, length, sym, ap, refl, ◌∙◌, arith}
-use Rattle.std.proofs.lemmas.List.{length-take-le}
-use Rattle.std.specs.List.{flat_map}
-use Rattle.clfs_base.specs.declared.layout.Numbers.{Numbers}
-use Rattle.clfs_base.specs.declared.image.BaseImage.{BaseImage}
-use Rattle.clfs_base.specs.declared.image.Row.{Row}
-use Rattle.clfs_base.specs.Layout.{fields}
-use Rattle.clfs_base.specs.Spelling.{numbers_for, filled, field_bytes, number_bytes, spelled_row}
+use Rattle.clfs_base.proofs.Words.{◌≡◌, ◌*◌, ◌≤◌, ℕ, List, ◌++◌, length, sym, ap, refl, ◌∙◌, arith, length-take-le, flat_map, Numbers, BaseImage, Row, fields, numbers_for, filled, field_bytes, number_bytes, spelled_row}
 use Rattle.clfs_base.proofs.Filling.{parts_joined, length-filled, length-all_pieces}
 use Rattle.clfs_base.proofs.encoder.encode_as.Goals as goal
 

@@ -1,5 +1,4 @@
-use Rattle.std.proofs.Common.{◌+◌, ℕ, List, ◌++◌, length, take, drop, ap, ◌∙◌}
-use Rattle.byteorder.specs.Endian.{little_bytes}
+use Rattle.clfs_base.proofs.Words.{◌+◌, ℕ, List, ◌++◌, length, take, drop, ap, ◌∙◌, little_bytes}
 use Rattle.clfs_base.proofs.Filling.{row_filled}
 use Rattle.clfs_base.proofs.encoder.fill_row.Goals as goal
 

@@ -1,6 +1,5 @@
-use Rattle.std.proofs.Common.{◌+◌, ◌++◌, ℕ, List, length, take, drop, ap, ◌∙◌}
+use Rattle.clfs_base.proofs.Words.{◌+◌, ◌++◌, ℕ, List, length, take, drop, ap, ◌∙◌, little_bytes}
 use Rattle.clfs_base.proofs.Filling.{length-low, take-low}
-use Rattle.byteorder.specs.Endian.{little_bytes}
 use Rattle.clfs_base.proofs.encoder.put.Goals as goal
 
 pub returns : goal.returns

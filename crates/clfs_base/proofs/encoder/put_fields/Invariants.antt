@@ -1,7 +1,4 @@
-use Rattle.std.proofs.Common.{◌≡◌, take}
-use Rattle.std.specs.List.{flat_map}
-use Rattle.clfs_base.specs.Layout.{fields}
-use Rattle.clfs_base.specs.Spelling.{filled, field_bytes}
+use Rattle.clfs_base.proofs.Words.{◌≡◌, take, flat_map, fields, filled, field_bytes}
 use Rattle.clfs_base.proofs.encoder.put_fields.Given as goal
 
 -- the fields so far, and zeros after them

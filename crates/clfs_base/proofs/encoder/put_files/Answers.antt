@@ -1,5 +1,4 @@
-use Rattle.std.proofs.Common.{◌*◌, get_or, refl, sym, ◌∙◌, arith}
-use Rattle.clfs_base.specs.Spelling.{number_bytes}
+use Rattle.clfs_base.proofs.Words.{◌*◌, get_or, refl, sym, ◌∙◌, arith, number_bytes}
 use Rattle.clfs_base.proofs.Filling.{put_more, length-pieces}
 use Rattle.clfs_base.proofs.encoder.put_files.Goals as goal
 

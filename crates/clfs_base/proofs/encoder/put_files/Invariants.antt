@@ -1,6 +1,4 @@
-use Rattle.std.proofs.Common.{◌≡◌, take}
-use Rattle.std.specs.List.{flat_map}
-use Rattle.clfs_base.specs.Spelling.{filled, number_bytes}
+use Rattle.clfs_base.proofs.Words.{◌≡◌, take, flat_map, filled, number_bytes}
 use Rattle.clfs_base.proofs.encoder.put_files.Given as goal
 
 -- the numbers so far, and zeros after them

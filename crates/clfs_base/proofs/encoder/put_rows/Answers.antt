@@ -1,4 +1,4 @@
-use Rattle.std.proofs.Common.{◌*◌, ◌≤◌, ℕ, length, replicate, sym, subst, ap, ◌∙◌}
+use Rattle.clfs_base.proofs.Words.{◌*◌, ◌≤◌, ℕ, length, replicate, sym, subst, ap, ◌∙◌}
 use Rattle.clfs_base.proofs.Filling.{rows_more}
 use Rattle.clfs_base.proofs.encoder.put_rows.Goals as goal
 

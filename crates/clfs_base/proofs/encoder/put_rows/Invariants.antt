@@ -1,6 +1,4 @@
-use Rattle.std.proofs.Common.{◌≡◌, take}
-use Rattle.std.specs.List.{flat_map}
-use Rattle.clfs_base.specs.Spelling.{filled, spelled_row}
+use Rattle.clfs_base.proofs.Words.{◌≡◌, take, flat_map, filled, spelled_row}
 use Rattle.clfs_base.proofs.encoder.put_rows.Given as goal
 
 -- the rows so far, and zeros after them

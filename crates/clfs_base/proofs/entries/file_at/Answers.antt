@@ -1,7 +1,4 @@
-use Rattle.std.proofs.Common.{◌∙◌, ap, slice_get}
-use Rattle.clfs_base.specs.declared.image.BaseImage.{BaseImage}
-use Rattle.clfs_base.specs.Layout.{numbers_of}
-use Rattle.clfs_base.specs.Checks.{file_in}
+use Rattle.clfs_base.proofs.Words.{◌∙◌, ap, slice_get, BaseImage, numbers_of, file_in}
 use Rattle.clfs_base.proofs.Images.{image_is}
 use Rattle.clfs_base.proofs.Telling.{at_place}
 use Rattle.clfs_base.proofs.entries.file_at.Goals as goal

@@ -1,7 +1,4 @@
-use Rattle.std.proofs.Common.{◌∙◌, ap, slice_get}
-use Rattle.clfs_base.specs.declared.image.BaseImage.{BaseImage}
-use Rattle.clfs_base.specs.Layout.{layout_in, numbers_of}
-use Rattle.clfs_base.specs.Checks.{row_of}
+use Rattle.clfs_base.proofs.Words.{◌∙◌, ap, slice_get, BaseImage, layout_in, numbers_of, row_of}
 use Rattle.clfs_base.proofs.Images.{image_is}
 use Rattle.clfs_base.proofs.Telling.{at_place}
 use Rattle.clfs_base.proofs.entries.row_at.Goals as goal

@@ -1,6 +1,4 @@
-use Rattle.std.proofs.Common.{◌≡◌, ℕ, ◌*◌, ◌<◌, ◌≤◌, min, List, length, take, drop, ⊎_elim, sym, ◌∙◌, ap, arith}
-use Rattle.std.proofs.lemmas.Bool.{cases_lt}
-use Rattle.std.proofs.lemmas.List.{take_all, drop_all}
+use Rattle.clfs_base.proofs.Words.{◌≡◌, ℕ, ◌*◌, ◌<◌, ◌≤◌, min, List, length, take, drop, ⊎_elim, sym, ◌∙◌, ap, arith, cases_lt, take_all, drop_all}
 use Rattle.clfs_base.proofs.entries.slot_of.Goals as goal
 
 -- where a front ends after the list, all of it is taken, and nothing is left

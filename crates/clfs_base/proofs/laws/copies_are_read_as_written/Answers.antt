@@ -1,5 +1,4 @@
-use Rattle.std.proofs.Common.{refl}
-use Rattle.clfs_base.specs.Layout.{layout_of}
+use Rattle.clfs_base.proofs.Words.{refl, layout_of}
 use Rattle.clfs_base.proofs.Copies.{layout_fits, written}
 use Rattle.clfs_base.proofs.Spelled.{length-spelled}
 use Rattle.clfs_base.proofs.Images.{read, spelled_read, read_limits, read_may_be, one_image, may_be_current, fits_one, may_be_one}

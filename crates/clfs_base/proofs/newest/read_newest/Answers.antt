@@ -1,11 +1,6 @@
-use Rattle.std.proofs.Common.{ℕ, List, Result, IsTrue, ap, subst, sym, ◌∙◌, length, ◌≤◌}
-use Rattle.std.proofs.lemmas.Result.{err_from_is_err_and}
+use Rattle.clfs_base.proofs.Words.{ℕ, List, Result, ap, subst, sym, ◌∙◌, length, ◌≤◌, err_from_is_err_and, NewestRefusal, slot_bytes, image_at, slot_of, copy_in, copy_of, GivesNewest}
+use Rattle.std.proofs.Common.{IsTrue}
 use Rattle.clfs_disk.specs.State.{Nature, TellsContents}
-use Rattle.clfs_base.specs.declared.refusal.NewestRefusal.{NewestRefusal}
-use Rattle.clfs_base.specs.Layout.{slot_bytes}
-use Rattle.clfs_base.specs.Checks.{image_at}
-use Rattle.clfs_base.specs.Slots.{slot_of, copy_in, copy_of}
-use Rattle.clfs_base.specs.Decoding.{GivesNewest}
 use Rattle.clfs_base.proofs.CopyReads.{used_outside, none_used, copy_by}
 use Rattle.clfs_base.proofs.newest.read_newest.Goals as goal
 

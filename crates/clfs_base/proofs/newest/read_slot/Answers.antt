@@ -1,6 +1,5 @@
-use Rattle.std.proofs.Common.{◌≡◌, ◌-◌, ◌++◌, min, ℕ, List, length, take, drop, ap, sym, ◌∙◌, arith, length-drop}
-use Rattle.std.proofs.lemmas.List.{take_at, take_min}
-use Rattle.clfs_base.specs.Slots.{slot_place, slot_of}
+use Rattle.clfs_base.proofs.Words.{◌≡◌, ◌-◌, ◌++◌, min, ℕ, List, length, take, drop, ap, sym, ◌∙◌, arith, length-drop, take_at, slot_place, slot_of}
+use Rattle.std.proofs.lemmas.List.{take_min}
 use Rattle.clfs_base.proofs.newest.read_slot.Goals as goal
 
 -- what a read found, in a buffer that was cut off after it

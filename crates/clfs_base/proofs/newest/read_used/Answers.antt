@@ -1,5 +1,4 @@
-use Rattle.std.proofs.Common.{inr}
-use Rattle.std.proofs.lemmas.Result.{err_from_is_err_and}
+use Rattle.clfs_base.proofs.Words.{inr, err_from_is_err_and}
 use Rattle.clfs_base.proofs.CopyReads.{used_by, used_outside, reads_join}
 use Rattle.clfs_base.proofs.newest.read_used.Goals as goal
 

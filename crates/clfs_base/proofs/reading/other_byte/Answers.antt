@@ -1,5 +1,4 @@
-use Rattle.std.proofs.Common.{Bool, sym, ap, ◌∙◌}
-use Rattle.clfs_base.specs.Checks.{told, is_other}
+use Rattle.clfs_base.proofs.Words.{Bool, sym, ap, ◌∙◌, told, is_other}
 use Rattle.clfs_base.proofs.Searches.{passes_on, found_here, ends_here}
 use Rattle.clfs_base.proofs.reading.other_byte.Goals as goal
 

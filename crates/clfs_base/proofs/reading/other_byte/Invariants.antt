@@ -1,5 +1,4 @@
-use Rattle.std.proofs.Common.{◌≡◌}
-use Rattle.clfs_base.specs.Checks.{other_byte}
+use Rattle.clfs_base.proofs.Words.{◌≡◌, other_byte}
 use Rattle.clfs_base.proofs.reading.other_byte.Given as goal
 
 -- the first other byte from here on is the first of all

@@ -1,8 +1,4 @@
-use Rattle.std.proofs.Common.{◌≡◌, ◌*◌, ℕ, true, sym, subst, ◌∙◌}
-use Rattle.clfs_disk.specs.Files.{Files, TornIn, Unchanged}
-use Rattle.clfs_disk.specs.State.{Passes}
-use Rattle.clfs_base.specs.Slots.{is_open_slot}
-use Rattle.clfs_base.specs.Writing.{HasNewest}
+use Rattle.clfs_base.proofs.Words.{◌≡◌, ◌*◌, ℕ, true, sym, subst, ◌∙◌, Files, TornIn, Unchanged, Passes, is_open_slot, HasNewest}
 use Rattle.clfs_base.proofs.Copies.{leaves_weaker, kept_unchanged, closing}
 use Rattle.clfs_base.proofs.slots.close_older.Goals as goal
 

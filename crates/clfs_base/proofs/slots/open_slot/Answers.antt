@@ -1,8 +1,4 @@
-use Rattle.std.proofs.Common.{◌*◌, ℕ, [], ◌∷◌, subst, arith}
-use Rattle.std.proofs.lemmas.Result.{on_ok_weaker}
-use Rattle.clfs_disk.specs.Files.{Files, TornIn, WrittenIn}
-use Rattle.clfs_disk.specs.State.{Leaves}
-use Rattle.clfs_base.specs.Writing.{EitherNewest, NoneOrFirst}
+use Rattle.clfs_base.proofs.Words.{◌*◌, ℕ, [], ◌∷◌, subst, arith, on_ok_weaker, Files, TornIn, WrittenIn, Leaves, EitherNewest, NoneOrFirst}
 use Rattle.clfs_base.proofs.Copies.{leaves_weaker, opening, opened_whole, first_opened, first_opening}
 use Rattle.clfs_base.proofs.slots.open_slot.Goals as goal
 

@@ -1,9 +1,4 @@
-use Rattle.std.proofs.Common.{◌≡◌, ◌+◌, ◌*◌, ℕ, length, subst, arith}
-use Rattle.std.proofs.lemmas.Result.{on_ok_weaker}
-use Rattle.clfs_disk.specs.Files.{Files, TornIn, WrittenIn}
-use Rattle.clfs_disk.specs.State.{DiskState, Leaves}
-use Rattle.clfs_base.specs.Slots.{slot_place}
-use Rattle.clfs_base.specs.Writing.{HasNewest}
+use Rattle.clfs_base.proofs.Words.{◌≡◌, ◌+◌, ◌*◌, ℕ, length, subst, arith, on_ok_weaker, Files, TornIn, WrittenIn, DiskState, Leaves, slot_place, HasNewest}
 use Rattle.clfs_base.proofs.Copies.{leaves_weaker, filling, body_written}
 use Rattle.clfs_base.proofs.slots.write_body.Goals as goal
 

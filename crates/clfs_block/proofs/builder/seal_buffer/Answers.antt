@@ -1,5 +1,4 @@
-use Rattle.std.proofs.Common.{◌≡◌, [], ◌∷◌, ◌++◌, ◌∙◌, ℕ, List, drop, refl, sym, ap}
-use Rattle.clfs_block.specs.Frame.{payload_of, used_bytes}
+use Rattle.clfs_block.proofs.Words.{◌≡◌, [], ◌∷◌, ◌++◌, ◌∙◌, ℕ, List, drop, refl, sym, ap, payload_of, used_bytes}
 use Rattle.clfs_block.proofs.Buildings.{content_size}
 use Rattle.clfs_block.proofs.Sealing.{content_kept}
 use Rattle.clfs_block.proofs.builder.seal_buffer.Goals as goal

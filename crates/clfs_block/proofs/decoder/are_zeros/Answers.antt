@@ -1,6 +1,4 @@
-use Rattle.std.proofs.Common.{◌∙◌, ap, eqb, List, ℕ}
-use Rattle.std.proofs.lemmas.List.{take_all}
-use Rattle.std.specs.List.{list_all}
+use Rattle.clfs_block.proofs.Words.{◌∙◌, ap, eqb, List, ℕ, take_all, list_all}
 use Rattle.clfs_block.proofs.Zeros.{joined_more}
 use Rattle.clfs_block.proofs.decoder.are_zeros.Goals as goal
 

@@ -1,5 +1,4 @@
-use Rattle.std.proofs.Common.{◌≡◌, eqb, take}
-use Rattle.std.specs.List.{list_all}
+use Rattle.clfs_block.proofs.Words.{◌≡◌, eqb, take, list_all}
 use Rattle.clfs_block.proofs.decoder.are_zeros.Given as goal
 
 -- what was joined is 0 where all bytes so far are

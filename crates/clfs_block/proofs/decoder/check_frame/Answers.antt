@@ -1,9 +1,4 @@
-use Rattle.std.proofs.Common.{◌≡◌, ℕ, List, Result, Ok, Err, IfOk, refl, arith}
-use Rattle.clfs_lsn.specs.declared.shape.Shape.{Shape}
-use Rattle.clfs_block.specs.Frame.{payload_of, AreBytes}
-use Rattle.clfs_block.specs.Checks.{frame_at, IsFramed}
-use Rattle.clfs_block.specs.declared.head.BlockHead.{BlockHead}
-use Rattle.clfs_block.specs.declared.head.BlockRefusal.{BlockRefusal}
+use Rattle.clfs_block.proofs.Words.{◌≡◌, ℕ, List, Result, Ok, Err, IfOk, refl, arith, Shape, payload_of, AreBytes, frame_at, IsFramed, BlockHead, BlockRefusal}
 use Rattle.clfs_block.proofs.Reading.{is_framed}
 use Rattle.clfs_block.proofs.decoder.check_frame.Goals as goal
 

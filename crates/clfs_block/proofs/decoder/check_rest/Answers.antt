@@ -1,8 +1,4 @@
-use Rattle.std.proofs.Common.{ℕ, Option, Result, Ok, refl, sym, ◌∙◌, ap}
-use Rattle.clfs_lsn.specs.Checks.{unless_wrong}
-use Rattle.clfs_block.specs.declared.head.BlockHead.{BlockHead}
-use Rattle.clfs_block.specs.declared.head.BlockRefusal.{BlockRefusal}
-use Rattle.clfs_block.specs.declared.head.BlockRefusal.TheVariants.{BadByte}
+use Rattle.clfs_block.proofs.Words.{ℕ, Option, Result, Ok, refl, sym, ◌∙◌, ap, unless_wrong, BlockHead, BlockRefusal, BadByte}
 use Rattle.clfs_block.proofs.Searches.{rest_is}
 use Rattle.clfs_block.proofs.decoder.check_rest.Goals as goal
 

@@ -1,7 +1,5 @@
-use Rattle.std.proofs.Common.{◌≡◌, inr, sym, ◌∙◌, ap, arith}
-use Rattle.clfs_block.specs.Frame.{payload_of}
-use Rattle.clfs_block.specs.Checks.{rest_at, head_for}
-use Rattle.clfs_block.specs.declared.head.BlockHead.{BlockHead}
+use Rattle.clfs_block.proofs.Words.{◌≡◌, sym, ◌∙◌, ap, arith, payload_of, rest_at, head_for, BlockHead}
+use Rattle.std.proofs.Common.{inr}
 use Rattle.clfs_block.proofs.Reading.{frame_read, rest_read, payload_read, answered_is_spelled, answered_is_framed, is_framed, wrong_is_behind, rest_is_open}
 use Rattle.clfs_block.proofs.Reading.{not_refused, one_head}
 use Rattle.clfs_block.proofs.decoder.decode_block.Goals as goal

@@ -1,5 +1,4 @@
-use Rattle.std.proofs.Common.{eqb, get_or, ◌∙◌, sym}
-use Rattle.std.proofs.lemmas.Bool.{eq-eqb}
+use Rattle.clfs_block.proofs.Words.{eqb, get_or, ◌∙◌, sym, eq-eqb}
 use Rattle.clfs_block.proofs.Searches.{passes_on}
 use Rattle.clfs_block.proofs.Zeros.{none_other}
 use Rattle.clfs_block.proofs.decoder.first_other_byte.Goals as goal

@@ -1,5 +1,4 @@
-use Rattle.std.proofs.Common.{◌≡◌, ◌-◌, eqb, get_or}
-use Rattle.clfs_block.specs.Checks.{first_failing}
+use Rattle.clfs_block.proofs.Words.{◌≡◌, ◌-◌, eqb, get_or, first_failing}
 use Rattle.clfs_block.proofs.decoder.first_other_byte.Given as goal
 
 -- the first other byte from here on is the first of all

@@ -1,5 +1,4 @@
-use Rattle.std.proofs.Common.{◌≡◌, ◌+◌, ◌*◌, ℕ, true, false, eqb, sym, ◌∙◌, ap, arith}
-use Rattle.clfs_block.specs.Frame.{address, address_in}
+use Rattle.clfs_block.proofs.Words.{◌≡◌, ◌+◌, ◌*◌, ℕ, true, false, eqb, sym, ◌∙◌, ap, arith, address, address_in}
 use Rattle.clfs_block.proofs.Searches.{passes_on, fails_here}
 use Rattle.clfs_block.proofs.decoder.first_wrong_sector.Goals as goal
 

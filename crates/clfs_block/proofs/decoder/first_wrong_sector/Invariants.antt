@@ -1,6 +1,4 @@
-use Rattle.std.proofs.Common.{◌≡◌, ◌-◌, eqb}
-use Rattle.clfs_block.specs.Frame.{address, address_in}
-use Rattle.clfs_block.specs.Checks.{first_failing}
+use Rattle.clfs_block.proofs.Words.{◌≡◌, ◌-◌, eqb, address, address_in, first_failing}
 use Rattle.clfs_block.proofs.decoder.first_wrong_sector.Given as goal
 
 -- the first wrong sector from here on is the first of all

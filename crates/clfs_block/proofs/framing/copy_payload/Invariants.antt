@@ -1,6 +1,5 @@
-use Rattle.std.proofs.Common.{◌≡◌, ◌+◌, ◌-◌, ◌%◌, ◌≤◌, ◌++◌, length, vec_capacity}
+use Rattle.clfs_block.proofs.Words.{◌≡◌, ◌+◌, ◌-◌, ◌%◌, ◌≤◌, ◌++◌, length, vec_capacity, place_of, payload_from}
 use Rattle.clfs_lsn.specs.Format.{sector_payload}
-use Rattle.clfs_block.specs.Frame.{place_of, payload_from}
 use Rattle.clfs_block.proofs.framing.copy_payload.Given as goal
 
 abbrev pub invariant-loop-part : goal.invariant-loop-part

@@ -1,5 +1,4 @@
-use Rattle.std.proofs.Common.{◌≡◌, ◌+◌, ◌≤◌, ◌++◌, length, take, drop, vec_capacity}
-use Rattle.clfs_block.specs.Frame.{place_of, payload_of}
+use Rattle.clfs_block.proofs.Words.{◌≡◌, ◌+◌, ◌≤◌, ◌++◌, length, take, drop, vec_capacity, place_of, payload_of}
 use Rattle.clfs_block.proofs.framing.push_payload.Given as goal
 
 -- what was pushed and what is left to push are all, and what stands before the block is as it was

@@ -1,6 +1,4 @@
-use Rattle.std.proofs.Common.{◌≡◌, ◌+◌, ◌-◌, ◌*◌, ◌++◌, ◌∙◌, ℕ, List, length, take, drop, replicate, sym, ap, arith, length-drop, take-append-drop}
-use Rattle.std.proofs.lemmas.List.{drop-append-le, take-append-le}
-use Rattle.clfs_block.specs.Frame.{place_of, head_bytes}
+use Rattle.clfs_block.proofs.Words.{◌≡◌, ◌+◌, ◌-◌, ◌*◌, ◌++◌, ◌∙◌, ℕ, List, length, take, drop, replicate, sym, ap, arith, length-drop, take-append-drop, drop-append-le, take-append-le, place_of, head_bytes}
 use Rattle.clfs_block.proofs.Sealing.{spells}
 use Rattle.clfs_block.proofs.framing.seal_block.Goals as goal
 

@@ -1,5 +1,4 @@
-use Rattle.std.proofs.Common.{◌≡◌, ◌+◌, ◌*◌, ◌%◌, ◌<◌, ℕ, length, get_or, take, drop, vec_capacity}
-use Rattle.clfs_block.specs.Frame.{address, address_in}
+use Rattle.clfs_block.proofs.Words.{◌≡◌, ◌+◌, ◌*◌, ◌%◌, ◌<◌, ℕ, length, get_or, take, drop, vec_capacity, address, address_in}
 use Rattle.clfs_block.proofs.framing.write_addresses.Given as goal
 
 abbrev pub invariant-loop-sector : goal.invariant-loop-sector

@@ -1,5 +1,4 @@
-use Rattle.std.proofs.Common.{◌≡◌, ◌-◌, ◌≤◌, ◌++◌, drop}
-use Rattle.clfs_block.specs.Frame.{payload_from}
+use Rattle.clfs_block.proofs.Words.{◌≡◌, ◌-◌, ◌≤◌, ◌++◌, drop, payload_from}
 use Rattle.clfs_block.proofs.gathering.gather_payload.Given as goal
 
 -- the payload so far stands over the first bytes

@@ -1,4 +1,4 @@
-use Rattle.std.proofs.Common.{refl}
+use Rattle.clfs_block.proofs.Words.{refl}
 use Rattle.clfs_block.proofs.Reading.{has_frame, frame_read, payload_read, rest_read, spelled_by}
 use Rattle.clfs_block.proofs.laws.blocks_are_read_as_written.Goals as goal
 

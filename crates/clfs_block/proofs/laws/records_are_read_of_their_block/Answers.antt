@@ -1,5 +1,4 @@
-use Rattle.clfs_block.specs.Judging.{AreJudgedAlone}
-use Rattle.clfs_block.specs.RecordLaws.{block_same}
+use Rattle.clfs_block.proofs.Words.{AreJudgedAlone, block_same}
 use Rattle.clfs_block.proofs.Fronts.{frame_same, payload_same, rest_same}
 use Rattle.clfs_block.proofs.Reading.{has_frame}
 use Rattle.clfs_block.proofs.RecordsRead.{block_agrees, block_more, block_count, block_each}

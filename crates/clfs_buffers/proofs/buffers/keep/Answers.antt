@@ -1,6 +1,4 @@
-use Rattle.std.proofs.Common.{◌∙◌, ap}
-use Rattle.lru.specs.LruCache.{lru_cache}
-use Rattle.clfs_buffers.specs.Buffered.{Blocks, is_same_place}
+use Rattle.clfs_buffers.proofs.Words.{◌∙◌, ap, lru_cache, Blocks, is_same_place}
 use Rattle.clfs_buffers.proofs.Changes.{put_first}
 use Rattle.clfs_buffers.proofs.buffers.keep.Goals as goal
 

@@ -1,6 +1,5 @@
-use Rattle.std.proofs.Common.{sym, subst}
+use Rattle.clfs_buffers.proofs.Words.{sym, subst, first_lsn, TellsBlock}
 use Rattle.clfs_buffers.specs.declared.refusal.ReadRefusal.{ReadRefusal}
-use Rattle.clfs_buffers.specs.Reading.{first_lsn, TellsBlock}
 use Rattle.clfs_buffers.proofs.Told.{fronts_are_short, told_of}
 use Rattle.clfs_buffers.proofs.reading.read_front.Goals as goal
 

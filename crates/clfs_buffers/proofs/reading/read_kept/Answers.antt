@@ -1,5 +1,4 @@
-use Rattle.std.proofs.Common.{drop}
-use Rattle.clfs_buffers.specs.Reading.{first_lsn}
+use Rattle.clfs_buffers.proofs.Words.{drop, first_lsn}
 use Rattle.clfs_buffers.proofs.Fronts.{front_is_whole}
 use Rattle.clfs_buffers.proofs.reading.read_kept.Goals as goal
 

@@ -1,13 +1,7 @@
-use Rattle.std.proofs.Common.{◌≡◌, ℕ, suc, ◌+◌, ◌-◌, List, [], ◌∷◌, ◌++◌, length, drop, Result, Ok, Err, sym, ◌∙◌, ap, subst, arith, length-append, length-drop}
-use Rattle.clfs_lsn.specs.Spelling.{record_at, entry_of}
-use Rattle.clfs_lsn.specs.declared.entry.LogEntry.{LogEntry}
+use Rattle.clfs_buffers.proofs.Words.{◌≡◌, ℕ, suc, ◌+◌, ◌-◌, List, [], ◌∷◌, ◌++◌, length, drop, Result, Ok, Err, sym, ◌∙◌, ap, subst, arith, length-drop, record_at, entry_of, LogEntry, told_as, records_from, behind, BlockRefusal, BadByte, first_lsn, records_at, IsStart, AreStarts, wrong_in}
+use Rattle.std.proofs.Common.{length-append}
 use Rattle.clfs_block.specs.Frame.{place_of}
-use Rattle.clfs_block.specs.Records.{told_as, records_from}
-use Rattle.clfs_block.specs.RecordLaws.{behind, behind-nil, no_header, record_wrong, records_step, records_stop, records_done, records_uneven}
-use Rattle.clfs_block.specs.declared.head.BlockRefusal.{BlockRefusal}
-use Rattle.clfs_block.specs.declared.head.BlockRefusal.TheVariants.{BadByte}
-use Rattle.clfs_buffers.specs.Reading.{first_lsn}
-use Rattle.clfs_buffers.specs.Kept.{records_at, IsStart, AreStarts, wrong_in}
+use Rattle.clfs_block.specs.RecordLaws.{behind-nil, no_header, record_wrong, records_step, records_stop, records_done, records_uneven}
 use Rattle.clfs_buffers.proofs.Positions.{records_at-append, AreStarts-append, read_entry, refused_head}
 use Rattle.clfs_buffers.proofs.starts.find_starts.Goals as goal
 

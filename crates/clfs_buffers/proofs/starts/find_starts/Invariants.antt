@@ -1,9 +1,5 @@
-use Rattle.std.proofs.Common.{◌≡◌, ◌+◌, ◌-◌, ◌≤◌, length}
+use Rattle.clfs_buffers.proofs.Words.{◌≡◌, ◌+◌, ◌-◌, ◌≤◌, length, records_from, behind, first_lsn, records_at, AreStarts}
 use Rattle.std.specs.Prelude.{vec_capacity}
-use Rattle.clfs_block.specs.Records.{records_from}
-use Rattle.clfs_block.specs.RecordLaws.{behind}
-use Rattle.clfs_buffers.specs.Reading.{first_lsn}
-use Rattle.clfs_buffers.specs.Kept.{records_at, AreStarts}
 use Rattle.clfs_buffers.proofs.starts.find_starts.Given as goal
 
 abbrev pub invariant-loop-sequence : goal.invariant-loop-sequence

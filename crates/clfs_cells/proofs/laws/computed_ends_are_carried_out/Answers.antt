@@ -1,8 +1,5 @@
-use Rattle.std.proofs.Common.{refl}
+use Rattle.clfs_cells.proofs.Words.{refl, Fine, asks, [], ◌∷◌}
 use Rattle.clfs_cells.proofs.Carrying.{FineSteps, MemoryLacks, one_step, carried, carried_without}
-use Rattle.clfs_model.specs.declared.reply.Happened.TheVariants.{Fine}
-use Rattle.clfs_model.specs.Run.{asks}
-use Rattle.std.proofs.Common.{[], ◌∷◌}
 use Rattle.clfs_cells.proofs.laws.computed_ends_are_carried_out.Goals as goal
 
 pub returns-clause-calls : goal.returns-clause-calls

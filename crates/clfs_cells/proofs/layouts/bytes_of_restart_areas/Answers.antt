@@ -1,11 +1,4 @@
-use Rattle.std.proofs.Common.{refl}
-use Rattle.std.specs.Fmt.{digits}
-use Rattle.hex.specs.Hex.{decode_pairs, encode_with}
-use Rattle.clfs_model.specs.Space.{grown, has_room}
-use Rattle.clfs_model.specs.Run.{fine_outcome}
-use Rattle.clfs_model.specs.Script.{request_in}
-use Rattle.clfs_cells.specs.Lines.{txn_call_in}
-use Rattle.clfs_cells.specs.Worked.{fine_load, fine_call, call_without_memory}
+use Rattle.clfs_cells.proofs.Words.{refl, digits, decode_pairs, encode_with, grown, has_room, fine_outcome, request_in, txn_call_in, fine_load, fine_call, call_without_memory}
 use Rattle.clfs_cells.proofs.layouts.bytes_of_restart_areas.Goals as goal
 
 pub returns : goal.returns

@@ -1,4 +1,4 @@
-use Rattle.std.proofs.Common.{arith}
+use Rattle.clfs_cells.proofs.Words.{arith}
 use Rattle.std.proofs.lemmas.Slice.{put_mid-rotated}
 use Rattle.clfs_cells.proofs.memory.close_up.Goals as goal
 

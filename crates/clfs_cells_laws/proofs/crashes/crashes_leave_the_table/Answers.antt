@@ -1,8 +1,4 @@
-use Rattle.std.proofs.Common.{true, length}
-use Rattle.clfs_cells.specs.Calls.{txn_plan}
-use Rattle.clfs_cells.specs.Loading.{load_plan}
-use Rattle.clfs_cells.specs.Table.{table}
-use Rattle.clfs_cells_laws.specs.Crashes.{LeavesEither, LoadsSafe, table_once}
+use Rattle.clfs_cells_laws.proofs.Words.{true, length, txn_plan, load_plan, table, LeavesEither, LoadsSafe, table_once}
 use Rattle.clfs_cells_laws.proofs.AlongAll.{along_call_of, calls_alone, ends_so, loads_safe, rests}
 use Rattle.clfs_cells_laws.proofs.AlongCalls.{EndsAs}
 use Rattle.clfs_cells_laws.proofs.AlongLoad.{log_rests, opened_safe}

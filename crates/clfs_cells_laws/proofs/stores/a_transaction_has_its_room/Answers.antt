@@ -1,4 +1,4 @@
-use Rattle.clfs_cells.specs.Layout.{txn_record}
+use Rattle.clfs_cells_laws.proofs.Words.{txn_record}
 use Rattle.clfs_cells_laws.proofs.Ends.{Lengths}
 use Rattle.clfs_cells_laws.proofs.OwnCalls.{Laws}
 use Rattle.clfs_cells_laws.proofs.Told.{begin_refused, within}

@@ -1,7 +1,7 @@
 use Rattle.clfs_cells.specs.declared.asked.TxnCall.TheVariants as asked
 use Rattle.clfs_cells.specs.declared.told.TxnRefusal.TheVariants as denials
 use Rattle.clfs_cells.specs.declared.told.TxnReply.TheVariants as replies
-use Rattle.clfs_cells.specs.Layout.{txn_record}
+use Rattle.clfs_cells_laws.proofs.Words.{txn_record}
 use Rattle.clfs_cells_laws.proofs.Ends.{Lengths}
 use Rattle.clfs_cells_laws.proofs.OwnCalls.{Laws}
 use Rattle.clfs_cells_laws.proofs.Reasons.{Outside, checkpoint_room, for_reason}

@@ -1,5 +1,4 @@
-use Rattle.std.proofs.Common.{Ok, true, false}
-use Rattle.clfs_cells.specs.Layout.{txn_record}
+use Rattle.clfs_cells_laws.proofs.Words.{Ok, true, false, txn_record}
 use Rattle.clfs_cells_laws.proofs.FromLoading.{load_valid, loaded_store, loaded_table}
 use Rattle.clfs_cells_laws.proofs.Loads.{loads}
 use Rattle.clfs_cells_laws.proofs.OwnCalls.{Laws}

@@ -1,5 +1,5 @@
 use Rattle.clfs_cells_laws.proofs.FromLoading.{at_rest, by_table}
-use Rattle.std.proofs.Common.{refl}
+use Rattle.clfs_cells_laws.proofs.Words.{refl}
 use Rattle.clfs_cells_laws.proofs.Settled.{table_settled}
 use Rattle.clfs_cells_laws.proofs.tables.a_stores_cells_are_its_table.Goals as goal
 

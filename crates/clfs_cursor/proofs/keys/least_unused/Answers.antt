@@ -1,5 +1,4 @@
-use Rattle.std.proofs.Common.{◌≡◌, ℕ, ◌+◌, ◌<◌, true, ◌∙◌, length, sym, arith}
-use Rattle.clfs_cursor.specs.Keys.{is_numbered}
+use Rattle.clfs_cursor.proofs.Words.{◌≡◌, ℕ, ◌+◌, ◌<◌, true, ◌∙◌, length, sym, arith, is_numbered}
 use Rattle.clfs_cursor.proofs.Counts.{next_is_unused}
 use Rattle.clfs_cursor.proofs.Numbers.{unused_at, all_used}
 use Rattle.clfs_cursor.proofs.keys.least_unused.Goals as goal

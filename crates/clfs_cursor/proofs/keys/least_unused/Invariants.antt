@@ -1,5 +1,4 @@
-use Rattle.std.proofs.Common.{◌≡◌, ℕ, ◌+◌, ◌<◌, true}
-use Rattle.clfs_cursor.specs.Keys.{is_numbered}
+use Rattle.clfs_cursor.proofs.Words.{◌≡◌, ℕ, ◌+◌, ◌<◌, true, is_numbered}
 use Rattle.clfs_cursor.proofs.keys.least_unused.Given as goal
 
 -- all numbers so far are used

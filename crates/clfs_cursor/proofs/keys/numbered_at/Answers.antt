@@ -1,7 +1,6 @@
-use Rattle.std.proofs.Common.{rules, tests, ◌∙◌}
+use Rattle.clfs_cursor.proofs.Words.{rules, tests, ◌∙◌, has_number}
 use Rattle.std.proofs.lemmas.Iterator.{YieldsList-from_slice}
 use Rattle.std.proofs.lemmas.Iterator.Search.{find_from_yields_List}
-use Rattle.clfs_cursor.specs.Keys.{has_number}
 use Rattle.clfs_cursor.proofs.keys.numbered_at.Goals as goal
 
 pub returns : goal.returns

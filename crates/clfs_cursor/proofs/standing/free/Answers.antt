@@ -1,8 +1,5 @@
-use Rattle.std.proofs.Common.{◌≡◌, ◌≤◌, ◌∙◌, ap, sym, subst, arith, cond, List, take, get_or, is_some}
-use Rattle.std.specs.Prelude.{count_by}
+use Rattle.clfs_cursor.proofs.Words.{◌≡◌, ◌≤◌, ◌∙◌, ap, sym, subst, arith, cond, List, take, get_or, is_some, count_by, has_key, Numbered}
 use Rattle.std.proofs.lemmas.List.{take_all}
-use Rattle.clfs_cursor.specs.Kept.{has_key}
-use Rattle.clfs_cursor.specs.declared.keys.Numbered.{Numbered}
 use Rattle.clfs_cursor.proofs.Freed.{there_by_count, counted_there, first_time, gone_more, others_more}
 use Rattle.clfs_cursor.proofs.standing.free.Goals as goal
 

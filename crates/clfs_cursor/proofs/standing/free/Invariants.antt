@@ -1,7 +1,4 @@
-use Rattle.std.proofs.Common.{◌≡◌, ℕ, ◌+◌, ◌≤◌, take, None}
-use Rattle.std.specs.Prelude.{count_by}
-use Rattle.slab.specs.Slab.{get, slab_len}
-use Rattle.clfs_cursor.specs.Kept.{has_key}
+use Rattle.clfs_cursor.proofs.Words.{◌≡◌, ℕ, ◌+◌, ◌≤◌, take, None, count_by, get, slab_len, has_key}
 use Rattle.clfs_cursor.proofs.standing.free.Given as goal
 
 -- the keys so far are gone, and no other has changed

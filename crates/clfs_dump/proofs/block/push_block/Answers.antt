@@ -1,10 +1,5 @@
-use Rattle.std.proofs.Common.{◌≡◌, ℕ, ◌+◌, List, length, Ok, Err, sym, ap, ◌∙◌, subst, arith}
+use Rattle.clfs_dump.proofs.Words.{◌≡◌, ℕ, ◌+◌, List, length, Ok, Err, sym, ap, ◌∙◌, subst, arith, lsn_number, frame_at, records_from, LoadRefusal, Told}
 use Rattle.std.specs.Prelude.{Result, Option}
-use Rattle.clfs_lsn.specs.Lsn.{lsn_number}
-use Rattle.clfs_block.specs.Checks.{frame_at}
-use Rattle.clfs_block.specs.Records.{records_from}
-use Rattle.clfs_recover.specs.declared.refusal.LoadRefusal.{LoadRefusal}
-use Rattle.clfs_dump.specs.Telling.{Told}
 use Rattle.clfs_dump.proofs.BlockTold.{none_wrong, one_wrong, told_refused, found_wrong, found_rest, found_whole}
 use Rattle.clfs_dump.proofs.block.push_block.Goals as goal
 

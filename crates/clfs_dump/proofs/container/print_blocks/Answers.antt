@@ -1,6 +1,4 @@
-use Rattle.std.proofs.Common.{ℕ, ◌*◌, drop, Option, Some, None, Ok, Err, refl, ◌∙◌, subst, arith}
-use Rattle.std.proofs.lemmas.Result.{err_from_is_err_and}
-use Rattle.clfs_dump.specs.Telling.{Told}
+use Rattle.clfs_dump.proofs.Words.{ℕ, ◌*◌, drop, Option, Some, None, Ok, Err, refl, ◌∙◌, subst, arith, err_from_is_err_and, Told}
 use Rattle.clfs_dump.proofs.BlockTold.{told_of_front, block_ends}
 use Rattle.clfs_dump.proofs.DiskReads.{tells_still, unread, read_on, all_answered}
 use Rattle.clfs_dump.proofs.FilePieces.{shows_still, front_still}

@@ -1,6 +1,4 @@
-use Rattle.std.proofs.Common.{◌≡◌, ◌-◌, ◌*◌, ◌%◌, ◌≤◌}
-use Rattle.clfs_disk.specs.State.{TellsContents}
-use Rattle.clfs_recover.specs.Fronts.{Shows}
+use Rattle.clfs_dump.proofs.Words.{◌≡◌, ◌-◌, ◌*◌, ◌%◌, ◌≤◌, TellsContents, Shows}
 use Rattle.clfs_dump.proofs.DiskReads.{WasRead}
 use Rattle.clfs_dump.proofs.Walks.{IsThrough}
 use Rattle.clfs_dump.proofs.container.print_blocks.Given as goal

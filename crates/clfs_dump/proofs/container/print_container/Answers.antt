@@ -1,6 +1,4 @@
-use Rattle.std.proofs.lemmas.Result.{err_from_is_err_and}
-use Rattle.clfs_dump.specs.Lines.{container_line}
-use Rattle.clfs_dump.specs.Telling.{blocks_told}
+use Rattle.clfs_dump.proofs.Words.{err_from_is_err_and, container_line, blocks_told}
 use Rattle.clfs_dump.proofs.PrintedParts.{prints_behind, prints_no_more}
 use Rattle.clfs_dump.proofs.container.print_container.Goals as goal
 

@@ -1,5 +1,4 @@
-use Rattle.std.proofs.Common.{◌≡◌, ◌++◌, take}
-use Rattle.std.specs.List.{flat_map}
+use Rattle.clfs_dump.proofs.Words.{◌≡◌, ◌++◌, take, flat_map}
 use Rattle.clfs_dump.specs.Lines.{escaped}
 use Rattle.clfs_dump.proofs.data.push_all_escaped.Given as goal
 

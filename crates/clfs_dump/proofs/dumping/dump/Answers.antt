@@ -1,9 +1,5 @@
-use Rattle.std.proofs.Common.{ℕ, List, Result, ap}
-use Rattle.std.proofs.lemmas.Result.{err_from_is_err_and}
-use Rattle.clfs_recover.specs.declared.refusal.LoadRefusal.{LoadRefusal}
+use Rattle.clfs_dump.proofs.Words.{ℕ, List, Result, ap, err_from_is_err_and, LoadRefusal, files_told, last_line, NoBase, DiskFault, NoMemory, SinkFault}
 use Rattle.clfs_dump.specs.Lines.{end_line, damage_line}
-use Rattle.clfs_dump.specs.Telling.{files_told, last_line}
-use Rattle.clfs_dump.specs.declared.refusal.DumpRefusal.TheVariants.{NoBase, DiskFault, NoMemory, SinkFault}
 use Rattle.clfs_dump.proofs.LastLines.{line_behind, line_short, no_line}
 use Rattle.clfs_dump.proofs.dumping.dump.Goals as goal
 

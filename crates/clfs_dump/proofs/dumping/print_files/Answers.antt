@@ -1,8 +1,4 @@
-use Rattle.std.proofs.Common.{◌≡◌, ℕ, Result, sym, ap, subst}
-use Rattle.clfs_disk.specs.Files.{Files}
-use Rattle.clfs_base.specs.declared.image.BaseImage.{BaseImage}
-use Rattle.clfs_base.specs.declared.refusal.NewestRefusal.{NewestRefusal}
-use Rattle.clfs_dump.specs.Telling.{Told, copy_told, image_told}
+use Rattle.clfs_dump.proofs.Words.{◌≡◌, ℕ, Result, sym, ap, subst, Files, BaseImage, NewestRefusal, Told, copy_told, image_told}
 use Rattle.clfs_dump.proofs.CopiesTold.{none_printed}
 use Rattle.clfs_dump.proofs.DiskReads.{tells_still, unread, read_on, reads_then}
 use Rattle.clfs_dump.proofs.Walks.{PrintsTold}

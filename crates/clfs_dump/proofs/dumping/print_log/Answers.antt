@@ -1,11 +1,5 @@
-use Rattle.std.proofs.Common.{ℕ, List, [], ◌++◌, Ok, Err, sym, ◌∙◌, subst}
-use Rattle.std.proofs.lemmas.Result.{err_from_is_err_and}
-use Rattle.clfs_lsn.specs.Place.{frontier}
-use Rattle.clfs_base.specs.declared.image.Row.{Row}
-use Rattle.clfs_recover.specs.Walk.{shape_of}
-use Rattle.clfs_dump.specs.Lines.{log_line, stream_lines}
-use Rattle.clfs_dump.specs.Telling.{only, then_told, listed_told, place_at, log_end}
-use Rattle.clfs_dump.specs.Printing.{as_dump}
+use Rattle.clfs_dump.proofs.Words.{ℕ, List, [], ◌++◌, Ok, Err, sym, ◌∙◌, subst, err_from_is_err_and, frontier, Row, shape_of, stream_lines, only, then_told, listed_told, place_at, log_end, as_dump}
+use Rattle.clfs_dump.specs.Lines.{log_line}
 use Rattle.clfs_dump.proofs.Walks.{PrintsTold}
 use Rattle.clfs_dump.proofs.PrintedParts.{prints_behind, prints_no_more, prints_first, prints_next, prints_refusal}
 use Rattle.clfs_dump.proofs.Written.{appends_none, front_of_all, front_longer}

@@ -1,4 +1,4 @@
-use Rattle.std.proofs.Common.{Ok, Err}
+use Rattle.clfs_dump.proofs.Words.{Ok, Err}
 use Rattle.clfs_dump.proofs.OpeningFinds.{found_meets}
 use Rattle.clfs_dump.proofs.laws.dumps_tell_what_opening_finds.Goals as goal
 

@@ -1,6 +1,4 @@
-use Rattle.std.proofs.Common.{◌++◌, codes}
-use Rattle.std.proofs.lemmas.Result.{on_ok_weaker}
-use Rattle.clfs_dump.specs.Lines.{number_after}
+use Rattle.clfs_dump.proofs.Words.{◌++◌, codes, on_ok_weaker, number_after}
 use Rattle.clfs_dump.proofs.Written.{put_before}
 use Rattle.clfs_dump.proofs.lines.push_damage.Goals as goal
 

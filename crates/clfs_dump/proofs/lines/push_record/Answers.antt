@@ -1,5 +1,4 @@
-use Rattle.std.proofs.Common.{◌++◌, codes}
-use Rattle.std.proofs.lemmas.Result.{on_ok_weaker}
+use Rattle.clfs_dump.proofs.Words.{◌++◌, codes, on_ok_weaker}
 use Rattle.clfs_record.specs.Decoding.{entry_with}
 use Rattle.clfs_dump.specs.Lines.{record_front, record_links, data_part}
 use Rattle.clfs_dump.proofs.Written.{put_before}

@@ -1,5 +1,4 @@
-use Rattle.std.proofs.Common.{◌≡◌, ◌+◌, ◌++◌, drop}
-use Rattle.clfs_dump.specs.Lines.{stream_lines}
+use Rattle.clfs_dump.proofs.Words.{◌≡◌, ◌+◌, ◌++◌, drop, stream_lines}
 use Rattle.clfs_dump.proofs.lines.push_streams.Given as goal
 
 abbrev pub invariant-loop-i : goal.invariant-loop-i

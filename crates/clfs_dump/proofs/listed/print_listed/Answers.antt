@@ -1,5 +1,4 @@
-use Rattle.std.proofs.Common.{◌+◌, get_or, Err, Ok, refl, ◌∙◌, arith}
-use Rattle.std.proofs.lemmas.Result.{err_from_is_err_and}
+use Rattle.clfs_dump.proofs.Words.{◌+◌, get_or, Err, Ok, refl, ◌∙◌, arith, err_from_is_err_and}
 use Rattle.clfs_dump.proofs.ContainersTold.{told_still}
 use Rattle.clfs_dump.proofs.DiskReads.{tells_still, unread, read_on, all_answered}
 use Rattle.clfs_dump.proofs.Walks.{listed_first, listed_last, listed_refused, listed_next}

@@ -1,5 +1,4 @@
-use Rattle.std.proofs.Common.{◌≡◌, ◌≤◌}
-use Rattle.clfs_disk.specs.State.{TellsContents}
+use Rattle.clfs_dump.proofs.Words.{◌≡◌, ◌≤◌, TellsContents}
 use Rattle.clfs_recover.specs.Gathering.{IsEnd}
 use Rattle.clfs_dump.proofs.DiskReads.{WasRead}
 use Rattle.clfs_dump.proofs.Walks.{IsThroughListed}

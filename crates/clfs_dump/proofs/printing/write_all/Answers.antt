@@ -1,4 +1,4 @@
-use Rattle.std.proofs.Common.{take, arith}
+use Rattle.clfs_dump.proofs.Words.{take, arith}
 use Rattle.std.proofs.Math.Seq.{take-add}
 use Rattle.clfs_dump.proofs.Written.{appends_more}
 use Rattle.clfs_dump.proofs.printing.write_all.Goals as goal

@@ -1,14 +1,7 @@
-use Rattle.std.proofs.Common.{◌≡◌, ℕ, suc, ◌+◌, ◌-◌, List, [], ◌∷◌, ◌++◌, length, drop, Some, Ok, Err, refl, sym, ◌∙◌, ap, arith}
+use Rattle.clfs_dump.proofs.Words.{◌≡◌, ℕ, suc, ◌+◌, ◌-◌, List, [], ◌∷◌, ◌++◌, length, drop, Some, Ok, Err, refl, sym, ◌∙◌, ap, arith, flat_map, lsn_number, record_at, LogEntry, records_from, first_wrong, record_text, records_met}
 use Rattle.std.proofs.lemmas.List.{length-drop}
-use Rattle.std.specs.List.{flat_map}
 use Rattle.std.specs.Prelude.{Result, Option}
-use Rattle.clfs_lsn.specs.Lsn.{lsn_number}
-use Rattle.clfs_lsn.specs.Spelling.{record_at}
-use Rattle.clfs_lsn.specs.declared.entry.LogEntry.{LogEntry}
-use Rattle.clfs_block.specs.Records.{records_from}
 use Rattle.clfs_block.specs.RecordLaws.{behind-nil, no_header, record_wrong, records_step, records_stop, records_done, records_uneven}
-use Rattle.clfs_dump.specs.Reading.{first_wrong}
-use Rattle.clfs_dump.specs.Telling.{record_text, records_met}
 use Rattle.clfs_dump.proofs.RecordsMet.{met_taken, met_wrong, met_end, met_all, text_more, text_end}
 use Rattle.clfs_dump.proofs.records.push_records.Goals as goal
 

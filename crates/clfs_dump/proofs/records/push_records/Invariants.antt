@@ -1,10 +1,5 @@
-use Rattle.std.proofs.Common.{◌≡◌, ◌+◌, ◌-◌, ◌≤◌, List, ◌++◌, length}
-use Rattle.std.specs.List.{flat_map}
-use Rattle.clfs_lsn.specs.Lsn.{lsn_number}
-use Rattle.clfs_lsn.specs.declared.entry.LogEntry.{LogEntry}
-use Rattle.clfs_block.specs.Records.{records_from}
+use Rattle.clfs_dump.proofs.Words.{◌≡◌, ◌+◌, ◌-◌, ◌≤◌, List, ◌++◌, length, flat_map, lsn_number, LogEntry, records_from, record_text, records_met}
 use Rattle.clfs_block.specs.RecordLaws.{behind}
-use Rattle.clfs_dump.specs.Telling.{record_text, records_met}
 use Rattle.clfs_dump.proofs.records.push_records.Given as goal
 
 abbrev pub invariant-loop-sequence : goal.invariant-loop-sequence

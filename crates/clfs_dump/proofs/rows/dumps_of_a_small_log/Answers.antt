@@ -1,9 +1,4 @@
-use Rattle.std.proofs.Common.{refl}
-use Rattle.std.specs.Fmt.{digits}
-use Rattle.hex.specs.Hex.{encode_with}
-use Rattle.clfs_lsn.specs.Spelling.{record_at}
-use Rattle.clfs_block.specs.Checks.{frame_at, sectors_at}
-use Rattle.clfs_block.specs.Records.{block_records}
+use Rattle.clfs_dump.proofs.Words.{refl, digits, encode_with, record_at, frame_at, sectors_at, block_records}
 use Rattle.clfs_dump.proofs.rows.dumps_of_a_small_log.Goals as goal
 
 pub returns : goal.returns

@@ -1,6 +1,4 @@
-use Rattle.std.proofs.Common.{refl}
-use Rattle.std.specs.Fmt.{digits}
-use Rattle.hex.specs.Hex.{encode_with}
+use Rattle.clfs_dump.proofs.Words.{refl, digits, encode_with}
 use Rattle.clfs_dump.proofs.rows.lines_of_a_small_log.Goals as goal
 
 pub returns : goal.returns

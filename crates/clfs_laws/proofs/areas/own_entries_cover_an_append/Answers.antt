@@ -1,7 +1,5 @@
-use Rattle.std.specs.Prelude.{Option, IsSome}
-use Rattle.std.proofs.Common.{sym, subst, refl}
+use Rattle.clfs_laws.proofs.Words.{Option, IsSome, sym, subst, refl, Area}
 use Rattle.std.specs.Prelude.{length}
-use Rattle.clfs_model.specs.declared.state.Area.{Area}
 use Rattle.clfs_laws.proofs.Room.{never_full, never_short, never_few}
 use Rattle.clfs_laws.proofs.RoomOfSteps.{covered_step}
 use Rattle.clfs_laws.proofs.ValidRuns.{valid_journal, holds_enough}

@@ -1,4 +1,4 @@
-use Rattle.std.proofs.Common.{arith}
+use Rattle.clfs_laws.proofs.Words.{arith}
 use Rattle.clfs_laws.proofs.LaidPuts as puts
 use Rattle.clfs_laws.proofs.LaidStates.{laid_whole}
 use Rattle.clfs_laws.proofs.ValidPlaces.{sound_of}

@@ -1,9 +1,4 @@
-use Rattle.std.proofs.Common.{ap, [], length}
-use Rattle.clfs_model.specs.declared.state.State.{State}
-use Rattle.clfs_model.specs.Space.{grown}
-use Rattle.clfs_model.specs.Flush.{flush}
-use Rattle.clfs_model.specs.Put.{need_of, hold_sizes, seal_if, flush_if, plain_record}
-use Rattle.clfs_model.specs.Answers.{restart_record, rebased}
+use Rattle.clfs_laws.proofs.Words.{ap, [], length, State, grown, flush, need_of, hold_sizes, seal_if, flush_if, plain_record, restart_record, rebased}
 use Rattle.clfs_laws.proofs.RoomFound.{next_spent}
 use Rattle.clfs_laws.proofs.ValidAppends.{spend_first}
 use Rattle.clfs_laws.proofs.between.small_changes_make_the_calls.Goals as goal

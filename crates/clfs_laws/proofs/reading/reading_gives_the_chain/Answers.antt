@@ -1,5 +1,4 @@
-use Rattle.clfs_lsn.specs.declared.cursor.Mode.TheVariants.{Forward}
-use Rattle.clfs_lsn.specs.declared.cursor.CursorKind.TheVariants.{Records}
+use Rattle.clfs_laws.proofs.Words.{Forward, Records}
 use Rattle.clfs_laws.proofs.ReadCalls.{read_first, read_none, reads_next, reads_end, reads_start}
 use Rattle.clfs_laws.proofs.reading.reading_gives_the_chain.Goals as goal
 

@@ -1,4 +1,4 @@
-use Rattle.clfs_lsn.specs.declared.cursor.CursorKind.TheVariants.{RestartAreas}
+use Rattle.clfs_laws.proofs.Words.{RestartAreas}
 use Rattle.clfs_laws.proofs.ReadCalls.{restart_first, restart_none, reads_next, reads_end}
 use Rattle.clfs_laws.proofs.reading.restart_areas_come_newest_first.Goals as goal
 

@@ -1,9 +1,4 @@
-use Rattle.std.proofs.Common.{sym, ap, List}
-use Rattle.std.specs.Prelude.{filter, reverse}
-use Rattle.clfs_lsn.specs.declared.entry.LogEntry.{LogEntry}
-use Rattle.clfs_model.specs.declared.state.State.{State}
-use Rattle.clfs_lsn.specs.Heads.{is_restart}
-use Rattle.clfs_model.specs.State.{base_of}
+use Rattle.clfs_laws.proofs.Words.{sym, ap, List, filter, reverse, LogEntry, State, is_restart, base_of}
 use Rattle.clfs_laws.proofs.Equivalence.{same_itself, same_turned, same_through, same_cut}
 use Rattle.clfs_laws.proofs.SameRecords.{live_of_same}
 use Rattle.clfs_laws.proofs.same.sameness.Goals as goal

@@ -1,8 +1,4 @@
-use Rattle.std.proofs.Common.{◌≡◌, inl, inr}
-use Rattle.std.specs.Prelude.{Some}
-use Rattle.std.proofs.lemmas.Bool.{cases_Bool}
-use Rattle.clfs_model.specs.Refusals.{refusal}
-use Rattle.clfs_laws.specs.Refused.{is_of_call}
+use Rattle.clfs_laws.proofs.Words.{◌≡◌, inl, inr, Some, cases_Bool, refusal, is_of_call}
 use Rattle.clfs_laws.proofs.FineSteps.{fine_refused}
 use Rattle.clfs_laws.proofs.Replies.{first_refusal, own_refusal, no_bad_line}
 use Rattle.clfs_laws.proofs.steps.refusals_are_the_calls_own.Goals as goal

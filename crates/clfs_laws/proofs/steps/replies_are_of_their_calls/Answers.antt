@@ -1,4 +1,4 @@
-use Rattle.std.proofs.Common.{refl}
+use Rattle.clfs_laws.proofs.Words.{refl}
 use Rattle.clfs_model.specs.declared.refusal.Refusal.TheVariants as refusals
 use Rattle.clfs_laws.proofs.Replies.{first_refusal}
 use Rattle.clfs_laws.proofs.ReplyKinds.{step_kind, missing_area}

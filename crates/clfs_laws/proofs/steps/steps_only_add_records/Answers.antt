@@ -1,11 +1,4 @@
-use Rattle.std.proofs.Common.{ℕ, ◌≡◌, ◌≤◌, arith, List, [], ◌∷◌}
-use Rattle.std.specs.List.{AllByRecursion}
-use Rattle.std.proofs.lemmas.List.Elements.{All-from_recursion}
-use Rattle.clfs_lsn.specs.Place.{frontier}
-use Rattle.clfs_lsn.specs.declared.entry.LogEntry.{LogEntry}
-use Rattle.clfs_model.specs.declared.state.State.{State}
-use Rattle.clfs_model.specs.Put.{next_lsn}
-use Rattle.clfs_model.specs.Valid.{IsValid}
+use Rattle.clfs_laws.proofs.Words.{ℕ, ◌≡◌, ◌≤◌, arith, List, [], ◌∷◌, AllByRecursion, All-from_recursion, frontier, LogEntry, State, next_lsn, IsValid}
 use Rattle.clfs_laws.proofs.Links.{next_within}
 use Rattle.clfs_laws.proofs.RecordsOfCalls.{step_adds}
 use Rattle.clfs_laws.proofs.steps.steps_only_add_records.Goals as goal

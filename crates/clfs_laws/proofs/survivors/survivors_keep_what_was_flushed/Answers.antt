@@ -1,7 +1,5 @@
 use Rattle.std.specs.Prelude.{◌≤◌}
-use Rattle.std.proofs.lemmas.List.Elements.{All-from_recursion}
-use Rattle.clfs_lsn.specs.declared.entry.LogEntry.{LogEntry}
-use Rattle.clfs_model.specs.Flush.{flushed}
+use Rattle.clfs_laws.proofs.Words.{All-from_recursion, LogEntry, flushed}
 use Rattle.clfs_laws.proofs.SurvivingRecords.{survivor_begins, survivor_has_restarts}
 use Rattle.clfs_laws.proofs.survivors.survivors_keep_what_was_flushed.Goals as goal
 

@@ -1,7 +1,4 @@
-use Rattle.std.proofs.Common.{◌≡◌, ◌∙◌, sym, ap, subst}
-use Rattle.clfs_base.specs.declared.image.BaseImage.{BaseImage}
-use Rattle.clfs_base.specs.Spelling.{IsImage}
-use Rattle.clfs_physical.specs.Changes.{listed_from, changed, next_copy}
+use Rattle.clfs_physical.proofs.Words.{◌≡◌, ◌∙◌, sym, ap, subst, BaseImage, IsImage, listed_from, changed, next_copy}
 use Rattle.clfs_physical.proofs.NextCopies.{next_image, changed_version}
 use Rattle.clfs_physical.proofs.change.apply.Goals as goal
 

@@ -1,6 +1,4 @@
-use Rattle.std.proofs.Common.{ℕ, max, sym, subst}
-use Rattle.clfs_base.specs.declared.image.BaseImage.{BaseImage}
-use Rattle.clfs_base.specs.Spelling.{IsImage}
+use Rattle.clfs_physical.proofs.Words.{ℕ, max, sym, subst, BaseImage, IsImage}
 use Rattle.clfs_physical.proofs.NextCopies.{containers_image}
 use Rattle.clfs_physical.proofs.change.apply_containers.Goals as goal
 

@@ -1,8 +1,5 @@
-use Rattle.std.proofs.Common.{◌≡◌, ◌∙◌, ◌∷◌, ◌++◌, [], ◌<◌, length, sym, ap, subst, arith}
+use Rattle.clfs_physical.proofs.Words.{◌≡◌, ◌∙◌, ◌∷◌, ◌++◌, [], ◌<◌, length, sym, ap, subst, arith, BaseImage, IsImage, with_next_turn, with_file}
 use Rattle.clfs_lsn.specs.Limits.{most_containers}
-use Rattle.clfs_base.specs.declared.image.BaseImage.{BaseImage}
-use Rattle.clfs_base.specs.Spelling.{IsImage}
-use Rattle.clfs_physical.specs.Changes.{with_next_turn, with_file}
 use Rattle.clfs_physical.proofs.Taken.{file_image}
 use Rattle.clfs_physical.proofs.change.apply_file.Goals as goal
 

@@ -1,7 +1,4 @@
-use Rattle.std.proofs.Common.{◌≡◌, ◌∙◌, sym, ap, subst}
-use Rattle.clfs_base.specs.declared.image.BaseImage.{BaseImage}
-use Rattle.clfs_base.specs.Spelling.{IsImage}
-use Rattle.clfs_physical.specs.Changes.{with_next_turn, listed_from, with_stream, next_copy}
+use Rattle.clfs_physical.proofs.Words.{◌≡◌, ◌∙◌, sym, ap, subst, BaseImage, IsImage, with_next_turn, listed_from, with_stream, next_copy}
 use Rattle.clfs_physical.specs.declared.change.Change.TheVariants as changes
 use Rattle.clfs_physical.proofs.NextCopies.{stream_image}
 use Rattle.clfs_physical.proofs.change.apply_stream.Goals as goal

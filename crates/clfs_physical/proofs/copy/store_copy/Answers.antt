@@ -1,9 +1,5 @@
-use Rattle.std.proofs.Common.{◌≡◌, ◌⊎◌, ◌-◌, refl, sym, ◌∙◌, ap}
-use Rattle.clfs_disk.specs.Files.{Files}
-use Rattle.clfs_base.specs.declared.image.BaseImage.{BaseImage}
-use Rattle.clfs_base.specs.Spelling.{current, spelled}
-use Rattle.clfs_base.specs.Writing.{EitherNewest}
-use Rattle.clfs_physical.specs.Stored.{IsLog}
+use Rattle.clfs_physical.proofs.Words.{◌≡◌, ◌⊎◌, ◌-◌, refl, sym, ◌∙◌, ap, Files, BaseImage, current, EitherNewest, IsLog}
+use Rattle.clfs_base.specs.Spelling.{spelled}
 use Rattle.clfs_physical.proofs.Joining.{leaves_weaker}
 use Rattle.clfs_physical.proofs.Logs.{log_by_copy, log_by_either}
 use Rattle.clfs_physical.proofs.copy.store_copy.Goals as goal

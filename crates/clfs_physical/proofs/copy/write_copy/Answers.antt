@@ -1,8 +1,4 @@
-use Rattle.std.proofs.Common.{◌+◌, ◌*◌, sym, ◌∙◌, subst, IsTrue}
-use Rattle.std.proofs.lemmas.Result.{on_ok_weaker}
-use Rattle.clfs_disk.specs.Files.{Files, TornIn}
-use Rattle.clfs_disk.specs.State.{Nature}
-use Rattle.clfs_base.specs.Writing.{EitherNewest}
+use Rattle.clfs_physical.proofs.Words.{◌+◌, ◌*◌, sym, ◌∙◌, subst, IsTrue, on_ok_weaker, Files, TornIn, Nature, EitherNewest}
 use Rattle.clfs_physical.proofs.Joining.{later_from, later_then, leaves_then}
 use Rattle.clfs_physical.proofs.Copies.{newest_then, still_older, filled, old_yet, old_still, old_or_new}
 use Rattle.clfs_physical.proofs.copy.write_copy.Goals as goal

@@ -1,4 +1,4 @@
-use Rattle.std.proofs.Common.{refl, arith}
+use Rattle.clfs_physical.proofs.Words.{refl, arith}
 use Rattle.clfs_physical.proofs.Counting.{all_to, so_many}
 use Rattle.clfs_physical.proofs.free.free_file.Goals as goal
 

@@ -1,5 +1,4 @@
-use Rattle.std.proofs.Common.{◌-◌, ◌<◌, ◌≤◌, ℕ}
-use Rattle.clfs_physical.specs.Stored.{IsIn}
+use Rattle.clfs_physical.proofs.Words.{◌-◌, ◌<◌, ◌≤◌, ℕ, IsIn}
 use Rattle.clfs_physical.proofs.free.free_file.Given as goal
 
 -- All smaller files are among these.

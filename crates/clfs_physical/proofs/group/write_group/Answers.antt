@@ -1,8 +1,4 @@
-use Rattle.std.proofs.Common.{◌+◌, ◌⊎◌, length, sym, subst, IsTrue}
-use Rattle.std.proofs.lemmas.Result.{on_ok_weaker}
-use Rattle.clfs_disk.specs.Files.{Files, TornIn}
-use Rattle.clfs_disk.specs.State.{Nature}
-use Rattle.clfs_physical.specs.Joined.{HasGroup, HasNone}
+use Rattle.clfs_physical.proofs.Words.{◌+◌, ◌⊎◌, length, sym, subst, IsTrue, on_ok_weaker, Files, TornIn, Nature, HasGroup, HasNone}
 use Rattle.clfs_physical.proofs.Lengths.{torn_lengths}
 use Rattle.clfs_physical.proofs.Joining.{later_from, later_then, leaves_then}
 use Rattle.clfs_physical.proofs.Groups.{none_yet, all_or_none, has_group}

@@ -1,6 +1,5 @@
-use Rattle.std.proofs.Common.{◌≡◌, ◌⊎◌, ◌-◌, ◌<◌, ◌≤◌, ℕ, length}
-use Rattle.clfs_disk.specs.State.{TellsContents, IsSteady, Passes, raised}
-use Rattle.clfs_physical.specs.Joined.{GrownAbove}
+use Rattle.clfs_physical.proofs.Words.{◌≡◌, ◌⊎◌, ◌-◌, ◌<◌, ◌≤◌, ℕ, length, Passes, GrownAbove}
+use Rattle.clfs_disk.specs.State.{TellsContents, IsSteady, raised}
 use Rattle.clfs_physical.proofs.growth.grow_each.Given as goal
 
 -- The files up to `done` are made, and the others are as they were.

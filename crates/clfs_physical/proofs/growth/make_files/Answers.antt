@@ -1,6 +1,4 @@
-use Rattle.std.proofs.Common.{◌≡◌, sym, subst, arith, IsTrue}
-use Rattle.std.proofs.lemmas.Bool.Decides.{nat_tests}
-use Rattle.clfs_disk.specs.State.{Nature}
+use Rattle.clfs_physical.proofs.Words.{◌≡◌, sym, subst, arith, IsTrue, nat_tests, Nature}
 use Rattle.clfs_physical.proofs.Joining.{settled_still}
 use Rattle.clfs_physical.proofs.growth.make_files.Goals as goal
 

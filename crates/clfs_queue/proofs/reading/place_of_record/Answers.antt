@@ -1,11 +1,5 @@
-use Rattle.std.proofs.Common.{◌≡◌, ◌+◌, ◌<◌, ◌≤◌, ◌^◌, ◌++◌, ◌∷◌, [], ℕ, List, length, get_or, take, ◌∙◌, ap, arith}
-use Rattle.std.specs.List.{flat_map}
-use Rattle.std.proofs.lemmas.List.{take_more, take_all}
-use Rattle.clfs_lsn.specs.Spelling.{record_bytes}
-use Rattle.clfs_lsn.specs.Size.{size}
-use Rattle.clfs_lsn.specs.declared.entry.LogEntry.{LogEntry}
-use Rattle.clfs_block.specs.Frame.{place_of, payload_from}
-use Rattle.clfs_queue.specs.Held.{IsHeld}
+use Rattle.clfs_queue.proofs.Words.{◌≡◌, ◌+◌, ◌<◌, ◌≤◌, ◌^◌, ◌++◌, ◌∷◌, [], ℕ, List, length, get_or, take, ◌∙◌, ap, arith, flat_map, take_all, record_bytes, size, LogEntry, place_of, payload_from, IsHeld}
+use Rattle.std.proofs.lemmas.List.{take_more}
 use Rattle.clfs_queue.proofs.Contents.{content_aligned, content_more, place_grows}
 use Rattle.clfs_queue.proofs.Holding.{held_small, held_before, held_within, held_bytes}
 use Rattle.clfs_queue.proofs.reading.place_of_record.Goals as goal

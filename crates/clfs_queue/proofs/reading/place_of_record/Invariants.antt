@@ -1,8 +1,4 @@
-use Rattle.std.proofs.Common.{◌≡◌, ◌+◌, length, take}
-use Rattle.std.specs.List.{flat_map}
-use Rattle.clfs_lsn.specs.Spelling.{record_bytes}
-use Rattle.clfs_lsn.specs.declared.entry.LogEntry.{LogEntry}
-use Rattle.clfs_queue.specs.Held.{IsHeld}
+use Rattle.clfs_queue.proofs.Words.{◌≡◌, ◌+◌, length, take, flat_map, record_bytes, LogEntry, IsHeld}
 use Rattle.clfs_queue.proofs.reading.place_of_record.Given as goal
 
 -- the records that were gone over are the first of those before it

@@ -1,9 +1,4 @@
-use Rattle.std.proofs.Common.{◌≡◌, ◌+◌, ◌<◌, ◌≤◌, ◌^◌, ◌++◌, ℕ, List, length, take, ◌∙◌, ap, arith}
-use Rattle.clfs_lsn.specs.Size.{size}
-use Rattle.clfs_lsn.specs.Spelling.{record_bytes}
-use Rattle.clfs_lsn.specs.declared.entry.LogEntry.{LogEntry}
-use Rattle.clfs_block.specs.Frame.{place_of, payload_from}
-use Rattle.clfs_queue.specs.Held.{IsHeld, payload_before}
+use Rattle.clfs_queue.proofs.Words.{◌≡◌, ◌+◌, ◌<◌, ◌≤◌, ◌^◌, ◌++◌, ℕ, List, length, take, ◌∙◌, ap, arith, size, record_bytes, LogEntry, place_of, payload_from, IsHeld, payload_before}
 use Rattle.clfs_queue.proofs.Contents.{content_aligned, place_grows}
 use Rattle.clfs_queue.proofs.Holding.{held_small, held_within, held_bytes, held_data}
 use Rattle.clfs_queue.proofs.reading.read_record.Goals as goal

@@ -1,9 +1,4 @@
-use Rattle.std.proofs.Common.{◌≡◌, ◌+◌, ◌++◌, ◌∙◌, ℕ, List, length, drop, replicate, refl, sym, ap, arith, append_assoc}
-use Rattle.clfs_lsn.specs.Size.{size}
-use Rattle.clfs_lsn.specs.Spelling.{header_bytes, filling}
-use Rattle.clfs_lsn.specs.declared.entry.LogEntry.{LogEntry}
-use Rattle.clfs_block.specs.Frame.{payload_of}
-use Rattle.clfs_record.specs.Fields.{placed_record}
+use Rattle.clfs_queue.proofs.Words.{◌≡◌, ◌+◌, ◌++◌, ◌∙◌, ℕ, List, length, drop, replicate, refl, sym, ap, arith, append_assoc, size, header_bytes, filling, LogEntry, payload_of, placed_record}
 use Rattle.clfs_queue.proofs.writing.push_record.Goals as goal
 
 pub returns-clause-payload : goal.returns-clause-payload

@@ -1,11 +1,5 @@
-use Rattle.std.proofs.Common.{◌≡◌, ℕ, List, vec_len, Ok, sym, ◌∙◌, subst}
-use Rattle.std.proofs.lemmas.Result.{err_from_is_err_and}
-use Rattle.clfs_lsn.specs.Lsn.{lsn_number}
+use Rattle.clfs_recover.proofs.Words.{◌≡◌, ℕ, List, vec_len, Ok, sym, ◌∙◌, subst, err_from_is_err_and, lsn_number, told_as, records_from, RefusesAs, Damaged, block_refused, block_read}
 use Rattle.clfs_block.specs.declared.head.BlockRefusal.TheVariants.{Closed}
-use Rattle.clfs_block.specs.Records.{told_as, records_from}
-use Rattle.clfs_recover.specs.Gathering.{RefusesAs}
-use Rattle.clfs_recover.specs.declared.refusal.LoadRefusal.TheVariants.{Damaged}
-use Rattle.clfs_block.specs.RecordLaws.{block_refused, block_read}
 use Rattle.clfs_recover.proofs.Blocks.{frame_refusal, records_refusal, rest_refusal, told_records}
 use Rattle.clfs_recover.proofs.block.gather_block.Goals as goal
 

@@ -1,4 +1,4 @@
-use Rattle.std.proofs.Common.{refl}
+use Rattle.clfs_recover.proofs.Words.{refl}
 use Rattle.clfs_recover.proofs.ChangedCopies.{log_settings, log_archived}
 use Rattle.clfs_recover.proofs.changes.settings_leave_the_records.Goals as goal
 

@@ -1,4 +1,4 @@
-use Rattle.std.proofs.Common.{arith}
+use Rattle.clfs_recover.proofs.Words.{arith}
 use Rattle.clfs_recover.proofs.Pieces.{read_reaches}
 use Rattle.clfs_recover.proofs.container.cover.Goals as goal
 

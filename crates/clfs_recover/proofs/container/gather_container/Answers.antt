@@ -1,12 +1,5 @@
-use Rattle.std.proofs.Common.{ℕ, ◌*◌, ◌++◌, Option, Some, None, Result, Ok, Err, vec_len, refl, rules, ◌∙◌, ap, subst, arith}
-use Rattle.std.proofs.lemmas.Result.{err_from_is_err_and}
-use Rattle.clfs_lsn.specs.Lsn.{lsn_number}
-use Rattle.clfs_disk.specs.Files.{Unchanged}
-use Rattle.clfs_disk.specs.State.{TellsContents}
-use Rattle.clfs_block.specs.Frame.{AreBytes}
-use Rattle.clfs_block.specs.Records.{block_records}
-use Rattle.clfs_recover.specs.Gathering.{GathersBlock}
-use Rattle.clfs_recover.specs.declared.refusal.LoadRefusal.{LoadRefusal}
+use Rattle.clfs_recover.proofs.Words.{ℕ, ◌*◌, ◌++◌, Option, Some, None, Result, Ok, Err, vec_len, refl, ◌∙◌, ap, subst, arith, err_from_is_err_and, lsn_number, Unchanged, TellsContents, AreBytes, block_records, GathersBlock, LoadRefusal}
+use Rattle.std.proofs.Common.{rules}
 use Rattle.clfs_recover.proofs.Containers.{block_end}
 use Rattle.clfs_recover.proofs.Told.{block_told}
 use Rattle.clfs_recover.proofs.Taken.{starts, goes_on, is_closed, is_full, is_refused}

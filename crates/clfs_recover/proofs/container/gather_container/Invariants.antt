@@ -1,10 +1,4 @@
-use Rattle.std.proofs.Common.{◌≡◌, ◌-◌, ◌*◌, ◌%◌, ◌≤◌, List, vec_len}
-use Rattle.clfs_lsn.specs.declared.entry.LogEntry.{LogEntry}
-use Rattle.clfs_base.specs.declared.image.Row.{Row}
-use Rattle.clfs_disk.specs.Files.{Unchanged}
-use Rattle.clfs_disk.specs.State.{TellsContents, IsSteady, Passes}
-use Rattle.clfs_recover.specs.Fronts.{Shows}
-use Rattle.clfs_recover.specs.Gathering.{HasTaken}
+use Rattle.clfs_recover.proofs.Words.{◌≡◌, ◌-◌, ◌*◌, ◌%◌, ◌≤◌, List, vec_len, LogEntry, Row, Unchanged, TellsContents, IsSteady, Passes, Shows, HasTaken}
 use Rattle.clfs_recover.proofs.Taken.{IsBehind}
 use Rattle.clfs_recover.proofs.container.gather_container.Given as goal
 

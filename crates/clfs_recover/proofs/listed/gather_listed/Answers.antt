@@ -1,10 +1,6 @@
-use Rattle.std.proofs.Common.{ℕ, ◌+◌, ◌++◌, length, get_or, vec_len, refl, subst, ◌∙◌, arith}
-use Rattle.std.proofs.lemmas.Result.{err_from_is_err_and}
-use Rattle.clfs_disk.specs.Files.{Unchanged}
-use Rattle.clfs_disk.specs.State.{TellsContents}
+use Rattle.clfs_recover.proofs.Words.{ℕ, ◌+◌, ◌++◌, length, get_or, vec_len, refl, subst, ◌∙◌, arith, err_from_is_err_and, Unchanged, TellsContents, TellsBlock}
 use Rattle.clfs_recover.proofs.Listing.{starts_listed, all_listed, goes_on_listed, taken_otherwise, refused_otherwise, listed_refused}
 use Rattle.clfs_recover.proofs.Told.{listed_told}
-use Rattle.clfs_recover.specs.Telling.{TellsBlock}
 use Rattle.clfs_recover.proofs.Disks.{tells_still, steady_still, no_time}
 use Rattle.clfs_recover.proofs.listed.gather_listed.Goals as goal
 

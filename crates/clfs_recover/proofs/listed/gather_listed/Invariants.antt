@@ -1,9 +1,5 @@
-use Rattle.std.proofs.Common.{◌≡◌, List, vec_len}
-use Rattle.clfs_lsn.specs.declared.entry.LogEntry.{LogEntry}
-use Rattle.clfs_base.specs.declared.image.Row.{Row}
-use Rattle.clfs_disk.specs.Files.{Unchanged}
-use Rattle.clfs_disk.specs.State.{TellsContents, IsSteady, Passes}
-use Rattle.clfs_recover.specs.Gathering.{HasTaken, IsEnd}
+use Rattle.clfs_recover.proofs.Words.{◌≡◌, List, vec_len, LogEntry, Row, Unchanged, TellsContents, IsSteady, Passes, HasTaken}
+use Rattle.clfs_recover.specs.Gathering.{IsEnd}
 use Rattle.clfs_recover.proofs.Listing.{HaveTaken}
 use Rattle.clfs_recover.proofs.listed.gather_listed.Given as goal
 

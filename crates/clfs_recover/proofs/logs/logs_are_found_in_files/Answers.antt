@@ -1,4 +1,4 @@
-use Rattle.std.proofs.Common.{refl}
+use Rattle.clfs_recover.proofs.Words.{refl}
 use Rattle.clfs_recover.proofs.Laid.{log_found}
 use Rattle.clfs_recover.proofs.logs.logs_are_found_in_files.Goals as goal
 

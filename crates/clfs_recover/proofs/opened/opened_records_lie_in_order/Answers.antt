@@ -1,5 +1,4 @@
-use Rattle.clfs_lsn.specs.Lsn.{lsn_number}
-use Rattle.clfs_recover.specs.Walk.{shape_of}
+use Rattle.clfs_recover.proofs.Words.{lsn_number, shape_of}
 use Rattle.clfs_recover.proofs.FoundParts.{AreImagesRead, found_opened}
 use Rattle.clfs_recover.proofs.FoundRecords.{all_rise, sequences}
 use Rattle.clfs_recover.proofs.PartsInOrder.{all_fit, all_low, all_listed}

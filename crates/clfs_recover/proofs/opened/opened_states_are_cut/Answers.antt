@@ -1,5 +1,4 @@
-use Rattle.std.proofs.Common.{ap}
-use Rattle.clfs_model.specs.declared.state.State.{State}
+use Rattle.clfs_recover.proofs.Words.{ap, State}
 use Rattle.clfs_recover.proofs.FoundParts.{AreImagesRead}
 use Rattle.clfs_recover.proofs.StorableStates.{stands_cut, stands_flushed}
 use Rattle.clfs_recover.proofs.opened.opened_states_are_cut.Goals as goal

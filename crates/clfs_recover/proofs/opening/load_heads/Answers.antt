@@ -1,9 +1,5 @@
-use Rattle.std.proofs.Common.{◌∙◌, ap, map, subst, sym, List, Ok}
+use Rattle.clfs_recover.proofs.Words.{◌∙◌, ap, map, subst, sym, List, Ok, LogEntry, Finds, IsOpenedFrom, parts_of}
 use Rattle.clfs_lsn.specs.Head.{head_of}
-use Rattle.clfs_lsn.specs.declared.entry.LogEntry.{LogEntry}
-use Rattle.clfs_recover.specs.Files.{Finds}
-use Rattle.clfs_recover.specs.KnownLogs.{IsOpenedFrom}
-use Rattle.clfs_recover.specs.Opening.{parts_of}
 use Rattle.clfs_recover.proofs.opening.load_heads.Goals as goal
 
 pub returns-clause-exact : goal.returns-clause-exact

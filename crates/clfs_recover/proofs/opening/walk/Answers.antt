@@ -1,13 +1,9 @@
-use Rattle.std.proofs.Common.{sym, ◌∙◌, ap}
-use Rattle.std.proofs.lemmas.Result.{IfErr-weaker, err_from_is_err_and}
-use Rattle.clfs_disk.specs.Files.{Unchanged}
-use Rattle.clfs_disk.specs.State.{TellsContents}
-use Rattle.clfs_base.specs.Slots.{newest_of}
+use Rattle.clfs_recover.proofs.Words.{sym, ◌∙◌, ap, err_from_is_err_and, Unchanged, TellsContents, newest_of, TellsBehind, TellsOpening}
+use Rattle.std.proofs.lemmas.Result.{IfErr-weaker}
 use Rattle.clfs_recover.proofs.Disks.{tells_still, steady_still, settled_still, always, of_refusals}
 use Rattle.clfs_recover.proofs.Finding.{by_copy, listed_same}
 use Rattle.clfs_recover.proofs.OpenedLogs.{walked_is_opened, opened_is_found}
 use Rattle.clfs_recover.proofs.Told.{fault_told, reason_told, behind_told}
-use Rattle.clfs_recover.specs.Telling.{TellsBehind, TellsOpening}
 use Rattle.clfs_recover.proofs.opening.walk.Goals as goal
 
 pub returns-clause-log : goal.returns-clause-log

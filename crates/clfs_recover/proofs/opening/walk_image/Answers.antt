@@ -1,13 +1,4 @@
-use Rattle.std.proofs.Common.{inl, inr, ◌≡◌, ℕ, List, [], length, map, Some, None, vec_len, sym, ◌∙◌, ap, subst, arith}
-use Rattle.std.proofs.lemmas.Result.{err_from_is_err_and}
-use Rattle.clfs_lsn.specs.Place.{frontier}
-use Rattle.clfs_lsn.specs.declared.place.Place.{Place}
-use Rattle.clfs_disk.specs.State.{TellsContents}
-use Rattle.clfs_base.specs.declared.image.Row.{Row}
-use Rattle.clfs_recover.specs.Walk.{shape_of, listed_records, image_fault}
-use Rattle.clfs_recover.specs.Files.{AreListed}
-use Rattle.clfs_recover.specs.Gathering.{RefusesAs}
-use Rattle.clfs_recover.specs.Telling.{TellsBlock}
+use Rattle.clfs_recover.proofs.Words.{inl, inr, ◌≡◌, ℕ, List, [], length, map, Some, None, vec_len, sym, ◌∙◌, ap, subst, arith, err_from_is_err_and, frontier, Place, TellsContents, Row, shape_of, listed_records, image_fault, AreListed, RefusesAs, TellsBlock}
 use Rattle.clfs_recover.proofs.Raising.{first_bases, length-bases_with}
 use Rattle.clfs_recover.proofs.Finding.{walk_refused}
 use Rattle.clfs_recover.proofs.OpenedLogs.{taken_by_image, is_fault, fits_records}

@@ -1,5 +1,4 @@
-use Rattle.std.proofs.Common.{[], ◌∷◌, ◌++◌}
-use Rattle.clfs_record.specs.Decoding.{entry_with}
+use Rattle.clfs_recover.proofs.Words.{[], ◌∷◌, ◌++◌, entry_with}
 use Rattle.clfs_recover.proofs.parts.with_entry.Given as goal
 
 abbrev pub ghost-next : goal.ghost-next

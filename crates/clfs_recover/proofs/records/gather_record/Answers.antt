@@ -1,9 +1,4 @@
-use Rattle.std.proofs.Common.{◌≡◌, ℕ, ◌++◌, ◌∷◌, [], List, Ok, sym, ◌∙◌, ap, subst, arith, take, drop, length, ◌+◌, ◌-◌}
-use Rattle.clfs_lsn.specs.Spelling.{record_at}
-use Rattle.clfs_lsn.specs.declared.entry.LogEntry.{LogEntry}
-use Rattle.clfs_record.specs.Decoding.{entry_with}
-use Rattle.clfs_recover.specs.Walk.{bases_with}
-use Rattle.clfs_recover.specs.Bases.{raised}
+use Rattle.clfs_recover.proofs.Words.{◌≡◌, ℕ, ◌++◌, ◌∷◌, [], List, Ok, sym, ◌∙◌, ap, subst, arith, take, drop, length, ◌+◌, ◌-◌, record_at, LogEntry, entry_with, bases_with, raised}
 use Rattle.clfs_recover.proofs.Raising.{bases_more, length-bases_with}
 use Rattle.clfs_recover.proofs.records.gather_record.Goals as goal
 

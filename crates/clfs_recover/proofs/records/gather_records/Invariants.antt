@@ -1,9 +1,4 @@
-use Rattle.std.proofs.Common.{◌≡◌, ◌+◌, ◌-◌, ◌≤◌, List, length, vec_len}
-use Rattle.clfs_lsn.specs.Lsn.{lsn_number}
-use Rattle.clfs_lsn.specs.declared.entry.LogEntry.{LogEntry}
-use Rattle.clfs_base.specs.declared.image.Row.{Row}
-use Rattle.clfs_block.specs.Records.{records_from}
-use Rattle.clfs_recover.specs.Gathering.{HasTaken}
+use Rattle.clfs_recover.proofs.Words.{◌≡◌, ◌+◌, ◌-◌, ◌≤◌, List, length, vec_len, lsn_number, LogEntry, Row, records_from, HasTaken}
 use Rattle.clfs_recover.proofs.Steps.{Reached}
 use Rattle.clfs_recover.proofs.records.gather_records.Given as goal
 

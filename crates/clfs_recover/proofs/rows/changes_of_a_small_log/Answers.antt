@@ -1,7 +1,4 @@
-use Rattle.std.proofs.Common.{refl}
-use Rattle.clfs_lsn.specs.Spelling.{record_at}
-use Rattle.clfs_block.specs.Checks.{frame_at, sectors_at}
-use Rattle.clfs_block.specs.Records.{block_records}
+use Rattle.clfs_recover.proofs.Words.{refl, record_at, frame_at, sectors_at, block_records}
 use Rattle.clfs_recover.proofs.rows.changes_of_a_small_log.Goals as goal
 
 pub returns : goal.returns

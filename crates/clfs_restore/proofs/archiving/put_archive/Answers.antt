@@ -1,16 +1,5 @@
-use Rattle.std.proofs.Common.{◌≡◌, ℕ, ◌<◌, List, [], length, map, get_or, Some, None, Result, Ok, Err, sym, ◌∙◌, ap, subst}
-use Rattle.std.proofs.lemmas.Result.{err_from_is_err_and}
-use Rattle.clfs_container.specs.OpenBlocks.{AreWhole}
-use Rattle.clfs_base.specs.declared.image.BaseImage.{BaseImage}
-use Rattle.clfs_base.specs.declared.refusal.NewestRefusal.{NewestRefusal}
-use Rattle.clfs_base.specs.Slots.{newest_of}
+use Rattle.clfs_restore.proofs.Words.{◌≡◌, ℕ, ◌<◌, List, [], length, map, get_or, Some, None, Result, Ok, Err, sym, ◌∙◌, ap, subst, err_from_is_err_and, AreWhole, BaseImage, NewestRefusal, newest_of, stored_records, shape_of, archived_image, archive_bytes, archived_pieces, GivesCopy, GoesOn, TellsArchived, ArchiveRefusal, Log}
 use Rattle.clfs_model.specs.declared.refusal.Refusal.TheVariants as refusals
-use Rattle.clfs_recover.specs.Stored.{stored_records}
-use Rattle.clfs_recover.specs.Walk.{shape_of}
-use Rattle.clfs_archive_form.specs.Form.{archived_image, archive_bytes, archived_pieces}
-use Rattle.clfs_restore.specs.Archiving.{GivesCopy, GoesOn, TellsArchived}
-use Rattle.clfs_restore.specs.declared.refusal.ArchiveRefusal.{ArchiveRefusal}
-use Rattle.clfs_restore.specs.declared.refusal.ArchiveRefusal.TheVariants.{Log}
 use Rattle.clfs_restore.proofs.Archived.{archiving_on, one_copy, is_archive, cause_of}
 use Rattle.clfs_restore.proofs.Joining.{tells_still, joined}
 use Rattle.clfs_restore.proofs.Told.{archive_damage, off_told}

@@ -1,11 +1,4 @@
-use Rattle.std.proofs.Common.{◌≡◌, ℕ, ◌+◌, ◌<◌, List, ◌++◌, drop, length, map, get_or, sym, ◌∙◌, ap, subst, arith}
-use Rattle.std.proofs.lemmas.Result.{err_from_is_err_and}
-use Rattle.std.proofs.lemmas.List.{get_or-drop, length-drop}
-use Rattle.std.specs.List.{flat_map}
-use Rattle.clfs_recover.specs.Walk.{shape_of}
-use Rattle.clfs_archive_form.specs.Form.{piece_bytes}
-use Rattle.clfs_archive_form.specs.Drafting.{front_bytes}
-use Rattle.clfs_restore.specs.Archiving.{AreReadable, TellsContainer, pieces_from}
+use Rattle.clfs_restore.proofs.Words.{◌≡◌, ℕ, ◌+◌, ◌<◌, List, ◌++◌, drop, length, map, get_or, sym, ◌∙◌, ap, subst, arith, err_from_is_err_and, get_or-drop, length-drop, flat_map, shape_of, piece_bytes, front_bytes, AreReadable, TellsContainer, pieces_from}
 use Rattle.clfs_restore.proofs.Archived.{skipped, archive_is}
 use Rattle.clfs_restore.proofs.Joining.{goes_refused}
 use Rattle.clfs_restore.proofs.Pieces.{readable_from}

@@ -1,5 +1,4 @@
-use Rattle.std.proofs.Common.{true}
-use Rattle.std.proofs.lemmas.Result.{err_from_is_err_and}
+use Rattle.clfs_restore.proofs.Words.{true, err_from_is_err_and}
 use Rattle.clfs_restore.proofs.Listing.{off, on}
 use Rattle.clfs_restore.proofs.archiving.see_archiving.Goals as goal
 

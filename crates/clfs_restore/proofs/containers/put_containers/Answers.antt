@@ -1,13 +1,6 @@
-use Rattle.std.proofs.Common.{ℕ, ◌+◌, List, ◌++◌, length, map, take, get_or, Some, None, sym, ◌∙◌, ap, subst, append_assoc, arith}
-use Rattle.std.proofs.lemmas.Result.{err_from_is_err_and}
+use Rattle.clfs_restore.proofs.Words.{ℕ, ◌+◌, List, ◌++◌, length, map, take, get_or, Some, None, sym, ◌∙◌, ap, subst, append_assoc, arith, err_from_is_err_and, flat_map, AreWhole, stored_in, piece_bytes, shape_of, TellsContainer, pieces_from}
 use Rattle.std.proofs.lemmas.List.{take_all}
-use Rattle.std.specs.List.{flat_map}
-use Rattle.clfs_container.specs.OpenBlocks.{AreWhole}
-use Rattle.clfs_recover.specs.Stored.{stored_in}
-use Rattle.clfs_archive_form.specs.Form.{piece_bytes}
 use Rattle.clfs_archive_form.specs.Judging.{Judging}
-use Rattle.clfs_recover.specs.Walk.{shape_of}
-use Rattle.clfs_restore.specs.Archiving.{TellsContainer, pieces_from}
 use Rattle.clfs_restore.proofs.Joining.{tells_still, joined, goes_refused}
 use Rattle.clfs_restore.proofs.Pieces.{one_more}
 use Rattle.clfs_restore.proofs.Told.{among_containers}

@@ -1,9 +1,5 @@
-use Rattle.std.proofs.Common.{◌≡◌, ℕ, ◌+◌, ◌*◌, ◌^◌, ◌≤◌, List, ◌++◌, length, map, take, None, vec_len}
-use Rattle.std.specs.List.{flat_map}
-use Rattle.clfs_disk.specs.State.{TellsContents}
-use Rattle.clfs_recover.specs.Walk.{shape_of}
-use Rattle.clfs_archive_form.specs.Form.{piece_bytes}
-use Rattle.clfs_restore.specs.Archiving.{Reads, AreReadable, pieces_from}
+use Rattle.clfs_restore.proofs.Words.{◌≡◌, ℕ, ◌+◌, ◌*◌, ◌≤◌, List, ◌++◌, length, map, take, None, vec_len, flat_map, TellsContents, shape_of, piece_bytes, Reads, AreReadable, pieces_from}
+use Rattle.std.proofs.Common.{◌^◌}
 use Rattle.clfs_restore.proofs.containers.put_containers.Given as goal
 
 abbrev pub invariant-loop-i : goal.invariant-loop-i

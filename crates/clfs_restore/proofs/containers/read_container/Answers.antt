@@ -1,7 +1,4 @@
-use Rattle.std.proofs.Common.{ℕ, List, Err, take, length, sym, ◌∙◌, ap, subst, arith}
-use Rattle.std.proofs.lemmas.List.{length-take}
-use Rattle.std.proofs.lemmas.Result.{err_from_is_err_and}
-use Rattle.clfs_container.specs.OpenBlocks.{AreWhole, total}
+use Rattle.clfs_restore.proofs.Words.{ℕ, List, Err, take, length, sym, ◌∙◌, ap, subst, arith, length-take, err_from_is_err_and, AreWhole, total}
 use Rattle.clfs_restore.proofs.Fronts.{whole_front, read_blocks}
 use Rattle.clfs_restore.proofs.Joining.{ends_refused}
 use Rattle.clfs_restore.proofs.Told.{container_told, fault_in_container}

@@ -1,6 +1,4 @@
-use Rattle.std.proofs.Common.{ℕ, List, ◌∙◌, ap, arith}
-use Rattle.std.proofs.lemmas.Result.{err_from_is_err_and}
-use Rattle.clfs_base.specs.Slots.{slot_of}
+use Rattle.clfs_restore.proofs.Words.{ℕ, List, ◌∙◌, ap, arith, err_from_is_err_and, slot_of}
 use Rattle.clfs_base.specs.declared.refusal.NewestRefusal.TheVariants as newest
 use Rattle.clfs_restore.proofs.Found.{same_slot, copy_found, copy_wrong, image_right, image_wrong, no_slot, no_copy}
 use Rattle.clfs_restore.proofs.Told.{copy_told, no_slot_damage, one_slot, slot_damage}

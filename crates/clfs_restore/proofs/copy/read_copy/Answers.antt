@@ -1,5 +1,4 @@
-use Rattle.std.proofs.Common.{ℕ, take, ◌∙◌, ap}
-use Rattle.std.proofs.lemmas.Result.{err_from_is_err_and}
+use Rattle.clfs_restore.proofs.Words.{ℕ, take, ◌∙◌, ap, err_from_is_err_and}
 use Rattle.clfs_restore.proofs.Told.{fault_told}
 use Rattle.clfs_restore.proofs.copy.read_copy.Goals as goal
 

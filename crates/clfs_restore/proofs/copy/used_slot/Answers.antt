@@ -1,7 +1,4 @@
-use Rattle.std.proofs.Common.{Ok, Err, sym, ◌∙◌, ap, arith}
-use Rattle.clfs_base.specs.declared.newest.Front.{Front}
-use Rattle.clfs_base.specs.Slots.{front_of, slot_by}
-use Rattle.clfs_restore.specs.Archiving.{refused_as}
+use Rattle.clfs_restore.proofs.Words.{Ok, Err, sym, ◌∙◌, ap, arith, Front, front_of, slot_by, refused_as}
 use Rattle.clfs_restore.proofs.Told.{slot_told}
 use Rattle.clfs_restore.proofs.copy.used_slot.Goals as goal
 

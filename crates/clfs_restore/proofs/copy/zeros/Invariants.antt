@@ -1,4 +1,4 @@
-use Rattle.std.proofs.Common.{◌-◌, ◌≤◌, vec_len}
+use Rattle.clfs_restore.proofs.Words.{◌-◌, ◌≤◌, vec_len}
 use Rattle.clfs_restore.proofs.copy.zeros.Given as goal
 
 abbrev pub invariant-loop-some : goal.invariant-loop-some

@@ -1,6 +1,4 @@
-use Rattle.std.proofs.Common.{sym, subst}
-use Rattle.std.specs.Prelude.{IsTrue}
-use Rattle.clfs_disk.specs.State.{Nature}
+use Rattle.clfs_restore.proofs.Words.{sym, subst, IsTrue, Nature}
 use Rattle.clfs_restore.proofs.Kept.{filled_still}
 use Rattle.clfs_restore.proofs.filling.fill_files.Goals as goal
 

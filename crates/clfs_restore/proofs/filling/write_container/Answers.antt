@@ -1,5 +1,4 @@
-use Rattle.std.proofs.Common.{◌+◌, ℕ, List, sym, subst}
-use Rattle.clfs_restore.specs.Restoring.{IsPiece}
+use Rattle.clfs_restore.proofs.Words.{◌+◌, ℕ, List, sym, subst, IsPiece}
 use Rattle.clfs_restore.proofs.Kept.{holds_written}
 use Rattle.clfs_restore.proofs.filling.write_container.Goals as goal
 

@@ -1,9 +1,4 @@
-use Rattle.std.proofs.Common.{⊎_elim, ◌≡◌, ℕ, ◌+◌, ◌-◌, ◌<◌, ◌≤◌, sym, ◌∙◌, subst, arith}
-use Rattle.std.specs.Prelude.{IsTrue}
-use Rattle.std.proofs.lemmas.Bool.{cases_lt}
-use Rattle.clfs_lsn.specs.Lsn.{container_of}
-use Rattle.clfs_disk.specs.State.{Nature}
-use Rattle.clfs_archive_form.specs.Written.{HoldsKept}
+use Rattle.clfs_restore.proofs.Words.{⊎_elim, ◌≡◌, ℕ, ◌+◌, ◌-◌, ◌<◌, ◌≤◌, sym, ◌∙◌, subst, arith, IsTrue, cases_lt, container_of, Nature, HoldsKept}
 use Rattle.clfs_restore.proofs.Kept.{holds_still}
 use Rattle.clfs_restore.proofs.Moments.{base_then}
 use Rattle.clfs_restore.proofs.filling.write_containers.Goals as goal

@@ -1,7 +1,6 @@
-use Rattle.std.proofs.Common.{◌≡◌, ℕ, ◌-◌, ◌*◌, ◌<◌, ◌≤◌, length}
-use Rattle.clfs_disk.specs.State.{TellsContents, IsSteady, Passes, raised}
-use Rattle.clfs_format.specs.Making.{BaseStays, SameLengths}
-use Rattle.clfs_archive_form.specs.Written.{HoldsKept}
+use Rattle.clfs_restore.proofs.Words.{◌≡◌, ℕ, ◌-◌, ◌*◌, ◌<◌, ◌≤◌, length, TellsContents, IsSteady, Passes, BaseStays, HoldsKept}
+use Rattle.clfs_disk.specs.State.{raised}
+use Rattle.clfs_format.specs.Making.{SameLengths}
 use Rattle.clfs_restore.proofs.filling.write_containers.Given as goal
 
 abbrev pub invariant-loop-i : goal.invariant-loop-i

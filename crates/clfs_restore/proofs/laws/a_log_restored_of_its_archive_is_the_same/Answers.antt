@@ -1,4 +1,4 @@
-use Rattle.clfs_archive_form.specs.Form.{archived_pieces}
+use Rattle.clfs_restore.proofs.Words.{archived_pieces}
 use Rattle.clfs_archive_form.specs.ReadBack.{archive_alone}
 use Rattle.clfs_restore.proofs.Alone.{stands_again}
 use Rattle.clfs_restore.proofs.laws.a_log_restored_of_its_archive_is_the_same.Goals as goal

@@ -1,14 +1,9 @@
-use Rattle.std.proofs.Common.{◌≡◌, Some, None, true, ap, sym, subst, ◌∙◌}
+use Rattle.clfs_restore.proofs.Words.{◌≡◌, Some, None, true, ap, sym, subst, ◌∙◌, State, flushed, tail_refusal, with_broken, WritesDisk}
 use Rattle.std.specs.Prelude.{OnOk, IfErr, IsErrOf}
 use Rattle.clfs_model.specs.declared.call.Call.TheVariants as calls
 use Rattle.clfs_model.specs.declared.refusal.Refusal.TheVariants as refusals
-use Rattle.clfs_model.specs.declared.state.State.{State}
-use Rattle.clfs_model.specs.Flush.{flushed}
-use Rattle.clfs_model.specs.Refusals.{tail_refusal}
 use Rattle.clfs_model.specs.Run.{asks}
-use Rattle.clfs_model.specs.Step.{with_broken}
 use Rattle.clfs_manager.specs.Crashes.{CrashSurvives}
-use Rattle.clfs_manager.specs.Written.{WritesDisk}
 use Rattle.clfs_restore.specs.Archiving.{all_archived}
 use Rattle.clfs_restore.proofs.Moved.{was_moved, was_told, was_fault, highest_is_flushed, writes_as}
 use Rattle.clfs_restore.proofs.moving.move_tail.Goals as goal

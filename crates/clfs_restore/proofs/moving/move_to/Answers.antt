@@ -1,7 +1,5 @@
-use Rattle.std.proofs.Common.{◌≡◌, ⊎_elim, Some, None, true, ap, sym, ◌∙◌}
+use Rattle.clfs_restore.proofs.Words.{◌≡◌, ⊎_elim, Some, None, true, ap, sym, ◌∙◌, tail_refusal, with_broken}
 use Rattle.clfs_model.specs.declared.refusal.Refusal.TheVariants as refusals
-use Rattle.clfs_model.specs.Refusals.{tail_refusal}
-use Rattle.clfs_model.specs.Step.{with_broken}
 use Rattle.clfs_restore.proofs.Moved.{was_moved, was_refused, flushed_is_fine, writes_as}
 use Rattle.clfs_restore.proofs.moving.move_to.Goals as goal
 

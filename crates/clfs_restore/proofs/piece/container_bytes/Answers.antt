@@ -1,5 +1,4 @@
-use Rattle.std.proofs.Common.{length, sym, ◌∙◌, ap, arith}
-use Rattle.std.proofs.lemmas.List.{length-drop, length-take}
+use Rattle.clfs_restore.proofs.Words.{length, sym, ◌∙◌, ap, arith, length-drop, length-take}
 use Rattle.clfs_restore.proofs.piece.container_bytes.Goals as goal
 
 pub split_at-requires : goal.split_at-requires

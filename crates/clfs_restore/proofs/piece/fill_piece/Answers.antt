@@ -1,8 +1,4 @@
-use Rattle.std.proofs.Common.{◌≡◌, ℕ, length, refl, ap, subst, arith}
-use Rattle.clfs_lsn.specs.declared.shape.Shape.{Shape}
-use Rattle.clfs_recover.specs.Walk.{shape_of}
-use Rattle.clfs_archive_form.specs.Kept.{below}
-use Rattle.clfs_restore.specs.Restoring.{IsPiece}
+use Rattle.clfs_restore.proofs.Words.{◌≡◌, ℕ, length, refl, ap, subst, arith, Shape, shape_of, below, IsPiece}
 use Rattle.clfs_restore.proofs.Kept.{piece_kept, piece_full, piece_open}
 use Rattle.clfs_restore.proofs.piece.fill_piece.Goals as goal
 

@@ -1,5 +1,4 @@
-use Rattle.std.proofs.Common.{sym, ◌∙◌}
-use Rattle.std.proofs.lemmas.Result.{err_from_is_err_and}
+use Rattle.clfs_restore.proofs.Words.{sym, ◌∙◌, err_from_is_err_and}
 use Rattle.clfs_restore.proofs.Made.{input_cause, choice_cause}
 use Rattle.clfs_restore.proofs.restoring.choose.Goals as goal
 

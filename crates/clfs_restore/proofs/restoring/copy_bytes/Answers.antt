@@ -1,7 +1,6 @@
-use Rattle.std.proofs.Common.{◌≡◌, ◌++◌, ℕ, length, drop, take, ◌∙◌, sym, ap, subst, arith}
+use Rattle.clfs_restore.proofs.Words.{◌≡◌, ◌++◌, ℕ, length, drop, take, ◌∙◌, sym, ap, subst, arith, BaseImage, spelled}
 use Rattle.std.proofs.Math.Seq.{take-append_seam}
-use Rattle.clfs_base.specs.declared.image.BaseImage.{BaseImage}
-use Rattle.clfs_base.specs.Spelling.{IsImage, spelled, current}
+use Rattle.clfs_base.specs.Spelling.{IsImage, current}
 use Rattle.clfs_restore.proofs.restoring.copy_bytes.Goals as goal
 
 pub returns-clause-spelled : goal.returns-clause-spelled

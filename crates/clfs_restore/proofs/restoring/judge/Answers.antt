@@ -1,4 +1,4 @@
-use Rattle.std.proofs.lemmas.Result.{err_from_is_err_and}
+use Rattle.clfs_restore.proofs.Words.{err_from_is_err_and}
 use Rattle.clfs_restore.proofs.restoring.judge.Goals as goal
 
 pub returns-in_err-chosen-clause-cause : goal.returns-in_err-chosen-clause-cause

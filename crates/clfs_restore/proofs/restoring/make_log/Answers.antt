@@ -1,11 +1,4 @@
-use Rattle.std.proofs.Common.{inl, inr, ⊎_elim, ◌⊎◌, sym, ◌∙◌, subst}
-use Rattle.std.specs.Prelude.{IsTrue}
-use Rattle.clfs_lsn.specs.Lsn.{lsn_number, container_of}
-use Rattle.clfs_disk.specs.Files.{Files}
-use Rattle.clfs_disk.specs.State.{Nature}
-use Rattle.clfs_base.specs.Writing.{HasNoCopy, NoneOrFirst}
-use Rattle.clfs_archive_form.specs.Written.{restored_copy}
-use Rattle.clfs_restore.specs.Restoring.{GrowsBase, ComesAtOnce}
+use Rattle.clfs_restore.proofs.Words.{inl, inr, ⊎_elim, ◌⊎◌, sym, ◌∙◌, subst, IsTrue, lsn_number, container_of, Files, Nature, HasNoCopy, NoneOrFirst, restored_copy, GrowsBase, ComesAtOnce}
 use Rattle.clfs_restore.proofs.Made.{StandFor, stand_after, whole_after, none_or_stand}
 use Rattle.clfs_restore.proofs.Moments.{Never, later_then, leaves_then, leaves_weaker, none_or, once_then, once_weaker, steady_still}
 use Rattle.clfs_restore.proofs.restoring.make_log.Goals as goal

@@ -1,10 +1,5 @@
-use Rattle.std.proofs.Common.{inl, inr, ◌⊎◌, ℕ, List, length, subst, sym}
+use Rattle.clfs_restore.proofs.Words.{inl, inr, ◌⊎◌, ℕ, List, length, subst, sym, on_ok_weaker, Files, GrownIn, HasNoCopy, BaseStays, base_bytes}
 use Rattle.std.specs.Prelude.{◌≤◌}
-use Rattle.std.proofs.lemmas.Result.{on_ok_weaker}
-use Rattle.clfs_disk.specs.Files.{Files, GrownIn}
-use Rattle.clfs_base.specs.Writing.{HasNoCopy}
-use Rattle.clfs_format.specs.Making.{BaseStays}
-use Rattle.clfs_restore.specs.Restoring.{base_bytes}
 use Rattle.clfs_restore.proofs.Moments.{Never, later_from, later_then, leaves_then, leaves_weaker, no_copy_same, no_copy_grown, no_copy_left, none_or, once_begins, knows_still}
 use Rattle.clfs_restore.proofs.restoring.prepare.Goals as goal
 

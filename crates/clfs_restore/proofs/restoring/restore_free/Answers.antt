@@ -1,8 +1,4 @@
-use Rattle.std.proofs.Common.{inl, inr, ⊎_elim, ◌≡◌, ◌⊎◌, refl}
-use Rattle.std.proofs.lemmas.Result.{err_from_is_err_and, on_ok_weaker, IfErr-weaker}
-use Rattle.clfs_disk.specs.Files.{Files, GrownIn}
-use Rattle.clfs_base.specs.Writing.{HasNoCopy}
-use Rattle.clfs_restore.specs.Restoring.{base_bytes, GrowsBase, ComesAtOnce, StandForRestored, IsFreeCause, IsOfMaking}
+use Rattle.clfs_restore.proofs.Words.{inl, inr, ⊎_elim, ◌≡◌, ◌⊎◌, refl, err_from_is_err_and, on_ok_weaker, IfErr-weaker, Files, GrownIn, HasNoCopy, base_bytes, GrowsBase, ComesAtOnce, StandForRestored, IsFreeCause, IsOfMaking}
 use Rattle.clfs_restore.proofs.Made.{StandFor, stand_chosen, free_cause, making_cause, no_fault}
 use Rattle.clfs_restore.proofs.Moments.{passes_still, reads_leave, leaves_weaker, once_weaker}
 use Rattle.clfs_restore.proofs.restoring.restore_free.Goals as goal

@@ -1,12 +1,4 @@
-use Rattle.std.proofs.Common.{refl}
-use Rattle.std.specs.Fmt.{digits}
-use Rattle.hex.specs.Hex.{decode_pairs, encode_with}
-use Rattle.clfs_model.specs.Space.{grown, has_room}
-use Rattle.clfs_model.specs.Run.{fine_outcome}
-use Rattle.clfs_model.specs.Script.{request_in}
-use Rattle.clfs_rows.specs.Crashes.{closed_at, waiting_log}
-use Rattle.clfs_rows.specs.Filled.{empty_record}
-use Rattle.std.specs.Prelude.{map, ◌∷◌, []}
+use Rattle.clfs_rows.proofs.Words.{refl, digits, decode_pairs, encode_with, grown, has_room, fine_outcome, request_in, closed_at, waiting_log, empty_record, map, ◌∷◌, []}
 use Rattle.clfs_rows.proofs.Decisions.{no, yes}
 use Rattle.clfs_rows.proofs.SurvivorTests.{splits_no_block, ends_block}
 use Rattle.clfs_rows.proofs.crashes.blocks_that_a_crash_leaves.Goals as goal

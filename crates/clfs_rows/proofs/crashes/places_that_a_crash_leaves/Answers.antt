@@ -1,12 +1,5 @@
-use Rattle.std.proofs.Common.{refl}
-use Rattle.std.specs.Fmt.{digits}
-use Rattle.hex.specs.Hex.{decode_pairs, encode_with}
-use Rattle.clfs_model.specs.Space.{grown, has_room}
-use Rattle.clfs_model.specs.Run.{fine_outcome}
-use Rattle.clfs_model.specs.Script.{line_request, request_in}
-use Rattle.clfs_rows.specs.Crashes.{closed_at, left_of, long_append, long_log, skipping_log, turned_log, turning_log, waiting_log}
-use Rattle.clfs_rows.specs.Worked.{opened_log}
-use Rattle.std.specs.Prelude.{codes}
+use Rattle.clfs_rows.proofs.Words.{refl, digits, decode_pairs, encode_with, grown, has_room, fine_outcome, line_request, request_in, closed_at, left_of, long_append, long_log, waiting_log, opened_log, codes}
+use Rattle.clfs_rows.specs.Crashes.{skipping_log, turned_log, turning_log}
 use Rattle.clfs_rows.proofs.Decisions.{no, yes}
 use Rattle.clfs_rows.proofs.SurvivorTests.{is_survivor_of_line, is_survivor}
 use Rattle.clfs_rows.proofs.crashes.places_that_a_crash_leaves.Goals as goal

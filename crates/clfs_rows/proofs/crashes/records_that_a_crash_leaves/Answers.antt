@@ -1,11 +1,5 @@
-use Rattle.std.proofs.Common.{refl}
-use Rattle.std.specs.Fmt.{digits}
-use Rattle.hex.specs.Hex.{decode_pairs, encode_with}
-use Rattle.clfs_model.specs.Space.{grown, has_room}
-use Rattle.clfs_model.specs.Run.{fine_outcome}
-use Rattle.clfs_model.specs.Script.{request_in}
-use Rattle.clfs_rows.specs.Crashes.{left_of, long_append, long_log, waiting_log, with_other_data}
-use Rattle.std.specs.Prelude.{drop, map}
+use Rattle.clfs_rows.proofs.Words.{refl, digits, decode_pairs, encode_with, grown, has_room, fine_outcome, request_in, left_of, long_append, long_log, waiting_log, with_other_data, map}
+use Rattle.std.specs.Prelude.{drop}
 use Rattle.clfs_rows.proofs.Decisions.{no}
 use Rattle.clfs_rows.proofs.SurvivorTests.{is_survivor_of_line}
 use Rattle.clfs_rows.proofs.crashes.records_that_a_crash_leaves.Goals as goal

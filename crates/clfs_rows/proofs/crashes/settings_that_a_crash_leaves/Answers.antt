@@ -1,13 +1,6 @@
-use Rattle.std.proofs.Common.{refl}
-use Rattle.std.specs.Fmt.{digits}
-use Rattle.hex.specs.Hex.{decode_pairs, encode_with}
-use Rattle.clfs_model.specs.Space.{grown, has_room}
-use Rattle.clfs_model.specs.Flush.{cut}
-use Rattle.clfs_model.specs.Run.{fine_outcome}
-use Rattle.clfs_model.specs.Script.{line_request, request_in}
-use Rattle.clfs_rows.specs.Crashes.{growing_append, growing_log, state_behind}
-use Rattle.clfs_rows.specs.Worked.{flushed_log}
-use Rattle.std.specs.Prelude.{Some, codes, true}
+use Rattle.clfs_rows.proofs.Words.{refl, digits, decode_pairs, encode_with, grown, has_room, cut, fine_outcome, line_request, request_in, state_behind, flushed_log, Some, codes}
+use Rattle.clfs_rows.specs.Crashes.{growing_append, growing_log}
+use Rattle.std.specs.Prelude.{true}
 use Rattle.clfs_rows.proofs.Decisions.{no, yes}
 use Rattle.clfs_rows.proofs.SurvivorTests.{is_survivor_of_line, is_survivor}
 use Rattle.clfs_rows.proofs.crashes.settings_that_a_crash_leaves.Goals as goal

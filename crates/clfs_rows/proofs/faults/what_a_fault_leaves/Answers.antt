@@ -1,12 +1,4 @@
-use Rattle.std.proofs.Common.{refl}
-use Rattle.std.specs.Fmt.{digits}
-use Rattle.hex.specs.Hex.{decode_pairs, encode_with}
-use Rattle.clfs_model.specs.Space.{grown, has_room}
-use Rattle.clfs_model.specs.Run.{fine_outcome}
-use Rattle.clfs_model.specs.Script.{request_in}
-use Rattle.std.proofs.Common.{inr}
-use Rattle.clfs_model.specs.Step.{Step, ReopenStep, with_broken}
-use Rattle.clfs_rows.specs.Worked.{opened_log, flushed_log}
+use Rattle.clfs_rows.proofs.Words.{refl, digits, decode_pairs, encode_with, grown, has_room, fine_outcome, request_in, inr, Step, ReopenStep, with_broken, opened_log, flushed_log}
 use Rattle.clfs_rows.proofs.BrokenLog.{fault_breaks, no_fault_without_disk, no_fault_where_refused}
 use Rattle.clfs_rows.proofs.faults.what_a_fault_leaves.Goals as goal
 

@@ -1,15 +1,6 @@
-use Rattle.std.proofs.Common.{refl, inr, false}
-use Rattle.std.specs.Fmt.{digits}
-use Rattle.hex.specs.Hex.{decode_pairs, encode_with}
-use Rattle.clfs_model.specs.Space.{grown, has_room}
-use Rattle.clfs_model.specs.Step.{Step, ReopenStep, with_broken}
-use Rattle.clfs_model.specs.Run.{fine_outcome}
-use Rattle.clfs_model.specs.Script.{request_in}
-use Rattle.clfs_rows.specs.Crashes.{with_other_data}
-use Rattle.clfs_rows.specs.Interleaved.{behind_first, behind_second, behind_third, behind_read}
-use Rattle.std.specs.Prelude.{codes}
+use Rattle.clfs_rows.proofs.Words.{refl, inr, false, digits, decode_pairs, encode_with, grown, has_room, Step, ReopenStep, with_broken, fine_outcome, request_in, with_other_data, behind_first, behind_read, codes, read_log, second_record}
+use Rattle.clfs_rows.specs.Interleaved.{behind_second, behind_third}
 use Rattle.clfs_model.specs.declared.reply.Reply.TheVariants as replies
-use Rattle.clfs_rows.specs.ReadAnew.{read_log, second_record}
 use Rattle.clfs_rows.proofs.Decisions.{yes}
 use Rattle.clfs_rows.proofs.ReplyTests.{may_reply, found}
 use Rattle.clfs_rows.proofs.legal_journals.journals_that_are_legal.Goals as goal

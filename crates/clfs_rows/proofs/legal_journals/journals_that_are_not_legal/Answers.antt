@@ -1,17 +1,6 @@
-use Rattle.std.proofs.Common.{refl, true, arith}
-use Rattle.std.specs.Fmt.{digits}
-use Rattle.hex.specs.Hex.{decode_pairs, encode_with}
-use Rattle.clfs_model.specs.Space.{grown, has_room}
-use Rattle.clfs_model.specs.Step.{Step, ReopenStep}
-use Rattle.clfs_model.specs.Run.{fine_outcome}
-use Rattle.clfs_model.specs.Script.{request_in}
-use Rattle.std.specs.Prelude.{codes}
-use Rattle.clfs_lsn.specs.Lsn.{lsn_number}
+use Rattle.clfs_rows.proofs.Words.{refl, true, arith, digits, decode_pairs, encode_with, grown, has_room, Step, ReopenStep, fine_outcome, request_in, codes, lsn_number, opened_log, with_other_data, behind_first, behind_read, read_log, second_record}
 use Rattle.clfs_model.specs.declared.reply.Reply.TheVariants as replies
-use Rattle.clfs_rows.specs.Worked.{opened_log}
-use Rattle.clfs_rows.specs.Crashes.{with_other_data}
-use Rattle.clfs_rows.specs.Interleaved.{first_entry, read_entry, behind_first, behind_read}
-use Rattle.clfs_rows.specs.ReadAnew.{read_log, second_record}
+use Rattle.clfs_rows.specs.Interleaved.{first_entry, read_entry}
 use Rattle.clfs_rows.proofs.Decisions.{no}
 use Rattle.clfs_rows.proofs.SameStates.{same_state}
 use Rattle.clfs_rows.proofs.ReplyTests.{may_reply, found, placed}

@@ -1,4 +1,4 @@
-use Rattle.std.proofs.Common.{refl}
+use Rattle.clfs_rows.proofs.Words.{refl}
 use Rattle.clfs_rows.proofs.lines.lines_within_limits.Goals as goal
 
 pub returns : goal.returns

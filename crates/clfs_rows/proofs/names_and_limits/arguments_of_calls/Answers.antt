@@ -1,4 +1,4 @@
-use Rattle.std.proofs.Common.{arith}
+use Rattle.clfs_rows.proofs.Words.{arith}
 use Rattle.clfs_rows.proofs.names_and_limits.arguments_of_calls.Goals as goal
 
 pub returns : goal.returns

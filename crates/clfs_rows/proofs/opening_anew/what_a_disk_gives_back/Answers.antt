@@ -1,14 +1,5 @@
-use Rattle.std.proofs.Common.{refl}
-use Rattle.std.specs.Fmt.{digits}
-use Rattle.hex.specs.Hex.{decode_pairs, encode_with}
-use Rattle.clfs_model.specs.Space.{grown, has_room}
-use Rattle.clfs_lsn.specs.Lsn.{lsn_number}
-use Rattle.clfs_model.specs.Flush.{cut}
-use Rattle.clfs_model.specs.Run.{fine_outcome}
-use Rattle.clfs_model.specs.Script.{request_in}
-use Rattle.clfs_rows.specs.Compared.{two_containers, unflushed_log, with_link_to_itself, with_one_changed, without_first, without_one}
-use Rattle.clfs_rows.specs.Crashes.{closed_at, with_other_data}
-use Rattle.std.specs.Prelude.{true, ◌∷◌, []}
+use Rattle.clfs_rows.proofs.Words.{refl, digits, decode_pairs, encode_with, grown, has_room, lsn_number, cut, fine_outcome, request_in, two_containers, unflushed_log, with_link_to_itself, with_one_changed, without_first, without_one, closed_at, with_other_data, ◌∷◌, []}
+use Rattle.std.specs.Prelude.{true}
 use Rattle.clfs_rows.proofs.Decisions.{no, yes}
 use Rattle.clfs_rows.proofs.SameTests.{reopens_up_to}
 use Rattle.clfs_rows.proofs.opening_anew.what_a_disk_gives_back.Goals as goal

@@ -1,10 +1,4 @@
-use Rattle.std.proofs.Common.{refl, inl, inr}
-use Rattle.std.specs.Fmt.{digits}
-use Rattle.hex.specs.Hex.{decode_pairs, encode_with}
-use Rattle.clfs_model.specs.Space.{grown, has_room}
-use Rattle.clfs_model.specs.Run.{fine_outcome}
-use Rattle.clfs_model.specs.Script.{request_in}
-use Rattle.clfs_model.specs.Step.{ReopenStep, Step}
+use Rattle.clfs_rows.proofs.Words.{refl, inl, inr, digits, decode_pairs, encode_with, grown, has_room, fine_outcome, request_in, ReopenStep, Step}
 use Rattle.clfs_rows.proofs.BrokenLog.{opening_fault_breaks, opening_want_changes_nothing, broken_is_not_opened, opening_damage_breaks}
 use Rattle.clfs_rows.proofs.opening_anew.what_stops_opening_anew.Goals as goal
 

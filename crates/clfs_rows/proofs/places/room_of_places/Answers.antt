@@ -1,4 +1,4 @@
-use Rattle.std.proofs.Common.{refl}
+use Rattle.clfs_rows.proofs.Words.{refl}
 use Rattle.clfs_rows.proofs.places.room_of_places.Goals as goal
 
 pub returns : goal.returns

@@ -1,13 +1,4 @@
-use Rattle.std.proofs.Common.{refl}
-use Rattle.std.specs.Fmt.{digits}
-use Rattle.hex.specs.Hex.{decode_pairs, encode_with}
-use Rattle.clfs_model.specs.Space.{grown, has_room}
-use Rattle.clfs_lsn.specs.Lsn.{lsn_number}
-use Rattle.clfs_model.specs.Run.{fine_outcome}
-use Rattle.clfs_model.specs.Script.{request_in}
-use Rattle.clfs_rows.specs.Compared.{two_containers, with_one_changed, without_first, without_one}
-use Rattle.clfs_rows.specs.Crashes.{with_base, with_other_data}
-use Rattle.std.specs.Prelude.{Some}
+use Rattle.clfs_rows.proofs.Words.{refl, digits, decode_pairs, encode_with, grown, has_room, lsn_number, fine_outcome, request_in, two_containers, with_one_changed, without_first, without_one, with_base, with_other_data, Some}
 use Rattle.clfs_rows.proofs.Decisions.{yes, no}
 use Rattle.clfs_rows.proofs.SameTests.{is_same}
 use Rattle.clfs_rows.proofs.sameness.records_that_are_compared.Goals as goal

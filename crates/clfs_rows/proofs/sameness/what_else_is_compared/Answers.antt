@@ -1,14 +1,5 @@
-use Rattle.std.proofs.Common.{refl}
-use Rattle.std.specs.Fmt.{digits}
-use Rattle.hex.specs.Hex.{decode_pairs, encode_with}
-use Rattle.clfs_model.specs.Space.{grown, has_room}
-use Rattle.clfs_lsn.specs.Lsn.{lsn_number}
-use Rattle.clfs_model.specs.Run.{fine_outcome}
-use Rattle.clfs_model.specs.Script.{request_in}
-use Rattle.clfs_model.specs.Step.{with_broken}
-use Rattle.clfs_rows.specs.Compared.{two_containers}
-use Rattle.clfs_rows.specs.Crashes.{closed_at, with_base}
-use Rattle.std.specs.Prelude.{Some, codes, true, ◌∷◌, []}
+use Rattle.clfs_rows.proofs.Words.{refl, digits, decode_pairs, encode_with, grown, has_room, lsn_number, fine_outcome, request_in, with_broken, two_containers, closed_at, with_base, Some, codes, ◌∷◌, []}
+use Rattle.std.specs.Prelude.{true}
 use Rattle.clfs_rows.proofs.Decisions.{no}
 use Rattle.clfs_rows.proofs.SameTests.{is_same}
 use Rattle.clfs_rows.proofs.sameness.what_else_is_compared.Goals as goal

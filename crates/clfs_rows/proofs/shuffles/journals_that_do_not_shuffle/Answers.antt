@@ -1,6 +1,5 @@
-use Rattle.std.proofs.Common.{arith}
+use Rattle.clfs_rows.proofs.Words.{arith, []}
 use Rattle.clfs_rows.specs.Interleaved.{script, entry_for}
-use Rattle.std.specs.Prelude.{[]}
 use Rattle.clfs_model.specs.declared.call.Call.TheVariants as calls
 use Rattle.clfs_rows.proofs.Shuffled.{is_the_only}
 use Rattle.clfs_rows.proofs.shuffles.journals_that_do_not_shuffle.Goals as goal

@@ -1,4 +1,4 @@
-use Rattle.std.proofs.Common.{refl, arith}
+use Rattle.clfs_rows.proofs.Words.{refl, arith}
 use Rattle.clfs_rows.proofs.Shuffled.{shuffles}
 use Rattle.clfs_rows.proofs.shuffles.journals_that_shuffle.Goals as goal
 

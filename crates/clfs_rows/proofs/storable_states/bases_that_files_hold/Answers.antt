@@ -1,13 +1,5 @@
-use Rattle.std.proofs.Common.{refl}
-use Rattle.std.specs.Fmt.{digits}
-use Rattle.hex.specs.Hex.{decode_pairs, encode_with}
-use Rattle.clfs_model.specs.Space.{grown, has_room}
-use Rattle.clfs_lsn.specs.Lsn.{lsn_number}
-use Rattle.clfs_model.specs.Run.{fine_outcome}
-use Rattle.clfs_model.specs.Script.{request_in}
-use Rattle.clfs_rows.specs.Arranged.{arranged_log, with_new_base}
-use Rattle.clfs_rows.specs.Compared.{with_one_changed}
-use Rattle.clfs_rows.specs.Crashes.{with_base}
+use Rattle.clfs_rows.proofs.Words.{refl, digits, decode_pairs, encode_with, grown, has_room, lsn_number, fine_outcome, request_in, arranged_log, with_one_changed, with_base}
+use Rattle.clfs_rows.specs.Arranged.{with_new_base}
 use Rattle.clfs_rows.proofs.Decisions.{no, yes}
 use Rattle.clfs_rows.proofs.StorableTests.{is_storable}
 use Rattle.clfs_rows.proofs.storable_states.bases_that_files_hold.Goals as goal

@@ -1,12 +1,5 @@
-use Rattle.std.proofs.Common.{refl}
-use Rattle.std.specs.Fmt.{digits}
-use Rattle.hex.specs.Hex.{decode_pairs, encode_with}
-use Rattle.clfs_model.specs.Space.{grown, has_room}
-use Rattle.clfs_model.specs.Run.{fine_outcome}
-use Rattle.clfs_model.specs.Script.{request_in}
-use Rattle.clfs_rows.specs.Arranged.{arranged_log, block_of, open_at, with_bytes, with_place}
-use Rattle.clfs_rows.specs.Compared.{with_one_changed, without_first, without_one}
-use Rattle.clfs_rows.specs.Worked.{opened_log}
+use Rattle.clfs_rows.proofs.Words.{refl, digits, decode_pairs, encode_with, grown, has_room, fine_outcome, request_in, arranged_log, block_of, open_at, with_place, with_one_changed, without_first, without_one, opened_log}
+use Rattle.clfs_rows.specs.Arranged.{with_bytes}
 use Rattle.clfs_rows.proofs.Decisions.{no, yes}
 use Rattle.clfs_rows.proofs.StorableTests.{is_storable}
 use Rattle.clfs_rows.proofs.storable_states.blocks_that_files_hold.Goals as goal

@@ -1,15 +1,4 @@
-use Rattle.std.proofs.Common.{refl}
-use Rattle.std.specs.Fmt.{digits}
-use Rattle.hex.specs.Hex.{decode_pairs, encode_with}
-use Rattle.clfs_model.specs.Space.{grown, has_room}
-use Rattle.clfs_lsn.specs.Lsn.{lsn_number}
-use Rattle.clfs_model.specs.Run.{fine_outcome}
-use Rattle.clfs_model.specs.Script.{request_in}
-use Rattle.clfs_lsn.specs.declared.cursor.Mode.TheVariants.{Forward}
-use Rattle.clfs_lsn.specs.declared.cursor.CursorKind.TheVariants.{Records, RestartAreas}
-use Rattle.clfs_rows.specs.Arranged.{an_area, arranged_log, cursor_at, with_areas, with_cursors}
-use Rattle.clfs_rows.specs.Worked.{worked}
-use Rattle.std.specs.Prelude.{replicate, ◌∷◌, []}
+use Rattle.clfs_rows.proofs.Words.{refl, digits, decode_pairs, encode_with, grown, has_room, lsn_number, fine_outcome, request_in, Forward, Records, RestartAreas, an_area, arranged_log, cursor_at, with_areas, with_cursors, worked, replicate, ◌∷◌, []}
 use Rattle.clfs_rows.proofs.Decisions.{no, yes}
 use Rattle.clfs_rows.proofs.StorableTests.{is_storable}
 use Rattle.clfs_rows.proofs.storable_states.cursors_within_limits.Goals as goal

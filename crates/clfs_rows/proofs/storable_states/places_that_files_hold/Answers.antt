@@ -1,12 +1,4 @@
-use Rattle.std.proofs.Common.{refl}
-use Rattle.std.specs.Fmt.{digits}
-use Rattle.hex.specs.Hex.{decode_pairs, encode_with}
-use Rattle.clfs_model.specs.Space.{grown, has_room}
-use Rattle.clfs_lsn.specs.Place.{sealed}
-use Rattle.clfs_model.specs.Run.{fine_outcome}
-use Rattle.clfs_model.specs.Script.{request_in}
-use Rattle.clfs_rows.specs.Arranged.{arranged_log, open_at, with_place}
-use Rattle.clfs_rows.specs.Crashes.{closed_at}
+use Rattle.clfs_rows.proofs.Words.{refl, digits, decode_pairs, encode_with, grown, has_room, sealed, fine_outcome, request_in, arranged_log, open_at, with_place, closed_at}
 use Rattle.clfs_rows.specs.Filled.{last_of_all}
 use Rattle.clfs_rows.proofs.Decisions.{no, yes}
 use Rattle.clfs_rows.proofs.StorableTests.{is_storable}

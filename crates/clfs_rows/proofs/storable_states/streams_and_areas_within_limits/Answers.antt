@@ -1,13 +1,5 @@
-use Rattle.std.proofs.Common.{refl}
-use Rattle.std.specs.Fmt.{digits}
-use Rattle.hex.specs.Hex.{decode_pairs, encode_with}
-use Rattle.clfs_model.specs.Space.{grown, has_room}
-use Rattle.clfs_model.specs.Run.{fine_outcome}
-use Rattle.clfs_model.specs.Script.{request_in}
-use Rattle.clfs_rows.specs.Arranged.{an_area, stream_named, with_areas}
-use Rattle.clfs_rows.specs.Filled.{streams_of}
-use Rattle.clfs_rows.specs.Worked.{worked}
-use Rattle.std.specs.Prelude.{codes, replicate, ◌∷◌, []}
+use Rattle.clfs_rows.proofs.Words.{refl, digits, decode_pairs, encode_with, grown, has_room, fine_outcome, request_in, an_area, with_areas, streams_of, worked, codes, replicate, ◌∷◌, []}
+use Rattle.clfs_rows.specs.Arranged.{stream_named}
 use Rattle.clfs_rows.proofs.Decisions.{no, yes}
 use Rattle.clfs_rows.proofs.StorableTests.{is_storable}
 use Rattle.clfs_rows.proofs.storable_states.streams_and_areas_within_limits.Goals as goal

@@ -1,14 +1,6 @@
-use Rattle.std.proofs.Common.{refl}
-use Rattle.std.specs.Fmt.{digits}
-use Rattle.hex.specs.Hex.{decode_pairs, encode_with}
-use Rattle.clfs_model.specs.Space.{grown, has_room}
+use Rattle.clfs_rows.proofs.Words.{refl, digits, decode_pairs, encode_with, grown, has_room, null_lsn, fine_outcome, request_in, state_behind, with_other_data, read_log, second_record, codes}
 use Rattle.clfs_model.specs.declared.reply.Reply.TheVariants as replies
-use Rattle.clfs_lsn.specs.Lsn.{null_lsn}
-use Rattle.clfs_model.specs.Run.{fine_outcome}
-use Rattle.clfs_model.specs.Script.{request_in}
-use Rattle.clfs_rows.specs.Crashes.{state_behind, with_other_data}
-use Rattle.clfs_rows.specs.ReadAnew.{read_log, second_record}
-use Rattle.std.specs.Prelude.{codes, true}
+use Rattle.std.specs.Prelude.{true}
 use Rattle.clfs_rows.proofs.Decisions.{yes, no}
 use Rattle.clfs_rows.proofs.ReplyTests.{found, next, may_reply}
 use Rattle.clfs_rows.proofs.untold_replies.what_a_disk_that_tells_gives.Goals as goal

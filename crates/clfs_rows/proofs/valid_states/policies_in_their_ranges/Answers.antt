@@ -1,11 +1,4 @@
-use Rattle.std.proofs.Common.{refl}
-use Rattle.std.specs.Fmt.{digits}
-use Rattle.hex.specs.Hex.{decode_pairs, encode_with}
-use Rattle.clfs_model.specs.Space.{grown, has_room}
-use Rattle.clfs_model.specs.Run.{fine_outcome}
-use Rattle.clfs_model.specs.Script.{request_in}
-use Rattle.clfs_rows.specs.Worked.{worked}
-use Rattle.std.specs.Prelude.{Some}
+use Rattle.clfs_rows.proofs.Words.{refl, digits, decode_pairs, encode_with, grown, has_room, fine_outcome, request_in, worked, Some}
 use Rattle.clfs_rows.proofs.Decisions.{yes, no}
 use Rattle.clfs_rows.proofs.ValidTests.{is_valid}
 use Rattle.clfs_rows.proofs.valid_states.policies_in_their_ranges.Goals as goal

@@ -1,15 +1,4 @@
-use Rattle.std.proofs.Common.{refl}
-use Rattle.std.specs.Fmt.{digits}
-use Rattle.hex.specs.Hex.{decode_pairs, encode_with}
-use Rattle.clfs_model.specs.Space.{grown, has_room}
-use Rattle.clfs_lsn.specs.Lsn.{lsn_number, null_lsn}
-use Rattle.clfs_model.specs.Run.{fine_outcome}
-use Rattle.clfs_model.specs.Script.{request_in}
-use Rattle.clfs_rows.specs.Arranged.{open_log, with_place, with_records}
-use Rattle.clfs_rows.specs.Compared.{with_link_to_itself}
-use Rattle.clfs_rows.specs.Crashes.{closed_at}
-use Rattle.clfs_rows.specs.Filled.{empty_record}
-use Rattle.std.specs.Prelude.{◌∷◌, []}
+use Rattle.clfs_rows.proofs.Words.{refl, digits, decode_pairs, encode_with, grown, has_room, lsn_number, null_lsn, fine_outcome, request_in, open_log, with_place, with_records, with_link_to_itself, closed_at, empty_record, ◌∷◌, []}
 use Rattle.clfs_rows.proofs.Decisions.{no}
 use Rattle.clfs_rows.proofs.ValidTests.{is_valid}
 use Rattle.clfs_rows.proofs.valid_states.records_of_a_log.Goals as goal

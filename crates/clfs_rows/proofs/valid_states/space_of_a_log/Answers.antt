@@ -1,15 +1,4 @@
-use Rattle.std.proofs.Common.{refl}
-use Rattle.std.specs.Fmt.{digits}
-use Rattle.hex.specs.Hex.{decode_pairs, encode_with}
-use Rattle.clfs_model.specs.Space.{grown, has_room}
-use Rattle.clfs_lsn.specs.Lsn.{null_lsn}
-use Rattle.clfs_model.specs.Run.{fine_outcome}
-use Rattle.clfs_model.specs.Script.{request_in}
-use Rattle.clfs_rows.specs.Arranged.{an_area, with_areas}
-use Rattle.clfs_rows.specs.Compared.{two_containers}
-use Rattle.clfs_rows.specs.Crashes.{with_base}
-use Rattle.clfs_rows.specs.Worked.{opened_log}
-use Rattle.std.specs.Prelude.{◌∷◌, []}
+use Rattle.clfs_rows.proofs.Words.{refl, digits, decode_pairs, encode_with, grown, has_room, null_lsn, fine_outcome, request_in, an_area, with_areas, two_containers, with_base, opened_log, ◌∷◌, []}
 use Rattle.clfs_rows.proofs.Decisions.{yes, no}
 use Rattle.clfs_rows.proofs.ValidTests.{is_valid}
 use Rattle.clfs_rows.proofs.valid_states.space_of_a_log.Goals as goal

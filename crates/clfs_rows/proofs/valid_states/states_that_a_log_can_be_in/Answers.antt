@@ -1,13 +1,4 @@
-use Rattle.std.proofs.Common.{refl}
-use Rattle.std.specs.Fmt.{digits}
-use Rattle.hex.specs.Hex.{decode_pairs, encode_with}
-use Rattle.clfs_model.specs.Space.{grown, has_room}
-use Rattle.clfs_model.specs.Run.{fine_outcome}
-use Rattle.clfs_model.specs.Script.{request_in}
-use Rattle.clfs_model.specs.State.{log_of}
-use Rattle.clfs_rows.specs.Arranged.{arranged_log, open_log}
-use Rattle.clfs_rows.specs.Crashes.{waiting_log}
-use Rattle.clfs_rows.specs.Worked.{worked}
+use Rattle.clfs_rows.proofs.Words.{refl, digits, decode_pairs, encode_with, grown, has_room, fine_outcome, request_in, log_of, arranged_log, open_log, waiting_log, worked}
 use Rattle.clfs_rows.proofs.Decisions.{yes}
 use Rattle.clfs_rows.proofs.ValidTests.{is_valid}
 use Rattle.clfs_rows.proofs.valid_states.states_that_a_log_can_be_in.Goals as goal

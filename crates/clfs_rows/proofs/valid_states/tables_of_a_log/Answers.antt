@@ -1,16 +1,5 @@
-use Rattle.std.proofs.Common.{refl}
-use Rattle.std.specs.Fmt.{digits}
-use Rattle.hex.specs.Hex.{decode_pairs, encode_with}
-use Rattle.clfs_model.specs.Space.{grown, has_room}
-use Rattle.clfs_lsn.specs.Lsn.{lsn_number, null_lsn}
-use Rattle.clfs_model.specs.Run.{fine_outcome}
-use Rattle.clfs_model.specs.Script.{request_in}
-use Rattle.clfs_lsn.specs.declared.cursor.Mode.TheVariants.{Forward}
-use Rattle.clfs_lsn.specs.declared.cursor.CursorKind.TheVariants.{Records}
-use Rattle.clfs_rows.specs.Arranged.{an_area, arranged_log, cursor_at, with_areas, with_cursors}
-use Rattle.clfs_rows.specs.Filled.{streams_of}
-use Rattle.clfs_rows.specs.Worked.{opened_log, worked}
-use Rattle.std.specs.Prelude.{codes, true, ◌∷◌, []}
+use Rattle.clfs_rows.proofs.Words.{refl, digits, decode_pairs, encode_with, grown, has_room, lsn_number, null_lsn, fine_outcome, request_in, Forward, Records, an_area, arranged_log, cursor_at, with_areas, with_cursors, streams_of, opened_log, worked, codes, ◌∷◌, []}
+use Rattle.std.specs.Prelude.{true}
 use Rattle.clfs_rows.proofs.Decisions.{yes, no}
 use Rattle.clfs_rows.proofs.ValidTests.{is_valid}
 use Rattle.clfs_rows.proofs.valid_states.tables_of_a_log.Goals as goal

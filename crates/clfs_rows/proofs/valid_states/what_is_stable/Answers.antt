@@ -1,13 +1,5 @@
-use Rattle.std.proofs.Common.{refl}
-use Rattle.std.specs.Fmt.{digits}
-use Rattle.hex.specs.Hex.{decode_pairs, encode_with}
-use Rattle.clfs_model.specs.Space.{grown, has_room}
-use Rattle.clfs_lsn.specs.Lsn.{lsn_number}
-use Rattle.clfs_model.specs.Run.{fine_outcome}
-use Rattle.clfs_model.specs.Script.{request_in}
-use Rattle.clfs_rows.specs.Arranged.{empty_restart, with_records}
-use Rattle.clfs_rows.specs.Crashes.{closed_at, waiting_log, with_base}
-use Rattle.std.specs.Prelude.{Some, ◌∷◌, []}
+use Rattle.clfs_rows.proofs.Words.{refl, digits, decode_pairs, encode_with, grown, has_room, lsn_number, fine_outcome, request_in, with_records, closed_at, waiting_log, with_base, Some, ◌∷◌, []}
+use Rattle.clfs_rows.specs.Arranged.{empty_restart}
 use Rattle.clfs_rows.proofs.Decisions.{yes, no}
 use Rattle.clfs_rows.proofs.ValidTests.{is_valid}
 use Rattle.clfs_rows.proofs.valid_states.what_is_stable.Goals as goal

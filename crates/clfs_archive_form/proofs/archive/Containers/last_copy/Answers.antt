@@ -1,9 +1,7 @@
-use Rattle.std.proofs.Common.{List, reverse, ◌∙◌, ap, rules, tests}
-use Rattle.std.specs.List.{find}
+use Rattle.clfs_archive_form.proofs.Words.{List, reverse, ◌∙◌, ap, find, Stored, is_container}
+use Rattle.std.proofs.Common.{rules, tests}
 use Rattle.std.proofs.lemmas.Iterator.Adapters.{YieldsList-from_rev_slice}
 use Rattle.std.proofs.lemmas.Iterator.Search.{find_from_yields_List}
-use Rattle.clfs_archive_form.specs.declared.archive.Stored.{Stored}
-use Rattle.clfs_archive_form.specs.Restoring.{is_container}
 use Rattle.clfs_archive_form.proofs.archive.Containers.last_copy.Goals as goal
 
 pub returns : goal.returns

@@ -1,8 +1,4 @@
-use Rattle.std.proofs.Common.{◌≡◌, ℕ, List, ◌++◌, ◌∙◌, ap, append_assoc}
-use Rattle.byteorder.specs.Endian.{little_bytes}
-use Rattle.clfs_base.specs.declared.image.BaseImage.{BaseImage}
-use Rattle.clfs_base.specs.Spelling.{current, spelled}
-use Rattle.clfs_archive_form.specs.Form.{magic, archived_image}
+use Rattle.clfs_archive_form.proofs.Words.{◌≡◌, ℕ, List, ◌++◌, ◌∙◌, ap, append_assoc, little_bytes, BaseImage, current, spelled, magic, archived_image}
 use Rattle.clfs_archive_form.proofs.draft.Draft.put_front.Goals as goal
 
 pub returns-clause-added : goal.returns-clause-added

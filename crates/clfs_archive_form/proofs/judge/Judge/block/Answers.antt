@@ -1,8 +1,4 @@
-use Rattle.std.proofs.Common.{[], subst}
-use Rattle.clfs_lsn.specs.Lsn.{lsn_number}
-use Rattle.clfs_block.specs.Records.{block_records}
-use Rattle.clfs_archive_form.specs.Judging.{Judging}
-use Rattle.clfs_archive_form.specs.Reading.{JudgesBlock}
+use Rattle.clfs_archive_form.proofs.Words.{[], subst, lsn_number, block_records, Judging, JudgesBlock}
 use Rattle.clfs_archive_form.proofs.Bare.{bare, bare_bases}
 use Rattle.clfs_archive_form.proofs.Blocks.{judges}
 use Rattle.clfs_archive_form.proofs.judge.Judge.block.Goals as goal

@@ -1,4 +1,4 @@
-use Rattle.std.proofs.Common.{◌≡◌, ◌-◌, ◌≤◌, length}
+use Rattle.clfs_archive_form.proofs.Words.{◌≡◌, ◌-◌, ◌≤◌, length}
 use Rattle.clfs_archive_form.proofs.Blocks.{AreRightTo}
 use Rattle.clfs_archive_form.proofs.judge.Judge.blocks.Given as goal
 

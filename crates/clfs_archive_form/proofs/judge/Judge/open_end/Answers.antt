@@ -1,13 +1,4 @@
-use Rattle.std.proofs.Common.{◌≡◌, ℕ, ◌+◌, ◌*◌, Option, Result, Ok, Err, List, drop, refl, sym, ◌∙◌, ap, subst, arith}
-use Rattle.std.proofs.lemmas.Result.{err_from_is_err_and}
-use Rattle.clfs_lsn.specs.Lsn.{lsn_number}
-use Rattle.clfs_container.specs.OpenBlocks.{total}
-use Rattle.clfs_block.specs.Checks.{frame_at}
-use Rattle.clfs_block.specs.Records.{block_records}
-use Rattle.clfs_recover.specs.declared.refusal.LoadRefusal.{LoadRefusal}
-use Rattle.clfs_recover.specs.declared.refusal.LoadRefusal.TheVariants.{DiskFault}
-use Rattle.clfs_archive_form.specs.Judging.{Judging}
-use Rattle.clfs_archive_form.specs.Reading.{JudgesBlock}
+use Rattle.clfs_archive_form.proofs.Words.{◌≡◌, ℕ, ◌+◌, ◌*◌, Option, Result, Ok, Err, List, drop, refl, sym, ◌∙◌, ap, subst, arith, err_from_is_err_and, lsn_number, total, frame_at, block_records, LoadRefusal, DiskFault, Judging, JudgesBlock}
 use Rattle.clfs_archive_form.proofs.OpenEnds.{AreLeft, begin_left, left_none, on_closed, on_wrong, on_block, ends_within, refused_end}
 use Rattle.clfs_archive_form.proofs.judge.Judge.open_end.Goals as goal
 

@@ -1,7 +1,4 @@
-use Rattle.std.proofs.Common.{◌≡◌, ℕ, ◌-◌, ◌%◌, ◌≤◌, List, length, Ok}
-use Rattle.clfs_lsn.specs.declared.entry.LogEntry.{LogEntry}
-use Rattle.clfs_container.specs.OpenBlocks.{AreWhole, total}
-use Rattle.clfs_recover.specs.Stored.{stored_in}
+use Rattle.clfs_archive_form.proofs.Words.{◌≡◌, ℕ, ◌-◌, ◌%◌, ◌≤◌, List, length, Ok, LogEntry, AreWhole, total, stored_in}
 use Rattle.clfs_archive_form.proofs.OpenEnds.{AreLeft}
 use Rattle.clfs_archive_form.proofs.judge.Judge.open_end.Given as goal
 

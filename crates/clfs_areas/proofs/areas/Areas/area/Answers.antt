@@ -1,4 +1,4 @@
-use Rattle.std.proofs.Common.{◌∙◌}
+use Rattle.clfs_areas.proofs.Words.{◌∙◌}
 use Rattle.clfs_areas.proofs.ChangedHeld.{held_there, place_in_ledger}
 use Rattle.clfs_areas.proofs.areas.Areas.area.Goals as goal
 

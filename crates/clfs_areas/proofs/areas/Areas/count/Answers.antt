@@ -1,9 +1,4 @@
-use Rattle.std.proofs.Common.{◌∙◌, ap, sym, List, length}
-use Rattle.std.specs.Prelude.{count_by}
-use Rattle.clfs_model.specs.declared.state.Area.{Area}
-use Rattle.clfs_areas.specs.Table.{client_areas}
-use Rattle.clfs_areas.specs.Rows.{is_client_row}
-use Rattle.clfs_areas.specs.declared.row.AreaRow.{AreaRow}
+use Rattle.clfs_areas.proofs.Words.{◌∙◌, ap, sym, List, length, count_by, Area, client_areas, is_client_row, AreaRow}
 use Rattle.clfs_areas.proofs.Parts.{parts_seen}
 use Rattle.clfs_areas.proofs.Clients.{count_of_client}
 use Rattle.clfs_areas.proofs.areas.Areas.count.Goals as goal

@@ -1,12 +1,4 @@
-use Rattle.std.proofs.Common.{◌≡◌, ℕ, [], ◌∷◌, ◌++◌, ◌∙◌, ap, arith, List}
-use Rattle.std.specs.Prelude.{count_by}
-use Rattle.clfs_lsn.specs.Numbers.{least_unused}
-use Rattle.clfs_ledger.specs.declared.row.Reservation.{Reservation}
-use Rattle.clfs_ledger.specs.Rows.{without}
-use Rattle.clfs_areas.specs.Rows.{is_client_row, is_used, name_in}
-use Rattle.clfs_areas.specs.declared.areas.Areas.TheInside.{Inside}
-use Rattle.clfs_areas.specs.declared.row.AreaName.{AreaName}
-use Rattle.clfs_areas.specs.declared.row.AreaRow.{AreaRow}
+use Rattle.clfs_areas.proofs.Words.{◌≡◌, ℕ, [], ◌∷◌, ◌++◌, ◌∙◌, ap, arith, List, count_by, least_unused, Reservation, without, is_client_row, is_used, name_in, Inside, AreaName, AreaRow}
 use Rattle.clfs_areas.proofs.Clients.{count_of_client, unused_in_state}
 use Rattle.clfs_areas.proofs.Made.{with_name, added_goes, ledger_has_none, told_again, joined_again, told_now, joined_now}
 use Rattle.clfs_areas.proofs.Parts.{parts_seen}

@@ -1,7 +1,5 @@
-use Rattle.std.proofs.Common.{subst, ap, ◌∙◌}
+use Rattle.clfs_areas.proofs.Words.{subst, ap, ◌∙◌, AreaCursors, HaveDifferentNumbers, area_at}
 use Rattle.clfs_lsn.specs.Cursors.{cursor_in}
-use Rattle.clfs_cursor.specs.Rows.{AreaCursors, HaveDifferentNumbers}
-use Rattle.clfs_areas.specs.Table.{area_at}
 use Rattle.clfs_areas.proofs.ChangedCursors.{cursors_there}
 use Rattle.clfs_areas.proofs.Cursors.{numbers_differ}
 use Rattle.clfs_areas.proofs.areas.Areas.cursor.Goals as goal

@@ -1,5 +1,4 @@
-use Rattle.std.proofs.Common.{arith}
-use Rattle.clfs_areas.specs.declared.areas.Areas.TheInside.{Inside}
+use Rattle.clfs_areas.proofs.Words.{arith, Inside}
 use Rattle.clfs_areas.proofs.Gone.{none_goes, row_there, cursors_there, told_left, joined_left}
 use Rattle.clfs_areas.proofs.areas.Areas.delete.Goals as goal
 

@@ -1,11 +1,5 @@
-use Rattle.std.proofs.Common.{◌≡◌, ℕ, ◌+◌, ◌∙◌, refl, ap, arith, List}
-use Rattle.clfs_model.specs.declared.state.Area.{Area}
+use Rattle.clfs_areas.proofs.Words.{◌≡◌, ℕ, ◌+◌, ◌∙◌, refl, ap, arith, List, Area, Reservation, total_held, all_held, AreParts, Inside}
 use Rattle.clfs_model.specs.Put.{with_more_held}
-use Rattle.clfs_ledger.specs.declared.row.Reservation.{Reservation}
-use Rattle.clfs_ledger.specs.Rows.{total_held}
-use Rattle.clfs_areas.specs.Table.{all_held}
-use Rattle.clfs_areas.specs.Kept.{AreParts}
-use Rattle.clfs_areas.specs.declared.areas.Areas.TheInside.{Inside}
 use Rattle.clfs_areas.proofs.Changed.{after, told_after, area_after, as_many_after, joined_after}
 use Rattle.clfs_areas.proofs.ChangedHeld.{held_is_changed, place_in_ledger}
 use Rattle.clfs_areas.proofs.Held.{total_seen}

@@ -1,6 +1,5 @@
-use Rattle.std.proofs.Common.{ap, ◌∙◌}
+use Rattle.clfs_areas.proofs.Words.{ap, ◌∙◌, AreaCursors}
 use Rattle.clfs_lsn.specs.Cursors.{record_cursor_in}
-use Rattle.clfs_cursor.specs.Rows.{AreaCursors}
 use Rattle.clfs_areas.proofs.ChangedCursors.{cursors_there}
 use Rattle.clfs_areas.proofs.areas.Areas.over_records.Goals as goal
 

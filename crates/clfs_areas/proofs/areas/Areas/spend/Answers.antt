@@ -1,8 +1,6 @@
-use Rattle.std.proofs.Common.{ℕ, ◌-◌, refl, arith}
-use Rattle.clfs_model.specs.declared.state.Area.{Area}
+use Rattle.clfs_areas.proofs.Words.{ℕ, refl, arith, Area, AreParts, Inside}
+use Rattle.std.proofs.Common.{◌-◌}
 use Rattle.clfs_model.specs.Put.{with_less_held}
-use Rattle.clfs_areas.specs.Kept.{AreParts}
-use Rattle.clfs_areas.specs.declared.areas.Areas.TheInside.{Inside}
 use Rattle.clfs_areas.proofs.Changed.{after, told_after, area_after, as_many_after, joined_after}
 use Rattle.clfs_areas.proofs.ChangedHeld.{held_there, held_is_changed, place_in_ledger}
 use Rattle.clfs_areas.proofs.areas.Areas.spend.Goals as goal

@@ -1,9 +1,5 @@
-use Rattle.std.proofs.Common.{◌++◌, [], ◌∷◌, refl, List}
-use Rattle.clfs_model.specs.declared.state.Area.{Area}
-use Rattle.clfs_lsn.specs.declared.cursor.Cursor.{Cursor}
+use Rattle.clfs_areas.proofs.Words.{◌++◌, [], ◌∷◌, refl, List, Area, Cursor, AreParts, Inside}
 use Rattle.clfs_model.specs.Reading.{with_cursor}
-use Rattle.clfs_areas.specs.Kept.{AreParts}
-use Rattle.clfs_areas.specs.declared.areas.Areas.TheInside.{Inside}
 use Rattle.clfs_areas.proofs.Changed.{after, told_after, area_after, as_many_after, joined_after}
 use Rattle.clfs_areas.proofs.ChangedCursors.{cursors_changed}
 use Rattle.clfs_areas.proofs.areas.Areas.start_cursor.Goals as goal

@@ -1,8 +1,4 @@
-use Rattle.std.proofs.Common.{◌∙◌, ap, sym, List}
-use Rattle.clfs_model.specs.declared.state.Area.{Area}
-use Rattle.clfs_ledger.specs.declared.row.Reservation.{Reservation}
-use Rattle.clfs_ledger.specs.Rows.{total_held}
-use Rattle.clfs_areas.specs.Table.{all_held}
+use Rattle.clfs_areas.proofs.Words.{◌∙◌, ap, sym, List, Area, Reservation, total_held, all_held}
 use Rattle.clfs_areas.proofs.Parts.{parts_seen}
 use Rattle.clfs_areas.proofs.Held.{total_seen}
 use Rattle.clfs_areas.proofs.areas.Areas.total.Goals as goal

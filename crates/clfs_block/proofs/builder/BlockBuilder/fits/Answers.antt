@@ -1,6 +1,4 @@
-use Rattle.std.proofs.Common.{◌+◌, ℕ, ◌&&◌, leb, ltb, ap, sym, ◌∙◌}
-use Rattle.clfs_lsn.specs.Size.{size, sectors}
-use Rattle.clfs_block.specs.Building.{Building}
+use Rattle.clfs_block.proofs.Words.{◌+◌, ℕ, ◌&&◌, leb, ltb, ap, sym, ◌∙◌, size, sectors, Building}
 use Rattle.clfs_block.proofs.Buildings.{content_size}
 use Rattle.clfs_block.proofs.builder.BlockBuilder.fits.Goals as goal
 

@@ -1,7 +1,5 @@
-use Rattle.std.proofs.Common.{zero-add, ◌+◌, ◌*◌, ℕ, List, cond, length, drop, ap, sym, ◌∙◌, arith}
-use Rattle.clfs_lsn.specs.Size.{sectors}
-use Rattle.clfs_block.specs.Frame.{place_of}
-use Rattle.clfs_block.specs.Building.{Building}
+use Rattle.clfs_block.proofs.Words.{◌+◌, ◌*◌, ℕ, List, cond, length, drop, ap, sym, ◌∙◌, arith, sectors, place_of, Building}
+use Rattle.std.proofs.Common.{zero-add}
 use Rattle.clfs_block.proofs.Buildings.{content_size, not_sealed, shown_open, pushed_content, same_building}
 use Rattle.clfs_block.proofs.builder.BlockBuilder.push.Goals as goal
 

@@ -1,7 +1,4 @@
-use Rattle.std.proofs.Common.{◌∷◌, [], ℕ, List, Some, length, drop, ap, sym, ◌∙◌, arith, subst, length-append}
-use Rattle.clfs_lsn.specs.Size.{sectors}
-use Rattle.clfs_block.specs.Frame.{payload_of, SpellsBlock}
-use Rattle.clfs_block.specs.Building.{Building}
+use Rattle.clfs_block.proofs.Words.{◌∷◌, [], ℕ, List, Some, length, drop, ap, sym, ◌∙◌, arith, subst, length-append, sectors, payload_of, SpellsBlock, Building}
 use Rattle.clfs_block.proofs.Buildings.{content_size, same_building}
 use Rattle.clfs_block.proofs.Gates.{regated}
 use Rattle.clfs_block.proofs.builder.BlockBuilder.seal.Goals as goal

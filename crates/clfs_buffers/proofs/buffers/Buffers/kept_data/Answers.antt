@@ -1,11 +1,7 @@
-use Rattle.std.proofs.Common.{◌≡◌, ℕ, List, Option, Some, None, sym, ◌∙◌, ap, subst}
-use Rattle.std.specs.Option.{option_map, option_and_then}
-use Rattle.std.specs.Prelude.{slice_get, IfOk}
+use Rattle.clfs_buffers.proofs.Words.{◌≡◌, ℕ, List, Option, Some, None, sym, ◌∙◌, ap, subst, option_map, slice_get, sequence_of, LogEntry, block_place, kept_at}
+use Rattle.std.specs.Option.{option_and_then}
+use Rattle.std.specs.Prelude.{IfOk}
 use Rattle.std.specs.Map.Iter.{deref_pair}
-use Rattle.clfs_lsn.specs.Lsn.{sequence_of}
-use Rattle.clfs_lsn.specs.declared.entry.LogEntry.{LogEntry}
-use Rattle.clfs_buffers.specs.Reading.{block_place}
-use Rattle.clfs_buffers.specs.Buffered.{kept_at}
 use Rattle.clfs_buffers.proofs.Changes.{kept_is, used_stays, first_is, none_is}
 use Rattle.clfs_buffers.proofs.buffers.Buffers.kept_data.Goals as goal
 

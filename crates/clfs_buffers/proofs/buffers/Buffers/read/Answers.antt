@@ -1,13 +1,7 @@
-use Rattle.std.proofs.Common.{◌≡◌, ℕ, ◌+◌, List, drop, Option, Some, None, Result, Ok, Err, sym, ◌∙◌, ap, subst, arith}
-use Rattle.std.proofs.lemmas.Result.{err_from_is_err_and}
-use Rattle.std.specs.Prelude.{slice_get}
-use Rattle.std.specs.Option.{ok_or, option_copied}
-use Rattle.clfs_lsn.specs.Lsn.{offset_of, sequence_of}
-use Rattle.clfs_lsn.specs.declared.entry.LogEntry.{LogEntry}
-use Rattle.clfs_block.specs.Records.{told_as, block_records}
-use Rattle.clfs_buffers.specs.declared.place.BlockPlace.{BlockPlace}
-use Rattle.clfs_buffers.specs.Reading.{block_place, first_lsn, refused_at, Gives}
-use Rattle.clfs_buffers.specs.Kept.{HaveLsns}
+use Rattle.clfs_buffers.proofs.Words.{◌≡◌, ℕ, ◌+◌, List, drop, Option, Some, None, Result, Ok, Err, sym, ◌∙◌, ap, subst, arith, err_from_is_err_and, slice_get, ok_or, sequence_of, LogEntry, told_as, block_records, BlockPlace, block_place, first_lsn, refused_at, HaveLsns}
+use Rattle.std.specs.Option.{option_copied}
+use Rattle.clfs_lsn.specs.Lsn.{offset_of}
+use Rattle.clfs_buffers.specs.Reading.{Gives}
 use Rattle.clfs_buffers.specs.Buffered.{IsRead}
 use Rattle.clfs_buffers.proofs.Fronts.{told_ok}
 use Rattle.clfs_buffers.proofs.Changes.{kept_is, not_both, not_some, one_block, found_lsns, used_stays, joined_stays, joined_is}

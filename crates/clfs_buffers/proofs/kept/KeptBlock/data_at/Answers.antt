@@ -1,12 +1,4 @@
-use Rattle.std.proofs.Common.{◌≡◌, ℕ, ◌+◌, ◌≤◌, List, length, Option, Some, get_or, take, drop, sym, ◌∙◌, ap, subst, arith, ◌-◌, length-drop}
-use Rattle.std.proofs.lemmas.List.{length-take}
-use Rattle.std.specs.Option.{option_map}
-use Rattle.std.specs.Prelude.{slice_get}
-use Rattle.clfs_lsn.specs.Size.{size}
-use Rattle.clfs_lsn.specs.Spelling.{header_of, entry_of}
-use Rattle.clfs_lsn.specs.declared.entry.LogEntry.{LogEntry}
-use Rattle.clfs_buffers.specs.Reading.{first_lsn}
-use Rattle.clfs_buffers.specs.Kept.{IsStart}
+use Rattle.clfs_buffers.proofs.Words.{◌≡◌, ℕ, ◌+◌, ◌≤◌, List, length, Option, Some, get_or, take, drop, sym, ◌∙◌, ap, subst, arith, ◌-◌, length-drop, length-take, option_map, slice_get, size, header_of, entry_of, LogEntry, first_lsn, IsStart}
 use Rattle.clfs_buffers.proofs.Positions.{record_there, none_there, read_whole}
 use Rattle.clfs_buffers.proofs.kept.KeptBlock.data_at.Goals as goal
 

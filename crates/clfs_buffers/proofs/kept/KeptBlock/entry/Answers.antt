@@ -1,11 +1,4 @@
-use Rattle.std.proofs.Common.{◌≡◌, ℕ, ◌+◌, List, length, Option, Some, Result, Ok, Err, get_or, drop, sym, ◌∙◌, ap, arith, length-drop}
-use Rattle.std.proofs.lemmas.List.{length-take}
-use Rattle.std.specs.Option.{ok_or}
-use Rattle.std.specs.Prelude.{slice_get}
-use Rattle.clfs_lsn.specs.Spelling.{record_at, entry_of, header_of}
-use Rattle.clfs_lsn.specs.declared.entry.LogEntry.{LogEntry}
-use Rattle.clfs_buffers.specs.Reading.{first_lsn}
-use Rattle.clfs_buffers.specs.Kept.{IsStart}
+use Rattle.clfs_buffers.proofs.Words.{◌≡◌, ℕ, ◌+◌, List, length, Option, Some, Result, Ok, Err, get_or, drop, sym, ◌∙◌, ap, arith, length-drop, length-take, ok_or, slice_get, record_at, entry_of, header_of, LogEntry, first_lsn, IsStart}
 use Rattle.clfs_buffers.proofs.Positions.{record_there, none_there}
 use Rattle.clfs_buffers.proofs.kept.KeptBlock.entry.Goals as goal
 

@@ -1,16 +1,6 @@
-use Rattle.std.proofs.Common.{◌≡◌, ℕ, ◌+◌, List, Result, Ok, Err, sym, ◌∙◌, ap, subst, arith}
-use Rattle.std.proofs.lemmas.Result.{err_from_is_err_and}
-use Rattle.clfs_lsn.specs.declared.entry.LogEntry.{LogEntry}
-use Rattle.clfs_lsn.specs.declared.shape.Shape.{Shape}
+use Rattle.clfs_buffers.proofs.Words.{◌≡◌, ℕ, ◌+◌, List, Result, Ok, Err, sym, ◌∙◌, ap, subst, arith, err_from_is_err_and, LogEntry, Shape, frame_at, told_as, records_from, block_records, block_refused, BlockHead, BlockRefusal, Closed, BadByte, NoMemory, first_lsn, RefusesAs, records_at}
 use Rattle.clfs_block.specs.Frame.{payload_of}
-use Rattle.clfs_block.specs.Checks.{frame_at}
-use Rattle.clfs_block.specs.Records.{told_as, records_from, block_records}
-use Rattle.clfs_block.specs.RecordLaws.{block_refused, records_refused, rest_refused, block_read}
-use Rattle.clfs_block.specs.declared.head.BlockHead.{BlockHead}
-use Rattle.clfs_block.specs.declared.head.BlockRefusal.{BlockRefusal}
-use Rattle.clfs_block.specs.declared.head.BlockRefusal.TheVariants.{Closed, BadByte, NoMemory}
-use Rattle.clfs_buffers.specs.Reading.{first_lsn}
-use Rattle.clfs_buffers.specs.Kept.{RefusesAs, records_at}
+use Rattle.clfs_block.specs.RecordLaws.{records_refused, rest_refused, block_read}
 use Rattle.clfs_buffers.proofs.Positions.{have_lsns}
 use Rattle.clfs_buffers.proofs.kept.KeptBlock.refill.Goals as goal
 

@@ -1,6 +1,4 @@
-use Rattle.std.proofs.Common.{sym, ◌∙◌, ap, List, Some, find}
-use Rattle.clfs_cells.specs.declared.begun.Made.{Made}
-use Rattle.clfs_cells.specs.Stored.{is_at}
+use Rattle.clfs_cells.proofs.Words.{sym, ◌∙◌, ap, List, Some, find, Made, is_at}
 use Rattle.clfs_cells.proofs.Places.{stands_at, found, absent, far}
 use Rattle.clfs_cells.proofs.begun.Transaction.made_at.Goals as goal
 

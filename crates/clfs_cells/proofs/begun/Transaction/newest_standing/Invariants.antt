@@ -1,8 +1,7 @@
-use Rattle.std.proofs.Common.{◌≡◌, filter, not, reverse, take}
-use Rattle.std.specs.Prelude.{slice_get}
+use Rattle.clfs_cells.proofs.Words.{◌≡◌, filter, not, take, slice_get, Made}
+use Rattle.std.proofs.Common.{reverse}
 use Rattle.std.specs.Option.{option_map_or}
 use Rattle.clfs_lsn.specs.Lsn.{null_lsn}
-use Rattle.clfs_cells.specs.declared.begun.Made.{Made}
 use Rattle.clfs_cells.proofs.begun.Transaction.newest_standing.Given as goal
 
 abbrev pub invariant-loop-made : goal.invariant-loop-made

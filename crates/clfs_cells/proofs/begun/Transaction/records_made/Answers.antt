@@ -1,6 +1,5 @@
-use Rattle.std.proofs.Common.{ap, arith, filter, length, not, take}
+use Rattle.clfs_cells.proofs.Words.{ap, arith, filter, length, not, take, Made}
 use Rattle.std.proofs.lemmas.List.{length-reverse}
-use Rattle.clfs_cells.specs.declared.begun.Made.{Made}
 use Rattle.clfs_cells.proofs.Places.{standing_and_undone}
 use Rattle.clfs_cells.proofs.begun.Transaction.records_made.Goals as goal
 

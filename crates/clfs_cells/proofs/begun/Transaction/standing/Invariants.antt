@@ -1,5 +1,4 @@
-use Rattle.std.proofs.Common.{◌≡◌, ◌≤◌, filter, length, not, take}
-use Rattle.clfs_cells.specs.declared.begun.Made.{Made}
+use Rattle.clfs_cells.proofs.Words.{◌≡◌, ◌≤◌, filter, length, not, take, Made}
 use Rattle.clfs_cells.proofs.begun.Transaction.standing.Given as goal
 
 abbrev pub invariant-loop-made : goal.invariant-loop-made

@@ -1,7 +1,4 @@
-use Rattle.std.proofs.Common.{sym, ◌∙◌, ap, List, position}
-use Rattle.clfs_cells.specs.Kept.{transaction_of}
-use Rattle.clfs_cells.specs.declared.begun.Made.{Made}
-use Rattle.clfs_cells.specs.Stored.{Transaction, is_at}
+use Rattle.clfs_cells.proofs.Words.{sym, ◌∙◌, ap, List, position, transaction_of, Made, Transaction, is_at}
 use Rattle.clfs_cells.proofs.Undoing.{set_there, inside, undone_there, undone_nowhere}
 use Rattle.clfs_cells.proofs.begun.Transaction.with_undone.Goals as goal
 

@@ -1,8 +1,4 @@
-use Rattle.std.proofs.Common.{ap, arith, List}
-use Rattle.std.proofs.lemmas.List.{length-take}
-use Rattle.clfs_cells.specs.declared.begun.Made.{Made}
-use Rattle.clfs_cells.specs.Kept.{transaction_of}
-use Rattle.clfs_cells.specs.Stored.{Transaction}
+use Rattle.clfs_cells.proofs.Words.{ap, arith, List, length-take, Made, transaction_of, Transaction}
 use Rattle.clfs_cells.proofs.Undoing.{written}
 use Rattle.clfs_cells.proofs.begun.Transaction.with_undone_at.Goals as goal
 

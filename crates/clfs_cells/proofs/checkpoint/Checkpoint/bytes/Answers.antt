@@ -1,5 +1,4 @@
-use Rattle.std.proofs.Common.{◌∙◌, ap, ◌++◌, List, ℕ, arith}
-use Rattle.byteorder.specs.Endian.{little_bytes}
+use Rattle.clfs_cells.proofs.Words.{◌∙◌, ap, ◌++◌, List, ℕ, arith, little_bytes}
 use Rattle.clfs_cells.proofs.RestartAreas.{parts_joined}
 use Rattle.clfs_cells.proofs.checkpoint.Checkpoint.bytes.Goals as goal
 

@@ -1,4 +1,4 @@
-use Rattle.std.proofs.Common.{sym, arith}
+use Rattle.clfs_cells.proofs.Words.{sym, arith}
 use Rattle.clfs_cells.proofs.RestartAreas.{read_whole}
 use Rattle.clfs_cells.proofs.checkpoint.Checkpoint.from_bytes.Goals as goal
 

@@ -1,7 +1,5 @@
-use Rattle.std.proofs.Common.{◌∙◌, ap, arith, List, ◌∷◌, [], take, slice_index_or}
+use Rattle.clfs_cells.proofs.Words.{◌∙◌, ap, arith, List, ◌∷◌, [], take, slice_index_or, memory_of, Memory, Transaction, is_numbered}
 use Rattle.clfs_cells.specs.declared.begun.Transaction.{Transaction as Code}
-use Rattle.clfs_cells.specs.Kept.{memory_of}
-use Rattle.clfs_cells.specs.Stored.{Memory, Transaction, is_numbered}
 use Rattle.clfs_cells.proofs.OpenOnes.{removed_at, removed_nowhere, same_place, any_transaction}
 use Rattle.clfs_cells.proofs.memory.Memory.end.Goals as goal
 

@@ -1,7 +1,6 @@
-use Rattle.std.proofs.Common.{◌∙◌, sym, ap, ℕ}
-use Rattle.std.specs.Option.{option_map}
+use Rattle.clfs_cells.proofs.Words.{◌∙◌, sym, ap, ℕ, option_map, Transaction}
 use Rattle.std.specs.Prelude.{find, Some, List, Option}
-use Rattle.clfs_cells.specs.Stored.{Transaction, is_holder}
+use Rattle.clfs_cells.specs.Stored.{is_holder}
 use Rattle.clfs_cells.specs.declared.begun.Transaction.{Transaction as Code}
 use Rattle.clfs_cells.proofs.OpenOnes.{found_at, none_at}
 use Rattle.clfs_cells.proofs.memory.Memory.holder.Goals as goal

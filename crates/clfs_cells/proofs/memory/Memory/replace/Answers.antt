@@ -1,7 +1,5 @@
-use Rattle.std.proofs.Common.{◌∙◌, ap, List, take}
+use Rattle.clfs_cells.proofs.Words.{◌∙◌, ap, List, take, memory_of, transaction_of, Memory, Transaction, is_numbered}
 use Rattle.clfs_cells.specs.declared.begun.Transaction.{Transaction as Code}
-use Rattle.clfs_cells.specs.Kept.{memory_of, transaction_of}
-use Rattle.clfs_cells.specs.Stored.{Memory, Transaction, is_numbered}
 use Rattle.clfs_cells.proofs.OpenOnes.{replaced_at, replaced_nowhere, same_place}
 use Rattle.clfs_cells.proofs.memory.Memory.replace.Goals as goal
 

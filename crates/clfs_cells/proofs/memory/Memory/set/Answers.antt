@@ -1,8 +1,4 @@
-use Rattle.std.proofs.Common.{◌∙◌, ap, ◌∷◌, ◌++◌, [], false}
-use Rattle.clfs_cells.specs.Kept.{transaction_of}
-use Rattle.clfs_cells.specs.declared.begun.Made.{Made}
-use Rattle.clfs_cells.specs.Stored.{Transaction}
-use Rattle.std.proofs.Common.{ℕ}
+use Rattle.clfs_cells.proofs.Words.{◌∙◌, ap, ◌∷◌, ◌++◌, [], false, transaction_of, Made, Transaction, ℕ}
 use Rattle.clfs_cells.proofs.OpenOnes.{set_is}
 use Rattle.clfs_cells.proofs.memory.Memory.set.Goals as goal
 

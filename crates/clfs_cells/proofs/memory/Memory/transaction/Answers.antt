@@ -1,7 +1,4 @@
-use Rattle.std.proofs.Common.{◌∙◌, sym, ap}
-use Rattle.std.specs.Option.{option_map}
-use Rattle.clfs_cells.specs.Kept.{transaction_of}
-use Rattle.clfs_cells.specs.Stored.{Transaction, is_numbered}
+use Rattle.clfs_cells.proofs.Words.{◌∙◌, sym, ap, option_map, transaction_of, Transaction, is_numbered}
 use Rattle.std.specs.Prelude.{find, Some, List}
 use Rattle.clfs_cells.specs.declared.begun.Transaction.{Transaction as Code}
 use Rattle.clfs_cells.proofs.OpenOnes.{found_at, none_at}

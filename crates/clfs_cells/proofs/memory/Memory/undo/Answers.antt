@@ -1,4 +1,4 @@
-use Rattle.clfs_cells.specs.Kept.{transaction_of}
+use Rattle.clfs_cells.proofs.Words.{transaction_of}
 use Rattle.clfs_cells.proofs.OpenOnes.{undo_is}
 use Rattle.clfs_cells.proofs.memory.Memory.undo.Goals as goal
 

@@ -1,7 +1,4 @@
-use Rattle.std.proofs.Common.{◌≡◌, filter, take}
-use Rattle.clfs_cells.specs.declared.row.TxnRecord.{TxnRecord}
-use Rattle.clfs_cells.specs.Loading.{last_number}
-use Rattle.clfs_cells.specs.Table.{changed, is_committed}
+use Rattle.clfs_cells.proofs.Words.{◌≡◌, filter, take, TxnRecord, last_number, changed, is_committed}
 use Rattle.clfs_cells.proofs.replay.Replay.replayed.Given as goal
 
 abbrev pub invariant-loop-row : goal.invariant-loop-row

@@ -1,8 +1,4 @@
-use Rattle.std.proofs.Common.{◌∙◌, ap, sym, Option, Some, is_some}
-use Rattle.std.specs.Option.{option_map}
-use Rattle.clfs_cursor.specs.Kept.{cursor_by, kind_of, last_of}
-use Rattle.clfs_cursor.specs.declared.keys.Numbered.{Numbered}
-use Rattle.clfs_cursor.specs.declared.standing.Standing.{Standing}
+use Rattle.clfs_cursor.proofs.Words.{◌∙◌, ap, sym, Option, Some, is_some, option_map, cursor_by, kind_of, last_of, Numbered, Standing}
 use Rattle.clfs_cursor.proofs.Opened.{cursor_seen, numbers_differ, there_by_number}
 use Rattle.clfs_cursor.proofs.cursors.Cursors.cursor.Goals as goal
 

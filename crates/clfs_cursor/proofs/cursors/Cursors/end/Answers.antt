@@ -1,9 +1,5 @@
-use Rattle.std.proofs.Common.{◌≡◌, ◌∙◌, ap, sym, subst}
-use Rattle.std.specs.Prelude.{map, not, ◌==◌, filter, slice_set}
-use Rattle.clfs_lsn.specs.Cursors.{cursors_without}
-use Rattle.clfs_cursor.specs.Keys.{Keys}
-use Rattle.clfs_cursor.specs.Kept.{area_by, AreOwned}
-use Rattle.clfs_cursor.specs.declared.keys.Numbered.{Numbered}
+use Rattle.clfs_cursor.proofs.Words.{◌≡◌, ◌∙◌, ap, sym, subst, not, ◌==◌, filter, slice_set, cursors_without, Keys, area_by, AreOwned, Numbered}
+use Rattle.std.specs.Prelude.{map}
 use Rattle.clfs_cursor.proofs.Opened.{row_there, same_row, there_by_number, none_ends, change_seen}
 use Rattle.clfs_cursor.proofs.Ended.{ended_areas, ended_owned}
 use Rattle.clfs_cursor.proofs.cursors.Cursors.end.Goals as goal

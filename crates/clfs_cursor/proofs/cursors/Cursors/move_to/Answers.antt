@@ -1,7 +1,5 @@
 use Rattle.std.specs.Prelude.{map}
-use Rattle.slab.specs.Slab.{get}
-use Rattle.clfs_lsn.specs.Cursors.{cursors_moved}
-use Rattle.clfs_cursor.specs.Kept.{area_by}
+use Rattle.clfs_cursor.proofs.Words.{get, cursors_moved, area_by}
 use Rattle.clfs_cursor.proofs.Opened.{row_there, no_move, there_by_number, change_seen}
 use Rattle.clfs_cursor.proofs.Owned.{value_there}
 use Rattle.clfs_cursor.proofs.Moved.{moved_areas, moved_owned}

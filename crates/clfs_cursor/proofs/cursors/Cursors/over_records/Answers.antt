@@ -1,5 +1,4 @@
-use Rattle.std.proofs.Common.{◌∙◌, true, false, sym}
-use Rattle.clfs_cursor.specs.Rows.{area_at}
+use Rattle.clfs_cursor.proofs.Words.{◌∙◌, true, false, sym, area_at}
 use Rattle.clfs_cursor.proofs.OneKind.{no_record_cursor, record_cursor_is}
 use Rattle.clfs_cursor.proofs.cursors.Cursors.over_records.Goals as goal
 

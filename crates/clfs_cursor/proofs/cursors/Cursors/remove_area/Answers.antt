@@ -1,11 +1,4 @@
-use Rattle.std.proofs.Common.{◌≡◌, ℕ, ◌+◌, ◌≤◌, ◌∙◌, ap, sym, subst, refl, List, length, map, None, is_some, cond}
-use Rattle.std.specs.Prelude.{count_by}
-use Rattle.std.specs.List.{remove}
-use Rattle.slab.specs.Slab.{get, slab_len}
-use Rattle.clfs_cursor.specs.Rows.{Table}
-use Rattle.clfs_cursor.specs.Keys.{Keys}
-use Rattle.clfs_cursor.specs.Kept.{area_by, has_key, uses_in, AreOwned}
-use Rattle.clfs_cursor.specs.declared.keys.Numbered.{Numbered}
+use Rattle.clfs_cursor.proofs.Words.{◌≡◌, ℕ, ◌+◌, ◌≤◌, ◌∙◌, ap, sym, subst, refl, List, length, map, None, is_some, cond, count_by, remove, get, slab_len, Table, Keys, area_by, has_key, uses_in, AreOwned, Numbered}
 use Rattle.clfs_cursor.proofs.Opened.{row_there}
 use Rattle.clfs_cursor.proofs.Removed.{removed_areas, removed_owned, row_is_owned}
 use Rattle.clfs_cursor.proofs.cursors.Cursors.remove_area.Goals as goal

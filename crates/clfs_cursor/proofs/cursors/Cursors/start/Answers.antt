@@ -1,9 +1,5 @@
-use Rattle.std.proofs.Common.{◌≡◌, ◌<◌, ◌++◌, [], ◌∷◌, ◌∙◌, sym, ap, subst, length}
-use Rattle.std.specs.Prelude.{map, slice_set}
-use Rattle.clfs_lsn.specs.Cursors.{unused_cursor}
-use Rattle.clfs_cursor.specs.Rows.{AreaCursors, Table, area_at, with_cursors}
-use Rattle.clfs_cursor.specs.Keys.{Keys}
-use Rattle.clfs_cursor.specs.Kept.{area_by, AreOwned}
+use Rattle.clfs_cursor.proofs.Words.{◌≡◌, ◌<◌, ◌++◌, [], ◌∷◌, ◌∙◌, sym, ap, subst, length, slice_set, unused_cursor, AreaCursors, Table, area_at, with_cursors, Keys, area_by, AreOwned}
+use Rattle.std.specs.Prelude.{map}
 use Rattle.clfs_cursor.proofs.Opened.{row_there, area_seen}
 use Rattle.clfs_cursor.proofs.Seen.{unused_seen}
 use Rattle.clfs_cursor.proofs.Started.{started_areas, started_owned}

@@ -1,7 +1,5 @@
-use Rattle.std.proofs.Common.{◌≡◌, ◌∙◌, ap, sym, subst, List}
-use Rattle.std.specs.Prelude.{find, Some}
-use Rattle.clfs_cursor.specs.Keys.{Keys, AreDifferent, has_number}
-use Rattle.clfs_cursor.specs.declared.keys.Numbered.{Numbered}
+use Rattle.clfs_cursor.proofs.Words.{◌≡◌, ◌∙◌, ap, sym, subst, List, find, Keys, AreDifferent, has_number, Numbered}
+use Rattle.std.specs.Prelude.{Some}
 use Rattle.clfs_cursor.proofs.Found.{found_passes}
 use Rattle.clfs_cursor.proofs.Owned.{found_is}
 use Rattle.clfs_cursor.proofs.keys.AreaKeys.key.Goals as goal

@@ -1,5 +1,4 @@
-use Rattle.std.proofs.Common.{◌≡◌, subst, sym, false, arith}
-use Rattle.clfs_cursor.specs.Keys.{Keys, is_numbered}
+use Rattle.clfs_cursor.proofs.Words.{◌≡◌, subst, sym, false, arith, Keys, is_numbered}
 use Rattle.clfs_cursor.proofs.Counts.{push_is_different}
 use Rattle.clfs_cursor.proofs.keys.AreaKeys.push.Goals as goal
 

@@ -1,7 +1,5 @@
-use Rattle.std.proofs.Common.{◌≡◌, refl, rules, tests, arith}
-use Rattle.std.specs.Prelude.{not, ◌==◌, filter}
+use Rattle.clfs_cursor.proofs.Words.{◌≡◌, refl, rules, tests, arith, not, ◌==◌, filter, Numbered}
 use Rattle.std.proofs.lemmas.Fn.{filter_same}
-use Rattle.clfs_cursor.specs.declared.keys.Numbered.{Numbered}
 use Rattle.clfs_cursor.proofs.Counts.{filter_is_different}
 use Rattle.clfs_cursor.proofs.keys.AreaKeys.remove.Goals as goal
 

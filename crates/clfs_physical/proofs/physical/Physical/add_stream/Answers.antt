@@ -1,7 +1,5 @@
-use Rattle.std.proofs.Common.{◌⊎◌, inl, ◌-◌, refl}
+use Rattle.clfs_physical.proofs.Words.{◌⊎◌, inl, ◌-◌, refl, with_stream, next_copy, Stores}
 use Rattle.clfs_physical.specs.declared.change.Change.TheVariants as changes
-use Rattle.clfs_physical.specs.Changes.{with_stream, next_copy}
-use Rattle.clfs_physical.specs.Stored.{Stores}
 use Rattle.clfs_physical.proofs.Joining.{leaves_nothing}
 use Rattle.clfs_physical.proofs.Listed.{stream_holds, copy_leaves, copy_written}
 use Rattle.clfs_physical.proofs.physical.Physical.add_stream.Goals as goal

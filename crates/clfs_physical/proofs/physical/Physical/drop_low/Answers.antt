@@ -1,7 +1,4 @@
-use Rattle.std.proofs.Common.{◌≢◌, ◌⊎◌, inl, subst}
-use Rattle.clfs_disk.specs.State.{Leaves}
-use Rattle.clfs_physical.specs.Stored.{Newest, Stores}
-use Rattle.clfs_physical.specs.Taking.{low_of}
+use Rattle.clfs_physical.proofs.Words.{◌≢◌, ◌⊎◌, inl, subst, Leaves, Newest, Stores, low_of}
 use Rattle.clfs_physical.proofs.Joining.{leaves_nothing}
 use Rattle.clfs_physical.proofs.Taken.{low_else}
 use Rattle.clfs_physical.proofs.physical.Physical.drop_low.Goals as goal

@@ -1,6 +1,4 @@
-use Rattle.std.proofs.Common.{◌≡◌, ◌⊎◌, inl, ⊎_elim, []}
-use Rattle.std.proofs.lemmas.Result.{on_ok_weaker}
-use Rattle.clfs_physical.specs.Stored.{Stores, IsPlaced, with_group}
+use Rattle.clfs_physical.proofs.Words.{◌≡◌, ◌⊎◌, inl, ⊎_elim, [], on_ok_weaker, Stores, IsPlaced, with_group}
 use Rattle.clfs_physical.proofs.Joining.{leaves_nothing}
 use Rattle.clfs_physical.proofs.Logs.{log_no_group, placed_bytes, is_empty, not_empty, group_done, group_moments}
 use Rattle.clfs_physical.proofs.physical.Physical.flush.Goals as goal

@@ -1,8 +1,5 @@
-use Rattle.std.proofs.Common.{◌⊎◌, inl, ◌-◌, sym, subst, IsTrue}
-use Rattle.clfs_disk.specs.State.{Nature}
+use Rattle.clfs_physical.proofs.Words.{◌⊎◌, inl, ◌-◌, sym, subst, IsTrue, Nature, with_containers, next_copy, Stores}
 use Rattle.clfs_physical.specs.declared.change.Change.TheVariants as changes
-use Rattle.clfs_physical.specs.Changes.{with_containers, next_copy}
-use Rattle.clfs_physical.specs.Stored.{Stores}
 use Rattle.clfs_physical.proofs.Joining.{leaves_then}
 use Rattle.clfs_physical.proofs.Growing.{stores_grown, made_grown, grown_keeps, grown_leaves}
 use Rattle.clfs_physical.proofs.physical.Physical.set_containers.Goals as goal

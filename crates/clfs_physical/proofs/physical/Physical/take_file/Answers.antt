@@ -1,5 +1,4 @@
-use Rattle.std.proofs.Common.{[], sym, subst, IsTrue}
-use Rattle.clfs_disk.specs.State.{Nature}
+use Rattle.clfs_physical.proofs.Words.{[], sym, subst, IsTrue, Nature}
 use Rattle.clfs_physical.proofs.Taken.{taken_beside, taken_leaves, taken_written}
 use Rattle.clfs_physical.proofs.physical.Physical.take_file.Goals as goal
 

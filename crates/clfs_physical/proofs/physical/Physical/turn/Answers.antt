@@ -1,7 +1,4 @@
-use Rattle.std.proofs.Common.{ℕ, [], subst}
-use Rattle.std.proofs.lemmas.Result.{on_ok_weaker}
-use Rattle.clfs_disk.specs.State.{Leaves}
-use Rattle.clfs_physical.specs.Stored.{Stores, with_blocks}
+use Rattle.clfs_physical.proofs.Words.{ℕ, [], subst, on_ok_weaker, Leaves, Stores, with_blocks}
 use Rattle.clfs_physical.specs.Taking.{InTurn}
 use Rattle.clfs_physical.proofs.Counting.{one_free}
 use Rattle.clfs_physical.proofs.physical.Physical.turn.Goals as goal

@@ -1,8 +1,4 @@
-use Rattle.std.proofs.Common.{◌⊎◌, ◌∙◌, [], sym, subst, IsTrue}
-use Rattle.std.proofs.lemmas.Result.{on_ok_weaker}
-use Rattle.clfs_disk.specs.State.{Nature, Leaves}
-use Rattle.clfs_physical.specs.Stored.{Newest, AreMade, Stores, with_blocks}
-use Rattle.clfs_physical.specs.Taking.{low_of, taken_of}
+use Rattle.clfs_physical.proofs.Words.{◌⊎◌, ◌∙◌, [], sym, subst, IsTrue, on_ok_weaker, Nature, Leaves, Newest, AreMade, Stores, with_blocks, low_of, taken_of}
 use Rattle.clfs_physical.proofs.Joining.{later_then}
 use Rattle.clfs_physical.proofs.Logs.{made_still}
 use Rattle.clfs_physical.proofs.Taken.{low_counts, first_part, turn_leaves}

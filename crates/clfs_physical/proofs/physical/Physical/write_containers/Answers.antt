@@ -1,6 +1,5 @@
-use Rattle.std.proofs.Common.{refl}
+use Rattle.clfs_physical.proofs.Words.{refl, with_containers, next_copy}
 use Rattle.clfs_physical.specs.declared.change.Change.TheVariants as changes
-use Rattle.clfs_physical.specs.Changes.{with_containers, next_copy}
 use Rattle.clfs_physical.proofs.Listed.{containers_hold, copy_leaves, copy_written}
 use Rattle.clfs_physical.proofs.physical.Physical.write_containers.Goals as goal
 

@@ -1,4 +1,4 @@
-use Rattle.clfs_physical.specs.Changes.{next_copy}
+use Rattle.clfs_physical.proofs.Words.{next_copy}
 use Rattle.clfs_physical.proofs.Listed.{next_holds, next_turn, copy_leaves, copy_written}
 use Rattle.clfs_physical.proofs.physical.Physical.write_copy.Goals as goal
 

@@ -1,8 +1,5 @@
-use Rattle.std.proofs.Common.{◌+◌, ◌-◌, ℕ, List, [], take, drop, sym, subst, arith, refl}
-use Rattle.clfs_lsn.specs.Place.{IsClosed}
+use Rattle.clfs_queue.proofs.Words.{◌+◌, ◌-◌, ℕ, List, [], take, drop, sym, subst, arith, refl, IsClosed, Queued, IsGroupOf}
 use Rattle.clfs_queue.proofs.Shown.{shown}
-use Rattle.clfs_queue.specs.Queued.{Queued}
-use Rattle.clfs_queue.specs.Group.{IsGroupOf}
 use Rattle.clfs_queue.proofs.Grouping.{no_group, closed_length, last_group, shut_group}
 use Rattle.clfs_queue.proofs.queue.Queue.group.Goals as goal
 

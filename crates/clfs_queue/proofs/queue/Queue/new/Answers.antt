@@ -1,4 +1,4 @@
-use Rattle.std.proofs.Common.{◌∙◌, [], ◌∷◌, ◌++◌, ℕ, List, ap, arith}
+use Rattle.clfs_queue.proofs.Words.{◌∙◌, [], ◌∷◌, ◌++◌, ℕ, List, ap, arith}
 use Rattle.clfs_queue.proofs.Keeping.{kept_empty}
 use Rattle.clfs_queue.proofs.queue.Queue.new.Goals as goal
 

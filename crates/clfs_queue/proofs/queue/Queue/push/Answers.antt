@@ -1,13 +1,7 @@
-use Rattle.std.proofs.Common.{◌≡◌, ℕ, ◌<◌, ◌≤◌, length, refl, ap, sym, ◌∙◌, subst, arith}
-use Rattle.clfs_lsn.specs.Lsn.{lsn_number}
-use Rattle.clfs_lsn.specs.Place.{IsWithin, place_after}
-use Rattle.clfs_lsn.specs.Size.{longest}
-use Rattle.clfs_lsn.specs.Spelling.{FitsAt, BaseFits}
-use Rattle.clfs_lsn.specs.declared.entry.LogEntry.{LogEntry}
-use Rattle.clfs_lsn.specs.declared.place.Place.{Place}
-use Rattle.clfs_record.specs.Fields.{placed_record}
+use Rattle.clfs_queue.proofs.Words.{◌≡◌, ℕ, ◌<◌, ◌≤◌, length, refl, ap, sym, ◌∙◌, subst, arith, lsn_number, IsWithin, place_after, longest, FitsAt, LogEntry, Place, placed_record, Queued, HasRoomFor}
+use Rattle.clfs_lsn.specs.Spelling.{BaseFits}
 use Rattle.clfs_queue.proofs.Shown.{shown}
-use Rattle.clfs_queue.specs.Queued.{Queued, HasRoomFor, next_lsn}
+use Rattle.clfs_queue.specs.Queued.{next_lsn}
 use Rattle.clfs_queue.proofs.Taking.{next_place, header_room, taking, kept_pushed}
 use Rattle.clfs_queue.proofs.queue.Queue.push.Goals as goal
 

@@ -1,5 +1,5 @@
 use Rattle.std.specs.Prelude.{[], ◌∷◌, ◌++◌}
-use Rattle.clfs_record.specs.Fields.{placed_record}
+use Rattle.clfs_queue.proofs.Words.{placed_record}
 use Rattle.clfs_queue.proofs.queue.Queue.push.Given as goal
 
 -- one more record, at the LSN that was given to it

@@ -1,12 +1,8 @@
-use Rattle.std.proofs.Common.{◌≡◌, ◌-◌, ℕ, List, length, take, drop, ap, sym, ◌∙◌, subst, arith}
-use Rattle.std.specs.Prelude.{IsSome, IfOk, Option, Some, Result, Ok, Err}
+use Rattle.clfs_queue.proofs.Words.{◌≡◌, ◌-◌, ℕ, List, length, take, drop, ap, sym, ◌∙◌, subst, arith, IsSome, Some, offset_of, sequence_of, LogEntry, Queued, data_at, IsHeld}
+use Rattle.std.specs.Prelude.{IfOk, Option, Result, Ok, Err}
 use Rattle.std.proofs.lemmas.List.{take_rest}
 use Rattle.std.specs.declared.alloc.AllocError.{AllocError}
-use Rattle.clfs_lsn.specs.Lsn.{offset_of, sequence_of}
-use Rattle.clfs_lsn.specs.declared.entry.LogEntry.{LogEntry}
 use Rattle.clfs_queue.proofs.Shown.{shown}
-use Rattle.clfs_queue.specs.Queued.{Queued, data_at}
-use Rattle.clfs_queue.specs.Held.{IsHeld}
 use Rattle.clfs_queue.proofs.Locating.{IsFound, found_at}
 use Rattle.clfs_queue.proofs.queue.Queue.read.Goals as goal
 

@@ -1,4 +1,5 @@
-use Rattle.std.proofs.Common.{◌≡◌, ◌+◌, ◌≤◌, ◌∙◌, [], ◌∷◌, ◌++◌, ℕ, List, length, take, ap, arith, length-append, length-take-le}
+use Rattle.clfs_queue.proofs.Words.{◌≡◌, ◌+◌, ◌≤◌, ◌∙◌, [], ◌∷◌, ◌++◌, ℕ, List, length, take, ap, arith, length-append}
+use Rattle.std.proofs.Common.{length-take-le}
 use Rattle.clfs_queue.proofs.Sealing.{open_length, sealed_room, kept_sealed}
 use Rattle.clfs_queue.proofs.queue.Queue.seal.Goals as goal
 

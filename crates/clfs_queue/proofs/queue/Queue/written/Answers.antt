@@ -1,6 +1,4 @@
-use Rattle.std.proofs.Common.{◌∙◌, [], ◌∷◌, ◌++◌, ℕ, List, ap, arith, sym, subst}
-use Rattle.clfs_lsn.specs.Place.{IsClosed}
-use Rattle.clfs_queue.specs.Queued.{Queued}
+use Rattle.clfs_queue.proofs.Words.{◌∙◌, [], ◌∷◌, ◌++◌, ℕ, List, ap, arith, sym, subst, IsClosed, Queued}
 use Rattle.clfs_queue.proofs.Keeping.{kept_empty}
 use Rattle.clfs_queue.proofs.queue.Queue.written.Goals as goal
 

@@ -1,6 +1,4 @@
-use Rattle.std.proofs.Common.{take, sym, ◌∙◌, ap, arith}
-use Rattle.std.proofs.lemmas.List.{take_at}
-use Rattle.clfs_recover.specs.Fronts.{Piece}
+use Rattle.clfs_recover.proofs.Words.{take, sym, ◌∙◌, ap, arith, take_at, Piece}
 use Rattle.clfs_recover.proofs.Slides.{moved_front}
 use Rattle.clfs_recover.proofs.piece.Ahead.keep_from.Goals as goal
 

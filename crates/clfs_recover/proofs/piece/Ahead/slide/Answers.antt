@@ -1,7 +1,4 @@
-use Rattle.std.proofs.Common.{◌≡◌, ◌-◌, ◌≤◌, List, length, take, drop, sym, ◌∙◌, ap, arith, length-drop}
-use Rattle.std.proofs.lemmas.List.{length-take}
-use Rattle.clfs_disk.specs.Files.{found_count}
-use Rattle.clfs_recover.specs.Fronts.{Piece}
+use Rattle.clfs_recover.proofs.Words.{◌≡◌, ◌-◌, ◌≤◌, List, length, take, drop, sym, ◌∙◌, ap, arith, length-drop, length-take, found_count, Piece}
 use Rattle.clfs_recover.proofs.Slides.{kept_front, slid_within}
 use Rattle.clfs_recover.proofs.piece.Ahead.slide.Goals as goal
 
