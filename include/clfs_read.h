@@ -8,8 +8,9 @@
  * A log is read so: clfs_base_check judges the base file and says how large blocks and containers are; clfs_base_file says which file
  * holds which container. A container is a row of blocks, from its first byte on: clfs_block_check, clfs_block_gather, clfs_record_next
  * until CLFS_END, clfs_block_rest. The next block begins behind the sectors of this one, as long as the container has one left; at
- * CLFS_CLOSED the blocks of the container end. This is the order in which the log judges. Opening it also asks what no call here does: that
- * no stream's base and no archive tail lies above the log's end, and no tail below the first container that the base file lists.
+ * CLFS_CLOSED the blocks of the container end. This is the order in which the log judges. Each call is proved by itself, by the definitions
+ * that the log's own reader has; that the calls in this order find what opening finds is no theorem. Opening it also asks what no call here
+ * does: that no stream's base and no archive tail lies above the log's end, and no tail below the first container that the base file lists.
  *
  * An LSN is a number: container * 2^32 + offset of the block in bytes + position of the record in it. 0 is the LSN of no record. */
 #ifndef CLFS_READ_H
