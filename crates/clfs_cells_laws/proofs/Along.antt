@@ -1,5 +1,9 @@
 -- Along the calls of a table's store: what is always true of its log, and what a crash leaves in each call of the log.
-use Rattle.clfs_cells_laws.proofs.Words.{◌≡◌, ◌⊎◌, ℕ, ◌≤◌, Bool, true, false, refl, sym, subst, ap, ◌∙◌, inl, inr, List, [], ◌∷◌, Option, Some, None, if◌then◌else◌, find, MatchBool, MatchOption, option_map, option_map_or, LogEntry, Stream, Call, Refusal, Happened, Fine, Reply, Area, State, Outcome, answer, outcome, flushed, live_at, hold_sizes, with_less_held, with_more_held, without_cursor, refusal, stream_number, asks, fine_outcome, grown, own_sum, area_of, change_area, change_first, is_area, log_of, Step, Comes, Goes, IsBroken, takes_memory, IsSurvivor, IsValid, Plan, is_committed, records_after, table, table_name, Along, IsSafe, IsSafeFrom, LeavesEither}
+use Rattle.clfs_cells_laws.proofs.Words.{◌≡◌, ◌⊎◌, ℕ, ◌≤◌, Bool, true, false, refl, sym, subst, ap, ◌∙◌, inl, inr, List, [], ◌∷◌, Option, Some, None,
+    if◌then◌else◌, find, MatchBool, MatchOption, option_map, option_map_or, LogEntry, Stream, Call, Refusal, Happened, Fine, Reply, Area, State, Outcome,
+    answer, outcome, flushed, live_at, hold_sizes, with_less_held, with_more_held, without_cursor, refusal, stream_number, asks, fine_outcome, grown, own_sum,
+    area_of, change_area, change_first, is_area, log_of, Step, Comes, Goes, IsBroken, takes_memory, IsSurvivor, IsValid, Plan, is_committed, records_after,
+    table, table_name, Along, IsSafe, IsSafeFrom, LeavesEither}
 use Rattle.std.specs.Prelude.{IsTrue}
 use Rattle.clfs_lsn.specs.declared.cursor.Mode.{Mode}
 use Rattle.clfs_model.specs.declared.call.Call.TheVariants as calls

@@ -1,5 +1,8 @@
 -- A store's table while its transactions begin, go on, and end.
-use Rattle.clfs_cells_laws.proofs.Words.{◌≡◌, ℕ, ◌+◌, ◌<◌, ◌≤◌, Bool, true, false, refl, sym, subst, ap, ◌∙◌, inl, inr, arith, List, [], ◌∷◌, ◌++◌, not, ◌||◌, ◌==◌, filter, slice_index, AllByRecursion, cases_Bool, eq-eqb, eqb-true, ne_eqb, append-nil, filter-append, null_lsn, Action, Set, Compensation, Commit, RolledBack, TxnRecord, Memory, Transaction, holds, with_begun, after_action, changed, committed, is_commit, is_committed, AreApart, AreExclusive, AreOwn, IsInTable, IsOwn, Keeps, changes, done_by, is_among, numbers_of}
+use Rattle.clfs_cells_laws.proofs.Words.{◌≡◌, ℕ, ◌+◌, ◌<◌, ◌≤◌, Bool, true, false, refl, sym, subst, ap, ◌∙◌, inl, inr, arith, List, [], ◌∷◌, ◌++◌, not, ◌||◌,
+    ◌==◌, filter, slice_index, AllByRecursion, cases_Bool, eq-eqb, eqb-true, ne_eqb, append-nil, filter-append, null_lsn, Action, Set, Compensation, Commit,
+    RolledBack, TxnRecord, Memory, Transaction, holds, with_begun, after_action, changed, committed, is_commit, is_committed, AreApart, AreExclusive, AreOwn,
+    IsInTable, IsOwn, Keeps, changes, done_by, is_among, numbers_of}
 use Rattle.std.proofs.Common.{◌^◌}
 use Rattle.clfs_cells_laws.proofs.OneOf.{all_join, all_parts}
 use Rattle.clfs_cells_laws.proofs.Rows.{AreSeparate, ComeAfter, changed_then, same_committed, same_test, untouched}

@@ -1,5 +1,9 @@
 -- Streams, areas and cursors stay within their limits.
-use Rattle.clfs_laws.proofs.Words.{◌≡◌, ℕ, suc, ◌-◌, Bool, true, false, refl, sym, ap, ◌∙◌, subst, inl, inr, arith, List, [], ◌∷◌, ◌++◌, length, Some, None, All, find, filter, nat_lt, ◌==◌, AllByRecursion, cases_Bool, append-nil, All-weaker, All-from_recursion, recursion_from_All, null_lsn, LogEntry, Draft, State, Area, Cursor, Stream, IsClient, is_area, areas_of, change_first, change_area, set_base, own_sum, with_containers, grown, flushed, seal, flush, put, need_of, with_less_held, with_more_held, spend_if, hold_sizes, seal_if, flush_if, plain_record, appended, name_fault, flushed_to, restart_record, restarted, rebased, advanced, IsCursor, IsAreaWithinLimits, IsWithinLimits}
+use Rattle.clfs_laws.proofs.Words.{◌≡◌, ℕ, suc, ◌-◌, Bool, true, false, refl, sym, ap, ◌∙◌, subst, inl, inr, arith, List, [], ◌∷◌, ◌++◌, length, Some, None,
+    All, find, filter, nat_lt, ◌==◌, AllByRecursion, cases_Bool, append-nil, All-weaker, All-from_recursion, recursion_from_All, null_lsn, LogEntry, Draft,
+    State, Area, Cursor, Stream, IsClient, is_area, areas_of, change_first, change_area, set_base, own_sum, with_containers, grown, flushed, seal, flush, put,
+    need_of, with_less_held, with_more_held, spend_if, hold_sizes, seal_if, flush_if, plain_record, appended, name_fault, flushed_to, restart_record,
+    restarted, rebased, advanced, IsCursor, IsAreaWithinLimits, IsWithinLimits}
 use Rattle.clfs_laws.proofs.RecordsOfCalls.{seal_records}
 use Rattle.clfs_laws.proofs.RowSteps.{put_areas, seal_areas}
 use Rattle.clfs_laws.proofs.StorableCursors.{cursor_kept}
