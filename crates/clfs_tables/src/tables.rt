@@ -317,6 +317,10 @@ impl Tables {
         ensures room { (place : ℕ) → slice_index self.old.room place ≤ slice_index self.new.room place }
         ensures more { self.new.more ≡ self.old.more }
     {
+        // Where nothing more may go, no row is looked at.
+        if lsn == self.low {
+            return;
+        }
         for row in self.rows.iter_mut() {
             forget_row(row, lsn);
         }
