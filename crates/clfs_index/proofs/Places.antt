@@ -197,20 +197,20 @@ never_falls heads rising = λ i j d up inside. elim (cases_lt i j) [
   | inr back ↦ let same : i ≡ j = omega arith in rw same (omega arith)
 ]
 
--- The place at which the head lies above an LSN, and the one before it doesn't, is the first above it.
+-- The place at which the head doesn't lie below an LSN, and the one before it does, is the first from it on.
 pub between_neighbours : (heads : List Head) (lsn near : ℕ) → AreRising lsn_of_head heads → near ≤ length heads
-    → ((d : Head) → near < length heads → lsn < (get_or heads near d).lsn)
-    → ((d : Head) → 0 < near → (get_or heads (near - 1) d).lsn ≤ lsn) → IsPlaceOf lsn_of_head heads (lsn + 1) near
-between_neighbours heads lsn near rising within above up_to = record {
+    → ((d : Head) → near < length heads → lsn ≤ (get_or heads near d).lsn)
+    → ((d : Head) → 0 < near → (get_or heads (near - 1) d).lsn < lsn) → IsPlaceOf lsn_of_head heads lsn near
+between_neighbours heads lsn near rising within above below = record {
   within = within;
   below = λ k d before. elim (cases_lt k (near - 1)) [
     | inl further ↦
         let over = rising k (near - 1) d further (omega arith) in
-        let up = up_to d (omega arith) in
+        let up = below d (omega arith) in
         omega (arith, over, up)
     | inr next ↦
         let here : k ≡ near - 1 = omega arith in
-        let up = up_to d (omega arith) in
+        let up = below d (omega arith) in
         rw here (omega (arith, up))
   ];
   above = λ k d behind inside. elim (cases_lt near k) [

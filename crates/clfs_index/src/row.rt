@@ -6,7 +6,7 @@ ghost use Rattle.clfs_lsn.specs.declared.entry.Head.{Head};
 ghost use Rattle.clfs_lsn.specs.Heads.{heads_from, head_at, head_above};
 ghost use Rattle.clfs_index.specs.declared.row.Found.{Found};
 
-use crate::place::place_above;
+use crate::place::{place_above, place_at};
 use clfs_lsn::{Head, Lsn, forget_below, place_of};
 use std::alloc::{AllocError, Global};
 use std::marker::Model;
@@ -98,7 +98,7 @@ impl StreamIndex {
         ensures head { option_map (λ (found : Found). found.head) result ≡ head_at lsn self.now.heads }
         ensures place { IfSome result (λ found. slice_get self.now.heads found.place ≡ Some found.head) }
     {
-        let found = found_at(&self.heads, place_of(&self.heads, lsn))?;
+        let found = found_at(&self.heads, place_at(&self.heads, lsn))?;
         if found.head.lsn == lsn {
             Some(found)
         } else {
