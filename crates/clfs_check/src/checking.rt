@@ -15,7 +15,7 @@ use clfs_recover::{
 use std::alloc::Global;
 
 /// Syncs the disk, walks through the log on it as opening does, and tells what it found, and whether the log's files are at full length; or
-/// why there is no log, exactly as opening does. It writes nothing.
+/// why there is no log, exactly as opening does. It calls no write of the disk.
 pub fn check<D: Disk>(alloc: Global, disk: &mut D) -> Result<Report, LoadRefusal>
     ensures exact { TellsContents (D.state disk.old) → IsChecked (D.state disk.old).files result }
     ensures log { IfOk result IsReportOfLog }

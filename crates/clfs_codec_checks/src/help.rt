@@ -89,7 +89,7 @@ Judges the log in FOLDER and tells what is in it, or where it is broken
 
 Usage: clfs FOLDER check
 
-Writes nothing, and takes no more memory for a larger log. A log is told of only if serve would open it.
+Writes nothing, unless the folder has the mark unsynced, and takes no more memory for a larger log. A log is told of only if serve would open it.
 Status 0: a log is there. 3: standard output can't be written. 4: disk fault. 5: out of memory. 6: not a log.
 
 Appends in threads that share their flushes, over a log in memory
@@ -113,7 +113,8 @@ Options:
       --stream <NAME>  Prints the records of the stream of this name alone, 1 to 64 bytes
       --data <FORM>    How data are printed: hex, text or none [default: hex]
 
-Writes nothing to the log. It is printed up to its end, or up to the first wrong byte, which is then named; all of it is judged, whatever is printed.
+Writes nothing to the log, unless the folder has the mark unsynced. It is printed up to its end, or up to the first wrong byte, which is then named; all
+of it is judged, whatever is printed.
 Without an option all records are printed, dead ones too. If no stream has the name, none is.
 Status 0: a log is there. 3: standard output can't be written. 4: disk fault. 5: out of memory. 6: not a log.
 

@@ -38,7 +38,7 @@ Status 0: the line is printed. 3: standard output can't be written. 5: out of me
 
 // What `check` does, and how it ends.
 const CHECK_NOTES: &str = "\
-Writes nothing, and takes no more memory for a larger log. A log is told of only if serve would open it.
+Writes nothing, unless the folder has the mark unsynced, and takes no more memory for a larger log. A log is told of only if serve would open it.
 Status 0: a log is there. 3: standard output can't be written. 4: disk fault. 5: out of memory. 6: not a log.";
 
 // What `txn` does, and how it ends.
@@ -71,7 +71,8 @@ Status 0: all clients are done. 3: standard output can't be written. 4: disk fau
 
 // What `dump` does, and how it ends.
 const DUMP_NOTES: &str = "\
-Writes nothing to the log. It is printed up to its end, or up to the first wrong byte, which is then named; all of it is judged, whatever is printed.
+Writes nothing to the log, unless the folder has the mark unsynced. It is printed up to its end, or up to the first wrong byte, which is then named; all
+of it is judged, whatever is printed.
 Without an option all records are printed, dead ones too. If no stream has the name, none is.
 Status 0: a log is there. 3: standard output can't be written. 4: disk fault. 5: out of memory. 6: not a log.";
 

@@ -123,7 +123,7 @@ fn print_files<D: Disk, K: Sink>(
 }
 
 /// Prints the log on a disk up to its end, and answers the LSN at which it goes on; or up to the first wrong byte, which is the one that opening
-/// tells, and then that place. It writes nothing to the disk and doesn't sync it.
+/// tells, and then that place. It calls no write and no sync of the disk.
 pub fn dump<D: Disk, K: Sink>(
     alloc: Global,
     selection: &Selection,

@@ -2,8 +2,8 @@
 //!
 //! The files are gone through as opening goes through them, from the newest base copy to the closed gate after the last block, and each part is
 //! printed as soon as it was judged. Where a byte is wrong the text goes on as far as the bytes are right, up to the last record before it in its
-//! block, and then names the place: the one that opening tells. Nothing is written but the text, and the disk isn't synced. What is kept is the
-//! newest base copy, one piece of a file that is read ahead, one block and its text.
+//! block, and then names the place: the one that opening tells. Of the disk no write and no sync is called. What is kept is the newest base
+//! copy, one piece of a file that is read ahead, one block and its text.
 //!
 //! `Selection` says which records are printed and how their data are. All that is found is judged, whatever is printed of it.
 #![tactic(auto)]
