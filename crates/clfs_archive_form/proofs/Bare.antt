@@ -1,6 +1,6 @@
 -- Bases alone, as those of rows that no restart area has moved.
-use Rattle.clfs_archive_form.proofs.Words.{◌≡◌, ℕ, ◌<◌, List, [], length, get_or, map, sym, ◌∙◌, ap, arith, length-map, get_or-map, length-map-range_with_len,
-    Row, row_in, base_with, bases_with}
+use Rattle.clfs_archive_form.proofs.Words.{◌≡◌, ℕ, ◌<◌, List, [], length, get_or, map, sym, ◌∙◌, ap, arith, length-map, get_or-map, length-map-range_with_len}
+use Rattle.clfs_archive_form.proofs.Words.{Row, row_in, base_with, bases_with}
 use Rattle.std.proofs.lemmas.List.{ext_get_or}
 use Rattle.std.proofs.lemmas.List.FromFn.{get_or-map-range_with_len}
 

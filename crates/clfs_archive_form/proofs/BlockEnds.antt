@@ -1,8 +1,9 @@
 -- Where the last block of a log ends, by the records of the log and by its blocks.
-use Rattle.clfs_archive_form.proofs.Words.{inl, inr, ◌≡◌, ℕ, ◌+◌, ◌-◌, ◌*◌, ◌%◌, ◌<◌, ◌≤◌, Bool, true, false, cond, eqb, ◌&&◌, List, [], ◌∷◌, ◌++◌, length,
-    filter, Option, Some, None, Result, Ok, refl, sym, ◌∙◌, ap, subst, append_assoc, append-nil, arith, option_map_or, eq-eqb, eqb-true, ne_eqb, filter-append,
-    lsn_number, container_of, offset_of, size, sectors, BaseFits, LogEntry, Shape, block_sectors, total, AreReadAsWritten, ◌>>=◌, told_as, block_records,
-    FitFrom, stored_in, damage_at, LoadRefusal, AreExact, end_of_last}
+use Rattle.clfs_archive_form.proofs.Words.{inl, inr, ◌≡◌, ℕ, ◌+◌, ◌-◌, ◌*◌, ◌%◌, ◌<◌, ◌≤◌, Bool, true, false, cond, eqb, ◌&&◌, List, [], ◌∷◌, ◌++◌, length}
+use Rattle.clfs_archive_form.proofs.Words.{filter, Option, Some, None, Result, Ok, refl, sym, ◌∙◌, ap, subst, append_assoc, append-nil, arith, option_map_or}
+use Rattle.clfs_archive_form.proofs.Words.{eq-eqb, eqb-true, ne_eqb, filter-append, lsn_number, container_of, offset_of, size, sectors, BaseFits, LogEntry}
+use Rattle.clfs_archive_form.proofs.Words.{Shape, block_sectors, total, AreReadAsWritten, ◌>>=◌, told_as, block_records, FitFrom, stored_in, damage_at}
+use Rattle.clfs_archive_form.proofs.Words.{LoadRefusal, AreExact, end_of_last}
 use Rattle.std.specs.List.{last_or, sum_by}
 use Rattle.std.proofs.lemmas.Bool.{cases_Bool}
 use Rattle.std.proofs.lemmas.List.Sums.{sum_by-cons}

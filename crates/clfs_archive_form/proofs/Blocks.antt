@@ -1,8 +1,9 @@
 -- The blocks of a container one by one, against all of them.
-use Rattle.clfs_archive_form.proofs.Words.{inl, ◌≡◌, ℕ, zero, suc, ◌+◌, ◌*◌, ◌<◌, ◌≤◌, List, [], ◌∷◌, ◌++◌, length, take, drop, Option, Some, None, Result, Ok,
-    Err, refl, sym, ◌∙◌, ap, append_assoc, arith, drop-drop, drop_all, length-drop, length-take-le, lsn_number, LogEntry, Shape, Row, head_of, frame_at,
-    AreReadAsWritten, ◌>>=◌, told_as, block_records, BlockHead, BlockRefusal, RefusesAs, stored_in, damage_at, LoadRefusal, NoBase, Damaged, DiskFault,
-    NoMemory, block_bytes, blocks_of, blocks_in, JudgesBlock}
+use Rattle.clfs_archive_form.proofs.Words.{inl, ◌≡◌, ℕ, zero, suc, ◌+◌, ◌*◌, ◌<◌, ◌≤◌, List, [], ◌∷◌, ◌++◌, length, take, drop, Option, Some, None, Result}
+use Rattle.clfs_archive_form.proofs.Words.{Ok, Err, refl, sym, ◌∙◌, ap, append_assoc, arith, drop-drop, drop_all, length-drop, length-take-le, lsn_number}
+use Rattle.clfs_archive_form.proofs.Words.{LogEntry, Shape, Row, head_of, frame_at, AreReadAsWritten, ◌>>=◌, told_as, block_records, BlockHead, BlockRefusal}
+use Rattle.clfs_archive_form.proofs.Words.{RefusesAs, stored_in, damage_at, LoadRefusal, NoBase, Damaged, DiskFault, NoMemory, block_bytes, blocks_of}
+use Rattle.clfs_archive_form.proofs.Words.{blocks_in, JudgesBlock}
 use Rattle.clfs_lsn.specs.Format.{sector_bytes}
 use Rattle.clfs_block.specs.Checks.{IsEnough, HasFrame}
 use Rattle.clfs_block.specs.declared.head.BlockRefusal.TheVariants as blocks

@@ -1,8 +1,9 @@
 -- A log can be restored up to the LSN that was chosen.
-use Rattle.clfs_archive_form.proofs.Words.{◌≡◌, ℕ, zero, suc, ◌+◌, ◌-◌, ◌<◌, ◌≤◌, max, Bool, true, false, cond, ltb, ◌||◌, List, [], ◌∷◌, length, Option, Some,
-    None, Result, Ok, Err, refl, sym, ◌∙◌, ap, subst, arith, is_none, find, fold, range_with_len, option_map_or, ltb-false, eqb-true, lsn_number, container_of,
-    Row, IsImage, stored_in, shape_of, Archive, Stored, InputRefusal, UpToInvalid, blocks_in, part_of, IsReadableAs, is_container, last_copy, is_missing,
-    gap_in, end_in, high_bound, chosen_unless, chosen, blocks_at, IsReadable}
+use Rattle.clfs_archive_form.proofs.Words.{◌≡◌, ℕ, zero, suc, ◌+◌, ◌-◌, ◌<◌, ◌≤◌, max, Bool, true, false, cond, ltb, ◌||◌, List, [], ◌∷◌, length, Option}
+use Rattle.clfs_archive_form.proofs.Words.{Some, None, Result, Ok, Err, refl, sym, ◌∙◌, ap, subst, arith, is_none, find, fold, range_with_len, option_map_or}
+use Rattle.clfs_archive_form.proofs.Words.{ltb-false, eqb-true, lsn_number, container_of, Row, IsImage, stored_in, shape_of, Archive, Stored, InputRefusal}
+use Rattle.clfs_archive_form.proofs.Words.{UpToInvalid, blocks_in, part_of, IsReadableAs, is_container, last_copy, is_missing, gap_in, end_in, high_bound}
+use Rattle.clfs_archive_form.proofs.Words.{chosen_unless, chosen, blocks_at, IsReadable}
 use Rattle.std.proofs.lemmas.Bool.{or_parts}
 use Rattle.clfs_archive_form.specs.Archives.{last_listed}
 use Rattle.clfs_archive_form.specs.Reading.{CanBeRead}

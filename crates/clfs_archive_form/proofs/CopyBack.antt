@@ -1,7 +1,8 @@
 -- A base copy is read back of the archive that has it: it has no fault among those that are looked for there.
-use Rattle.clfs_archive_form.proofs.Words.{◌≡◌, ℕ, ◌-◌, ◌^◌, ◌<◌, ◌≤◌, Bool, true, false, not, ◌||◌, cond, List, [], ◌∷◌, ◌++◌, length, take, Option, Some,
-    None, Ok, refl, sym, ◌∙◌, ap, subst, append-nil, arith, take-append_seam, eqb-true, le-ltb, nat_tests, zip, option_or, lsn_number, container_of, BaseImage,
-    number_at, layout_in, IsImage, spelled, image_of, fault_within, magic, copy_there, first_demands, first_listed, with_tail, slot_in}
+use Rattle.clfs_archive_form.proofs.Words.{◌≡◌, ℕ, ◌-◌, ◌^◌, ◌<◌, ◌≤◌, Bool, true, false, not, ◌||◌, cond, List, [], ◌∷◌, ◌++◌, length, take, Option, Some}
+use Rattle.clfs_archive_form.proofs.Words.{None, Ok, refl, sym, ◌∙◌, ap, subst, append-nil, arith, take-append_seam, eqb-true, le-ltb, nat_tests, zip}
+use Rattle.clfs_archive_form.proofs.Words.{option_or, lsn_number, container_of, BaseImage, number_at, layout_in, IsImage, spelled, image_of, fault_within}
+use Rattle.clfs_archive_form.proofs.Words.{magic, copy_there, first_demands, first_listed, with_tail, slot_in}
 use Rattle.std.proofs.Common.{find}
 use Rattle.std.specs.Option.{option_map}
 use Rattle.clfs_lsn.specs.Checks.{unless_ok}

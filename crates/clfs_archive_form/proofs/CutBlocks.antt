@@ -1,8 +1,9 @@
 -- A block that is made short.
-use Rattle.clfs_archive_form.proofs.Words.{⊎_elim, ◌≡◌, ℕ, zero, suc, ◌+◌, ◌*◌, ◌/◌, ◌%◌, ◌^◌, ◌<◌, ◌≤◌, List, [], ◌∷◌, ◌++◌, length, take, drop, Result, Ok,
-    refl, sym, ◌∙◌, ap, subst, append-nil, arith, All, flat_map, length-append, length-take-le, All-cons, All-nil, open_gate, lsn_number, offset_of, IsShape,
-    size, sectors, BaseFits, FitsAt, record_bytes, LogEntry, Shape, block_sectors, total, SpellsBlock, block_records, FitFrom, HasRecords, stored_in,
-    LoadRefusal, below, in_a_row, AreExact, IsKeptEnd}
+use Rattle.clfs_archive_form.proofs.Words.{⊎_elim, ◌≡◌, ℕ, zero, suc, ◌+◌, ◌*◌, ◌/◌, ◌%◌, ◌^◌, ◌<◌, ◌≤◌, List, [], ◌∷◌, ◌++◌, length, take, drop, Result, Ok}
+use Rattle.clfs_archive_form.proofs.Words.{refl, sym, ◌∙◌, ap, subst, append-nil, arith, All, flat_map, length-append, length-take-le, All-cons, All-nil}
+use Rattle.clfs_archive_form.proofs.Words.{open_gate, lsn_number, offset_of, IsShape, size, sectors, BaseFits, FitsAt, record_bytes, LogEntry, Shape}
+use Rattle.clfs_archive_form.proofs.Words.{block_sectors, total, SpellsBlock, block_records, FitFrom, HasRecords, stored_in, LoadRefusal, below, in_a_row}
+use Rattle.clfs_archive_form.proofs.Words.{AreExact, IsKeptEnd}
 use Rattle.clfs_block.specs.Frame.{used_bytes}
 use Rattle.clfs_recover.specs.Logs.{HaveRecords, all_records}
 use Rattle.clfs_archive_form.specs.Kept.{AreBlocksWith}

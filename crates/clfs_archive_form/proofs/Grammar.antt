@@ -1,9 +1,10 @@
 -- What is read part by part, against the definition of the whole.
-use Rattle.clfs_archive_form.proofs.Words.{◌≡◌, ℕ, zero, suc, ◌+◌, ◌-◌, ◌*◌, ◌/◌, ◌<◌, ◌≤◌, List, [], ◌∷◌, ◌++◌, length, drop, Some, Result, Ok, Err, refl,
-    sym, ◌∙◌, ap, subst, append_assoc, append-nil, arith, length-drop, length-take, lt-ltb, le-ltb, container_of, LogEntry, Shape, Demands, BaseImage, Row,
-    ◌>>=◌, told_as, RefusesAs, stored_in, shape_of, LoadRefusal, Archive, Stored, InputRefusal, UpToInvalid, just_there, length_there, records_there, part_of,
-    blocks_in, damage_told, container_there, containers_there, containers_len, magic_there, copy_there, rest_there, wanted_count, archive_there, archives_in,
-    first_demands, later_demands, Judging, RefusesAt, LieWithin, TakesContainers}
+use Rattle.clfs_archive_form.proofs.Words.{◌≡◌, ℕ, zero, suc, ◌+◌, ◌-◌, ◌*◌, ◌/◌, ◌<◌, ◌≤◌, List, [], ◌∷◌, ◌++◌, length, drop, Some, Result, Ok, Err, refl}
+use Rattle.clfs_archive_form.proofs.Words.{sym, ◌∙◌, ap, subst, append_assoc, append-nil, arith, length-drop, length-take, lt-ltb, le-ltb, container_of}
+use Rattle.clfs_archive_form.proofs.Words.{LogEntry, Shape, Demands, BaseImage, Row, ◌>>=◌, told_as, RefusesAs, stored_in, shape_of, LoadRefusal, Archive}
+use Rattle.clfs_archive_form.proofs.Words.{Stored, InputRefusal, UpToInvalid, just_there, length_there, records_there, part_of, blocks_in, damage_told}
+use Rattle.clfs_archive_form.proofs.Words.{container_there, containers_there, containers_len, magic_there, copy_there, rest_there, wanted_count}
+use Rattle.clfs_archive_form.proofs.Words.{archive_there, archives_in, first_demands, later_demands, Judging, RefusesAt, LieWithin, TakesContainers}
 use Rattle.clfs_recover.specs.declared.refusal.LoadRefusal.TheVariants as loading
 use Rattle.clfs_archive_form.specs.declared.refusal.InputRefusal.TheVariants.{NotAnArchive, Gap, NoMemory}
 use Rattle.clfs_archive_form.specs.Archives.{archives_behind, with_later, joined_from, joined}

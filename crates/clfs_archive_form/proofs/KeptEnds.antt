@@ -1,9 +1,10 @@
 -- How far the blocks of a container lie below an LSN, block by block.
-use Rattle.clfs_archive_form.proofs.Words.{inl, inr, ⊎_elim, ◌≡◌, ◌⊎◌, ℕ, zero, suc, ◌+◌, ◌-◌, ◌*◌, ◌<◌, ◌≤◌, Bool, cond, ltb, List, [], ◌∷◌, ◌++◌, length,
-    take, drop, Result, Ok, Err, refl, sym, ◌∙◌, ap, subst, append_assoc, append-nil, arith, cases_lt, lt-ltb, le-ltb, drop-drop, drop_all, length-drop,
-    length-take-le, get_or-take, filter-append, lsn_number, LogEntry, Shape, block_sectors, total, frame_at, AreReadAsWritten, block_refused, ◌>>=◌, told_as,
-    block_records, BlockHead, BlockRefusal, FitFrom, stored_in, damage_at, LoadRefusal, block_bytes, blocks_of, blocks_in, below, in_a_row, AreExact, StandIn,
-    IsKeptEnd}
+use Rattle.clfs_archive_form.proofs.Words.{inl, inr, ⊎_elim, ◌≡◌, ◌⊎◌, ℕ, zero, suc, ◌+◌, ◌-◌, ◌*◌, ◌<◌, ◌≤◌, Bool, cond, ltb, List, [], ◌∷◌, ◌++◌, length}
+use Rattle.clfs_archive_form.proofs.Words.{take, drop, Result, Ok, Err, refl, sym, ◌∙◌, ap, subst, append_assoc, append-nil, arith, cases_lt, lt-ltb, le-ltb}
+use Rattle.clfs_archive_form.proofs.Words.{drop-drop, drop_all, length-drop, length-take-le, get_or-take, filter-append, lsn_number, LogEntry, Shape}
+use Rattle.clfs_archive_form.proofs.Words.{block_sectors, total, frame_at, AreReadAsWritten, block_refused, ◌>>=◌, told_as, block_records, BlockHead}
+use Rattle.clfs_archive_form.proofs.Words.{BlockRefusal, FitFrom, stored_in, damage_at, LoadRefusal, block_bytes, blocks_of, blocks_in, below, in_a_row}
+use Rattle.clfs_archive_form.proofs.Words.{AreExact, StandIn, IsKeptEnd}
 use Rattle.std.proofs.Math.Seq.{take-add}
 use Rattle.std.proofs.lemmas.Grind.{flat_map-append}
 use Rattle.clfs_archive_form.proofs.Blocks.{ReadAlone, takes_first, none_of}

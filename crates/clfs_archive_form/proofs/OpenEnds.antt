@@ -1,8 +1,9 @@
 -- Where the open blocks end that bytes begin with, one block after the other.
-use Rattle.clfs_archive_form.proofs.Words.{⊎_elim, inl, ◌≡◌, ◌≢◌, ℕ, ◌+◌, ◌-◌, ◌*◌, ◌/◌, ◌%◌, ◌<◌, ◌≤◌, Bool, not, eqb, true, false, cond, List, [], ◌∷◌, ◌++◌,
-    length, drop, get_or, Result, Ok, Err, refl, sym, ◌∙◌, ap, subst, arith, drop-drop, length-take-le, length-drop, get_or-drop, ne_eqb, lsn_number, LogEntry,
-    Shape, block_sectors, BeginsWith, Opens, EndsCleanly, AreWhole, total, head_of, frame_at, AreReadAsWritten, block_refused, ◌>>=◌, told_as, block_records,
-    BlockHead, BlockRefusal, stored_in, damage_at, LoadRefusal, NoBase, Damaged, DiskFault, NoMemory, JudgesBlock}
+use Rattle.clfs_archive_form.proofs.Words.{⊎_elim, inl, ◌≡◌, ◌≢◌, ℕ, ◌+◌, ◌-◌, ◌*◌, ◌/◌, ◌%◌, ◌<◌, ◌≤◌, Bool, not, eqb, true, false, cond, List, [], ◌∷◌}
+use Rattle.clfs_archive_form.proofs.Words.{◌++◌, length, drop, get_or, Result, Ok, Err, refl, sym, ◌∙◌, ap, subst, arith, drop-drop, length-take-le}
+use Rattle.clfs_archive_form.proofs.Words.{length-drop, get_or-drop, ne_eqb, lsn_number, LogEntry, Shape, block_sectors, BeginsWith, Opens, EndsCleanly}
+use Rattle.clfs_archive_form.proofs.Words.{AreWhole, total, head_of, frame_at, AreReadAsWritten, block_refused, ◌>>=◌, told_as, block_records, BlockHead}
+use Rattle.clfs_archive_form.proofs.Words.{BlockRefusal, stored_in, damage_at, LoadRefusal, NoBase, Damaged, DiskFault, NoMemory, JudgesBlock}
 use Rattle.clfs_block.specs.declared.head.BlockRefusal.TheVariants as blocks
 use Rattle.clfs_archive_form.specs.Drafting.{EndsAt}
 use Rattle.clfs_archive_form.proofs.Blocks.{ReadAlone}

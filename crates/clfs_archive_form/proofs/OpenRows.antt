@@ -1,8 +1,8 @@
 -- Blocks that stand one after the other are open blocks.
-use Rattle.clfs_archive_form.proofs.Words.{inl, inr, ⊎_elim, ◌≡◌, ◌≢◌, ◌⊎◌, ℕ, ◌+◌, ◌-◌, ◌*◌, ◌/◌, ◌%◌, ◌<◌, ◌≤◌, List, [], ◌∷◌, ◌++◌, length, take, drop,
-    get_or, Ok, refl, sym, ◌∙◌, ap, subst, append_assoc, arith, get_or-append, take-append_seam, drop-append_seam, length-append, lsn_number, IsShape,
-    LogEntry, Shape, block_sectors, Opens, EndsCleanly, AreWhole, total, AreReadAsWritten, ◌>>=◌, told_as, block_records, stored_in, damage_at, in_a_row,
-    AreExact, StandIn}
+use Rattle.clfs_archive_form.proofs.Words.{inl, inr, ⊎_elim, ◌≡◌, ◌≢◌, ◌⊎◌, ℕ, ◌+◌, ◌-◌, ◌*◌, ◌/◌, ◌%◌, ◌<◌, ◌≤◌, List, [], ◌∷◌, ◌++◌, length, take, drop}
+use Rattle.clfs_archive_form.proofs.Words.{get_or, Ok, refl, sym, ◌∙◌, ap, subst, append_assoc, arith, get_or-append, take-append_seam, drop-append_seam}
+use Rattle.clfs_archive_form.proofs.Words.{length-append, lsn_number, IsShape, LogEntry, Shape, block_sectors, Opens, EndsCleanly, AreWhole, total}
+use Rattle.clfs_archive_form.proofs.Words.{AreReadAsWritten, ◌>>=◌, told_as, block_records, stored_in, damage_at, in_a_row, AreExact, StandIn}
 use Rattle.clfs_archive_form.proofs.CutBlocks.{row_len}
 use Rattle.clfs_archive_form.proofs.ReadRecords.{ReadsFit, has_read, bound, told_value}
 

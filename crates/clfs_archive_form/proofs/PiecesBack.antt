@@ -1,9 +1,11 @@
 -- The containers of an archive are read back of their bytes, one after the other.
-use Rattle.clfs_archive_form.proofs.Words.{◌≡◌, ℕ, zero, suc, ◌+◌, ◌-◌, ◌*◌, ◌%◌, ◌^◌, ◌<◌, ◌≤◌, Bool, true, cond, ◌&&◌, eqb, leb, List, [], ◌∷◌, ◌++◌, length,
-    reverse, take, drop, get_or, Option, Some, None, Result, Ok, Err, refl, sym, ◌∙◌, ap, subst, arith, find, flat_map, range_with_len, zip, option_or,
-    get_or-append, take-append_seam, drop-append_seam, eq-eqb, ne_eqb, le-ltb, drop-drop, length-append, length-drop, get_or-take, little_bytes, LogEntry,
-    Shape, block_sectors, BeginsWith, Opens, total, number_at, ◌>>=◌, stored_in, Stored, piece_bytes, block_bytes, blocks_of, blocks_in, number_there,
-    just_there, is_length, length_there, part_of, container_there, containers_there, containers_len, in_a_row, AreExact, pieces_at, is_container, last_copy}
+use Rattle.clfs_archive_form.proofs.Words.{◌≡◌, ℕ, zero, suc, ◌+◌, ◌-◌, ◌*◌, ◌%◌, ◌^◌, ◌<◌, ◌≤◌, Bool, true, cond, ◌&&◌, eqb, leb, List, [], ◌∷◌, ◌++◌}
+use Rattle.clfs_archive_form.proofs.Words.{length, reverse, take, drop, get_or, Option, Some, None, Result, Ok, Err, refl, sym, ◌∙◌, ap, subst, arith, find}
+use Rattle.clfs_archive_form.proofs.Words.{flat_map, range_with_len, zip, option_or, get_or-append, take-append_seam, drop-append_seam, eq-eqb, ne_eqb}
+use Rattle.clfs_archive_form.proofs.Words.{le-ltb, drop-drop, length-append, length-drop, get_or-take, little_bytes, LogEntry, Shape, block_sectors}
+use Rattle.clfs_archive_form.proofs.Words.{BeginsWith, Opens, total, number_at, ◌>>=◌, stored_in, Stored, piece_bytes, block_bytes, blocks_of, blocks_in}
+use Rattle.clfs_archive_form.proofs.Words.{number_there, just_there, is_length, length_there, part_of, container_there, containers_there, containers_len}
+use Rattle.clfs_archive_form.proofs.Words.{in_a_row, AreExact, pieces_at, is_container, last_copy}
 use mathlib.Core.List.{reverse-cons}
 use Rattle.std.proofs.lemmas.Bool.{le-leb}
 use Rattle.std.proofs.lemmas.List.Folds.{find-append}

@@ -1,10 +1,11 @@
 -- The archive of a log is read as it was written.
-use Rattle.clfs_archive_form.proofs.Words.{◌≡◌, ℕ, zero, suc, ◌+◌, ◌-◌, ◌*◌, ◌^◌, ◌<◌, ◌≤◌, Bool, true, cond, ◌&&◌, eqb, List, [], ◌∷◌, ◌++◌, length, drop,
-    get_or, map, Option, Some, None, Result, Ok, refl, sym, ◌∙◌, ap, subst, arith, flat_map, get_or-append, drop-append_seam, eq-eqb, lt-ltb, nat_tests,
-    drop-drop, length-append, length-drop, little_bytes, container_of, frontier, LogEntry, Place, Shape, Files, AreWhole, BaseImage, IsImage, current, flag,
-    spelled, first_failing, ◌>>=◌, State, state_of, FitsUpTo, stored_state, HaveBlocks, HasLog, stored_in, stored_records, stored_end, stored_place, shape_of,
-    image_fault, magic, archived_image, piece_bytes, archive_bytes, archived_pieces, has_letter, magic_there, wanted_count, archives_in, containers_there,
-    first_demands, pieces_at, archive_alone}
+use Rattle.clfs_archive_form.proofs.Words.{◌≡◌, ℕ, zero, suc, ◌+◌, ◌-◌, ◌*◌, ◌^◌, ◌<◌, ◌≤◌, Bool, true, cond, ◌&&◌, eqb, List, [], ◌∷◌, ◌++◌, length, drop}
+use Rattle.clfs_archive_form.proofs.Words.{get_or, map, Option, Some, None, Result, Ok, refl, sym, ◌∙◌, ap, subst, arith, flat_map, get_or-append}
+use Rattle.clfs_archive_form.proofs.Words.{drop-append_seam, eq-eqb, lt-ltb, nat_tests, drop-drop, length-append, length-drop, little_bytes, container_of}
+use Rattle.clfs_archive_form.proofs.Words.{frontier, LogEntry, Place, Shape, Files, AreWhole, BaseImage, IsImage, current, flag, spelled, first_failing}
+use Rattle.clfs_archive_form.proofs.Words.{◌>>=◌, State, state_of, FitsUpTo, stored_state, HaveBlocks, HasLog, stored_in, stored_records, stored_end}
+use Rattle.clfs_archive_form.proofs.Words.{stored_place, shape_of, image_fault, magic, archived_image, piece_bytes, archive_bytes, archived_pieces}
+use Rattle.clfs_archive_form.proofs.Words.{has_letter, magic_there, wanted_count, archives_in, containers_there, first_demands, pieces_at, archive_alone}
 use Rattle.clfs_container.specs.OpenBlocks.{AreOpen}
 use Rattle.clfs_base.specs.declared.refusal.NewestRefusal.{NewestRefusal}
 use Rattle.clfs_base.specs.Slots.{newest_of}

@@ -1,7 +1,8 @@
 -- The records that are read from a block: each fits its LSN, and with the header they take the bytes that the block says to use.
-use Rattle.clfs_archive_form.proofs.Words.{◌≡◌, ℕ, zero, suc, ◌+◌, ◌*◌, ◌^◌, ◌<◌, ◌≤◌, Bool, true, false, cond, eqb, List, [], ◌∷◌, length, drop, Result, Ok,
-    Err, refl, sym, ◌∙◌, ap, subst, arith, eqb-true, length-drop, length-map-range_with_len, size, sectors, FitsAt, record_at, LogEntry, Shape, block_sectors,
-    frame_at, AreReadAsWritten, BlockHead, BlockRefusal, ◌>>=◌, told_as, block_records, FitFrom}
+use Rattle.clfs_archive_form.proofs.Words.{◌≡◌, ℕ, zero, suc, ◌+◌, ◌*◌, ◌^◌, ◌<◌, ◌≤◌, Bool, true, false, cond, eqb, List, [], ◌∷◌, length, drop, Result, Ok}
+use Rattle.clfs_archive_form.proofs.Words.{Err, refl, sym, ◌∙◌, ap, subst, arith, eqb-true, length-drop, length-map-range_with_len, size, sectors, FitsAt}
+use Rattle.clfs_archive_form.proofs.Words.{record_at, LogEntry, Shape, block_sectors, frame_at, AreReadAsWritten, BlockHead, BlockRefusal, ◌>>=◌, told_as}
+use Rattle.clfs_archive_form.proofs.Words.{block_records, FitFrom}
 use Rattle.std.specs.Prelude.{slice_index}
 use Rattle.clfs_block.specs.Frame.{place_of, payload_of}
 use Rattle.clfs_block.specs.Checks.{left_from, rest_at}

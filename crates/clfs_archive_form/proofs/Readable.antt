@@ -1,9 +1,10 @@
 -- The containers of archives that were read can be read in the log of the last copy.
-use Rattle.clfs_archive_form.proofs.Words.{◌≡◌, ℕ, zero, suc, ◌+◌, ◌-◌, ◌*◌, ◌%◌, ◌<◌, ◌≤◌, Bool, true, false, cond, ltb, leb, eqb, List, [], ◌∷◌, ◌++◌,
-    length, reverse, get_or, Some, Result, Ok, Err, refl, sym, ◌∙◌, ap, subst, arith, All, find, ltb-false, All-cons, All-nil, lsn_number, container_of,
-    LogEntry, Shape, BaseImage, ◌>>=◌, told_as, block_records, stored_in, shape_of, damage_at, LoadRefusal, Stored, InputRefusal, wanted_count, rest_there,
-    just_there, number_there, is_length, length_there, records_there, damage_told, part_of, blocks_in, container_there, containers_there, containers_len,
-    later_demands, TakesContainers, Suits, IsReadableAs, AreReadable}
+use Rattle.clfs_archive_form.proofs.Words.{◌≡◌, ℕ, zero, suc, ◌+◌, ◌-◌, ◌*◌, ◌%◌, ◌<◌, ◌≤◌, Bool, true, false, cond, ltb, leb, eqb, List, [], ◌∷◌, ◌++◌}
+use Rattle.clfs_archive_form.proofs.Words.{length, reverse, get_or, Some, Result, Ok, Err, refl, sym, ◌∙◌, ap, subst, arith, All, find, ltb-false, All-cons}
+use Rattle.clfs_archive_form.proofs.Words.{All-nil, lsn_number, container_of, LogEntry, Shape, BaseImage, ◌>>=◌, told_as, block_records, stored_in, shape_of}
+use Rattle.clfs_archive_form.proofs.Words.{damage_at, LoadRefusal, Stored, InputRefusal, wanted_count, rest_there, just_there, number_there, is_length}
+use Rattle.clfs_archive_form.proofs.Words.{length_there, records_there, damage_told, part_of, blocks_in, container_there, containers_there, containers_len}
+use Rattle.clfs_archive_form.proofs.Words.{later_demands, TakesContainers, Suits, IsReadableAs, AreReadable}
 use Rattle.std.specs.Prelude.{OnOk}
 use Rattle.std.proofs.lemmas.Bool.{and_parts, leb-true}
 use Rattle.std.proofs.lemmas.List.{get_or-reverse, length-reverse}

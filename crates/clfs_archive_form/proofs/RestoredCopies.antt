@@ -1,7 +1,7 @@
 -- The base copy of a restored log is one that a log can have.
-use Rattle.clfs_archive_form.proofs.Words.{◌≡◌, ℕ, zero, suc, ◌+◌, ◌-◌, ◌<◌, ◌≤◌, min, List, [], ◌∷◌, ◌++◌, length, take, drop, get_or, refl, sym, ◌∙◌, ap,
-    subst, append_assoc, arith, range_with_len, get_or-map, length-map, length-take-le, length-range_with_len, container_of, BaseImage, Row, IsImage, current,
-    flag, row_in, kept_count, lowered_rows, restored_copy}
+use Rattle.clfs_archive_form.proofs.Words.{◌≡◌, ℕ, zero, suc, ◌+◌, ◌-◌, ◌<◌, ◌≤◌, min, List, [], ◌∷◌, ◌++◌, length, take, drop, get_or, refl, sym, ◌∙◌, ap}
+use Rattle.clfs_archive_form.proofs.Words.{subst, append_assoc, arith, range_with_len, get_or-map, length-map, length-take-le, length-range_with_len}
+use Rattle.clfs_archive_form.proofs.Words.{container_of, BaseImage, Row, IsImage, current, flag, row_in, kept_count, lowered_rows, restored_copy}
 use Rattle.std.proofs.Common.{set}
 use Rattle.std.proofs.Math.Seq.{take-suc, drop-cons, get_or-append_seam, set-append_seam}
 use Rattle.std.proofs.lemmas.List.{map-append}

@@ -1,11 +1,13 @@
 -- The files of a restored log stand for what is restored.
-use Rattle.clfs_archive_form.proofs.Words.{◌≡◌, ℕ, zero, suc, ◌+◌, ◌-◌, ◌*◌, ◌<◌, ◌≤◌, min, max, Bool, true, false, cond, eqb, if◌then◌else◌, List, [], ◌∷◌,
-    ◌++◌, length, drop, map, filter, Some, None, Result, Ok, refl, sym, ◌∙◌, ap, subst, append_assoc, append-nil, arith, All, fold, range_with_len, eq-eqb,
-    ne_eqb, length-map, All-cons, All-nil, filter-append, length-range_with_len, lsn_number, container_of, frontier, IsShape, LogEntry, Place, Shape, Files,
-    block_sectors, Opens, total, AreReadAsWritten, ◌>>=◌, BaseImage, Row, row_in, streams_with, State, state_of, FitsUpTo, stored_state, HasLog, HaveBlocks,
-    stored_in, stored_records, stored_end, stored_place, shape_of, base_with, bases_with, image_fault, LoadRefusal, Archive, below, AreExact, blocks_at,
-    kept_ids, kept_records, in_container, end_of_last, restored_place, restored_bases, restored_parts, restored, kept_count, lowered_rows, restored_copy,
-    IsReadable, HoldsKept}
+use Rattle.clfs_archive_form.proofs.Words.{◌≡◌, ℕ, zero, suc, ◌+◌, ◌-◌, ◌*◌, ◌<◌, ◌≤◌, min, max, Bool, true, false, cond, eqb, if◌then◌else◌, List, [], ◌∷◌}
+use Rattle.clfs_archive_form.proofs.Words.{◌++◌, length, drop, map, filter, Some, None, Result, Ok, refl, sym, ◌∙◌, ap, subst, append_assoc, append-nil}
+use Rattle.clfs_archive_form.proofs.Words.{arith, All, fold, range_with_len, eq-eqb, ne_eqb, length-map, All-cons, All-nil, filter-append}
+use Rattle.clfs_archive_form.proofs.Words.{length-range_with_len, lsn_number, container_of, frontier, IsShape, LogEntry, Place, Shape, Files, block_sectors}
+use Rattle.clfs_archive_form.proofs.Words.{Opens, total, AreReadAsWritten, ◌>>=◌, BaseImage, Row, row_in, streams_with, State, state_of, FitsUpTo}
+use Rattle.clfs_archive_form.proofs.Words.{stored_state, HasLog, HaveBlocks, stored_in, stored_records, stored_end, stored_place, shape_of, base_with}
+use Rattle.clfs_archive_form.proofs.Words.{bases_with, image_fault, LoadRefusal, Archive, below, AreExact, blocks_at, kept_ids, kept_records, in_container}
+use Rattle.clfs_archive_form.proofs.Words.{end_of_last, restored_place, restored_bases, restored_parts, restored, kept_count, lowered_rows, restored_copy}
+use Rattle.clfs_archive_form.proofs.Words.{IsReadable, HoldsKept}
 use Rattle.std.proofs.lemmas.Simd.{map-map}
 use Rattle.clfs_lsn.specs.declared.stream.Stream.{Stream}
 use Rattle.clfs_recover.specs.Files.{StandsFor}

@@ -1,11 +1,13 @@
 -- What is restored of the archive of a log alone is that log.
-use Rattle.clfs_archive_form.proofs.Words.{⊎_elim, ◌≡◌, ℕ, zero, suc, ◌+◌, ◌-◌, ◌*◌, ◌<◌, ◌≤◌, min, Bool, true, false, cond, if◌then◌else◌, List, [], ◌∷◌,
-    length, drop, get_or, map, Option, Some, None, Result, Ok, refl, sym, ◌∙◌, ap, subst, arith, is_none, find, range_with_len, flat_map, zip, option_map_or,
-    cases_lt, lsn_number, container_of, frontier, LogEntry, Shape, Files, AreWhole, total, AreReadAsWritten, BaseImage, Row, IsImage, current, row_in,
-    streams_with, State, state_of, FitsUpTo, stored_state, HaveBlocks, stored_in, stored_records, stored_end, stored_place, shape_of, bases_with, LoadRefusal,
-    Archive, Stored, InputRefusal, archived_image, piece_bytes, archive_bytes, archived_pieces, wanted_count, blocks_in, part_of, below, archive_alone,
-    is_missing, gap_in, end_in, high_bound, chosen_unless, chosen, blocks_at, kept_ids, kept_records, in_container, end_of_last, restored_place,
-    restored_bases, restored_parts, restored, lowered_rows, IsReadable, HoldsKept}
+use Rattle.clfs_archive_form.proofs.Words.{⊎_elim, ◌≡◌, ℕ, zero, suc, ◌+◌, ◌-◌, ◌*◌, ◌<◌, ◌≤◌, min, Bool, true, false, cond, if◌then◌else◌, List, [], ◌∷◌}
+use Rattle.clfs_archive_form.proofs.Words.{length, drop, get_or, map, Option, Some, None, Result, Ok, refl, sym, ◌∙◌, ap, subst, arith, is_none, find}
+use Rattle.clfs_archive_form.proofs.Words.{range_with_len, flat_map, zip, option_map_or, cases_lt, lsn_number, container_of, frontier, LogEntry, Shape, Files}
+use Rattle.clfs_archive_form.proofs.Words.{AreWhole, total, AreReadAsWritten, BaseImage, Row, IsImage, current, row_in, streams_with, State, state_of}
+use Rattle.clfs_archive_form.proofs.Words.{FitsUpTo, stored_state, HaveBlocks, stored_in, stored_records, stored_end, stored_place, shape_of, bases_with}
+use Rattle.clfs_archive_form.proofs.Words.{LoadRefusal, Archive, Stored, InputRefusal, archived_image, piece_bytes, archive_bytes, archived_pieces}
+use Rattle.clfs_archive_form.proofs.Words.{wanted_count, blocks_in, part_of, below, archive_alone, is_missing, gap_in, end_in, high_bound, chosen_unless}
+use Rattle.clfs_archive_form.proofs.Words.{chosen, blocks_at, kept_ids, kept_records, in_container, end_of_last, restored_place, restored_bases}
+use Rattle.clfs_archive_form.proofs.Words.{restored_parts, restored, lowered_rows, IsReadable, HoldsKept}
 use Rattle.clfs_archive_form.proofs.BlockEnds.{HaveLowBases, stored_below}
 use Rattle.clfs_archive_form.proofs.Blocks.{ReadAlone}
 use Rattle.clfs_archive_form.proofs.CopyBack.{Written, HaveLength}

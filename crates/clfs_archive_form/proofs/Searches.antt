@@ -1,6 +1,6 @@
 -- The first number that fails a test.
-use Rattle.clfs_archive_form.proofs.Words.{◌≡◌, ℕ, suc, ◌+◌, ◌-◌, ◌<◌, ◌≤◌, Bool, true, false, cond, Some, None, sym, ◌∙◌, ap, arith, find, range_with_len,
-    first_failing}
+use Rattle.clfs_archive_form.proofs.Words.{◌≡◌, ℕ, suc, ◌+◌, ◌-◌, ◌<◌, ◌≤◌, Bool, true, false, cond, Some, None, sym, ◌∙◌, ap, arith, find, range_with_len}
+use Rattle.clfs_archive_form.proofs.Words.{first_failing}
 
 module _ (test : ℕ → Bool) (i end : ℕ) where
   one_more : i < end → first_failing test i (end - i) ≡ cond (test i) (first_failing test (i + 1) (end - (i + 1))) (Some i)

@@ -1,7 +1,8 @@
 -- The base copy of an archive, from what was decided of its slot.
-use Rattle.clfs_archive_form.proofs.Words.{⊎_elim, ◌≡◌, ℕ, ◌+◌, ◌-◌, ◌*◌, ◌%◌, ◌<◌, ◌≤◌, Bool, true, false, cond, ltb, List, length, take, drop, Option, None,
-    Result, Ok, refl, sym, ◌∙◌, ap, subst, arith, get_or-take, get_or-drop, length-take, length-drop, lt-ltb, le-ltb, cases_lt, Demands, BaseImage, image_of,
-    fault_within, Meets, layout_in, number_at, AreBytes, told_as, copy_there, Suits, first_listed, with_tail, slot_in}
+use Rattle.clfs_archive_form.proofs.Words.{⊎_elim, ◌≡◌, ℕ, ◌+◌, ◌-◌, ◌*◌, ◌%◌, ◌<◌, ◌≤◌, Bool, true, false, cond, ltb, List, length, take, drop, Option, None}
+use Rattle.clfs_archive_form.proofs.Words.{Result, Ok, refl, sym, ◌∙◌, ap, subst, arith, get_or-take, get_or-drop, length-take, length-drop, lt-ltb, le-ltb}
+use Rattle.clfs_archive_form.proofs.Words.{cases_lt, Demands, BaseImage, image_of, fault_within, Meets, layout_in, number_at, AreBytes, told_as, copy_there}
+use Rattle.clfs_archive_form.proofs.Words.{Suits, first_listed, with_tail, slot_in}
 use Rattle.std.proofs.Math.ListN.{get_or-eq_default}
 use Rattle.clfs_lsn.specs.Checks.{unless_wrong}
 use Rattle.clfs_base.specs.Checks.{is_short}

@@ -1,13 +1,13 @@
 -- The words that the proofs here use, passed on from one place. Declares nothing.
-pub use Rattle.std.proofs.Common.{[], ap, append-nil, append_assoc, arith, Bool, cond, drop, eqb, Err, false, filter, get_or, if◌then◌else◌, inl, inr, leb,
-    length, List, ltb, map, max, min, None, not, Ok, Option, refl, Result, reverse, Some, subst, suc, sym, take, true, zero, ℕ, ⊎_elim, ◌%◌, ◌&&◌, ◌*◌, ◌++◌,
-    ◌+◌, ◌-◌, ◌/◌, ◌<◌, ◌^◌, ◌||◌, ◌∙◌, ◌∷◌, ◌≡◌, ◌≢◌, ◌≤◌, ◌⊎◌}
+pub use Rattle.std.proofs.Common.{[], ap, append-nil, append_assoc, arith, Bool, cond, drop, eqb, Err, false, filter, get_or, if◌then◌else◌, inl, inr, leb}
+pub use Rattle.std.proofs.Common.{length, List, ltb, map, max, min, None, not, Ok, Option, refl, Result, reverse, Some, subst, suc, sym, take, true, zero, ℕ}
+pub use Rattle.std.proofs.Common.{⊎_elim, ◌%◌, ◌&&◌, ◌*◌, ◌++◌, ◌+◌, ◌-◌, ◌/◌, ◌<◌, ◌^◌, ◌||◌, ◌∙◌, ◌∷◌, ◌≡◌, ◌≢◌, ◌≤◌, ◌⊎◌}
 pub use Rattle.std.proofs.Math.ListN.{get_or-append}
 pub use Rattle.std.proofs.Math.Seq.{drop-append_seam, take-append_seam}
 pub use Rattle.std.proofs.lemmas.Bool.{cases_lt, eq-eqb, eqb-true, le-ltb, lt-ltb, ltb-false, ne_eqb}
 pub use Rattle.std.proofs.lemmas.Bool.Decides.{nat_tests}
-pub use Rattle.std.proofs.lemmas.List.{drop-drop, drop_all, get_or-drop, get_or-map, get_or-take, length-append, length-drop, length-map, length-take,
-    length-take-le}
+pub use Rattle.std.proofs.lemmas.List.{drop-drop, drop_all, get_or-drop, get_or-map, get_or-take, length-append, length-drop, length-map, length-take}
+pub use Rattle.std.proofs.lemmas.List.{length-take-le}
 pub use Rattle.std.proofs.lemmas.List.Elements.{All-cons, All-nil, filter-append}
 pub use Rattle.std.proofs.lemmas.List.FromFn.{length-map-range_with_len, length-range_with_len}
 pub use Rattle.std.proofs.lemmas.Result.{err_from_is_err_and, on_ok_weaker}
@@ -55,8 +55,8 @@ pub use Rattle.clfs_recover.specs.declared.refusal.LoadRefusal.TheVariants.{Dama
 unfoldable pub use Rattle.clfs_archive_form.specs.Archives.{archive_there, archives_in, copy_there, rest_there}
 pub use Rattle.clfs_archive_form.specs.Archives.{has_letter, magic_there, wanted_count}
 unfoldable pub use Rattle.clfs_archive_form.specs.Containers.{container_there}
-pub use Rattle.clfs_archive_form.specs.Containers.{block_bytes, blocks_in, blocks_of, containers_len, containers_there, damage_told, is_length, just_there,
-    length_there, number_there, part_of, records_there}
+pub use Rattle.clfs_archive_form.specs.Containers.{block_bytes, blocks_in, blocks_of, containers_len, containers_there, damage_told, is_length, just_there}
+pub use Rattle.clfs_archive_form.specs.Containers.{length_there, number_there, part_of, records_there}
 pub use Rattle.clfs_archive_form.specs.Copies.{first_demands, first_listed, later_demands, slot_in, with_tail}
 pub use Rattle.clfs_archive_form.specs.Form.{archive_bytes, archived_image, archived_pieces, magic, piece_bytes}
 pub use Rattle.clfs_archive_form.specs.Judging.{Judging}
@@ -64,8 +64,8 @@ pub use Rattle.clfs_archive_form.specs.Kept.{AreExact, below, in_a_row, IsKeptEn
 pub use Rattle.clfs_archive_form.specs.ReadBack.{archive_alone, pieces_at}
 pub use Rattle.clfs_archive_form.specs.Reading.{AreReadable, IsReadableAs, JudgesBlock, LieWithin, RefusesAt, Suits, TakesContainers}
 unfoldable pub use Rattle.clfs_archive_form.specs.Restoring.{kept_records}
-pub use Rattle.clfs_archive_form.specs.Restoring.{blocks_at, chosen, chosen_unless, end_in, end_of_last, gap_in, high_bound, in_container, is_container,
-    is_missing, kept_ids, last_copy, restored, restored_bases, restored_parts, restored_place}
+pub use Rattle.clfs_archive_form.specs.Restoring.{blocks_at, chosen, chosen_unless, end_in, end_of_last, gap_in, high_bound, in_container, is_container}
+pub use Rattle.clfs_archive_form.specs.Restoring.{is_missing, kept_ids, last_copy, restored, restored_bases, restored_parts, restored_place}
 pub use Rattle.clfs_archive_form.specs.Written.{HoldsKept, IsReadable, kept_count, lowered_rows, restored_copy}
 pub use Rattle.clfs_archive_form.specs.declared.archive.Archive.{Archive}
 pub use Rattle.clfs_archive_form.specs.declared.archive.Stored.{Stored}

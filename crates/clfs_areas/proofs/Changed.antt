@@ -1,6 +1,6 @@
 -- One area that is changed.
-use Rattle.clfs_areas.proofs.Words.{◌≡◌, ℕ, ◌<◌, sym, ap, ◌∙◌, subst, List, length, map, AllPairs, slice_set, Area, change_first, is_area, AreaTable, no_area,
-    area_at, name_in, AreDifferentRows, inside_areas, table_of, AreParts, AreJoined, AreaRow, Inside}
+use Rattle.clfs_areas.proofs.Words.{◌≡◌, ℕ, ◌<◌, sym, ap, ◌∙◌, subst, List, length, map, AllPairs, slice_set, Area, change_first, is_area, AreaTable, no_area}
+use Rattle.clfs_areas.proofs.Words.{area_at, name_in, AreDifferentRows, inside_areas, table_of, AreParts, AreJoined, AreaRow, Inside}
 use Rattle.std.proofs.lemmas.List.{get_or-set_same, length-set}
 use Rattle.clfs_areas.proofs.First.{IsFirst, change_at}
 use Rattle.clfs_areas.proofs.Named.{different_areas, named_first}

@@ -1,6 +1,6 @@
 -- The cursors of one area that are changed.
-use Rattle.clfs_areas.proofs.Words.{◌≡◌, ℕ, ◌<◌, refl, sym, ap, ◌∙◌, List, length, map, slice_set, map-set, get_or-map, Area, Cursor, AreaCursors, AreaTable,
-    no_area, area_at, row_of, cursors_of, reservation_of, table_of, AreParts, AreJoined, Inside}
+use Rattle.clfs_areas.proofs.Words.{◌≡◌, ℕ, ◌<◌, refl, sym, ap, ◌∙◌, List, length, map, slice_set, map-set, get_or-map, Area, Cursor, AreaCursors, AreaTable}
+use Rattle.clfs_areas.proofs.Words.{no_area, area_at, row_of, cursors_of, reservation_of, table_of, AreParts, AreJoined, Inside}
 use Rattle.clfs_cursor.specs.Rows as seen
 use Rattle.clfs_cursor.specs.Rows.{no_cursors, with_cursors}
 use Rattle.clfs_areas.proofs.First.{change_leaves}

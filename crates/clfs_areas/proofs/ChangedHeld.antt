@@ -1,6 +1,6 @@
 -- What one area holds that is changed.
-use Rattle.clfs_areas.proofs.Words.{◌≡◌, ℕ, ◌<◌, refl, sym, ap, ◌∙◌, arith, List, length, map, slice_set, length-map, map-set, get_or-map, Area, Reservation,
-    AreaTable, no_area, area_at, row_of, cursors_of, reservation_of, table_of, AreParts, AreJoined, Inside}
+use Rattle.clfs_areas.proofs.Words.{◌≡◌, ℕ, ◌<◌, refl, sym, ap, ◌∙◌, arith, List, length, map, slice_set, length-map, map-set, get_or-map, Area, Reservation}
+use Rattle.clfs_areas.proofs.Words.{AreaTable, no_area, area_at, row_of, cursors_of, reservation_of, table_of, AreParts, AreJoined, Inside}
 use Rattle.clfs_ledger.specs.Rows.{no_row, row_at, with_held_at}
 use Rattle.clfs_areas.proofs.First.{change_leaves}
 use Rattle.clfs_areas.proofs.Changed.{after, after_is}

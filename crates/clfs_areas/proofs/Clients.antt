@@ -1,7 +1,7 @@
 -- The areas of a client, by their rows.
-use Rattle.clfs_areas.proofs.Words.{◌≡◌, ℕ, ◌+◌, Bool, true, false, not, ◌||◌, refl, sym, ap, ◌∙◌, List, [], ◌∷◌, length, map, Option, ◌==◌, count_by, find,
-    cond, unwrap_or, list_any, range_with_len, sum_by-cons, Area, least_unused, has_row, client_areas, is_client_row, is_row, is_used, row_of, reservation_of,
-    AreaRow}
+use Rattle.clfs_areas.proofs.Words.{◌≡◌, ℕ, ◌+◌, Bool, true, false, not, ◌||◌, refl, sym, ap, ◌∙◌, List, [], ◌∷◌, length, map, Option, ◌==◌, count_by, find}
+use Rattle.clfs_areas.proofs.Words.{cond, unwrap_or, list_any, range_with_len, sum_by-cons, Area, least_unused, has_row, client_areas, is_client_row, is_row}
+use Rattle.clfs_areas.proofs.Words.{is_used, row_of, reservation_of, AreaRow}
 use Rattle.std.specs.Prelude.{sum_by}
 use Rattle.std.proofs.lemmas.List.Sums.{length-filter}
 use Rattle.clfs_model.specs.declared.state.State.{State}

@@ -1,6 +1,6 @@
 -- Cursors of which no two have the same number.
-use Rattle.clfs_areas.proofs.Words.{◌≡◌, ◌≢◌, ℕ, ◌+◌, ◌<◌, ◌≤◌, Bool, true, sym, ap, ◌∙◌, subst, arith, zero, suc, List, [], ◌∷◌, length, get_or, ◌==◌,
-    AllPairs, count_by, nat_tests, sum_by-cons, Cursor, HaveDifferentNumbers}
+use Rattle.clfs_areas.proofs.Words.{◌≡◌, ◌≢◌, ℕ, ◌+◌, ◌<◌, ◌≤◌, Bool, true, sym, ap, ◌∙◌, subst, arith, zero, suc, List, [], ◌∷◌, length, get_or, ◌==◌}
+use Rattle.clfs_areas.proofs.Words.{AllPairs, count_by, nat_tests, sum_by-cons, Cursor, HaveDifferentNumbers}
 use Rattle.std.proofs.Common.{cond}
 
 -- one that passes is counted

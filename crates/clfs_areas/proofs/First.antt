@@ -1,6 +1,6 @@
 -- The first element that passes a test.
-use Rattle.clfs_areas.proofs.Words.{◌≡◌, ℕ, ◌+◌, ◌<◌, ◌≤◌, Bool, true, false, refl, sym, ap, ap₂, ◌∙◌, arith, zero, suc, List, [], ◌∷◌, length, map, get_or,
-    Some, None, ◌⊎◌, inl, inr, cond, find, filter, position, slice_set, remove, option_map, length-map, change_first}
+use Rattle.clfs_areas.proofs.Words.{◌≡◌, ℕ, ◌+◌, ◌<◌, ◌≤◌, Bool, true, false, refl, sym, ap, ap₂, ◌∙◌, arith, zero, suc, List, [], ◌∷◌, length, map, get_or}
+use Rattle.clfs_areas.proofs.Words.{Some, None, ◌⊎◌, inl, inr, cond, find, filter, position, slice_set, remove, option_map, length-map, change_first}
 use Rattle.std.specs.Prelude.{not, nat_lt, slice_get}
 use Rattle.std.specs.List.{position_or_len, prefix_len}
 use Rattle.std.proofs.lemmas.Bool.{cases_lt, lt-ltb, le-ltb}

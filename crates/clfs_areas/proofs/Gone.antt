@@ -1,7 +1,8 @@
 -- An area that goes.
-use Rattle.clfs_areas.proofs.Words.{◌≡◌, ℕ, ◌<◌, false, refl, sym, ap, ◌∙◌, subst, arith, zero, suc, List, [], ◌∷◌, length, map, Option, Some, None, AllPairs,
-    filter, position, remove, option_map, length-map, Area, is_area, AreDifferentAreas, AreaCursors, Reservation, without, AreaTable, no_area, area_at,
-    AreDifferentRows, is_name, name_in, row_of, cursors_of, reservation_of, inside_areas, table_of, AreParts, AreJoined, AreaName, AreaRow, Inside}
+use Rattle.clfs_areas.proofs.Words.{◌≡◌, ℕ, ◌<◌, false, refl, sym, ap, ◌∙◌, subst, arith, zero, suc, List, [], ◌∷◌, length, map, Option, Some, None, AllPairs}
+use Rattle.clfs_areas.proofs.Words.{filter, position, remove, option_map, length-map, Area, is_area, AreDifferentAreas, AreaCursors, Reservation, without}
+use Rattle.clfs_areas.proofs.Words.{AreaTable, no_area, area_at, AreDifferentRows, is_name, name_in, row_of, cursors_of, reservation_of, inside_areas}
+use Rattle.clfs_areas.proofs.Words.{table_of, AreParts, AreJoined, AreaName, AreaRow, Inside}
 use Rattle.std.specs.Prelude.{not}
 use Rattle.std.proofs.lemmas.List.Quantifiers.{all_pairs_remove}
 use Rattle.clfs_areas.proofs.First.{IsFirst, found_first, first_rest, find_at_place, others_left, removed_left}

@@ -1,8 +1,8 @@
 -- An area that is made.
-use Rattle.clfs_areas.proofs.Words.{◌≡◌, ◌≢◌, ℕ, ◌<◌, Bool, true, false, refl, sym, ap, ◌∙◌, subst, arith, zero, suc, List, [], ◌∷◌, ◌++◌, length, map, get_or,
-    ◌⊎◌, inl, inr, AllPairs, count_by, list_any, nat_tests, Area, least_unused, AreaCursors, Reservation, has_row, without, AreaTable, AreDifferentRows,
-    is_client_row, is_name, is_row, is_used, name_in, row_of, cursors_of, reservation_of, inside_areas, table_of, AreParts, AreJoined, AreaName, AreaRow,
-    Inside}
+use Rattle.clfs_areas.proofs.Words.{◌≡◌, ◌≢◌, ℕ, ◌<◌, Bool, true, false, refl, sym, ap, ◌∙◌, subst, arith, zero, suc, List, [], ◌∷◌, ◌++◌, length, map}
+use Rattle.clfs_areas.proofs.Words.{get_or, ◌⊎◌, inl, inr, AllPairs, count_by, list_any, nat_tests, Area, least_unused, AreaCursors, Reservation, has_row}
+use Rattle.clfs_areas.proofs.Words.{without, AreaTable, AreDifferentRows, is_client_row, is_name, is_row, is_used, name_in, row_of, cursors_of}
+use Rattle.clfs_areas.proofs.Words.{reservation_of, inside_areas, table_of, AreParts, AreJoined, AreaName, AreaRow, Inside}
 use Rattle.std.proofs.Common.{if◌then◌else◌}
 use Rattle.std.proofs.lemmas.Bool.{cases_eq}
 use Rattle.std.proofs.lemmas.List.{map-append}

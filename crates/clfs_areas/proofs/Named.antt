@@ -1,7 +1,7 @@
 -- An area is named by its client and its number.
-use Rattle.clfs_areas.proofs.Words.{◌≡◌, ℕ, ◌<◌, Bool, true, false, ◌||◌, refl, ap, ap₂, ◌∙◌, subst, arith, List, [], ◌∷◌, length, map, get_or, inl, inr,
-    AllPairs, position, list_any, nat_tests, length-map, get_or-map, Area, is_area, AreDifferentAreas, no_area, area_at, AreDifferentRows, is_name, is_row,
-    is_used, name_in, row_of, AreaName, AreaRow}
+use Rattle.clfs_areas.proofs.Words.{◌≡◌, ℕ, ◌<◌, Bool, true, false, ◌||◌, refl, ap, ap₂, ◌∙◌, subst, arith, List, [], ◌∷◌, length, map, get_or, inl, inr}
+use Rattle.clfs_areas.proofs.Words.{AllPairs, position, list_any, nat_tests, length-map, get_or-map, Area, is_area, AreDifferentAreas, no_area, area_at}
+use Rattle.clfs_areas.proofs.Words.{AreDifferentRows, is_name, is_row, is_used, name_in, row_of, AreaName, AreaRow}
 use Rattle.clfs_areas.proofs.First.{IsFirst, position_alike, position_of_map}
 
 -- rows stand where their areas stand

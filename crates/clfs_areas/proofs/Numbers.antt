@@ -1,6 +1,7 @@
 -- The least number that a client doesn't use is not used.
-use Rattle.clfs_areas.proofs.Words.{◌≡◌, ℕ, ◌+◌, ◌<◌, ◌≤◌, Bool, true, false, not, refl, ap, ◌∙◌, arith, zero, suc, List, [], ◌∷◌, Option, Some, None,
-    count_by, find, unwrap_or, list_any, range_with_len, nat_tests, sum_by-cons, least_unused, is_client_row, is_row, is_used, AreaRow}
+use Rattle.clfs_areas.proofs.Words.{◌≡◌, ℕ, ◌+◌, ◌<◌, ◌≤◌, Bool, true, false, not, refl, ap, ◌∙◌, arith, zero, suc, List, [], ◌∷◌, Option, Some, None}
+use Rattle.clfs_areas.proofs.Words.{count_by, find, unwrap_or, list_any, range_with_len, nat_tests, sum_by-cons, least_unused, is_client_row, is_row, is_used}
+use Rattle.clfs_areas.proofs.Words.{AreaRow}
 use Rattle.std.proofs.Common.{cond, add-one, below_more}
 
 -- the first, and the others

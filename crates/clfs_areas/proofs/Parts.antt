@@ -1,6 +1,6 @@
 -- The parts of the table and the areas that they tell.
-use Rattle.clfs_areas.proofs.Words.{◌≡◌, refl, sym, ap, subst, List, [], ◌∷◌, map, Area, AreaCursors, Reservation, AreaTable, row_of, cursors_of,
-    reservation_of, table_of, AreParts, AreJoined, AreaRow, Inside}
+use Rattle.clfs_areas.proofs.Words.{◌≡◌, refl, sym, ap, subst, List, [], ◌∷◌, map, Area, AreaCursors, Reservation, AreaTable, row_of, cursors_of}
+use Rattle.clfs_areas.proofs.Words.{reservation_of, table_of, AreParts, AreJoined, AreaRow, Inside}
 use Rattle.clfs_areas.specs.Kept.{areas_by}
 
 -- the parts of areas tell these areas

@@ -1,6 +1,6 @@
 -- The words that the proofs here use, passed on from one place. Declares nothing.
-pub use Rattle.std.proofs.Common.{[], ap, ap₂, arith, Bool, false, get_or, inl, inr, length, List, map, None, not, Option, refl, Some, subst, suc, sym, true,
-    zero, ℕ, ◌++◌, ◌+◌, ◌<◌, ◌||◌, ◌∙◌, ◌∷◌, ◌≡◌, ◌≢◌, ◌≤◌, ◌⊎◌}
+pub use Rattle.std.proofs.Common.{[], ap, ap₂, arith, Bool, false, get_or, inl, inr, length, List, map, None, not, Option, refl, Some, subst, suc, sym, true}
+pub use Rattle.std.proofs.Common.{zero, ℕ, ◌++◌, ◌+◌, ◌<◌, ◌||◌, ◌∙◌, ◌∷◌, ◌≡◌, ◌≢◌, ◌≤◌, ◌⊎◌}
 pub use Rattle.std.proofs.lemmas.Bool.Decides.{nat_tests}
 pub use Rattle.std.proofs.lemmas.List.{get_or-map, length-map, map-set}
 pub use Rattle.std.proofs.lemmas.List.Sums.{sum_by-cons}

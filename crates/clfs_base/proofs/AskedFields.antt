@@ -1,8 +1,9 @@
 -- Fields of which narrower ranges are asked.
-use Rattle.clfs_base.proofs.Words.{◌≡◌, ℕ, ◌≤◌, Bool, true, false, not, ◌&&◌, ◌||◌, leb, cond, List, [], ◌∷◌, length, find, Option, Some, None, Result, Ok,
-    Err, refl, sym, ◌∙◌, ap, subst, arith, nat_tests, zip, option_map, option_or, length-map-range_with_len, IfOk, Asked, Anything, Demands, BaseImage, Field,
-    Layout, Numbers, BaseRefusal, unless_wrong, most_containers, numbers_of, layout_in, fields, flag, is_wrong_field, wrong_field, behind_fields, row_of,
-    slot_fault, image_of, image_at, Gives, anything, asked, is_wrong_within, wrong_within, fault_within}
+use Rattle.clfs_base.proofs.Words.{◌≡◌, ℕ, ◌≤◌, Bool, true, false, not, ◌&&◌, ◌||◌, leb, cond, List, [], ◌∷◌, length, find, Option, Some, None, Result, Ok}
+use Rattle.clfs_base.proofs.Words.{Err, refl, sym, ◌∙◌, ap, subst, arith, nat_tests, zip, option_map, option_or, length-map-range_with_len, IfOk, Asked}
+use Rattle.clfs_base.proofs.Words.{Anything, Demands, BaseImage, Field, Layout, Numbers, BaseRefusal, unless_wrong, most_containers, numbers_of, layout_in}
+use Rattle.clfs_base.proofs.Words.{fields, flag, is_wrong_field, wrong_field, behind_fields, row_of, slot_fault, image_of, image_at, Gives, anything, asked}
+use Rattle.clfs_base.proofs.Words.{is_wrong_within, wrong_within, fault_within}
 use Rattle.clfs_base.specs.declared.demands.Asked.TheVariants.{Between}
 use Rattle.clfs_base.specs.declared.refusal.BaseRefusal.TheVariants as refusals
 use Rattle.clfs_base.specs.Demands.{is_asked, IsAsked, Meets}

@@ -1,6 +1,6 @@
 -- The first wrong byte of a slot, part by part.
-use Rattle.clfs_base.proofs.Words.{◌≡◌, ℕ, List, Option, sym, ap, zip, option_or, Layout, Numbers, slot_bytes, file_place, row_place, numbers_of, fields,
-    other_byte, wrong_field, wrong_file, wrong_row, behind_fields, slot_fault, asked, wrong_within, fault_within, Demands}
+use Rattle.clfs_base.proofs.Words.{◌≡◌, ℕ, List, Option, sym, ap, zip, option_or, Layout, Numbers, slot_bytes, file_place, row_place, numbers_of, fields}
+use Rattle.clfs_base.proofs.Words.{other_byte, wrong_field, wrong_file, wrong_row, behind_fields, slot_fault, asked, wrong_within, fault_within, Demands}
 use Rattle.clfs_base.specs.Layout.{fields_end, files_at, rows_at}
 
 -- the same with the numbers that were read

@@ -1,9 +1,10 @@
 -- The newest copy of a base file whose other slot is written.
-use Rattle.clfs_base.proofs.Words.{◌≡◌, ◌≢◌, inl, inr, ⊎_elim, ℕ, zero, suc, ◌+◌, ◌-◌, ◌*◌, ◌%◌, ◌<◌, ◌≤◌, Bool, true, false, cond, ◌&&◌, ◌||◌, eqb, ltb, List,
-    [], ◌∷◌, ◌++◌, length, get_or, take, drop, Option, Result, Ok, Err, refl, sym, ◌∙◌, ap, subst, arith, length-drop, cases_eq, cases_lt, nat_tests,
-    ext_get_or, length-take, get_or-take, get_or-drop, drop_more, append-nil, Files, TornIn, WrittenIn, Unchanged, DiskState, Leaves, BaseImage, NewestRefusal,
-    version_one, version_two, layout_of, layout_in, numbers_of, fields, IsImage, spelled, unless_wrong, unless_ok, slot_fault, image_of, image_at, slot_place,
-    slot_of, is_open_slot, used_slot, copy_in, copy_of, newest_of, HasNewest, EitherNewest, NoneOrFirst}
+use Rattle.clfs_base.proofs.Words.{◌≡◌, ◌≢◌, inl, inr, ⊎_elim, ℕ, zero, suc, ◌+◌, ◌-◌, ◌*◌, ◌%◌, ◌<◌, ◌≤◌, Bool, true, false, cond, ◌&&◌, ◌||◌, eqb, ltb}
+use Rattle.clfs_base.proofs.Words.{List, [], ◌∷◌, ◌++◌, length, get_or, take, drop, Option, Result, Ok, Err, refl, sym, ◌∙◌, ap, subst, arith, length-drop}
+use Rattle.clfs_base.proofs.Words.{cases_eq, cases_lt, nat_tests, ext_get_or, length-take, get_or-take, get_or-drop, drop_more, append-nil, Files, TornIn}
+use Rattle.clfs_base.proofs.Words.{WrittenIn, Unchanged, DiskState, Leaves, BaseImage, NewestRefusal, version_one, version_two, layout_of, layout_in}
+use Rattle.clfs_base.proofs.Words.{numbers_of, fields, IsImage, spelled, unless_wrong, unless_ok, slot_fault, image_of, image_at, slot_place, slot_of}
+use Rattle.clfs_base.proofs.Words.{is_open_slot, used_slot, copy_in, copy_of, newest_of, HasNewest, EitherNewest, NoneOrFirst}
 use Rattle.std.proofs.Common.{◌⊎◌}
 use Rattle.clfs_disk.specs.Files.{Torn, overwritten}
 use Rattle.clfs_disk.specs.Overwriting.{StandsInPlace}

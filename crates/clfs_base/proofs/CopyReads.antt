@@ -1,6 +1,6 @@
 -- What bytes the newest copy is told by.
-use Rattle.clfs_base.proofs.Words.{◌≡◌, ◌<◌, ◌≤◌, ℕ, List, [], length, Result, Ok, Err, ⊎_elim, refl, sym, ap, subst, ◌∙◌, arith, cases_lt, Files, Unchanged,
-    DiskState, Passes, BaseImage, NewestRefusal, slot_bytes, image_at, front_of, slot_by, copy_in, GivesNewest}
+use Rattle.clfs_base.proofs.Words.{◌≡◌, ◌<◌, ◌≤◌, ℕ, List, [], length, Result, Ok, Err, ⊎_elim, refl, sym, ap, subst, ◌∙◌, arith, cases_lt, Files, Unchanged}
+use Rattle.clfs_base.proofs.Words.{DiskState, Passes, BaseImage, NewestRefusal, slot_bytes, image_at, front_of, slot_by, copy_in, GivesNewest}
 use Rattle.clfs_disk.specs.State.{MayLeave}
 use Rattle.clfs_base.specs.declared.newest.Front.{Front}
 use Rattle.clfs_base.specs.declared.refusal.NewestRefusal.TheVariants as newest

@@ -1,7 +1,7 @@
 -- Bytes that are put after a front, where all after it is zeros.
-use Rattle.clfs_base.proofs.Words.{◌≡◌, ℕ, zero, suc, ◌+◌, ◌-◌, ◌*◌, ◌%◌, ◌<◌, ◌≤◌, List, [], ◌∷◌, ◌++◌, length, get_or, take, drop, replicate, refl, sym, ◌∙◌,
-    ap, subst, arith, mul-le-mul_left, length-append, length-drop, append_assoc, length-replicate, take_at, drop_at, drop-drop, append-nil, drop_all, take_all,
-    flat_map, little_bytes, Row, filled, row_in, spelled_row}
+use Rattle.clfs_base.proofs.Words.{◌≡◌, ℕ, zero, suc, ◌+◌, ◌-◌, ◌*◌, ◌%◌, ◌<◌, ◌≤◌, List, [], ◌∷◌, ◌++◌, length, get_or, take, drop, replicate, refl, sym}
+use Rattle.clfs_base.proofs.Words.{◌∙◌, ap, subst, arith, mul-le-mul_left, length-append, length-drop, append_assoc, length-replicate, take_at, drop_at}
+use Rattle.clfs_base.proofs.Words.{drop-drop, append-nil, drop_all, take_all, flat_map, little_bytes, Row, filled, row_in, spelled_row}
 use Rattle.std.proofs.lemmas.List.{replicate-append-replicate, drop-replicate, take_more, flat_map_more, get_or_read}
 use Rattle.std.specs.Int.{bytes_low_first}
 use borrow.Rule.Slice.PartMut.{put_mid, post_of}

@@ -1,7 +1,8 @@
 -- Images and the bytes that spell them.
-use Rattle.clfs_base.proofs.Words.{◌≡◌, ℕ, ◌+◌, ◌^◌, ◌<◌, ◌≤◌, Bool, true, false, eqb, cond, List, [], ◌∷◌, ◌++◌, length, get_or, take, drop, None, Result, Ok,
-    Err, refl, sym, ◌∙◌, ap, subst, arith, length-drop, take-append-drop, take_at, drop_more, length-take, BaseImage, BaseRefusal, version_one, version_two,
-    layout_of, layout_in, most_dedicated, IsImage, row_in, flag, spelled, IsShape, unless_ok, slot_fault, image_of, image_at, Gives}
+use Rattle.clfs_base.proofs.Words.{◌≡◌, ℕ, ◌+◌, ◌^◌, ◌<◌, ◌≤◌, Bool, true, false, eqb, cond, List, [], ◌∷◌, ◌++◌, length, get_or, take, drop, None, Result}
+use Rattle.clfs_base.proofs.Words.{Ok, Err, refl, sym, ◌∙◌, ap, subst, arith, length-drop, take-append-drop, take_at, drop_more, length-take, BaseImage}
+use Rattle.clfs_base.proofs.Words.{BaseRefusal, version_one, version_two, layout_of, layout_in, most_dedicated, IsImage, row_in, flag, spelled, IsShape}
+use Rattle.clfs_base.proofs.Words.{unless_ok, slot_fault, image_of, image_at, Gives}
 use Rattle.std.proofs.Common.{IfOk}
 use Rattle.clfs_base.specs.declared.refusal.BaseRefusal.TheVariants as refusals
 use Rattle.clfs_base.specs.Spelling.{FitsOne, current}

@@ -1,8 +1,9 @@
 -- What stands at a place of bytes, and what of it a check finds right.
-use Rattle.clfs_base.proofs.Words.{◌≡◌, ℕ, zero, suc, ◌+◌, ◌-◌, ◌*◌, ◌<◌, ◌≤◌, Bool, true, false, not, ◌||◌, eqb, ltb, List, [], ◌∷◌, ◌++◌, length, get_or,
-    take, drop, map, replicate, None, refl, sym, ◌∙◌, ap, subst, arith, ⊎_elim, length-append, length-drop, append_assoc, take-append-drop, cases_eq,
-    nat_tests, length-replicate, get_or-replicate, get_or-drop, get_or-take, length-take-le, drop_at, drop-drop, ext_get_or, append-nil,
-    map-range_with_len_more, flat_map, range_with_len, list_any, told, is_other, other_byte}
+use Rattle.clfs_base.proofs.Words.{◌≡◌, ℕ, zero, suc, ◌+◌, ◌-◌, ◌*◌, ◌<◌, ◌≤◌, Bool, true, false, not, ◌||◌, eqb, ltb, List, [], ◌∷◌, ◌++◌, length, get_or}
+use Rattle.clfs_base.proofs.Words.{take, drop, map, replicate, None, refl, sym, ◌∙◌, ap, subst, arith, ⊎_elim, length-append, length-drop, append_assoc}
+use Rattle.clfs_base.proofs.Words.{take-append-drop, cases_eq, nat_tests, length-replicate, get_or-replicate, get_or-drop, get_or-take, length-take-le}
+use Rattle.clfs_base.proofs.Words.{drop_at, drop-drop, ext_get_or, append-nil, map-range_with_len_more, flat_map, range_with_len, list_any, told, is_other}
+use Rattle.clfs_base.proofs.Words.{other_byte}
 use Rattle.std.proofs.lemmas.List.{get_or_append_left}
 use Rattle.std.proofs.lemmas.List.Concat.{flat_map-append}
 use Rattle.clfs_base.proofs.Searches.{none_found, each_none}

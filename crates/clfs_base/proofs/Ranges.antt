@@ -1,7 +1,7 @@
 -- What the table's checks say of the numbers in the fields.
-use Rattle.clfs_base.proofs.Words.{◌≡◌, ◌≢◌, inl, inr, ℕ, ◌+◌, ◌-◌, ◌*◌, ◌^◌, ◌≤◌, Bool, true, false, not, ◌||◌, ◌&&◌, eqb, leb, ltb, cond, List, [], ◌∷◌,
-    length, find, Option, Some, None, refl, ◌∙◌, ap, arith, cases_eq, nat_tests, option_map, most_containers, Field, Layout, Numbers, fields, most_minimum,
-    most_tail, most_dedicated, IsPolicy, is_wrong_field, wrong_field}
+use Rattle.clfs_base.proofs.Words.{◌≡◌, ◌≢◌, inl, inr, ℕ, ◌+◌, ◌-◌, ◌*◌, ◌^◌, ◌≤◌, Bool, true, false, not, ◌||◌, ◌&&◌, eqb, leb, ltb, cond, List, [], ◌∷◌}
+use Rattle.clfs_base.proofs.Words.{length, find, Option, Some, None, refl, ◌∙◌, ap, arith, cases_eq, nat_tests, option_map, most_containers, Field, Layout}
+use Rattle.clfs_base.proofs.Words.{Numbers, fields, most_minimum, most_tail, most_dedicated, IsPolicy, is_wrong_field, wrong_field}
 use Rattle.clfs_lsn.specs.Limits.{most_block_sectors, most_container_sectors}
 use Rattle.clfs_base.specs.Layout.{most_listed}
 

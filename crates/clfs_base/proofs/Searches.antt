@@ -1,6 +1,6 @@
 -- The first that is found, counting on.
-use Rattle.clfs_base.proofs.Words.{◌≡◌, ℕ, zero, suc, ◌+◌, ◌-◌, ◌<◌, ◌≤◌, Option, Some, None, refl, sym, ◌∙◌, ap, ⊎_elim, arith, cases_eq, option_or,
-    first_some}
+use Rattle.clfs_base.proofs.Words.{◌≡◌, ℕ, zero, suc, ◌+◌, ◌-◌, ◌<◌, ◌≤◌, Option, Some, None, refl, sym, ◌∙◌, ap, ⊎_elim, arith, cases_eq, option_or}
+use Rattle.clfs_base.proofs.Words.{first_some}
 
 -- a check that passes, and one that doesn't
 pub goes_on : (one rest x : Option ℕ) → one ≡ None → rest ≡ x → option_or one rest ≡ x

@@ -1,10 +1,11 @@
 -- What is spelled is read: no byte of it is wrong, and it stands for the image.
-use Rattle.clfs_base.proofs.Words.{◌≡◌, ◌≢◌, inl, inr, ℕ, ◌+◌, ◌-◌, ◌*◌, ◌^◌, ◌<◌, ◌≤◌, Bool, true, false, not, ◌||◌, ◌&&◌, eqb, leb, ltb, List, [], ◌∷◌, ◌++◌,
-    length, get_or, take, drop, replicate, None, refl, sym, ◌∙◌, ap, subst, arith, length-append, append_assoc, mul-le-mul_left, nat_tests, take_at,
-    ext_get_or, length-map-range_with_len, get_or-map-range_with_len, bytes_eq-Decides, flat_map, list_any, list_all, bytes_eq, little_bytes, little_number,
-    BaseImage, Row, Layout, Numbers, number_at, numbers_of, fields, row_place, file_place, most_minimum, most_tail, is_name_byte, IsName, AreFiles, AreRows,
-    IsImageOf, IsPolicy, row_in, flag, numbers_for, filled, field_bytes, number_bytes, spelled_row, spelled_as, other_byte, file_in, files_in, wrong_file,
-    name_len, name_in, is_taken, row_of, rows_of, row_fault, wrong_row, slot_fault, image_with, image_of}
+use Rattle.clfs_base.proofs.Words.{◌≡◌, ◌≢◌, inl, inr, ℕ, ◌+◌, ◌-◌, ◌*◌, ◌^◌, ◌<◌, ◌≤◌, Bool, true, false, not, ◌||◌, ◌&&◌, eqb, leb, ltb, List, [], ◌∷◌}
+use Rattle.clfs_base.proofs.Words.{◌++◌, length, get_or, take, drop, replicate, None, refl, sym, ◌∙◌, ap, subst, arith, length-append, append_assoc}
+use Rattle.clfs_base.proofs.Words.{mul-le-mul_left, nat_tests, take_at, ext_get_or, length-map-range_with_len, get_or-map-range_with_len, bytes_eq-Decides}
+use Rattle.clfs_base.proofs.Words.{flat_map, list_any, list_all, bytes_eq, little_bytes, little_number, BaseImage, Row, Layout, Numbers, number_at}
+use Rattle.clfs_base.proofs.Words.{numbers_of, fields, row_place, file_place, most_minimum, most_tail, is_name_byte, IsName, AreFiles, AreRows, IsImageOf}
+use Rattle.clfs_base.proofs.Words.{IsPolicy, row_in, flag, numbers_for, filled, field_bytes, number_bytes, spelled_row, spelled_as, other_byte, file_in}
+use Rattle.clfs_base.proofs.Words.{files_in, wrong_file, name_len, name_in, is_taken, row_of, rows_of, row_fault, wrong_row, slot_fault, image_with, image_of}
 use Rattle.std.specs.Bool.{Decides}
 use Rattle.byteorder.specs.Numbers.{little_number-reads_back}
 use Rattle.clfs_base.specs.Checks.{is_short, is_wrong_length, is_wrong_name}

@@ -1,6 +1,6 @@
 -- The table of the fields: each field stands after the one before it.
-use Rattle.clfs_base.proofs.Words.{◌≡◌, ℕ, zero, suc, ◌+◌, ◌-◌, ◌≤◌, ◌<◌, Bool, true, false, ◌&&◌, eqb, leb, List, [], ◌∷◌, length, get_or, take, drop, ◌++◌,
-    refl, ◌∙◌, ap, arith, length-append, nat_tests, flat_map, Field, Layout, Numbers, fields, filled, field_bytes}
+use Rattle.clfs_base.proofs.Words.{◌≡◌, ℕ, zero, suc, ◌+◌, ◌-◌, ◌≤◌, ◌<◌, Bool, true, false, ◌&&◌, eqb, leb, List, [], ◌∷◌, length, get_or, take, drop, ◌++◌}
+use Rattle.clfs_base.proofs.Words.{refl, ◌∙◌, ap, arith, length-append, nat_tests, flat_map, Field, Layout, Numbers, fields, filled, field_bytes}
 use Rattle.clfs_base.proofs.Filling.{length-low, put_more}
 
 abbrev pub no_field : Field

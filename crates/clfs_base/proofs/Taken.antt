@@ -1,11 +1,12 @@
 -- What a slot without a wrong byte spells: the image that is read, which is one that there may be.
-use Rattle.clfs_base.proofs.Words.{◌≡◌, ◌≢◌, inl, inr, ℕ, ◌+◌, ◌-◌, ◌*◌, ◌%◌, ◌^◌, ◌<◌, ◌≤◌, Bool, true, false, not, ◌||◌, ◌&&◌, eqb, leb, ltb, cond, List, [],
-    ◌∷◌, ◌++◌, length, get_or, take, drop, replicate, None, refl, sym, ◌∙◌, ap, subst, arith, length-drop, append_assoc, take-append-drop, mul-le-mul_left,
-    cases_lt, nat_tests, length-take, length-take-le, drop_more, drop-drop, get_or-take, get_or-drop, length-map-range_with_len, get_or-map-range_with_len,
-    bytes_eq-Decides, flat_map, list_any, list_all, bytes_eq, little_bytes, little_number, most_containers, Row, Layout, Numbers, number_at, numbers_of,
-    fields, row_place, file_place, most_tail, most_dedicated, is_name_byte, IsShape, IsName, AreFiles, AreRows, IsImageOf, row_in, flag, numbers_for, filled,
-    field_bytes, number_bytes, spelled_row, spelled_as, file_in, files_in, wrong_file, name_len, name_in, is_taken, row_of, rows_of, row_fault, wrong_row,
-    slot_fault, image_of}
+use Rattle.clfs_base.proofs.Words.{◌≡◌, ◌≢◌, inl, inr, ℕ, ◌+◌, ◌-◌, ◌*◌, ◌%◌, ◌^◌, ◌<◌, ◌≤◌, Bool, true, false, not, ◌||◌, ◌&&◌, eqb, leb, ltb, cond, List}
+use Rattle.clfs_base.proofs.Words.{[], ◌∷◌, ◌++◌, length, get_or, take, drop, replicate, None, refl, sym, ◌∙◌, ap, subst, arith, length-drop, append_assoc}
+use Rattle.clfs_base.proofs.Words.{take-append-drop, mul-le-mul_left, cases_lt, nat_tests, length-take, length-take-le, drop_more, drop-drop, get_or-take}
+use Rattle.clfs_base.proofs.Words.{get_or-drop, length-map-range_with_len, get_or-map-range_with_len, bytes_eq-Decides, flat_map, list_any, list_all}
+use Rattle.clfs_base.proofs.Words.{bytes_eq, little_bytes, little_number, most_containers, Row, Layout, Numbers, number_at, numbers_of, fields, row_place}
+use Rattle.clfs_base.proofs.Words.{file_place, most_tail, most_dedicated, is_name_byte, IsShape, IsName, AreFiles, AreRows, IsImageOf, row_in, flag}
+use Rattle.clfs_base.proofs.Words.{numbers_for, filled, field_bytes, number_bytes, spelled_row, spelled_as, file_in, files_in, wrong_file, name_len, name_in}
+use Rattle.clfs_base.proofs.Words.{is_taken, row_of, rows_of, row_fault, wrong_row, slot_fault, image_of}
 use Rattle.std.proofs.lemmas.List.{get_or_past}
 use Rattle.std.proofs.lemmas.Nat.{le_bytes_2, le_bytes_4, le_bytes_8}
 use Rattle.std.specs.Int.{w16, w32, w64, from_le_bytes}

@@ -1,7 +1,7 @@
 -- What a slot that is right tells without its image.
-use Rattle.clfs_base.proofs.Words.{◌≡◌, ℕ, ◌<◌, ◌≤◌, Bool, true, false, cond, leb, ltb, List, length, map, Option, Some, None, slice_get, refl, sym, ◌∙◌, ap,
-    arith, ⊎_elim, ◌&&◌, cases_lt, length-map-range_with_len, get_or-map-range_with_len, range_with_len, Layout, numbers_of, fields, most_dedicated,
-    numbers_for, file_in, row_of, slot_fault, image_of}
+use Rattle.clfs_base.proofs.Words.{◌≡◌, ℕ, ◌<◌, ◌≤◌, Bool, true, false, cond, leb, ltb, List, length, map, Option, Some, None, slice_get, refl, sym, ◌∙◌, ap}
+use Rattle.clfs_base.proofs.Words.{arith, ⊎_elim, ◌&&◌, cases_lt, length-map-range_with_len, get_or-map-range_with_len, range_with_len, Layout, numbers_of}
+use Rattle.clfs_base.proofs.Words.{fields, most_dedicated, numbers_for, file_in, row_of, slot_fault, image_of}
 use Rattle.std.proofs.lemmas.Bool.{lt-ltb, le-ltb}
 use Rattle.std.proofs.lemmas.Option.{slice_get-get_or, slice_get_past}
 use Rattle.clfs_base.proofs.Searches.{both_none}

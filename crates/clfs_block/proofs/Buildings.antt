@@ -1,6 +1,6 @@
 -- What a builder's fields say of what it shows.
-use Rattle.clfs_block.proofs.Words.{◌≡◌, ℕ, ◌≤◌, Bool, true, false, cond, List, ◌++◌, length, drop, Option, Some, None, refl, ◌∙◌, ap, arith, length-drop,
-    drop-append-le, payload_of, used_bytes, Building}
+use Rattle.clfs_block.proofs.Words.{◌≡◌, ℕ, ◌≤◌, Bool, true, false, cond, List, ◌++◌, length, drop, Option, Some, None, refl, ◌∙◌, ap, arith, length-drop}
+use Rattle.clfs_block.proofs.Words.{drop-append-le, payload_of, used_bytes, Building}
 use Rattle.clfs_block.proofs.Frames.{length-payload_of}
 
 pub content_size : (used : ℕ) (buffer content : List ℕ) → 16 ≤ used → drop 16 (payload_of used buffer) ≡ content → used_bytes content ≡ used

@@ -1,7 +1,7 @@
 -- Where the payload of a block stands.
-use Rattle.clfs_block.proofs.Words.{◌≡◌, ⊎_elim, ℕ, ◌+◌, ◌-◌, ◌*◌, ◌%◌, ◌<◌, ◌≤◌, List, ◌++◌, length, get_or, take, drop, refl, sym, ◌∙◌, ap, arith,
-    length-append, length-drop, ext_get_or, length-take-le, get_or-take, get_or-drop, get_or_append_left, get_or-append_right, cases_lt, place_of, payload_of,
-    payload_from}
+use Rattle.clfs_block.proofs.Words.{◌≡◌, ⊎_elim, ℕ, ◌+◌, ◌-◌, ◌*◌, ◌%◌, ◌<◌, ◌≤◌, List, ◌++◌, length, get_or, take, drop, refl, sym, ◌∙◌, ap, arith}
+use Rattle.clfs_block.proofs.Words.{length-append, length-drop, ext_get_or, length-take-le, get_or-take, get_or-drop, get_or_append_left, get_or-append_right}
+use Rattle.clfs_block.proofs.Words.{cases_lt, place_of, payload_of, payload_from}
 use Rattle.std.proofs.lemmas.List.FromFn.{length-map-range_with_len, get_or-map-range_with_len}
 
 pub length-payload_of : (count : ℕ) (block : List ℕ) → length (payload_of count block) ≡ count

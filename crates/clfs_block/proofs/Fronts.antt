@@ -1,8 +1,9 @@
 -- A block and a front of it that has all that is judged.
-use Rattle.clfs_block.proofs.Words.{◌≡◌, ⊎_elim, ℕ, zero, suc, ◌+◌, ◌-◌, ◌*◌, ◌<◌, ◌≤◌, Bool, cond, eqb, ltb, not, List, length, get_or, take, drop, Option,
-    Some, None, Result, Ok, Err, refl, sym, ◌∙◌, ap, arith, length-take-le, get_or-take, take_all, le-ltb, ne_eqb, cases_lt, little_number, sectors,
-    unless_wrong, pass_guard, Shape, place_of, payload_of, address, address_in, head_of, is_wrong_count, is_wrong_records, head_fault, first_failing,
-    address_place, payload_place, sectors_at, frame_at, rest_at, BlockHead, BlockRefusal, BadByte, Closed}
+use Rattle.clfs_block.proofs.Words.{◌≡◌, ⊎_elim, ℕ, zero, suc, ◌+◌, ◌-◌, ◌*◌, ◌<◌, ◌≤◌, Bool, cond, eqb, ltb, not, List, length, get_or, take, drop, Option}
+use Rattle.clfs_block.proofs.Words.{Some, None, Result, Ok, Err, refl, sym, ◌∙◌, ap, arith, length-take-le, get_or-take, take_all, le-ltb, ne_eqb, cases_lt}
+use Rattle.clfs_block.proofs.Words.{little_number, sectors, unless_wrong, pass_guard, Shape, place_of, payload_of, address, address_in, head_of}
+use Rattle.clfs_block.proofs.Words.{is_wrong_count, is_wrong_records, head_fault, first_failing, address_place, payload_place, sectors_at, frame_at, rest_at}
+use Rattle.clfs_block.proofs.Words.{BlockHead, BlockRefusal, BadByte, Closed}
 use Rattle.std.proofs.Common.{◌⊎◌}
 use Rattle.clfs_block.specs.Checks.{IsEnough}
 use Rattle.clfs_block.proofs.Frames.{length-payload_of, get_or-payload_of, payload_is, place_within}

@@ -1,6 +1,6 @@
 -- The gate of a block, and what the block says in its first bytes.
-use Rattle.clfs_block.proofs.Words.{◌≡◌, ℕ, zero, suc, ◌+◌, ◌*◌, ◌^◌, ◌<◌, ◌≤◌, List, ◌∷◌, get_or, drop, refl, sym, ◌∙◌, ap, arith, length-drop, get_or-drop,
-    sectors, place_of, used_bytes, used_payload, SpellsBlock}
+use Rattle.clfs_block.proofs.Words.{◌≡◌, ℕ, zero, suc, ◌+◌, ◌*◌, ◌^◌, ◌<◌, ◌≤◌, List, ◌∷◌, get_or, drop, refl, sym, ◌∙◌, ap, arith, length-drop, get_or-drop}
+use Rattle.clfs_block.proofs.Words.{sectors, place_of, used_bytes, used_payload, SpellsBlock}
 use Rattle.clfs_block.proofs.Frames.{get_or-payload_of, payload_is}
 use Rattle.clfs_block.proofs.Splices.{same_address}
 

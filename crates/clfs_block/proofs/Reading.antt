@@ -1,10 +1,11 @@
 -- What is read is spelled so, and what is spelled so is read.
-use Rattle.clfs_block.proofs.Words.{◌≡◌, ℕ, ◌+◌, ◌-◌, ◌*◌, ◌/◌, ◌%◌, ◌^◌, ◌<◌, ◌≤◌, false, cond, eqb, ltb, not, ◌||◌, List, [], ◌∷◌, ◌++◌, length, get_or,
-    take, drop, Option, Some, None, Result, Ok, Err, IfOk, refl, sym, ◌∙◌, ap, subst, arith, length-append, length-drop, take-append-drop, length-take-le,
-    get_or-take, get_or-drop, get_or_append_left, ltb-false, le-ltb, eq-eqb, ne_eqb, nat_tests, little_number, sectors, Shape, place_of, payload_of, address,
-    address_in, head_bytes, used_bytes, used_payload, AreBytes, SpellsBlock, head_of, is_wrong_count, is_wrong_records, head_fault, address_place,
-    payload_place, unless_wrong, unless_ok, no_fault, pass_check, guard_ok, pass_guard, sectors_at, frame_at, rest_at, head_for, IsFramed, BlockHead,
-    BlockRefusal, BadByte, Closed}
+use Rattle.clfs_block.proofs.Words.{◌≡◌, ℕ, ◌+◌, ◌-◌, ◌*◌, ◌/◌, ◌%◌, ◌^◌, ◌<◌, ◌≤◌, false, cond, eqb, ltb, not, ◌||◌, List, [], ◌∷◌, ◌++◌, length, get_or}
+use Rattle.clfs_block.proofs.Words.{take, drop, Option, Some, None, Result, Ok, Err, IfOk, refl, sym, ◌∙◌, ap, subst, arith, length-append, length-drop}
+use Rattle.clfs_block.proofs.Words.{take-append-drop, length-take-le, get_or-take, get_or-drop, get_or_append_left, ltb-false, le-ltb, eq-eqb, ne_eqb}
+use Rattle.clfs_block.proofs.Words.{nat_tests, little_number, sectors, Shape, place_of, payload_of, address, address_in, head_bytes, used_bytes, used_payload}
+use Rattle.clfs_block.proofs.Words.{AreBytes, SpellsBlock, head_of, is_wrong_count, is_wrong_records, head_fault, address_place, payload_place, unless_wrong}
+use Rattle.clfs_block.proofs.Words.{unless_ok, no_fault, pass_check, guard_ok, pass_guard, sectors_at, frame_at, rest_at, head_for, IsFramed, BlockHead}
+use Rattle.clfs_block.proofs.Words.{BlockRefusal, BadByte, Closed}
 use Rattle.std.proofs.lemmas.List.FromFn.{take-map-range_with_len}
 use Rattle.std.proofs.lemmas.Bool.{eqb-true, not-false, or_parts}
 use Rattle.clfs_block.specs.Checks.{left_from, wrong_sector, other_byte}

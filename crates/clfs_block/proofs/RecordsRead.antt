@@ -1,7 +1,8 @@
 -- What is known of the records that are read of a block.
-use Rattle.clfs_block.proofs.Words.{◌≡◌, ℕ, zero, suc, ◌+◌, ◌*◌, ◌≤◌, Bool, true, false, cond, eqb, ltb, leb, not, ◌||◌, List, [], ◌∷◌, length, take, drop,
-    Option, Some, None, Result, Ok, Err, refl, sym, ◌∙◌, ap, subst, arith, length-drop, length-take, ltb-false, nat_tests, unless_wrong, unless_ok, no_fault,
-    pass_check, guard_ok, size, Shape, payload_of, little_number, AreJudgedAlone, head_of, frame_at, rest_at, block_same, BlockHead, BlockRefusal, BadByte}
+use Rattle.clfs_block.proofs.Words.{◌≡◌, ℕ, zero, suc, ◌+◌, ◌*◌, ◌≤◌, Bool, true, false, cond, eqb, ltb, leb, not, ◌||◌, List, [], ◌∷◌, length, take, drop}
+use Rattle.clfs_block.proofs.Words.{Option, Some, None, Result, Ok, Err, refl, sym, ◌∙◌, ap, subst, arith, length-drop, length-take, ltb-false, nat_tests}
+use Rattle.clfs_block.proofs.Words.{unless_wrong, unless_ok, no_fault, pass_check, guard_ok, size, Shape, payload_of, little_number, AreJudgedAlone, head_of}
+use Rattle.clfs_block.proofs.Words.{frame_at, rest_at, block_same, BlockHead, BlockRefusal, BadByte}
 use Rattle.std.proofs.Common.{inl}
 use Rattle.std.specs.Prelude.{slice_get, if◌then◌else◌}
 use Rattle.std.proofs.lemmas.Option.{slice_get_within}

@@ -1,7 +1,7 @@
 -- A buffer whose payload stands at its places becomes a block once header, zeros and addresses are written.
-use Rattle.clfs_block.proofs.Words.{◌≡◌, ⊎_elim, ℕ, ◌+◌, ◌-◌, ◌*◌, ◌%◌, ◌<◌, ◌≤◌, List, ◌++◌, length, get_or, drop, replicate, refl, sym, ◌∙◌, ap, arith,
-    length-append, length-drop, get_or-drop, get_or_append_left, get_or-append_right, drop_at, cases_lt, sectors, place_of, payload_of, address, address_in,
-    head_bytes, used_bytes, SpellsBlock}
+use Rattle.clfs_block.proofs.Words.{◌≡◌, ⊎_elim, ℕ, ◌+◌, ◌-◌, ◌*◌, ◌%◌, ◌<◌, ◌≤◌, List, ◌++◌, length, get_or, drop, replicate, refl, sym, ◌∙◌, ap, arith}
+use Rattle.clfs_block.proofs.Words.{length-append, length-drop, get_or-drop, get_or_append_left, get_or-append_right, drop_at, cases_lt, sectors, place_of}
+use Rattle.clfs_block.proofs.Words.{payload_of, address, address_in, head_bytes, used_bytes, SpellsBlock}
 use Rattle.std.proofs.lemmas.List.{get_or-replicate, get_or_past, length-replicate}
 use Rattle.clfs_block.proofs.Frames.{length-payload_of, get_or-payload_of, payload_is, place_below, place_above, place_in_payload, place_within}
 

@@ -1,6 +1,7 @@
 -- The first number that fails a test.
-use Rattle.clfs_block.proofs.Words.{◌≡◌, ℕ, zero, suc, ◌+◌, ◌-◌, ◌*◌, ◌<◌, ◌≤◌, Bool, true, false, cond, eqb, List, get_or, Option, Some, None, Result, Ok,
-    refl, sym, ◌∙◌, ap, arith, ⊎_elim, cases_eq, place_of, first_failing, payload_place, rest_at, unless_wrong, sectors, BlockHead, BlockRefusal, BadByte}
+use Rattle.clfs_block.proofs.Words.{◌≡◌, ℕ, zero, suc, ◌+◌, ◌-◌, ◌*◌, ◌<◌, ◌≤◌, Bool, true, false, cond, eqb, List, get_or, Option, Some, None, Result, Ok}
+use Rattle.clfs_block.proofs.Words.{refl, sym, ◌∙◌, ap, arith, ⊎_elim, cases_eq, place_of, first_failing, payload_place, rest_at, unless_wrong, sectors}
+use Rattle.clfs_block.proofs.Words.{BlockHead, BlockRefusal, BadByte}
 
 abbrev answered : BlockHead → Result BlockHead BlockRefusal
 answered head = Ok head

@@ -1,6 +1,6 @@
 -- A block has one spelling.
-use Rattle.clfs_block.proofs.Words.{◌≡◌, ⊎_elim, ℕ, zero, suc, ◌+◌, ◌-◌, ◌*◌, ◌/◌, ◌%◌, ◌<◌, ◌≤◌, List, get_or, drop, sym, ◌∙◌, ap, arith, ext_get_or,
-    get_or-drop, cases_lt, cases_eq, little_from, sectors, place_of, address_in, used_bytes, AreBytes, SpellsBlock}
+use Rattle.clfs_block.proofs.Words.{◌≡◌, ⊎_elim, ℕ, zero, suc, ◌+◌, ◌-◌, ◌*◌, ◌/◌, ◌%◌, ◌<◌, ◌≤◌, List, get_or, drop, sym, ◌∙◌, ap, arith, ext_get_or}
+use Rattle.clfs_block.proofs.Words.{get_or-drop, cases_lt, cases_eq, little_from, sectors, place_of, address_in, used_bytes, AreBytes, SpellsBlock}
 use Rattle.clfs_block.proofs.Frames.{get_or-payload_of}
 
 -- numbers are equal in their lowest byte and in what is above it

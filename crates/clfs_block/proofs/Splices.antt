@@ -1,7 +1,7 @@
 -- Eight bytes that are written in their place.
-use Rattle.clfs_block.proofs.Words.{◌≡◌, ℕ, zero, suc, ◌+◌, ◌-◌, ◌*◌, ◌^◌, ◌<◌, ◌≤◌, List, ◌++◌, length, get_or, take, drop, refl, sym, ◌∙◌, ap, arith,
-    append_assoc, length-append, length-drop, length-take-le, get_or-take, get_or-drop, get_or_append_left, get_or-append_right, drop_at, take-append-le,
-    little_number, little_from, address_in}
+use Rattle.clfs_block.proofs.Words.{◌≡◌, ℕ, zero, suc, ◌+◌, ◌-◌, ◌*◌, ◌^◌, ◌<◌, ◌≤◌, List, ◌++◌, length, get_or, take, drop, refl, sym, ◌∙◌, ap, arith}
+use Rattle.clfs_block.proofs.Words.{append_assoc, length-append, length-drop, length-take-le, get_or-take, get_or-drop, get_or_append_left}
+use Rattle.clfs_block.proofs.Words.{get_or-append_right, drop_at, take-append-le, little_number, little_from, address_in}
 use Rattle.std.proofs.lemmas.List.{take-take}
 use Rattle.byteorder.specs.Endian.{little_bytes}
 use Rattle.byteorder.specs.Numbers.{little_number-reads_back}

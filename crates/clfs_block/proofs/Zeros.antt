@@ -1,6 +1,6 @@
 -- Bytes that are all 0.
-use Rattle.clfs_block.proofs.Words.{◌≡◌, ℕ, zero, suc, ◌+◌, ◌-◌, ◌<◌, ◌≤◌, true, ◌&&◌, eqb, List, length, take, drop, get_or, None, sym, ◌∙◌, ap, arith, refl,
-    ne_eqb, get_or-take, get_or-drop, length-take-le, list_all, first_failing}
+use Rattle.clfs_block.proofs.Words.{◌≡◌, ℕ, zero, suc, ◌+◌, ◌-◌, ◌<◌, ◌≤◌, true, ◌&&◌, eqb, List, length, take, drop, get_or, None, sym, ◌∙◌, ap, arith, refl}
+use Rattle.clfs_block.proofs.Words.{ne_eqb, get_or-take, get_or-drop, length-take-le, list_all, first_failing}
 use Rattle.std.proofs.Common.{bit_or}
 use Rattle.std.proofs.lemmas.List.{length-drop}
 use Rattle.std.proofs.lemmas.List.Folds.{list_all_more}

@@ -1,6 +1,6 @@
 -- What a change of the table of blocks leaves in it.
-use Rattle.clfs_buffers.proofs.Words.{◌≡◌, ℕ, zero, suc, ◌-◌, List, [], ◌∷◌, take, Option, Some, None, refl, sym, ◌∙◌, ap, subst, arith, slice_get, option_map,
-    lru_cache, LogEntry, BlockPlace, first_lsn, HaveLsns, Blocks, is_same_place, kept_at}
+use Rattle.clfs_buffers.proofs.Words.{◌≡◌, ℕ, zero, suc, ◌-◌, List, [], ◌∷◌, take, Option, Some, None, refl, sym, ◌∙◌, ap, subst, arith, slice_get}
+use Rattle.clfs_buffers.proofs.Words.{option_map, lru_cache, LogEntry, BlockPlace, first_lsn, HaveLsns, Blocks, is_same_place, kept_at}
 use Rattle.std.proofs.Common.{◌⊎◌, inl, inr, ⊎_elim, Bool, true, false, cond}
 use Rattle.std.specs.Prelude.{Contains, IsSome}
 use Rattle.std.specs.Map.{lookup, lookup_entry, remove_entry}

@@ -1,6 +1,6 @@
 -- A block that is read of the first bytes that are there is the one that is read of all of them.
-use Rattle.clfs_buffers.proofs.Words.{◌≡◌, ℕ, ◌*◌, ◌≤◌, List, take, Result, Ok, Err, sym, ◌∙◌, ap, arith, length-take, refl, sector_bytes, LogEntry, Shape,
-    frame_at, told_as, block_records, block_refused, BlockHead, BlockRefusal, refused_at}
+use Rattle.clfs_buffers.proofs.Words.{◌≡◌, ℕ, ◌*◌, ◌≤◌, List, take, Result, Ok, Err, sym, ◌∙◌, ap, arith, length-take, refl, sector_bytes, LogEntry, Shape}
+use Rattle.clfs_buffers.proofs.Words.{frame_at, told_as, block_records, block_refused, BlockHead, BlockRefusal, refused_at}
 use Rattle.std.proofs.lemmas.List.{take-take}
 use Rattle.clfs_block.specs.Checks.{head_of}
 use Rattle.clfs_block.specs.Judging.{AreReadAsWritten}

@@ -1,6 +1,7 @@
 -- The records of a block by their positions in it.
-use Rattle.clfs_buffers.proofs.Words.{◌≡◌, ℕ, zero, suc, ◌+◌, ◌≤◌, List, [], ◌∷◌, ◌++◌, length, get_or, drop, Some, None, Result, Ok, Err, refl, sym, ◌∙◌, ap,
-    subst, arith, slice_get, size, record_at, entry_of, header_of, LogEntry, records_at, IsStart, AreStarts, HaveLsns, wrong_in}
+use Rattle.clfs_buffers.proofs.Words.{◌≡◌, ℕ, zero, suc, ◌+◌, ◌≤◌, List, [], ◌∷◌, ◌++◌, length, get_or, drop, Some, None, Result, Ok, Err, refl, sym, ◌∙◌, ap}
+use Rattle.clfs_buffers.proofs.Words.{subst, arith, slice_get, size, record_at, entry_of, header_of, LogEntry, records_at, IsStart, AreStarts, HaveLsns}
+use Rattle.clfs_buffers.proofs.Words.{wrong_in}
 use Rattle.std.proofs.Common.{◌<◌}
 use Rattle.std.proofs.lemmas.Bool.{ltb-false}
 use Rattle.std.proofs.lemmas.Option.{slice_get_past}

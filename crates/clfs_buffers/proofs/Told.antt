@@ -1,6 +1,6 @@
 -- Of which bytes damage is told.
-use Rattle.clfs_buffers.proofs.Words.{◌≡◌, ◌≤◌, ◌*◌, ℕ, List, length, take, arith, Option, Some, None, Result, Ok, Err, ap, sym, ok_or, sector_bytes, LogEntry,
-    Shape, told_as, block_records, BlockRefusal, Closed, BadByte, NoMemory, RefusesAs, refused_at, TellsBlock}
+use Rattle.clfs_buffers.proofs.Words.{◌≡◌, ◌≤◌, ◌*◌, ℕ, List, length, take, arith, Option, Some, None, Result, Ok, Err, ap, sym, ok_or, sector_bytes}
+use Rattle.clfs_buffers.proofs.Words.{LogEntry, Shape, told_as, block_records, BlockRefusal, Closed, BadByte, NoMemory, RefusesAs, refused_at, TellsBlock}
 use Rattle.std.proofs.Common.{length-take}
 use Rattle.clfs_buffers.specs.Reading.{as_read}
 

@@ -1,14 +1,14 @@
 -- What a tag and a change say of the action that they spell.
-use Rattle.clfs_cells.proofs.Words.{◌≡◌, ℕ, ◌<◌, ◌≤◌, ◌^◌, ◌+◌, Bool, true, false, if◌then◌else◌, List, [], ◌∷◌, ◌++◌, length, drop, get_or, Option, Some,
-    None, refl, sym, ap, subst, ◌∙◌, arith, length-drop, ◌==◌, nat_lt, option_map, drop-drop, drop_all, little_number, little_bytes, little_from-lt, Change,
-    TxnRecord}
+use Rattle.clfs_cells.proofs.Words.{◌≡◌, ℕ, ◌<◌, ◌≤◌, ◌^◌, ◌+◌, Bool, true, false, if◌then◌else◌, List, [], ◌∷◌, ◌++◌, length, drop, get_or, Option, Some}
+use Rattle.clfs_cells.proofs.Words.{None, refl, sym, ap, subst, ◌∙◌, arith, length-drop, ◌==◌, nat_lt, option_map, drop-drop, drop_all, little_number}
+use Rattle.clfs_cells.proofs.Words.{little_bytes, little_from-lt, Change, TxnRecord}
 use Rattle.std.proofs.Common.{◌&&◌}
 use Rattle.std.proofs.lemmas.Bool.Decides.{nat_tests}
 use Rattle.std.proofs.lemmas.List.{drop_more}
 use Rattle.clfs_cells.specs.declared.row.Action.{Action}
 use Rattle.clfs_cells.specs.declared.row.Action.TheVariants.{Set, Compensation, Commit, RolledBack}
-use Rattle.clfs_cells.specs.Layout.{IsAction, IsTxnRecord, is_blank, blank_change, tag_of, change_in, change_at, action_of, txn_record, txn_record_of,
-    txn_bytes}
+use Rattle.clfs_cells.specs.Layout.{IsAction, IsTxnRecord, is_blank, blank_change, tag_of, change_in, change_at, action_of, txn_record, txn_record_of}
+use Rattle.clfs_cells.specs.Layout.{txn_bytes}
 use Rattle.clfs_cells.proofs.Numbers.{IsBytes, IsBytes-drop, two, four, eight}
 
 both_hold : (a b : Bool) → (a && b) ≡ true → (a ≡ true) × (b ≡ true)

@@ -1,7 +1,7 @@
 -- Numbers that stand in bytes one after the other, and the bytes that spell them.
-use Rattle.clfs_cells.proofs.Words.{◌≡◌, ℕ, zero, suc, ◌+◌, ◌*◌, ◌^◌, ◌<◌, ◌≤◌, List, [], ◌∷◌, ◌++◌, length, take, drop, get_or, refl, sym, ap, ◌∙◌, arith,
-    inl, inr, length-drop, take-append-drop, flat_map, length-take-le, length-take, get_or-take, drop-drop, little_number, little_bytes, IsRead,
-    little_number-reads_back, little_from-lt, numbers_in}
+use Rattle.clfs_cells.proofs.Words.{◌≡◌, ℕ, zero, suc, ◌+◌, ◌*◌, ◌^◌, ◌<◌, ◌≤◌, List, [], ◌∷◌, ◌++◌, length, take, drop, get_or, refl, sym, ap, ◌∙◌, arith}
+use Rattle.clfs_cells.proofs.Words.{inl, inr, length-drop, take-append-drop, flat_map, length-take-le, length-take, get_or-take, drop-drop, little_number}
+use Rattle.clfs_cells.proofs.Words.{little_bytes, IsRead, little_number-reads_back, little_from-lt, numbers_in}
 use Rattle.std.specs.Int.{w16, w32, w64, from_le_bytes}
 use Rattle.std.proofs.lemmas.Nat.{le_bytes_2, le_bytes_4, le_bytes_8}
 use Rattle.std.proofs.lemmas.List.{get_or-drop, get_or_past, drop-append-le}

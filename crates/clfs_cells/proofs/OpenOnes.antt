@@ -1,7 +1,7 @@
 -- Open transactions by their places: the one that is found, one replaced, one taken out.
-use Rattle.clfs_cells.proofs.Words.{◌≡◌, ℕ, zero, suc, ◌+◌, ◌<◌, ◌≤◌, Bool, false, List, [], ◌∷◌, ◌++◌, length, take, Option, Some, None, find, position,
-    slice_set, slice_index_or, refl, ap, sym, ◌∙◌, arith, inl, inr, map, position_or_len, take-set-lt, cases_Bool, length-take, length-map, change_first,
-    transaction_of, Made, Change, Memory, Transaction, is_numbered, with_one_undone}
+use Rattle.clfs_cells.proofs.Words.{◌≡◌, ℕ, zero, suc, ◌+◌, ◌<◌, ◌≤◌, Bool, false, List, [], ◌∷◌, ◌++◌, length, take, Option, Some, None, find, position}
+use Rattle.clfs_cells.proofs.Words.{slice_set, slice_index_or, refl, ap, sym, ◌∙◌, arith, inl, inr, map, position_or_len, take-set-lt, cases_Bool}
+use Rattle.clfs_cells.proofs.Words.{length-take, length-map, change_first, transaction_of, Made, Change, Memory, Transaction, is_numbered, with_one_undone}
 use Rattle.std.proofs.Common.{◌-◌, remove}
 use Rattle.std.proofs.lemmas.List.{get_or-map, map-set}
 use Rattle.clfs_cells.specs.declared.begun.Transaction.{Transaction as Code}

@@ -1,6 +1,7 @@
 -- The first element of a list that passes a test: where it stands, and what a write to it or its removal makes of the list.
-use Rattle.clfs_cells.proofs.Words.{◌≡◌, ℕ, zero, suc, ◌+◌, ◌<◌, ◌≤◌, if◌then◌else◌, Bool, true, false, List, [], ◌∷◌, length, Some, None, find, position,
-    slice_set, slice_index_or, filter, not, refl, ap, ◌∙◌, arith, inl, inr, map, nat_lt, length-map, position_or_len, cases_Bool, change_first, Made}
+use Rattle.clfs_cells.proofs.Words.{◌≡◌, ℕ, zero, suc, ◌+◌, ◌<◌, ◌≤◌, if◌then◌else◌, Bool, true, false, List, [], ◌∷◌, length, Some, None, find, position}
+use Rattle.clfs_cells.proofs.Words.{slice_set, slice_index_or, filter, not, refl, ap, ◌∙◌, arith, inl, inr, map, nat_lt, length-map, position_or_len}
+use Rattle.clfs_cells.proofs.Words.{cases_Bool, change_first, Made}
 use Rattle.std.specs.List.{prefix_len}
 use Rattle.std.proofs.lemmas.Bool.{ltb-false}
 use Rattle.std.proofs.lemmas.List.Quantifiers.{position-Some}

@@ -1,6 +1,6 @@
 -- A table that is brought up to date record by record.
-use Rattle.clfs_cells.proofs.Words.{◌≡◌, ℕ, suc, ◌+◌, ◌<◌, Bool, refl, sym, ap, ◌∙◌, inl, inr, get_or, List, [], ◌∷◌, ◌++◌, length, take, arith, ◌==◌, ◌&&◌,
-    cases_Bool, append-nil, TxnRecord, last_number, changed, is_committed}
+use Rattle.clfs_cells.proofs.Words.{◌≡◌, ℕ, suc, ◌+◌, ◌<◌, Bool, refl, sym, ap, ◌∙◌, inl, inr, get_or, List, [], ◌∷◌, ◌++◌, length, take, arith, ◌==◌, ◌&&◌}
+use Rattle.clfs_cells.proofs.Words.{cases_Bool, append-nil, TxnRecord, last_number, changed, is_committed}
 use Rattle.std.proofs.Math.Seq.{take-suc as take_suc}
 use Rattle.std.specs.Prelude.{cond, filter, max, if◌then◌else◌, ◌||◌}
 use Rattle.std.proofs.lemmas.List.Elements.{filter_more}

@@ -1,7 +1,7 @@
 -- A restart area's data: the numbers of the cells, and then the last number of a transaction.
-use Rattle.clfs_cells.proofs.Words.{◌≡◌, ℕ, ◌*◌, ◌≤◌, List, [], ◌++◌, length, take, drop, Option, Some, sym, ap, subst, ◌∙◌, arith, length-drop,
-    take-append-drop, flat_map, drop_all, length-take, length-take-le, little_bytes, little_number, IsRead, little_number-reads_back, little_from-lt,
-    numbers_in}
+use Rattle.clfs_cells.proofs.Words.{◌≡◌, ℕ, ◌*◌, ◌≤◌, List, [], ◌++◌, length, take, drop, Option, Some, sym, ap, subst, ◌∙◌, arith, length-drop}
+use Rattle.clfs_cells.proofs.Words.{take-append-drop, flat_map, drop_all, length-take, length-take-le, little_bytes, little_number, IsRead}
+use Rattle.clfs_cells.proofs.Words.{little_number-reads_back, little_from-lt, numbers_in}
 use Rattle.std.proofs.Common.{length-append}
 use Rattle.std.proofs.Common.{append-nil}
 use Rattle.std.proofs.lemmas.Bool.{eq-eqb}
@@ -10,8 +10,8 @@ use borrow.Rule.Slice.PartMut.{put_mid, post_of}
 use Rattle.clfs_cells.specs.declared.checkpoint.Checkpoint.{Checkpoint}
 use Rattle.clfs_cells.specs.Layout.{checkpoint_bytes, checkpoint_of, IsCheckpoint}
 use Rattle.clfs_cells.proofs.Actions.{guarded, equal}
-use Rattle.clfs_cells.proofs.Numbers.{IsBytes, IsBytes-drop, four, read_one_by_one, numbers_in_front, length-numbers_in, numbers_fit, spelled_is_read,
-    length-spelled, read_is_spelled}
+use Rattle.clfs_cells.proofs.Numbers.{IsBytes, IsBytes-drop, four, read_one_by_one, numbers_in_front, length-numbers_in, numbers_fit, spelled_is_read}
+use Rattle.clfs_cells.proofs.Numbers.{length-spelled, read_is_spelled}
 
 -- the two parts of the data, written one after the other
 pub parts_joined : (cells zeros last : List ℕ) (n : ℕ) → length cells ≡ 256 → length zeros ≡ 4

@@ -1,6 +1,6 @@
 -- Taking back one set of a transaction.
-use Rattle.clfs_cells.proofs.Words.{◌≡◌, ℕ, ◌<◌, true, false, List, length, take, Some, None, position, sym, ap, ◌∙◌, slice_get, take-set-lt, get_or-take,
-    Made, Transaction, is_at, with_one_undone}
+use Rattle.clfs_cells.proofs.Words.{◌≡◌, ℕ, ◌<◌, true, false, List, length, take, Some, None, position, sym, ap, ◌∙◌, slice_get, take-set-lt, get_or-take}
+use Rattle.clfs_cells.proofs.Words.{Made, Transaction, is_at, with_one_undone}
 use Rattle.std.specs.Prelude.{slice_set, slice_index_or}
 use Rattle.std.proofs.lemmas.Option.{get_or_from_slice_get, slice_get-get_or}
 use Rattle.clfs_cells.proofs.Places.{stands_at, changed_there, unchanged, far}

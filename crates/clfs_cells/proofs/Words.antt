@@ -1,7 +1,7 @@
 -- The words that the proofs here use, passed on from one place. Declares nothing.
-pub use Rattle.std.proofs.Common.{[], ap, arith, Bool, drop, false, filter, find, get_or, if◌then◌else◌, inl, inr, length, length-drop, List, None, not,
-    Option, position, refl, slice_index_or, slice_set, Some, subst, suc, sym, take, take-append-drop, true, zero, ℕ, ◌*◌, ◌++◌, ◌+◌, ◌<◌, ◌^◌, ◌∙◌, ◌∷◌, ◌≡◌,
-    ◌≤◌}
+pub use Rattle.std.proofs.Common.{[], ap, arith, Bool, drop, false, filter, find, get_or, if◌then◌else◌, inl, inr, length, length-drop, List, None, not}
+pub use Rattle.std.proofs.Common.{Option, position, refl, slice_index_or, slice_set, Some, subst, suc, sym, take, take-append-drop, true, zero, ℕ, ◌*◌, ◌++◌}
+pub use Rattle.std.proofs.Common.{◌+◌, ◌<◌, ◌^◌, ◌∙◌, ◌∷◌, ◌≡◌, ◌≤◌}
 pub use Rattle.std.proofs.Math.Seq.{take-set-lt}
 pub use Rattle.std.proofs.lemmas.Bool.{cases_Bool}
 pub use Rattle.std.proofs.lemmas.List.{append-nil, drop-drop, drop_all, get_or-take, length-map, length-take, length-take-le}

@@ -1,6 +1,6 @@
 -- The records of a stream above an LSN, as reading forward comes to them.
-use Rattle.clfs_cells_laws.proofs.Words.{◌≡◌, ℕ, suc, ◌+◌, ◌<◌, Bool, refl, sym, ap, ◌∙◌, subst, inl, inr, arith, List, [], ◌∷◌, find, filter, map, nat_lt,
-    slice_index, AllByRecursion, cases_Bool, lt-ltb, le-ltb, ltb-true, LogEntry}
+use Rattle.clfs_cells_laws.proofs.Words.{◌≡◌, ℕ, suc, ◌+◌, ◌<◌, Bool, refl, sym, ap, ◌∙◌, subst, inl, inr, arith, List, [], ◌∷◌, find, filter, map, nat_lt}
+use Rattle.clfs_cells_laws.proofs.Words.{slice_index, AllByRecursion, cases_Bool, lt-ltb, le-ltb, ltb-true, LogEntry}
 use Rattle.std.specs.Prelude.{Some, None}
 use Rattle.std.specs.List.Sorted.{IsStrictlyIncreasing}
 

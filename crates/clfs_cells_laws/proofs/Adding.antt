@@ -1,7 +1,8 @@
 -- An append of a transaction's record, and what it leaves of the log.
-use Rattle.clfs_cells_laws.proofs.Words.{◌≡◌, ℕ, ◌-◌, ◌≤◌, Bool, true, false, refl, subst, ap, ◌∙◌, List, [], ◌∷◌, ◌++◌, length, Option, Some, option_map_or,
-    frontier, own, Cursor, LogEntry, Draft, Happened, Reply, Area, State, Outcome, answer, outcome, flushed, appended, next_lsn, plain_record, with_less_held,
-    area_of, Step, Comes, IsReply, IsValid, Action, append_call, txn_bytes, txn_record, Memory, Transaction, IsStoreWith, sectors_held, store_area}
+use Rattle.clfs_cells_laws.proofs.Words.{◌≡◌, ℕ, ◌-◌, ◌≤◌, Bool, true, false, refl, subst, ap, ◌∙◌, List, [], ◌∷◌, ◌++◌, length, Option, Some, option_map_or}
+use Rattle.clfs_cells_laws.proofs.Words.{frontier, own, Cursor, LogEntry, Draft, Happened, Reply, Area, State, Outcome, answer, outcome, flushed, appended}
+use Rattle.clfs_cells_laws.proofs.Words.{next_lsn, plain_record, with_less_held, area_of, Step, Comes, IsReply, IsValid, Action, append_call, txn_bytes}
+use Rattle.clfs_cells_laws.proofs.Words.{txn_record, Memory, Transaction, IsStoreWith, sectors_held, store_area}
 use Rattle.clfs_model.specs.declared.refusal.Refusal.TheVariants as refusals
 use Rattle.clfs_model.specs.declared.reply.Reply.TheVariants as replies
 use Rattle.clfs_cells_laws.proofs.Grown.{Grows}

@@ -1,9 +1,10 @@
 -- Along the calls of a table's store: what is always true of its log, and what a crash leaves in each call of the log.
-use Rattle.clfs_cells_laws.proofs.Words.{◌≡◌, ◌⊎◌, ℕ, ◌≤◌, Bool, true, false, refl, sym, subst, ap, ◌∙◌, inl, inr, List, [], ◌∷◌, Option, Some, None,
-    if◌then◌else◌, find, MatchBool, MatchOption, option_map, option_map_or, LogEntry, Stream, Call, Refusal, Happened, Fine, Reply, Area, State, Outcome,
-    answer, outcome, flushed, live_at, hold_sizes, with_less_held, with_more_held, without_cursor, refusal, stream_number, asks, fine_outcome, grown, own_sum,
-    area_of, change_area, change_first, is_area, log_of, Step, Comes, Goes, IsBroken, takes_memory, IsSurvivor, IsValid, Plan, is_committed, records_after,
-    table, table_name, Along, IsSafe, IsSafeFrom, LeavesEither}
+use Rattle.clfs_cells_laws.proofs.Words.{◌≡◌, ◌⊎◌, ℕ, ◌≤◌, Bool, true, false, refl, sym, subst, ap, ◌∙◌, inl, inr, List, [], ◌∷◌, Option, Some, None}
+use Rattle.clfs_cells_laws.proofs.Words.{if◌then◌else◌, find, MatchBool, MatchOption, option_map, option_map_or, LogEntry, Stream, Call, Refusal, Happened}
+use Rattle.clfs_cells_laws.proofs.Words.{Fine, Reply, Area, State, Outcome, answer, outcome, flushed, live_at, hold_sizes, with_less_held, with_more_held}
+use Rattle.clfs_cells_laws.proofs.Words.{without_cursor, refusal, stream_number, asks, fine_outcome, grown, own_sum, area_of, change_area, change_first}
+use Rattle.clfs_cells_laws.proofs.Words.{is_area, log_of, Step, Comes, Goes, IsBroken, takes_memory, IsSurvivor, IsValid, Plan, is_committed, records_after}
+use Rattle.clfs_cells_laws.proofs.Words.{table, table_name, Along, IsSafe, IsSafeFrom, LeavesEither}
 use Rattle.std.specs.Prelude.{IsTrue}
 use Rattle.clfs_lsn.specs.declared.cursor.Mode.{Mode}
 use Rattle.clfs_model.specs.declared.call.Call.TheVariants as calls

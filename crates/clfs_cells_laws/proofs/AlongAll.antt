@@ -1,7 +1,8 @@
 -- All calls of a store: what a crash leaves in them, and how they end.
-use Rattle.clfs_cells_laws.proofs.Words.{◌≡◌, ◌⊎◌, ℕ, Bool, true, false, refl, sym, subst, inl, inr, List, [], Ok, length, Call, State, bad_line, fine_outcome,
-    areas_of, Survives, IsValid, TxnCall, TxnReply, Answered, TxnStep, txn_plan, unless, LoadStep, load_plan, Plan, ends, never, CarriesOut, Memory, Store,
-    table, Along, EndsSafe, IsSafe, IsSafeLog, LeavesEither, LoadsSafe, table_once, HasArguments, IsStore}
+use Rattle.clfs_cells_laws.proofs.Words.{◌≡◌, ◌⊎◌, ℕ, Bool, true, false, refl, sym, subst, inl, inr, List, [], Ok, length, Call, State, bad_line}
+use Rattle.clfs_cells_laws.proofs.Words.{fine_outcome, areas_of, Survives, IsValid, TxnCall, TxnReply, Answered, TxnStep, txn_plan, unless, LoadStep}
+use Rattle.clfs_cells_laws.proofs.Words.{load_plan, Plan, ends, never, CarriesOut, Memory, Store, table, Along, EndsSafe, IsSafe, IsSafeLog, LeavesEither}
+use Rattle.clfs_cells_laws.proofs.Words.{LoadsSafe, table_once, HasArguments, IsStore}
 use Rattle.clfs_model.specs.declared.refusal.Refusal.TheVariants as refusals
 use Rattle.clfs_cells.specs.declared.asked.TxnCall.TheVariants as asked
 use Rattle.clfs_cells.specs.declared.told.TxnRefusal.TheVariants as denials

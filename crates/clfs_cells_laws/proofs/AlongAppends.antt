@@ -1,9 +1,10 @@
 -- Along a store's calls that append records of a transaction: what each append leaves of the log, and to a crash.
-use Rattle.clfs_cells_laws.proofs.Words.{◌≡◌, ◌⊎◌, ℕ, ◌≤◌, Bool, true, false, refl, sym, subst, ap, ◌∙◌, inl, inr, arith, List, [], ◌∷◌, ◌++◌, length, Option,
-    Some, None, nat_lt, AllByRecursion, option_map_or, cases_Bool, ltb-false, recursion_from_All, frontier, LogEntry, Call, Fine, Reply, Area, State, answer,
-    outcome, flush, flushed, appended, next_lsn, plain_record, with_less_held, refusal, asks, area_of, change_first, is_area, IsSurvivor, IsRecord, IsValid,
-    Action, TxnRecord, append_call, IsTxnRecord, txn_bytes, txn_record, Plan, Memory, Transaction, is_commit, is_committed, records_after, table, Along,
-    LeavesEither}
+use Rattle.clfs_cells_laws.proofs.Words.{◌≡◌, ◌⊎◌, ℕ, ◌≤◌, Bool, true, false, refl, sym, subst, ap, ◌∙◌, inl, inr, arith, List, [], ◌∷◌, ◌++◌, length, Option}
+use Rattle.clfs_cells_laws.proofs.Words.{Some, None, nat_lt, AllByRecursion, option_map_or, cases_Bool, ltb-false, recursion_from_All, frontier, LogEntry}
+use Rattle.clfs_cells_laws.proofs.Words.{Call, Fine, Reply, Area, State, answer, outcome, flush, flushed, appended, next_lsn, plain_record, with_less_held}
+use Rattle.clfs_cells_laws.proofs.Words.{refusal, asks, area_of, change_first, is_area, IsSurvivor, IsRecord, IsValid, Action, TxnRecord, append_call}
+use Rattle.clfs_cells_laws.proofs.Words.{IsTxnRecord, txn_bytes, txn_record, Plan, Memory, Transaction, is_commit, is_committed, records_after, table, Along}
+use Rattle.clfs_cells_laws.proofs.Words.{LeavesEither}
 use Rattle.clfs_lsn.specs.Size.{own as sectors_of}
 use Rattle.clfs_lsn.specs.Lsn.{lsn_number}
 use Rattle.clfs_model.specs.declared.refusal.Refusal.TheVariants as refusals

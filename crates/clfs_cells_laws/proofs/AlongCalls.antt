@@ -1,11 +1,13 @@
 -- A store's calls, from the first call of the log to the end: what a crash leaves in each, and what they leave themselves.
-use Rattle.clfs_cells_laws.proofs.Words.{◌≡◌, ◌⊎◌, ℕ, zero, suc, ◌+◌, ◌-◌, ◌<◌, ◌≤◌, Bool, true, false, refl, sym, subst, ◌∙◌, inl, inr, arith, List, [],
-    length, Option, Some, None, ◌^◌, ◌==◌, find, nat_le, nat_lt, replicate, AllByRecursion, option_map_or, null_lsn, UndoNext, LogEntry, Call, Refusal, Reply,
-    State, Made, RolledBack, Set, Change, TxnRefusal, TxnReply, Answered, answers, append_call, back_plan, begin_plan, change_to, compensation, end_plan,
-    greatest_number, most_transactions, over_transaction, rollback_plan, set_cell, set_plan, stops, undo_from, undo_set, undo_sets, unless, with_read_ended,
-    IsChange, cell_count, Plan, never, on_found, on_held, on_next, on_placed, Memory, Transaction, holder, is_at, is_numbered, most_records, newest_standing,
-    records_made, standing, transaction, with_begun, with_one_undone, with_set, with_undone, without_transaction, changed, committed, first_cells,
-    is_committed, records_after, table, Along, EndsSafe, IsSafe, LeavesEither, IsStore, store_area, IsInTable}
+use Rattle.clfs_cells_laws.proofs.Words.{◌≡◌, ◌⊎◌, ℕ, zero, suc, ◌+◌, ◌-◌, ◌<◌, ◌≤◌, Bool, true, false, refl, sym, subst, ◌∙◌, inl, inr, arith, List, []}
+use Rattle.clfs_cells_laws.proofs.Words.{length, Option, Some, None, ◌^◌, ◌==◌, find, nat_le, nat_lt, replicate, AllByRecursion, option_map_or, null_lsn}
+use Rattle.clfs_cells_laws.proofs.Words.{UndoNext, LogEntry, Call, Refusal, Reply, State, Made, RolledBack, Set, Change, TxnRefusal, TxnReply, Answered}
+use Rattle.clfs_cells_laws.proofs.Words.{answers, append_call, back_plan, begin_plan, change_to, compensation, end_plan, greatest_number, most_transactions}
+use Rattle.clfs_cells_laws.proofs.Words.{over_transaction, rollback_plan, set_cell, set_plan, stops, undo_from, undo_set, undo_sets, unless, with_read_ended}
+use Rattle.clfs_cells_laws.proofs.Words.{IsChange, cell_count, Plan, never, on_found, on_held, on_next, on_placed, Memory, Transaction, holder, is_at}
+use Rattle.clfs_cells_laws.proofs.Words.{is_numbered, most_records, newest_standing, records_made, standing, transaction, with_begun, with_one_undone}
+use Rattle.clfs_cells_laws.proofs.Words.{with_set, with_undone, without_transaction, changed, committed, first_cells, is_committed, records_after, table}
+use Rattle.clfs_cells_laws.proofs.Words.{Along, EndsSafe, IsSafe, LeavesEither, IsStore, store_area, IsInTable}
 use Rattle.clfs_model.specs.declared.call.Call.TheVariants as calls
 use Rattle.clfs_model.specs.declared.reply.Reply.TheVariants as replies
 use Rattle.clfs_cells.specs.declared.told.TxnRefusal.TheVariants as denials

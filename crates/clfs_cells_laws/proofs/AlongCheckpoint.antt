@@ -1,8 +1,9 @@
 -- A checkpoint: a crash in it leaves the table from before, since the restart area has just that.
-use Rattle.clfs_cells_laws.proofs.Words.{◌≡◌, ℕ, ◌+◌, ◌-◌, ◌≤◌, Bool, true, false, refl, sym, subst, ap, ◌∙◌, inl, inr, arith, List, [], ◌∷◌, length, Option,
-    None, ◌==◌, map, nat_lt, option_map_or, cases_Bool, ne_eqb, null_lsn, frontier, set_base, Stream, Call, LogInfo, Fine, Reply, Area, State, answer, info_of,
-    outcome, restart_record, restarted, flush, flushed, last_live, need_of, next_lsn, put, spend_if, refusal, asks, grown, IsSurvivor, Answered, answers,
-    checkpoint_plan, stops, unless, checkpoint_bytes, Plan, on_info, on_placed, Memory, table, Along, IsSafe, LeavesEither, IsStore, store_area}
+use Rattle.clfs_cells_laws.proofs.Words.{◌≡◌, ℕ, ◌+◌, ◌-◌, ◌≤◌, Bool, true, false, refl, sym, subst, ap, ◌∙◌, inl, inr, arith, List, [], ◌∷◌, length, Option}
+use Rattle.clfs_cells_laws.proofs.Words.{None, ◌==◌, map, nat_lt, option_map_or, cases_Bool, ne_eqb, null_lsn, frontier, set_base, Stream, Call, LogInfo}
+use Rattle.clfs_cells_laws.proofs.Words.{Fine, Reply, Area, State, answer, info_of, outcome, restart_record, restarted, flush, flushed, last_live, need_of}
+use Rattle.clfs_cells_laws.proofs.Words.{next_lsn, put, spend_if, refusal, asks, grown, IsSurvivor, Answered, answers, checkpoint_plan, stops, unless}
+use Rattle.clfs_cells_laws.proofs.Words.{checkpoint_bytes, Plan, on_info, on_placed, Memory, table, Along, IsSafe, LeavesEither, IsStore, store_area}
 use Rattle.clfs_model.specs.declared.call.Call.TheVariants as calls
 use Rattle.clfs_model.specs.declared.refusal.Refusal.TheVariants as refusals
 use Rattle.clfs_model.specs.declared.reply.Reply.TheVariants as replies

@@ -1,9 +1,10 @@
 -- A commit, from its append to its end: a crash in it leaves the table from before or that with its transaction.
-use Rattle.clfs_cells_laws.proofs.Words.{◌≡◌, ◌⊎◌, ℕ, ◌-◌, ◌<◌, true, refl, sym, subst, ap, ◌∙◌, inl, inr, arith, List, [], ◌∷◌, ◌++◌, length, Some, None,
-    AllByRecursion, recursion_from_All, null_lsn, frontier, LogEntry, Call, Refusal, Reply, Area, State, answer, flush, flushed, appended, need_of,
-    plain_record, put, spend_if, refusal, asks, grown, IsSurvivor, IsRecord, IsValid, Commit, Answered, answers, append_call, commit_plan, end_plan, stops,
-    IsTxnRecord, txn_bytes, txn_record, on_held, on_placed, Memory, Transaction, most_records, records_made, transaction, without_transaction, table, Along,
-    IsSafeFrom, IsSafe, LeavesEither, table_joined, IsStore, store_area}
+use Rattle.clfs_cells_laws.proofs.Words.{◌≡◌, ◌⊎◌, ℕ, ◌-◌, ◌<◌, true, refl, sym, subst, ap, ◌∙◌, inl, inr, arith, List, [], ◌∷◌, ◌++◌, length, Some, None}
+use Rattle.clfs_cells_laws.proofs.Words.{AllByRecursion, recursion_from_All, null_lsn, frontier, LogEntry, Call, Refusal, Reply, Area, State, answer, flush}
+use Rattle.clfs_cells_laws.proofs.Words.{flushed, appended, need_of, plain_record, put, spend_if, refusal, asks, grown, IsSurvivor, IsRecord, IsValid, Commit}
+use Rattle.clfs_cells_laws.proofs.Words.{Answered, answers, append_call, commit_plan, end_plan, stops, IsTxnRecord, txn_bytes, txn_record, on_held, on_placed}
+use Rattle.clfs_cells_laws.proofs.Words.{Memory, Transaction, most_records, records_made, transaction, without_transaction, table, Along, IsSafeFrom, IsSafe}
+use Rattle.clfs_cells_laws.proofs.Words.{LeavesEither, table_joined, IsStore, store_area}
 use Rattle.clfs_model.specs.declared.call.Call.TheVariants as calls
 use Rattle.clfs_model.specs.declared.refusal.Refusal.TheVariants as refusals
 use Rattle.clfs_model.specs.declared.reply.Reply.TheVariants as replies

@@ -1,19 +1,21 @@
 -- Loading: a crash in it leaves the table as it is.
-use Rattle.clfs_cells_laws.proofs.Words.{◌≡◌, ◌⊎◌, ℕ, zero, suc, ◌<◌, ◌≤◌, Bool, true, false, refl, sym, subst, ap, ◌∙◌, inl, inr, arith, List, [], ◌∷◌, ◌++◌,
-    length, Option, Some, None, Ok, Err, if◌then◌else◌, ◌&&◌, ◌==◌, AllByRecursion, option_map_or, recursion_from_All, null_lsn, frontier, stream_number_from,
-    Forward, LogEntry, Stream, Call, LogInfo, Refusal, Fine, Reply, Area, State, answer, info_of, outcome, restart_record, restarted, cut, flushed, is_live,
-    last_live, live, need_of, next_lsn, put, refusal, stream_number, Request, asks, bad_line, fine_outcome, grown, area_of, IsSurvivor, Survives, IsRecord,
-    IsValid, Checkpoint, TxnRecord, TxnLoadRefusal, blank_cells, blank_checkpoint, checkpoint_bytes, checkpoint_of, txn_record_of, gives_up, load_above,
-    load_area, load_new, load_stream, load_table, memory_of, on_more, read_records, stopped, ends, on_info, on_placed, Memory, table, table_in, table_name,
-    Along, IsSafe, IsSafeLog, LeavesEither, LoadsSafe}
+use Rattle.clfs_cells_laws.proofs.Words.{◌≡◌, ◌⊎◌, ℕ, zero, suc, ◌<◌, ◌≤◌, Bool, true, false, refl, sym, subst, ap, ◌∙◌, inl, inr, arith, List, [], ◌∷◌, ◌++◌}
+use Rattle.clfs_cells_laws.proofs.Words.{length, Option, Some, None, Ok, Err, if◌then◌else◌, ◌&&◌, ◌==◌, AllByRecursion, option_map_or, recursion_from_All}
+use Rattle.clfs_cells_laws.proofs.Words.{null_lsn, frontier, stream_number_from, Forward, LogEntry, Stream, Call, LogInfo, Refusal, Fine, Reply, Area, State}
+use Rattle.clfs_cells_laws.proofs.Words.{answer, info_of, outcome, restart_record, restarted, cut, flushed, is_live, last_live, live, need_of, next_lsn, put}
+use Rattle.clfs_cells_laws.proofs.Words.{refusal, stream_number, Request, asks, bad_line, fine_outcome, grown, area_of, IsSurvivor, Survives, IsRecord}
+use Rattle.clfs_cells_laws.proofs.Words.{IsValid, Checkpoint, TxnRecord, TxnLoadRefusal, blank_cells, blank_checkpoint, checkpoint_bytes, checkpoint_of}
+use Rattle.clfs_cells_laws.proofs.Words.{txn_record_of, gives_up, load_above, load_area, load_new, load_stream, load_table, memory_of, on_more, read_records}
+use Rattle.clfs_cells_laws.proofs.Words.{stopped, ends, on_info, on_placed, Memory, table, table_in, table_name, Along, IsSafe, IsSafeLog, LeavesEither}
+use Rattle.clfs_cells_laws.proofs.Words.{LoadsSafe}
 use Rattle.clfs_model.specs.declared.call.Call.TheVariants as calls
 use Rattle.clfs_model.specs.declared.refusal.Refusal.TheVariants as refusals
 use Rattle.clfs_model.specs.declared.reply.Reply.TheVariants as replies
 use Rattle.clfs_cells.specs.declared.told.TxnLoadRefusal.TheVariants as denials
 use Rattle.clfs_cells.specs.Plans.{calls as then_calls}
 use Rattle.clfs_cells_laws.proofs.Above.{kept}
-use Rattle.clfs_cells_laws.proofs.Along.{IsKept, IsTable, Rising, along_call, along_quiet, asks_of, ends_read, fine_state, fine_step, named_by, own_same,
-    quiet_survives, reads, reads_on, reads_restart, step_state}
+use Rattle.clfs_cells_laws.proofs.Along.{IsKept, IsTable, Rising, along_call, along_quiet, asks_of, ends_read, fine_state, fine_step, named_by, own_same}
+use Rattle.clfs_cells_laws.proofs.Along.{quiet_survives, reads, reads_on, reads_restart, step_state}
 use Rattle.clfs_cells_laws.proofs.AlongCalls.{found_along, option_along, placed_along}
 use Rattle.clfs_cells_laws.proofs.AlongCommit.{flushed_safe}
 use Rattle.clfs_cells_laws.proofs.FirstRestart.{Restarted, put_record, restarts, zeros}

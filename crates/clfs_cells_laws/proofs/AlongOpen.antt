@@ -1,10 +1,12 @@
 -- Loading from its beginning: the stream is opened, and the client gets its area.
-use Rattle.clfs_cells_laws.proofs.Words.{◌≡◌, ℕ, zero, suc, ◌+◌, ◌-◌, ◌<◌, ◌≤◌, Bool, true, false, refl, sym, subst, ap, ◌∙◌, inl, inr, arith, List, [], ◌∷◌,
-    ◌++◌, length, Option, Some, None, Err, ◌==◌, filter, find, nat_lt, slice_get, AllByRecursion, option_map_or, cases_Bool, recursion_from_All, is_restart,
-    null_lsn, frontier, stream_number_from, LogEntry, Stream, Call, Happened, Reply, Area, State, Outcome, answer, outcome, unused_area, flushed, live,
-    lsn_or_null, newest_restart, stream_number, Request, asks, area_of, areas_of, base_of, is_area, IsReply, Step, HasBases, IsSurvivor, IsRecord, IsValid,
-    blank_cells, table_stream, with_stream, area_largest, area_reads, load_area, load_plan, ends, on_area, on_stream, records_after, table, table_in,
-    table_name, Along, CountsForNothing, IsSafe, IsSafeFrom, IsSafeLog, LeavesEither, LoadsSafe}
+use Rattle.clfs_cells_laws.proofs.Words.{◌≡◌, ℕ, zero, suc, ◌+◌, ◌-◌, ◌<◌, ◌≤◌, Bool, true, false, refl, sym, subst, ap, ◌∙◌, inl, inr, arith, List, [], ◌∷◌}
+use Rattle.clfs_cells_laws.proofs.Words.{◌++◌, length, Option, Some, None, Err, ◌==◌, filter, find, nat_lt, slice_get, AllByRecursion, option_map_or}
+use Rattle.clfs_cells_laws.proofs.Words.{cases_Bool, recursion_from_All, is_restart, null_lsn, frontier, stream_number_from, LogEntry, Stream, Call, Happened}
+use Rattle.clfs_cells_laws.proofs.Words.{Reply, Area, State, Outcome, answer, outcome, unused_area, flushed, live, lsn_or_null, newest_restart, stream_number}
+use Rattle.clfs_cells_laws.proofs.Words.{Request, asks, area_of, areas_of, base_of, is_area, IsReply, Step, HasBases, IsSurvivor, IsRecord, IsValid}
+use Rattle.clfs_cells_laws.proofs.Words.{blank_cells, table_stream, with_stream, area_largest, area_reads, load_area, load_plan, ends, on_area, on_stream}
+use Rattle.clfs_cells_laws.proofs.Words.{records_after, table, table_in, table_name, Along, CountsForNothing, IsSafe, IsSafeFrom, IsSafeLog, LeavesEither}
+use Rattle.clfs_cells_laws.proofs.Words.{LoadsSafe}
 use Rattle.clfs_model.specs.declared.call.Call.TheVariants as calls
 use Rattle.clfs_model.specs.declared.reply.Reply.TheVariants as replies
 use Rattle.clfs_model.specs.Answers.{new_area}

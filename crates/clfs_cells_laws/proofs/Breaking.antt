@@ -1,10 +1,12 @@
 -- What a store's calls leave of a log that isn't broken: it stays so unless the call tells a fault of the disk or damage, and is broken then.
-use Rattle.clfs_cells_laws.proofs.Words.{◌≡◌, ◌⊎◌, ℕ, zero, suc, ◌+◌, Bool, true, false, refl, sym, ap, subst, ◌∙◌, inl, inr, Option, Some, None, length, find,
-    slice_index, option_map_or, LogEntry, Call, LogInfo, Refusal, Happened, Fine, Fault, Damage, Reply, State, Step, IsBroken, reads_disk, is_reply_of,
-    TxnCall, Made, Action, Commit, RolledBack, TxnRefusal, TxnReply, Answered, TxnStep, append_call, answers, refuses, stops, unless, over_transaction,
-    change_to, compensation, with_read_ended, undo_set, undo_from, undo_sets, end_plan, begin_plan, set_plan, back_plan, rollback_plan, checkpoint_plan,
-    txn_plan, Plan, ends, calls, never, CarriesOut, on_placed, on_held, on_found, on_next, on_info, Memory, Store, Transaction, is_at, holder, standing,
-    transaction, with_begun, with_set, with_undone, without_transaction, breaks_log, tells_break, tells_table_broken, tells_table_damage, reads_back}
+use Rattle.clfs_cells_laws.proofs.Words.{◌≡◌, ◌⊎◌, ℕ, zero, suc, ◌+◌, Bool, true, false, refl, sym, ap, subst, ◌∙◌, inl, inr, Option, Some, None, length}
+use Rattle.clfs_cells_laws.proofs.Words.{find, slice_index, option_map_or, LogEntry, Call, LogInfo, Refusal, Happened, Fine, Fault, Damage, Reply, State}
+use Rattle.clfs_cells_laws.proofs.Words.{Step, IsBroken, reads_disk, is_reply_of, TxnCall, Made, Action, Commit, RolledBack, TxnRefusal, TxnReply, Answered}
+use Rattle.clfs_cells_laws.proofs.Words.{TxnStep, append_call, answers, refuses, stops, unless, over_transaction, change_to, compensation, with_read_ended}
+use Rattle.clfs_cells_laws.proofs.Words.{undo_set, undo_from, undo_sets, end_plan, begin_plan, set_plan, back_plan, rollback_plan, checkpoint_plan, txn_plan}
+use Rattle.clfs_cells_laws.proofs.Words.{Plan, ends, calls, never, CarriesOut, on_placed, on_held, on_found, on_next, on_info, Memory, Store, Transaction}
+use Rattle.clfs_cells_laws.proofs.Words.{is_at, holder, standing, transaction, with_begun, with_set, with_undone, without_transaction, breaks_log}
+use Rattle.clfs_cells_laws.proofs.Words.{tells_break, tells_table_broken, tells_table_damage, reads_back}
 use Rattle.std.proofs.Common.{◌≢◌}
 use Rattle.clfs_model.specs.declared.call.Call.TheVariants as log_calls
 use Rattle.clfs_model.specs.declared.refusal.Refusal.TheVariants as log_refusals

@@ -1,12 +1,13 @@
 -- An open transaction after a further set, and after its newest one that stands is taken back.
-use Rattle.clfs_cells_laws.proofs.Words.{◌≡◌, ◌⊎◌, ℕ, ◌+◌, ◌<◌, ◌≤◌, true, false, refl, sym, subst, ap, ◌∙◌, inl, inr, arith, List, [], ◌∷◌, ◌++◌, length, not,
-    ◌==◌, nat_le, slice_index, slice_set, AllByRecursion, list_any, cases_Bool, eqb-true, eq-eqb, leb-false, frontier, State, IsValid, Made, Change, change_to,
-    cell_count, Memory, Transaction, is_at, newest_standing, standing, with_one_undone, AreStacked, IsInLog, IsLiveRecord, IsOpen, is_of_cell, value_before,
-    value_by}
+use Rattle.clfs_cells_laws.proofs.Words.{◌≡◌, ◌⊎◌, ℕ, ◌+◌, ◌<◌, ◌≤◌, true, false, refl, sym, subst, ap, ◌∙◌, inl, inr, arith, List, [], ◌∷◌, ◌++◌, length}
+use Rattle.clfs_cells_laws.proofs.Words.{not, ◌==◌, nat_le, slice_index, slice_set, AllByRecursion, list_any, cases_Bool, eqb-true, eq-eqb, leb-false}
+use Rattle.clfs_cells_laws.proofs.Words.{frontier, State, IsValid, Made, Change, change_to, cell_count, Memory, Transaction, is_at, newest_standing, standing}
+use Rattle.clfs_cells_laws.proofs.Words.{with_one_undone, AreStacked, IsInLog, IsLiveRecord, IsOpen, is_of_cell, value_before, value_by}
 use Rattle.std.proofs.lemmas.List.{get_or-set_same, get_or-set_other}
 use Rattle.clfs_cells_laws.proofs.Grown.{Grows, in_log_on, live_below}
-use Rattle.clfs_cells_laws.proofs.Stacks.{each, each_held, first_before, first_changed, left_standing, more_before, more_rise, more_standing, none_by,
-    none_held, stacked_as, standing_has, taken_back, taken_before, taken_holds, taken_length, taken_rise, undone, with_last}
+use Rattle.clfs_cells_laws.proofs.Stacks.{each, each_held, first_before, first_changed, left_standing, more_before, more_rise, more_standing, none_by}
+use Rattle.clfs_cells_laws.proofs.Stacks.{none_held, stacked_as, standing_has, taken_back, taken_before, taken_holds, taken_length, taken_rise, undone}
+use Rattle.clfs_cells_laws.proofs.Stacks.{with_last}
 
 -- ---- cells
 

@@ -1,9 +1,11 @@
 -- What a table's log says after a checkpoint: the cells, and nothing above them.
-use Rattle.clfs_cells_laws.proofs.Words.{◌≡◌, ℕ, zero, suc, ◌+◌, ◌-◌, ◌<◌, ◌≤◌, Bool, true, false, refl, sym, subst, ap, ◌∙◌, inl, inr, arith, List, [], ◌∷◌,
-    ◌++◌, length, Option, Some, None, ◌&&◌, ◌||◌, ◌==◌, filter, is_none, is_some, nat_le, nat_lt, slice_get, AllByRecursion, last_or, option_and_then,
-    option_map_or, cases_Bool, eq-eqb, eqb-true, le-leb, leb-false, le-ltb, ltb-true, ne_eqb, filter-append, recursion_from_All, is_restart, null_lsn,
-    frontier, set_base, LogEntry, Stream, State, is_live, last_live, live, live_at, lsn_or_null, is_base, stream_number, base_of, stream_at, IsRecord, IsValid,
-    Checkpoint, blank_cells, cell_count, checkpoint_bytes, checkpoint_of, Memory, first_cells, records_after, table_name, IsInTable, IsTabled}
+use Rattle.clfs_cells_laws.proofs.Words.{◌≡◌, ℕ, zero, suc, ◌+◌, ◌-◌, ◌<◌, ◌≤◌, Bool, true, false, refl, sym, subst, ap, ◌∙◌, inl, inr, arith, List, [], ◌∷◌}
+use Rattle.clfs_cells_laws.proofs.Words.{◌++◌, length, Option, Some, None, ◌&&◌, ◌||◌, ◌==◌, filter, is_none, is_some, nat_le, nat_lt, slice_get}
+use Rattle.clfs_cells_laws.proofs.Words.{AllByRecursion, last_or, option_and_then, option_map_or, cases_Bool, eq-eqb, eqb-true, le-leb, leb-false, le-ltb}
+use Rattle.clfs_cells_laws.proofs.Words.{ltb-true, ne_eqb, filter-append, recursion_from_All, is_restart, null_lsn, frontier, set_base, LogEntry, Stream}
+use Rattle.clfs_cells_laws.proofs.Words.{State, is_live, last_live, live, live_at, lsn_or_null, is_base, stream_number, base_of, stream_at, IsRecord, IsValid}
+use Rattle.clfs_cells_laws.proofs.Words.{Checkpoint, blank_cells, cell_count, checkpoint_bytes, checkpoint_of, Memory, first_cells, records_after, table_name}
+use Rattle.clfs_cells_laws.proofs.Words.{IsInTable, IsTabled}
 use Rattle.std.proofs.lemmas.Bool.{leb-true, lt-leb}
 use Rattle.clfs_cells_laws.proofs.Above.{Rises, above, filter_rises, kept, rises}
 use Rattle.clfs_cells_laws.proofs.Ground.{newest_in, spelled}

@@ -1,6 +1,7 @@
 -- The table of the flushed part of a log, and of logs that are the same.
-use Rattle.clfs_cells_laws.proofs.Words.{◌≡◌, ℕ, ◌<◌, Bool, true, refl, sym, ap, ◌∙◌, inl, inr, List, [], ◌∷◌, Option, Some, None, ◌&&◌, ◌==◌, filter, nat_lt,
-    AllByRecursion, option_map_or, cases_Bool, lt-ltb, LogEntry, State, cut, flushed, is_live, live, stream_number, blank_cells, table, table_in, table_name}
+use Rattle.clfs_cells_laws.proofs.Words.{◌≡◌, ℕ, ◌<◌, Bool, true, refl, sym, ap, ◌∙◌, inl, inr, List, [], ◌∷◌, Option, Some, None, ◌&&◌, ◌==◌, filter, nat_lt}
+use Rattle.clfs_cells_laws.proofs.Words.{AllByRecursion, option_map_or, cases_Bool, lt-ltb, LogEntry, State, cut, flushed, is_live, live, stream_number}
+use Rattle.clfs_cells_laws.proofs.Words.{blank_cells, table, table_in, table_name}
 use Rattle.clfs_model.specs.Flush.{IsSame}
 use Rattle.clfs_cells_laws.proofs.Ground.{cells_in}
 

@@ -1,8 +1,9 @@
 -- The table of what is left of a log, where what is gone counted for nothing.
-use Rattle.clfs_cells_laws.proofs.Words.{◌≡◌, ℕ, ◌<◌, ◌≤◌, Bool, true, false, refl, sym, subst, ap, ◌∙◌, inl, inr, List, [], ◌∷◌, Option, Some, None, ◌&&◌,
-    ◌||◌, ◌==◌, filter, nat_lt, reverse, slice_get, AllByRecursion, list_any, option_and_then, option_map_or, cases_Bool, eq-eqb, lt-ltb, ltb-false,
-    is_restart, LogEntry, State, is_live, live, lsn_or_null, stream_number, TxnRecord, Checkpoint, blank_cells, checkpoint_of, txn_record_of, changed,
-    committed, entries_after, first_cells, is_commit, is_committed, records_after, table, table_in, table_name, CountsForNothing, IsSafeFrom}
+use Rattle.clfs_cells_laws.proofs.Words.{◌≡◌, ℕ, ◌<◌, ◌≤◌, Bool, true, false, refl, sym, subst, ap, ◌∙◌, inl, inr, List, [], ◌∷◌, Option, Some, None, ◌&&◌}
+use Rattle.clfs_cells_laws.proofs.Words.{◌||◌, ◌==◌, filter, nat_lt, reverse, slice_get, AllByRecursion, list_any, option_and_then, option_map_or, cases_Bool}
+use Rattle.clfs_cells_laws.proofs.Words.{eq-eqb, lt-ltb, ltb-false, is_restart, LogEntry, State, is_live, live, lsn_or_null, stream_number, TxnRecord}
+use Rattle.clfs_cells_laws.proofs.Words.{Checkpoint, blank_cells, checkpoint_of, txn_record_of, changed, committed, entries_after, first_cells, is_commit}
+use Rattle.clfs_cells_laws.proofs.Words.{is_committed, records_after, table, table_in, table_name, CountsForNothing, IsSafeFrom}
 use Rattle.clfs_cells_laws.proofs.Above.{above}
 use Rattle.clfs_cells_laws.proofs.FirstRestart.{table_by}
 use Rattle.clfs_cells_laws.proofs.Ground.{newest_in, spelled}

@@ -1,9 +1,10 @@
 -- How the calls of a store end: begin, set, and the end of a transaction.
-use Rattle.clfs_cells_laws.proofs.Words.{◌≡◌, ℕ, zero, suc, ◌<◌, ◌≤◌, Bool, true, false, refl, sym, subst, ap, ◌∙◌, arith, List, [], ◌∷◌, length, Option, Some,
-    None, ◌^◌, nat_le, option_map_or, eq-eqb, ne_eqb, UndoNext, LogEntry, Refusal, Happened, Reply, State, next_lsn, free, Step, Made, Action, Set, Change,
-    TxnRefusal, TxnReply, Answered, answers, append_call, change_to, refuses, set_cell, set_plan, stops, undo_from, undo_sets, unless, cell_count, txn_bytes,
-    txn_record, Plan, CarriesOut, on_found, on_placed, Memory, Transaction, holder, is_numbered, newest_standing, standing, transaction, with_set, reason_if,
-    table_reason, IsSetTo, from_outside, is_of_log, IsOpen, IsStore, newest_of, sectors_held}
+use Rattle.clfs_cells_laws.proofs.Words.{◌≡◌, ℕ, zero, suc, ◌<◌, ◌≤◌, Bool, true, false, refl, sym, subst, ap, ◌∙◌, arith, List, [], ◌∷◌, length, Option}
+use Rattle.clfs_cells_laws.proofs.Words.{Some, None, ◌^◌, nat_le, option_map_or, eq-eqb, ne_eqb, UndoNext, LogEntry, Refusal, Happened, Reply, State}
+use Rattle.clfs_cells_laws.proofs.Words.{next_lsn, free, Step, Made, Action, Set, Change, TxnRefusal, TxnReply, Answered, answers, append_call, change_to}
+use Rattle.clfs_cells_laws.proofs.Words.{refuses, set_cell, set_plan, stops, undo_from, undo_sets, unless, cell_count, txn_bytes, txn_record, Plan}
+use Rattle.clfs_cells_laws.proofs.Words.{CarriesOut, on_found, on_placed, Memory, Transaction, holder, is_numbered, newest_standing, standing, transaction}
+use Rattle.clfs_cells_laws.proofs.Words.{with_set, reason_if, table_reason, IsSetTo, from_outside, is_of_log, IsOpen, IsStore, newest_of, sectors_held}
 use Rattle.clfs_model.specs.declared.call.Call.TheVariants as calls
 use Rattle.clfs_model.specs.declared.refusal.Refusal.TheVariants as refusals
 use Rattle.clfs_model.specs.declared.reply.Reply.TheVariants as replies
@@ -17,8 +18,8 @@ use Rattle.clfs_cells_laws.proofs.Links.{append_passes, some_held, some_left, st
 use Rattle.clfs_cells_laws.proofs.OneOf.{placed}
 use Rattle.clfs_cells_laws.proofs.OwnCalls.{Laws, Went, broke, gave, kept, went}
 use Rattle.clfs_cells_laws.proofs.StoreCalls.{added, append_came, found_by_its, open_found, set_store}
-use Rattle.clfs_cells_laws.proofs.Undoes.{Halted, Undoing, behind_reply, came_to, halted, halted_broken, halted_store, none_undone, same_log, same_plan,
-    top_is, undoes}
+use Rattle.clfs_cells_laws.proofs.Undoes.{Halted, Undoing, behind_reply, came_to, halted, halted_broken, halted_store, none_undone, same_log, same_plan}
+use Rattle.clfs_cells_laws.proofs.Undoes.{top_is, undoes}
 use Rattle.clfs_cells_laws.proofs.UndoReads.{Began, Stopped, begins, first_cursor, found, left_broken, left_whole, not_read}
 use Rattle.clfs_cells_laws.proofs.Ways.{way}
 

@@ -1,8 +1,9 @@
 -- A table's first restart area: what writing it leaves of the log.
-use Rattle.clfs_cells_laws.proofs.Words.{◌≡◌, ℕ, ◌≤◌, Bool, true, false, refl, sym, ap, ◌∙◌, inl, inr, arith, List, [], ◌∷◌, ◌++◌, length, Option, Some, ◌≢◌,
-    ◌&&◌, ◌==◌, filter, nat_lt, option_map_or, cases_Bool, eq-eqb, le-leb, le-ltb, filter-append, null_lsn, LogEntry, Stream, Area, State, restarted,
-    restart_record, flush, is_live, live, need_of, next_lsn, put, stream_number, grown, grown_if, base_of, log_of, TxnRecord, blank_cells, blank_checkpoint,
-    checkpoint_bytes, records_after, table, table_in, table_name}
+use Rattle.clfs_cells_laws.proofs.Words.{◌≡◌, ℕ, ◌≤◌, Bool, true, false, refl, sym, ap, ◌∙◌, inl, inr, arith, List, [], ◌∷◌, ◌++◌, length, Option, Some, ◌≢◌}
+use Rattle.clfs_cells_laws.proofs.Words.{◌&&◌, ◌==◌, filter, nat_lt, option_map_or, cases_Bool, eq-eqb, le-leb, le-ltb, filter-append, null_lsn, LogEntry}
+use Rattle.clfs_cells_laws.proofs.Words.{Stream, Area, State, restarted, restart_record, flush, is_live, live, need_of, next_lsn, put, stream_number, grown}
+use Rattle.clfs_cells_laws.proofs.Words.{grown_if, base_of, log_of, TxnRecord, blank_cells, blank_checkpoint, checkpoint_bytes, records_after, table}
+use Rattle.clfs_cells_laws.proofs.Words.{table_in, table_name}
 use Rattle.clfs_lsn.specs.Place.{joins, begins_here}
 use Rattle.clfs_model.specs.Flush.{seal}
 use Rattle.clfs_model.specs.Put.{made_ready}

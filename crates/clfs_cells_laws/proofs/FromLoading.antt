@@ -1,7 +1,8 @@
 -- A table that was loaded is a store.
-use Rattle.clfs_cells_laws.proofs.Words.{◌≡◌, ℕ, Bool, true, refl, sym, subst, ap, ◌∙◌, List, [], ◌∷◌, length, Option, option_map_or, AllByRecursion, State,
-    area_of, IsValid, Loaded, LoadStep, load_plan, Plan, CarriesOut, calls, ends, never, Memory, Transaction, IsLoaded, AllApart, IsOpen, IsStore,
-    sectors_held, store_area, TxnRecord, blank_cells, changed, records_after, table, table_in, AreExclusive, IsInTable, IsTabled, done_by, numbers_of}
+use Rattle.clfs_cells_laws.proofs.Words.{◌≡◌, ℕ, Bool, true, refl, sym, subst, ap, ◌∙◌, List, [], ◌∷◌, length, Option, option_map_or, AllByRecursion, State}
+use Rattle.clfs_cells_laws.proofs.Words.{area_of, IsValid, Loaded, LoadStep, load_plan, Plan, CarriesOut, calls, ends, never, Memory, Transaction, IsLoaded}
+use Rattle.clfs_cells_laws.proofs.Words.{AllApart, IsOpen, IsStore, sectors_held, store_area, TxnRecord, blank_cells, changed, records_after, table, table_in}
+use Rattle.clfs_cells_laws.proofs.Words.{AreExclusive, IsInTable, IsTabled, done_by, numbers_of}
 use Rattle.std.specs.Prelude.{Some}
 use Rattle.clfs_cells_laws.specs.Tables.{HasNumbers}
 use Rattle.clfs_cells_laws.proofs.OwnCalls.{Laws}

@@ -1,10 +1,11 @@
 -- What loading stands on once the client has its area, and what it comes to.
-use Rattle.clfs_cells_laws.proofs.Words.{◌≡◌, ℕ, ◌<◌, ◌≤◌, Bool, true, false, refl, sym, subst, ap, ◌∙◌, inl, inr, List, [], Option, Some, None, Ok, Err, ◌==◌,
-    if◌then◌else◌, find, filter, is_none, reverse, slice_get, AllByRecursion, last_or, option_map, option_map_or, option_and_then, is_restart, null_lsn,
-    Cursor, LogEntry, Call, Refusal, Reply, Area, State, answer, flushed, live, lsn_or_null, refusal, stream_number, need_of, next_lsn, grown, areas_of,
-    base_of, stream_at, Comes, IsDamaged, with_broken, Checkpoint, TxnRecord, TxnLoadRefusal, Log, NotATable, blank_cells, checkpoint_of, txn_record_of,
-    first_restart, load_refusal, table_area, table_stream, Loaded, area_largest, area_reads, gives_up, last_number, stopped, Plan, calls, ends, CarriesOut,
-    changed, committed, table, table_name, IsLoadCause, IsLoaded, IsNotLoaded}
+use Rattle.clfs_cells_laws.proofs.Words.{◌≡◌, ℕ, ◌<◌, ◌≤◌, Bool, true, false, refl, sym, subst, ap, ◌∙◌, inl, inr, List, [], Option, Some, None, Ok, Err}
+use Rattle.clfs_cells_laws.proofs.Words.{◌==◌, if◌then◌else◌, find, filter, is_none, reverse, slice_get, AllByRecursion, last_or, option_map, option_map_or}
+use Rattle.clfs_cells_laws.proofs.Words.{option_and_then, is_restart, null_lsn, Cursor, LogEntry, Call, Refusal, Reply, Area, State, answer, flushed, live}
+use Rattle.clfs_cells_laws.proofs.Words.{lsn_or_null, refusal, stream_number, need_of, next_lsn, grown, areas_of, base_of, stream_at, Comes, IsDamaged}
+use Rattle.clfs_cells_laws.proofs.Words.{with_broken, Checkpoint, TxnRecord, TxnLoadRefusal, Log, NotATable, blank_cells, checkpoint_of, txn_record_of}
+use Rattle.clfs_cells_laws.proofs.Words.{first_restart, load_refusal, table_area, table_stream, Loaded, area_largest, area_reads, gives_up, last_number}
+use Rattle.clfs_cells_laws.proofs.Words.{stopped, Plan, calls, ends, CarriesOut, changed, committed, table, table_name, IsLoadCause, IsLoaded, IsNotLoaded}
 use Rattle.std.specs.List.{filter_map}
 use Rattle.clfs_model.specs.declared.call.Call.TheVariants as calls
 use Rattle.clfs_model.specs.declared.refusal.Refusal.TheVariants as refusals

@@ -1,7 +1,8 @@
 -- What a log has that has got more records: its old ones, live as before.
-use Rattle.clfs_cells_laws.proofs.Words.{◌≡◌, ℕ, ◌<◌, ◌≤◌, Bool, true, refl, sym, subst, ap, ◌∙◌, inl, inr, List, [], ◌∷◌, ◌++◌, Option, Some, ◌≢◌, ◌&&◌, ◌==◌,
-    find, filter, option_map_or, option_or, cases_Bool, eqb-true, eq-eqb, le-leb, filter-append, recursion_from_All, find-append, null_lsn, frontier,
-    stream_in, LogEntry, Stream, State, is_live, live, live_at, base_of, log_of, IsRecord, IsValid, Made, IsInLog, IsLiveRecord}
+use Rattle.clfs_cells_laws.proofs.Words.{◌≡◌, ℕ, ◌<◌, ◌≤◌, Bool, true, refl, sym, subst, ap, ◌∙◌, inl, inr, List, [], ◌∷◌, ◌++◌, Option, Some, ◌≢◌, ◌&&◌}
+use Rattle.clfs_cells_laws.proofs.Words.{◌==◌, find, filter, option_map_or, option_or, cases_Bool, eqb-true, eq-eqb, le-leb, filter-append}
+use Rattle.clfs_cells_laws.proofs.Words.{recursion_from_All, find-append, null_lsn, frontier, stream_in, LogEntry, Stream, State, is_live, live, live_at}
+use Rattle.clfs_cells_laws.proofs.Words.{base_of, log_of, IsRecord, IsValid, Made, IsInLog, IsLiveRecord}
 use Rattle.clfs_cells_laws.proofs.Stacks.{first_has, first_passes}
 
 -- the streams are as they were, and there are more records

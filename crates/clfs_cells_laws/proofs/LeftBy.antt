@@ -1,10 +1,11 @@
 -- What a crash leaves of a table's log while a call of the log is under way, by what the call does.
-use Rattle.clfs_cells_laws.proofs.Words.{◌≡◌, ◌⊎◌, ℕ, suc, ◌+◌, ◌-◌, ◌<◌, ◌≤◌, Bool, true, false, refl, sym, subst, ap, ◌∙◌, inl, inr, arith, List, [], ◌∷◌,
-    ◌++◌, Option, Some, ◌&&◌, ◌||◌, ◌==◌, All, filter, map, nat_lt, slice_get, AllByRecursion, option_map_or, cases_Bool, eq-eqb, lt-ltb, ltb-true, ltb-false,
-    le-ltb, ne_eqb, append-nil, All-from_recursion, filter-append, recursion_from_All, is_restart, frontier, LogEntry, Stream, State, flushed, is_live, live,
-    lsn_or_null, newest_restart, stream_number, Request, asks, base_of, HasBases, IsSurvivor, IsRecord, IsValid, Commit, TxnRecord, blank_cells, txn_record,
-    txn_record_of, changed, committed, entries_after, first_cells, is_commit, is_committed, records_after, table, table_in, table_name, CountsForNothing,
-    IsSafe, IsSafeFrom, table_joined}
+use Rattle.clfs_cells_laws.proofs.Words.{◌≡◌, ◌⊎◌, ℕ, suc, ◌+◌, ◌-◌, ◌<◌, ◌≤◌, Bool, true, false, refl, sym, subst, ap, ◌∙◌, inl, inr, arith, List, [], ◌∷◌}
+use Rattle.clfs_cells_laws.proofs.Words.{◌++◌, Option, Some, ◌&&◌, ◌||◌, ◌==◌, All, filter, map, nat_lt, slice_get, AllByRecursion, option_map_or, cases_Bool}
+use Rattle.clfs_cells_laws.proofs.Words.{eq-eqb, lt-ltb, ltb-true, ltb-false, le-ltb, ne_eqb, append-nil, All-from_recursion, filter-append}
+use Rattle.clfs_cells_laws.proofs.Words.{recursion_from_All, is_restart, frontier, LogEntry, Stream, State, flushed, is_live, live, lsn_or_null}
+use Rattle.clfs_cells_laws.proofs.Words.{newest_restart, stream_number, Request, asks, base_of, HasBases, IsSurvivor, IsRecord, IsValid, Commit, TxnRecord}
+use Rattle.clfs_cells_laws.proofs.Words.{blank_cells, txn_record, txn_record_of, changed, committed, entries_after, first_cells, is_commit, is_committed}
+use Rattle.clfs_cells_laws.proofs.Words.{records_after, table, table_in, table_name, CountsForNothing, IsSafe, IsSafeFrom, table_joined}
 use Rattle.std.proofs.lemmas.List.Quantifiers.{Any-push}
 use Rattle.clfs_lsn.specs.declared.entry.Kind.{Kind}
 use Rattle.clfs_lsn.specs.declared.entry.Kind.TheVariants.{Plain, Restart}

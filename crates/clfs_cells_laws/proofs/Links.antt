@@ -1,9 +1,10 @@
 -- The room and the links of a store's next record: neither is refused.
-use Rattle.clfs_cells_laws.proofs.Words.{◌≡◌, ◌⊎◌, ℕ, ◌+◌, ◌-◌, ◌≤◌, Bool, true, false, refl, ap, ◌∙◌, inl, inr, arith, List, [], ◌∷◌, ◌++◌, length, Option,
-    Some, None, length-append, not, ◌||◌, ◌==◌, filter, nat_lt, is_some, AllByRecursion, option_map_or, cases_Bool, le-ltb, filter-append, null_lsn, Cursor,
-    Draft, Refusal, Area, State, live_at, refusal, refused_if, free, grown, has_room, reserved, base_of, Made, Action, Change, append_call, txn_bytes,
-    txn_record, Memory, Transaction, newest_standing, standing, with_one_undone, IsInLog, IsLiveRecord, IsOpen, IsStoreWith, newest_of, records_left,
-    sectors_held, store_area}
+use Rattle.clfs_cells_laws.proofs.Words.{◌≡◌, ◌⊎◌, ℕ, ◌+◌, ◌-◌, ◌≤◌, Bool, true, false, refl, ap, ◌∙◌, inl, inr, arith, List, [], ◌∷◌, ◌++◌, length, Option}
+use Rattle.clfs_cells_laws.proofs.Words.{Some, None, length-append, not, ◌||◌, ◌==◌, filter, nat_lt, is_some, AllByRecursion, option_map_or, cases_Bool}
+use Rattle.clfs_cells_laws.proofs.Words.{le-ltb, filter-append, null_lsn, Cursor, Draft, Refusal, Area, State, live_at, refusal, refused_if, free, grown}
+use Rattle.clfs_cells_laws.proofs.Words.{has_room, reserved, base_of, Made, Action, Change, append_call, txn_bytes, txn_record, Memory, Transaction}
+use Rattle.clfs_cells_laws.proofs.Words.{newest_standing, standing, with_one_undone, IsInLog, IsLiveRecord, IsOpen, IsStoreWith, newest_of, records_left}
+use Rattle.clfs_cells_laws.proofs.Words.{sectors_held, store_area}
 use Rattle.clfs_model.specs.declared.refusal.Refusal.TheVariants as refusals
 use Rattle.clfs_model.specs.Refusals.{append_refusal, is_link}
 use Rattle.clfs_cells_laws.proofs.Changes.{new_made, with_made}

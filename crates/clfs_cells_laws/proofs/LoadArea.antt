@@ -1,11 +1,12 @@
 -- Loading, once the client has its area: the stream is asked for, and its table is read or begun.
-use Rattle.clfs_cells_laws.proofs.Words.{◌≤◌, ◌≡◌, ◌⊎◌, ℕ, Bool, true, false, refl, sym, subst, ap, ◌∙◌, inl, inr, List, [], ◌∷◌, length, drop, Option, Some,
-    None, Ok, ◌==◌, if◌then◌else◌, find, is_none, AllByRecursion, last_or, option_map, option_map_or, cases_Bool, unused_cursor, null_lsn, Cursor, Records,
-    Forward, LogEntry, LogInfo, Refusal, Reply, Area, State, Outcome, answer, found_with_cursor, info_of, outcome, read_at, restarted, flushed, lsn_or_null,
-    next_lsn, newest_restart, with_cursor, Stream, table, table_name, read_refusal, refusal, refused_if, stream_number, area_of, Comes, IsReply, Checkpoint,
-    TxnRecord, Log, NotATable, blank_cells, blank_checkpoint, cell_count, checkpoint_bytes, checkpoint_of, first_restart, load_refusal, Loaded, gives_up,
-    load_above, load_area, load_new, load_stream, load_table, memory_of, read_records, stopped, Plan, ends, CarriesOut, on_found, on_info, on_placed,
-    IsLoadCause}
+use Rattle.clfs_cells_laws.proofs.Words.{◌≤◌, ◌≡◌, ◌⊎◌, ℕ, Bool, true, false, refl, sym, subst, ap, ◌∙◌, inl, inr, List, [], ◌∷◌, length, drop, Option, Some}
+use Rattle.clfs_cells_laws.proofs.Words.{None, Ok, ◌==◌, if◌then◌else◌, find, is_none, AllByRecursion, last_or, option_map, option_map_or, cases_Bool}
+use Rattle.clfs_cells_laws.proofs.Words.{unused_cursor, null_lsn, Cursor, Records, Forward, LogEntry, LogInfo, Refusal, Reply, Area, State, Outcome, answer}
+use Rattle.clfs_cells_laws.proofs.Words.{found_with_cursor, info_of, outcome, read_at, restarted, flushed, lsn_or_null, next_lsn, newest_restart, with_cursor}
+use Rattle.clfs_cells_laws.proofs.Words.{Stream, table, table_name, read_refusal, refusal, refused_if, stream_number, area_of, Comes, IsReply, Checkpoint}
+use Rattle.clfs_cells_laws.proofs.Words.{TxnRecord, Log, NotATable, blank_cells, blank_checkpoint, cell_count, checkpoint_bytes, checkpoint_of, first_restart}
+use Rattle.clfs_cells_laws.proofs.Words.{load_refusal, Loaded, gives_up, load_above, load_area, load_new, load_stream, load_table, memory_of, read_records}
+use Rattle.clfs_cells_laws.proofs.Words.{stopped, Plan, ends, CarriesOut, on_found, on_info, on_placed, IsLoadCause}
 use Rattle.clfs_lsn.specs.declared.cursor.CursorKind.{CursorKind}
 use Rattle.clfs_lsn.specs.declared.cursor.CursorKind.TheVariants.{RestartAreas}
 use Rattle.clfs_model.specs.declared.call.Call.TheVariants as calls
@@ -18,8 +19,8 @@ use Rattle.clfs_cells.specs.Layout.{numbers_in}
 use Rattle.clfs_cells.specs.Plans.{calls as asks}
 use Rattle.clfs_cells_laws.proofs.Above.{above}
 use Rattle.clfs_cells_laws.proofs.FirstRestart.{Restarted, first_lives, no_rows, restarts, zeros}
-use Rattle.clfs_cells_laws.proofs.Ground.{Ground, End, Met, at, cells_in, denied, done, end_by, gave, given_up, last_in, met, newest_in, no_table_in, own_area,
-    spelled, strange, stranger_in}
+use Rattle.clfs_cells_laws.proofs.Ground.{Ground, End, Met, at, cells_in, denied, done, end_by, gave, given_up, last_in, met, newest_in, no_table_in}
+use Rattle.clfs_cells_laws.proofs.Ground.{own_area, spelled, strange, stranger_in}
 use Rattle.clfs_cells_laws.proofs.Newest.{IsThere, each_there, last_has, lsn_found, newest_has, none_last, none_of, some_of}
 use Rattle.clfs_cells_laws.proofs.OwnArea.{change_own}
 use Rattle.clfs_cells_laws.proofs.ReadBack.{IsRead, forward, found_read, there}

@@ -1,8 +1,9 @@
 -- Loading leaves a log that isn't broken so, unless it is refused for a fault of the disk or damage.
-use Rattle.clfs_cells_laws.proofs.Words.{◌≡◌, ℕ, zero, suc, Bool, true, false, sym, ap, ◌∙◌, inl, inr, List, [], ◌∷◌, ◌++◌, Option, Some, None, Ok, Err,
-    length, ◌==◌, if◌then◌else◌, option_map_or, null_lsn, LogEntry, Call, LogInfo, Refusal, Reply, State, is_reply_of, Checkpoint, TxnRecord, TxnLoadRefusal,
-    blank_checkpoint, checkpoint_of, txn_record_of, Loaded, LoadStep, gives_up, load_above, load_area, load_new, load_stream, load_table, memory_of, on_more,
-    read_records, stopped, Plan, ends, calls, never, CarriesOut, on_area, on_found, on_info, on_placed, on_stream, Memory, breaks_log}
+use Rattle.clfs_cells_laws.proofs.Words.{◌≡◌, ℕ, zero, suc, Bool, true, false, sym, ap, ◌∙◌, inl, inr, List, [], ◌∷◌, ◌++◌, Option, Some, None, Ok, Err}
+use Rattle.clfs_cells_laws.proofs.Words.{length, ◌==◌, if◌then◌else◌, option_map_or, null_lsn, LogEntry, Call, LogInfo, Refusal, Reply, State, is_reply_of}
+use Rattle.clfs_cells_laws.proofs.Words.{Checkpoint, TxnRecord, TxnLoadRefusal, blank_checkpoint, checkpoint_of, txn_record_of, Loaded, LoadStep, gives_up}
+use Rattle.clfs_cells_laws.proofs.Words.{load_above, load_area, load_new, load_stream, load_table, memory_of, on_more, read_records, stopped, Plan, ends}
+use Rattle.clfs_cells_laws.proofs.Words.{calls, never, CarriesOut, on_area, on_found, on_info, on_placed, on_stream, Memory, breaks_log}
 use Rattle.clfs_model.specs.declared.call.Call.TheVariants as log_calls
 use Rattle.clfs_model.specs.declared.refusal.Refusal.TheVariants as log_refusals
 use Rattle.clfs_model.specs.declared.reply.Reply.TheVariants as log_replies

@@ -1,10 +1,12 @@
 -- What loading comes to.
-use Rattle.clfs_cells_laws.proofs.Words.{◌≡◌, ℕ, ◌<◌, ◌≤◌, Bool, true, false, refl, sym, subst, ap, ◌∙◌, inl, inr, arith, List, [], ◌∷◌, length, Option, Some,
-    None, Ok, Err, ◌==◌, ◌&&◌, filter, find, if◌then◌else◌, is_none, nat_lt, AllByRecursion, last_or, option_map, option_map_or, cases_Bool, le-ltb,
-    recursion_from_All, null_lsn, LogEntry, Call, Refusal, Fine, Reply, Area, State, Outcome, answer, outcome, restarted, unused_area, flushed, is_live, live,
-    lsn_or_null, refusal, refused_if, need_of, next_lsn, grown, areas_of, base_of, stream_at, IsReply, with_broken, IsRecord, IsValid, TxnLoadRefusal, Log,
-    NotATable, blank_cells, blank_checkpoint, checkpoint_bytes, first_restart, load_refusal, table_area, table_stream, with_stream, Loaded, LoadStep,
-    load_area, Plan, ends, CarriesOut, on_area, on_stream, table, table_name, table_in, IsLoaded, IsNotLoaded}
+use Rattle.clfs_cells_laws.proofs.Words.{◌≡◌, ℕ, ◌<◌, ◌≤◌, Bool, true, false, refl, sym, subst, ap, ◌∙◌, inl, inr, arith, List, [], ◌∷◌, length, Option, Some}
+use Rattle.clfs_cells_laws.proofs.Words.{None, Ok, Err, ◌==◌, ◌&&◌, filter, find, if◌then◌else◌, is_none, nat_lt, AllByRecursion, last_or, option_map}
+use Rattle.clfs_cells_laws.proofs.Words.{option_map_or, cases_Bool, le-ltb, recursion_from_All, null_lsn, LogEntry, Call, Refusal, Fine, Reply, Area, State}
+use Rattle.clfs_cells_laws.proofs.Words.{Outcome, answer, outcome, restarted, unused_area, flushed, is_live, live, lsn_or_null, refusal, refused_if, need_of}
+use Rattle.clfs_cells_laws.proofs.Words.{next_lsn, grown, areas_of, base_of, stream_at, IsReply, with_broken, IsRecord, IsValid, TxnLoadRefusal, Log}
+use Rattle.clfs_cells_laws.proofs.Words.{NotATable, blank_cells, blank_checkpoint, checkpoint_bytes, first_restart, load_refusal, table_area, table_stream}
+use Rattle.clfs_cells_laws.proofs.Words.{with_stream, Loaded, LoadStep, load_area, Plan, ends, CarriesOut, on_area, on_stream, table, table_name, table_in}
+use Rattle.clfs_cells_laws.proofs.Words.{IsLoaded, IsNotLoaded}
 use Rattle.clfs_lsn.specs.Size.{IsShape, longest}
 use Rattle.clfs_lsn.specs.declared.shape.Shape.{Shape}
 use Rattle.clfs_model.specs.declared.call.Call.TheVariants as calls

@@ -1,7 +1,7 @@
 -- The newest restart area and the last record of a list are among it.
-use Rattle.clfs_cells_laws.proofs.Words.{◌≡◌, ℕ, ◌<◌, Bool, true, false, refl, sym, subst, ap, ◌∙◌, inl, inr, arith, List, [], ◌∷◌, Option, Some, None, ◌==◌,
-    find, filter, reverse, slice_get, AllByRecursion, last_or, cases_Bool, eq-eqb, eqb-true, All-from_recursion, recursion_from_All, is_restart, null_lsn,
-    LogEntry, lsn_or_null}
+use Rattle.clfs_cells_laws.proofs.Words.{◌≡◌, ℕ, ◌<◌, Bool, true, false, refl, sym, subst, ap, ◌∙◌, inl, inr, arith, List, [], ◌∷◌, Option, Some, None, ◌==◌}
+use Rattle.clfs_cells_laws.proofs.Words.{find, filter, reverse, slice_get, AllByRecursion, last_or, cases_Bool, eq-eqb, eqb-true, All-from_recursion}
+use Rattle.clfs_cells_laws.proofs.Words.{recursion_from_All, is_restart, null_lsn, LogEntry, lsn_or_null}
 use Rattle.std.proofs.lemmas.List.Sorted.{All-permutation, IsPermutation-reverse}
 use Rattle.clfs_cells_laws.proofs.Above.{kept}
 use Rattle.clfs_cells_laws.proofs.Ground.{newest_in}

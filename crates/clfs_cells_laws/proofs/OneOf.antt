@@ -1,6 +1,6 @@
 -- One of several open transactions: found, changed, or gone.
-use Rattle.clfs_cells_laws.proofs.Words.{◌≡◌, ℕ, ◌+◌, Bool, true, false, refl, sym, subst, ap, ◌∙◌, inl, inr, arith, List, [], ◌∷◌, ◌++◌, Some, find,
-    AllByRecursion, cases_Bool, change_first, Transaction, without_first, AllApart, AreApart, records_left, sectors_held}
+use Rattle.clfs_cells_laws.proofs.Words.{◌≡◌, ℕ, ◌+◌, Bool, true, false, refl, sym, subst, ap, ◌∙◌, inl, inr, arith, List, [], ◌∷◌, ◌++◌, Some, find}
+use Rattle.clfs_cells_laws.proofs.Words.{AllByRecursion, cases_Bool, change_first, Transaction, without_first, AllApart, AreApart, records_left, sectors_held}
 
 -- the first that passes, and what stands before and after it
 pub record Placed {X : Type 0} (p : X → Bool) (xs : List X) (x : X) : Type 0 where

@@ -1,8 +1,9 @@
 -- The table's stream, open: what is read of the log and of the log with the stream is the same.
-use Rattle.clfs_cells_laws.proofs.Words.{◌≡◌, ℕ, suc, ◌+◌, ◌-◌, ◌<◌, true, false, refl, sym, subst, ap, ◌∙◌, inl, inr, arith, List, [], ◌∷◌, ◌++◌, length,
-    Option, Some, None, IsSome, ◌&&◌, ◌==◌, filter, is_none, slice_get, AllByRecursion, option_map_or, bytes_eq, cases_Bool, eqb-true, recursion_from_All,
-    null_lsn, stream_in, stream_number_from, LogEntry, Stream, State, Outcome, outcome, is_live, live, stream_number, stream_at, IsRecord, IsValid,
-    blank_cells, table_stream, with_stream, table, table_in, table_name}
+use Rattle.clfs_cells_laws.proofs.Words.{◌≡◌, ℕ, suc, ◌+◌, ◌-◌, ◌<◌, true, false, refl, sym, subst, ap, ◌∙◌, inl, inr, arith, List, [], ◌∷◌, ◌++◌, length}
+use Rattle.clfs_cells_laws.proofs.Words.{Option, Some, None, IsSome, ◌&&◌, ◌==◌, filter, is_none, slice_get, AllByRecursion, option_map_or, bytes_eq}
+use Rattle.clfs_cells_laws.proofs.Words.{cases_Bool, eqb-true, recursion_from_All, null_lsn, stream_in, stream_number_from, LogEntry, Stream, State, Outcome}
+use Rattle.clfs_cells_laws.proofs.Words.{outcome, is_live, live, stream_number, stream_at, IsRecord, IsValid, blank_cells, table_stream, with_stream, table}
+use Rattle.clfs_cells_laws.proofs.Words.{table_in, table_name}
 use Rattle.std.proofs.lemmas.Option.{slice_get_past}
 use Rattle.clfs_model.specs.declared.reply.Reply.TheVariants as replies
 use Rattle.clfs_model.specs.Answers.{opened}

@@ -1,13 +1,15 @@
 -- How a transaction begins, and how a checkpoint is written: what is left of the store.
-use Rattle.clfs_cells_laws.proofs.Words.{◌≡◌, ℕ, zero, suc, ◌+◌, ◌-◌, ◌*◌, ◌<◌, Bool, true, false, refl, sym, subst, ap, ◌∙◌, inl, inr, arith, List, [], ◌∷◌,
-    ◌++◌, length, Option, Some, None, ◌≢◌, if◌then◌else◌, ◌^◌, not, ◌==◌, find, nat_le, nat_lt, replicate, AllByRecursion, option_map_or, bytes_eq, eq-eqb,
-    cases_Bool, ne_eqb, ltb-false, append-nil, null_lsn, own, set_base, stream_number_from, LogEntry, Stream, Call, LogInfo, Refusal, Happened, Reply, Area,
-    State, Outcome, answer, info_of, outcome, reserved_for, restart_record, restarted, flush, flushed, last_live, live, hold_sizes, need_of, next_lsn, put,
-    with_more_held, full, is_base, refusal, refused_if, restart_refusal, too_long, free, grown, has_room, own_sum, reserved, base_of, change_area,
-    change_first, is_area, Step, Comes, IsReply, IsValid, TxnRefusal, TxnReply, Answered, answers, begin_plan, checkpoint_plan, greatest_number,
-    most_transactions, stops, unless, checkpoint_bytes, Plan, CarriesOut, on_held, on_info, on_placed, Memory, Transaction, most_records, with_begun,
-    begin_reason, reason_if, table_reason, for_room_or_outside, from_outside, AllApart, AreApart, IsOpen, IsStore, records_left, sectors_held, store_area,
-    first_cells, records_after, table_name, IsTabled}
+use Rattle.clfs_cells_laws.proofs.Words.{◌≡◌, ℕ, zero, suc, ◌+◌, ◌-◌, ◌*◌, ◌<◌, Bool, true, false, refl, sym, subst, ap, ◌∙◌, inl, inr, arith, List, [], ◌∷◌}
+use Rattle.clfs_cells_laws.proofs.Words.{◌++◌, length, Option, Some, None, ◌≢◌, if◌then◌else◌, ◌^◌, not, ◌==◌, find, nat_le, nat_lt, replicate}
+use Rattle.clfs_cells_laws.proofs.Words.{AllByRecursion, option_map_or, bytes_eq, eq-eqb, cases_Bool, ne_eqb, ltb-false, append-nil, null_lsn, own, set_base}
+use Rattle.clfs_cells_laws.proofs.Words.{stream_number_from, LogEntry, Stream, Call, LogInfo, Refusal, Happened, Reply, Area, State, Outcome, answer, info_of}
+use Rattle.clfs_cells_laws.proofs.Words.{outcome, reserved_for, restart_record, restarted, flush, flushed, last_live, live, hold_sizes, need_of, next_lsn}
+use Rattle.clfs_cells_laws.proofs.Words.{put, with_more_held, full, is_base, refusal, refused_if, restart_refusal, too_long, free, grown, has_room, own_sum}
+use Rattle.clfs_cells_laws.proofs.Words.{reserved, base_of, change_area, change_first, is_area, Step, Comes, IsReply, IsValid, TxnRefusal, TxnReply, Answered}
+use Rattle.clfs_cells_laws.proofs.Words.{answers, begin_plan, checkpoint_plan, greatest_number, most_transactions, stops, unless, checkpoint_bytes, Plan}
+use Rattle.clfs_cells_laws.proofs.Words.{CarriesOut, on_held, on_info, on_placed, Memory, Transaction, most_records, with_begun, begin_reason, reason_if}
+use Rattle.clfs_cells_laws.proofs.Words.{table_reason, for_room_or_outside, from_outside, AllApart, AreApart, IsOpen, IsStore, records_left, sectors_held}
+use Rattle.clfs_cells_laws.proofs.Words.{store_area, first_cells, records_after, table_name, IsTabled}
 use Rattle.std.proofs.lemmas.List.Folds.{sum_by-replicate}
 use Rattle.clfs_model.specs.declared.call.Call.TheVariants as calls
 use Rattle.clfs_model.specs.declared.refusal.Refusal.TheVariants as refusals

@@ -1,6 +1,6 @@
 -- A log whose last area is a client's only one.
-use Rattle.clfs_cells_laws.proofs.Words.{◌≡◌, ℕ, Bool, true, false, refl, ap, inl, inr, List, [], ◌∷◌, ◌++◌, filter, find, not, ◌==◌, cases_Bool, eq-eqb, Area,
-    State, area_of, areas_of, change_area, change_first, is_area}
+use Rattle.clfs_cells_laws.proofs.Words.{◌≡◌, ℕ, Bool, true, false, refl, ap, inl, inr, List, [], ◌∷◌, ◌++◌, filter, find, not, ◌==◌, cases_Bool, eq-eqb}
+use Rattle.clfs_cells_laws.proofs.Words.{Area, State, area_of, areas_of, change_area, change_first, is_area}
 use Rattle.std.specs.Prelude.{Some}
 
 -- the log with an area more

@@ -1,10 +1,12 @@
 -- One call of the log on an area that is known: how it goes if nothing refuses it, and what it leaves.
-use Rattle.clfs_cells_laws.proofs.Words.{◌≡◌, ◌⊎◌, ℕ, zero, suc, ◌+◌, ◌-◌, ◌<◌, ◌≤◌, Bool, true, false, refl, sym, subst, ap, ◌∙◌, inl, inr, arith, List, [],
-    ◌∷◌, ◌++◌, length, Option, Some, None, All, ◌&&◌, ◌==◌, find, nat_lt, slice_get, AllByRecursion, option_map, option_map_or, option_or, cases_Bool, eq-eqb,
-    ne_eqb, recursion_from_All, find-append, null_lsn, frontier, own, LogEntry, Stream, Call, Draft, Refusal, Happened, Reply, Area, State, answer, flushed,
-    appended, next_lsn, plain_record, put, with_less_held, refusal, free, grown, grown_if, reserved, area_of, base_of, change_area, change_first, is_area,
-    Step, Comes, IsDamaged, calls_disk, reads_disk, takes_memory, with_broken, IsRecord, IsValid, Checkpoint, TxnRecord, IsTxnRecord, checkpoint_bytes,
-    checkpoint_of, txn_bytes, txn_record_of, from_outside, IsLiveRecord}
+use Rattle.clfs_cells_laws.proofs.Words.{◌≡◌, ◌⊎◌, ℕ, zero, suc, ◌+◌, ◌-◌, ◌<◌, ◌≤◌, Bool, true, false, refl, sym, subst, ap, ◌∙◌, inl, inr, arith, List, []}
+use Rattle.clfs_cells_laws.proofs.Words.{◌∷◌, ◌++◌, length, Option, Some, None, All, ◌&&◌, ◌==◌, find, nat_lt, slice_get, AllByRecursion, option_map}
+use Rattle.clfs_cells_laws.proofs.Words.{option_map_or, option_or, cases_Bool, eq-eqb, ne_eqb, recursion_from_All, find-append, null_lsn, frontier, own}
+use Rattle.clfs_cells_laws.proofs.Words.{LogEntry, Stream, Call, Draft, Refusal, Happened, Reply, Area, State, answer, flushed, appended, next_lsn}
+use Rattle.clfs_cells_laws.proofs.Words.{plain_record, put, with_less_held, refusal, free, grown, grown_if, reserved, area_of, base_of, change_area}
+use Rattle.clfs_cells_laws.proofs.Words.{change_first, is_area, Step, Comes, IsDamaged, calls_disk, reads_disk, takes_memory, with_broken, IsRecord, IsValid}
+use Rattle.clfs_cells_laws.proofs.Words.{Checkpoint, TxnRecord, IsTxnRecord, checkpoint_bytes, checkpoint_of, txn_bytes, txn_record_of, from_outside}
+use Rattle.clfs_cells_laws.proofs.Words.{IsLiveRecord}
 use Rattle.std.proofs.lemmas.List.{append_cancel_left}
 use Rattle.clfs_model.specs.declared.call.Call.TheVariants as calls
 use Rattle.clfs_model.specs.declared.refusal.Refusal.TheVariants as refusals

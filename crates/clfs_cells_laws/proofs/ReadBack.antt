@@ -1,7 +1,8 @@
 -- What reading answers over a log whose last area is the client's only one.
-use Rattle.clfs_cells_laws.proofs.Words.{◌≡◌, ℕ, Bool, true, false, refl, ap, ◌∙◌, List, [], ◌∷◌, Option, Some, None, MatchBool, find, is_none, nat_lt,
-    option_map_or, eq-eqb, Cursor, Records, Forward, LogEntry, cursors_moved, cursors_without, record_cursor_in, cursor_in, Reply, Area, State, answer,
-    moved_on, outcome, live, cursor_of, record_cursor, with_cursor_at, without_cursor, next_refusal, refusal, refused_if, area_of, change_area, IsReply}
+use Rattle.clfs_cells_laws.proofs.Words.{◌≡◌, ℕ, Bool, true, false, refl, ap, ◌∙◌, List, [], ◌∷◌, Option, Some, None, MatchBool, find, is_none, nat_lt}
+use Rattle.clfs_cells_laws.proofs.Words.{option_map_or, eq-eqb, Cursor, Records, Forward, LogEntry, cursors_moved, cursors_without, record_cursor_in}
+use Rattle.clfs_cells_laws.proofs.Words.{cursor_in, Reply, Area, State, answer, moved_on, outcome, live, cursor_of, record_cursor, with_cursor_at}
+use Rattle.clfs_cells_laws.proofs.Words.{without_cursor, next_refusal, refusal, refused_if, area_of, change_area, IsReply}
 use Rattle.clfs_model.specs.declared.call.Call.TheVariants as calls
 use Rattle.clfs_model.specs.declared.refusal.Refusal.TheVariants as refusals
 use Rattle.clfs_model.specs.declared.reply.Reply.TheVariants as replies

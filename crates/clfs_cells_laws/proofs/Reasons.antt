@@ -1,13 +1,15 @@
 -- Why the calls of a store are refused: each for the first of its reasons.
-use Rattle.clfs_cells_laws.proofs.Words.{◌≡◌, ℕ, zero, suc, ◌+◌, ◌*◌, ◌<◌, Bool, true, false, refl, sym, subst, ap, ◌∙◌, inl, inr, arith, List, [], ◌∷◌,
-    length, Option, Some, None, length-append, ◌≢◌, ◌&&◌, ◌||◌, ◌==◌, if◌then◌else◌, not, MatchOption, is_some, nat_le, nat_lt, option_map, option_map_or,
-    option_or, cases_Bool, eq-eqb, le-ltb, lt-ltb, ne_eqb, recursion_from_All, null_lsn, own, LogEntry, Call, LogInfo, Refusal, Happened, Fine, Fault, Damage,
-    Reply, Area, State, Outcome, answer, info_of, outcome, reserved_for, restarted, flushed, is_live, last_live, live, live_at, hold_sizes, need_of, next_lsn,
-    full, is_base, refusal, refused_if, restart_refusal, short, too_long, grown, own_sum, base_of, Step, Comes, Goes, calls_disk, reads_disk, takes_memory,
-    IsRecord, IsValid, TxnCall, TxnRefusal, TxnReply, Answered, TxnStep, answers, begin_plan, checkpoint_plan, greatest_number, most_transactions, stops,
-    unless, cell_count, checkpoint_bytes, area_largest, Plan, CarriesOut, on_held, on_info, on_placed, Memory, Store, most_records, with_begun, reads_back,
-    tells_break, tells_table_broken, tells_table_damage, asks_log, reason_if, table_reason, HasArguments, for_room_or_outside, from_outside, is_of_log,
-    IsKeptStore, IsStore, sectors_held, store_area}
+use Rattle.clfs_cells_laws.proofs.Words.{◌≡◌, ℕ, zero, suc, ◌+◌, ◌*◌, ◌<◌, Bool, true, false, refl, sym, subst, ap, ◌∙◌, inl, inr, arith, List, [], ◌∷◌}
+use Rattle.clfs_cells_laws.proofs.Words.{length, Option, Some, None, length-append, ◌≢◌, ◌&&◌, ◌||◌, ◌==◌, if◌then◌else◌, not, MatchOption, is_some, nat_le}
+use Rattle.clfs_cells_laws.proofs.Words.{nat_lt, option_map, option_map_or, option_or, cases_Bool, eq-eqb, le-ltb, lt-ltb, ne_eqb, recursion_from_All}
+use Rattle.clfs_cells_laws.proofs.Words.{null_lsn, own, LogEntry, Call, LogInfo, Refusal, Happened, Fine, Fault, Damage, Reply, Area, State, Outcome, answer}
+use Rattle.clfs_cells_laws.proofs.Words.{info_of, outcome, reserved_for, restarted, flushed, is_live, last_live, live, live_at, hold_sizes, need_of, next_lsn}
+use Rattle.clfs_cells_laws.proofs.Words.{full, is_base, refusal, refused_if, restart_refusal, short, too_long, grown, own_sum, base_of, Step, Comes, Goes}
+use Rattle.clfs_cells_laws.proofs.Words.{calls_disk, reads_disk, takes_memory, IsRecord, IsValid, TxnCall, TxnRefusal, TxnReply, Answered, TxnStep, answers}
+use Rattle.clfs_cells_laws.proofs.Words.{begin_plan, checkpoint_plan, greatest_number, most_transactions, stops, unless, cell_count, checkpoint_bytes}
+use Rattle.clfs_cells_laws.proofs.Words.{area_largest, Plan, CarriesOut, on_held, on_info, on_placed, Memory, Store, most_records, with_begun, reads_back}
+use Rattle.clfs_cells_laws.proofs.Words.{tells_break, tells_table_broken, tells_table_damage, asks_log, reason_if, table_reason, HasArguments}
+use Rattle.clfs_cells_laws.proofs.Words.{for_room_or_outside, from_outside, is_of_log, IsKeptStore, IsStore, sectors_held, store_area}
 use Rattle.std.specs.List.{flat_map}
 use Rattle.byteorder.specs.Endian.{little_bytes}
 use Rattle.clfs_model.specs.declared.call.Call.TheVariants as calls

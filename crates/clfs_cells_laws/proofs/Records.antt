@@ -1,17 +1,19 @@
 -- Reading the records above a restart area, to the end of the stream.
-use Rattle.clfs_cells_laws.proofs.Words.{◌≤◌, arith, ◌≡◌, ◌⊎◌, ℕ, zero, suc, Bool, true, false, refl, sym, subst, ap, ◌∙◌, inl, inr, List, [], ◌∷◌, ◌++◌,
-    length, Option, Some, None, Ok, IsSome, MatchBool, ◌==◌, if◌then◌else◌, find, is_none, is_some, nat_lt, option_and_then, option_map, option_map_or,
-    cases_Bool, eq-eqb, append-nil, append_assoc, length-set, null_lsn, Cursor, LogEntry, Refusal, Reply, Area, State, Outcome, answer, outcome, flushed, live,
-    live_at, lsn_or_null, refusal, refused_if, Comes, Checkpoint, TxnRecord, Log, NotATable, Action, Set, Compensation, Commit, RolledBack, blank_cells,
-    cell_count, checkpoint_of, txn_record_of, first_restart, load_refusal, table_stream, Loaded, gives_up, last_number, memory_of, on_more, read_records, Plan,
-    calls, ends, CarriesOut, Memory, after_action, changed, committed, AllByRecursion, last_or, IsLoadCause}
+use Rattle.clfs_cells_laws.proofs.Words.{◌≤◌, arith, ◌≡◌, ◌⊎◌, ℕ, zero, suc, Bool, true, false, refl, sym, subst, ap, ◌∙◌, inl, inr, List, [], ◌∷◌, ◌++◌}
+use Rattle.clfs_cells_laws.proofs.Words.{length, Option, Some, None, Ok, IsSome, MatchBool, ◌==◌, if◌then◌else◌, find, is_none, is_some, nat_lt}
+use Rattle.clfs_cells_laws.proofs.Words.{option_and_then, option_map, option_map_or, cases_Bool, eq-eqb, append-nil, append_assoc, length-set, null_lsn}
+use Rattle.clfs_cells_laws.proofs.Words.{Cursor, LogEntry, Refusal, Reply, Area, State, Outcome, answer, outcome, flushed, live, live_at, lsn_or_null}
+use Rattle.clfs_cells_laws.proofs.Words.{refusal, refused_if, Comes, Checkpoint, TxnRecord, Log, NotATable, Action, Set, Compensation, Commit, RolledBack}
+use Rattle.clfs_cells_laws.proofs.Words.{blank_cells, cell_count, checkpoint_of, txn_record_of, first_restart, load_refusal, table_stream, Loaded, gives_up}
+use Rattle.clfs_cells_laws.proofs.Words.{last_number, memory_of, on_more, read_records, Plan, calls, ends, CarriesOut, Memory, after_action, changed}
+use Rattle.clfs_cells_laws.proofs.Words.{committed, AllByRecursion, last_or, IsLoadCause}
 use Rattle.std.specs.Prelude.{max}
 use Rattle.clfs_model.specs.declared.call.Call.TheVariants as calls
 use Rattle.clfs_model.specs.declared.refusal.Refusal.TheVariants as refusals
 use Rattle.clfs_model.specs.declared.reply.Reply.TheVariants as replies
 use Rattle.clfs_cells_laws.proofs.Above.{above, next_above, none_above}
-use Rattle.clfs_cells_laws.proofs.Ground.{Ground, End, Met, Stops, after_in, at, cells_in, done, denied, end_by, gave, given_up, last_in, met, newest_in,
-    no_table_in, restart_in, spelled, strange, stranger_in}
+use Rattle.clfs_cells_laws.proofs.Ground.{Ground, End, Met, Stops, after_in, at, cells_in, done, denied, end_by, gave, given_up, last_in, met, newest_in}
+use Rattle.clfs_cells_laws.proofs.Ground.{no_table_in, restart_in, spelled, strange, stranger_in}
 use Rattle.clfs_cells_laws.proofs.ReadBack.{IsRead, ended, end_answered, forward, next_answered, next_in, next_read, next_refused, there}
 use Rattle.clfs_cells_laws.proofs.Ways.{Way, called, came, lacked, refused, faulted, damaged, by_reply}
 

@@ -1,7 +1,7 @@
 -- The cells after records, and records taken out of their order.
-use Rattle.clfs_cells_laws.proofs.Words.{◌≡◌, ℕ, Bool, true, false, refl, sym, ap, ◌∙◌, inl, inr, List, [], ◌∷◌, ◌++◌, not, ◌&&◌, ◌||◌, ◌==◌, filter,
-    slice_index, AllByRecursion, cases_Bool, eq-eqb, append-nil, filter-append, Action, Set, Compensation, Commit, RolledBack, TxnRecord, after_action,
-    changed, committed, is_commit, is_committed, changes}
+use Rattle.clfs_cells_laws.proofs.Words.{◌≡◌, ℕ, Bool, true, false, refl, sym, ap, ◌∙◌, inl, inr, List, [], ◌∷◌, ◌++◌, not, ◌&&◌, ◌||◌, ◌==◌, filter}
+use Rattle.clfs_cells_laws.proofs.Words.{slice_index, AllByRecursion, cases_Bool, eq-eqb, append-nil, filter-append, Action, Set, Compensation, Commit}
+use Rattle.clfs_cells_laws.proofs.Words.{RolledBack, TxnRecord, after_action, changed, committed, is_commit, is_committed, changes}
 use Rattle.std.proofs.Common.{◌≢◌}
 use Rattle.std.proofs.lemmas.List.{set_comm}
 use Rattle.std.proofs.lemmas.List.Folds.{list_any-append}

@@ -1,7 +1,8 @@
 -- The table of a store's log, as the store knows it, and what a commit makes of it.
-use Rattle.clfs_cells_laws.proofs.Words.{◌≡◌, ℕ, Bool, true, false, refl, sym, subst, ap, ◌∙◌, inl, inr, List, [], ◌∷◌, ◌++◌, Option, Some, None, find,
-    slice_index, AllByRecursion, option_map_or, cases_Bool, State, Memory, Store, Transaction, holds, is_numbered, without_first, changed, committed,
-    first_cells, records_after, table, table_in, IsCommitted, AllApart, AreApart, IsStore, value_before, IsInTable}
+use Rattle.clfs_cells_laws.proofs.Words.{◌≡◌, ℕ, Bool, true, false, refl, sym, subst, ap, ◌∙◌, inl, inr, List, [], ◌∷◌, ◌++◌, Option, Some, None, find}
+use Rattle.clfs_cells_laws.proofs.Words.{slice_index, AllByRecursion, option_map_or, cases_Bool, State, Memory, Store, Transaction, holds, is_numbered}
+use Rattle.clfs_cells_laws.proofs.Words.{without_first, changed, committed, first_cells, records_after, table, table_in, IsCommitted, AllApart, AreApart}
+use Rattle.clfs_cells_laws.proofs.Words.{IsStore, value_before, IsInTable}
 use Rattle.clfs_cells_laws.specs.Tables.{JoinsTable, settled}
 use Rattle.clfs_cells_laws.proofs.FromLoading.{table_of}
 use Rattle.clfs_cells_laws.proofs.OneOf.{apart_parts, placed, without_at}

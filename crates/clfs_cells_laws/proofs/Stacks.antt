@@ -1,7 +1,7 @@
 -- The sets of a transaction, one on the other: the newest that stands is found by its LSN, and taking it back leaves those below it.
-use Rattle.clfs_cells_laws.proofs.Words.{◌≡◌, ℕ, suc, ◌+◌, ◌<◌, Bool, true, false, refl, sym, subst, ap, ◌∙◌, inl, inr, arith, List, [], ◌∷◌, ◌++◌, length,
-    Some, not, find, filter, reverse, AllByRecursion, list_any, cases_Bool, eq-eqb, ne_eqb, filter-append, change_first, Made, Transaction, is_at, standing,
-    AreStacked, is_of_cell, value_before, value_by}
+use Rattle.clfs_cells_laws.proofs.Words.{◌≡◌, ℕ, suc, ◌+◌, ◌<◌, Bool, true, false, refl, sym, subst, ap, ◌∙◌, inl, inr, arith, List, [], ◌∷◌, ◌++◌, length}
+use Rattle.clfs_cells_laws.proofs.Words.{Some, not, find, filter, reverse, AllByRecursion, list_any, cases_Bool, eq-eqb, ne_eqb, filter-append, change_first}
+use Rattle.clfs_cells_laws.proofs.Words.{Made, Transaction, is_at, standing, AreStacked, is_of_cell, value_before, value_by}
 use Rattle.std.proofs.lemmas.Grind.{reverse_onto}
 use Rattle.std.proofs.lemmas.List.{reverse-reverse, reverse-append, length-reverse}
 use Rattle.clfs_cells_laws.specs.Stores.{Rise}

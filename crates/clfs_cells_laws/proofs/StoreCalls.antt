@@ -1,10 +1,11 @@
 -- What a call of the log leaves of a store.
-use Rattle.clfs_cells_laws.proofs.Words.{◌≡◌, ℕ, ◌-◌, ◌<◌, ◌≤◌, Bool, true, false, refl, sym, subst, ap, ◌∙◌, inl, inr, arith, List, [], ◌∷◌, ◌++◌, length,
-    Some, None, not, ◌^◌, ◌&&◌, ◌==◌, find, nat_le, slice_index, slice_set, AllByRecursion, list_any, cases_Bool, eqb-true, ne_eqb, append-nil, length-set,
-    own, Cursor, LogEntry, Stream, stream_number_from, Area, State, stream_number, change_area, change_first, IsValid, Made, Set, Change, change_to,
-    compensation, cell_count, Memory, Transaction, holder, holds, is_holder, is_numbered, newest_standing, standing, transaction, with_one_undone, with_set,
-    with_undone, table_name, AllApart, AreApart, IsInLog, IsLiveRecord, IsOpen, IsStoreWith, is_of_cell, records_left, sectors_held, store_area, IsTabled,
-    Keeps, TxnRecord, first_cells, records_after}
+use Rattle.clfs_cells_laws.proofs.Words.{◌≡◌, ℕ, ◌-◌, ◌<◌, ◌≤◌, Bool, true, false, refl, sym, subst, ap, ◌∙◌, inl, inr, arith, List, [], ◌∷◌, ◌++◌, length}
+use Rattle.clfs_cells_laws.proofs.Words.{Some, None, not, ◌^◌, ◌&&◌, ◌==◌, find, nat_le, slice_index, slice_set, AllByRecursion, list_any, cases_Bool}
+use Rattle.clfs_cells_laws.proofs.Words.{eqb-true, ne_eqb, append-nil, length-set, own, Cursor, LogEntry, Stream, stream_number_from, Area, State}
+use Rattle.clfs_cells_laws.proofs.Words.{stream_number, change_area, change_first, IsValid, Made, Set, Change, change_to, compensation, cell_count, Memory}
+use Rattle.clfs_cells_laws.proofs.Words.{Transaction, holder, holds, is_holder, is_numbered, newest_standing, standing, transaction, with_one_undone}
+use Rattle.clfs_cells_laws.proofs.Words.{with_set, with_undone, table_name, AllApart, AreApart, IsInLog, IsLiveRecord, IsOpen, IsStoreWith, is_of_cell}
+use Rattle.clfs_cells_laws.proofs.Words.{records_left, sectors_held, store_area, IsTabled, Keeps, TxnRecord, first_cells, records_after}
 use Rattle.clfs_cells_laws.proofs.Changes.{made_holds, new_made, others_stay, set_open, undone_open, undone_standing, with_made}
 use Rattle.clfs_cells_laws.proofs.Grown.{Grows, in_log_on, live_on, still_some}
 use Rattle.clfs_cells_laws.proofs.Links.{held_less, made_left, some_left, undone_left}

@@ -1,15 +1,15 @@
 -- A store's table where a transaction ends: what was committed joins it, and what was rolled back leaves no trace.
-use Rattle.clfs_cells_laws.proofs.Words.{◌≡◌, ℕ, ◌≤◌, Bool, true, false, refl, sym, subst, ap, ◌∙◌, inl, inr, List, [], ◌∷◌, ◌++◌, ◌&&◌, ◌||◌, ◌==◌, filter,
-    slice_index, AllByRecursion, cases_Bool, eq-eqb, eqb-true, filter-append, Action, Set, Compensation, Commit, RolledBack, TxnRecord, txn_record, Memory,
-    Transaction, holds, changed, committed, is_committed, AreApart, value_before, AreExclusive, AreOwn, IsInTable, IsOwn, Keeps, changes, done_by, is_among,
-    numbers_of}
+use Rattle.clfs_cells_laws.proofs.Words.{◌≡◌, ℕ, ◌≤◌, Bool, true, false, refl, sym, subst, ap, ◌∙◌, inl, inr, List, [], ◌∷◌, ◌++◌, ◌&&◌, ◌||◌, ◌==◌, filter}
+use Rattle.clfs_cells_laws.proofs.Words.{slice_index, AllByRecursion, cases_Bool, eq-eqb, eqb-true, filter-append, Action, Set, Compensation, Commit}
+use Rattle.clfs_cells_laws.proofs.Words.{RolledBack, TxnRecord, txn_record, Memory, Transaction, holds, changed, committed, is_committed, AreApart}
+use Rattle.clfs_cells_laws.proofs.Words.{value_before, AreExclusive, AreOwn, IsInTable, IsOwn, Keeps, changes, done_by, is_among, numbers_of}
 use Rattle.std.proofs.lemmas.List.{ext_get_or}
 use Rattle.clfs_cells_laws.proofs.OneOf.{all_parts}
 use Rattle.clfs_cells_laws.proofs.Records.{changed_long}
 use Rattle.clfs_cells_laws.proofs.Rows.{ComeAfter, changed_then, for_all, one_more_commit, same_committed, same_test, split, untouched}
 use Rattle.clfs_cells_laws.proofs.Stacks.{each, with_last}
-use Rattle.clfs_cells_laws.proofs.Tabled.{among_split, both, come_after, done_same, exclusive_for, exclusive_more, filtered, free_of, is_false,
-    never_committed, not_among, own_holds}
+use Rattle.clfs_cells_laws.proofs.Tabled.{among_split, both, come_after, done_same, exclusive_for, exclusive_more, filtered, free_of, is_false}
+use Rattle.clfs_cells_laws.proofs.Tabled.{never_committed, not_among, own_holds}
 
 -- ---- what one transaction did
 

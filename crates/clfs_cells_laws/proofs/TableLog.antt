@@ -1,8 +1,9 @@
 -- What a table's log says after a record of it, and after a checkpoint.
-use Rattle.clfs_cells_laws.proofs.Words.{◌≡◌, ℕ, ◌<◌, ◌≤◌, Bool, true, false, refl, ap, ◌∙◌, arith, List, [], ◌∷◌, ◌++◌, Option, Some, None, ◌&&◌, ◌==◌,
-    filter, nat_lt, reverse, slice_get, AllByRecursion, option_and_then, option_map_or, eq-eqb, le-leb, lt-ltb, append-nil, filter-append, recursion_from_All,
-    is_restart, frontier, LogEntry, Stream, State, is_live, live, lsn_or_null, base_of, log_of, IsRecord, IsValid, Checkpoint, TxnRecord, blank_cells,
-    checkpoint_of, txn_record_of, entries_after, first_cells, records_after}
+use Rattle.clfs_cells_laws.proofs.Words.{◌≡◌, ℕ, ◌<◌, ◌≤◌, Bool, true, false, refl, ap, ◌∙◌, arith, List, [], ◌∷◌, ◌++◌, Option, Some, None, ◌&&◌, ◌==◌}
+use Rattle.clfs_cells_laws.proofs.Words.{filter, nat_lt, reverse, slice_get, AllByRecursion, option_and_then, option_map_or, eq-eqb, le-leb, lt-ltb}
+use Rattle.clfs_cells_laws.proofs.Words.{append-nil, filter-append, recursion_from_All, is_restart, frontier, LogEntry, Stream, State, is_live, live}
+use Rattle.clfs_cells_laws.proofs.Words.{lsn_or_null, base_of, log_of, IsRecord, IsValid, Checkpoint, TxnRecord, blank_cells, checkpoint_of, txn_record_of}
+use Rattle.clfs_cells_laws.proofs.Words.{entries_after, first_cells, records_after}
 use Rattle.std.proofs.lemmas.List.Elements.{filter_map-append}
 use Rattle.clfs_cells_laws.proofs.Above.{above, kept}
 use Rattle.clfs_cells_laws.proofs.Ground.{newest_in, spelled}

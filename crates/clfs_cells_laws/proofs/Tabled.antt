@@ -1,8 +1,9 @@
 -- A store's table while its transactions begin, go on, and end.
-use Rattle.clfs_cells_laws.proofs.Words.{◌≡◌, ℕ, ◌+◌, ◌<◌, ◌≤◌, Bool, true, false, refl, sym, subst, ap, ◌∙◌, inl, inr, arith, List, [], ◌∷◌, ◌++◌, not, ◌||◌,
-    ◌==◌, filter, slice_index, AllByRecursion, cases_Bool, eq-eqb, eqb-true, ne_eqb, append-nil, filter-append, null_lsn, Action, Set, Compensation, Commit,
-    RolledBack, TxnRecord, Memory, Transaction, holds, with_begun, after_action, changed, committed, is_commit, is_committed, AreApart, AreExclusive, AreOwn,
-    IsInTable, IsOwn, Keeps, changes, done_by, is_among, numbers_of}
+use Rattle.clfs_cells_laws.proofs.Words.{◌≡◌, ℕ, ◌+◌, ◌<◌, ◌≤◌, Bool, true, false, refl, sym, subst, ap, ◌∙◌, inl, inr, arith, List, [], ◌∷◌, ◌++◌, not, ◌||◌}
+use Rattle.clfs_cells_laws.proofs.Words.{◌==◌, filter, slice_index, AllByRecursion, cases_Bool, eq-eqb, eqb-true, ne_eqb, append-nil, filter-append, null_lsn}
+use Rattle.clfs_cells_laws.proofs.Words.{Action, Set, Compensation, Commit, RolledBack, TxnRecord, Memory, Transaction, holds, with_begun, after_action}
+use Rattle.clfs_cells_laws.proofs.Words.{changed, committed, is_commit, is_committed, AreApart, AreExclusive, AreOwn, IsInTable, IsOwn, Keeps, changes}
+use Rattle.clfs_cells_laws.proofs.Words.{done_by, is_among, numbers_of}
 use Rattle.std.proofs.Common.{◌^◌}
 use Rattle.clfs_cells_laws.proofs.OneOf.{all_join, all_parts}
 use Rattle.clfs_cells_laws.proofs.Rows.{AreSeparate, ComeAfter, changed_then, same_committed, same_test, untouched}

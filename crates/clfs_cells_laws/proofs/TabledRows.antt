@@ -1,9 +1,10 @@
 -- A record of an open transaction that joins its table.
-use Rattle.clfs_cells_laws.proofs.Words.{◌≡◌, ℕ, ◌<◌, ◌≤◌, Bool, true, false, refl, sym, subst, ap, ◌∙◌, inl, inr, arith, List, [], ◌∷◌, ◌++◌, length, not,
-    ◌&&◌, ◌==◌, slice_index, slice_set, AllByRecursion, list_any, cases_Bool, eq-eqb, eqb-true, ne_eqb, LogEntry, State, IsValid, Cursor, Made, Action, Set,
-    Change, TxnRecord, change_to, compensation, IsAction, IsChange, cell_count, txn_record, Memory, Transaction, holds, is_at, is_holder, is_numbered,
-    standing, with_one_undone, after_action, changed, committed, first_cells, records_after, AreApart, IsLiveRecord, is_of_cell, value_before, IsInTable,
-    IsOwn, IsTabled, Keeps}
+use Rattle.clfs_cells_laws.proofs.Words.{◌≡◌, ℕ, ◌<◌, ◌≤◌, Bool, true, false, refl, sym, subst, ap, ◌∙◌, inl, inr, arith, List, [], ◌∷◌, ◌++◌, length, not}
+use Rattle.clfs_cells_laws.proofs.Words.{◌&&◌, ◌==◌, slice_index, slice_set, AllByRecursion, list_any, cases_Bool, eq-eqb, eqb-true, ne_eqb, LogEntry, State}
+use Rattle.clfs_cells_laws.proofs.Words.{IsValid, Cursor, Made, Action, Set, Change, TxnRecord, change_to, compensation, IsAction, IsChange, cell_count}
+use Rattle.clfs_cells_laws.proofs.Words.{txn_record, Memory, Transaction, holds, is_at, is_holder, is_numbered, standing, with_one_undone, after_action}
+use Rattle.clfs_cells_laws.proofs.Words.{changed, committed, first_cells, records_after, AreApart, IsLiveRecord, is_of_cell, value_before, IsInTable, IsOwn}
+use Rattle.clfs_cells_laws.proofs.Words.{IsTabled, Keeps}
 use Rattle.std.proofs.Common.{◌^◌}
 use Rattle.clfs_cells_laws.proofs.Adding.{Added, entry_of, now_of}
 use Rattle.clfs_cells_laws.proofs.Changes.{made_holds, new_made, others_stay, with_made, written}

@@ -1,8 +1,9 @@
 -- What the steps of a store come to, call by call.
-use Rattle.clfs_cells_laws.proofs.Words.{◌≡◌, ◌⊎◌, ℕ, ◌<◌, Bool, true, false, refl, sym, subst, ap, ◌∙◌, inl, inr, ◌^◌, slice_index, Refusal, State, TxnCall,
-    TxnRefusal, TxnReply, Answered, TxnStep, back_plan, begin_plan, checkpoint_plan, commit_plan, rollback_plan, set_plan, unless, cell_count, Plan,
-    CarriesOut, Memory, Store, with_begun, asks_log, begin_reason, table_reason, HasArguments, IsCommitted, IsRolledBack, IsSetTo, IsTakenBack,
-    for_room_or_outside, from_outside, is_of_log, IsKeptStore, IsStore}
+use Rattle.clfs_cells_laws.proofs.Words.{◌≡◌, ◌⊎◌, ℕ, ◌<◌, Bool, true, false, refl, sym, subst, ap, ◌∙◌, inl, inr, ◌^◌, slice_index, Refusal, State, TxnCall}
+use Rattle.clfs_cells_laws.proofs.Words.{TxnRefusal, TxnReply, Answered, TxnStep, back_plan, begin_plan, checkpoint_plan, commit_plan, rollback_plan}
+use Rattle.clfs_cells_laws.proofs.Words.{set_plan, unless, cell_count, Plan, CarriesOut, Memory, Store, with_begun, asks_log, begin_reason, table_reason}
+use Rattle.clfs_cells_laws.proofs.Words.{HasArguments, IsCommitted, IsRolledBack, IsSetTo, IsTakenBack, for_room_or_outside, from_outside, is_of_log}
+use Rattle.clfs_cells_laws.proofs.Words.{IsKeptStore, IsStore}
 use Rattle.std.specs.Prelude.{Option}
 use Rattle.clfs_model.specs.declared.refusal.Refusal.TheVariants as log_refusals
 use Rattle.clfs_cells.specs.declared.asked.TxnCall.TheVariants as asked

@@ -1,11 +1,13 @@
 -- How a transaction ends, and how sets are taken back: what is left of the store.
-use Rattle.clfs_cells_laws.proofs.Words.{◌≡◌, ℕ, ◌+◌, ◌-◌, ◌≤◌, Bool, true, false, refl, sym, subst, ap, ◌∙◌, inl, inr, arith, List, [], ◌∷◌, ◌++◌, length,
-    drop, Option, Some, None, find, nat_lt, slice_index, AllByRecursion, option_map_or, ne_eqb, le-ltb, ltb-false, null_lsn, LogEntry, Reply, Area, State,
-    Outcome, answer, outcome, flushed, next_lsn, with_less_held, refusal, refused_if, short, change_area, Comes, IsReply, IsValid, Made, Action, Commit,
-    RolledBack, TxnRefusal, Answered, answers, append_call, back_plan, commit_plan, end_plan, over_transaction, refuses, rollback_plan, stops, undo_sets,
-    unless, txn_bytes, txn_record, Plan, CarriesOut, on_held, on_placed, Memory, Transaction, is_numbered, most_records, records_made, standing, transaction,
-    without_first, without_transaction, reason_if, table_reason, IsCommitted, IsRolledBack, IsTakenBack, from_outside, AllApart, AreApart, IsOpen, IsStore,
-    records_left, sectors_held, store_area, value_before, value_by, IsAction, changed, committed, first_cells, records_after, IsInTable, IsTabled, Keeps}
+use Rattle.clfs_cells_laws.proofs.Words.{◌≡◌, ℕ, ◌+◌, ◌-◌, ◌≤◌, Bool, true, false, refl, sym, subst, ap, ◌∙◌, inl, inr, arith, List, [], ◌∷◌, ◌++◌, length}
+use Rattle.clfs_cells_laws.proofs.Words.{drop, Option, Some, None, find, nat_lt, slice_index, AllByRecursion, option_map_or, ne_eqb, le-ltb, ltb-false}
+use Rattle.clfs_cells_laws.proofs.Words.{null_lsn, LogEntry, Reply, Area, State, Outcome, answer, outcome, flushed, next_lsn, with_less_held, refusal}
+use Rattle.clfs_cells_laws.proofs.Words.{refused_if, short, change_area, Comes, IsReply, IsValid, Made, Action, Commit, RolledBack, TxnRefusal, Answered}
+use Rattle.clfs_cells_laws.proofs.Words.{answers, append_call, back_plan, commit_plan, end_plan, over_transaction, refuses, rollback_plan, stops, undo_sets}
+use Rattle.clfs_cells_laws.proofs.Words.{unless, txn_bytes, txn_record, Plan, CarriesOut, on_held, on_placed, Memory, Transaction, is_numbered, most_records}
+use Rattle.clfs_cells_laws.proofs.Words.{records_made, standing, transaction, without_first, without_transaction, reason_if, table_reason, IsCommitted}
+use Rattle.clfs_cells_laws.proofs.Words.{IsRolledBack, IsTakenBack, from_outside, AllApart, AreApart, IsOpen, IsStore, records_left, sectors_held, store_area}
+use Rattle.clfs_cells_laws.proofs.Words.{value_before, value_by, IsAction, changed, committed, first_cells, records_after, IsInTable, IsTabled, Keeps}
 use Rattle.std.proofs.Math.Seq.{drop-append_seam}
 use Rattle.std.proofs.lemmas.List.{length-append}
 use Rattle.clfs_model.specs.declared.call.Call.TheVariants as calls

@@ -1,9 +1,10 @@
 -- Reading along the undo-next links, for a store: from the newest set of a transaction that stands to the one below it, and the end of the cursor.
-use Rattle.clfs_cells_laws.proofs.Words.{◌≡◌, ℕ, Bool, true, refl, subst, ap, ◌∙◌, inl, inr, [], ◌∷◌, Option, Some, None, ◌==◌, is_none, option_and_then,
-    option_map_or, eq-eqb, eqb-true, cursor_in, cursors_moved, cursors_without, record_cursor_in, unused_cursor, Cursor, Records, UndoNext, LogEntry, Refusal,
-    Happened, Reply, Area, State, Outcome, answer, found_with_cursor, moved_on, outcome, read_at, flushed, live, live_at, cursor_of, record_cursor,
-    with_cursor, with_cursor_at, without_cursor, next_refusal, read_refusal, refusal, refused_if, change_area, Step, Comes, with_broken, Answered,
-    with_read_ended, Plan, CarriesOut, Memory, from_outside, IsLiveRecord, IsStoreWith, store_area}
+use Rattle.clfs_cells_laws.proofs.Words.{◌≡◌, ℕ, Bool, true, refl, subst, ap, ◌∙◌, inl, inr, [], ◌∷◌, Option, Some, None, ◌==◌, is_none, option_and_then}
+use Rattle.clfs_cells_laws.proofs.Words.{option_map_or, eq-eqb, eqb-true, cursor_in, cursors_moved, cursors_without, record_cursor_in, unused_cursor, Cursor}
+use Rattle.clfs_cells_laws.proofs.Words.{Records, UndoNext, LogEntry, Refusal, Happened, Reply, Area, State, Outcome, answer, found_with_cursor, moved_on}
+use Rattle.clfs_cells_laws.proofs.Words.{outcome, read_at, flushed, live, live_at, cursor_of, record_cursor, with_cursor, with_cursor_at, without_cursor}
+use Rattle.clfs_cells_laws.proofs.Words.{next_refusal, read_refusal, refusal, refused_if, change_area, Step, Comes, with_broken, Answered, with_read_ended}
+use Rattle.clfs_cells_laws.proofs.Words.{Plan, CarriesOut, Memory, from_outside, IsLiveRecord, IsStoreWith, store_area}
 use Rattle.clfs_model.specs.declared.call.Call.TheVariants as calls
 use Rattle.clfs_model.specs.declared.refusal.Refusal.TheVariants as refusals
 use Rattle.clfs_model.specs.declared.reply.Reply.TheVariants as replies

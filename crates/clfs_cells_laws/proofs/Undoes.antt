@@ -1,9 +1,11 @@
 -- Taking back sets of a transaction, the newest that stands first.
-use Rattle.clfs_cells_laws.proofs.Words.{◌≡◌, ◌⊎◌, ℕ, zero, suc, ◌+◌, ◌≤◌, Bool, true, false, refl, sym, subst, ap, ◌∙◌, inl, inr, arith, List, [], ◌∷◌, ◌++◌,
-    length, Option, Some, None, length-append, ◌==◌, find, slice_index, AllByRecursion, option_map_or, cases_Bool, eqb-true, Cursor, LogEntry, Refusal,
-    Happened, Reply, State, next_lsn, refusal, change_first, Step, Made, Action, Answered, append_call, compensation, stops, undo_from, undo_set,
-    with_read_ended, txn_bytes, txn_record, Plan, never, CarriesOut, on_next, on_placed, Memory, Transaction, holds, is_at, is_numbered, standing, transaction,
-    with_one_undone, with_undone, from_outside, AreStacked, IsInLog, IsOpen, IsStore, IsStoreWith, newest_of, sectors_held, value_before}
+use Rattle.clfs_cells_laws.proofs.Words.{◌≡◌, ◌⊎◌, ℕ, zero, suc, ◌+◌, ◌≤◌, Bool, true, false, refl, sym, subst, ap, ◌∙◌, inl, inr, arith, List, [], ◌∷◌, ◌++◌}
+use Rattle.clfs_cells_laws.proofs.Words.{length, Option, Some, None, length-append, ◌==◌, find, slice_index, AllByRecursion, option_map_or, cases_Bool}
+use Rattle.clfs_cells_laws.proofs.Words.{eqb-true, Cursor, LogEntry, Refusal, Happened, Reply, State, next_lsn, refusal, change_first, Step, Made, Action}
+use Rattle.clfs_cells_laws.proofs.Words.{Answered, append_call, compensation, stops, undo_from, undo_set, with_read_ended, txn_bytes, txn_record, Plan, never}
+use Rattle.clfs_cells_laws.proofs.Words.{CarriesOut, on_next, on_placed, Memory, Transaction, holds, is_at, is_numbered, standing, transaction}
+use Rattle.clfs_cells_laws.proofs.Words.{with_one_undone, with_undone, from_outside, AreStacked, IsInLog, IsOpen, IsStore, IsStoreWith, newest_of}
+use Rattle.clfs_cells_laws.proofs.Words.{sectors_held, value_before}
 use Rattle.std.proofs.Common.{append_assoc}
 use Rattle.clfs_model.specs.declared.call.Call.TheVariants as calls
 use Rattle.clfs_model.specs.declared.refusal.Refusal.TheVariants as refusals

@@ -1,7 +1,7 @@
 -- The ways that a call of the log can go, one by one, and what each leaves of a plan.
-use Rattle.clfs_cells_laws.proofs.Words.{◌≡◌, ℕ, Bool, true, false, refl, subst, inl, inr, Option, Some, None, MatchOption, Call, Refusal, Happened, Fine,
-    Fault, Damage, Reply, State, answer, flushed, refusal, Step, Goes, Comes, IsBroken, IsDamaged, calls_disk, reads_disk, takes_memory, with_broken, Plan,
-    calls, CarriesOut}
+use Rattle.clfs_cells_laws.proofs.Words.{◌≡◌, ℕ, Bool, true, false, refl, subst, inl, inr, Option, Some, None, MatchOption, Call, Refusal, Happened, Fine}
+use Rattle.clfs_cells_laws.proofs.Words.{Fault, Damage, Reply, State, answer, flushed, refusal, Step, Goes, Comes, IsBroken, IsDamaged, calls_disk}
+use Rattle.clfs_cells_laws.proofs.Words.{reads_disk, takes_memory, with_broken, Plan, calls, CarriesOut}
 use Rattle.clfs_model.specs.declared.refusal.Refusal.TheVariants as refusals
 use Rattle.clfs_model.specs.declared.reply.Reply.TheVariants as replies
 use Rattle.clfs_cells_laws.proofs.Written.{where_not, where_so}

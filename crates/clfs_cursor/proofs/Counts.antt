@@ -1,6 +1,6 @@
 -- How many cursors of an area have a number.
-use Rattle.clfs_cursor.proofs.Words.{◌≡◌, ℕ, ◌+◌, ◌<◌, ◌≤◌, Bool, true, false, cond, refl, ap, ◌∙◌, arith, zero, suc, List, [], ◌∷◌, ◌++◌, length, not, filter,
-    count_by, nat_tests, sum_by-cons, sum_by_push, sum_by-filter_both, AreDifferent, has_number, is_numbered, Numbered}
+use Rattle.clfs_cursor.proofs.Words.{◌≡◌, ℕ, ◌+◌, ◌<◌, ◌≤◌, Bool, true, false, cond, refl, ap, ◌∙◌, arith, zero, suc, List, [], ◌∷◌, ◌++◌, length, not}
+use Rattle.clfs_cursor.proofs.Words.{filter, count_by, nat_tests, sum_by-cons, sum_by_push, sum_by-filter_both, AreDifferent, has_number, is_numbered, Numbered}
 use Rattle.std.proofs.Common.{add-one, zero-add, below_more}
 use Rattle.std.specs.List.{list_any}
 

@@ -1,7 +1,8 @@
 -- A cursor that ended: a key of the slab and of its area less.
-use Rattle.clfs_cursor.proofs.Words.{◌≡◌, ◌≢◌, ℕ, ◌+◌, ◌<◌, ◌≤◌, Bool, true, false, cond, refl, sym, ap, ◌∙◌, subst, arith, List, [], ◌∷◌, length, map, get_or,
-    Option, Some, None, is_some, ◌==◌, find, filter, sum_by, slice_set, nat_tests, sum_by-cons, sum_by-set, Slab, get, slab_len, Updates, Cursor, AreaCursors,
-    area_at, with_cursors, Keys, AreDifferent, has_number, area_by, has_key, uses_in, uses, AreOwned, Numbered, Standing}
+use Rattle.clfs_cursor.proofs.Words.{◌≡◌, ◌≢◌, ℕ, ◌+◌, ◌<◌, ◌≤◌, Bool, true, false, cond, refl, sym, ap, ◌∙◌, subst, arith, List, [], ◌∷◌, length, map}
+use Rattle.clfs_cursor.proofs.Words.{get_or, Option, Some, None, is_some, ◌==◌, find, filter, sum_by, slice_set, nat_tests, sum_by-cons, sum_by-set, Slab}
+use Rattle.clfs_cursor.proofs.Words.{get, slab_len, Updates, Cursor, AreaCursors, area_at, with_cursors, Keys, AreDifferent, has_number, area_by, has_key}
+use Rattle.clfs_cursor.proofs.Words.{uses_in, uses, AreOwned, Numbered, Standing}
 use Rattle.std.proofs.Common.{not}
 use Rattle.clfs_cursor.proofs.Found.{sum_without}
 use Rattle.clfs_cursor.proofs.Frames.{same_cursors, one_area, has_own_key}

@@ -1,6 +1,7 @@
 -- The cursor of a number, where no number stands twice.
-use Rattle.clfs_cursor.proofs.Words.{◌≡◌, ℕ, ◌+◌, ◌≤◌, Bool, true, false, cond, refl, sym, ap, ◌∙◌, arith, List, [], ◌∷◌, map, Some, None, ◌==◌, find, filter,
-    count_by, sum_by, sum_by-filter_both, Slab, Cursor, HaveDifferentNumbers, AreDifferent, has_number, cursor_by, Numbered, Standing}
+use Rattle.clfs_cursor.proofs.Words.{◌≡◌, ℕ, ◌+◌, ◌≤◌, Bool, true, false, cond, refl, sym, ap, ◌∙◌, arith, List, [], ◌∷◌, map, Some, None, ◌==◌, find, filter}
+use Rattle.clfs_cursor.proofs.Words.{count_by, sum_by, sum_by-filter_both, Slab, Cursor, HaveDifferentNumbers, AreDifferent, has_number, cursor_by, Numbered}
+use Rattle.clfs_cursor.proofs.Words.{Standing}
 use Rattle.std.proofs.Common.{not}
 use Rattle.std.specs.Prelude.{◌&&◌}
 use Rattle.clfs_cursor.proofs.Counts.{counted_more, counted_same}

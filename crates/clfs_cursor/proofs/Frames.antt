@@ -1,6 +1,7 @@
 -- What a change of the slab leaves of the areas.
-use Rattle.clfs_cursor.proofs.Words.{◌≡◌, ℕ, ◌+◌, ◌<◌, ◌≤◌, true, refl, ap, ap₂, arith, zero, suc, List, [], ◌∷◌, length, map, get_or, count_by, slice_set,
-    nat_tests, sum_by-cons, get_or-le-sum_by, Slab, get, Cursor, AreaCursors, Keys, cursor_by, area_by, has_key, uses_in, uses, Numbered, Standing}
+use Rattle.clfs_cursor.proofs.Words.{◌≡◌, ℕ, ◌+◌, ◌<◌, ◌≤◌, true, refl, ap, ap₂, arith, zero, suc, List, [], ◌∷◌, length, map, get_or, count_by, slice_set}
+use Rattle.clfs_cursor.proofs.Words.{nat_tests, sum_by-cons, get_or-le-sum_by, Slab, get, Cursor, AreaCursors, Keys, cursor_by, area_by, has_key, uses_in}
+use Rattle.clfs_cursor.proofs.Words.{uses, Numbered, Standing}
 use Rattle.clfs_cursor.proofs.Counts.{counted_more, counted_le}
 
 -- where each of its keys has what it had, the cursor is as it was

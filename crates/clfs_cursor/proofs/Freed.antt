@@ -1,6 +1,6 @@
 -- Cursors that are taken out of the slab, key by key.
-use Rattle.clfs_cursor.proofs.Words.{◌≡◌, ◌≢◌, ℕ, ◌+◌, ◌<◌, ◌≤◌, Bool, true, false, cond, refl, ap, ◌∙◌, subst, arith, List, length, take, get_or, None,
-    is_some, count_by, nat_tests, get_or-le-sum_by, Slab, get, Updates, has_key, Numbered, Standing}
+use Rattle.clfs_cursor.proofs.Words.{◌≡◌, ◌≢◌, ℕ, ◌+◌, ◌<◌, ◌≤◌, Bool, true, false, cond, refl, ap, ◌∙◌, subst, arith, List, length, take, get_or, None}
+use Rattle.clfs_cursor.proofs.Words.{is_some, count_by, nat_tests, get_or-le-sum_by, Slab, get, Updates, has_key, Numbered, Standing}
 use Rattle.std.proofs.lemmas.List.Sums.{sum_by_more, sum_by_more_le}
 use Rattle.clfs_cursor.proofs.Frames.{has_own_key}
 

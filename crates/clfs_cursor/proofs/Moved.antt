@@ -1,7 +1,8 @@
 -- A cursor that moved to another record: what the slab has at its key.
-use Rattle.clfs_cursor.proofs.Words.{◌≡◌, ◌≢◌, ℕ, ◌<◌, ◌≤◌, Bool, true, false, cond, refl, sym, ap, ap₂, ◌∙◌, subst, arith, List, [], ◌∷◌, length, map, get_or,
-    Option, Some, None, is_some, ◌==◌, find, count_by, slice_set, option_map, nat_tests, set-get_or, Slab, get, slab_len, Cursor, AreaCursors, area_at,
-    with_cursors, Keys, AreDifferent, has_number, cursor_by, area_by, has_key, uses_in, uses, kind_of, last_of, AreOwned, Numbered, Standing}
+use Rattle.clfs_cursor.proofs.Words.{◌≡◌, ◌≢◌, ℕ, ◌<◌, ◌≤◌, Bool, true, false, cond, refl, sym, ap, ap₂, ◌∙◌, subst, arith, List, [], ◌∷◌, length, map}
+use Rattle.clfs_cursor.proofs.Words.{get_or, Option, Some, None, is_some, ◌==◌, find, count_by, slice_set, option_map, nat_tests, set-get_or, Slab, get}
+use Rattle.clfs_cursor.proofs.Words.{slab_len, Cursor, AreaCursors, area_at, with_cursors, Keys, AreDifferent, has_number, cursor_by, area_by, has_key}
+use Rattle.clfs_cursor.proofs.Words.{uses_in, uses, kind_of, last_of, AreOwned, Numbered, Standing}
 use Rattle.std.specs.Prelude.{if◌then◌else◌}
 use Rattle.clfs_cursor.proofs.Counts.{counted_more, counted_le}
 use Rattle.clfs_cursor.proofs.Found.{none_found}

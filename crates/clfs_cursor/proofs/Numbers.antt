@@ -1,6 +1,6 @@
 -- The least number that isn't used.
-use Rattle.clfs_cursor.proofs.Words.{◌≡◌, ℕ, ◌+◌, ◌<◌, Bool, true, false, refl, ap, ◌∙◌, arith, zero, suc, Some, None, find, not, unwrap_or, range_with_len,
-    least_unused}
+use Rattle.clfs_cursor.proofs.Words.{◌≡◌, ℕ, ◌+◌, ◌<◌, Bool, true, false, refl, ap, ◌∙◌, arith, zero, suc, Some, None, find, not, unwrap_or, range_with_len}
+use Rattle.clfs_cursor.proofs.Words.{least_unused}
 
 next : (first k : ℕ) → first + 1 + k ≡ first + (k + 1)
 next first k = omega arith

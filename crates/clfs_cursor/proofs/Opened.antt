@@ -1,7 +1,7 @@
 -- The table of cursors, and its parts.
-use Rattle.clfs_cursor.proofs.Words.{◌≡◌, ℕ, ◌<◌, ◌∙◌, ap, sym, subst, true, length, map, get_or, List, Option, Some, None, is_some, ◌==◌, find, option_map,
-    length-map, set-get_or, get, Cursor, cursor_in, cursors_without, cursors_moved, AreaCursors, Table, HaveDifferentNumbers, no_cursors, area_at,
-    with_cursors, Keys, AreDifferent, has_number, area_by, cursor_by, AreOwned, Numbered}
+use Rattle.clfs_cursor.proofs.Words.{◌≡◌, ℕ, ◌<◌, ◌∙◌, ap, sym, subst, true, length, map, get_or, List, Option, Some, None, is_some, ◌==◌, find, option_map}
+use Rattle.clfs_cursor.proofs.Words.{length-map, set-get_or, get, Cursor, cursor_in, cursors_without, cursors_moved, AreaCursors, Table, HaveDifferentNumbers}
+use Rattle.clfs_cursor.proofs.Words.{no_cursors, area_at, with_cursors, Keys, AreDifferent, has_number, area_by, cursor_by, AreOwned, Numbered}
 use Rattle.std.proofs.lemmas.List.{get_or_default}
 use Rattle.clfs_cursor.specs.Table.{table_of}
 use Rattle.clfs_cursor.specs.declared.cursors.Cursors.TheInside.{Inside}

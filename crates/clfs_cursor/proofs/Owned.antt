@@ -1,6 +1,7 @@
 -- A key that stands in an area is in the slab, and stands nowhere else.
-use Rattle.clfs_cursor.proofs.Words.{◌≡◌, ℕ, ◌≤◌, ◌<◌, Bool, true, false, cond, refl, sym, ap, ◌∙◌, subst, arith, List, [], ◌∷◌, length, get_or, Option, Some,
-    None, is_some, find, count_by, nat_tests, get_or-le-sum_by, Slab, get, Keys, has_number, has_key, uses_in, uses, AreOwned, Numbered, Standing}
+use Rattle.clfs_cursor.proofs.Words.{◌≡◌, ℕ, ◌≤◌, ◌<◌, Bool, true, false, cond, refl, sym, ap, ◌∙◌, subst, arith, List, [], ◌∷◌, length, get_or, Option, Some}
+use Rattle.clfs_cursor.proofs.Words.{None, is_some, find, count_by, nat_tests, get_or-le-sum_by, Slab, get, Keys, has_number, has_key, uses_in, uses}
+use Rattle.clfs_cursor.proofs.Words.{AreOwned, Numbered, Standing}
 use Rattle.clfs_cursor.proofs.Counts.{counted_more, counted_le}
 use Rattle.clfs_cursor.proofs.Frames.{has_own_key}
 

@@ -1,6 +1,6 @@
 -- An area that went with its cursors.
-use Rattle.clfs_cursor.proofs.Words.{◌≡◌, ℕ, ◌+◌, ◌<◌, ◌≤◌, Bool, true, false, cond, refl, sym, ap, ◌∙◌, arith, zero, suc, List, [], ◌∷◌, length, map, get_or,
-    Option, None, is_some, count_by, remove, Slab, get, slab_len, Keys, area_by, has_key, uses_in, uses, AreOwned, Standing}
+use Rattle.clfs_cursor.proofs.Words.{◌≡◌, ℕ, ◌+◌, ◌<◌, ◌≤◌, Bool, true, false, cond, refl, sym, ap, ◌∙◌, arith, zero, suc, List, [], ◌∷◌, length, map, get_or}
+use Rattle.clfs_cursor.proofs.Words.{Option, None, is_some, count_by, remove, Slab, get, slab_len, Keys, area_by, has_key, uses_in, uses, AreOwned, Standing}
 use Rattle.std.proofs.Common.{◌⊎◌, inl, inr}
 use Rattle.std.proofs.lemmas.Bool.{cases_lt}
 use Rattle.std.proofs.lemmas.List.Sums.{sum_by-remove}

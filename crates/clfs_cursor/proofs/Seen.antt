@@ -1,6 +1,7 @@
 -- What contracts see of the keys of an area.
-use Rattle.clfs_cursor.proofs.Words.{◌≡◌, ℕ, ◌+◌, Bool, true, false, refl, ap, ◌∙◌, List, [], ◌∷◌, length, map, Option, ◌==◌, find, filter, unwrap_or,
-    range_with_len, option_map, length-map, Slab, least_unused, Cursor, unused_cursor, has_number, is_numbered, cursor_by, Numbered, Standing}
+use Rattle.clfs_cursor.proofs.Words.{◌≡◌, ℕ, ◌+◌, Bool, true, false, refl, ap, ◌∙◌, List, [], ◌∷◌, length, map, Option, ◌==◌, find, filter, unwrap_or}
+use Rattle.clfs_cursor.proofs.Words.{range_with_len, option_map, length-map, Slab, least_unused, Cursor, unused_cursor, has_number, is_numbered, cursor_by}
+use Rattle.clfs_cursor.proofs.Words.{Numbered, Standing}
 use Rattle.std.proofs.Common.{not}
 use Rattle.std.specs.Prelude.{◌||◌}
 use Rattle.clfs_lsn.specs.Cursors.{is_cursor_number}

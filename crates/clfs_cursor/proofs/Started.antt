@@ -1,7 +1,8 @@
 -- A cursor that was started: a new key of the slab, after the keys of its area.
-use Rattle.clfs_cursor.proofs.Words.{◌≡◌, ◌≢◌, ℕ, ◌+◌, ◌<◌, ◌≤◌, Bool, true, false, cond, refl, sym, ap, ap₂, ◌∙◌, subst, arith, List, [], ◌∷◌, ◌++◌, length,
-    map, get_or, Option, Some, None, is_some, slice_set, nat_tests, sum_by_push, sum_by-set, get_or-le-sum_by, Slab, get, slab_len, Updates, Cursor,
-    AreaCursors, no_cursors, area_at, with_cursors, Keys, cursor_by, area_by, has_key, uses_in, uses, AreOwned, Numbered, Standing}
+use Rattle.clfs_cursor.proofs.Words.{◌≡◌, ◌≢◌, ℕ, ◌+◌, ◌<◌, ◌≤◌, Bool, true, false, cond, refl, sym, ap, ap₂, ◌∙◌, subst, arith, List, [], ◌∷◌, ◌++◌, length}
+use Rattle.clfs_cursor.proofs.Words.{map, get_or, Option, Some, None, is_some, slice_set, nat_tests, sum_by_push, sum_by-set, get_or-le-sum_by, Slab, get}
+use Rattle.clfs_cursor.proofs.Words.{slab_len, Updates, Cursor, AreaCursors, no_cursors, area_at, with_cursors, Keys, cursor_by, area_by, has_key, uses_in}
+use Rattle.clfs_cursor.proofs.Words.{uses, AreOwned, Numbered, Standing}
 use Rattle.std.proofs.Common.{length-append}
 use Rattle.std.proofs.lemmas.List.{map-append, get_or-map}
 use Rattle.clfs_cursor.proofs.Frames.{same_cursors, one_area}

@@ -1,6 +1,6 @@
 -- The words that the proofs here use, passed on from one place. Declares nothing.
-pub use Rattle.std.proofs.Common.{[], ap, ap₂, arith, Bool, cond, false, get_or, is_some, length, List, map, None, Option, refl, rules, Some, subst, suc, sym,
-    take, tests, true, zero, ℕ, ◌++◌, ◌+◌, ◌<◌, ◌∙◌, ◌∷◌, ◌≡◌, ◌≢◌, ◌≤◌}
+pub use Rattle.std.proofs.Common.{[], ap, ap₂, arith, Bool, cond, false, get_or, is_some, length, List, map, None, Option, refl, rules, Some, subst, suc, sym}
+pub use Rattle.std.proofs.Common.{take, tests, true, zero, ℕ, ◌++◌, ◌+◌, ◌<◌, ◌∙◌, ◌∷◌, ◌≡◌, ◌≢◌, ◌≤◌}
 pub use Rattle.std.proofs.lemmas.Bool.Decides.{nat_tests}
 pub use Rattle.std.proofs.lemmas.List.{length-map, set-get_or}
 pub use Rattle.std.proofs.lemmas.List.Filters.{sum_by-filter_both}

@@ -1,7 +1,8 @@
 -- What is told of a block, against what reading its records gives.
-use Rattle.clfs_dump.proofs.Words.{◌≡◌, ℕ, zero, suc, ◌+◌, ◌*◌, cond, List, [], ◌∷◌, length, get_or, drop, Option, Some, None, Result, Ok, Err, refl, sym, ◌∙◌,
-    ap, arith, unless_wrong, lsn_number, record_at, LogEntry, Shape, Row, block_sectors, payload_of, frame_at, sectors_at, rest_at, AreReadAsWritten, ◌>>=◌,
-    told_as, records_from, block_records, BlockHead, BlockRefusal, damage_at, Told, met_with, records_met, block_end, framed_told, block_told, Selection}
+use Rattle.clfs_dump.proofs.Words.{◌≡◌, ℕ, zero, suc, ◌+◌, ◌*◌, cond, List, [], ◌∷◌, length, get_or, drop, Option, Some, None, Result, Ok, Err, refl, sym}
+use Rattle.clfs_dump.proofs.Words.{◌∙◌, ap, arith, unless_wrong, lsn_number, record_at, LogEntry, Shape, Row, block_sectors, payload_of, frame_at, sectors_at}
+use Rattle.clfs_dump.proofs.Words.{rest_at, AreReadAsWritten, ◌>>=◌, told_as, records_from, block_records, BlockHead, BlockRefusal, damage_at, Told, met_with}
+use Rattle.clfs_dump.proofs.Words.{records_met, block_end, framed_told, block_told, Selection}
 use Rattle.std.proofs.Common.{Bool, true, false, not, eqb, ltb}
 use Rattle.std.proofs.lemmas.List.{get_or-drop}
 use Rattle.std.proofs.lemmas.Bool.{eq-eqb}

@@ -1,8 +1,8 @@
 -- What is told of a block, by the answers of its checks, and that it is told of a front of what begins with it.
-use Rattle.clfs_dump.proofs.Words.{◌≡◌, inr, ⊎_elim, ℕ, ◌+◌, ◌*◌, ◌/◌, ◌-◌, ◌%◌, ◌^◌, ◌<◌, ◌≤◌, List, ◌++◌, length, take, Option, Some, None, Result, Ok, Err,
-    refl, sym, ◌∙◌, ap, arith, append_assoc, flat_map, lsn_number, IsShape, LogEntry, Shape, Row, payload_of, frame_at, rest_at, AreJudgedAlone,
-    AreReadAsWritten, block_records, records_from, block_same, BlockHead, BlockRefusal, IsFrontOf, LoadRefusal, Damaged, first_wrong, Told, only, records_met,
-    record_text, block_end, framed_told, block_told, Selection}
+use Rattle.clfs_dump.proofs.Words.{◌≡◌, inr, ⊎_elim, ℕ, ◌+◌, ◌*◌, ◌/◌, ◌-◌, ◌%◌, ◌^◌, ◌<◌, ◌≤◌, List, ◌++◌, length, take, Option, Some, None, Result, Ok, Err}
+use Rattle.clfs_dump.proofs.Words.{refl, sym, ◌∙◌, ap, arith, append_assoc, flat_map, lsn_number, IsShape, LogEntry, Shape, Row, payload_of, frame_at}
+use Rattle.clfs_dump.proofs.Words.{rest_at, AreJudgedAlone, AreReadAsWritten, block_records, records_from, block_same, BlockHead, BlockRefusal, IsFrontOf}
+use Rattle.clfs_dump.proofs.Words.{LoadRefusal, Damaged, first_wrong, Told, only, records_met, record_text, block_end, framed_told, block_told, Selection}
 use Rattle.clfs_block.specs.Checks.{left_from, IsEnough}
 use Rattle.clfs_block.specs.RecordLaws.{records_refused, rest_refused, block_read}
 use Rattle.clfs_block.specs.declared.head.BlockRefusal.TheVariants as blocks

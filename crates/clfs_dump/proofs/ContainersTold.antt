@@ -1,6 +1,6 @@
 -- What is told of containers and of logs, over files that are the same.
-use Rattle.clfs_dump.proofs.Words.{ℕ, List, Option, Result, subst, Shape, Row, Files, Unchanged, container_line, blocks_told, container_told, DumpRefusal,
-    Selection}
+use Rattle.clfs_dump.proofs.Words.{ℕ, List, Option, Result, subst, Shape, Row, Files, Unchanged, container_line, blocks_told, container_told, DumpRefusal}
+use Rattle.clfs_dump.proofs.Words.{Selection}
 use Rattle.clfs_dump.specs.Telling.{behind_lines}
 use Rattle.clfs_dump.proofs.Walks.{PrintsTold}
 

@@ -1,6 +1,6 @@
 -- What is printed where there is no newest base copy.
-use Rattle.clfs_dump.proofs.Words.{◌≡◌, ℕ, List, Option, Result, Err, refl, sym, ap, ◌∙◌, subst, Files, newest_of, BaseImage, NewestRefusal, without_copy,
-    slot_offset, LoadRefusal, Told, copy_told, files_told, as_dump, DumpRefusal, Selection}
+use Rattle.clfs_dump.proofs.Words.{◌≡◌, ℕ, List, Option, Result, Err, refl, sym, ap, ◌∙◌, subst, Files, newest_of, BaseImage, NewestRefusal, without_copy}
+use Rattle.clfs_dump.proofs.Words.{slot_offset, LoadRefusal, Told, copy_told, files_told, as_dump, DumpRefusal, Selection}
 use Rattle.clfs_base.specs.Decoding.{GivesNewest}
 use Rattle.clfs_base.specs.declared.refusal.NewestRefusal.TheVariants as newest
 use Rattle.clfs_recover.specs.declared.refusal.LoadRefusal.TheVariants as logs

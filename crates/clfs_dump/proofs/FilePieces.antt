@@ -1,6 +1,6 @@
 -- What a piece that was read ahead has of its file.
-use Rattle.clfs_dump.proofs.Words.{◌≡◌, inl, inr, ⊎_elim, ℕ, ◌+◌, ◌-◌, ◌<◌, ◌≤◌, List, length, take, drop, sym, ◌∙◌, ap, subst, arith, length-drop, drop-drop,
-    drop_all, take_all, cases_lt, IsFrontOf, Shows}
+use Rattle.clfs_dump.proofs.Words.{◌≡◌, inl, inr, ⊎_elim, ℕ, ◌+◌, ◌-◌, ◌<◌, ◌≤◌, List, length, take, drop, sym, ◌∙◌, ap, subst, arith, length-drop, drop-drop}
+use Rattle.clfs_dump.proofs.Words.{drop_all, take_all, cases_lt, IsFrontOf, Shows}
 use Rattle.std.proofs.lemmas.List.{drop-take, length-take}
 use Rattle.clfs_recover.specs.Fronts.{Piece, Reaches}
 

@@ -1,6 +1,6 @@
 -- A text, and after it the last line.
-use Rattle.clfs_dump.proofs.Words.{◌≡◌, ℕ, List, ◌++◌, Option, Result, Ok, Err, sym, ap, ◌∙◌, subst, append-nil, Appends, LoadRefusal, last_line, Prints,
-    DumpRefusal, NoBase, DiskFault, NoMemory, SinkFault}
+use Rattle.clfs_dump.proofs.Words.{◌≡◌, ℕ, List, ◌++◌, Option, Result, Ok, Err, sym, ap, ◌∙◌, subst, append-nil, Appends, LoadRefusal, last_line, Prints}
+use Rattle.clfs_dump.proofs.Words.{DumpRefusal, NoBase, DiskFault, NoMemory, SinkFault}
 use Rattle.clfs_dump.specs.declared.refusal.DumpRefusal.TheVariants.{Damaged}
 use Rattle.clfs_dump.proofs.Written.{appends_more, front_behind, front_longer}
 

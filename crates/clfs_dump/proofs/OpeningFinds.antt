@@ -1,17 +1,19 @@
 -- What is told of containers and of logs, against what opening finds there.
-use Rattle.clfs_dump.proofs.Words.{◌≡◌, inl, inr, ⊎_elim, ℕ, zero, suc, ◌+◌, ◌-◌, ◌*◌, ◌/◌, ◌^◌, ◌<◌, ◌≤◌, cond, List, [], ◌∷◌, ◌++◌, length, drop, Option,
-    Some, None, Result, Ok, Err, refl, sym, ◌∙◌, ap, subst, arith, append-nil, drop-drop, cases_lt, lt-leb, le-leb, unless_wrong, lsn_number, frontier,
-    IsShape, LogEntry, Shape, Files, newest_of, BaseImage, Row, NewestRefusal, block_sectors, frame_at, AreJudgedAlone, AreReadAsWritten, ◌>>=◌, told_as,
-    block_records, block_same, BlockHead, BlockRefusal, without_copy, damage_at, shape_of, slot_offset, LoadRefusal, Damaged, Told, only, followed_by,
-    then_told, block_told, behind_block, blocks_told, container_told, listed_told, place_at, log_end, image_told, copy_told, files_told, Selection}
+use Rattle.clfs_dump.proofs.Words.{◌≡◌, inl, inr, ⊎_elim, ℕ, zero, suc, ◌+◌, ◌-◌, ◌*◌, ◌/◌, ◌^◌, ◌<◌, ◌≤◌, cond, List, [], ◌∷◌, ◌++◌, length, drop, Option}
+use Rattle.clfs_dump.proofs.Words.{Some, None, Result, Ok, Err, refl, sym, ◌∙◌, ap, subst, arith, append-nil, drop-drop, cases_lt, lt-leb, le-leb}
+use Rattle.clfs_dump.proofs.Words.{unless_wrong, lsn_number, frontier, IsShape, LogEntry, Shape, Files, newest_of, BaseImage, Row, NewestRefusal}
+use Rattle.clfs_dump.proofs.Words.{block_sectors, frame_at, AreJudgedAlone, AreReadAsWritten, ◌>>=◌, told_as, block_records, block_same, BlockHead}
+use Rattle.clfs_dump.proofs.Words.{BlockRefusal, without_copy, damage_at, shape_of, slot_offset, LoadRefusal, Damaged, Told, only, followed_by, then_told}
+use Rattle.clfs_dump.proofs.Words.{block_told, behind_block, blocks_told, container_told, listed_told, place_at, log_end, image_told, copy_told, files_told}
+use Rattle.clfs_dump.proofs.Words.{Selection}
 use Rattle.std.proofs.lemmas.List.{length-take-le}
 use Rattle.clfs_base.specs.Checks.{image_at}
 use Rattle.clfs_base.specs.Slots.{slot_of, used_slot, copy_in, copy_of}
 use Rattle.clfs_container.specs.OpenBlocks.{Opens, Ends, total}
 use Rattle.clfs_block.specs.declared.head.BlockRefusal.TheVariants as blocks
 use Rattle.clfs_recover.specs.Files.{AreListed, FindsBehind, Finds}
-use Rattle.clfs_recover.specs.Walk.{Container, end_at, blocks_end, blocks_records, container_records, listed_records, last_end, place_behind, image_fault,
-    parts_with, walked}
+use Rattle.clfs_recover.specs.Walk.{Container, end_at, blocks_end, blocks_records, container_records, listed_records, last_end, place_behind, image_fault}
+use Rattle.clfs_recover.specs.Walk.{parts_with, walked}
 use Rattle.clfs_recover.specs.declared.parts.Parts.{Parts}
 use Rattle.clfs_dump.proofs.BlockMatches.{sectors_said, block_matches}
 use Rattle.clfs_dump.proofs.BlockTold.{told_refused, block_ends}

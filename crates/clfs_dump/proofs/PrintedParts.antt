@@ -1,6 +1,6 @@
 -- Parts of a log that are printed, one after the other.
-use Rattle.clfs_dump.proofs.Words.{◌≡◌, ℕ, List, [], ◌++◌, Option, Result, Ok, Err, refl, ap, subst, Appends, LogEntry, LoadRefusal, Told, followed_by,
-    then_told, AppendsFront, Prints, as_dump, DumpRefusal, NoBase, DiskFault, NoMemory, SinkFault}
+use Rattle.clfs_dump.proofs.Words.{◌≡◌, ℕ, List, [], ◌++◌, Option, Result, Ok, Err, refl, ap, subst, Appends, LogEntry, LoadRefusal, Told, followed_by}
+use Rattle.clfs_dump.proofs.Words.{then_told, AppendsFront, Prints, as_dump, DumpRefusal, NoBase, DiskFault, NoMemory, SinkFault}
 use Rattle.clfs_recover.specs.declared.refusal.LoadRefusal.TheVariants as logs
 use Rattle.clfs_dump.specs.declared.refusal.DumpRefusal.TheVariants.{Damaged}
 use Rattle.clfs_dump.proofs.Written.{appends_more, appends_none, front_of_all, front_behind, front_longer}

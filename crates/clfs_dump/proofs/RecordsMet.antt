@@ -1,6 +1,6 @@
 -- The records of a block that are met up to the first wrong one, one after the other, and their text.
-use Rattle.clfs_dump.proofs.Words.{◌≡◌, ℕ, suc, ◌+◌, ◌-◌, ◌<◌, ◌≤◌, List, [], ◌∷◌, ◌++◌, drop, Result, Ok, Err, sym, ◌∙◌, ap, arith, append_assoc, append-nil,
-    flat_map, record_at, LogEntry, met_with, records_met}
+use Rattle.clfs_dump.proofs.Words.{◌≡◌, ℕ, suc, ◌+◌, ◌-◌, ◌<◌, ◌≤◌, List, [], ◌∷◌, ◌++◌, drop, Result, Ok, Err, sym, ◌∙◌, ap, arith, append_assoc, append-nil}
+use Rattle.clfs_dump.proofs.Words.{flat_map, record_at, LogEntry, met_with, records_met}
 
 module _ (streams : ℕ) (payload : List ℕ) (count start : ℕ) where
   -- those that are met from a position of the block on, and from a byte of its payload

@@ -1,7 +1,7 @@
 -- Going through the blocks of a container, and through the containers of a log: whatever is printed of the rest, all is printed with it.
-use Rattle.clfs_dump.proofs.Words.{◌≡◌, ℕ, zero, suc, ◌+◌, ◌*◌, ◌<◌, ◌≤◌, cond, List, length, get_or, drop, Option, Some, None, Result, Ok, Err, refl, sym,
-    ◌∙◌, ap, subst, arith, lt-leb, le-leb, drop_all, Shape, Row, Files, Told, only, then_told, block_told, behind_block, blocks_told, container_told,
-    listed_told, Prints, DumpRefusal, DiskFault, Selection}
+use Rattle.clfs_dump.proofs.Words.{◌≡◌, ℕ, zero, suc, ◌+◌, ◌*◌, ◌<◌, ◌≤◌, cond, List, length, get_or, drop, Option, Some, None, Result, Ok, Err, refl, sym}
+use Rattle.clfs_dump.proofs.Words.{◌∙◌, ap, subst, arith, lt-leb, le-leb, drop_all, Shape, Row, Files, Told, only, then_told, block_told, behind_block}
+use Rattle.clfs_dump.proofs.Words.{blocks_told, container_told, listed_told, Prints, DumpRefusal, DiskFault, Selection}
 use Rattle.std.proofs.lemmas.List.{drop_more}
 use Rattle.clfs_dump.proofs.Written.{front_of_none}
 use Rattle.clfs_dump.proofs.PrintedParts.{prints_first, prints_next, prints_only}

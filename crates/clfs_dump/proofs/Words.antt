@@ -1,6 +1,6 @@
 -- The words that the proofs here use, passed on from one place. Declares nothing.
-pub use Rattle.std.proofs.Common.{[], ap, append_assoc, arith, codes, cond, drop, Err, get_or, inl, inr, length, length-drop, List, None, Ok, Option, refl,
-    Result, Some, subst, suc, sym, take, zero, ℕ, ⊎_elim, ◌%◌, ◌*◌, ◌++◌, ◌+◌, ◌-◌, ◌/◌, ◌<◌, ◌^◌, ◌∙◌, ◌∷◌, ◌≡◌, ◌≤◌}
+pub use Rattle.std.proofs.Common.{[], ap, append_assoc, arith, codes, cond, drop, Err, get_or, inl, inr, length, length-drop, List, None, Ok, Option, refl}
+pub use Rattle.std.proofs.Common.{Result, Some, subst, suc, sym, take, zero, ℕ, ⊎_elim, ◌%◌, ◌*◌, ◌++◌, ◌+◌, ◌-◌, ◌/◌, ◌<◌, ◌^◌, ◌∙◌, ◌∷◌, ◌≡◌, ◌≤◌}
 pub use Rattle.std.proofs.lemmas.Bool.{cases_lt, le-leb, lt-leb}
 pub use Rattle.std.proofs.lemmas.List.{append-nil, drop-drop, drop_all, take_all}
 pub use Rattle.std.proofs.lemmas.Result.{err_from_is_err_and, on_ok_weaker}
@@ -39,8 +39,8 @@ unfoldable pub use Rattle.hex.specs.Hex.{encode_with}
 pub use Rattle.clfs_dump.specs.Lines.{container_line, number_after, stream_lines}
 pub use Rattle.clfs_dump.specs.Printing.{AppendsFront, as_dump, Prints}
 pub use Rattle.clfs_dump.specs.Reading.{first_wrong}
-pub use Rattle.clfs_dump.specs.Telling.{behind_block, block_end, block_told, blocks_told, container_told, copy_told, files_told, followed_by, framed_told,
-    image_told, last_line, listed_told, log_end, met_with, only, place_at, record_text, records_met, then_told, Told}
+pub use Rattle.clfs_dump.specs.Telling.{behind_block, block_end, block_told, blocks_told, container_told, copy_told, files_told, followed_by, framed_told}
+pub use Rattle.clfs_dump.specs.Telling.{image_told, last_line, listed_told, log_end, met_with, only, place_at, record_text, records_met, then_told, Told}
 pub use Rattle.clfs_dump.specs.declared.refusal.DumpRefusal.{DumpRefusal}
 pub use Rattle.clfs_dump.specs.declared.refusal.DumpRefusal.TheVariants.{DiskFault, NoBase, NoMemory, SinkFault}
 pub use Rattle.clfs_dump.specs.declared.selection.Selection.{Selection}

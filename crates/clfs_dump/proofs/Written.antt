@@ -1,6 +1,6 @@
 -- What a sink was given, piece by piece.
-use Rattle.clfs_dump.proofs.Words.{◌≡◌, ℕ, zero, suc, ◌+◌, List, [], ◌∷◌, ◌++◌, length, take, refl, sym, ap, ◌∙◌, subst, arith, append_assoc, append-nil,
-    take_all, Appends, AppendsFront}
+use Rattle.clfs_dump.proofs.Words.{◌≡◌, ℕ, zero, suc, ◌+◌, List, [], ◌∷◌, ◌++◌, length, take, refl, sym, ap, ◌∙◌, subst, arith, append_assoc, append-nil}
+use Rattle.clfs_dump.proofs.Words.{take_all, Appends, AppendsFront}
 use Rattle.std.proofs.Common.{min}
 use Rattle.std.specs.Prelude.{Option, Some, None}
 

@@ -1,10 +1,11 @@
 -- States that look alike, though they differ in records, answer each call alike, and leave states that differ in the same records.
-use Rattle.clfs_laws.proofs.Words.{◌≡◌, ℕ, ◌+◌, ◌-◌, Bool, true, false, refl, sym, ap, ◌∙◌, subst, inl, inr, List, [], ◌∷◌, ◌++◌, length, Option, Some, None,
-    nat_lt, ◌==◌, option_map_or, option_and_then, cases_Bool, append-nil, null_lsn, place_after, LogEntry, Policy, PolicyKind, Call, Draft, Refusal, State,
-    Area, Cursor, CursorKind, Records, RestartAreas, base_of, area_of, change_area, set_base, active, live_at, last_live, lsn_or_null, free, reserved, own_sum,
-    grown, flushed, flush, next_lsn, put, need_of, spend_if, hold_sizes, seal_if, flush_if, plain_record, appended, newest_restart, next_of_cursor,
-    record_cursor, restart_cursor, with_cursor_at, with_policy, without_policy, stream_number, Outcome, outcome, answer, over_area, reserved_for, released,
-    found_with_cursor, moved_on, restart_record, restarted, rebased, advanced, archiving, flushed_to}
+use Rattle.clfs_laws.proofs.Words.{◌≡◌, ℕ, ◌+◌, ◌-◌, Bool, true, false, refl, sym, ap, ◌∙◌, subst, inl, inr, List, [], ◌∷◌, ◌++◌, length, Option, Some, None}
+use Rattle.clfs_laws.proofs.Words.{nat_lt, ◌==◌, option_map_or, option_and_then, cases_Bool, append-nil, null_lsn, place_after, LogEntry, Policy, PolicyKind}
+use Rattle.clfs_laws.proofs.Words.{Call, Draft, Refusal, State, Area, Cursor, CursorKind, Records, RestartAreas, base_of, area_of, change_area, set_base}
+use Rattle.clfs_laws.proofs.Words.{active, live_at, last_live, lsn_or_null, free, reserved, own_sum, grown, flushed, flush, next_lsn, put, need_of, spend_if}
+use Rattle.clfs_laws.proofs.Words.{hold_sizes, seal_if, flush_if, plain_record, appended, newest_restart, next_of_cursor, record_cursor, restart_cursor}
+use Rattle.clfs_laws.proofs.Words.{with_cursor_at, with_policy, without_policy, stream_number, Outcome, outcome, answer, over_area, reserved_for, released}
+use Rattle.clfs_laws.proofs.Words.{found_with_cursor, moved_on, restart_record, restarted, rebased, advanced, archiving, flushed_to}
 use Rattle.clfs_lsn.specs.declared.policy.Policy.TheVariants as policies
 use Rattle.clfs_lsn.specs.declared.policy.PolicyKind.TheVariants as kinds
 use Rattle.clfs_model.specs.declared.call.Call.TheVariants as calls
@@ -12,10 +13,10 @@ use Rattle.clfs_model.specs.declared.info.LogInfo.{LogInfo}
 use Rattle.clfs_model.specs.declared.refusal.Refusal.TheVariants as refusals
 use Rattle.clfs_model.specs.declared.reply.Reply.TheVariants as replies
 use Rattle.clfs_model.specs.Answers.{info_of}
-use Rattle.clfs_laws.proofs.AlikeRefusals.{LooksAlike, live_at_alike, last_live_alike, newest_alike, next_alike, active_alike, free_alike, grown_alike,
-    seal_with, flush_with, ready_with}
-use Rattle.clfs_laws.proofs.RecordsOfCalls.{seal_records, flushed_to_records, spend_records, placed_record, appended_records, restarted_records,
-    policy_records, no_policy_records, archiving_records}
+use Rattle.clfs_laws.proofs.AlikeRefusals.{LooksAlike, live_at_alike, last_live_alike, newest_alike, next_alike, active_alike, free_alike, grown_alike}
+use Rattle.clfs_laws.proofs.AlikeRefusals.{seal_with, flush_with, ready_with}
+use Rattle.clfs_laws.proofs.RecordsOfCalls.{seal_records, flushed_to_records, spend_records, placed_record, appended_records, restarted_records}
+use Rattle.clfs_laws.proofs.RecordsOfCalls.{policy_records, no_policy_records, archiving_records}
 use Rattle.clfs_laws.proofs.SameRecords.{with_records}
 use Rattle.clfs_laws.proofs.ValidSettings.{grown_is}
 

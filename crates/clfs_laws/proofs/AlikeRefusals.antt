@@ -1,12 +1,14 @@
 -- States that look alike, though they differ in records, refuse each call alike, and call the disk in the same calls.
-use Rattle.clfs_laws.proofs.Words.{◌≡◌, ℕ, ◌+◌, Bool, true, false, refl, sym, ap, ◌∙◌, inl, inr, List, [], ◌∷◌, length, Option, Some, None, is_some, is_none,
-    not, nat_lt, nat_le, ◌&&◌, ◌||◌, ◌==◌, if◌then◌else◌, max, unwrap_or, filter, find, reverse, slice_get, last_or, option_map_or, cases_Bool, null_lsn,
-    joins, begins_here, active_containers, free_sectors, growth, LogEntry, Policy, PolicyKind, Call, Draft, Mode, Refusal, State, Area, Cursor, CursorKind,
-    Records, RestartAreas, base_of, area_of, hold, active, live, live_at, last_live, lsn_or_null, free, reserved, own_sum, with_containers, growth_rate,
-    size_limit, grown_if, grown, has_room, seal, flush, made_ready, need_of, spent_of, next, restart_areas, newest_restart, record_cursor, restart_cursor,
-    next_of_cursor, is_restart, extents, policy_refusal, is_installed, needed_containers, refusal, refused_if, in_area, unless_two_containers, too_long,
-    is_link, short, full, append_refusal, too_many_cursors, read_refusal, end_of_kind, next_refusal, is_base, invalid_base, restart_refusal, size_refusal,
-    calls_disk, grows, making_ready_writes, fills_buffers}
+use Rattle.clfs_laws.proofs.Words.{◌≡◌, ℕ, ◌+◌, Bool, true, false, refl, sym, ap, ◌∙◌, inl, inr, List, [], ◌∷◌, length, Option, Some, None, is_some, is_none}
+use Rattle.clfs_laws.proofs.Words.{not, nat_lt, nat_le, ◌&&◌, ◌||◌, ◌==◌, if◌then◌else◌, max, unwrap_or, filter, find, reverse, slice_get, last_or}
+use Rattle.clfs_laws.proofs.Words.{option_map_or, cases_Bool, null_lsn, joins, begins_here, active_containers, free_sectors, growth, LogEntry, Policy}
+use Rattle.clfs_laws.proofs.Words.{PolicyKind, Call, Draft, Mode, Refusal, State, Area, Cursor, CursorKind, Records, RestartAreas, base_of, area_of, hold}
+use Rattle.clfs_laws.proofs.Words.{active, live, live_at, last_live, lsn_or_null, free, reserved, own_sum, with_containers, growth_rate, size_limit, grown_if}
+use Rattle.clfs_laws.proofs.Words.{grown, has_room, seal, flush, made_ready, need_of, spent_of, next, restart_areas, newest_restart, record_cursor}
+use Rattle.clfs_laws.proofs.Words.{restart_cursor, next_of_cursor, is_restart, extents, policy_refusal, is_installed, needed_containers, refusal, refused_if}
+use Rattle.clfs_laws.proofs.Words.{in_area, unless_two_containers, too_long, is_link, short, full, append_refusal, too_many_cursors, read_refusal}
+use Rattle.clfs_laws.proofs.Words.{end_of_kind, next_refusal, is_base, invalid_base, restart_refusal, size_refusal, calls_disk, grows, making_ready_writes}
+use Rattle.clfs_laws.proofs.Words.{fills_buffers}
 use Rattle.clfs_lsn.specs.Space.{least_containers}
 use Rattle.clfs_lsn.specs.declared.policy.Policy.TheVariants as policies
 use Rattle.clfs_lsn.specs.declared.policy.PolicyKind.TheVariants as kinds

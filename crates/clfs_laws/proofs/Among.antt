@@ -1,6 +1,6 @@
 -- What a search finds is among what is searched, and passes the test.
-use Rattle.clfs_laws.proofs.Words.{◌≡◌, Bool, true, refl, sym, ap, ◌∙◌, subst, inl, inr, ◌⊎◌, List, [], ◌∷◌, Some, find, filter, All, Contains, AllByRecursion,
-    cases_Bool, recursion_from_All, All-from_recursion, Contains-append_left}
+use Rattle.clfs_laws.proofs.Words.{◌≡◌, Bool, true, refl, sym, ap, ◌∙◌, subst, inl, inr, ◌⊎◌, List, [], ◌∷◌, Some, find, filter, All, Contains}
+use Rattle.clfs_laws.proofs.Words.{AllByRecursion, cases_Bool, recursion_from_All, All-from_recursion, Contains-append_left}
 use Rattle.std.proofs.lemmas.List.Elements.{All-contains, Contains-append_right, Contains-push}
 
 -- an element of a list

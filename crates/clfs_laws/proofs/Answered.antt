@@ -1,6 +1,6 @@
 -- A call that isn't refused isn't answered by a refusal either, unless nothing changes.
-use Rattle.clfs_laws.proofs.Words.{◌≡◌, ℕ, refl, Option, LogEntry, Call, Refusal, State, Area, Cursor, live_at, newest_restart, record_cursor, restart_cursor,
-    stream_number, Outcome, outcome, answer, over_area, moved_on}
+use Rattle.clfs_laws.proofs.Words.{◌≡◌, ℕ, refl, Option, LogEntry, Call, Refusal, State, Area, Cursor, live_at, newest_restart, record_cursor, restart_cursor}
+use Rattle.clfs_laws.proofs.Words.{stream_number, Outcome, outcome, answer, over_area, moved_on}
 use Rattle.clfs_model.specs.declared.call.Call.TheVariants as calls
 use Rattle.clfs_model.specs.declared.refusal.Refusal.TheVariants as refusals
 use Rattle.clfs_model.specs.declared.reply.Reply.TheVariants as replies

@@ -1,7 +1,7 @@
 -- Blocks that lie one after the other: their front, one record more, and where the next record lies.
-use Rattle.clfs_laws.proofs.Words.{◌≡◌, ℕ, ◌+◌, ◌*◌, ◌/◌, ◌%◌, ◌≤◌, Bool, true, false, refl, ap, ◌∙◌, subst, inl, inr, arith, List, [], ◌∷◌, ◌++◌, length,
-    ne_eqb, eq-eqb, nat_tests, lsn_number, container_of, offset_of, sequence_of, IsShape, size, IsWithin, begun, sealed, frontier, block_end, joins,
-    begins_here, Place, Shape, LogEntry, behind, behind_all, LiesBehind, LieInBlocks, GoesOnAt}
+use Rattle.clfs_laws.proofs.Words.{◌≡◌, ℕ, ◌+◌, ◌*◌, ◌/◌, ◌%◌, ◌≤◌, Bool, true, false, refl, ap, ◌∙◌, subst, inl, inr, arith, List, [], ◌∷◌, ◌++◌, length}
+use Rattle.clfs_laws.proofs.Words.{ne_eqb, eq-eqb, nat_tests, lsn_number, container_of, offset_of, sequence_of, IsShape, size, IsWithin, begun, sealed}
+use Rattle.clfs_laws.proofs.Words.{frontier, block_end, joins, begins_here, Place, Shape, LogEntry, behind, behind_all, LiesBehind, LieInBlocks, GoesOnAt}
 use Rattle.clfs_laws.proofs.LsnOrder.{small_end}
 use Rattle.clfs_laws.proofs.ValidPuts.{after_by}
 

@@ -1,9 +1,9 @@
 -- What the records of blocks that lie one after the other come to: each block is as long as its records make it, and ends within its
 -- container.
-use Rattle.clfs_laws.proofs.Words.{◌≡◌, ℕ, ◌+◌, ◌*◌, ◌%◌, ◌<◌, ◌≤◌, true, false, refl, sym, ap, ◌∙◌, subst, append_assoc, inl, inr, ◌⊎◌, arith, List, [], ◌∷◌,
-    ◌++◌, length, filter, sum_by, ◌==◌, AllByRecursion, cases_Bool, eqb-true, eqb-false, and_parts, append-nil, filter-append, sum_by-append, lsn_number,
-    container_of, offset_of, IsShape, size, sectors, longest, IsWithin, IsClosed, IsOpen, begun, frontier, block_end, Place, Shape, LogEntry, end_of_block,
-    before_all, behind, behind_all, LiesBehind, LieInBlocks}
+use Rattle.clfs_laws.proofs.Words.{◌≡◌, ℕ, ◌+◌, ◌*◌, ◌%◌, ◌<◌, ◌≤◌, true, false, refl, sym, ap, ◌∙◌, subst, append_assoc, inl, inr, ◌⊎◌, arith, List, [], ◌∷◌}
+use Rattle.clfs_laws.proofs.Words.{◌++◌, length, filter, sum_by, ◌==◌, AllByRecursion, cases_Bool, eqb-true, eqb-false, and_parts, append-nil, filter-append}
+use Rattle.clfs_laws.proofs.Words.{sum_by-append, lsn_number, container_of, offset_of, IsShape, size, sectors, longest, IsWithin, IsClosed, IsOpen, begun}
+use Rattle.clfs_laws.proofs.Words.{frontier, block_end, Place, Shape, LogEntry, end_of_block, before_all, behind, behind_all, LiesBehind, LieInBlocks}
 use Rattle.clfs_laws.proofs.Among.{IsAmong}
 use Rattle.clfs_laws.proofs.BlockOrder.{behind_begun, behind_joined}
 use Rattle.clfs_laws.proofs.LsnOrder.{is_of_block, none_of_block, equal_true}

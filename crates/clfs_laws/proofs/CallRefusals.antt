@@ -1,11 +1,13 @@
 -- What it tells that a call is refused, or that it isn't.
-use Rattle.clfs_laws.proofs.Words.{◌≡◌, ℕ, Bool, true, false, refl, sym, ap, subst, List, [], ◌∷◌, Option, Some, None, if◌then◌else◌, not, ◌==◌, ◌||◌, ◌&&◌,
-    nat_lt, nat_le, find, is_none, unwrap_or, option_map_or, most_streams, null_lsn, longest, frontier, Policy, Call, Draft, Previous, UndoNext, Forward,
-    Refusal, State, Area, Cursor, CursorKind, Records, RestartAreas, area_of, areas_of, base_of, stream_at, live_at, last_live, active, own_sum, free,
-    reserved, grown, has_room, size_limit, flushed, need_of, spent_of, newest_restart, next_of_cursor, record_cursor, restart_cursor, cursor_of, outside,
-    policy_refusal, is_installed, needed_containers, refused_if, in_area, unless_two_containers, too_long, short, full, name_fault, stream_number,
-    append_refusal, restart_refusal, invalid_base, invalid_link, too_many_cursors, read_refusal, next_refusal, end_of_kind, is_link, is_base, create_refusal,
-    size_refusal, refusal, is_of_call, needed_sectors, taken_sectors, area_number, held_if_there}
+use Rattle.clfs_laws.proofs.Words.{◌≡◌, ℕ, Bool, true, false, refl, sym, ap, subst, List, [], ◌∷◌, Option, Some, None, if◌then◌else◌, not, ◌==◌, ◌||◌, ◌&&◌}
+use Rattle.clfs_laws.proofs.Words.{nat_lt, nat_le, find, is_none, unwrap_or, option_map_or, most_streams, null_lsn, longest, frontier, Policy, Call, Draft}
+use Rattle.clfs_laws.proofs.Words.{Previous, UndoNext, Forward, Refusal, State, Area, Cursor, CursorKind, Records, RestartAreas, area_of, areas_of, base_of}
+use Rattle.clfs_laws.proofs.Words.{stream_at, live_at, last_live, active, own_sum, free, reserved, grown, has_room, size_limit, flushed, need_of, spent_of}
+use Rattle.clfs_laws.proofs.Words.{newest_restart, next_of_cursor, record_cursor, restart_cursor, cursor_of, outside, policy_refusal, is_installed}
+use Rattle.clfs_laws.proofs.Words.{needed_containers, refused_if, in_area, unless_two_containers, too_long, short, full, name_fault, stream_number}
+use Rattle.clfs_laws.proofs.Words.{append_refusal, restart_refusal, invalid_base, invalid_link, too_many_cursors, read_refusal, next_refusal, end_of_kind}
+use Rattle.clfs_laws.proofs.Words.{is_link, is_base, create_refusal, size_refusal, refusal, is_of_call, needed_sectors, taken_sectors, area_number}
+use Rattle.clfs_laws.proofs.Words.{held_if_there}
 use Rattle.std.specs.Prelude.{length}
 use Rattle.clfs_lsn.specs.declared.policy.Policy.TheVariants as policies
 use Rattle.clfs_model.specs.declared.call.Call.TheVariants as calls

@@ -1,11 +1,12 @@
 -- The flushed part of each state between the small changes of a call survives the call: an append, a restart area, a reservation, an
 -- advance; and of other requests that before it, and that of what it leaves.
-use Rattle.clfs_laws.proofs.Words.{◌≡◌, ℕ, ◌≤◌, Bool, true, false, refl, sym, ap, ◌∙◌, subst, inr, arith, List, [], ◌∷◌, ◌++◌, length, Option, Some, None, All,
-    MatchBool, MatchOption, IsTrue, if◌then◌else◌, option_map_or, append-nil, All-from_recursion, LogEntry, Plain, Call, Draft, Refusal, Fine, State, Area,
-    area_of, own_sum, grown, flushed, flush, cut, next_lsn, put, need_of, spend_if, hold_sizes, seal_if, flush_if, plain_record, appended, refusal, in_area,
-    append_refusal, restart_refusal, Outcome, outcome, answer, restart_record, restarted, rebased, advanced, reserved_for, Request, asks, reopens, bad_line,
-    fine_outcome, Step, Comes, Goes, IsBroken, IsOutOfMemory, takes_memory, HasBlocks, IsStorable, HasBasesOfRequest, IsSurvivor, IsValid, HasSpaceLaws,
-    IsWhole, TakesThrough, ready_stages}
+use Rattle.clfs_laws.proofs.Words.{◌≡◌, ℕ, ◌≤◌, Bool, true, false, refl, sym, ap, ◌∙◌, subst, inr, arith, List, [], ◌∷◌, ◌++◌, length, Option, Some, None}
+use Rattle.clfs_laws.proofs.Words.{All, MatchBool, MatchOption, IsTrue, if◌then◌else◌, option_map_or, append-nil, All-from_recursion, LogEntry, Plain, Call}
+use Rattle.clfs_laws.proofs.Words.{Draft, Refusal, Fine, State, Area, area_of, own_sum, grown, flushed, flush, cut, next_lsn, put, need_of, spend_if}
+use Rattle.clfs_laws.proofs.Words.{hold_sizes, seal_if, flush_if, plain_record, appended, refusal, in_area, append_refusal, restart_refusal, Outcome, outcome}
+use Rattle.clfs_laws.proofs.Words.{answer, restart_record, restarted, rebased, advanced, reserved_for, Request, asks, reopens, bad_line, fine_outcome, Step}
+use Rattle.clfs_laws.proofs.Words.{Comes, Goes, IsBroken, IsOutOfMemory, takes_memory, HasBlocks, IsStorable, HasBasesOfRequest, IsSurvivor, IsValid}
+use Rattle.clfs_laws.proofs.Words.{HasSpaceLaws, IsWhole, TakesThrough, ready_stages}
 use Rattle.std.specs.Prelude.{◌⊎◌}
 use Rattle.clfs_model.specs.declared.call.Call.TheVariants as calls
 use Rattle.clfs_model.specs.declared.refusal.Refusal.TheVariants as refusals

@@ -1,8 +1,8 @@
 -- A chain ends by itself: in a valid state each record that reading comes to lies after the one before, so more of the bound
 -- on its length gives no more records.
-use Rattle.clfs_laws.proofs.Words.{◌≡◌, ℕ, zero, suc, ◌≤◌, ◌<◌, Bool, true, false, refl, sym, ap, subst, inl, inr, ◌⊎◌, arith, List, [], ◌∷◌, length, Option,
-    Some, None, find, nat_lt, ◌==◌, ◌&&◌, if◌then◌else◌, option_and_then, cases_Bool, eqb-true, ltb-true, lt-ltb, le-ltb, LogEntry, Mode, Previous, UndoNext,
-    Forward, State, is_live, live, live_at, entry_at, next, chain_from, IsValid, IsRecord}
+use Rattle.clfs_laws.proofs.Words.{◌≡◌, ℕ, zero, suc, ◌≤◌, ◌<◌, Bool, true, false, refl, sym, ap, subst, inl, inr, ◌⊎◌, arith, List, [], ◌∷◌, length, Option}
+use Rattle.clfs_laws.proofs.Words.{Some, None, find, nat_lt, ◌==◌, ◌&&◌, if◌then◌else◌, option_and_then, cases_Bool, eqb-true, ltb-true, lt-ltb, le-ltb}
+use Rattle.clfs_laws.proofs.Words.{LogEntry, Mode, Previous, UndoNext, Forward, State, is_live, live, live_at, entry_at, next, chain_from, IsValid, IsRecord}
 use Rattle.clfs_laws.proofs.Among.{IsAmong, IsFound, found, among_all, at_each}
 
 -- whether a record lies after another one in the direction of a mode: links go down, and forward goes up

@@ -1,7 +1,7 @@
 -- What a cursor still gives after it was made, and after it moved.
-use Rattle.clfs_laws.proofs.Words.{◌≡◌, ℕ, zero, suc, refl, ap, ◌∙◌, List, ◌∷◌, length, Option, Some, None, LogEntry, Mode, Previous, UndoNext, Forward, State,
-    Area, Cursor, CursorKind, Records, RestartAreas, area_of, change_area, next, chain_from, with_cursor, with_cursor_at, unused_cursor, cursor_of_kind,
-    still_to_come, StillGives}
+use Rattle.clfs_laws.proofs.Words.{◌≡◌, ℕ, zero, suc, refl, ap, ◌∙◌, List, ◌∷◌, length, Option, Some, None, LogEntry, Mode, Previous, UndoNext, Forward}
+use Rattle.clfs_laws.proofs.Words.{State, Area, Cursor, CursorKind, Records, RestartAreas, area_of, change_area, next, chain_from, with_cursor}
+use Rattle.clfs_laws.proofs.Words.{with_cursor_at, unused_cursor, cursor_of_kind, still_to_come, StillGives}
 use Rattle.clfs_laws.proofs.CursorSteps.{new_cursor, changed_there, made_there, moved_to, moved_there}
 
 -- chains go over records and streams, whatever the areas are

@@ -1,7 +1,8 @@
 -- Where a cursor is after it was made, and after it moved.
-use Rattle.clfs_laws.proofs.Words.{◌≡◌, ◌≢◌, ℕ, Bool, true, false, refl, sym, ap, ◌∙◌, inl, inr, List, [], ◌∷◌, Option, Some, None, find, map, not, ◌&&◌, ◌==◌,
-    if◌then◌else◌, AllByRecursion, option_map, option_or, cases_Bool, eqb-true, eq-eqb, ne_eqb, and_parts, find-append, State, Area, Cursor, CursorKind,
-    Records, RestartAreas, area_of, change_area, is_area, with_cursor, with_cursor_at, is_over_restarts, unused_cursor, cursor_of_kind}
+use Rattle.clfs_laws.proofs.Words.{◌≡◌, ◌≢◌, ℕ, Bool, true, false, refl, sym, ap, ◌∙◌, inl, inr, List, [], ◌∷◌, Option, Some, None, find, map, not, ◌&&◌}
+use Rattle.clfs_laws.proofs.Words.{◌==◌, if◌then◌else◌, AllByRecursion, option_map, option_or, cases_Bool, eqb-true, eq-eqb, ne_eqb, and_parts, find-append}
+use Rattle.clfs_laws.proofs.Words.{State, Area, Cursor, CursorKind, Records, RestartAreas, area_of, change_area, is_area, with_cursor, with_cursor_at}
+use Rattle.clfs_laws.proofs.Words.{is_over_restarts, unused_cursor, cursor_of_kind}
 use Rattle.clfs_laws.proofs.Finding.{KeepsName, find_changed}
 use Rattle.clfs_laws.proofs.RowSteps.{named_change}
 use Rattle.clfs_laws.proofs.Unused.{unused_is_new, none_has}

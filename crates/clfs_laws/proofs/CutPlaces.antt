@@ -1,8 +1,8 @@
 -- Where the flushed part of a log lies: at the end of a block or the start of the container after one, unless it is where it was.
-use Rattle.clfs_laws.proofs.Words.{◌≡◌, ℕ, suc, ◌+◌, ◌*◌, ◌%◌, ◌<◌, ◌≤◌, ◌^◌, true, refl, sym, ap, ◌∙◌, subst, inl, inr, ◌⊎◌, arith, List, [], ◌∷◌, ◌++◌,
-    length, Any, filter, sum_by, nat_lt, slice_index_or, ◌==◌, AllByRecursion, cases_Bool, eqb-true, and_parts, ltb-true, ltb-false, filter-append,
-    sum_by-append, container_of, offset_of, size, sectors, frontier, block_end, sealed, Place, LogEntry, State, is_in_block, flushed, cut, before_all,
-    behind_all, LieInBlocks, GoesOnAt, HasBlocks, EndsBlockOf, IsValid}
+use Rattle.clfs_laws.proofs.Words.{◌≡◌, ℕ, suc, ◌+◌, ◌*◌, ◌%◌, ◌<◌, ◌≤◌, ◌^◌, true, refl, sym, ap, ◌∙◌, subst, inl, inr, ◌⊎◌, arith, List, [], ◌∷◌, ◌++◌}
+use Rattle.clfs_laws.proofs.Words.{length, Any, filter, sum_by, nat_lt, slice_index_or, ◌==◌, AllByRecursion, cases_Bool, eqb-true, and_parts, ltb-true}
+use Rattle.clfs_laws.proofs.Words.{ltb-false, filter-append, sum_by-append, container_of, offset_of, size, sectors, frontier, block_end, sealed, Place}
+use Rattle.clfs_laws.proofs.Words.{LogEntry, State, is_in_block, flushed, cut, before_all, behind_all, LieInBlocks, GoesOnAt, HasBlocks, EndsBlockOf, IsValid}
 use Rattle.clfs_model.specs.Survivors.{SplitsNoBlock}
 use Rattle.clfs_laws.proofs.Among.{IsAmong, among_all}
 use Rattle.clfs_laws.proofs.BlockOrder.{laid_front}

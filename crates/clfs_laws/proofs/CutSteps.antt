@@ -1,7 +1,7 @@
 -- Opening a log again may come to its flushed part, so what is computed where nothing happens is a run.
-use Rattle.clfs_laws.proofs.Words.{◌≡◌, ℕ, Bool, true, false, refl, sym, ap, subst, inr, List, [], ◌∷◌, All, MatchBool, if◌then◌else◌, AllByRecursion,
-    recursion_from_All, Fine, State, flushed, cut, IsSame, Outcome, outcome, ReopenStep, Reopens, IsOpenedAnew, IsStorable, Request, asks, reopens, bad_line,
-    RequestStep, Run, fine_outcome, IsValid, HasSpaceLaws, RequestMeets}
+use Rattle.clfs_laws.proofs.Words.{◌≡◌, ℕ, Bool, true, false, refl, sym, ap, subst, inr, List, [], ◌∷◌, All, MatchBool, if◌then◌else◌, AllByRecursion}
+use Rattle.clfs_laws.proofs.Words.{recursion_from_All, Fine, State, flushed, cut, IsSame, Outcome, outcome, ReopenStep, Reopens, IsOpenedAnew, IsStorable}
+use Rattle.clfs_laws.proofs.Words.{Request, asks, reopens, bad_line, RequestStep, Run, fine_outcome, IsValid, HasSpaceLaws, RequestMeets}
 use Rattle.std.specs.List.{list_all}
 use Rattle.clfs_model.specs.declared.refusal.Refusal.TheVariants as refusals
 use Rattle.clfs_model.specs.declared.reply.Reply.TheVariants as replies

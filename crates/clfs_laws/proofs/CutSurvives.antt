@@ -1,9 +1,10 @@
 -- The flushed part of a log survives each request, and so does that of what a call leaves.
-use Rattle.clfs_laws.proofs.Words.{◌≡◌, ℕ, ◌<◌, ◌≤◌, Bool, refl, sym, ap, ◌∙◌, subst, inl, inr, arith, List, [], ◌∷◌, ◌++◌, length, Some, None, All, nat_lt,
-    ◌==◌, AllByRecursion, cases_Bool, ltb-false, append-nil, All-weaker, All-filter, All-from_recursion, filter-append, null_lsn, frontier, LogEntry, Call,
-    Fine, Reply, State, Area, area_of, set_base, grown, block_start, first_or, flushed, flush, cut, next_lsn, put, need_of, spend_if, in_area, restart_refusal,
-    outcome, restart_record, restarted, rebased, Request, asks, reopens, bad_line, Step, IsStorable, HasSettings, HasBasesOfRequest, IsSurvivor, IsValid,
-    HasSpaceLaws, LeavesStable}
+use Rattle.clfs_laws.proofs.Words.{◌≡◌, ℕ, ◌<◌, ◌≤◌, Bool, refl, sym, ap, ◌∙◌, subst, inl, inr, arith, List, [], ◌∷◌, ◌++◌, length, Some, None, All, nat_lt}
+use Rattle.clfs_laws.proofs.Words.{◌==◌, AllByRecursion, cases_Bool, ltb-false, append-nil, All-weaker, All-filter, All-from_recursion, filter-append}
+use Rattle.clfs_laws.proofs.Words.{null_lsn, frontier, LogEntry, Call, Fine, Reply, State, Area, area_of, set_base, grown, block_start, first_or, flushed}
+use Rattle.clfs_laws.proofs.Words.{flush, cut, next_lsn, put, need_of, spend_if, in_area, restart_refusal, outcome, restart_record, restarted, rebased}
+use Rattle.clfs_laws.proofs.Words.{Request, asks, reopens, bad_line, Step, IsStorable, HasSettings, HasBasesOfRequest, IsSurvivor, IsValid, HasSpaceLaws}
+use Rattle.clfs_laws.proofs.Words.{LeavesStable}
 use Rattle.clfs_model.specs.declared.call.Call.TheVariants as calls
 use Rattle.clfs_model.specs.declared.reply.Reply.TheVariants as replies
 use Rattle.clfs_model.specs.Survivors.{HasMore, HasBasesOfRestart}

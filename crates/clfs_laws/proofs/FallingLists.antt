@@ -1,7 +1,7 @@
 -- The restart areas of a stream fall, newest first; below one of them are those after it.
-use Rattle.clfs_laws.proofs.Words.{◌≡◌, ℕ, suc, ◌+◌, ◌<◌, Bool, refl, sym, ap, ◌∙◌, subst, inl, inr, arith, List, [], ◌∷◌, ◌++◌, Some, None, find, filter, map,
-    reverse, nat_lt, slice_index, AllByRecursion, IsStrictlyIncreasing, cases_Bool, lt-ltb, le-ltb, ltb-true, ltb-false, reverse_onto, All-from_recursion,
-    recursion_from_All, LogEntry}
+use Rattle.clfs_laws.proofs.Words.{◌≡◌, ℕ, suc, ◌+◌, ◌<◌, Bool, refl, sym, ap, ◌∙◌, subst, inl, inr, arith, List, [], ◌∷◌, ◌++◌, Some, None, find, filter}
+use Rattle.clfs_laws.proofs.Words.{map, reverse, nat_lt, slice_index, AllByRecursion, IsStrictlyIncreasing, cases_Bool, lt-ltb, le-ltb, ltb-true, ltb-false}
+use Rattle.clfs_laws.proofs.Words.{reverse_onto, All-from_recursion, recursion_from_All, LogEntry}
 use Rattle.std.proofs.lemmas.List.Sorted.{All-permutation, IsPermutation-reverse}
 
 -- each record lies below all after it, or above them

@@ -1,6 +1,7 @@
 -- A call that met a disk fault or damage leaves the log broken.
-use Rattle.clfs_laws.proofs.Words.{◌≡◌, ℕ, Bool, true, false, refl, ap, ◌∙◌, inl, inr, ◌⊎◌, Option, Some, None, MatchOption, Call, Refusal, Happened, Fine,
-    Fault, Damage, Reply, State, happened_of, happened_of_refusal, flushed, refusal, answer, Step, Goes, Comes, IsReply, IsReplyRead, is_of_call, is_own_reply}
+use Rattle.clfs_laws.proofs.Words.{◌≡◌, ℕ, Bool, true, false, refl, ap, ◌∙◌, inl, inr, ◌⊎◌, Option, Some, None, MatchOption, Call, Refusal, Happened, Fine}
+use Rattle.clfs_laws.proofs.Words.{Fault, Damage, Reply, State, happened_of, happened_of_refusal, flushed, refusal, answer, Step, Goes, Comes, IsReply}
+use Rattle.clfs_laws.proofs.Words.{IsReplyRead, is_of_call, is_own_reply}
 use Rattle.clfs_model.specs.declared.refusal.Refusal.TheVariants as refusals
 use Rattle.clfs_model.specs.declared.reply.Reply.TheVariants as replies
 use Rattle.clfs_laws.proofs.CallRefusals.{Told, own_of, terms_of, refusal_told}

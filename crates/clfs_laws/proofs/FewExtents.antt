@@ -1,7 +1,8 @@
 -- A valid log has no more extents than there can be containers.
-use Rattle.clfs_laws.proofs.Words.{◌≡◌, ℕ, ◌+◌, ◌-◌, ◌≤◌, Bool, true, false, refl, sym, ap, ◌∙◌, inl, inr, arith, List, [], ◌∷◌, length, Option, Some, None,
-    MatchOption, AllByRecursion, filter_map, range_with_len, option_map_or, option_to_list, container_of, Call, Extent, Refusal, Happened, Fine, Fault, Damage,
-    Reply, State, answer, extents, extents_from, extent_in, flushed, hold, refusal, Step, Goes, Comes, IsReply, IsValid, is_reply_of}
+use Rattle.clfs_laws.proofs.Words.{◌≡◌, ℕ, ◌+◌, ◌-◌, ◌≤◌, Bool, true, false, refl, sym, ap, ◌∙◌, inl, inr, arith, List, [], ◌∷◌, length, Option, Some, None}
+use Rattle.clfs_laws.proofs.Words.{MatchOption, AllByRecursion, filter_map, range_with_len, option_map_or, option_to_list, container_of, Call, Extent}
+use Rattle.clfs_laws.proofs.Words.{Refusal, Happened, Fine, Fault, Damage, Reply, State, answer, extents, extents_from, extent_in, flushed, hold, refusal}
+use Rattle.clfs_laws.proofs.Words.{Step, Goes, Comes, IsReply, IsValid, is_reply_of}
 use Rattle.std.specs.List.{cons_option}
 use Rattle.std.proofs.lemmas.List.FromFn.{length-range_with_len}
 use Rattle.clfs_lsn.specs.Limits.{most_containers}

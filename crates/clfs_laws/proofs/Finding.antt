@@ -1,6 +1,6 @@
 -- Finding an area among areas of which one has changed, is new or is gone.
-use Rattle.clfs_laws.proofs.Words.{◌≡◌, ℕ, Bool, true, false, refl, sym, ap, ◌∙◌, inl, inr, List, [], ◌∷◌, ◌++◌, Some, None, find, filter, not, if◌then◌else◌,
-    option_map, cases_Bool, Area, is_area, change_first}
+use Rattle.clfs_laws.proofs.Words.{◌≡◌, ℕ, Bool, true, false, refl, sym, ap, ◌∙◌, inl, inr, List, [], ◌∷◌, ◌++◌, Some, None, find, filter, not, if◌then◌else◌}
+use Rattle.clfs_laws.proofs.Words.{option_map, cases_Bool, Area, is_area, change_first}
 
 -- a change that leaves an area's client and number
 pub record KeepsName (change : Area → Area) : Type 0 where

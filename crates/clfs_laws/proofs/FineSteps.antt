@@ -1,6 +1,6 @@
 -- What a call comes to where nothing happened and memory sufficed, on a log that isn't broken.
-use Rattle.clfs_laws.proofs.Words.{◌≡◌, ◌≢◌, ℕ, Bool, true, false, refl, subst, inl, inr, Option, Some, None, MatchOption, LogEntry, Call, Refusal, Fine,
-    Reply, State, flushed, refusal, Outcome, answer, Step, Comes, IsReply}
+use Rattle.clfs_laws.proofs.Words.{◌≡◌, ◌≢◌, ℕ, Bool, true, false, refl, subst, inl, inr, Option, Some, None, MatchOption, LogEntry, Call, Refusal, Fine}
+use Rattle.clfs_laws.proofs.Words.{Reply, State, flushed, refusal, Outcome, answer, Step, Comes, IsReply}
 use Rattle.clfs_model.specs.declared.refusal.Refusal.TheVariants as refusals
 use Rattle.clfs_model.specs.declared.reply.Reply.TheVariants as replies
 use Rattle.clfs_laws.proofs.StepCases.{broken_step, whole_step}

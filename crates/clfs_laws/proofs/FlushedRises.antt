@@ -1,11 +1,12 @@
 -- What is on the disk stays there, in every step.
-use Rattle.clfs_laws.proofs.Words.{◌≡◌, ℕ, ◌+◌, ◌≤◌, Bool, true, false, refl, ap, inl, inr, arith, List, [], ◌∷◌, ◌++◌, length, Option, Some, None, nat_lt,
-    is_none, ◌==◌, option_map_or, option_and_then, cases_Bool, null_lsn, LogEntry, Policy, PolicyKind, Call, Draft, Entry, Refusal, Happened, Reply, State,
-    Area, CursorKind, Records, RestartAreas, area_of, change_area, live_at, own_sum, grown, flushed, flush, GoesOn, IsLegal, with_policy, without_policy,
-    next_lsn, put, need_of, spend_if, hold_sizes, seal_if, flush_if, plain_record, appended, newest_restart, record_cursor, restart_cursor, next_of_cursor,
-    with_cursor_at, refusal, in_area, append_refusal, restart_refusal, invalid_base, read_refusal, next_refusal, too_many_cursors, refused_if, too_long, full,
-    short, stream_number, Outcome, outcome, answer, found_with_cursor, read_at, read_newest_restart, moved_on, reserved_for, released, restart_record, rebased,
-    restarted, advanced, archiving, flushed_to, Step, IsValid, HasSpaceLaws}
+use Rattle.clfs_laws.proofs.Words.{◌≡◌, ℕ, ◌+◌, ◌≤◌, Bool, true, false, refl, ap, inl, inr, arith, List, [], ◌∷◌, ◌++◌, length, Option, Some, None, nat_lt}
+use Rattle.clfs_laws.proofs.Words.{is_none, ◌==◌, option_map_or, option_and_then, cases_Bool, null_lsn, LogEntry, Policy, PolicyKind, Call, Draft, Entry}
+use Rattle.clfs_laws.proofs.Words.{Refusal, Happened, Reply, State, Area, CursorKind, Records, RestartAreas, area_of, change_area, live_at, own_sum, grown}
+use Rattle.clfs_laws.proofs.Words.{flushed, flush, GoesOn, IsLegal, with_policy, without_policy, next_lsn, put, need_of, spend_if, hold_sizes, seal_if}
+use Rattle.clfs_laws.proofs.Words.{flush_if, plain_record, appended, newest_restart, record_cursor, restart_cursor, next_of_cursor, with_cursor_at, refusal}
+use Rattle.clfs_laws.proofs.Words.{in_area, append_refusal, restart_refusal, invalid_base, read_refusal, next_refusal, too_many_cursors, refused_if, too_long}
+use Rattle.clfs_laws.proofs.Words.{full, short, stream_number, Outcome, outcome, answer, found_with_cursor, read_at, read_newest_restart, moved_on}
+use Rattle.clfs_laws.proofs.Words.{reserved_for, released, restart_record, rebased, restarted, advanced, archiving, flushed_to, Step, IsValid, HasSpaceLaws}
 use Rattle.clfs_lsn.specs.declared.policy.Policy.TheVariants as policies
 use Rattle.clfs_lsn.specs.declared.policy.PolicyKind.TheVariants as kinds
 use Rattle.clfs_model.specs.declared.call.Call.TheVariants as calls

@@ -1,7 +1,7 @@
 -- A flush up to an LSN answers an LSN above it.
-use Rattle.clfs_laws.proofs.Words.{◌≡◌, ℕ, ◌<◌, ◌≤◌, Bool, true, false, refl, sym, ap, ◌∙◌, inl, inr, arith, Option, Some, None, nat_lt, nat_le, cases_Bool,
-    ltb-true, ltb-false, leb-false, frontier, Happened, Fine, Fault, Damage, State, area_of, flushed, flush, refusal, refused_if, flushed_to, Step, Goes,
-    IsReply, IsValid}
+use Rattle.clfs_laws.proofs.Words.{◌≡◌, ℕ, ◌<◌, ◌≤◌, Bool, true, false, refl, sym, ap, ◌∙◌, inl, inr, arith, Option, Some, None, nat_lt, nat_le, cases_Bool}
+use Rattle.clfs_laws.proofs.Words.{ltb-true, ltb-false, leb-false, frontier, Happened, Fine, Fault, Damage, State, area_of, flushed, flush, refusal}
+use Rattle.clfs_laws.proofs.Words.{refused_if, flushed_to, Step, Goes, IsReply, IsValid}
 use Rattle.clfs_model.specs.declared.call.Call.TheVariants as calls
 use Rattle.clfs_model.specs.declared.refusal.Refusal.TheVariants as refusals
 use Rattle.clfs_model.specs.declared.reply.Reply.TheVariants as replies

@@ -1,8 +1,8 @@
 -- A read finds its record where a chain begins there and the area has a free cursor.
-use Rattle.clfs_laws.proofs.Words.{◌≡◌, ◌≢◌, ℕ, zero, suc, ◌<◌, Bool, true, false, refl, ap, ◌∙◌, List, ◌∷◌, length, Option, Some, None, is_none, slice_get,
-    option_map_or, LogEntry, Call, Mode, Refusal, Fine, Reply, State, Area, CursorKind, Records, RestartAreas, area_of, live_at, flushed, chain, chain_from,
-    newest_restart, restart_areas, refusal, refused_if, read_refusal, too_many_cursors, outcome, answer, found_with_cursor, read_at, read_newest_restart, Step,
-    IsReply}
+use Rattle.clfs_laws.proofs.Words.{◌≡◌, ◌≢◌, ℕ, zero, suc, ◌<◌, Bool, true, false, refl, ap, ◌∙◌, List, ◌∷◌, length, Option, Some, None, is_none, slice_get}
+use Rattle.clfs_laws.proofs.Words.{option_map_or, LogEntry, Call, Mode, Refusal, Fine, Reply, State, Area, CursorKind, Records, RestartAreas, area_of}
+use Rattle.clfs_laws.proofs.Words.{live_at, flushed, chain, chain_from, newest_restart, restart_areas, refusal, refused_if, read_refusal, too_many_cursors}
+use Rattle.clfs_laws.proofs.Words.{outcome, answer, found_with_cursor, read_at, read_newest_restart, Step, IsReply}
 use Rattle.std.proofs.lemmas.Bool.{lt-leb}
 use Rattle.clfs_model.specs.declared.call.Call.TheVariants as calls
 use Rattle.clfs_model.specs.declared.refusal.Refusal.TheVariants as refusals

@@ -1,7 +1,8 @@
 -- A call without room that no other test refuses is refused for space, and one whose area holds too little for that.
-use Rattle.clfs_laws.proofs.Words.{◌≡◌, ℕ, Bool, true, false, refl, ap, ◌∙◌, List, [], ◌∷◌, length, Option, Some, None, not, ◌==◌, ◌||◌, if◌then◌else◌, nat_lt,
-    option_map_or, null_lsn, Draft, Refusal, State, Area, area_of, base_of, last_live, own_sum, free, reserved, grown, has_room, need_of, spent_of, refused_if,
-    in_area, unless_two_containers, too_long, invalid_link, invalid_base, short, full, is_link, is_base, append_refusal, restart_refusal, refusal, HasSpaceLaws}
+use Rattle.clfs_laws.proofs.Words.{◌≡◌, ℕ, Bool, true, false, refl, ap, ◌∙◌, List, [], ◌∷◌, length, Option, Some, None, not, ◌==◌, ◌||◌, if◌then◌else◌}
+use Rattle.clfs_laws.proofs.Words.{nat_lt, option_map_or, null_lsn, Draft, Refusal, State, Area, area_of, base_of, last_live, own_sum, free, reserved, grown}
+use Rattle.clfs_laws.proofs.Words.{has_room, need_of, spent_of, refused_if, in_area, unless_two_containers, too_long, invalid_link, invalid_base, short, full}
+use Rattle.clfs_laws.proofs.Words.{is_link, is_base, append_refusal, restart_refusal, refusal, HasSpaceLaws}
 use Rattle.clfs_model.specs.declared.call.Call.TheVariants as calls
 use Rattle.clfs_model.specs.declared.refusal.Refusal.TheVariants as refusals
 use Rattle.clfs_laws.specs.Needs.{first_too_long}

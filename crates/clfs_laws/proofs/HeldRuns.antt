@@ -1,9 +1,9 @@
 -- What an area holds in a legal journal, by its client's own entries alone.
-use Rattle.clfs_laws.proofs.Words.{◌≡◌, ℕ, ◌+◌, ◌-◌, Bool, true, false, refl, sym, ap, ◌∙◌, subst, inl, inr, arith, List, [], ◌∷◌, ◌++◌, length, Option, Some,
-    None, MatchOption, ◌==◌, if◌then◌else◌, option_map, option_map_or, option_and_then, cases_Bool, eqb-true, eqb-false, ne_eqb, LogEntry, Call, Entry,
-    Refusal, Happened, Fine, Fault, Damage, Reply, State, Area, area_of, live_at, next_of_cursor, record_cursor, restart_cursor, newest_restart, refusal,
-    stream_number, flushed, Outcome, outcome, answer, Step, Goes, Comes, IsReply, IsReplyRead, GoesOn, IsLegal, mine, held_in, held_by, AreaRow, row_of,
-    row_in, row_after}
+use Rattle.clfs_laws.proofs.Words.{◌≡◌, ℕ, ◌+◌, ◌-◌, Bool, true, false, refl, sym, ap, ◌∙◌, subst, inl, inr, arith, List, [], ◌∷◌, ◌++◌, length, Option, Some}
+use Rattle.clfs_laws.proofs.Words.{None, MatchOption, ◌==◌, if◌then◌else◌, option_map, option_map_or, option_and_then, cases_Bool, eqb-true, eqb-false}
+use Rattle.clfs_laws.proofs.Words.{ne_eqb, LogEntry, Call, Entry, Refusal, Happened, Fine, Fault, Damage, Reply, State, Area, area_of, live_at}
+use Rattle.clfs_laws.proofs.Words.{next_of_cursor, record_cursor, restart_cursor, newest_restart, refusal, stream_number, flushed, Outcome, outcome, answer}
+use Rattle.clfs_laws.proofs.Words.{Step, Goes, Comes, IsReply, IsReplyRead, GoesOn, IsLegal, mine, held_in, held_by, AreaRow, row_of, row_in, row_after}
 use Rattle.clfs_model.specs.declared.call.Call.TheVariants as calls
 use Rattle.clfs_model.specs.declared.refusal.Refusal.TheVariants as refusals
 use Rattle.clfs_model.specs.declared.reply.Reply.TheVariants as replies

@@ -1,7 +1,7 @@
 -- The hold is the least of what the log needs, so it isn't earlier where only later LSNs are needed.
-use Rattle.clfs_laws.proofs.Words.{◌≡◌, ℕ, ◌≤◌, Bool, true, false, inl, inr, arith, List, [], ◌∷◌, ◌++◌, Option, Some, None, filter, map, IfSome,
-    AllByRecursion, option_to_list, cases_Bool, All-weaker, recursion_from_All, frontier, active_containers, free_sectors, Place, Shape, LogEntry, State, hold,
-    live_lsns, is_live, least_or, IsRecord}
+use Rattle.clfs_laws.proofs.Words.{◌≡◌, ℕ, ◌≤◌, Bool, true, false, inl, inr, arith, List, [], ◌∷◌, ◌++◌, Option, Some, None, filter, map, IfSome}
+use Rattle.clfs_laws.proofs.Words.{AllByRecursion, option_to_list, cases_Bool, All-weaker, recursion_from_All, frontier, active_containers, free_sectors}
+use Rattle.clfs_laws.proofs.Words.{Place, Shape, LogEntry, State, hold, live_lsns, is_live, least_or, IsRecord}
 use Rattle.std.specs.Prelude.{fold, min}
 use Rattle.clfs_laws.proofs.ValidPlaces.{IsSound, flushed_below}
 

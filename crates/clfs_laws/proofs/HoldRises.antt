@@ -1,11 +1,12 @@
 -- The hold never falls: no step needs again what the log didn't need before it.
-use Rattle.clfs_laws.proofs.Words.{◌≡◌, ℕ, ◌-◌, ◌≤◌, Bool, true, false, refl, sym, ap, ◌∙◌, subst, inl, inr, arith, List, [], ◌∷◌, ◌++◌, length, Option, Some,
-    None, IsSome, nat_lt, not, ◌||◌, ◌==◌, AllByRecursion, option_map_or, option_to_list, cases_Bool, ltb-false, All-weaker, recursion_from_All, null_lsn,
-    frontier, joins, begins_here, LogEntry, Policy, PolicyKind, Call, Draft, Refusal, Happened, Reply, State, Area, Stream, Cursor, stream_at, base_of,
-    area_of, set_base, is_live, hold, last_live, live_at, grown, seal, flush, flushed, cut, next_lsn, put, need_of, spend_if, hold_sizes, seal_if, flush_if,
-    plain_record, appended, with_policy, without_policy, newest_restart, record_cursor, restart_cursor, refusal, in_area, refused_if, restart_refusal, is_base,
-    invalid_base, stream_number, Outcome, outcome, answer, over_area, moved_on, restart_record, restarted, rebased, archiving, advanced, flushed_to, Step,
-    with_broken, IsValid, IsRecord, HasSpaceLaws}
+use Rattle.clfs_laws.proofs.Words.{◌≡◌, ℕ, ◌-◌, ◌≤◌, Bool, true, false, refl, sym, ap, ◌∙◌, subst, inl, inr, arith, List, [], ◌∷◌, ◌++◌, length, Option, Some}
+use Rattle.clfs_laws.proofs.Words.{None, IsSome, nat_lt, not, ◌||◌, ◌==◌, AllByRecursion, option_map_or, option_to_list, cases_Bool, ltb-false, All-weaker}
+use Rattle.clfs_laws.proofs.Words.{recursion_from_All, null_lsn, frontier, joins, begins_here, LogEntry, Policy, PolicyKind, Call, Draft, Refusal, Happened}
+use Rattle.clfs_laws.proofs.Words.{Reply, State, Area, Stream, Cursor, stream_at, base_of, area_of, set_base, is_live, hold, last_live, live_at, grown, seal}
+use Rattle.clfs_laws.proofs.Words.{flush, flushed, cut, next_lsn, put, need_of, spend_if, hold_sizes, seal_if, flush_if, plain_record, appended, with_policy}
+use Rattle.clfs_laws.proofs.Words.{without_policy, newest_restart, record_cursor, restart_cursor, refusal, in_area, refused_if, restart_refusal, is_base}
+use Rattle.clfs_laws.proofs.Words.{invalid_base, stream_number, Outcome, outcome, answer, over_area, moved_on, restart_record, restarted, rebased, archiving}
+use Rattle.clfs_laws.proofs.Words.{advanced, flushed_to, Step, with_broken, IsValid, IsRecord, HasSpaceLaws}
 use Rattle.clfs_lsn.specs.declared.policy.Policy.TheVariants as policies
 use Rattle.clfs_lsn.specs.declared.policy.PolicyKind.TheVariants as kinds
 use Rattle.clfs_model.specs.declared.call.Call.TheVariants as calls

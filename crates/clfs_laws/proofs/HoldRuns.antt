@@ -1,6 +1,7 @@
 -- The hold's container never falls, in a step, where the log is opened again, and along a journal.
-use Rattle.clfs_laws.proofs.Words.{◌≡◌, ℕ, ◌≤◌, Bool, true, false, ap, inl, inr, ◌⊎◌, arith, List, [], ◌∷◌, ◌++◌, MatchBool, container_of, Call, Entry,
-    Happened, Fine, Fault, Damage, Reply, State, hold, cut, GoesOn, IsLegal, Step, ReopenStep, Reopens, IsBroken, IsOutOfMemory, IsValid, HasSpaceLaws}
+use Rattle.clfs_laws.proofs.Words.{◌≡◌, ℕ, ◌≤◌, Bool, true, false, ap, inl, inr, ◌⊎◌, arith, List, [], ◌∷◌, ◌++◌, MatchBool, container_of, Call, Entry}
+use Rattle.clfs_laws.proofs.Words.{Happened, Fine, Fault, Damage, Reply, State, hold, cut, GoesOn, IsLegal, Step, ReopenStep, Reopens, IsBroken}
+use Rattle.clfs_laws.proofs.Words.{IsOutOfMemory, IsValid, HasSpaceLaws}
 use Rattle.clfs_laws.proofs.HoldRises.{hold_rises, hold_cut}
 use Rattle.clfs_laws.proofs.ValidSteps.{valid_step}
 

@@ -1,6 +1,6 @@
 -- Journals cut in two and joined, and their numbers.
-use Rattle.clfs_laws.proofs.Words.{◌≡◌, ℕ, ◌+◌, Bool, true, false, refl, sym, ap, ◌∙◌, subst, append_assoc, length-append, inl, inr, List, [], ◌∷◌, ◌++◌,
-    length, map, ◌==◌, range_with_len, cases_Bool, eqb-true, append-nil, filter-append, Entry, State, GoesOn, IsLegal, mine}
+use Rattle.clfs_laws.proofs.Words.{◌≡◌, ℕ, ◌+◌, Bool, true, false, refl, sym, ap, ◌∙◌, subst, append_assoc, length-append, inl, inr, List, [], ◌∷◌, ◌++◌}
+use Rattle.clfs_laws.proofs.Words.{length, map, ◌==◌, range_with_len, cases_Bool, eqb-true, append-nil, filter-append, Entry, State, GoesOn, IsLegal, mine}
 use Rattle.clfs_laws.specs.Chains.{AreSteps}
 
 -- entries that go on after others, cut in two

@@ -1,6 +1,7 @@
 -- Making a log ready, putting a record, sealing, flushing and moving a base leave the settings.
-use Rattle.clfs_laws.proofs.Words.{◌≡◌, ℕ, ◌-◌, Bool, true, false, refl, sym, ap, ◌∙◌, inl, inr, List, [], ◌∷◌, length, map, nat_lt, ◌==◌, cases_Bool,
-    null_lsn, joins, begins_here, LogEntry, State, Area, Stream, set_base, rebased, seal, flush, cut, put, hold_sizes, seal_if, flush_if, HasSettings}
+use Rattle.clfs_laws.proofs.Words.{◌≡◌, ℕ, ◌-◌, Bool, true, false, refl, sym, ap, ◌∙◌, inl, inr, List, [], ◌∷◌, length, map, nat_lt, ◌==◌, cases_Bool}
+use Rattle.clfs_laws.proofs.Words.{null_lsn, joins, begins_here, LogEntry, State, Area, Stream, set_base, rebased, seal, flush, cut, put, hold_sizes, seal_if}
+use Rattle.clfs_laws.proofs.Words.{flush_if, HasSettings}
 use Rattle.clfs_laws.proofs.ValidPuts.{put_by}
 
 -- of a state itself, backwards, and one after the other

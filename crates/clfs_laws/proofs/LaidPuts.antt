@@ -1,8 +1,9 @@
 -- A record that a log has room for leaves a laid log, and a whole one where it is plain, or on the disk with its base moved.
-use Rattle.clfs_laws.proofs.Words.{◌≡◌, ℕ, ◌+◌, ◌≤◌, Bool, true, false, refl, sym, ap, ◌∙◌, subst, inl, inr, arith, List, [], ◌∷◌, ◌++◌, length, Option, All,
-    IsSome, nat_lt, ◌==◌, AllByRecursion, option_to_list, cases_Bool, All-weaker, All-push, recursion_from_All, null_lsn, own, frontier, joins, begins_here,
-    BaseFits, LogEntry, Kind, Plain, Restart, State, stream_at, hold, is_live, free, reserved, flushed, seal, flush, next_lsn, put, rebased, IsStorable,
-    IsValid, IsRecord, HasSpaceLaws, IsWhole, IsLaid, MayPut, MayMove, KeepsTables}
+use Rattle.clfs_laws.proofs.Words.{◌≡◌, ℕ, ◌+◌, ◌≤◌, Bool, true, false, refl, sym, ap, ◌∙◌, subst, inl, inr, arith, List, [], ◌∷◌, ◌++◌, length, Option, All}
+use Rattle.clfs_laws.proofs.Words.{IsSome, nat_lt, ◌==◌, AllByRecursion, option_to_list, cases_Bool, All-weaker, All-push, recursion_from_All, null_lsn, own}
+use Rattle.clfs_laws.proofs.Words.{frontier, joins, begins_here, BaseFits, LogEntry, Kind, Plain, Restart, State, stream_at, hold, is_live, free, reserved}
+use Rattle.clfs_laws.proofs.Words.{flushed, seal, flush, next_lsn, put, rebased, IsStorable, IsValid, IsRecord, HasSpaceLaws, IsWhole, IsLaid, MayPut}
+use Rattle.clfs_laws.proofs.Words.{MayMove, KeepsTables}
 use Rattle.clfs_laws.proofs.HoldOrder.{hold_later, hold_below_archive, hold_below_live, hold_below_frontier}
 use Rattle.clfs_laws.proofs.LaidStates.{laid_of, sound_laid}
 use Rattle.clfs_laws.proofs.Links.{next_above}

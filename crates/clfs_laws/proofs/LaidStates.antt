@@ -1,6 +1,6 @@
 -- A state that is valid and that files can hold but for the restart area that was put last: sealing and flushing keep it such.
-use Rattle.clfs_laws.proofs.Words.{◌≡◌, refl, sym, subst, inl, inr, arith, List, [], All, nat_lt, cases_Bool, All-weaker, container_of, BaseFits, LogEntry,
-    State, hold, seal, flush, HasBlocks, IsWithinLimits, HasMovedBase, IsStorable, IsValid, IsWhole, IsLaid, KeepsTables}
+use Rattle.clfs_laws.proofs.Words.{◌≡◌, refl, sym, subst, inl, inr, arith, List, [], All, nat_lt, cases_Bool, All-weaker, container_of, BaseFits, LogEntry}
+use Rattle.clfs_laws.proofs.Words.{State, hold, seal, flush, HasBlocks, IsWithinLimits, HasMovedBase, IsStorable, IsValid, IsWhole, IsLaid, KeepsTables}
 use Rattle.clfs_laws.proofs.RecordsOfCalls.{seal_records}
 use Rattle.clfs_laws.proofs.StorableBases.{bases_as, same_bases}
 use Rattle.clfs_laws.proofs.StorableBlocks.{blocks_seal, blocks_flush}

@@ -1,8 +1,8 @@
 -- Links lie below the next record, and bases and live records below the frontier.
-use Rattle.clfs_laws.proofs.Words.{◌≡◌, ℕ, zero, suc, ◌-◌, ◌<◌, ◌≤◌, Bool, true, false, refl, subst, inl, inr, ◌⊎◌, arith, List, [], ◌∷◌, Option, Some, None,
-    is_some, find, filter, slice_get, nat_lt, ◌&&◌, ◌||◌, ◌==◌, AllByRecursion, option_map_or, cases_Bool, eqb-true, ltb-true, All-weaker, recursion_from_All,
-    null_lsn, IsWithin, frontier, joins, begins_here, IsShape, Place, Shape, LogEntry, State, Stream, base_of, is_live, live_at, flushed, next_lsn, is_link,
-    IsRecord}
+use Rattle.clfs_laws.proofs.Words.{◌≡◌, ℕ, zero, suc, ◌-◌, ◌<◌, ◌≤◌, Bool, true, false, refl, subst, inl, inr, ◌⊎◌, arith, List, [], ◌∷◌, Option, Some, None}
+use Rattle.clfs_laws.proofs.Words.{is_some, find, filter, slice_get, nat_lt, ◌&&◌, ◌||◌, ◌==◌, AllByRecursion, option_map_or, cases_Bool, eqb-true, ltb-true}
+use Rattle.clfs_laws.proofs.Words.{All-weaker, recursion_from_All, null_lsn, IsWithin, frontier, joins, begins_here, IsShape, Place, Shape, LogEntry, State}
+use Rattle.clfs_laws.proofs.Words.{Stream, base_of, is_live, live_at, flushed, next_lsn, is_link, IsRecord}
 use Rattle.clfs_laws.proofs.LsnOrder.{small_offset, few_records, frontier_sealed}
 use Rattle.clfs_laws.proofs.ValidPlaces.{IsSound, flushed_below}
 use Rattle.clfs_laws.proofs.ValidPuts.{after_by}

@@ -1,7 +1,7 @@
 -- How LSNs lie to blocks and containers.
-use Rattle.clfs_laws.proofs.Words.{◌≡◌, ℕ, ◌*◌, ◌%◌, ◌^◌, ◌<◌, ◌≤◌, Bool, true, false, refl, inl, inr, ◌⊎◌, arith, List, [], ◌∷◌, filter, map, find, IsSome,
-    ◌&&◌, ◌==◌, AllByRecursion, cases_Bool, eqb-true, nat_tests, lsn_number, container_of, offset_of, sequence_of, IsShape, IsWithin, IsClosed, IsOpen, sealed,
-    frontier, block_end, Place, Shape, LogEntry, block_start}
+use Rattle.clfs_laws.proofs.Words.{◌≡◌, ℕ, ◌*◌, ◌%◌, ◌^◌, ◌<◌, ◌≤◌, Bool, true, false, refl, inl, inr, ◌⊎◌, arith, List, [], ◌∷◌, filter, map, find, IsSome}
+use Rattle.clfs_laws.proofs.Words.{◌&&◌, ◌==◌, AllByRecursion, cases_Bool, eqb-true, nat_tests, lsn_number, container_of, offset_of, sequence_of, IsShape}
+use Rattle.clfs_laws.proofs.Words.{IsWithin, IsClosed, IsOpen, sealed, frontier, block_end, Place, Shape, LogEntry, block_start}
 
 -- an LSN below the start of a block isn't of this block
 pub below_block : (lsn container offset : ℕ) → offset % 512 ≡ 0 → offset < 2 ^ 32 → lsn < lsn_number container offset 0

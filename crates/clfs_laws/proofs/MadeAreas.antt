@@ -1,7 +1,7 @@
 -- An area is what the last of its client's entries that made it says.
-use Rattle.clfs_laws.proofs.Words.{◌≡◌, ℕ, Bool, true, false, refl, sym, ap, subst, ◌∙◌, List, [], ◌∷◌, ◌++◌, Option, Some, None, ◌==◌, if◌then◌else◌,
-    option_map, Call, Entry, Reply, State, Area, area_of, IsLegal, mine, AreaRow, row_of, row_in, row_after, row_through, changed_where, with_held,
-    with_changed_held}
+use Rattle.clfs_laws.proofs.Words.{◌≡◌, ℕ, Bool, true, false, refl, sym, ap, subst, ◌∙◌, List, [], ◌∷◌, ◌++◌, Option, Some, None, ◌==◌, if◌then◌else◌}
+use Rattle.clfs_laws.proofs.Words.{option_map, Call, Entry, Reply, State, Area, area_of, IsLegal, mine, AreaRow, row_of, row_in, row_after, row_through}
+use Rattle.clfs_laws.proofs.Words.{changed_where, with_held, with_changed_held}
 use Rattle.std.proofs.Common.{eq-eqb}
 use Rattle.clfs_model.specs.declared.call.Call.TheVariants as calls
 use Rattle.clfs_model.specs.declared.reply.Reply.TheVariants as replies

@@ -1,6 +1,6 @@
 -- What follows from a call that isn't refused.
-use Rattle.clfs_laws.proofs.Words.{◌≡◌, ℕ, Bool, true, false, refl, List, Option, Some, None, find, nat_lt, ◌&&◌, option_map_or, Refusal, Area, refused_if,
-    too_long}
+use Rattle.clfs_laws.proofs.Words.{◌≡◌, ℕ, Bool, true, false, refl, List, Option, Some, None, find, nat_lt, ◌&&◌, option_map_or, Refusal, Area, refused_if}
+use Rattle.clfs_laws.proofs.Words.{too_long}
 use Rattle.clfs_model.specs.declared.refusal.Refusal.TheVariants as refusals
 
 -- a test of a call that isn't refused fails, and no test after it refuses

@@ -1,7 +1,7 @@
 -- The numbers of a state that files can hold.
-use Rattle.clfs_laws.proofs.Words.{◌≡◌, ℕ, ◌<◌, ◌≤◌, ◌^◌, sym, ap, subst, inl, inr, ◌⊎◌, arith, length, Option, Some, None, All, Any, IfSome, slice_index_or,
-    ◌==◌, eqb-true, All-weaker, All-from_recursion, null_lsn, longest, frontier, Place, LogEntry, State, Area, Cursor, Stream, flushed, cut, HasMovedBase,
-    HasBlocks, IsCursor, IsAreaWithinLimits, IsStorable, EndsBlockOf, IsValid, IsRecord, IsWaiting}
+use Rattle.clfs_laws.proofs.Words.{◌≡◌, ℕ, ◌<◌, ◌≤◌, ◌^◌, sym, ap, subst, inl, inr, ◌⊎◌, arith, length, Option, Some, None, All, Any, IfSome, slice_index_or}
+use Rattle.clfs_laws.proofs.Words.{◌==◌, eqb-true, All-weaker, All-from_recursion, null_lsn, longest, frontier, Place, LogEntry, State, Area, Cursor, Stream}
+use Rattle.clfs_laws.proofs.Words.{flushed, cut, HasMovedBase, HasBlocks, IsCursor, IsAreaWithinLimits, IsStorable, EndsBlockOf, IsValid, IsRecord, IsWaiting}
 use Rattle.clfs_laws.proofs.Among.{found, at_each}
 use Rattle.clfs_laws.proofs.BlockSums.{EndsWithin, paid_last}
 use Rattle.clfs_laws.proofs.Links.{base_stable}

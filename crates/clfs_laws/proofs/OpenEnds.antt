@@ -1,6 +1,6 @@
 -- Where the open block ends, and the record that was put last.
-use Rattle.clfs_laws.proofs.Words.{◌≡◌, ℕ, ◌+◌, ◌*◌, ◌≤◌, sym, ap, subst, inl, inr, arith, container_of, offset_of, IsShape, sectors, frontier, block_end,
-    Place, LogEntry, State, end_of_block, HasBlocks, GoesOnAt, before_all, behind_all}
+use Rattle.clfs_laws.proofs.Words.{◌≡◌, ℕ, ◌+◌, ◌*◌, ◌≤◌, sym, ap, subst, inl, inr, arith, container_of, offset_of, IsShape, sectors, frontier, block_end}
+use Rattle.clfs_laws.proofs.Words.{Place, LogEntry, State, end_of_block, HasBlocks, GoesOnAt, before_all, behind_all}
 use Rattle.std.specs.List.{Any}
 use Rattle.clfs_laws.proofs.BlockSums.{paid, IsPaid, paid_last}
 use Rattle.clfs_laws.proofs.CutPlaces.{any_among}

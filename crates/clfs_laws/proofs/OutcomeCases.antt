@@ -1,6 +1,6 @@
 -- What holds of each outcome that a call can have holds of the one that it has.
-use Rattle.clfs_laws.proofs.Words.{Option, Some, None, option_map_or, option_and_then, LogEntry, State, Area, Cursor, area_of, change_area, next_of_cursor,
-    with_cursor_at, Outcome, outcome, over_area, moved_on}
+use Rattle.clfs_laws.proofs.Words.{Option, Some, None, option_map_or, option_and_then, LogEntry, State, Area, Cursor, area_of, change_area, next_of_cursor}
+use Rattle.clfs_laws.proofs.Words.{with_cursor_at, Outcome, outcome, over_area, moved_on}
 use Rattle.std.specs.Prelude.{ℕ}
 use Rattle.clfs_model.specs.declared.refusal.Refusal.TheVariants as refusals
 use Rattle.clfs_model.specs.declared.reply.Reply.TheVariants as replies

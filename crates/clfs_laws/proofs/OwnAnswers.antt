@@ -1,6 +1,6 @@
 -- No answer tells of memory, of the disk, of an earlier call or of a bad line.
-use Rattle.clfs_laws.proofs.Words.{true, ◌≡◌, ℕ, refl, Option, LogEntry, Call, State, Area, Cursor, live_at, newest_restart, record_cursor, restart_cursor,
-    stream_number, Outcome, answer, over_area, moved_on, is_own_reply}
+use Rattle.clfs_laws.proofs.Words.{true, ◌≡◌, ℕ, refl, Option, LogEntry, Call, State, Area, Cursor, live_at, newest_restart, record_cursor, restart_cursor}
+use Rattle.clfs_laws.proofs.Words.{stream_number, Outcome, answer, over_area, moved_on, is_own_reply}
 use Rattle.clfs_model.specs.declared.call.Call.TheVariants as calls
 use Rattle.clfs_laws.proofs.OutcomeCases.{of_option, of_area, of_cursor}
 

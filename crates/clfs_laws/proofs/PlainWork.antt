@@ -1,9 +1,10 @@
 -- Plain work takes no more of the free sectors than its own records need, and leaves the number of containers.
-use Rattle.clfs_laws.proofs.Words.{◌≡◌, ℕ, ◌+◌, ◌≤◌, Bool, true, false, refl, sym, ◌∙◌, subst, inl, inr, arith, List, [], ◌∷◌, ◌++◌, length, Option, Some,
-    None, All, MatchOption, nat_lt, AllByRecursion, option_map_or, cases_Bool, recursion_from_All, own, null_lsn, joins, begins_here, LogEntry, Call, Draft,
-    Entry, Refusal, Happened, Fine, Fault, Damage, Reply, State, Area, area_of, hold, free, reserved, grown, seal, flush, flushed, GoesOn, next_lsn, need_of,
-    put, plain_record, seal_if, flush_if, appended, refusal, in_area, append_refusal, stream_number, Outcome, outcome, answer, flushed_to, Step, Goes, Comes,
-    IsReply, with_broken, IsValid, HasSpaceLaws}
+use Rattle.clfs_laws.proofs.Words.{◌≡◌, ℕ, ◌+◌, ◌≤◌, Bool, true, false, refl, sym, ◌∙◌, subst, inl, inr, arith, List, [], ◌∷◌, ◌++◌, length, Option, Some}
+use Rattle.clfs_laws.proofs.Words.{None, All, MatchOption, nat_lt, AllByRecursion, option_map_or, cases_Bool, recursion_from_All, own, null_lsn, joins}
+use Rattle.clfs_laws.proofs.Words.{begins_here, LogEntry, Call, Draft, Entry, Refusal, Happened, Fine, Fault, Damage, Reply, State, Area, area_of, hold, free}
+use Rattle.clfs_laws.proofs.Words.{reserved, grown, seal, flush, flushed, GoesOn, next_lsn, need_of, put, plain_record, seal_if, flush_if, appended, refusal}
+use Rattle.clfs_laws.proofs.Words.{in_area, append_refusal, stream_number, Outcome, outcome, answer, flushed_to, Step, Goes, Comes, IsReply, with_broken}
+use Rattle.clfs_laws.proofs.Words.{IsValid, HasSpaceLaws}
 use Rattle.clfs_model.specs.declared.call.Call.TheVariants as calls
 use Rattle.clfs_model.specs.declared.refusal.Refusal.TheVariants as refusals
 use Rattle.clfs_model.specs.declared.reply.Reply.TheVariants as replies

@@ -1,10 +1,11 @@
 -- A call that doesn't call the disk leaves what is on the disk as it was.
-use Rattle.clfs_laws.proofs.Words.{◌≡◌, ℕ, ◌+◌, ◌*◌, ◌<◌, ◌≤◌, Bool, true, false, refl, sym, ap, ◌∙◌, inl, inr, arith, List, [], ◌∷◌, ◌++◌, length, Option,
-    Some, None, if◌then◌else◌, filter, nat_lt, nat_le, not, ◌&&◌, ◌||◌, ◌==◌, is_none, is_some, option_map_or, cases_Bool, eqb-true, lt-ltb, ltb-false,
-    leb-false, le-leb, append-nil, filter-append, lsn_number, container_of, offset_of, joins, begins_here, block_end, place_after, LogEntry, Place, Call,
-    Draft, Happened, Reply, State, Area, area_of, own_sum, grown, with_containers, block_start, first_or, flushed, seal, flush, cut, need_of, made_ready,
-    next_lsn, put, spend_if, hold_sizes, seal_if, plain_record, appended, stream_number, Outcome, outcome, answer, reserved_for, flushed_to, archiving, Step,
-    calls_disk, fills_buffers, grows, making_ready_writes, append_writes, IsValid, HasSpaceLaws}
+use Rattle.clfs_laws.proofs.Words.{◌≡◌, ℕ, ◌+◌, ◌*◌, ◌<◌, ◌≤◌, Bool, true, false, refl, sym, ap, ◌∙◌, inl, inr, arith, List, [], ◌∷◌, ◌++◌, length, Option}
+use Rattle.clfs_laws.proofs.Words.{Some, None, if◌then◌else◌, filter, nat_lt, nat_le, not, ◌&&◌, ◌||◌, ◌==◌, is_none, is_some, option_map_or, cases_Bool}
+use Rattle.clfs_laws.proofs.Words.{eqb-true, lt-ltb, ltb-false, leb-false, le-leb, append-nil, filter-append, lsn_number, container_of, offset_of, joins}
+use Rattle.clfs_laws.proofs.Words.{begins_here, block_end, place_after, LogEntry, Place, Call, Draft, Happened, Reply, State, Area, area_of, own_sum, grown}
+use Rattle.clfs_laws.proofs.Words.{with_containers, block_start, first_or, flushed, seal, flush, cut, need_of, made_ready, next_lsn, put, spend_if}
+use Rattle.clfs_laws.proofs.Words.{hold_sizes, seal_if, plain_record, appended, stream_number, Outcome, outcome, answer, reserved_for, flushed_to, archiving}
+use Rattle.clfs_laws.proofs.Words.{Step, calls_disk, fills_buffers, grows, making_ready_writes, append_writes, IsValid, HasSpaceLaws}
 use Rattle.std.proofs.lemmas.List.{length-append}
 use Rattle.clfs_model.specs.declared.call.Call.TheVariants as calls
 use Rattle.clfs_model.specs.declared.refusal.Refusal.TheVariants as refusals

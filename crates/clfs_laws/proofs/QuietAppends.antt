@@ -1,7 +1,7 @@
 -- Where an append makes no call on the disk, none of the small changes that it is made of wants one.
-use Rattle.clfs_laws.proofs.Words.{◌≡◌, ℕ, Bool, true, false, refl, ap, ◌∙◌, arith, List, [], ◌∷◌, length, ◌&&◌, ◌||◌, if◌then◌else◌, ltb-false, joins,
-    begins_here, Draft, State, Area, with_containers, grown, seal, flush, made_ready, put, need_of, spend_if, hold_sizes, plain_record, grows, fills_buffers,
-    making_ready_writes, append_writes, HasSpaceLaws}
+use Rattle.clfs_laws.proofs.Words.{◌≡◌, ℕ, Bool, true, false, refl, ap, ◌∙◌, arith, List, [], ◌∷◌, length, ◌&&◌, ◌||◌, if◌then◌else◌, ltb-false, joins}
+use Rattle.clfs_laws.proofs.Words.{begins_here, Draft, State, Area, with_containers, grown, seal, flush, made_ready, put, need_of, spend_if, hold_sizes}
+use Rattle.clfs_laws.proofs.Words.{plain_record, grows, fills_buffers, making_ready_writes, append_writes, HasSpaceLaws}
 use Rattle.clfs_laws.proofs.ValidAppends.{seal_with_areas, flush_with_areas}
 use Rattle.clfs_laws.proofs.ValidSettings.{grown_is, grown_no_fewer}
 

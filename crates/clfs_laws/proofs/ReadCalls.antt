@@ -1,10 +1,11 @@
 -- What the calls that read come to.
-use Rattle.clfs_laws.proofs.Words.{◌≡◌, ◌≢◌, ℕ, zero, suc, Bool, true, false, refl, sym, ap, ◌∙◌, subst, List, [], ◌∷◌, ◌++◌, length, arith, Option, Some,
-    None, is_none, filter, slice_get, ◌==◌, ◌&&◌, option_map_or, LogEntry, Call, Mode, Previous, UndoNext, Forward, Refusal, Fine, Reply, State, Area, Cursor,
-    CursorKind, Records, RestartAreas, area_of, change_area, live, live_at, is_live, next, chain_from, chain, restart_areas, is_restart, newest_restart,
-    next_of_cursor, record_cursor, restart_cursor, with_cursor_at, unused_cursor, flushed, refusal, refused_if, read_refusal, next_refusal, too_many_cursors,
-    end_of_kind, Outcome, outcome, answer, read_at, read_newest_restart, found_with_cursor, moved_on, Step, Comes, IsReply, IsValid, cursor_of_kind,
-    still_to_come, StillGives}
+use Rattle.clfs_laws.proofs.Words.{◌≡◌, ◌≢◌, ℕ, zero, suc, Bool, true, false, refl, sym, ap, ◌∙◌, subst, List, [], ◌∷◌, ◌++◌, length, arith, Option, Some}
+use Rattle.clfs_laws.proofs.Words.{None, is_none, filter, slice_get, ◌==◌, ◌&&◌, option_map_or, LogEntry, Call, Mode, Previous, UndoNext, Forward, Refusal}
+use Rattle.clfs_laws.proofs.Words.{Fine, Reply, State, Area, Cursor, CursorKind, Records, RestartAreas, area_of, change_area, live, live_at, is_live, next}
+use Rattle.clfs_laws.proofs.Words.{chain_from, chain, restart_areas, is_restart, newest_restart, next_of_cursor, record_cursor, restart_cursor}
+use Rattle.clfs_laws.proofs.Words.{with_cursor_at, unused_cursor, flushed, refusal, refused_if, read_refusal, next_refusal, too_many_cursors, end_of_kind}
+use Rattle.clfs_laws.proofs.Words.{Outcome, outcome, answer, read_at, read_newest_restart, found_with_cursor, moved_on, Step, Comes, IsReply, IsValid}
+use Rattle.clfs_laws.proofs.Words.{cursor_of_kind, still_to_come, StillGives}
 use Rattle.std.specs.List.{AllZip}
 use Rattle.clfs_model.specs.declared.call.Call.TheVariants as calls
 use Rattle.clfs_model.specs.declared.refusal.Refusal.TheVariants as refusals

@@ -1,9 +1,10 @@
 -- A log that is made ready for a record is whole and has room for it, and the record goes where it would have gone.
-use Rattle.clfs_laws.proofs.Words.{◌≡◌, ℕ, ◌+◌, ◌-◌, ◌*◌, ◌<◌, ◌≤◌, Bool, true, false, refl, sym, ap, ◌∙◌, subst, inl, inr, ◌⊎◌, arith, List, [], ◌∷◌, ◌++◌,
-    length, IsSome, map, nat_lt, nat_le, if◌then◌else◌, cases_Bool, ltb-false, nat_tests, append-nil, All-weaker, recursion_from_All, lsn_number, sequence_of,
-    IsShape, own, longest, IsWithin, IsClosed, IsOpen, frontier, block_end, begun, sealed, joins, begins_here, free_sectors, BaseFits, Place, Shape, LogEntry,
-    State, Stream, stream_at, hold, free, reserved, flushed, seal, flush, next_lsn, put, made_ready, before_all, behind_all, IsStorable, IsValid, IsRecord,
-    HasSpaceLaws, MayPut, turned, readied, KeepsTables}
+use Rattle.clfs_laws.proofs.Words.{◌≡◌, ℕ, ◌+◌, ◌-◌, ◌*◌, ◌<◌, ◌≤◌, Bool, true, false, refl, sym, ap, ◌∙◌, subst, inl, inr, ◌⊎◌, arith, List, [], ◌∷◌, ◌++◌}
+use Rattle.clfs_laws.proofs.Words.{length, IsSome, map, nat_lt, nat_le, if◌then◌else◌, cases_Bool, ltb-false, nat_tests, append-nil, All-weaker}
+use Rattle.clfs_laws.proofs.Words.{recursion_from_All, lsn_number, sequence_of, IsShape, own, longest, IsWithin, IsClosed, IsOpen, frontier, block_end, begun}
+use Rattle.clfs_laws.proofs.Words.{sealed, joins, begins_here, free_sectors, BaseFits, Place, Shape, LogEntry, State, Stream, stream_at, hold, free, reserved}
+use Rattle.clfs_laws.proofs.Words.{flushed, seal, flush, next_lsn, put, made_ready, before_all, behind_all, IsStorable, IsValid, IsRecord, HasSpaceLaws}
+use Rattle.clfs_laws.proofs.Words.{MayPut, turned, readied, KeepsTables}
 use Rattle.clfs_laws.specs.Between.{IsReadiedFor, MayTurn}
 use Rattle.clfs_laws.proofs.BlockOrder.{last_container}
 use Rattle.clfs_laws.proofs.HoldOrder.{hold_below_frontier, active_later, free_later}
@@ -16,8 +17,8 @@ use Rattle.clfs_laws.proofs.StorableBases.{bases_as, same_bases}
 use Rattle.clfs_laws.proofs.StorableBlocks.{next_id}
 use Rattle.clfs_laws.proofs.StorableLimits.{limits_same}
 use Rattle.clfs_laws.proofs.ValidAreas.{held_sum}
-use Rattle.clfs_laws.proofs.ValidPlaces.{IsSound, IsReady, sound_of, valid_of, sound_moved, stable_still, restarts_still, none_waits, ready_seal, active_by,
-    free_by}
+use Rattle.clfs_laws.proofs.ValidPlaces.{IsSound, IsReady, sound_of, valid_of, sound_moved, stable_still, restarts_still, none_waits, ready_seal, active_by}
+use Rattle.clfs_laws.proofs.ValidPlaces.{free_by}
 use Rattle.clfs_laws.proofs.ValidPuts.{TakesRecord, after_by, put_by, next_used, has_room_for, free_readied, readied_flush}
 
 -- the log made ready, by whether the record joins the open block and whether it begins one after it

@@ -1,8 +1,9 @@
 -- The states that a log goes through while it is made ready for a record, and what is flushed of it once the record is put.
-use Rattle.clfs_laws.proofs.Words.{◌≡◌, ℕ, ◌+◌, ◌≤◌, Bool, true, false, refl, sym, ap, ◌∙◌, subst, inl, inr, ◌⊎◌, arith, List, [], ◌∷◌, ◌++◌, length, nat_lt,
-    if◌then◌else◌, AllByRecursion, cases_Bool, append-nil, filter-append, container_of, offset_of, IsWithin, IsClosed, begun, block_end, joins, begins_here,
-    place_after, Place, Shape, LogEntry, State, block_start, first_or, flushed, seal, flush, cut, next_lsn, put, made_ready, HasBlocks, IsStorable,
-    HasSettings, IsValid, HasSpaceLaws, MayPut, turned, readied, ready_stages}
+use Rattle.clfs_laws.proofs.Words.{◌≡◌, ℕ, ◌+◌, ◌≤◌, Bool, true, false, refl, sym, ap, ◌∙◌, subst, inl, inr, ◌⊎◌, arith, List, [], ◌∷◌, ◌++◌, length, nat_lt}
+use Rattle.clfs_laws.proofs.Words.{if◌then◌else◌, AllByRecursion, cases_Bool, append-nil, filter-append, container_of, offset_of, IsWithin, IsClosed, begun}
+use Rattle.clfs_laws.proofs.Words.{block_end, joins, begins_here, place_after, Place, Shape, LogEntry, State, block_start, first_or, flushed, seal, flush}
+use Rattle.clfs_laws.proofs.Words.{cut, next_lsn, put, made_ready, HasBlocks, IsStorable, HasSettings, IsValid, HasSpaceLaws, MayPut, turned, readied}
+use Rattle.clfs_laws.proofs.Words.{ready_stages}
 use Rattle.clfs_laws.specs.Between.{IsReadyFor}
 use Rattle.clfs_laws.proofs.FallingLists.{below_lsn}
 use Rattle.clfs_laws.proofs.KeptSettings.{kept, kept_seal, kept_flush}

@@ -1,8 +1,9 @@
 -- A call adds records only after all others, at the LSN that is next.
-use Rattle.clfs_laws.proofs.Words.{◌≡◌, ℕ, Bool, true, false, refl, sym, ap, ◌∙◌, inl, inr, List, [], ◌∷◌, ◌++◌, length, Option, nat_lt, ◌==◌, AllByRecursion,
-    cases_Bool, append-nil, LogEntry, Policy, PolicyKind, Call, Draft, Happened, Reply, State, Area, Cursor, live_at, grown, seal, flush, flushed, next_lsn,
-    put, need_of, spend_if, hold_sizes, seal_if, flush_if, plain_record, appended, newest_restart, record_cursor, restart_cursor, with_policy, without_policy,
-    stream_number, Outcome, answer, over_area, moved_on, restart_record, restarted, rebased, archiving, flushed_to, Step, with_broken}
+use Rattle.clfs_laws.proofs.Words.{◌≡◌, ℕ, Bool, true, false, refl, sym, ap, ◌∙◌, inl, inr, List, [], ◌∷◌, ◌++◌, length, Option, nat_lt, ◌==◌, AllByRecursion}
+use Rattle.clfs_laws.proofs.Words.{cases_Bool, append-nil, LogEntry, Policy, PolicyKind, Call, Draft, Happened, Reply, State, Area, Cursor, live_at, grown}
+use Rattle.clfs_laws.proofs.Words.{seal, flush, flushed, next_lsn, put, need_of, spend_if, hold_sizes, seal_if, flush_if, plain_record, appended}
+use Rattle.clfs_laws.proofs.Words.{newest_restart, record_cursor, restart_cursor, with_policy, without_policy, stream_number, Outcome, answer, over_area}
+use Rattle.clfs_laws.proofs.Words.{moved_on, restart_record, restarted, rebased, archiving, flushed_to, Step, with_broken}
 use Rattle.clfs_lsn.specs.declared.policy.Policy.TheVariants as policies
 use Rattle.clfs_lsn.specs.declared.policy.PolicyKind.TheVariants as kinds
 use Rattle.clfs_model.specs.declared.call.Call.TheVariants as calls

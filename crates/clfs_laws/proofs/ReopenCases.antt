@@ -1,6 +1,6 @@
 -- What opening again leaves, case by case.
-use Rattle.clfs_laws.proofs.Words.{◌≡◌, Bool, true, false, sym, ap, ◌∙◌, ◌⊎◌, inl, inr, ℕ, [], MatchBool, Refusal, Happened, Fine, Fault, Damage, Reply, State,
-    happened_of, happened_of_refusal, flushed, cut, IsSame, ReopenStep, Reopens, IsOpenedAnew, IsBroken, IsOutOfMemory}
+use Rattle.clfs_laws.proofs.Words.{◌≡◌, Bool, true, false, sym, ap, ◌∙◌, ◌⊎◌, inl, inr, ℕ, [], MatchBool, Refusal, Happened, Fine, Fault, Damage, Reply}
+use Rattle.clfs_laws.proofs.Words.{State, happened_of, happened_of_refusal, flushed, cut, IsSame, ReopenStep, Reopens, IsOpenedAnew, IsBroken, IsOutOfMemory}
 use Rattle.clfs_model.specs.declared.refusal.Refusal.TheVariants as refusals
 use Rattle.clfs_model.specs.declared.reply.Reply.TheVariants as replies
 use Rattle.clfs_laws.proofs.StepCases.{damage_told}

@@ -1,10 +1,11 @@
 -- A call that isn't refused isn't answered by a refusal, and one that is answers the first of its list.
-use Rattle.clfs_laws.proofs.Words.{◌≡◌, ℕ, Bool, true, false, refl, ap, ◌∙◌, subst, inl, inr, Option, Some, None, MatchOption, is_none, option_map_or,
-    LogEntry, Call, Refusal, Happened, Fine, Fault, Damage, Reply, State, Area, Cursor, CursorKind, Records, RestartAreas, area_of, change_area, live_at,
-    own_sum, flushed, next_lsn, newest_restart, record_cursor, restart_cursor, next_of_cursor, with_cursor_at, refusal, refused_if, in_area, append_refusal,
-    restart_refusal, invalid_base, read_refusal, next_refusal, too_many_cursors, too_long, full, short, end_of_kind, stream_number, Outcome, outcome, answer,
-    found_with_cursor, read_at, read_newest_restart, moved_on, reserved_for, released, restarted, advanced, appended, Step, Goes, Comes, IsReply, IsDamaged,
-    is_of_call}
+use Rattle.clfs_laws.proofs.Words.{◌≡◌, ℕ, Bool, true, false, refl, ap, ◌∙◌, subst, inl, inr, Option, Some, None, MatchOption, is_none, option_map_or}
+use Rattle.clfs_laws.proofs.Words.{LogEntry, Call, Refusal, Happened, Fine, Fault, Damage, Reply, State, Area, Cursor, CursorKind, Records, RestartAreas}
+use Rattle.clfs_laws.proofs.Words.{area_of, change_area, live_at, own_sum, flushed, next_lsn, newest_restart, record_cursor, restart_cursor, next_of_cursor}
+use Rattle.clfs_laws.proofs.Words.{with_cursor_at, refusal, refused_if, in_area, append_refusal, restart_refusal, invalid_base, read_refusal, next_refusal}
+use Rattle.clfs_laws.proofs.Words.{too_many_cursors, too_long, full, short, end_of_kind, stream_number, Outcome, outcome, answer, found_with_cursor, read_at}
+use Rattle.clfs_laws.proofs.Words.{read_newest_restart, moved_on, reserved_for, released, restarted, advanced, appended, Step, Goes, Comes, IsReply}
+use Rattle.clfs_laws.proofs.Words.{IsDamaged, is_of_call}
 use Rattle.clfs_model.specs.declared.call.Call.TheVariants as calls
 use Rattle.clfs_model.specs.declared.refusal.Refusal.TheVariants as refusals
 use Rattle.clfs_model.specs.declared.reply.Reply.TheVariants as replies

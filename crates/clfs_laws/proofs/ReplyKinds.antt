@@ -1,19 +1,22 @@
 -- Each call is answered by a reply of its own kind, or refused by a refusal that it may meet.
-use Rattle.clfs_laws.proofs.Words.{◌≡◌, ℕ, Bool, true, false, refl, ap, ◌∙◌, subst, inl, inr, List, [], ◌∷◌, length, Option, Some, None, MatchOption, IsTrue,
-    if◌then◌else◌, not, ◌==◌, ◌||◌, ◌&&◌, nat_lt, nat_le, find, is_none, option_map_or, most_streams, null_lsn, longest, LogEntry, Policy, Call, Draft, Mode,
-    Previous, UndoNext, Forward, Refusal, Happened, Fine, Fault, Damage, Reply, State, Area, Cursor, CursorKind, Records, RestartAreas, area_of, base_of,
-    stream_at, live_at, last_live, active, own_sum, free, reserved, grown, has_room, size_limit, flushed, need_of, spent_of, newest_restart, next_of_cursor,
-    record_cursor, restart_cursor, is_over_restarts, policy_refusal, needed_containers, refused_if, too_long, short, full, name_fault, stream_number,
-    append_refusal, restart_refusal, invalid_base, invalid_link, too_many_cursors, next_refusal, end_of_kind, is_link, is_base, refusal, Outcome, answer, Step,
-    Goes, Comes, IsReply, IsReplyRead, IsDamaged, calls_disk, is_of_call, area_number, is_reply_of}
+use Rattle.clfs_laws.proofs.Words.{◌≡◌, ℕ, Bool, true, false, refl, ap, ◌∙◌, subst, inl, inr, List, [], ◌∷◌, length, Option, Some, None, MatchOption, IsTrue}
+use Rattle.clfs_laws.proofs.Words.{if◌then◌else◌, not, ◌==◌, ◌||◌, ◌&&◌, nat_lt, nat_le, find, is_none, option_map_or, most_streams, null_lsn, longest}
+use Rattle.clfs_laws.proofs.Words.{LogEntry, Policy, Call, Draft, Mode, Previous, UndoNext, Forward, Refusal, Happened, Fine, Fault, Damage, Reply, State}
+use Rattle.clfs_laws.proofs.Words.{Area, Cursor, CursorKind, Records, RestartAreas, area_of, base_of, stream_at, live_at, last_live, active, own_sum, free}
+use Rattle.clfs_laws.proofs.Words.{reserved, grown, has_room, size_limit, flushed, need_of, spent_of, newest_restart, next_of_cursor, record_cursor}
+use Rattle.clfs_laws.proofs.Words.{restart_cursor, is_over_restarts, policy_refusal, needed_containers, refused_if, too_long, short, full, name_fault}
+use Rattle.clfs_laws.proofs.Words.{stream_number, append_refusal, restart_refusal, invalid_base, invalid_link, too_many_cursors, next_refusal, end_of_kind}
+use Rattle.clfs_laws.proofs.Words.{is_link, is_base, refusal, Outcome, answer, Step, Goes, Comes, IsReply, IsReplyRead, IsDamaged, calls_disk, is_of_call}
+use Rattle.clfs_laws.proofs.Words.{area_number, is_reply_of}
 use Rattle.clfs_lsn.specs.declared.policy.Policy.TheVariants as policies
 use Rattle.clfs_model.specs.declared.call.Call.TheVariants as calls
 use Rattle.clfs_model.specs.declared.refusal.Refusal.TheVariants as refusals
 use Rattle.clfs_model.specs.declared.reply.Reply.TheVariants as replies
 use Rattle.clfs_model.specs.Step.{reads_disk}
-use Rattle.clfs_laws.specs.ReplyKinds.{refuses_name, refuses_area, refuses_missing, refuses_reserve, refuses_release, refuses_align, refuses_append,
-    refuses_flush_to, refuses_read, refuses_next, refuses_end, refuses_restart, refuses_newest, refuses_previous, refuses_base, refuses_tail, refuses_extents,
-    refuses_policy, refuses_removal, refuses_size, refuses_stream, is_listed, may_call_disk, may_refuse}
+use Rattle.clfs_laws.specs.ReplyKinds.{refuses_name, refuses_area, refuses_missing, refuses_reserve, refuses_release, refuses_align, refuses_append}
+use Rattle.clfs_laws.specs.ReplyKinds.{refuses_flush_to, refuses_read, refuses_next, refuses_end, refuses_restart, refuses_newest, refuses_previous}
+use Rattle.clfs_laws.specs.ReplyKinds.{refuses_base, refuses_tail, refuses_extents, refuses_policy, refuses_removal, refuses_size, refuses_stream, is_listed}
+use Rattle.clfs_laws.specs.ReplyKinds.{may_call_disk, may_refuse}
 use Rattle.clfs_laws.proofs.Among.{found}
 use Rattle.clfs_laws.proofs.CallRefusals.{Told, own_of, terms_of, refusal_told}
 use Rattle.clfs_laws.proofs.LsnOrder.{both_true}

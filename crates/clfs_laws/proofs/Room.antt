@@ -1,8 +1,8 @@
 -- When a call is refused for space, and when it can't be.
-use Rattle.clfs_laws.proofs.Words.{◌≡◌, ℕ, ◌+◌, ◌≤◌, ◌<◌, Bool, true, false, refl, ap, subst, arith, inl, inr, List, [], ◌∷◌, length, Option, Some, None,
-    nat_lt, ◌&&◌, find, sum_by, unwrap_or, cases_Bool, ltb-true, le-leb, le-ltb, sum_by-cons, own, Call, Draft, Refusal, State, Area, area_of, is_area, free,
-    reserved, grown, has_room, refusal, IsValid, HasSpaceLaws, needed_sectors, taken_sectors, area_number, held_if_there, ◌∙◌, nat_le, growth, hold, grown_if,
-    with_containers, growth_rate, size_limit}
+use Rattle.clfs_laws.proofs.Words.{◌≡◌, ℕ, ◌+◌, ◌≤◌, ◌<◌, Bool, true, false, refl, ap, subst, arith, inl, inr, List, [], ◌∷◌, length, Option, Some, None}
+use Rattle.clfs_laws.proofs.Words.{nat_lt, ◌&&◌, find, sum_by, unwrap_or, cases_Bool, ltb-true, le-leb, le-ltb, sum_by-cons, own, Call, Draft, Refusal, State}
+use Rattle.clfs_laws.proofs.Words.{Area, area_of, is_area, free, reserved, grown, has_room, refusal, IsValid, HasSpaceLaws, needed_sectors, taken_sectors}
+use Rattle.clfs_laws.proofs.Words.{area_number, held_if_there, ◌∙◌, nat_le, growth, hold, grown_if, with_containers, growth_rate, size_limit}
 use Rattle.clfs_model.specs.declared.call.Call.TheVariants as calls
 use Rattle.clfs_model.specs.declared.refusal.Refusal.TheVariants as refusals
 use Rattle.clfs_laws.proofs.CallRefusals.{Told, HasRoom, terms_of, refusal_told}

@@ -1,8 +1,9 @@
 -- A log that has grown for a call and whose area has spent is whole, and has room for the call's record and for those to come.
-use Rattle.clfs_laws.proofs.Words.{◌≡◌, ℕ, ◌+◌, ◌<◌, ◌≤◌, Bool, true, false, refl, sym, ap, ◌∙◌, subst, inl, inr, ◌⊎◌, arith, List, [], length, Option, Some,
-    None, IsSome, find, not, ◌==◌, cases_Bool, eqb-true, null_lsn, frontier, BaseFits, LogEntry, Plain, Draft, State, Area, is_area, area_of, hold, free,
-    reserved, own_sum, with_containers, grown, has_room, next_lsn, put, need_of, spend_if, plain_record, hold_sizes, is_base, append_refusal, restart_refusal,
-    too_long, full, restart_record, IsStorable, IsValid, HasSpaceLaws, IsWhole, MayMove, TakesThrough}
+use Rattle.clfs_laws.proofs.Words.{◌≡◌, ℕ, ◌+◌, ◌<◌, ◌≤◌, Bool, true, false, refl, sym, ap, ◌∙◌, subst, inl, inr, ◌⊎◌, arith, List, [], length, Option, Some}
+use Rattle.clfs_laws.proofs.Words.{None, IsSome, find, not, ◌==◌, cases_Bool, eqb-true, null_lsn, frontier, BaseFits, LogEntry, Plain, Draft, State, Area}
+use Rattle.clfs_laws.proofs.Words.{is_area, area_of, hold, free, reserved, own_sum, with_containers, grown, has_room, next_lsn, put, need_of, spend_if}
+use Rattle.clfs_laws.proofs.Words.{plain_record, hold_sizes, is_base, append_refusal, restart_refusal, too_long, full, restart_record, IsStorable, IsValid}
+use Rattle.clfs_laws.proofs.Words.{HasSpaceLaws, IsWhole, MayMove, TakesThrough}
 use Rattle.clfs_model.specs.declared.refusal.Refusal.TheVariants as refusals
 use Rattle.clfs_laws.proofs.LaidPuts.{whole_put, room_put}
 use Rattle.clfs_laws.proofs.Links.{next_above}

@@ -1,6 +1,7 @@
 -- What a step's reply tells of room, and that a reserved append that is covered isn't refused for it.
-use Rattle.clfs_laws.proofs.Words.{◌≡◌, ℕ, ◌≤◌, ◌<◌, Bool, true, false, refl, inl, inr, [], length, Some, cases_Bool, own, Call, Draft, Refusal, Happened,
-    State, Area, area_of, free, reserved, has_room, refusal, Step, IsValid, HasSpaceLaws, needed_sectors, taken_sectors, area_number, held_if_there, is_of_call}
+use Rattle.clfs_laws.proofs.Words.{◌≡◌, ℕ, ◌≤◌, ◌<◌, Bool, true, false, refl, inl, inr, [], length, Some, cases_Bool, own, Call, Draft, Refusal, Happened}
+use Rattle.clfs_laws.proofs.Words.{State, Area, area_of, free, reserved, has_room, refusal, Step, IsValid, HasSpaceLaws, needed_sectors, taken_sectors}
+use Rattle.clfs_laws.proofs.Words.{area_number, held_if_there, is_of_call}
 use Rattle.clfs_model.specs.declared.call.Call.TheVariants as calls
 use Rattle.clfs_model.specs.declared.refusal.Refusal.TheVariants as refusals
 use Rattle.clfs_model.specs.declared.reply.Reply.TheVariants as replies

@@ -1,6 +1,6 @@
 -- How a call changes the rows of areas.
-use Rattle.clfs_laws.proofs.Words.{◌≡◌, ℕ, Bool, true, false, refl, sym, ap, ◌∙◌, subst, inl, inr, List, Option, Some, None, find, ◌&&◌, ◌==◌, option_map,
-    cases_Bool, eqb-true, eqb-false, ne_eqb, Area, is_area, change_first, AreaRow, row_of, changed_where}
+use Rattle.clfs_laws.proofs.Words.{◌≡◌, ℕ, Bool, true, false, refl, sym, ap, ◌∙◌, subst, inl, inr, List, Option, Some, None, find, ◌&&◌, ◌==◌, option_map}
+use Rattle.clfs_laws.proofs.Words.{cases_Bool, eqb-true, eqb-false, ne_eqb, Area, is_area, change_first, AreaRow, row_of, changed_where}
 use Rattle.clfs_laws.proofs.Finding.{KeepsName, find_changed, find_other, found_passes}
 
 -- the row of a number among areas

@@ -1,7 +1,8 @@
 -- The rows of a client's areas in a legal journal, by its own entries alone.
-use Rattle.clfs_laws.proofs.Words.{◌≡◌, ℕ, Bool, true, false, refl, sym, ap, ◌∙◌, subst, inl, inr, List, [], ◌∷◌, ◌++◌, Option, Some, None, MatchOption, ◌==◌,
-    cases_Bool, eqb-true, eqb-false, ne_eqb, LogEntry, Call, Entry, Refusal, Happened, Fine, Fault, Damage, Reply, State, Area, flushed, refusal, answer, Step,
-    Goes, Comes, IsReply, IsReplyRead, IsDamaged, GoesOn, mine, AreaRow, row_in, row_after, row_through}
+use Rattle.clfs_laws.proofs.Words.{◌≡◌, ℕ, Bool, true, false, refl, sym, ap, ◌∙◌, subst, inl, inr, List, [], ◌∷◌, ◌++◌, Option, Some, None, MatchOption, ◌==◌}
+use Rattle.clfs_laws.proofs.Words.{cases_Bool, eqb-true, eqb-false, ne_eqb, LogEntry, Call, Entry, Refusal, Happened, Fine, Fault, Damage, Reply, State, Area}
+use Rattle.clfs_laws.proofs.Words.{flushed, refusal, answer, Step, Goes, Comes, IsReply, IsReplyRead, IsDamaged, GoesOn, mine, AreaRow, row_in, row_after}
+use Rattle.clfs_laws.proofs.Words.{row_through}
 use Rattle.clfs_model.specs.declared.call.Call.TheVariants as calls
 use Rattle.clfs_model.specs.declared.refusal.Refusal.TheVariants as refusals
 use Rattle.clfs_model.specs.declared.reply.Reply.TheVariants as replies

@@ -1,8 +1,8 @@
 -- Each call changes the rows of areas by its reply alone.
-use Rattle.clfs_laws.proofs.Words.{◌≡◌, ℕ, ◌+◌, ◌-◌, Bool, true, false, refl, sym, ap, ◌∙◌, inl, inr, arith, List, [], ◌∷◌, length, Option, Some, None, ◌==◌,
-    nat_lt, if◌then◌else◌, option_map, option_map_or, cases_Bool, own, joins, begins_here, LogEntry, Call, State, Area, area_of, is_area, change_first,
-    own_sum, grown, grown_if, seal, flush, put, spend_if, hold_sizes, seal_if, flush_if, spent_of, with_less_held, with_more_held, Outcome, outcome, AreaRow,
-    row_of, row_after, changed_where, with_changed_held}
+use Rattle.clfs_laws.proofs.Words.{◌≡◌, ℕ, ◌+◌, ◌-◌, Bool, true, false, refl, sym, ap, ◌∙◌, inl, inr, arith, List, [], ◌∷◌, length, Option, Some, None, ◌==◌}
+use Rattle.clfs_laws.proofs.Words.{nat_lt, if◌then◌else◌, option_map, option_map_or, cases_Bool, own, joins, begins_here, LogEntry, Call, State, Area}
+use Rattle.clfs_laws.proofs.Words.{area_of, is_area, change_first, own_sum, grown, grown_if, seal, flush, put, spend_if, hold_sizes, seal_if, flush_if}
+use Rattle.clfs_laws.proofs.Words.{spent_of, with_less_held, with_more_held, Outcome, outcome, AreaRow, row_of, row_after, changed_where, with_changed_held}
 use Rattle.clfs_model.specs.declared.refusal.Refusal.TheVariants as refusals
 use Rattle.clfs_model.specs.declared.reply.Reply.TheVariants as replies
 use Rattle.clfs_laws.proofs.RowChanges.{row_among, area_named, Changes, own_row, others_row}

@@ -1,11 +1,12 @@
 -- Every call changes the rows of areas by its reply alone.
-use Rattle.clfs_laws.proofs.Words.{◌≡◌, ℕ, ◌+◌, ◌-◌, Bool, true, false, refl, sym, ap, ◌∙◌, subst, inl, inr, arith, List, [], ◌∷◌, ◌++◌, length, Option, Some,
-    None, find, filter, not, ◌==◌, nat_lt, if◌then◌else◌, option_map, option_map_or, option_and_then, cases_Bool, eqb-true, eqb-false, ne_eqb, eq-eqb,
-    LogEntry, Policy, PolicyKind, Call, Draft, Refusal, State, Area, Cursor, CursorKind, Records, RestartAreas, area_of, areas_of, is_area, change_area,
-    change_first, live_at, own_sum, grown, flush, flushed, put, spent_of, with_less_held, plain_record, need_of, seal_if, hold_sizes, spend_if, appended,
-    next_of_cursor, record_cursor, restart_cursor, newest_restart, with_cursor, with_cursor_at, without_cursor, unused_cursor, with_policy, without_policy,
-    stream_number, refusal, Outcome, outcome, answer, found_with_cursor, restarted, restart_record, rebased, archiving, flushed_to, new_area, AreaRow, row_of,
-    row_after, changed_where, with_held, with_changed_held}
+use Rattle.clfs_laws.proofs.Words.{◌≡◌, ℕ, ◌+◌, ◌-◌, Bool, true, false, refl, sym, ap, ◌∙◌, subst, inl, inr, arith, List, [], ◌∷◌, ◌++◌, length, Option, Some}
+use Rattle.clfs_laws.proofs.Words.{None, find, filter, not, ◌==◌, nat_lt, if◌then◌else◌, option_map, option_map_or, option_and_then, cases_Bool, eqb-true}
+use Rattle.clfs_laws.proofs.Words.{eqb-false, ne_eqb, eq-eqb, LogEntry, Policy, PolicyKind, Call, Draft, Refusal, State, Area, Cursor, CursorKind, Records}
+use Rattle.clfs_laws.proofs.Words.{RestartAreas, area_of, areas_of, is_area, change_area, change_first, live_at, own_sum, grown, flush, flushed, put}
+use Rattle.clfs_laws.proofs.Words.{spent_of, with_less_held, plain_record, need_of, seal_if, hold_sizes, spend_if, appended, next_of_cursor, record_cursor}
+use Rattle.clfs_laws.proofs.Words.{restart_cursor, newest_restart, with_cursor, with_cursor_at, without_cursor, unused_cursor, with_policy, without_policy}
+use Rattle.clfs_laws.proofs.Words.{stream_number, refusal, Outcome, outcome, answer, found_with_cursor, restarted, restart_record, rebased, archiving}
+use Rattle.clfs_laws.proofs.Words.{flushed_to, new_area, AreaRow, row_of, row_after, changed_where, with_held, with_changed_held}
 use Rattle.clfs_lsn.specs.declared.policy.Policy.TheVariants as policies
 use Rattle.clfs_lsn.specs.declared.policy.PolicyKind.TheVariants as kinds
 use Rattle.clfs_model.specs.declared.call.Call.TheVariants as calls
@@ -13,8 +14,8 @@ use Rattle.clfs_model.specs.declared.refusal.Refusal.TheVariants as refusals
 use Rattle.clfs_model.specs.declared.reply.Reply.TheVariants as replies
 use Rattle.clfs_laws.proofs.Finding.{find_behind, find_not_behind, find_gone, find_not_gone}
 use Rattle.clfs_laws.proofs.RowChanges.{row_among, Changes, other_number, other_client}
-use Rattle.clfs_laws.proofs.RowSteps.{ChangesRows, rows_kept, row_changed, cursor_changed, seal_areas, seal_if_areas, flush_if_areas, grown_areas,
-    joined_areas, with_spent, spent_changes, spent_areas, in_the_area, named_change, cursors_change}
+use Rattle.clfs_laws.proofs.RowSteps.{ChangesRows, rows_kept, row_changed, cursor_changed, seal_areas, seal_if_areas, flush_if_areas, grown_areas}
+use Rattle.clfs_laws.proofs.RowSteps.{joined_areas, with_spent, spent_changes, spent_areas, in_the_area, named_change, cursors_change}
 use Rattle.clfs_laws.proofs.Unused.{unused_is_new, not_there, area_number_of}
 
 policy_areas : (s : State) (policy : Policy) → (with_policy s policy).areas ≡ s.areas

@@ -1,8 +1,8 @@
 -- The same is to be archived of states that are the same.
-use Rattle.clfs_laws.proofs.Words.{◌≡◌, ℕ, ◌+◌, ◌-◌, ◌*◌, ◌≤◌, Bool, true, refl, sym, ap, ◌∙◌, inl, inr, arith, List, [], ◌∷◌, length, zero, suc, Option, Some,
-    None, filter, nat_le, nat_lt, ◌&&◌, ◌==◌, slice_get, sum_by, AllByRecursion, range_with_len, filter_map, last_or, option_map, option_map_or,
-    option_to_list, cases_Bool, eqb-true, container_of, offset_of, size, sectors, LogEntry, Extent, State, hold, flushed, IsSame, is_in_block, end_of_block,
-    extent_in, extents_from, extents}
+use Rattle.clfs_laws.proofs.Words.{◌≡◌, ℕ, ◌+◌, ◌-◌, ◌*◌, ◌≤◌, Bool, true, refl, sym, ap, ◌∙◌, inl, inr, arith, List, [], ◌∷◌, length, zero, suc, Option}
+use Rattle.clfs_laws.proofs.Words.{Some, None, filter, nat_le, nat_lt, ◌&&◌, ◌==◌, slice_get, sum_by, AllByRecursion, range_with_len, filter_map, last_or}
+use Rattle.clfs_laws.proofs.Words.{option_map, option_map_or, option_to_list, cases_Bool, eqb-true, container_of, offset_of, size, sectors, LogEntry, Extent}
+use Rattle.clfs_laws.proofs.Words.{State, hold, flushed, IsSame, is_in_block, end_of_block, extent_in, extents_from, extents}
 use Rattle.clfs_model.specs.Archive.{archived_in}
 use Rattle.clfs_laws.proofs.HoldOrder.{hold_below_archive}
 use Rattle.clfs_laws.proofs.LsnOrder.{both_true}

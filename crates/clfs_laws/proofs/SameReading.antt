@@ -1,7 +1,8 @@
 -- Reading goes on to the same record in states that are the same, wherever a cursor is.
-use Rattle.clfs_laws.proofs.Words.{◌≡◌, ℕ, ◌≤◌, ◌<◌, Bool, true, refl, sym, ap, ◌∙◌, inl, inr, ◌⊎◌, arith, List, [], ◌∷◌, Option, Some, None, filter, find,
-    nat_le, nat_lt, ◌&&◌, ◌==◌, AllByRecursion, option_and_then, cases_Bool, le-leb, leb-true, leb-false, eqb-true, recursion_from_All, All-weaker, null_lsn,
-    container_of, LogEntry, State, Mode, Previous, UndoNext, Forward, hold, is_live, live_at, IsSame, entry_at, next, IsValid, IsRecord}
+use Rattle.clfs_laws.proofs.Words.{◌≡◌, ℕ, ◌≤◌, ◌<◌, Bool, true, refl, sym, ap, ◌∙◌, inl, inr, ◌⊎◌, arith, List, [], ◌∷◌, Option, Some, None, filter, find}
+use Rattle.clfs_laws.proofs.Words.{nat_le, nat_lt, ◌&&◌, ◌==◌, AllByRecursion, option_and_then, cases_Bool, le-leb, leb-true, leb-false, eqb-true}
+use Rattle.clfs_laws.proofs.Words.{recursion_from_All, All-weaker, null_lsn, container_of, LogEntry, State, Mode, Previous, UndoNext, Forward, hold, is_live}
+use Rattle.clfs_laws.proofs.Words.{live_at, IsSame, entry_at, next, IsValid, IsRecord}
 use Rattle.clfs_laws.proofs.HoldOrder.{hold_below_live}
 use Rattle.clfs_laws.proofs.LsnOrder.{both_true}
 use Rattle.clfs_laws.proofs.SameRecords.{is_from, records_from, from_same, live_of_same}

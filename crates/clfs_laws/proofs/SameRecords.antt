@@ -1,6 +1,7 @@
 -- What states have in common that are the same but for records in containers below the hold's: the hold, and all live records.
-use Rattle.clfs_laws.proofs.Words.{◌≡◌, ℕ, ◌≤◌, Bool, true, refl, sym, ap, ◌∙◌, inl, inr, arith, List, [], ◌∷◌, ◌++◌, filter, map, nat_le, ◌&&◌, ◌==◌,
-    AllByRecursion, option_to_list, cases_Bool, le-leb, leb-true, container_of, frontier, LogEntry, State, hold, is_live, live, live_lsns, least_or, IsSame}
+use Rattle.clfs_laws.proofs.Words.{◌≡◌, ℕ, ◌≤◌, Bool, true, refl, sym, ap, ◌∙◌, inl, inr, arith, List, [], ◌∷◌, ◌++◌, filter, map, nat_le, ◌&&◌, ◌==◌}
+use Rattle.clfs_laws.proofs.Words.{AllByRecursion, option_to_list, cases_Bool, le-leb, leb-true, container_of, frontier, LogEntry, State, hold, is_live, live}
+use Rattle.clfs_laws.proofs.Words.{live_lsns, least_or, IsSame}
 use Rattle.clfs_laws.proofs.HoldOrder.{hold_below_live}
 use Rattle.clfs_laws.proofs.LsnOrder.{both_true}
 

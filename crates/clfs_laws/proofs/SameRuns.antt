@@ -1,7 +1,7 @@
 -- Logs that are the same open again alike, and requests come to the same from both.
-use Rattle.clfs_laws.proofs.Words.{◌≡◌, Bool, true, false, refl, sym, ap, ◌∙◌, subst, inl, inr, ◌⊎◌, List, [], ◌∷◌, MatchBool, Happened, Fine, Fault, Damage,
-    Reply, State, flushed, cut, IsSame, ReopenStep, Reopens, IsOpenedAnew, IsBroken, IsOutOfMemory, with_broken, Request, asks, reopens, bad_line, RequestStep,
-    Run, IsValid, HasSpaceLaws}
+use Rattle.clfs_laws.proofs.Words.{◌≡◌, Bool, true, false, refl, sym, ap, ◌∙◌, subst, inl, inr, ◌⊎◌, List, [], ◌∷◌, MatchBool, Happened, Fine, Fault, Damage}
+use Rattle.clfs_laws.proofs.Words.{Reply, State, flushed, cut, IsSame, ReopenStep, Reopens, IsOpenedAnew, IsBroken, IsOutOfMemory, with_broken, Request, asks}
+use Rattle.clfs_laws.proofs.Words.{reopens, bad_line, RequestStep, Run, IsValid, HasSpaceLaws}
 use Rattle.clfs_model.specs.Step.{IsReopened}
 use Rattle.clfs_laws.proofs.Equivalence.{same_itself, same_turned, same_through, same_cut}
 use Rattle.clfs_laws.proofs.SameSteps.{broken_same, steps_alike}

@@ -1,7 +1,7 @@
 -- States that are the same answer each call alike, and what they come to is the same again.
-use Rattle.clfs_laws.proofs.Words.{◌≡◌, ℕ, Bool, true, false, refl, sym, ap, ◌∙◌, subst, inl, inr, ◌⊎◌, ◌++◌, Option, Some, None, MatchBool, MatchOption,
-    IsTrue, Call, Refusal, Happened, Fine, Fault, Damage, Reply, State, flushed, IsSame, extents, refusal, answer, Step, Goes, Comes, IsReply, IsBroken,
-    IsOutOfMemory, takes_memory, calls_disk, with_broken, IsValid, HasSpaceLaws}
+use Rattle.clfs_laws.proofs.Words.{◌≡◌, ℕ, Bool, true, false, refl, sym, ap, ◌∙◌, subst, inl, inr, ◌⊎◌, ◌++◌, Option, Some, None, MatchBool, MatchOption}
+use Rattle.clfs_laws.proofs.Words.{IsTrue, Call, Refusal, Happened, Fine, Fault, Damage, Reply, State, flushed, IsSame, extents, refusal, answer, Step, Goes}
+use Rattle.clfs_laws.proofs.Words.{Comes, IsReply, IsBroken, IsOutOfMemory, takes_memory, calls_disk, with_broken, IsValid, HasSpaceLaws}
 use Rattle.clfs_model.specs.declared.reply.Reply.TheVariants as replies
 use Rattle.clfs_laws.proofs.AlikeAnswers.{AnswersAlike, answers_alike}
 use Rattle.clfs_laws.proofs.AlikeRefusals.{LooksAlike, refusal_alike, disk_alike}

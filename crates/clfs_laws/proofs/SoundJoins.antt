@@ -1,8 +1,8 @@
 -- The three ways in which a record joins: into the open block, into a new block after it, into the next container.
-use Rattle.clfs_laws.proofs.Words.{◌≡◌, ℕ, suc, ◌+◌, ◌*◌, ◌<◌, ◌≤◌, true, refl, sym, ap, ◌∙◌, subst, inl, inr, ◌⊎◌, arith, List, [], ◌∷◌, ◌++◌, filter, map,
-    All, IsSome, ◌==◌, range_with_len, All-weaker, All-from_recursion, recursion_from_All, null_lsn, lsn_number, container_of, offset_of, sequence_of,
-    IsWithin, frontier, begun, active_containers, free_sectors, Place, LogEntry, State, stream_at, hold, free, reserved, block_start, first_or, flushed,
-    IsRecord, IsWaiting, HasWaiting}
+use Rattle.clfs_laws.proofs.Words.{◌≡◌, ℕ, suc, ◌+◌, ◌*◌, ◌<◌, ◌≤◌, true, refl, sym, ap, ◌∙◌, subst, inl, inr, ◌⊎◌, arith, List, [], ◌∷◌, ◌++◌, filter, map}
+use Rattle.clfs_laws.proofs.Words.{All, IsSome, ◌==◌, range_with_len, All-weaker, All-from_recursion, recursion_from_All, null_lsn, lsn_number, container_of}
+use Rattle.clfs_laws.proofs.Words.{offset_of, sequence_of, IsWithin, frontier, begun, active_containers, free_sectors, Place, LogEntry, State, stream_at}
+use Rattle.clfs_laws.proofs.Words.{hold, free, reserved, block_start, first_or, flushed, IsRecord, IsWaiting, HasWaiting}
 use Rattle.clfs_laws.proofs.LsnOrder.{small_offset, is_of_block, none_of_block, equal_true}
 use Rattle.clfs_laws.proofs.ValidPlaces.{IsSound}
 use Rattle.clfs_laws.proofs.SoundPuts.{with_record, IsNext, sound_with_record, free_with_record, filter_push, map_push, find_more, range_push}

@@ -1,7 +1,8 @@
 -- A record that joins a log with room for it leaves a sound state.
-use Rattle.clfs_laws.proofs.Words.{◌≡◌, ℕ, zero, suc, ◌+◌, ◌<◌, ◌≤◌, Bool, true, refl, sym, ap, ◌∙◌, subst, inl, inr, ◌⊎◌, arith, List, [], ◌∷◌, ◌++◌, filter,
-    map, find, IsSome, AllByRecursion, range_with_len, IsStrictlyIncreasing, cases_Bool, All-weaker, All-push, recursion_from_All, null_lsn, IsWithin,
-    frontier, active_containers, free_sectors, Place, LogEntry, State, stream_at, hold, is_live, free, reserved, flushed, IsRecord, HasWaiting}
+use Rattle.clfs_laws.proofs.Words.{◌≡◌, ℕ, zero, suc, ◌+◌, ◌<◌, ◌≤◌, Bool, true, refl, sym, ap, ◌∙◌, subst, inl, inr, ◌⊎◌, arith, List, [], ◌∷◌, ◌++◌, filter}
+use Rattle.clfs_laws.proofs.Words.{map, find, IsSome, AllByRecursion, range_with_len, IsStrictlyIncreasing, cases_Bool, All-weaker, All-push}
+use Rattle.clfs_laws.proofs.Words.{recursion_from_All, null_lsn, IsWithin, frontier, active_containers, free_sectors, Place, LogEntry, State, stream_at, hold}
+use Rattle.clfs_laws.proofs.Words.{is_live, free, reserved, flushed, IsRecord, HasWaiting}
 use Rattle.clfs_model.specs.Valid.{open_sequences}
 use Rattle.clfs_laws.proofs.ValidPlaces.{moved, IsSound, sound_moved, stable_still, increasing_push}
 use Rattle.clfs_laws.proofs.HoldOrder.{hold_later, hold_below_archive, hold_below_live, hold_below_frontier, active_later, free_later}

@@ -1,8 +1,8 @@
 -- The flushed parts of the states between the small changes of a call survive the call.
-use Rattle.clfs_laws.proofs.Words.{◌≡◌, ℕ, ◌+◌, ◌*◌, ◌≤◌, ◌^◌, refl, sym, ap, ◌∙◌, subst, inl, inr, ◌⊎◌, arith, List, [], ◌∷◌, ◌++◌, length, Any, nat_lt,
-    AllByRecursion, append-nil, filter-append, container_of, offset_of, sectors, frontier, Place, LogEntry, State, Stream, base_of, flushed, cut, next_lsn,
-    put, Request, HasBlocks, IsStorable, HasSettings, HasBases, HasBasesOfRequest, EndsBlockOf, IsSurvivor, IsValid, HasSpaceLaws, MayPut, readied,
-    ready_stages}
+use Rattle.clfs_laws.proofs.Words.{◌≡◌, ℕ, ◌+◌, ◌*◌, ◌≤◌, ◌^◌, refl, sym, ap, ◌∙◌, subst, inl, inr, ◌⊎◌, arith, List, [], ◌∷◌, ◌++◌, length, Any, nat_lt}
+use Rattle.clfs_laws.proofs.Words.{AllByRecursion, append-nil, filter-append, container_of, offset_of, sectors, frontier, Place, LogEntry, State, Stream}
+use Rattle.clfs_laws.proofs.Words.{base_of, flushed, cut, next_lsn, put, Request, HasBlocks, IsStorable, HasSettings, HasBases, HasBasesOfRequest}
+use Rattle.clfs_laws.proofs.Words.{EndsBlockOf, IsSurvivor, IsValid, HasSpaceLaws, MayPut, readied, ready_stages}
 use Rattle.clfs_laws.proofs.Among.{IsAmong}
 use Rattle.clfs_laws.proofs.CutPlaces.{frontier_cut, splits_none, any_among, among_front, cut_ends, paid_front, at_lsn}
 use Rattle.clfs_laws.proofs.CutSurvives.{its_own}

@@ -1,8 +1,8 @@
 -- Every step keeps the blocks of a log one after the other, whatever the call's arguments.
-use Rattle.clfs_laws.proofs.Words.{◌≡◌, ℕ, Bool, true, false, refl, length, Option, Some, None, LogEntry, Policy, PolicyKind, Call, Happened, Reply, State,
-    Area, Cursor, area_of, live_at, own_sum, grown, with_containers, flush, next_lsn, appended, with_policy, without_policy, newest_restart, record_cursor,
-    restart_cursor, refusal, in_area, stream_number, append_refusal, restart_refusal, Outcome, outcome, answer, over_area, moved_on, archiving, advanced,
-    restarted, Step, with_broken, HasBlocks, IsValid, HasSpaceLaws}
+use Rattle.clfs_laws.proofs.Words.{◌≡◌, ℕ, Bool, true, false, refl, length, Option, Some, None, LogEntry, Policy, PolicyKind, Call, Happened, Reply, State}
+use Rattle.clfs_laws.proofs.Words.{Area, Cursor, area_of, live_at, own_sum, grown, with_containers, flush, next_lsn, appended, with_policy, without_policy}
+use Rattle.clfs_laws.proofs.Words.{newest_restart, record_cursor, restart_cursor, refusal, in_area, stream_number, append_refusal, restart_refusal, Outcome}
+use Rattle.clfs_laws.proofs.Words.{outcome, answer, over_area, moved_on, archiving, advanced, restarted, Step, with_broken, HasBlocks, IsValid, HasSpaceLaws}
 use Rattle.clfs_lsn.specs.declared.policy.Policy.TheVariants as policies
 use Rattle.clfs_lsn.specs.declared.policy.PolicyKind.TheVariants as kinds
 use Rattle.clfs_model.specs.declared.call.Call.TheVariants as calls

@@ -1,7 +1,7 @@
 -- A step is one of five ways, and what each leaves.
-use Rattle.clfs_laws.proofs.Words.{◌≡◌, ℕ, Bool, true, false, refl, sym, ◌∙◌, inl, inr, ◌⊎◌, subst, Option, Some, None, MatchBool, MatchOption, IsTrue, Call,
-    Refusal, Happened, Fine, Fault, Damage, Reply, State, happened_of_refusal, flushed, refusal, answer, Step, Goes, Comes, IsReply, IsBroken, IsOutOfMemory,
-    IsDamaged, takes_memory}
+use Rattle.clfs_laws.proofs.Words.{◌≡◌, ℕ, Bool, true, false, refl, sym, ◌∙◌, inl, inr, ◌⊎◌, subst, Option, Some, None, MatchBool, MatchOption, IsTrue, Call}
+use Rattle.clfs_laws.proofs.Words.{Refusal, Happened, Fine, Fault, Damage, Reply, State, happened_of_refusal, flushed, refusal, answer, Step, Goes, Comes}
+use Rattle.clfs_laws.proofs.Words.{IsReply, IsBroken, IsOutOfMemory, IsDamaged, takes_memory}
 use Rattle.clfs_model.specs.declared.refusal.Refusal.TheVariants as refusals
 use Rattle.clfs_model.specs.declared.reply.Reply.TheVariants as replies
 use Rattle.clfs_laws.proofs.Answered.{answer_keeps}

@@ -1,6 +1,6 @@
 -- A step leaves the state as it was, or as it was and broken, or as the answer says.
-use Rattle.clfs_laws.proofs.Words.{◌≡◌, ℕ, Bool, true, false, refl, sym, subst, inl, inr, Option, Some, None, MatchOption, Call, Refusal, Happened, Fine,
-    Fault, Damage, Reply, State, flushed, refusal, answer, Step, Goes, Comes, with_broken}
+use Rattle.clfs_laws.proofs.Words.{◌≡◌, ℕ, Bool, true, false, refl, sym, subst, inl, inr, Option, Some, None, MatchOption, Call, Refusal, Happened, Fine}
+use Rattle.clfs_laws.proofs.Words.{Fault, Damage, Reply, State, flushed, refusal, answer, Step, Goes, Comes, with_broken}
 use Rattle.clfs_model.specs.declared.reply.Reply.TheVariants as replies
 use Rattle.clfs_laws.proofs.StepCases.{broken_step, whole_step}
 

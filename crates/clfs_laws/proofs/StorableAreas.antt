@@ -1,11 +1,12 @@
 -- New streams, areas and cursors are within their limits, and so are cursors that move and areas and cursors that end.
-use Rattle.clfs_laws.proofs.Words.{◌≡◌, ℕ, zero, suc, ◌+◌, ◌<◌, ◌≤◌, Bool, true, refl, sym, ap, ◌∙◌, subst, inl, inr, arith, List, [], ◌∷◌, ◌++◌, length,
-    length-append, Option, Some, None, All, find, filter, map, not, nat_le, is_none, ◌==◌, ◌&&◌, unwrap_or, range_with_len, option_map_or, cases_Bool,
-    eqb-true, leb-false, and_parts, append-nil, length-map, All-weaker, All-push, All-filter, All-from_recursion, recursion_from_All, filter-append,
-    most_streams, null_lsn, longest, LogEntry, State, Area, Cursor, CursorKind, Stream, IsClient, stream_at, is_area, area_of, areas_of, change_area,
-    least_unused, next_of_cursor, record_cursor, restart_cursor, with_cursor, with_cursor_at, without_cursor, unused_cursor, is_over_restarts, name_fault,
-    stream_number, open_refusal, create_refusal, refused_if, too_long, too_many_cursors, outcome, opened, new_area, found_with_cursor, moved_on, IsCursor,
-    IsAreaWithinLimits, IsWithinLimits, IsValid, IsArea}
+use Rattle.clfs_laws.proofs.Words.{◌≡◌, ℕ, zero, suc, ◌+◌, ◌<◌, ◌≤◌, Bool, true, refl, sym, ap, ◌∙◌, subst, inl, inr, arith, List, [], ◌∷◌, ◌++◌, length}
+use Rattle.clfs_laws.proofs.Words.{length-append, Option, Some, None, All, find, filter, map, not, nat_le, is_none, ◌==◌, ◌&&◌, unwrap_or, range_with_len}
+use Rattle.clfs_laws.proofs.Words.{option_map_or, cases_Bool, eqb-true, leb-false, and_parts, append-nil, length-map, All-weaker, All-push, All-filter}
+use Rattle.clfs_laws.proofs.Words.{All-from_recursion, recursion_from_All, filter-append, most_streams, null_lsn, longest, LogEntry, State, Area, Cursor}
+use Rattle.clfs_laws.proofs.Words.{CursorKind, Stream, IsClient, stream_at, is_area, area_of, areas_of, change_area, least_unused, next_of_cursor}
+use Rattle.clfs_laws.proofs.Words.{record_cursor, restart_cursor, with_cursor, with_cursor_at, without_cursor, unused_cursor, is_over_restarts, name_fault}
+use Rattle.clfs_laws.proofs.Words.{stream_number, open_refusal, create_refusal, refused_if, too_long, too_many_cursors, outcome, opened, new_area}
+use Rattle.clfs_laws.proofs.Words.{found_with_cursor, moved_on, IsCursor, IsAreaWithinLimits, IsWithinLimits, IsValid, IsArea}
 use Rattle.clfs_model.specs.declared.refusal.Refusal.TheVariants as refusals
 use Rattle.clfs_model.specs.declared.reply.Reply.TheVariants as replies
 use Rattle.clfs_lsn.specs.Cursors.{is_cursor_number}

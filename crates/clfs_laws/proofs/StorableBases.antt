@@ -1,8 +1,9 @@
 -- The new bases of records stay where their streams' bases are, or further.
-use Rattle.clfs_laws.proofs.Words.{◌≡◌, ℕ, zero, suc, ◌-◌, ◌≤◌, Bool, true, false, refl, sym, ap, ◌∙◌, subst, inl, inr, arith, List, [], ◌∷◌, ◌++◌, length,
-    Option, Some, None, All, IsSome, slice_get, not, ◌==◌, if◌then◌else◌, option_map_or, cases_Bool, eqb-true, eqb-false, All-weaker, All-push, null_lsn,
-    LogEntry, Draft, State, Area, Stream, stream_at, base_of, area_of, set_base, last_live, grown, flush, next_lsn, put, need_of, spend_if, hold_sizes,
-    seal_if, flush_if, plain_record, appended, is_base, invalid_base, restart_refusal, restart_record, restarted, rebased, advanced, HasMovedBase, IsValid}
+use Rattle.clfs_laws.proofs.Words.{◌≡◌, ℕ, zero, suc, ◌-◌, ◌≤◌, Bool, true, false, refl, sym, ap, ◌∙◌, subst, inl, inr, arith, List, [], ◌∷◌, ◌++◌, length}
+use Rattle.clfs_laws.proofs.Words.{Option, Some, None, All, IsSome, slice_get, not, ◌==◌, if◌then◌else◌, option_map_or, cases_Bool, eqb-true, eqb-false}
+use Rattle.clfs_laws.proofs.Words.{All-weaker, All-push, null_lsn, LogEntry, Draft, State, Area, Stream, stream_at, base_of, area_of, set_base, last_live}
+use Rattle.clfs_laws.proofs.Words.{grown, flush, next_lsn, put, need_of, spend_if, hold_sizes, seal_if, flush_if, plain_record, appended, is_base}
+use Rattle.clfs_laws.proofs.Words.{invalid_base, restart_refusal, restart_record, restarted, rebased, advanced, HasMovedBase, IsValid}
 use Rattle.clfs_model.specs.declared.refusal.Refusal.TheVariants as refusals
 use Rattle.clfs_laws.proofs.NotRefused.{passed}
 use Rattle.clfs_laws.proofs.Links.{next_above}

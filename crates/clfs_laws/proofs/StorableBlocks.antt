@@ -1,9 +1,10 @@
 -- The blocks of a log lie one after the other after each change of its records and its place.
-use Rattle.clfs_laws.proofs.Words.{◌≡◌, ℕ, ◌+◌, ◌-◌, ◌<◌, ◌≤◌, ◌^◌, Bool, true, false, refl, sym, ap, ◌∙◌, subst, inl, inr, arith, List, [], ◌∷◌, ◌++◌, length,
-    Some, None, nat_lt, ◌==◌, cases_Bool, ltb-true, nat_tests, own, IsWithin, block_end, joins, begins_here, left_sectors, Place, Shape, LogEntry, Draft,
-    State, Area, area_of, set_base, free, reserved, with_containers, grown, flushed, seal, flush, next_lsn, put, need_of, spend_if, hold_sizes, seal_if,
-    flush_if, plain_record, appended, append_refusal, restart_refusal, flushed_to, restart_record, restarted, rebased, before_all, behind_all, LieInBlocks,
-    GoesOnAt, HasBlocks, IsValid, HasSpaceLaws}
+use Rattle.clfs_laws.proofs.Words.{◌≡◌, ℕ, ◌+◌, ◌-◌, ◌<◌, ◌≤◌, ◌^◌, Bool, true, false, refl, sym, ap, ◌∙◌, subst, inl, inr, arith, List, [], ◌∷◌, ◌++◌}
+use Rattle.clfs_laws.proofs.Words.{length, Some, None, nat_lt, ◌==◌, cases_Bool, ltb-true, nat_tests, own, IsWithin, block_end, joins, begins_here}
+use Rattle.clfs_laws.proofs.Words.{left_sectors, Place, Shape, LogEntry, Draft, State, Area, area_of, set_base, free, reserved, with_containers, grown}
+use Rattle.clfs_laws.proofs.Words.{flushed, seal, flush, next_lsn, put, need_of, spend_if, hold_sizes, seal_if, flush_if, plain_record, appended}
+use Rattle.clfs_laws.proofs.Words.{append_refusal, restart_refusal, flushed_to, restart_record, restarted, rebased, before_all, behind_all, LieInBlocks}
+use Rattle.clfs_laws.proofs.Words.{GoesOnAt, HasBlocks, IsValid, HasSpaceLaws}
 use Rattle.clfs_laws.proofs.OwnSectors.{own_fits}
 use Rattle.clfs_laws.proofs.BlockOrder.{behind_more, laid_push, next_goes_on, sealed_goes_on}
 use Rattle.clfs_laws.proofs.SoundJoins.{IsJoining}

@@ -1,8 +1,9 @@
 -- A cursor's last record is there, in its area's stream, and of the kind that the cursor goes over.
-use Rattle.clfs_laws.proofs.Words.{◌≡◌, ℕ, suc, ◌<◌, ◌≤◌, Bool, true, refl, sym, ap, ◌∙◌, subst, inl, inr, arith, List, [], ◌∷◌, ◌++◌, Option, Some, None,
-    find, filter, map, AllPairs, nat_lt, ◌==◌, ◌&&◌, AllByRecursion, option_or, option_and_then, cases_Bool, eqb-true, eq-eqb, ne_eqb, and_parts,
-    recursion_from_All, find-append, LogEntry, Kind, Plain, Restart, Mode, Previous, UndoNext, Forward, State, Area, Cursor, CursorKind, Records, RestartAreas,
-    is_live, live, live_at, entry_at, next, restart_areas, newest_restart, next_of_cursor, is_restart, IsCursor, IsValid}
+use Rattle.clfs_laws.proofs.Words.{◌≡◌, ℕ, suc, ◌<◌, ◌≤◌, Bool, true, refl, sym, ap, ◌∙◌, subst, inl, inr, arith, List, [], ◌∷◌, ◌++◌, Option, Some, None}
+use Rattle.clfs_laws.proofs.Words.{find, filter, map, AllPairs, nat_lt, ◌==◌, ◌&&◌, AllByRecursion, option_or, option_and_then, cases_Bool, eqb-true, eq-eqb}
+use Rattle.clfs_laws.proofs.Words.{ne_eqb, and_parts, recursion_from_All, find-append, LogEntry, Kind, Plain, Restart, Mode, Previous, UndoNext, Forward}
+use Rattle.clfs_laws.proofs.Words.{State, Area, Cursor, CursorKind, Records, RestartAreas, is_live, live, live_at, entry_at, next, restart_areas}
+use Rattle.clfs_laws.proofs.Words.{newest_restart, next_of_cursor, is_restart, IsCursor, IsValid}
 use Rattle.std.specs.Prelude.{◌≢◌}
 use Rattle.clfs_model.specs.Storable.{IsOfCursor}
 use Rattle.clfs_laws.proofs.Among.{IsAmong, found, each_among, among_recursion}

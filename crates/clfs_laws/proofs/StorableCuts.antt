@@ -1,9 +1,10 @@
 -- Files can hold the fresh state, and the flushed part of a state that they can hold.
-use Rattle.clfs_laws.proofs.Words.{◌≡◌, ℕ, ◌%◌, ◌<◌, ◌≤◌, Bool, refl, sym, ap, ◌∙◌, subst, inl, inr, ◌⊎◌, arith, List, [], ◌∷◌, ◌++◌, Option, Some, None, All,
-    IsSome, nat_lt, ◌==◌, AllByRecursion, cases_Bool, lt-ltb, le-ltb, ltb-true, ltb-false, eqb-true, All-filter, All-from_recursion, container_of, offset_of,
-    sequence_of, IsShape, IsWithin, IsClosed, IsOpen, sealed, frontier, block_end, Place, Shape, LogEntry, State, Stream, fresh, block_start, first_or,
-    flushed, cut, entry_at, name_fault, before_all, behind, behind_all, LiesBehind, LieInBlocks, GoesOnAt, HasMovedBase, HasBlocks, IsAreaWithinLimits,
-    IsStorable, IsValid, IsWaiting}
+use Rattle.clfs_laws.proofs.Words.{◌≡◌, ℕ, ◌%◌, ◌<◌, ◌≤◌, Bool, refl, sym, ap, ◌∙◌, subst, inl, inr, ◌⊎◌, arith, List, [], ◌∷◌, ◌++◌, Option, Some, None, All}
+use Rattle.clfs_laws.proofs.Words.{IsSome, nat_lt, ◌==◌, AllByRecursion, cases_Bool, lt-ltb, le-ltb, ltb-true, ltb-false, eqb-true, All-filter}
+use Rattle.clfs_laws.proofs.Words.{All-from_recursion, container_of, offset_of, sequence_of, IsShape, IsWithin, IsClosed, IsOpen, sealed, frontier, block_end}
+use Rattle.clfs_laws.proofs.Words.{Place, Shape, LogEntry, State, Stream, fresh, block_start, first_or, flushed, cut, entry_at, name_fault, before_all}
+use Rattle.clfs_laws.proofs.Words.{behind, behind_all, LiesBehind, LieInBlocks, GoesOnAt, HasMovedBase, HasBlocks, IsAreaWithinLimits, IsStorable, IsValid}
+use Rattle.clfs_laws.proofs.Words.{IsWaiting}
 use Rattle.clfs_laws.proofs.Among.{IsAmong, found, among_recursion}
 use Rattle.clfs_laws.proofs.BlockOrder.{laid_front, laid_rest}
 use Rattle.clfs_laws.proofs.FallingLists.{Rises, rises, below_lsn, all_below}

@@ -1,9 +1,10 @@
 -- Streams, areas and cursors stay within their limits.
-use Rattle.clfs_laws.proofs.Words.{◌≡◌, ℕ, suc, ◌-◌, Bool, true, false, refl, sym, ap, ◌∙◌, subst, inl, inr, arith, List, [], ◌∷◌, ◌++◌, length, Some, None,
-    All, find, filter, nat_lt, ◌==◌, AllByRecursion, cases_Bool, append-nil, All-weaker, All-from_recursion, recursion_from_All, null_lsn, LogEntry, Draft,
-    State, Area, Cursor, Stream, IsClient, is_area, areas_of, change_first, change_area, set_base, own_sum, with_containers, grown, flushed, seal, flush, put,
-    need_of, with_less_held, with_more_held, spend_if, hold_sizes, seal_if, flush_if, plain_record, appended, name_fault, flushed_to, restart_record,
-    restarted, rebased, advanced, IsCursor, IsAreaWithinLimits, IsWithinLimits}
+use Rattle.clfs_laws.proofs.Words.{◌≡◌, ℕ, suc, ◌-◌, Bool, true, false, refl, sym, ap, ◌∙◌, subst, inl, inr, arith, List, [], ◌∷◌, ◌++◌, length, Some, None}
+use Rattle.clfs_laws.proofs.Words.{All, find, filter, nat_lt, ◌==◌, AllByRecursion, cases_Bool, append-nil, All-weaker, All-from_recursion}
+use Rattle.clfs_laws.proofs.Words.{recursion_from_All, null_lsn, LogEntry, Draft, State, Area, Cursor, Stream, IsClient, is_area, areas_of, change_first}
+use Rattle.clfs_laws.proofs.Words.{change_area, set_base, own_sum, with_containers, grown, flushed, seal, flush, put, need_of, with_less_held, with_more_held}
+use Rattle.clfs_laws.proofs.Words.{spend_if, hold_sizes, seal_if, flush_if, plain_record, appended, name_fault, flushed_to, restart_record, restarted}
+use Rattle.clfs_laws.proofs.Words.{rebased, advanced, IsCursor, IsAreaWithinLimits, IsWithinLimits}
 use Rattle.clfs_laws.proofs.RecordsOfCalls.{seal_records}
 use Rattle.clfs_laws.proofs.RowSteps.{put_areas, seal_areas}
 use Rattle.clfs_laws.proofs.StorableCursors.{cursor_kept}

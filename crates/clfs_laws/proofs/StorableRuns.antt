@@ -1,7 +1,8 @@
 -- What files can hold stays so over steps, journals and runs.
-use Rattle.clfs_laws.proofs.Words.{◌≡◌, Bool, true, false, refl, sym, subst, inl, inr, ◌⊎◌, List, [], ◌∷◌, ◌++◌, All, MatchBool, AllByRecursion,
-    recursion_from_All, Entry, Happened, Fine, Fault, Damage, Reply, State, MeetsCondition, GoesOn, IsLegal, Request, asks, reopens, bad_line, RequestStep,
-    Run, ReopenStep, Reopens, IsBroken, IsOutOfMemory, with_broken, IsStorable, IsValid, HasSpaceLaws, RequestMeets}
+use Rattle.clfs_laws.proofs.Words.{◌≡◌, Bool, true, false, refl, sym, subst, inl, inr, ◌⊎◌, List, [], ◌∷◌, ◌++◌, All, MatchBool, AllByRecursion}
+use Rattle.clfs_laws.proofs.Words.{recursion_from_All, Entry, Happened, Fine, Fault, Damage, Reply, State, MeetsCondition, GoesOn, IsLegal, Request, asks}
+use Rattle.clfs_laws.proofs.Words.{reopens, bad_line, RequestStep, Run, ReopenStep, Reopens, IsBroken, IsOutOfMemory, with_broken, IsStorable, IsValid}
+use Rattle.clfs_laws.proofs.Words.{HasSpaceLaws, RequestMeets}
 use Rattle.clfs_laws.proofs.StorableSteps.{storable_same, storable_step}
 use Rattle.clfs_laws.proofs.ValidRuns.{valid_reopened}
 use Rattle.clfs_laws.proofs.ValidSteps.{valid_step}

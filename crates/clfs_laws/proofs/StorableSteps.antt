@@ -1,11 +1,12 @@
 -- Every step keeps a state such that files can hold it.
-use Rattle.clfs_laws.proofs.Words.{◌≡◌, ℕ, ◌+◌, Bool, true, false, refl, sym, subst, inl, inr, List, [], ◌∷◌, ◌++◌, length, Option, Some, None, not, is_none,
-    nat_lt, option_map_or, cases_Bool, null_lsn, LogEntry, Policy, PolicyKind, Call, Refusal, Happened, Reply, State, Area, CursorKind, Records, RestartAreas,
-    Stream, MeetsCondition, area_of, is_area, change_area, live_at, own_sum, grown, with_containers, flushed, flush, next_lsn, appended, hold_sizes,
-    with_policy, without_policy, newest_restart, record_cursor, restart_cursor, with_cursor_at, refusal, in_area, too_long, full, short, stream_number,
-    append_refusal, restart_refusal, invalid_base, read_refusal, next_refusal, too_many_cursors, refused_if, Outcome, outcome, answer, archiving,
-    found_with_cursor, read_at, read_newest_restart, moved_on, reserved_for, released, advanced, restarted, flushed_to, Step, with_broken, IsWithinLimits,
-    IsStorable, IsValid, HasSpaceLaws}
+use Rattle.clfs_laws.proofs.Words.{◌≡◌, ℕ, ◌+◌, Bool, true, false, refl, sym, subst, inl, inr, List, [], ◌∷◌, ◌++◌, length, Option, Some, None, not, is_none}
+use Rattle.clfs_laws.proofs.Words.{nat_lt, option_map_or, cases_Bool, null_lsn, LogEntry, Policy, PolicyKind, Call, Refusal, Happened, Reply, State, Area}
+use Rattle.clfs_laws.proofs.Words.{CursorKind, Records, RestartAreas, Stream, MeetsCondition, area_of, is_area, change_area, live_at, own_sum, grown}
+use Rattle.clfs_laws.proofs.Words.{with_containers, flushed, flush, next_lsn, appended, hold_sizes, with_policy, without_policy, newest_restart}
+use Rattle.clfs_laws.proofs.Words.{record_cursor, restart_cursor, with_cursor_at, refusal, in_area, too_long, full, short, stream_number, append_refusal}
+use Rattle.clfs_laws.proofs.Words.{restart_refusal, invalid_base, read_refusal, next_refusal, too_many_cursors, refused_if, Outcome, outcome, answer}
+use Rattle.clfs_laws.proofs.Words.{archiving, found_with_cursor, read_at, read_newest_restart, moved_on, reserved_for, released, advanced, restarted}
+use Rattle.clfs_laws.proofs.Words.{flushed_to, Step, with_broken, IsWithinLimits, IsStorable, IsValid, HasSpaceLaws}
 use Rattle.clfs_lsn.specs.declared.policy.Policy.TheVariants as policies
 use Rattle.clfs_lsn.specs.declared.policy.PolicyKind.TheVariants as kinds
 use Rattle.clfs_model.specs.declared.call.Call.TheVariants as calls
@@ -18,8 +19,8 @@ use Rattle.clfs_laws.proofs.StorableCursors.{IsRead, read_live, read_newest}
 use Rattle.clfs_laws.proofs.StorableAreas.{limits_opened, limits_created, limits_deleted, limits_found_with, limits_moved, limits_moved_back, limits_ended}
 use Rattle.clfs_laws.proofs.StorableBases.{BasesRise, bases_as, same_bases, bases_of_more, bases_appended, bases_restarted, bases_advanced}
 use Rattle.clfs_laws.proofs.StorableBlocks.{blocks_as, blocks_flush, blocks_flushed_to, blocks_appended, blocks_restarted}
-use Rattle.clfs_laws.proofs.StorableLimits.{limits_same, limits_released, limits_hold, limits_flush, limits_flushed_to, limits_appended, limits_restarted,
-    limits_advanced}
+use Rattle.clfs_laws.proofs.StorableLimits.{limits_same, limits_released, limits_hold, limits_flush, limits_flushed_to, limits_appended, limits_restarted}
+use Rattle.clfs_laws.proofs.StorableLimits.{limits_advanced}
 use Rattle.clfs_laws.proofs.ValidAreaCalls.{its_area}
 use Rattle.clfs_laws.proofs.ValidBases.{flush_streams}
 use Rattle.clfs_laws.proofs.ValidSettings.{grown_is}

@@ -1,7 +1,8 @@
 -- A survivor begins with the records that were on the disk, and what it has after them lies at or above the flushed LSN.
-use Rattle.clfs_laws.proofs.Words.{◌≡◌, ℕ, ◌<◌, ◌≤◌, Bool, refl, sym, ap, ◌∙◌, subst, append_assoc, inl, inr, arith, List, [], ◌∷◌, ◌++◌, filter, nat_lt, All,
-    Contains, slice_index_or, AllByRecursion, cases_Bool, lt-ltb, le-ltb, ltb-true, ltb-false, filter-append, Contains-append_left, frontier, Restart,
-    LogEntry, Call, Fine, Reply, State, flushed, cut, next_lsn, asks, Step, IsSurvivor, IsValid}
+use Rattle.clfs_laws.proofs.Words.{◌≡◌, ℕ, ◌<◌, ◌≤◌, Bool, refl, sym, ap, ◌∙◌, subst, append_assoc, inl, inr, arith, List, [], ◌∷◌, ◌++◌, filter, nat_lt, All}
+use Rattle.clfs_laws.proofs.Words.{Contains, slice_index_or, AllByRecursion, cases_Bool, lt-ltb, le-ltb, ltb-true, ltb-false, filter-append}
+use Rattle.clfs_laws.proofs.Words.{Contains-append_left, frontier, Restart, LogEntry, Call, Fine, Reply, State, flushed, cut, next_lsn, asks, Step}
+use Rattle.clfs_laws.proofs.Words.{IsSurvivor, IsValid}
 use Rattle.std.proofs.lemmas.List.Elements.{All-contains_itself}
 use Rattle.clfs_laws.proofs.Among.{contains_passing}
 use Rattle.clfs_laws.proofs.FallingLists.{Rises, rises, below_lsn}

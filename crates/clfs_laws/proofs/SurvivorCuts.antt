@@ -1,8 +1,8 @@
 -- Where a call leaves the flushed part of the log, a survivor is that part.
-use Rattle.clfs_laws.proofs.Words.{◌≡◌, ℕ, suc, ◌+◌, ◌-◌, ◌<◌, ◌%◌, ◌^◌, Bool, false, refl, sym, ap, ◌∙◌, subst, inl, inr, ◌⊎◌, arith, List, [], ◌∷◌, ◌++◌,
-    Option, map, nat_lt, ◌==◌, slice_get, Any, option_map_or, ne_eqb, append-nil, filter-append, container_of, offset_of, IsClosed, frontier, LogEntry, Place,
-    Shape, Call, Fine, Reply, State, Area, Stream, base_of, flushed, cut, IsSame, Request, asks, Step, IsStorable, HasSettings, HasBases, EndsBlockOf,
-    IsSurvivor, IsValid, HasSpaceLaws, LeavesStable}
+use Rattle.clfs_laws.proofs.Words.{◌≡◌, ℕ, suc, ◌+◌, ◌-◌, ◌<◌, ◌%◌, ◌^◌, Bool, false, refl, sym, ap, ◌∙◌, subst, inl, inr, ◌⊎◌, arith, List, [], ◌∷◌, ◌++◌}
+use Rattle.clfs_laws.proofs.Words.{Option, map, nat_lt, ◌==◌, slice_get, Any, option_map_or, ne_eqb, append-nil, filter-append, container_of, offset_of}
+use Rattle.clfs_laws.proofs.Words.{IsClosed, frontier, LogEntry, Place, Shape, Call, Fine, Reply, State, Area, Stream, base_of, flushed, cut, IsSame, Request}
+use Rattle.clfs_laws.proofs.Words.{asks, Step, IsStorable, HasSettings, HasBases, EndsBlockOf, IsSurvivor, IsValid, HasSpaceLaws, LeavesStable}
 use Rattle.clfs_model.specs.Survivors.{names_of}
 use Rattle.clfs_laws.proofs.FallingLists.{below_lsn}
 use Rattle.clfs_laws.proofs.Numbers.{survivor_low}

@@ -1,10 +1,11 @@
 -- A step goes on to the next container at most, and only from one that has a block.
-use Rattle.clfs_laws.proofs.Words.{◌≡◌, ℕ, ◌+◌, ◌-◌, ◌<◌, ◌≤◌, Bool, true, false, refl, sym, ap, ◌∙◌, subst, inl, inr, ◌⊎◌, arith, List, [], ◌∷◌, length,
-    Option, Some, None, nat_lt, ◌==◌, cases_Bool, nat_tests, null_lsn, IsShape, own, longest, block_end, joins, begins_here, Place, LogEntry, Policy,
-    PolicyKind, Call, Draft, Happened, Reply, State, Area, Cursor, area_of, live_at, own_sum, grown, flushed, seal, flush, next_lsn, put, need_of, spend_if,
-    hold_sizes, seal_if, flush_if, plain_record, appended, with_policy, without_policy, newest_restart, record_cursor, restart_cursor, refusal, in_area,
-    stream_number, append_refusal, restart_refusal, Outcome, outcome, answer, over_area, moved_on, archiving, advanced, restart_record, restarted, rebased,
-    flushed_to, Step, with_broken, IsValid}
+use Rattle.clfs_laws.proofs.Words.{◌≡◌, ℕ, ◌+◌, ◌-◌, ◌<◌, ◌≤◌, Bool, true, false, refl, sym, ap, ◌∙◌, subst, inl, inr, ◌⊎◌, arith, List, [], ◌∷◌, length}
+use Rattle.clfs_laws.proofs.Words.{Option, Some, None, nat_lt, ◌==◌, cases_Bool, nat_tests, null_lsn, IsShape, own, longest, block_end, joins, begins_here}
+use Rattle.clfs_laws.proofs.Words.{Place, LogEntry, Policy, PolicyKind, Call, Draft, Happened, Reply, State, Area, Cursor, area_of, live_at, own_sum, grown}
+use Rattle.clfs_laws.proofs.Words.{flushed, seal, flush, next_lsn, put, need_of, spend_if, hold_sizes, seal_if, flush_if, plain_record, appended, with_policy}
+use Rattle.clfs_laws.proofs.Words.{without_policy, newest_restart, record_cursor, restart_cursor, refusal, in_area, stream_number, append_refusal}
+use Rattle.clfs_laws.proofs.Words.{restart_refusal, Outcome, outcome, answer, over_area, moved_on, archiving, advanced, restart_record, restarted, rebased}
+use Rattle.clfs_laws.proofs.Words.{flushed_to, Step, with_broken, IsValid}
 use Rattle.clfs_lsn.specs.declared.policy.Policy.TheVariants as policies
 use Rattle.clfs_lsn.specs.declared.policy.PolicyKind.TheVariants as kinds
 use Rattle.clfs_model.specs.declared.call.Call.TheVariants as calls

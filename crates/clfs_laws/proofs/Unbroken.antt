@@ -1,10 +1,11 @@
 -- A step without fault and damage leaves a log that isn't broken so, and its reply doesn't say that the log is broken.
-use Rattle.clfs_laws.proofs.Words.{◌≡◌, ◌≢◌, ℕ, ◌+◌, Bool, true, false, refl, sym, ap, ◌∙◌, subst, inl, inr, ◌⊎◌, List, [], ◌∷◌, ◌++◌, length, Option, Some,
-    None, All, MatchBool, MatchOption, nat_lt, if◌then◌else◌, AllByRecursion, All-from_recursion, recursion_from_All, LogEntry, Policy, PolicyKind, joins,
-    begins_here, Call, Draft, Entry, Refusal, Happened, Fine, Fault, Damage, Reply, State, Area, Cursor, happened_of, seal, flush, flushed, GoesOn, live_at,
-    with_policy, without_policy, appended, made_ready, put, spend_if, hold_sizes, seal_if, flush_if, need_of, plain_record, newest_restart, record_cursor,
-    restart_cursor, refusal, stream_number, grown, grown_if, reserved, own_sum, Outcome, answer, over_area, moved_on, archiving, restart_record, rebased,
-    restarted, Step, ReopenStep, Reopens, Goes, Comes, IsDamaged, IsOutOfMemory, is_of_call}
+use Rattle.clfs_laws.proofs.Words.{◌≡◌, ◌≢◌, ℕ, ◌+◌, Bool, true, false, refl, sym, ap, ◌∙◌, subst, inl, inr, ◌⊎◌, List, [], ◌∷◌, ◌++◌, length, Option, Some}
+use Rattle.clfs_laws.proofs.Words.{None, All, MatchBool, MatchOption, nat_lt, if◌then◌else◌, AllByRecursion, All-from_recursion, recursion_from_All, LogEntry}
+use Rattle.clfs_laws.proofs.Words.{Policy, PolicyKind, joins, begins_here, Call, Draft, Entry, Refusal, Happened, Fine, Fault, Damage, Reply, State, Area}
+use Rattle.clfs_laws.proofs.Words.{Cursor, happened_of, seal, flush, flushed, GoesOn, live_at, with_policy, without_policy, appended, made_ready, put}
+use Rattle.clfs_laws.proofs.Words.{spend_if, hold_sizes, seal_if, flush_if, need_of, plain_record, newest_restart, record_cursor, restart_cursor, refusal}
+use Rattle.clfs_laws.proofs.Words.{stream_number, grown, grown_if, reserved, own_sum, Outcome, answer, over_area, moved_on, archiving, restart_record}
+use Rattle.clfs_laws.proofs.Words.{rebased, restarted, Step, ReopenStep, Reopens, Goes, Comes, IsDamaged, IsOutOfMemory, is_of_call}
 use Rattle.clfs_lsn.specs.declared.policy.Policy.TheVariants as policies
 use Rattle.clfs_lsn.specs.declared.policy.PolicyKind.TheVariants as kinds
 use Rattle.clfs_model.specs.declared.call.Call.TheVariants as calls

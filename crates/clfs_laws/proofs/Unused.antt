@@ -1,7 +1,7 @@
 -- A new number is new.
-use Rattle.clfs_laws.proofs.Words.{◌≡◌, ℕ, zero, suc, ◌+◌, ◌≤◌, ◌<◌, Bool, true, false, refl, sym, ap, ◌∙◌, inl, inr, arith, List, [], ◌∷◌, length, Option,
-    Some, None, find, filter, not, ◌==◌, unwrap_or, nat_lt, range_with_len, AllByRecursion, cases_Bool, eqb-true, eqb-false, ne_eqb, ltb-true, ltb-false, Area,
-    is_area, least_unused}
+use Rattle.clfs_laws.proofs.Words.{◌≡◌, ℕ, zero, suc, ◌+◌, ◌≤◌, ◌<◌, Bool, true, false, refl, sym, ap, ◌∙◌, inl, inr, arith, List, [], ◌∷◌, length, Option}
+use Rattle.clfs_laws.proofs.Words.{Some, None, find, filter, not, ◌==◌, unwrap_or, nat_lt, range_with_len, AllByRecursion, cases_Bool, eqb-true, eqb-false}
+use Rattle.clfs_laws.proofs.Words.{ne_eqb, ltb-true, ltb-false, Area, is_area, least_unused}
 use Rattle.std.specs.Prelude.{◌≢◌}
 use Rattle.std.specs.List.{list_any}
 

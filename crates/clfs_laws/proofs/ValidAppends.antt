@@ -1,9 +1,10 @@
 -- An append and a restart area leave a valid state.
-use Rattle.clfs_laws.proofs.Words.{◌≡◌, ℕ, ◌+◌, ◌<◌, ◌≤◌, Bool, true, false, refl, sym, ap, ◌∙◌, subst, inl, inr, ◌⊎◌, arith, List, [], ◌∷◌, length, Some,
-    None, IsSome, find, nat_lt, not, option_map, cases_Bool, ltb-false, All-push, null_lsn, own, longest, frontier, joins, begins_here, LogEntry, Plain,
-    Restart, Draft, State, Area, stream_at, is_area, area_of, change_first, change_area, free, reserved, own_sum, with_containers, grown, has_room, flushed,
-    seal, flush, next_lsn, put, need_of, spent_of, with_less_held, with_more_held, spend_if, hold_sizes, seal_if, flush_if, plain_record, appended, is_link,
-    invalid_link, short, full, append_refusal, IsValid, HasSpaceLaws}
+use Rattle.clfs_laws.proofs.Words.{◌≡◌, ℕ, ◌+◌, ◌<◌, ◌≤◌, Bool, true, false, refl, sym, ap, ◌∙◌, subst, inl, inr, ◌⊎◌, arith, List, [], ◌∷◌, length, Some}
+use Rattle.clfs_laws.proofs.Words.{None, IsSome, find, nat_lt, not, option_map, cases_Bool, ltb-false, All-push, null_lsn, own, longest, frontier, joins}
+use Rattle.clfs_laws.proofs.Words.{begins_here, LogEntry, Plain, Restart, Draft, State, Area, stream_at, is_area, area_of, change_first, change_area, free}
+use Rattle.clfs_laws.proofs.Words.{reserved, own_sum, with_containers, grown, has_room, flushed, seal, flush, next_lsn, put, need_of, spent_of}
+use Rattle.clfs_laws.proofs.Words.{with_less_held, with_more_held, spend_if, hold_sizes, seal_if, flush_if, plain_record, appended, is_link, invalid_link}
+use Rattle.clfs_laws.proofs.Words.{short, full, append_refusal, IsValid, HasSpaceLaws}
 use Rattle.clfs_model.specs.declared.refusal.Refusal.TheVariants as refusals
 use Rattle.clfs_model.specs.Put.{own_unless}
 use Rattle.clfs_laws.proofs.Finding.{find_changed}

@@ -1,10 +1,11 @@
 -- Calls that change areas alone, or areas after growth, keep a state valid.
-use Rattle.clfs_laws.proofs.Words.{◌≡◌, ◌≢◌, ℕ, zero, suc, ◌+◌, ◌<◌, ◌≤◌, Bool, true, false, refl, sym, ap, ◌∙◌, subst, inl, inr, ◌⊎◌, arith, List, [], ◌∷◌,
-    ◌++◌, length, Option, Some, None, filter, map, All, IsSome, is_none, slice_index_or, ◌==◌, not, find, nat_le, nat_lt, if◌then◌else◌, AllByRecursion,
-    cases_Bool, eqb-false, ltb-false, leb-true, All-weaker, All-push, All-filter, All-from_recursion, recursion_from_All, all_pairs_push, length-map, longest,
-    Refusal, State, Area, Cursor, CursorKind, stream_at, is_area, area_of, areas_of, change_first, change_area, free, reserved, own_sum, grown, has_room,
-    with_less_held, with_more_held, hold_sizes, with_cursor, with_cursor_at, without_cursor, unused_cursor, refused_if, too_long, refusal, new_area, IsValid,
-    AreDifferentAreas, IsArea, HasSpaceLaws, option_map_or}
+use Rattle.clfs_laws.proofs.Words.{◌≡◌, ◌≢◌, ℕ, zero, suc, ◌+◌, ◌<◌, ◌≤◌, Bool, true, false, refl, sym, ap, ◌∙◌, subst, inl, inr, ◌⊎◌, arith, List, [], ◌∷◌}
+use Rattle.clfs_laws.proofs.Words.{◌++◌, length, Option, Some, None, filter, map, All, IsSome, is_none, slice_index_or, ◌==◌, not, find, nat_le, nat_lt}
+use Rattle.clfs_laws.proofs.Words.{if◌then◌else◌, AllByRecursion, cases_Bool, eqb-false, ltb-false, leb-true, All-weaker, All-push, All-filter}
+use Rattle.clfs_laws.proofs.Words.{All-from_recursion, recursion_from_All, all_pairs_push, length-map, longest, Refusal, State, Area, Cursor, CursorKind}
+use Rattle.clfs_laws.proofs.Words.{stream_at, is_area, area_of, areas_of, change_first, change_area, free, reserved, own_sum, grown, has_room, with_less_held}
+use Rattle.clfs_laws.proofs.Words.{with_more_held, hold_sizes, with_cursor, with_cursor_at, without_cursor, unused_cursor, refused_if, too_long, refusal}
+use Rattle.clfs_laws.proofs.Words.{new_area, IsValid, AreDifferentAreas, IsArea, HasSpaceLaws, option_map_or}
 use Rattle.std.proofs.lemmas.List.Kept.{AllPairs-filter}
 use Rattle.std.proofs.lemmas.List.Filters.{sum_by-filter_both}
 use Rattle.std.proofs.lemmas.List.Sums.{sum_by_push}

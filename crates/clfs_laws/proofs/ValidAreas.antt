@@ -1,7 +1,7 @@
 -- A valid state whose areas change is valid where the areas are such as a log can have.
-use Rattle.clfs_laws.proofs.Words.{◌≡◌, ℕ, zero, suc, ◌+◌, ◌<◌, ◌≤◌, Bool, refl, sym, ap, ◌∙◌, inl, inr, arith, List, [], ◌∷◌, length, Some, None, sum_by, All,
-    AllPairs, slice_index_or, find, AllByRecursion, cases_Bool, All-weaker, All-from_recursion, recursion_from_All, sum_by-cons, State, Area, change_first,
-    free, IsValid, AreDifferentAreas, IsArea, IsRecord, IsWaiting}
+use Rattle.clfs_laws.proofs.Words.{◌≡◌, ℕ, zero, suc, ◌+◌, ◌<◌, ◌≤◌, Bool, refl, sym, ap, ◌∙◌, inl, inr, arith, List, [], ◌∷◌, length, Some, None, sum_by}
+use Rattle.clfs_laws.proofs.Words.{All, AllPairs, slice_index_or, find, AllByRecursion, cases_Bool, All-weaker, All-from_recursion, recursion_from_All}
+use Rattle.clfs_laws.proofs.Words.{sum_by-cons, State, Area, change_first, free, IsValid, AreDifferentAreas, IsArea, IsRecord, IsWaiting}
 use Rattle.clfs_laws.proofs.Finding.{KeepsName}
 
 -- the sectors that areas hold

@@ -1,9 +1,10 @@
 -- A valid state stays valid where bases and the archive tail don't fall, and lie on the disk.
-use Rattle.clfs_laws.proofs.Words.{◌≡◌, ◌≢◌, ℕ, zero, suc, ◌+◌, ◌-◌, ◌<◌, ◌≤◌, Bool, true, false, refl, sym, ap, ◌∙◌, subst, inl, inr, arith, List, [], ◌∷◌,
-    length, Option, Some, None, All, AllPairs, IfSome, IsSome, is_some, filter, slice_get, slice_index_or, nat_lt, ◌&&◌, ◌||◌, ◌==◌, AllByRecursion, last_or,
-    option_map_or, option_to_list, cases_Bool, eqb-true, eqb-false, ltb-true, ltb-false, leb-true, le-leb, All-weaker, All-from_recursion, recursion_from_All,
-    null_lsn, frontier, LogEntry, State, Stream, stream_at, base_of, set_base, is_live, live, live_at, hold, last_live, lsn_or_null, flushed, flush, is_base,
-    IsValid, IsArea, IsRecord, IsWaiting}
+use Rattle.clfs_laws.proofs.Words.{◌≡◌, ◌≢◌, ℕ, zero, suc, ◌+◌, ◌-◌, ◌<◌, ◌≤◌, Bool, true, false, refl, sym, ap, ◌∙◌, subst, inl, inr, arith, List, [], ◌∷◌}
+use Rattle.clfs_laws.proofs.Words.{length, Option, Some, None, All, AllPairs, IfSome, IsSome, is_some, filter, slice_get, slice_index_or, nat_lt, ◌&&◌, ◌||◌}
+use Rattle.clfs_laws.proofs.Words.{◌==◌, AllByRecursion, last_or, option_map_or, option_to_list, cases_Bool, eqb-true, eqb-false, ltb-true, ltb-false}
+use Rattle.clfs_laws.proofs.Words.{leb-true, le-leb, All-weaker, All-from_recursion, recursion_from_All, null_lsn, frontier, LogEntry, State, Stream}
+use Rattle.clfs_laws.proofs.Words.{stream_at, base_of, set_base, is_live, live, live_at, hold, last_live, lsn_or_null, flushed, flush, is_base, IsValid}
+use Rattle.clfs_laws.proofs.Words.{IsArea, IsRecord, IsWaiting}
 use Rattle.clfs_laws.proofs.LsnOrder.{frontier_sealed}
 use Rattle.clfs_laws.proofs.ValidPlaces.{IsSound, sound_of}
 use Rattle.clfs_laws.proofs.HoldOrder.{hold_later, hold_below_archive, hold_below_live, hold_below_frontier, active_later, free_later}

@@ -1,8 +1,8 @@
 -- The fresh state is valid, and so is the flushed part of a valid state.
-use Rattle.clfs_laws.proofs.Words.{◌≡◌, ℕ, ◌/◌, ◌<◌, ◌≤◌, Bool, true, refl, sym, ap, subst, inl, inr, arith, List, [], ◌∷◌, Option, Some, None, filter, map,
-    IfSome, nat_lt, AllByRecursion, IsStrictlyIncreasing, cases_Bool, ltb-true, All-weaker, All-filter, All-from_recursion, recursion_from_All, lsn_number,
-    container_of, offset_of, sequence_of, IsShape, Shape, LogEntry, Restart, State, Stream, fresh, hold, is_live, block_start, first_or, flushed, cut, IsValid,
-    IsArea, IsRecord, IsWaiting}
+use Rattle.clfs_laws.proofs.Words.{◌≡◌, ℕ, ◌/◌, ◌<◌, ◌≤◌, Bool, true, refl, sym, ap, subst, inl, inr, arith, List, [], ◌∷◌, Option, Some, None, filter, map}
+use Rattle.clfs_laws.proofs.Words.{IfSome, nat_lt, AllByRecursion, IsStrictlyIncreasing, cases_Bool, ltb-true, All-weaker, All-filter, All-from_recursion}
+use Rattle.clfs_laws.proofs.Words.{recursion_from_All, lsn_number, container_of, offset_of, sequence_of, IsShape, Shape, LogEntry, Restart, State, Stream}
+use Rattle.clfs_laws.proofs.Words.{fresh, hold, is_live, block_start, first_or, flushed, cut, IsValid, IsArea, IsRecord, IsWaiting}
 use Rattle.std.proofs.lemmas.List.Kept.{IsStrictlyIncreasing-filter}
 use Rattle.clfs_laws.proofs.LsnOrder.{small_offset, none_of_block}
 use Rattle.clfs_laws.proofs.HoldOrder.{hold_later, hold_below_archive, hold_below_live, active_later}

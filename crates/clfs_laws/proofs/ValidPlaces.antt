@@ -1,14 +1,16 @@
 -- A valid state stays valid where its open block is sealed and what waits is written.
-use Rattle.clfs_laws.proofs.Words.{◌≡◌, ℕ, zero, suc, ◌+◌, ◌-◌, ◌*◌, ◌<◌, ◌≤◌, Bool, true, false, refl, sym, ap, ◌∙◌, subst, inl, inr, arith, List, [], ◌∷◌,
-    ◌++◌, length, Option, Some, None, map, All, IfSome, IsSome, nat_lt, if◌then◌else◌, slice_index, AllByRecursion, range_with_len, IsStrictlyIncreasing,
-    option_to_list, cases_Bool, ltb-true, ltb-false, All-weaker, All-push, All-from_recursion, recursion_from_All, container_of, sequence_of, IsWithin, sealed,
-    frontier, block_end, active_containers, free_sectors, Place, Shape, LogEntry, Restart, State, Stream, hold, active, live_lsns, least_or, free, reserved,
-    block_start, first_or, flushed, seal, flush, entry_at, IsValid, HasPolicies, IsArea, IsRecord, IsWaiting, HasWaiting}
+use Rattle.clfs_laws.proofs.Words.{◌≡◌, ℕ, zero, suc, ◌+◌, ◌-◌, ◌*◌, ◌<◌, ◌≤◌, Bool, true, false, refl, sym, ap, ◌∙◌, subst, inl, inr, arith, List, [], ◌∷◌}
+use Rattle.clfs_laws.proofs.Words.{◌++◌, length, Option, Some, None, map, All, IfSome, IsSome, nat_lt, if◌then◌else◌, slice_index, AllByRecursion}
+use Rattle.clfs_laws.proofs.Words.{range_with_len, IsStrictlyIncreasing, option_to_list, cases_Bool, ltb-true, ltb-false, All-weaker, All-push}
+use Rattle.clfs_laws.proofs.Words.{All-from_recursion, recursion_from_All, container_of, sequence_of, IsWithin, sealed, frontier, block_end}
+use Rattle.clfs_laws.proofs.Words.{active_containers, free_sectors, Place, Shape, LogEntry, Restart, State, Stream, hold, active, live_lsns, least_or, free}
+use Rattle.clfs_laws.proofs.Words.{reserved, block_start, first_or, flushed, seal, flush, entry_at, IsValid, HasPolicies, IsArea, IsRecord, IsWaiting}
+use Rattle.clfs_laws.proofs.Words.{HasWaiting}
 use Rattle.clfs_model.specs.Valid.{HasRanges, HasTables, HasRecords, HasSpace}
 use Rattle.clfs_laws.proofs.FallingLists.{rising_rest}
 use Rattle.clfs_laws.proofs.RecordsOfCalls.{seal_records}
-use Rattle.clfs_laws.proofs.LsnOrder.{small_offset, small_end, frontier_sealed, closed_end, start_below_sealed, container_of_frontier, none_of_block,
-    first_of_block}
+use Rattle.clfs_laws.proofs.LsnOrder.{small_offset, small_end, frontier_sealed, closed_end, start_below_sealed, container_of_frontier, none_of_block}
+use Rattle.clfs_laws.proofs.LsnOrder.{first_of_block}
 
 -- a state with other records, another place and other blocks that wait
 abbrev pub moved : State → List LogEntry → Place → List ℕ → State

@@ -1,11 +1,12 @@
 -- A record that is put into a log with room for it leaves a log that is sound, with fewer free sectors by its own at most.
-use Rattle.clfs_laws.proofs.Words.{◌≡◌, ℕ, ◌+◌, ◌-◌, ◌*◌, ◌<◌, ◌≤◌, Bool, true, false, refl, sym, ap, ◌∙◌, subst, inl, inr, ◌⊎◌, arith, List, [], ◌∷◌, ◌++◌,
-    length, IsSome, sum_by, nat_lt, if◌then◌else◌, cases_Bool, nat_tests, lsn_number, container_of, IsShape, size, own, longest, IsWithin, frontier, block_end,
-    begun, joins, begins_here, active_containers, free_sectors, left_sectors, Place, Shape, LogEntry, State, Area, Stream, stream_at, hold, free, reserved,
-    block_start, flushed, seal, flush, next_lsn, put, HasRoom, HasSpaceLaws}
+use Rattle.clfs_laws.proofs.Words.{◌≡◌, ℕ, ◌+◌, ◌-◌, ◌*◌, ◌<◌, ◌≤◌, Bool, true, false, refl, sym, ap, ◌∙◌, subst, inl, inr, ◌⊎◌, arith, List, [], ◌∷◌, ◌++◌}
+use Rattle.clfs_laws.proofs.Words.{length, IsSome, sum_by, nat_lt, if◌then◌else◌, cases_Bool, nat_tests, lsn_number, container_of, IsShape, size, own}
+use Rattle.clfs_laws.proofs.Words.{longest, IsWithin, frontier, block_end, begun, joins, begins_here, active_containers, free_sectors, left_sectors, Place}
+use Rattle.clfs_laws.proofs.Words.{Shape, LogEntry, State, Area, Stream, stream_at, hold, free, reserved, block_start, flushed, seal, flush, next_lsn, put}
+use Rattle.clfs_laws.proofs.Words.{HasRoom, HasSpaceLaws}
 use Rattle.clfs_laws.proofs.OwnSectors.{own_fits}
-use Rattle.clfs_laws.proofs.ValidPlaces.{IsSound, IsReady, sealed_hold, sealed_within, sound_seal, sound_flush, ready_seal, flushed_seal, flushed_flush,
-    active_by, free_by}
+use Rattle.clfs_laws.proofs.ValidPlaces.{IsSound, IsReady, sealed_hold, sealed_within, sound_seal, sound_flush, ready_seal, flushed_seal, flushed_flush}
+use Rattle.clfs_laws.proofs.ValidPlaces.{active_by, free_by}
 use Rattle.clfs_laws.proofs.SoundPuts.{with_record}
 use Rattle.clfs_laws.proofs.SoundJoins.{IsJoining, HasPlace, sound_joined, sound_begun}
 

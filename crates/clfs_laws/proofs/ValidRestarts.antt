@@ -1,10 +1,11 @@
 -- A restart area leaves a valid state: it is on the disk before its base moves.
-use Rattle.clfs_laws.proofs.Words.{◌≡◌, ℕ, ◌+◌, ◌<◌, ◌≤◌, Bool, true, false, refl, sym, ap, ◌∙◌, subst, inl, inr, ◌⊎◌, arith, List, [], ◌∷◌, ◌++◌, length,
-    Option, Some, None, IfSome, IsSome, find, filter, reverse, slice_get, nat_lt, not, ◌&&◌, ◌==◌, if◌then◌else◌, AllByRecursion, cases_Bool, ltb-false,
-    reverse_onto, null_lsn, IsShape, longest, IsWithin, frontier, joins, begins_here, Place, Shape, LogEntry, Refusal, State, Area, stream_at, base_of,
-    area_of, set_base, is_live, live, last_live, lsn_or_null, free, reserved, own_sum, with_containers, grown, has_room, flushed, flush, next_lsn, put,
-    need_of, spent_of, spend_if, restart_areas, newest_restart, is_restart, is_base, invalid_base, short, full, restart_refusal, restart_record, restarted,
-    IsValid, HasSpaceLaws}
+use Rattle.clfs_laws.proofs.Words.{◌≡◌, ℕ, ◌+◌, ◌<◌, ◌≤◌, Bool, true, false, refl, sym, ap, ◌∙◌, subst, inl, inr, ◌⊎◌, arith, List, [], ◌∷◌, ◌++◌, length}
+use Rattle.clfs_laws.proofs.Words.{Option, Some, None, IfSome, IsSome, find, filter, reverse, slice_get, nat_lt, not, ◌&&◌, ◌==◌, if◌then◌else◌}
+use Rattle.clfs_laws.proofs.Words.{AllByRecursion, cases_Bool, ltb-false, reverse_onto, null_lsn, IsShape, longest, IsWithin, frontier, joins, begins_here}
+use Rattle.clfs_laws.proofs.Words.{Place, Shape, LogEntry, Refusal, State, Area, stream_at, base_of, area_of, set_base, is_live, live, last_live, lsn_or_null}
+use Rattle.clfs_laws.proofs.Words.{free, reserved, own_sum, with_containers, grown, has_room, flushed, flush, next_lsn, put, need_of, spent_of, spend_if}
+use Rattle.clfs_laws.proofs.Words.{restart_areas, newest_restart, is_restart, is_base, invalid_base, short, full, restart_refusal, restart_record, restarted}
+use Rattle.clfs_laws.proofs.Words.{IsValid, HasSpaceLaws}
 use Rattle.clfs_model.specs.declared.refusal.Refusal.TheVariants as refusals
 use Rattle.clfs_laws.proofs.NotRefused.{passed, passed_long}
 use Rattle.clfs_laws.proofs.LsnOrder.{small_offset, few_records, frontier_sealed}

@@ -1,7 +1,7 @@
 -- What a valid state stays over steps and journals.
-use Rattle.clfs_laws.proofs.Words.{◌≡◌, ℕ, ◌≤◌, Bool, true, false, refl, sym, subst, inl, inr, ◌⊎◌, arith, List, [], ◌∷◌, ◌++◌, Option, Some, None, MatchBool,
-    option_map_or, own, Entry, Happened, Fine, Fault, Damage, Reply, State, Area, area_of, GoesOn, IsLegal, mine, held_by, held_in, ReopenStep, IsBroken,
-    IsOutOfMemory, Reopens, with_broken, IsValid, HasSpaceLaws}
+use Rattle.clfs_laws.proofs.Words.{◌≡◌, ℕ, ◌≤◌, Bool, true, false, refl, sym, subst, inl, inr, ◌⊎◌, arith, List, [], ◌∷◌, ◌++◌, Option, Some, None, MatchBool}
+use Rattle.clfs_laws.proofs.Words.{option_map_or, own, Entry, Happened, Fine, Fault, Damage, Reply, State, Area, area_of, GoesOn, IsLegal, mine, held_by}
+use Rattle.clfs_laws.proofs.Words.{held_in, ReopenStep, IsBroken, IsOutOfMemory, Reopens, with_broken, IsValid, HasSpaceLaws}
 use Rattle.clfs_laws.proofs.HeldRuns.{held_is}
 use Rattle.clfs_laws.proofs.ValidAreas.{valid_broken}
 use Rattle.clfs_laws.proofs.ValidSteps.{valid_step}

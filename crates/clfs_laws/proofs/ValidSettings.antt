@@ -1,8 +1,9 @@
 -- A valid state stays valid when its number of containers or its policies change as a call changes them.
-use Rattle.clfs_laws.proofs.Words.{◌≡◌, ℕ, ◌+◌, ◌<◌, ◌≤◌, Bool, true, false, refl, inl, inr, arith, Option, Some, None, IfSome, unwrap_or, max, nat_lt, ◌||◌,
-    ◌&&◌, cases_Bool, ltb-true, ltb-false, nat_tests, All-weaker, free_sectors, growth, Place, Shape, Policy, PolicyKind, State, hold, active, free, reserved,
-    with_containers, growth_rate, size_limit, grown_if, grown, outside, policy_refusal, with_policy, without_policy, needed_containers, size_refusal, IsValid,
-    HasPolicies, IsArea, IsRecord, IsWaiting, HasSpaceLaws}
+use Rattle.clfs_laws.proofs.Words.{◌≡◌, ℕ, ◌+◌, ◌<◌, ◌≤◌, Bool, true, false, refl, inl, inr, arith, Option, Some, None, IfSome, unwrap_or, max, nat_lt, ◌||◌}
+use Rattle.clfs_laws.proofs.Words.{◌&&◌, cases_Bool, ltb-true, ltb-false, nat_tests, All-weaker, free_sectors, growth, Place, Shape, Policy, PolicyKind}
+use Rattle.clfs_laws.proofs.Words.{State, hold, active, free, reserved, with_containers, growth_rate, size_limit, grown_if, grown, outside, policy_refusal}
+use Rattle.clfs_laws.proofs.Words.{with_policy, without_policy, needed_containers, size_refusal, IsValid, HasPolicies, IsArea, IsRecord, IsWaiting}
+use Rattle.clfs_laws.proofs.Words.{HasSpaceLaws}
 use Rattle.clfs_lsn.specs.declared.policy.Policy.TheVariants as policies
 use Rattle.clfs_lsn.specs.declared.policy.PolicyKind.TheVariants as kinds
 use Rattle.clfs_model.specs.Space.{containers_for_reserved}

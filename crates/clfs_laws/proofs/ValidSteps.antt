@@ -1,10 +1,11 @@
 -- Every step keeps a state valid.
-use Rattle.clfs_laws.proofs.Words.{◌≡◌, ℕ, ◌≤◌, Bool, true, refl, subst, inl, inr, List, length, Option, Some, None, nat_lt, not, is_none, option_map_or,
-    option_and_then, cases_Bool, ltb-false, LogEntry, Call, Refusal, Happened, Reply, State, Area, CursorKind, Records, RestartAreas, area_of, is_area,
-    change_area, live_at, own_sum, free, reserved, grown, has_room, flushed, next_lsn, appended, newest_restart, record_cursor, restart_cursor, next_of_cursor,
-    with_cursor, with_cursor_at, without_cursor, cursor_of, unused_cursor, refusal, in_area, unless_two_containers, too_long, full, short, append_refusal,
-    restart_refusal, invalid_base, read_refusal, next_refusal, too_many_cursors, refused_if, Outcome, outcome, answer, found_with_cursor, read_at,
-    read_newest_restart, moved_on, reserved_for, released, advanced, restarted, flushed_to, Step, IsValid, HasSpaceLaws}
+use Rattle.clfs_laws.proofs.Words.{◌≡◌, ℕ, ◌≤◌, Bool, true, refl, subst, inl, inr, List, length, Option, Some, None, nat_lt, not, is_none, option_map_or}
+use Rattle.clfs_laws.proofs.Words.{option_and_then, cases_Bool, ltb-false, LogEntry, Call, Refusal, Happened, Reply, State, Area, CursorKind, Records}
+use Rattle.clfs_laws.proofs.Words.{RestartAreas, area_of, is_area, change_area, live_at, own_sum, free, reserved, grown, has_room, flushed, next_lsn}
+use Rattle.clfs_laws.proofs.Words.{appended, newest_restart, record_cursor, restart_cursor, next_of_cursor, with_cursor, with_cursor_at, without_cursor}
+use Rattle.clfs_laws.proofs.Words.{cursor_of, unused_cursor, refusal, in_area, unless_two_containers, too_long, full, short, append_refusal, restart_refusal}
+use Rattle.clfs_laws.proofs.Words.{invalid_base, read_refusal, next_refusal, too_many_cursors, refused_if, Outcome, outcome, answer, found_with_cursor}
+use Rattle.clfs_laws.proofs.Words.{read_at, read_newest_restart, moved_on, reserved_for, released, advanced, restarted, flushed_to, Step, IsValid, HasSpaceLaws}
 use Rattle.clfs_model.specs.declared.call.Call.TheVariants as calls
 use Rattle.clfs_model.specs.declared.refusal.Refusal.TheVariants as refusals
 use Rattle.clfs_model.specs.declared.reply.Reply.TheVariants as replies
@@ -13,8 +14,8 @@ use Rattle.clfs_laws.proofs.RowChanges.{area_named}
 use Rattle.clfs_laws.proofs.StepLeads.{step_leads}
 use Rattle.clfs_laws.proofs.ValidAreas.{valid_broken}
 use Rattle.clfs_laws.proofs.ValidSettings.{valid_installed, valid_removed, valid_sized}
-use Rattle.clfs_laws.proofs.ValidAreaCalls.{area_with_cursor, area_with_cursor_at, area_without_cursor, its_area, keeps_name, valid_created, valid_deleted,
-    valid_released, valid_reserved, valid_cursor}
+use Rattle.clfs_laws.proofs.ValidAreaCalls.{area_with_cursor, area_with_cursor_at, area_without_cursor, its_area, keeps_name, valid_created, valid_deleted}
+use Rattle.clfs_laws.proofs.ValidAreaCalls.{valid_released, valid_reserved, valid_cursor}
 use Rattle.clfs_laws.proofs.ValidPlaces.{sound_of, valid_flush}
 use Rattle.clfs_laws.proofs.ValidAppends.{true_of_not, valid_appended}
 use Rattle.clfs_laws.proofs.ValidStreams.{valid_opened, valid_archiving, valid_tail, valid_advanced}

@@ -1,9 +1,10 @@
 -- A new stream, archiving and a new base keep a state valid.
-use Rattle.clfs_laws.proofs.Words.{◌≡◌, ◌≢◌, ℕ, zero, suc, ◌+◌, ◌-◌, ◌<◌, ◌≤◌, Bool, true, false, refl, sym, ap, subst, inl, inr, arith, List, [], ◌∷◌, ◌++◌,
-    length, length-append, Option, Some, None, IfSome, IsSome, is_none, find, slice_get, nat_lt, nat_le, not, ◌&&◌, ◌||◌, ◌==◌, AllByRecursion, option_map_or,
-    option_to_list, cases_Bool, eqb-true, ltb-true, ltb-false, leb-false, le-leb, All-push, All-from_recursion, recursion_from_All, all_pairs_push,
-    most_streams, null_lsn, frontier, LogEntry, State, Stream, stream_at, base_of, set_base, is_live, hold, last_live, block_start, first_or, flushed, flush,
-    refused_if, name_fault, stream_number, open_refusal, is_base, invalid_base, outcome, opened, archiving, advanced, IsValid, IsWaiting}
+use Rattle.clfs_laws.proofs.Words.{◌≡◌, ◌≢◌, ℕ, zero, suc, ◌+◌, ◌-◌, ◌<◌, ◌≤◌, Bool, true, false, refl, sym, ap, subst, inl, inr, arith, List, [], ◌∷◌, ◌++◌}
+use Rattle.clfs_laws.proofs.Words.{length, length-append, Option, Some, None, IfSome, IsSome, is_none, find, slice_get, nat_lt, nat_le, not, ◌&&◌, ◌||◌, ◌==◌}
+use Rattle.clfs_laws.proofs.Words.{AllByRecursion, option_map_or, option_to_list, cases_Bool, eqb-true, ltb-true, ltb-false, leb-false, le-leb, All-push}
+use Rattle.clfs_laws.proofs.Words.{All-from_recursion, recursion_from_All, all_pairs_push, most_streams, null_lsn, frontier, LogEntry, State, Stream}
+use Rattle.clfs_laws.proofs.Words.{stream_at, base_of, set_base, is_live, hold, last_live, block_start, first_or, flushed, flush, refused_if, name_fault}
+use Rattle.clfs_laws.proofs.Words.{stream_number, open_refusal, is_base, invalid_base, outcome, opened, archiving, advanced, IsValid, IsWaiting}
 use Rattle.std.specs.Str.{bytes_eq}
 use Rattle.std.proofs.lemmas.Slice.Eq.{bytes_eq-Decides}
 use Rattle.clfs_model.specs.declared.refusal.Refusal.TheVariants as refusals

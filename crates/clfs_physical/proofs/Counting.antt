@@ -1,6 +1,6 @@
 -- That a file is free where fewer are listed than were made.
-use Rattle.clfs_physical.proofs.Words.{◌≡◌, ◌≢◌, ⊎_elim, ℕ, ◌+◌, ◌-◌, ◌<◌, ◌≤◌, List, [], ◌∷◌, length, get_or, refl, sym, ◌∙◌, ap, arith, cases_lt, cases_eq,
-    IsIn, IsFree}
+use Rattle.clfs_physical.proofs.Words.{◌≡◌, ◌≢◌, ⊎_elim, ℕ, ◌+◌, ◌-◌, ◌<◌, ◌≤◌, List, [], ◌∷◌, length, get_or, refl, sym, ◌∙◌, ap, arith, cases_lt, cases_eq}
+use Rattle.clfs_physical.proofs.Words.{IsIn, IsFree}
 use Rattle.std.proofs.Common.{zero, suc}
 
 -- a list without one of its elements

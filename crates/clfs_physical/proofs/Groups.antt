@@ -1,6 +1,6 @@
 -- A group that is written after the open blocks of a file.
-use Rattle.clfs_physical.proofs.Words.{◌⊎◌, inl, inr, ⊎_elim, ℕ, ◌+◌, List, ◌++◌, ◌∙◌, Files, TornIn, DiskState, Leaves, IsBehind, HasBlocks, SameLengths,
-    HasGroup, HasNone}
+use Rattle.clfs_physical.proofs.Words.{◌⊎◌, inl, inr, ⊎_elim, ℕ, ◌+◌, List, ◌++◌, ◌∙◌, Files, TornIn, DiskState, Leaves, IsBehind, HasBlocks, SameLengths}
+use Rattle.clfs_physical.proofs.Words.{HasGroup, HasNone}
 use Rattle.clfs_container.specs.Writing.{OthersStay}
 use Rattle.clfs_physical.proofs.Lengths.{torn_lengths, lengths_then}
 use Rattle.clfs_physical.proofs.Joining.{leaves_both}

@@ -1,6 +1,7 @@
 -- A log whose other files have grown.
-use Rattle.clfs_physical.proofs.Words.{◌≡◌, ◌⊎◌, inl, ⊎_elim, ℕ, ◌*◌, ◌<◌, ◌≤◌, Bool, true, List, length, sym, ◌∙◌, ap, subst, arith, cases_lt, Files,
-    DiskState, IsSettled, Passes, Leaves, AreWhole, BaseImage, IsImage, newest_of, with_containers, GrownAbove, Blocks, Newest, AreMade, IsLog, Stores}
+use Rattle.clfs_physical.proofs.Words.{◌≡◌, ◌⊎◌, inl, ⊎_elim, ℕ, ◌*◌, ◌<◌, ◌≤◌, Bool, true, List, length, sym, ◌∙◌, ap, subst, arith, cases_lt, Files}
+use Rattle.clfs_physical.proofs.Words.{DiskState, IsSettled, Passes, Leaves, AreWhole, BaseImage, IsImage, newest_of, with_containers, GrownAbove, Blocks}
+use Rattle.clfs_physical.proofs.Words.{Newest, AreMade, IsLog, Stores}
 use Rattle.clfs_physical.proofs.Joining.{leaves_after}
 use Rattle.clfs_physical.proofs.Logs.{listed_made}
 

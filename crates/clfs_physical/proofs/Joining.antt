@@ -1,6 +1,6 @@
 -- How calls on a disk are joined.
-use Rattle.clfs_physical.proofs.Words.{◌≡◌, IsTrue, refl, ⊎_elim, ℕ, ◌<◌, ◌≤◌, sym, ◌∙◌, subst, arith, cases_lt, Files, DiskState, Nature, Passes, Leaves,
-    IsSettled}
+use Rattle.clfs_physical.proofs.Words.{◌≡◌, IsTrue, refl, ⊎_elim, ℕ, ◌<◌, ◌≤◌, sym, ◌∙◌, subst, arith, cases_lt, Files, DiskState, Nature, Passes, Leaves}
+use Rattle.clfs_physical.proofs.Words.{IsSettled}
 use Rattle.clfs_disk.specs.Files.{Unchanged}
 use Rattle.clfs_disk.specs.State.{Later}
 

@@ -1,7 +1,7 @@
 -- Which files the next copy lists.
-use Rattle.clfs_physical.proofs.Words.{◌≡◌, ◌⊎◌, ℕ, ◌+◌, ◌-◌, ◌%◌, ◌<◌, Bool, true, List, length, get_or, drop, refl, sym, ◌∙◌, ap, subst, arith, length-drop,
-    get_or-drop, Files, BaseImage, Row, DiskState, Leaves, IsImage, Change, with_stream, with_containers, next_copy, Blocks, Lists, AreMade, Holds, IsLog,
-    Newest, Stores}
+use Rattle.clfs_physical.proofs.Words.{◌≡◌, ◌⊎◌, ℕ, ◌+◌, ◌-◌, ◌%◌, ◌<◌, Bool, true, List, length, get_or, drop, refl, sym, ◌∙◌, ap, subst, arith, length-drop}
+use Rattle.clfs_physical.proofs.Words.{get_or-drop, Files, BaseImage, Row, DiskState, Leaves, IsImage, Change, with_stream, with_containers, next_copy}
+use Rattle.clfs_physical.proofs.Words.{Blocks, Lists, AreMade, Holds, IsLog, Newest, Stores}
 use Rattle.clfs_physical.specs.declared.change.Change.TheVariants as changes
 
 -- a copy that lists files of another and counts the same

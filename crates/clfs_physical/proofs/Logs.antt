@@ -1,8 +1,8 @@
 -- What is still a log after a file of it has changed.
-use Rattle.clfs_physical.proofs.Words.{◌≡◌, ◌≢◌, ◌⊎◌, inl, inr, ⊎_elim, ℕ, ◌+◌, ◌-◌, ◌*◌, ◌<◌, ◌≤◌, Bool, true, false, cond, eqb, List, [], ◌∷◌, ◌++◌, length,
-    get_or, drop, refl, sym, ◌∙◌, ap, subst, arith, length-drop, cases_eq, eq-eqb, nat_tests, get_or-drop, Files, DiskState, Leaves, AreWhole, IsBehind,
-    HasBlocks, BaseImage, IsImage, newest_of, HasNewest, EitherNewest, SameLengths, HasGroup, HasNone, Blocks, Lists, AreMade, Holds, IsLog, with_blocks,
-    IsPlaced, with_group}
+use Rattle.clfs_physical.proofs.Words.{◌≡◌, ◌≢◌, ◌⊎◌, inl, inr, ⊎_elim, ℕ, ◌+◌, ◌-◌, ◌*◌, ◌<◌, ◌≤◌, Bool, true, false, cond, eqb, List, [], ◌∷◌, ◌++◌, length}
+use Rattle.clfs_physical.proofs.Words.{get_or, drop, refl, sym, ◌∙◌, ap, subst, arith, length-drop, cases_eq, eq-eqb, nat_tests, get_or-drop, Files}
+use Rattle.clfs_physical.proofs.Words.{DiskState, Leaves, AreWhole, IsBehind, HasBlocks, BaseImage, IsImage, newest_of, HasNewest, EitherNewest, SameLengths}
+use Rattle.clfs_physical.proofs.Words.{HasGroup, HasNone, Blocks, Lists, AreMade, Holds, IsLog, with_blocks, IsPlaced, with_group}
 use Rattle.std.proofs.Common.{◌/◌}
 use Rattle.std.proofs.Common.{Ok}
 use Rattle.std.proofs.lemmas.List.{length-take-le, append-nil}

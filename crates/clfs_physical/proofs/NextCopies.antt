@@ -1,7 +1,8 @@
 -- That the next copy is one that a log can have.
-use Rattle.clfs_physical.proofs.Words.{◌≡◌, ◌≢◌, ⊎_elim, ℕ, ◌+◌, ◌-◌, ◌<◌, ◌≤◌, max, Bool, true, false, List, [], ◌∷◌, ◌++◌, length, drop, refl, sym, ◌∙◌, ap,
-    subst, arith, length-drop, length-append, get_or-append, get_or-append_seam, cases_lt, cases_eq, get_or-drop, BaseImage, Row, IsImage, AreFiles, current,
-    Change, with_next_turn, listed_from, with_stream, with_containers, changed, next_copy}
+use Rattle.clfs_physical.proofs.Words.{◌≡◌, ◌≢◌, ⊎_elim, ℕ, ◌+◌, ◌-◌, ◌<◌, ◌≤◌, max, Bool, true, false, List, [], ◌∷◌, ◌++◌, length, drop, refl, sym, ◌∙◌, ap}
+use Rattle.clfs_physical.proofs.Words.{subst, arith, length-drop, length-append, get_or-append, get_or-append_seam, cases_lt, cases_eq, get_or-drop}
+use Rattle.clfs_physical.proofs.Words.{BaseImage, Row, IsImage, AreFiles, current, Change, with_next_turn, listed_from, with_stream, with_containers, changed}
+use Rattle.clfs_physical.proofs.Words.{next_copy}
 use Rattle.std.proofs.Common.{◌^◌}
 use Rattle.std.proofs.lemmas.List.{get_or-set_same, get_or-set_other, length-set}
 use Rattle.clfs_base.specs.Layout.{version_two, layout_of, most_dedicated}

@@ -1,8 +1,8 @@
 -- The copy that lists another file, and what is a log under it.
-use Rattle.clfs_physical.proofs.Words.{◌≡◌, ◌≢◌, ◌⊎◌, inl, inr, ⊎_elim, ℕ, ◌+◌, ◌-◌, ◌%◌, ◌<◌, ◌≤◌, Bool, true, false, cond, eqb, List, [], ◌∷◌, ◌++◌, length,
-    get_or, drop, refl, sym, ◌∙◌, ap, subst, arith, length-append, get_or-append, get_or-append_seam, cases_lt, cases_eq, eq-eqb, Files, TornIn, DiskState,
-    Leaves, AreWhole, BaseImage, IsImage, AreFiles, current, nat_tests, with_next_turn, with_file, next_copy, Blocks, IsIn, Lists, AreMade, Holds, IsLog,
-    Newest, Stores, with_blocks, IsFree, low_of, taken_of}
+use Rattle.clfs_physical.proofs.Words.{◌≡◌, ◌≢◌, ◌⊎◌, inl, inr, ⊎_elim, ℕ, ◌+◌, ◌-◌, ◌%◌, ◌<◌, ◌≤◌, Bool, true, false, cond, eqb, List, [], ◌∷◌, ◌++◌, length}
+use Rattle.clfs_physical.proofs.Words.{get_or, drop, refl, sym, ◌∙◌, ap, subst, arith, length-append, get_or-append, get_or-append_seam, cases_lt, cases_eq}
+use Rattle.clfs_physical.proofs.Words.{eq-eqb, Files, TornIn, DiskState, Leaves, AreWhole, BaseImage, IsImage, AreFiles, current, nat_tests, with_next_turn}
+use Rattle.clfs_physical.proofs.Words.{with_file, next_copy, Blocks, IsIn, Lists, AreMade, Holds, IsLog, Newest, Stores, with_blocks, IsFree, low_of, taken_of}
 use Rattle.clfs_physical.specs.declared.change.Change.TheVariants as changes
 use Rattle.clfs_physical.specs.Taking.{HasRoom}
 use Rattle.clfs_physical.proofs.Joining.{leaves_weaker, leaves_then}

@@ -1,6 +1,6 @@
 -- Blocks that wait, one after the other.
-use Rattle.clfs_queue.proofs.Words.{◌≡◌, ℕ, ◌+◌, ◌*◌, ◌%◌, ◌≤◌, List, [], ◌∷◌, ◌++◌, length, refl, sym, ◌∙◌, ap, arith, append_assoc, length-append, concat,
-    append-nil, lsn_number, Shape, LogEntry, total, IsBlock, AreBlocks}
+use Rattle.clfs_queue.proofs.Words.{◌≡◌, ℕ, ◌+◌, ◌*◌, ◌%◌, ◌≤◌, List, [], ◌∷◌, ◌++◌, length, refl, sym, ◌∙◌, ap, arith, append_assoc, length-append, concat}
+use Rattle.clfs_queue.proofs.Words.{append-nil, lsn_number, Shape, LogEntry, total, IsBlock, AreBlocks}
 
 -- the length of blocks together
 pub length-concat : (blocks : List (List ℕ)) → length (concat blocks) ≡ total blocks

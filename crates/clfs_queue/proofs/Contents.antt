@@ -1,6 +1,7 @@
 -- The bytes of records in the payload of their block.
-use Rattle.clfs_queue.proofs.Words.{◌≡◌, ℕ, ◌+◌, ◌-◌, ◌%◌, ◌<◌, ◌≤◌, List, [], ◌∷◌, ◌++◌, length, get_or, take, drop, refl, sym, ◌∙◌, ap, arith, length-append,
-    length-drop, flat_map, length-take-le, drop_at, take-append-le, flat_map-append, size, record_bytes, LogEntry, place_of, payload_of, payload_from}
+use Rattle.clfs_queue.proofs.Words.{◌≡◌, ℕ, ◌+◌, ◌-◌, ◌%◌, ◌<◌, ◌≤◌, List, [], ◌∷◌, ◌++◌, length, get_or, take, drop, refl, sym, ◌∙◌, ap, arith}
+use Rattle.clfs_queue.proofs.Words.{length-append, length-drop, flat_map, length-take-le, drop_at, take-append-le, flat_map-append, size, record_bytes}
+use Rattle.clfs_queue.proofs.Words.{LogEntry, place_of, payload_of, payload_from}
 use Rattle.std.proofs.lemmas.List.{ext_get_or, get_or-take, get_or-drop}
 use Rattle.std.proofs.lemmas.List.FromFn.{length-map-range_with_len, get_or-map-range_with_len}
 

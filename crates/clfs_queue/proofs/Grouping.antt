@@ -1,7 +1,8 @@
 -- The bytes of the blocks that wait are those of a group.
-use Rattle.clfs_queue.proofs.Words.{◌≡◌, inl, inr, ℕ, ◌+◌, ◌-◌, ◌*◌, ◌%◌, ◌<◌, ◌≤◌, ◌^◌, List, [], ◌∷◌, ◌++◌, length, get_or, take, drop, refl, sym, ◌∙◌, ap,
-    subst, arith, append_assoc, length-append, length-drop, flat_map, concat, append-nil, take_at, take_all, drop_at, drop_more, IsClosed, sectors,
-    record_bytes, Shape, LogEntry, used_bytes, SpellsBlock, total, Queued, IsBlock, AreBlocks, IsGroupOf, IsKept}
+use Rattle.clfs_queue.proofs.Words.{◌≡◌, inl, inr, ℕ, ◌+◌, ◌-◌, ◌*◌, ◌%◌, ◌<◌, ◌≤◌, ◌^◌, List, [], ◌∷◌, ◌++◌, length, get_or, take, drop, refl, sym, ◌∙◌, ap}
+use Rattle.clfs_queue.proofs.Words.{subst, arith, append_assoc, length-append, length-drop, flat_map, concat, append-nil, take_at, take_all, drop_at}
+use Rattle.clfs_queue.proofs.Words.{drop_more, IsClosed, sectors, record_bytes, Shape, LogEntry, used_bytes, SpellsBlock, total, Queued, IsBlock, AreBlocks}
+use Rattle.clfs_queue.proofs.Words.{IsGroupOf, IsKept}
 use Rattle.std.proofs.Common.{◌≢◌, ◌/◌}
 use Rattle.std.proofs.lemmas.List.{get_or_append_left, get_or_at}
 use Rattle.clfs_container.specs.OpenBlocks.{block_sectors, BeginsWith, Opens}

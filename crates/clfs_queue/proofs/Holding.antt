@@ -1,7 +1,7 @@
 -- A record that a block holds, and those before it.
-use Rattle.clfs_queue.proofs.Words.{◌≡◌, ℕ, ◌+◌, ◌<◌, ◌≤◌, ◌^◌, List, ◌∷◌, ◌++◌, length, get_or, take, drop, replicate, refl, sym, ◌∙◌, ap, subst, arith,
-    append_assoc, take-append-drop, flat_map, length-take-le, drop_more, drop-drop, drop_at, take_at, size, header_bytes, filling, record_bytes, LogEntry,
-    payload_from, AreInRow, IsHeld, payload_before}
+use Rattle.clfs_queue.proofs.Words.{◌≡◌, ℕ, ◌+◌, ◌<◌, ◌≤◌, ◌^◌, List, ◌∷◌, ◌++◌, length, get_or, take, drop, replicate, refl, sym, ◌∙◌, ap, subst, arith}
+use Rattle.clfs_queue.proofs.Words.{append_assoc, take-append-drop, flat_map, length-take-le, drop_more, drop-drop, drop_at, take_at, size, header_bytes}
+use Rattle.clfs_queue.proofs.Words.{filling, record_bytes, LogEntry, payload_from, AreInRow, IsHeld, payload_before}
 use Rattle.clfs_queue.proofs.InRow.{row_at}
 use Rattle.clfs_queue.proofs.Contents.{part_of_content, content_behind, record_within, record_in_payload}
 

@@ -1,6 +1,6 @@
 -- What a queue keeps while nothing waits, and how much memory it has left.
-use Rattle.clfs_queue.proofs.Words.{◌≡◌, inl, inr, ℕ, ◌+◌, ◌-◌, ◌*◌, ◌≤◌, List, [], ◌∷◌, length, take, drop, refl, sym, ◌∙◌, ap, subst, arith, length-append,
-    concat, take_at, drop_at, IsWithin, IsClosed, Place, LogEntry, Queued, AreBlocks, IsOpenPart, EndsWith, IsKept}
+use Rattle.clfs_queue.proofs.Words.{◌≡◌, inl, inr, ℕ, ◌+◌, ◌-◌, ◌*◌, ◌≤◌, List, [], ◌∷◌, length, take, drop, refl, sym, ◌∙◌, ap, subst, arith, length-append}
+use Rattle.clfs_queue.proofs.Words.{concat, take_at, drop_at, IsWithin, IsClosed, Place, LogEntry, Queued, AreBlocks, IsOpenPart, EndsWith, IsKept}
 use Rattle.std.proofs.Math.Nat.{mul-le-mul_left}
 use Rattle.clfs_lsn.specs.Size.{IsShape}
 use Rattle.clfs_queue.proofs.Blocks.{length-concat, total_few}

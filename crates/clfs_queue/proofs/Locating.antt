@@ -1,7 +1,8 @@
 -- Where a record lies in the bytes of a queue, by its LSN.
-use Rattle.clfs_queue.proofs.Words.{◌≡◌, inl, inr, ⊎_elim, ℕ, ◌+◌, ◌-◌, ◌*◌, ◌%◌, ◌<◌, ◌≤◌, List, [], ◌∷◌, ◌++◌, length, drop, refl, sym, ◌∙◌, ap, subst,
-    arith, append_assoc, length-append, Some, IsSome, flat_map, concat, nat_tests, drop-drop, drop_at, lsn_number, offset_of, sequence_of, sectors,
-    record_bytes, Shape, Place, LogEntry, used_bytes, total, Queued, data_at, AreInRow, IsBlock, AreBlocks, IsHeld, IsOpenPart, EndsWith, IsKept}
+use Rattle.clfs_queue.proofs.Words.{◌≡◌, inl, inr, ⊎_elim, ℕ, ◌+◌, ◌-◌, ◌*◌, ◌%◌, ◌<◌, ◌≤◌, List, [], ◌∷◌, ◌++◌, length, drop, refl, sym, ◌∙◌, ap, subst}
+use Rattle.clfs_queue.proofs.Words.{arith, append_assoc, length-append, Some, IsSome, flat_map, concat, nat_tests, drop-drop, drop_at, lsn_number, offset_of}
+use Rattle.clfs_queue.proofs.Words.{sequence_of, sectors, record_bytes, Shape, Place, LogEntry, used_bytes, total, Queued, data_at, AreInRow, IsBlock}
+use Rattle.clfs_queue.proofs.Words.{AreBlocks, IsHeld, IsOpenPart, EndsWith, IsKept}
 use Rattle.std.proofs.Common.{◌⊎◌, ◌==◌}
 use Rattle.std.proofs.lemmas.Bool.{cases_Bool}
 use Rattle.clfs_block.specs.Frame.{head_bytes}

@@ -1,7 +1,7 @@
 -- The open block becomes one that waits.
-use Rattle.clfs_queue.proofs.Words.{◌≡◌, inl, ⊎_elim, ℕ, ◌+◌, ◌-◌, ◌*◌, ◌≤◌, List, [], ◌∷◌, ◌++◌, length, take, drop, refl, sym, ◌∙◌, ap, subst, arith,
-    length-drop, flat_map, append-nil, length_push, lsn_number, offset_of, IsWithin, sectors, record_bytes, Shape, Place, LogEntry, total, place_of,
-    payload_of, used_bytes, SpellsBlock, Queued, AreInRow, IsBlock, AreBlocks, IsOpenPart, IsKept}
+use Rattle.clfs_queue.proofs.Words.{◌≡◌, inl, ⊎_elim, ℕ, ◌+◌, ◌-◌, ◌*◌, ◌≤◌, List, [], ◌∷◌, ◌++◌, length, take, drop, refl, sym, ◌∙◌, ap, subst, arith}
+use Rattle.clfs_queue.proofs.Words.{length-drop, flat_map, append-nil, length_push, lsn_number, offset_of, IsWithin, sectors, record_bytes, Shape, Place}
+use Rattle.clfs_queue.proofs.Words.{LogEntry, total, place_of, payload_of, used_bytes, SpellsBlock, Queued, AreInRow, IsBlock, AreBlocks, IsOpenPart, IsKept}
 use Rattle.clfs_lsn.specs.Place.{IsOpen, sealed}
 use Rattle.clfs_queue.proofs.Blocks.{concat_push, total_push, blocks_push}
 use Rattle.clfs_queue.proofs.Contents.{length-payload}

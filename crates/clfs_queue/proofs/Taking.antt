@@ -1,8 +1,8 @@
 -- A record that there is room for is put after the open block's payload.
-use Rattle.clfs_queue.proofs.Words.{◌≡◌, inr, ⊎_elim, ℕ, ◌+◌, ◌*◌, ◌%◌, ◌≤◌, List, [], ◌∷◌, ◌++◌, length, take, drop, replicate, refl, sym, ◌∙◌, ap, subst,
-    arith, append_assoc, length-append, length-drop, take-append-drop, nat_tests, append-nil, take-append-le, length_push, flat_map-append, flat_map, concat,
-    lsn_number, IsWithin, IsClosed, place_after, size, sectors, longest, FitsAt, record_bytes, Shape, Place, LogEntry, place_of, payload_of, Queued,
-    HasRoomFor, AreInRow, IsKept}
+use Rattle.clfs_queue.proofs.Words.{◌≡◌, inr, ⊎_elim, ℕ, ◌+◌, ◌*◌, ◌%◌, ◌≤◌, List, [], ◌∷◌, ◌++◌, length, take, drop, replicate, refl, sym, ◌∙◌, ap, subst}
+use Rattle.clfs_queue.proofs.Words.{arith, append_assoc, length-append, length-drop, take-append-drop, nat_tests, append-nil, take-append-le, length_push}
+use Rattle.clfs_queue.proofs.Words.{flat_map-append, flat_map, concat, lsn_number, IsWithin, IsClosed, place_after, size, sectors, longest, FitsAt}
+use Rattle.clfs_queue.proofs.Words.{record_bytes, Shape, Place, LogEntry, place_of, payload_of, Queued, HasRoomFor, AreInRow, IsKept}
 use Rattle.std.proofs.Common.{true, false}
 use Rattle.std.proofs.lemmas.Bool.{cases_lt}
 use Rattle.std.proofs.lemmas.List.{drop-append-le, drop_all}

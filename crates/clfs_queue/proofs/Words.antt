@@ -1,6 +1,6 @@
 -- The words that the proofs here use, passed on from one place. Declares nothing.
-pub use Rattle.std.proofs.Common.{[], ap, append_assoc, arith, drop, get_or, inl, inr, length, length-append, length-drop, List, refl, replicate, subst, sym,
-    take, take-append-drop, ℕ, ⊎_elim, ◌%◌, ◌*◌, ◌++◌, ◌+◌, ◌-◌, ◌<◌, ◌^◌, ◌∙◌, ◌∷◌, ◌≡◌, ◌≤◌}
+pub use Rattle.std.proofs.Common.{[], ap, append_assoc, arith, drop, get_or, inl, inr, length, length-append, length-drop, List, refl, replicate, subst, sym}
+pub use Rattle.std.proofs.Common.{take, take-append-drop, ℕ, ⊎_elim, ◌%◌, ◌*◌, ◌++◌, ◌+◌, ◌-◌, ◌<◌, ◌^◌, ◌∙◌, ◌∷◌, ◌≡◌, ◌≤◌}
 pub use Rattle.std.proofs.lemmas.Bool.Decides.{nat_tests}
 pub use Rattle.std.proofs.lemmas.List.{append-nil, drop-drop, drop_at, drop_more, length-take-le, length_push, take-append-le, take_all, take_at}
 pub use Rattle.std.proofs.lemmas.List.Concat.{flat_map-append}

@@ -1,7 +1,8 @@
 -- How many blocks the records of stored blocks begin: one each.
-use Rattle.clfs_recover.proofs.Words.{◌≡◌, ℕ, ◌+◌, ◌-◌, ◌*◌, ◌%◌, ◌≤◌, Bool, true, false, cond, eqb, List, [], ◌∷◌, length, drop, map, Ok, refl, sym, ◌∙◌, ap,
-    subst, arith, AllByRecursion, eq-eqb, ne_eqb, length-take-le, recursion_from_All, lsn_number, sequence_of, LogEntry, Shape, Files, block_sectors, Opens,
-    AreReadAsWritten, told_as, block_records, LieIn, IsLogOf, IsStoredIn, HaveBlocks, FitFrom, stored_in, stored_records, shape_of, damage_at, Parts}
+use Rattle.clfs_recover.proofs.Words.{◌≡◌, ℕ, ◌+◌, ◌-◌, ◌*◌, ◌%◌, ◌≤◌, Bool, true, false, cond, eqb, List, [], ◌∷◌, length, drop, map, Ok, refl, sym, ◌∙◌, ap}
+use Rattle.clfs_recover.proofs.Words.{subst, arith, AllByRecursion, eq-eqb, ne_eqb, length-take-le, recursion_from_All, lsn_number, sequence_of, LogEntry}
+use Rattle.clfs_recover.proofs.Words.{Shape, Files, block_sectors, Opens, AreReadAsWritten, told_as, block_records, LieIn, IsLogOf, IsStoredIn, HaveBlocks}
+use Rattle.clfs_recover.proofs.Words.{FitFrom, stored_in, stored_records, shape_of, damage_at, Parts}
 use Rattle.std.specs.Prelude.{sum_by}
 use Rattle.std.proofs.lemmas.List.Sums.{sum_by-append, sum_by-cons}
 use Rattle.clfs_recover.specs.Counting.{blocks_begun}

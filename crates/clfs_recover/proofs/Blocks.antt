@@ -1,7 +1,7 @@
 -- The records of a block by the answers of its checks.
-use Rattle.clfs_recover.proofs.Words.{◌≡◌, ℕ, List, Option, Some, None, Result, Ok, Err, refl, unless_wrong, LogEntry, Shape, Row, payload_of, frame_at,
-    rest_at, BlockHead, BlockRefusal, told_as, records_from, block_records, block_refused, damage_at, GathersBlock, RefusesAs, LoadRefusal, NoBase, Damaged,
-    DiskFault, NoMemory}
+use Rattle.clfs_recover.proofs.Words.{◌≡◌, ℕ, List, Option, Some, None, Result, Ok, Err, refl, unless_wrong, LogEntry, Shape, Row, payload_of, frame_at}
+use Rattle.clfs_recover.proofs.Words.{rest_at, BlockHead, BlockRefusal, told_as, records_from, block_records, block_refused, damage_at, GathersBlock}
+use Rattle.clfs_recover.proofs.Words.{RefusesAs, LoadRefusal, NoBase, Damaged, DiskFault, NoMemory}
 use Rattle.clfs_block.specs.Checks.{other_byte, payload_place}
 use Rattle.clfs_block.specs.declared.head.BlockRefusal.TheVariants as blocks
 use Rattle.clfs_block.specs.RecordLaws.{records_refused, rest_refused}

@@ -1,8 +1,9 @@
 -- A log that has more blocks or containers, or whose copy has another base in a row, a stream more, or other settings.
-use Rattle.clfs_recover.proofs.Words.{◌≡◌, ◌≢◌, ⊎_elim, ℕ, ◌+◌, ◌-◌, ◌*◌, ◌<◌, ◌≤◌, Bool, true, max, List, [], ◌∷◌, ◌++◌, length, get_or, map, refl, sym, ◌∙◌,
-    ap, arith, append_assoc, length-append, length-set, get_or-set_same, get_or-set_other, All, AllByRecursion, get_or-append_seam, cases_eq,
-    get_or_append_left, recursion_from_All, container_of, frontier, LogEntry, Place, total, AreReadAsWritten, BaseImage, Row, IsImage, row_in, State, base_of,
-    set_base, raised, streams_with, IsLogWith, HaveMore, HaveEmpty, file_at_end, stored_state, stored_place, shape_of, bases_with}
+use Rattle.clfs_recover.proofs.Words.{◌≡◌, ◌≢◌, ⊎_elim, ℕ, ◌+◌, ◌-◌, ◌*◌, ◌<◌, ◌≤◌, Bool, true, max, List, [], ◌∷◌, ◌++◌, length, get_or, map, refl, sym, ◌∙◌}
+use Rattle.clfs_recover.proofs.Words.{ap, arith, append_assoc, length-append, length-set, get_or-set_same, get_or-set_other, All, AllByRecursion}
+use Rattle.clfs_recover.proofs.Words.{get_or-append_seam, cases_eq, get_or_append_left, recursion_from_All, container_of, frontier, LogEntry, Place, total}
+use Rattle.clfs_recover.proofs.Words.{AreReadAsWritten, BaseImage, Row, IsImage, row_in, State, base_of, set_base, raised, streams_with, IsLogWith, HaveMore}
+use Rattle.clfs_recover.proofs.Words.{HaveEmpty, file_at_end, stored_state, stored_place, shape_of, bases_with}
 use Rattle.clfs_recover.specs.Logs.{with_row_base}
 use Rattle.clfs_recover.proofs.FoundStreams.{base_there}
 use Rattle.clfs_recover.proofs.LaidBlocks.{FitTheirs}

@@ -1,9 +1,9 @@
 -- Where containers are read, the open blocks of each end cleanly, and are all that its records come of.
-use Rattle.clfs_recover.proofs.Words.{◌≡◌, ◌⊎◌, inl, inr, ⊎_elim, ℕ, zero, suc, ◌+◌, ◌*◌, ◌/◌, ◌<◌, ◌≤◌, cond, eqb, List, [], ◌∷◌, ◌++◌, length, get_or, drop,
-    map, Result, Ok, Err, refl, sym, ◌∙◌, ap, subst, arith, All, AllByRecursion, cases_lt, lt-leb, eq-eqb, cond-true, All-from_recursion, lsn_number, IsShape,
-    LogEntry, Shape, Files, block_sectors, Ends, EndsCleanly, AreOpen, AreWhole, total, frame_at, AreReadAsWritten, BlockHead, BlockRefusal, ◌>>=◌, told_as,
-    block_records, Container, damage_at, end_at, blocks_end, blocks_records, container_records, listed_records, AreListed, HaveBlocks, stored_in,
-    stored_records}
+use Rattle.clfs_recover.proofs.Words.{◌≡◌, ◌⊎◌, inl, inr, ⊎_elim, ℕ, zero, suc, ◌+◌, ◌*◌, ◌/◌, ◌<◌, ◌≤◌, cond, eqb, List, [], ◌∷◌, ◌++◌, length, get_or, drop}
+use Rattle.clfs_recover.proofs.Words.{map, Result, Ok, Err, refl, sym, ◌∙◌, ap, subst, arith, All, AllByRecursion, cases_lt, lt-leb, eq-eqb, cond-true}
+use Rattle.clfs_recover.proofs.Words.{All-from_recursion, lsn_number, IsShape, LogEntry, Shape, Files, block_sectors, Ends, EndsCleanly, AreOpen, AreWhole}
+use Rattle.clfs_recover.proofs.Words.{total, frame_at, AreReadAsWritten, BlockHead, BlockRefusal, ◌>>=◌, told_as, block_records, Container, damage_at, end_at}
+use Rattle.clfs_recover.proofs.Words.{blocks_end, blocks_records, container_records, listed_records, AreListed, HaveBlocks, stored_in, stored_records}
 use Rattle.clfs_block.specs.declared.head.BlockRefusal.TheVariants as blocks
 use Rattle.clfs_recover.proofs.Binding.{read, bound}
 use Rattle.clfs_recover.proofs.Containers.{sectors_said, left_here, closed_gate}

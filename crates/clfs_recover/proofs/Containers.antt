@@ -1,8 +1,9 @@
 -- What a block is judged by: itself and a front of what begins with it, its gate, and the sectors that are left for it.
-use Rattle.clfs_recover.proofs.Words.{◌≡◌, inr, ⊎_elim, ℕ, ◌+◌, ◌-◌, ◌*◌, ◌/◌, ◌%◌, ◌^◌, ◌<◌, ◌≤◌, Bool, true, false, cond, not, eqb, ltb, List, [], ◌∷◌,
-    length, get_or, Option, Some, None, Result, Ok, Err, refl, sym, ◌∙◌, ap, arith, eq-eqb, lsn_number, IsShape, unless_wrong, LogEntry, Shape, block_sectors,
-    payload_of, head_of, left_from, frame_at, sectors_at, rest_at, IsEnough, AreJudgedAlone, AreReadAsWritten, BlockHead, BlockRefusal, ◌>>=◌, told_as,
-    records_from, block_records, block_refused, block_framed, block_same, IsFrontOf}
+use Rattle.clfs_recover.proofs.Words.{◌≡◌, inr, ⊎_elim, ℕ, ◌+◌, ◌-◌, ◌*◌, ◌/◌, ◌%◌, ◌^◌, ◌<◌, ◌≤◌, Bool, true, false, cond, not, eqb, ltb, List, [], ◌∷◌}
+use Rattle.clfs_recover.proofs.Words.{length, get_or, Option, Some, None, Result, Ok, Err, refl, sym, ◌∙◌, ap, arith, eq-eqb, lsn_number, IsShape}
+use Rattle.clfs_recover.proofs.Words.{unless_wrong, LogEntry, Shape, block_sectors, payload_of, head_of, left_from, frame_at, sectors_at, rest_at, IsEnough}
+use Rattle.clfs_recover.proofs.Words.{AreJudgedAlone, AreReadAsWritten, BlockHead, BlockRefusal, ◌>>=◌, told_as, records_from, block_records, block_refused}
+use Rattle.clfs_recover.proofs.Words.{block_framed, block_same, IsFrontOf}
 use Rattle.std.proofs.lemmas.List.{get_or-drop}
 use Rattle.clfs_block.specs.Checks.{head_fault, wrong_sector, address_place}
 use Rattle.clfs_block.specs.declared.head.BlockRefusal.TheVariants as blocks

@@ -1,8 +1,9 @@
 -- How many records a log can have.
-use Rattle.clfs_recover.proofs.Words.{◌≡◌, ℕ, zero, suc, ◌+◌, ◌-◌, ◌*◌, ◌^◌, ◌<◌, ◌≤◌, Bool, true, false, cond, eqb, List, [], ◌∷◌, length, drop, Result, Ok,
-    Err, refl, sym, ◌∙◌, ap, arith, length-append, AllByRecursion, recursion_from_All, lsn_number, record_at, LogEntry, Shape, block_sectors, place_of,
-    payload_of, frame_at, rest_at, AreReadAsWritten, BlockHead, BlockRefusal, ◌>>=◌, told_as, records_from, block_records, shape_of, damage_at, stored_in,
-    stored_records, LieIn, IsLogOf, Parts, block_framed, block_refused}
+use Rattle.clfs_recover.proofs.Words.{◌≡◌, ℕ, zero, suc, ◌+◌, ◌-◌, ◌*◌, ◌^◌, ◌<◌, ◌≤◌, Bool, true, false, cond, eqb, List, [], ◌∷◌, length, drop, Result, Ok}
+use Rattle.clfs_recover.proofs.Words.{Err, refl, sym, ◌∙◌, ap, arith, length-append, AllByRecursion, recursion_from_All, lsn_number, record_at, LogEntry}
+use Rattle.clfs_recover.proofs.Words.{Shape, block_sectors, place_of, payload_of, frame_at, rest_at, AreReadAsWritten, BlockHead, BlockRefusal, ◌>>=◌}
+use Rattle.clfs_recover.proofs.Words.{told_as, records_from, block_records, shape_of, damage_at, stored_in, stored_records, LieIn, IsLogOf, Parts}
+use Rattle.clfs_recover.proofs.Words.{block_framed, block_refused}
 use Rattle.clfs_block.specs.declared.head.BlockRefusal.TheVariants as blocks
 use Rattle.clfs_recover.proofs.Joined.{AreBoth, both_there}
 

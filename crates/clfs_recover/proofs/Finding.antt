@@ -1,9 +1,9 @@
 -- What the walk finds after a base copy, and that every file has one list of open blocks.
-use Rattle.clfs_recover.proofs.Words.{◌≡◌, ◌≢◌, inl, inr, ⊎_elim, ℕ, zero, suc, ◌+◌, ◌-◌, ◌*◌, ◌<◌, ◌≤◌, List, [], ◌∷◌, length, get_or, take, drop, Result, Ok,
-    Err, refl, sym, ◌∙◌, ap, subst, arith, IfOk, IfErr, length-take-le, drop-drop, cases_eq, cases_lt, frontier, unless_wrong, LogEntry, Files, Unchanged,
-    block_sectors, Ends, AreOpen, total, BaseImage, NewestRefusal, newest_of, ◌>>=◌, Container, shape_of, listed_records, place_behind, image_fault,
-    slot_offset, parts_with, walked, AreListed, without_copy, FindsBehind, Finds, RefusesAs, parts_of, Walked, LoadRefusal, NoBase, Damaged, DiskFault,
-    NoMemory}
+use Rattle.clfs_recover.proofs.Words.{◌≡◌, ◌≢◌, inl, inr, ⊎_elim, ℕ, zero, suc, ◌+◌, ◌-◌, ◌*◌, ◌<◌, ◌≤◌, List, [], ◌∷◌, length, get_or, take, drop, Result}
+use Rattle.clfs_recover.proofs.Words.{Ok, Err, refl, sym, ◌∙◌, ap, subst, arith, IfOk, IfErr, length-take-le, drop-drop, cases_eq, cases_lt, frontier}
+use Rattle.clfs_recover.proofs.Words.{unless_wrong, LogEntry, Files, Unchanged, block_sectors, Ends, AreOpen, total, BaseImage, NewestRefusal, newest_of}
+use Rattle.clfs_recover.proofs.Words.{◌>>=◌, Container, shape_of, listed_records, place_behind, image_fault, slot_offset, parts_with, walked, AreListed}
+use Rattle.clfs_recover.proofs.Words.{without_copy, FindsBehind, Finds, RefusesAs, parts_of, Walked, LoadRefusal, NoBase, Damaged, DiskFault, NoMemory}
 use Rattle.clfs_base.specs.declared.refusal.NewestRefusal.TheVariants as newest
 use Rattle.clfs_base.specs.Decoding.{GivesNewest}
 use Rattle.clfs_recover.specs.Opening.{IsWalked, IsRefused}

@@ -1,6 +1,7 @@
 -- The bases with records: at least those of the rows and the new ones of the records, and no further than both go.
-use Rattle.clfs_recover.proofs.Words.{◌≡◌, ◌⊎◌, inl, inr, ℕ, suc, ◌+◌, ◌-◌, ◌<◌, ◌≤◌, true, max, List, [], ◌∷◌, get_or, map, refl, sym, subst, arith, Any,
-    AllByRecursion, fold, filter, cases_Bool, cases_lt, eq-eqb, eqb-true, All-from_recursion, BaseFits, LogEntry, Restart, Row, row_in, base_with}
+use Rattle.clfs_recover.proofs.Words.{◌≡◌, ◌⊎◌, inl, inr, ℕ, suc, ◌+◌, ◌-◌, ◌<◌, ◌≤◌, true, max, List, [], ◌∷◌, get_or, map, refl, sym, subst, arith, Any}
+use Rattle.clfs_recover.proofs.Words.{AllByRecursion, fold, filter, cases_Bool, cases_lt, eq-eqb, eqb-true, All-from_recursion, BaseFits, LogEntry, Restart}
+use Rattle.clfs_recover.proofs.Words.{Row, row_in, base_with}
 use Rattle.std.specs.List.{All}
 use Rattle.clfs_lsn.specs.declared.entry.Kind.{Kind}
 use Rattle.clfs_lsn.specs.declared.entry.Kind.TheVariants.{Plain}

@@ -1,10 +1,11 @@
 -- What is known of the parts that opening finds: the newest copy is one that a log can have, the records lie in blocks up to the place, and the
 -- copy's bases and its tail fit them.
-use Rattle.clfs_recover.proofs.Words.{◌≡◌, ℕ, ◌+◌, ◌-◌, ◌*◌, ◌%◌, ◌^◌, ◌<◌, ◌≤◌, Bool, true, false, cond, eqb, ltb, ◌&&◌, ◌||◌, List, [], ◌∷◌, length, Option,
-    Some, None, Result, Ok, Err, refl, sym, ◌∙◌, ap, subst, arith, position, option_map, option_or, ltb-false, or_parts, lsn_number, container_of, IsShape,
-    frontier, unless_wrong, unless_ok, LogEntry, Place, Shape, Files, AreReadAsWritten, BaseImage, Row, Front, NewestRefusal, layout_of, row_place, IsImage,
-    row_in, told, image_at, slot_of, front_of, slot_by, copy_in, copy_of, newest_of, before_all, Container, shape_of, listed_records, last_end, place_behind,
-    bases_with, high_row, is_wrong_tail, image_fault, slot_offset, parts_with, AreListed, FindsBehind, Finds, Parts, LoadRefusal, Damaged}
+use Rattle.clfs_recover.proofs.Words.{◌≡◌, ℕ, ◌+◌, ◌-◌, ◌*◌, ◌%◌, ◌^◌, ◌<◌, ◌≤◌, Bool, true, false, cond, eqb, ltb, ◌&&◌, ◌||◌, List, [], ◌∷◌, length, Option}
+use Rattle.clfs_recover.proofs.Words.{Some, None, Result, Ok, Err, refl, sym, ◌∙◌, ap, subst, arith, position, option_map, option_or, ltb-false, or_parts}
+use Rattle.clfs_recover.proofs.Words.{lsn_number, container_of, IsShape, frontier, unless_wrong, unless_ok, LogEntry, Place, Shape, Files, AreReadAsWritten}
+use Rattle.clfs_recover.proofs.Words.{BaseImage, Row, Front, NewestRefusal, layout_of, row_place, IsImage, row_in, told, image_at, slot_of, front_of, slot_by}
+use Rattle.clfs_recover.proofs.Words.{copy_in, copy_of, newest_of, before_all, Container, shape_of, listed_records, last_end, place_behind, bases_with}
+use Rattle.clfs_recover.proofs.Words.{high_row, is_wrong_tail, image_fault, slot_offset, parts_with, AreListed, FindsBehind, Finds, Parts, LoadRefusal, Damaged}
 use Rattle.std.proofs.lemmas.Bool.{cond_both}
 use Rattle.std.proofs.lemmas.List.Sums.{fails_before_first}
 use Rattle.clfs_lsn.specs.Place.{IsClosed}

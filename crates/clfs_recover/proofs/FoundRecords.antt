@@ -1,7 +1,7 @@
 -- What follows of records whose LSNs rise from one on and stay below another.
-use Rattle.clfs_recover.proofs.Words.{◌≡◌, ◌⊎◌, inl, inr, ⊎_elim, ℕ, zero, suc, ◌+◌, ◌-◌, ◌%◌, ◌^◌, ◌<◌, ◌≤◌, Bool, ◌&&◌, eqb, List, [], ◌∷◌, length, map,
-    refl, ◌∙◌, ap, subst, arith, slice_index, AllByRecursion, filter, cases_Bool, eqb-true, eqb-false, lsn_number, container_of, offset_of, sequence_of, size,
-    frontier, LogEntry, Place, Shape, before_all, behind, LiesBehind, LieInBlocks}
+use Rattle.clfs_recover.proofs.Words.{◌≡◌, ◌⊎◌, inl, inr, ⊎_elim, ℕ, zero, suc, ◌+◌, ◌-◌, ◌%◌, ◌^◌, ◌<◌, ◌≤◌, Bool, ◌&&◌, eqb, List, [], ◌∷◌, length, map}
+use Rattle.clfs_recover.proofs.Words.{refl, ◌∙◌, ap, subst, arith, slice_index, AllByRecursion, filter, cases_Bool, eqb-true, eqb-false, lsn_number}
+use Rattle.clfs_recover.proofs.Words.{container_of, offset_of, sequence_of, size, frontier, LogEntry, Place, Shape, before_all, behind, LiesBehind, LieInBlocks}
 use Rattle.std.specs.List.Sorted.{IsStrictlyIncreasing}
 use Rattle.std.proofs.lemmas.Bool.{and_parts}
 use Rattle.clfs_recover.proofs.LaidBlocks.{RiseWithin}

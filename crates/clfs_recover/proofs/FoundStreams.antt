@@ -1,7 +1,7 @@
 -- The streams of rows with bases, by their numbers.
-use Rattle.clfs_recover.proofs.Words.{◌≡◌, ◌≢◌, ℕ, zero, suc, ◌-◌, ◌<◌, ◌≤◌, not, eqb, ltb, ◌&&◌, List, [], ◌∷◌, length, get_or, Option, Some, None, refl, sym,
-    ◌∙◌, ap, subst, arith, All, position_or_len, ne_eqb, le-ltb, position_or_len_is, slice_get-get_or, pass_check, Row, row_in, State, Stream, base_of,
-    name_fault, streams_with}
+use Rattle.clfs_recover.proofs.Words.{◌≡◌, ◌≢◌, ℕ, zero, suc, ◌-◌, ◌<◌, ◌≤◌, not, eqb, ltb, ◌&&◌, List, [], ◌∷◌, length, get_or, Option, Some, None, refl}
+use Rattle.clfs_recover.proofs.Words.{sym, ◌∙◌, ap, subst, arith, All, position_or_len, ne_eqb, le-ltb, position_or_len_is, slice_get-get_or, pass_check, Row}
+use Rattle.clfs_recover.proofs.Words.{row_in, State, Stream, base_of, name_fault, streams_with}
 use Rattle.std.specs.Prelude.{AllPairs, IsSome}
 use Rattle.std.specs.Option.{option_map_or}
 use Rattle.std.proofs.lemmas.Bool.{and_left, not_from_true}

@@ -1,6 +1,6 @@
 -- The records at the front of a block make a block.
-use Rattle.clfs_recover.proofs.Words.{◌≡◌, ℕ, zero, suc, ◌+◌, ◌≤◌, List, [], ◌∷◌, ◌++◌, length, take, drop, sym, ◌∙◌, ap, subst, arith, length-append,
-    take-append-drop, flat_map, length-take-le, record_bytes, LogEntry, Shape, FitFrom, HasRecords}
+use Rattle.clfs_recover.proofs.Words.{◌≡◌, ℕ, zero, suc, ◌+◌, ◌≤◌, List, [], ◌∷◌, ◌++◌, length, take, drop, sym, ◌∙◌, ap, subst, arith, length-append}
+use Rattle.clfs_recover.proofs.Words.{take-append-drop, flat_map, length-take-le, record_bytes, LogEntry, Shape, FitFrom, HasRecords}
 use Rattle.std.proofs.lemmas.List.Concat.{flat_map-append}
 use Rattle.clfs_lsn.specs.Format.{open_gate}
 use Rattle.clfs_block.specs.Frame.{SpellsBlock}

@@ -1,6 +1,6 @@
 -- The hold of a log is the least of what it needs.
-use Rattle.clfs_recover.proofs.Words.{◌≡◌, ℕ, ◌<◌, ◌≤◌, true, List, [], ◌∷◌, ◌++◌, arith, AllByRecursion, fold, option_to_list, frontier, LogEntry, State,
-    is_live, live_lsns, hold, least_or}
+use Rattle.clfs_recover.proofs.Words.{◌≡◌, ℕ, ◌<◌, ◌≤◌, true, List, [], ◌∷◌, ◌++◌, arith, AllByRecursion, fold, option_to_list, frontier, LogEntry, State}
+use Rattle.clfs_recover.proofs.Words.{is_live, live_lsns, hold, least_or}
 use Rattle.std.proofs.Common.{min}
 use Rattle.clfs_recover.proofs.KeptRecords.{weaker, numbers_of_kept, of_numbers}
 

@@ -1,8 +1,9 @@
 -- Files in which opening finds a log: its base copy alone, in its slot, and the blocks of each container with a closed gate after them.
-use Rattle.clfs_recover.proofs.Words.{◌≡◌, ◌≢◌, inr, ℕ, zero, suc, ◌-◌, ◌*◌, ◌<◌, ◌≤◌, Bool, true, false, cond, eqb, List, [], ◌∷◌, ◌++◌, length, get_or, take,
-    drop, Result, Ok, refl, sym, ◌∙◌, ap, subst, arith, length-append, append-nil, get_or_append_left, get_or_past, take_at, take_all, drop_at, drop-drop,
-    length-take-le, recursion_from_All, AllByRecursion, eq-eqb, ne_eqb, Files, block_sectors, BeginsWith, Opens, AreWhole, total, BaseImage, Front,
-    NewestRefusal, IsImage, image_at, front_of, slot_by, slot_of, copy_in, copy_of, newest_of, Finds, HaveBlocks, HasLog, LieIn, IsLogOf, Parts}
+use Rattle.clfs_recover.proofs.Words.{◌≡◌, ◌≢◌, inr, ℕ, zero, suc, ◌-◌, ◌*◌, ◌<◌, ◌≤◌, Bool, true, false, cond, eqb, List, [], ◌∷◌, ◌++◌, length, get_or}
+use Rattle.clfs_recover.proofs.Words.{take, drop, Result, Ok, refl, sym, ◌∙◌, ap, subst, arith, length-append, append-nil, get_or_append_left, get_or_past}
+use Rattle.clfs_recover.proofs.Words.{take_at, take_all, drop_at, drop-drop, length-take-le, recursion_from_All, AllByRecursion, eq-eqb, ne_eqb, Files}
+use Rattle.clfs_recover.proofs.Words.{block_sectors, BeginsWith, Opens, AreWhole, total, BaseImage, Front, NewestRefusal, IsImage, image_at, front_of}
+use Rattle.clfs_recover.proofs.Words.{slot_by, slot_of, copy_in, copy_of, newest_of, Finds, HaveBlocks, HasLog, LieIn, IsLogOf, Parts}
 use Rattle.std.proofs.Common.{replicate}
 use Rattle.std.proofs.lemmas.List.{length-replicate, get_or-replicate, get_or_at}
 use Rattle.clfs_base.specs.Spelling.{spelled}

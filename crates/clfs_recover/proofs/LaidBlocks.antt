@@ -1,7 +1,7 @@
 -- Records that were read from blocks lie in blocks one after the other, as those of a state that files hold.
-use Rattle.clfs_recover.proofs.Words.{◌≡◌, ◌⊎◌, inl, inr, ℕ, ◌+◌, ◌*◌, ◌/◌, ◌%◌, ◌<◌, ◌≤◌, List, [], ◌∷◌, ◌++◌, length, refl, sym, ◌∙◌, ap, subst, arith,
-    AllByRecursion, eq-eqb, ne_eqb, lsn_number, container_of, offset_of, sequence_of, IsShape, size, sectors, IsWithin, block_end, FitsAt, LogEntry, Place,
-    Shape, block_sectors, behind, behind_all, LiesBehind, LieInBlocks, FitFrom}
+use Rattle.clfs_recover.proofs.Words.{◌≡◌, ◌⊎◌, inl, inr, ℕ, ◌+◌, ◌*◌, ◌/◌, ◌%◌, ◌<◌, ◌≤◌, List, [], ◌∷◌, ◌++◌, length, refl, sym, ◌∙◌, ap, subst, arith}
+use Rattle.clfs_recover.proofs.Words.{AllByRecursion, eq-eqb, ne_eqb, lsn_number, container_of, offset_of, sequence_of, IsShape, size, sectors, IsWithin}
+use Rattle.clfs_recover.proofs.Words.{block_end, FitsAt, LogEntry, Place, Shape, block_sectors, behind, behind_all, LiesBehind, LieInBlocks, FitFrom}
 use Rattle.clfs_lsn.specs.Place.{begun}
 use Rattle.clfs_recover.proofs.Containers.{left_here}
 use Rattle.clfs_recover.proofs.ReadBlocks.{taken_bytes, HasRead}

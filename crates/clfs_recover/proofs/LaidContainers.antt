@@ -1,8 +1,9 @@
 -- The records that the walk meets in containers lie in blocks one after the other.
-use Rattle.clfs_recover.proofs.Words.{◌≡◌, inl, inr, ℕ, ◌+◌, ◌-◌, ◌*◌, ◌/◌, ◌%◌, ◌<◌, ◌≤◌, Bool, true, false, cond, leb, List, [], ◌∷◌, ◌++◌, length, take,
-    drop, Result, Ok, Err, refl, sym, ◌∙◌, ap, subst, arith, append_assoc, append-nil, length-take-le, get_or-take, lsn_number, IsShape, LogEntry, Place,
-    Shape, Files, block_sectors, Opens, total, frame_at, AreReadAsWritten, BlockHead, BlockRefusal, behind_all, ◌>>=◌, told_as, block_records, Container,
-    damage_at, end_at, blocks_end, blocks_records, container_records, listed_records, last_end, AreListed}
+use Rattle.clfs_recover.proofs.Words.{◌≡◌, inl, inr, ℕ, ◌+◌, ◌-◌, ◌*◌, ◌/◌, ◌%◌, ◌<◌, ◌≤◌, Bool, true, false, cond, leb, List, [], ◌∷◌, ◌++◌, length, take}
+use Rattle.clfs_recover.proofs.Words.{drop, Result, Ok, Err, refl, sym, ◌∙◌, ap, subst, arith, append_assoc, append-nil, length-take-le, get_or-take}
+use Rattle.clfs_recover.proofs.Words.{lsn_number, IsShape, LogEntry, Place, Shape, Files, block_sectors, Opens, total, frame_at, AreReadAsWritten, BlockHead}
+use Rattle.clfs_recover.proofs.Words.{BlockRefusal, behind_all, ◌>>=◌, told_as, block_records, Container, damage_at, end_at, blocks_end, blocks_records}
+use Rattle.clfs_recover.proofs.Words.{container_records, listed_records, last_end, AreListed}
 use Rattle.clfs_block.specs.declared.head.BlockRefusal.TheVariants as blocks
 use Rattle.clfs_recover.proofs.Binding.{read, bound, one_value, told_value}
 use Rattle.clfs_recover.proofs.Listing.{end_behind, ends_on}

@@ -1,8 +1,9 @@
 -- The listed containers as the walk takes them in, one after the other, whatever the disk told.
-use Rattle.clfs_recover.proofs.Words.{◌≡◌, ℕ, suc, zero, ◌+◌, ◌<◌, ◌≤◌, List, [], ◌∷◌, ◌++◌, length, get_or, take, Ok, refl, sym, ◌∙◌, ap, subst, arith,
-    append_assoc, length-append, append-nil, length-take-le, take_all, take_more, All-nil, All-push, LogEntry, Shape, Row, Files, AreOpen, AreWhole, total,
-    Container, container_records, listed_records, last_end, AreListed, HaveBlocks, stored_in, stored_records, stored_end, LieIn, HasTaken, TakesContainer,
-    TakesListed, RefusesAs, LoadRefusal, NoBase, Damaged, DiskFault, NoMemory}
+use Rattle.clfs_recover.proofs.Words.{◌≡◌, ℕ, suc, zero, ◌+◌, ◌<◌, ◌≤◌, List, [], ◌∷◌, ◌++◌, length, get_or, take, Ok, refl, sym, ◌∙◌, ap, subst, arith}
+use Rattle.clfs_recover.proofs.Words.{append_assoc, length-append, append-nil, length-take-le, take_all, take_more, All-nil, All-push, LogEntry, Shape, Row}
+use Rattle.clfs_recover.proofs.Words.{Files, AreOpen, AreWhole, total, Container, container_records, listed_records, last_end, AreListed, HaveBlocks}
+use Rattle.clfs_recover.proofs.Words.{stored_in, stored_records, stored_end, LieIn, HasTaken, TakesContainer, TakesListed, RefusesAs, LoadRefusal, NoBase}
+use Rattle.clfs_recover.proofs.Words.{Damaged, DiskFault, NoMemory}
 use Rattle.clfs_recover.proofs.Joined.{Records, joined, joined_nil, joined_assoc, AreBoth, both_there}
 use Rattle.clfs_recover.proofs.Meanings.{OneList, WholeAreOpen, whole_is}
 

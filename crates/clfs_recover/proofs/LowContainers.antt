@@ -1,9 +1,10 @@
 -- A log whose copy lists its low containers no more.
-use Rattle.clfs_recover.proofs.Words.{◌≡◌, inl, inr, ℕ, zero, suc, ◌+◌, ◌-◌, ◌*◌, ◌<◌, ◌≤◌, Bool, true, false, cond, leb, List, [], ◌∷◌, ◌++◌, length, get_or,
-    take, drop, map, Some, None, Ok, refl, sym, ◌∙◌, ap, subst, arith, length-drop, take-append-drop, All, AllByRecursion, filter, option_to_list, le-leb,
-    lt-leb, leb-true, eq-eqb, length-take, length-map, get_or-map, ext_get_or, All-take, All-from_recursion, recursion_from_All, filter-append, lsn_number,
-    container_of, frontier, FitsAt, LogEntry, total, AreReadAsWritten, BaseImage, IsImage, row_in, State, Stream, base_of, is_live, live_lsns, hold, least_or,
-    streams_with, IsLogWith, stored_state, file_at_end, stored_records, stored_end, stored_place, shape_of, base_with, bases_with}
+use Rattle.clfs_recover.proofs.Words.{◌≡◌, inl, inr, ℕ, zero, suc, ◌+◌, ◌-◌, ◌*◌, ◌<◌, ◌≤◌, Bool, true, false, cond, leb, List, [], ◌∷◌, ◌++◌, length, get_or}
+use Rattle.clfs_recover.proofs.Words.{take, drop, map, Some, None, Ok, refl, sym, ◌∙◌, ap, subst, arith, length-drop, take-append-drop, All, AllByRecursion}
+use Rattle.clfs_recover.proofs.Words.{filter, option_to_list, le-leb, lt-leb, leb-true, eq-eqb, length-take, length-map, get_or-map, ext_get_or, All-take}
+use Rattle.clfs_recover.proofs.Words.{All-from_recursion, recursion_from_All, filter-append, lsn_number, container_of, frontier, FitsAt, LogEntry, total}
+use Rattle.clfs_recover.proofs.Words.{AreReadAsWritten, BaseImage, IsImage, row_in, State, Stream, base_of, is_live, live_lsns, hold, least_or, streams_with}
+use Rattle.clfs_recover.proofs.Words.{IsLogWith, stored_state, file_at_end, stored_records, stored_end, stored_place, shape_of, base_with, bases_with}
 use Rattle.std.proofs.lemmas.List.{drop-map}
 use Rattle.std.proofs.lemmas.List.Elements.{All-drop}
 use Rattle.clfs_model.specs.Flush.{IsSame}

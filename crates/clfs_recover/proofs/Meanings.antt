@@ -1,10 +1,12 @@
 -- Opening finds one thing in files, whatever stands outside the open blocks.
-use Rattle.clfs_recover.proofs.Words.{◌≡◌, ◌≢◌, ⊎_elim, ℕ, ◌+◌, ◌-◌, ◌*◌, ◌/◌, ◌<◌, ◌≤◌, Bool, true, false, cond, not, eqb, map, List, [], ◌∷◌, ◌++◌, length,
-    get_or, drop, Option, Some, None, Result, Ok, Err, refl, sym, ◌∙◌, ap, subst, arith, length-take-le, le-leb, lt-leb, ne_eqb, cases_lt, lsn_number,
-    frontier, unless_wrong, pass_guard, LogEntry, Place, Shape, Files, block_sectors, Opens, EndsCleanly, AreOpen, AreWhole, total, frame_at, BaseImage,
-    NewestRefusal, newest_of, State, ◌>>=◌, told_as, block_records, Container, shape_of, damage_at, end_at, blocks_end, blocks_records, container_records,
-    listed_records, last_end, walked, image_fault, slot_offset, AreListed, without_copy, FindsBehind, Finds, state_of, StandsFor, HaveBlocks, HasLog,
-    stored_in, stored_records, stored_end, stored_place, stored_parts, Parts, LoadRefusal, NoBase, Damaged}
+use Rattle.clfs_recover.proofs.Words.{◌≡◌, ◌≢◌, ⊎_elim, ℕ, ◌+◌, ◌-◌, ◌*◌, ◌/◌, ◌<◌, ◌≤◌, Bool, true, false, cond, not, eqb, map, List, [], ◌∷◌, ◌++◌, length}
+use Rattle.clfs_recover.proofs.Words.{get_or, drop, Option, Some, None, Result, Ok, Err, refl, sym, ◌∙◌, ap, subst, arith, length-take-le, le-leb, lt-leb}
+use Rattle.clfs_recover.proofs.Words.{ne_eqb, cases_lt, lsn_number, frontier, unless_wrong, pass_guard, LogEntry, Place, Shape, Files, block_sectors, Opens}
+use Rattle.clfs_recover.proofs.Words.{EndsCleanly, AreOpen, AreWhole, total, frame_at, BaseImage, NewestRefusal, newest_of, State, ◌>>=◌, told_as}
+use Rattle.clfs_recover.proofs.Words.{block_records, Container, shape_of, damage_at, end_at, blocks_end, blocks_records, container_records, listed_records}
+use Rattle.clfs_recover.proofs.Words.{last_end, walked, image_fault, slot_offset, AreListed, without_copy, FindsBehind, Finds, state_of, StandsFor}
+use Rattle.clfs_recover.proofs.Words.{HaveBlocks, HasLog, stored_in, stored_records, stored_end, stored_place, stored_parts, Parts, LoadRefusal, NoBase}
+use Rattle.clfs_recover.proofs.Words.{Damaged}
 use Rattle.clfs_block.specs.declared.head.BlockRefusal.TheVariants as blocks
 use Rattle.clfs_recover.specs.Files.{IsDamaged, HasNoBase}
 use Rattle.clfs_recover.proofs.Finding.{lists_exist}

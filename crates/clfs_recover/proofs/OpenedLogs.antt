@@ -1,7 +1,8 @@
 -- A log that was walked after a base copy, whatever the disk told, and that it is the one that opening finds where the disk tells.
-use Rattle.clfs_recover.proofs.Words.{◌≡◌, ℕ, ◌+◌, ◌-◌, ◌≤◌, List, [], length, Some, None, Result, Ok, Err, refl, sym, ◌∙◌, ap, subst, IfOk, frontier,
-    LogEntry, Place, Files, Unchanged, DiskState, TellsContents, BaseImage, IsImage, newest_of, Container, shape_of, slot_offset, image_fault, walked,
-    AreListed, Finds, HaveBlocks, HasLog, stored_place, TakesListed, IsOpenedFrom, parts_of, Walked, Parts, LoadRefusal, Damaged}
+use Rattle.clfs_recover.proofs.Words.{◌≡◌, ℕ, ◌+◌, ◌-◌, ◌≤◌, List, [], length, Some, None, Result, Ok, Err, refl, sym, ◌∙◌, ap, subst, IfOk, frontier}
+use Rattle.clfs_recover.proofs.Words.{LogEntry, Place, Files, Unchanged, DiskState, TellsContents, BaseImage, IsImage, newest_of, Container, shape_of}
+use Rattle.clfs_recover.proofs.Words.{slot_offset, image_fault, walked, AreListed, Finds, HaveBlocks, HasLog, stored_place, TakesListed, IsOpenedFrom}
+use Rattle.clfs_recover.proofs.Words.{parts_of, Walked, Parts, LoadRefusal, Damaged}
 use Rattle.clfs_recover.specs.Opening.{IsWalkedLog}
 use Rattle.clfs_recover.proofs.Meanings.{OneList, WholeAreOpen, stored_fault, stored_found}
 

@@ -1,6 +1,6 @@
 -- The records and the bases of parts that opening finds, place by place.
-use Rattle.clfs_recover.proofs.Words.{◌≡◌, ◌⊎◌, ℕ, ◌+◌, ◌-◌, ◌<◌, ◌≤◌, length, get_or, sym, subst, arith, All, All-from_recursion, All-weaker, lsn_number,
-    container_of, frontier, BaseFits, FitsAt, Restart, LogEntry, BaseImage, row_in, Parts}
+use Rattle.clfs_recover.proofs.Words.{◌≡◌, ◌⊎◌, ℕ, ◌+◌, ◌-◌, ◌<◌, ◌≤◌, length, get_or, sym, subst, arith, All, All-from_recursion, All-weaker, lsn_number}
+use Rattle.clfs_recover.proofs.Words.{container_of, frontier, BaseFits, FitsAt, Restart, LogEntry, BaseImage, row_in, Parts}
 use Rattle.std.specs.Prelude.{Any}
 use Rattle.clfs_recover.proofs.FoundBases.{base_from_row, base_from_records, base_of_some}
 use Rattle.clfs_recover.proofs.FoundParts.{AreOpened}

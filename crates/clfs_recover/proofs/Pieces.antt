@@ -1,6 +1,6 @@
 -- What a piece that was read ahead has of its file.
-use Rattle.clfs_recover.proofs.Words.{◌≡◌, inl, inr, ⊎_elim, ℕ, ◌+◌, ◌-◌, ◌<◌, ◌≤◌, List, length, take, drop, Result, Ok, Err, sym, ◌∙◌, ap, subst, arith,
-    length-drop, drop-take, drop-drop, drop_all, take_all, length-take, OnOk, cases_lt, IsFrontOf, Piece, Shows}
+use Rattle.clfs_recover.proofs.Words.{◌≡◌, inl, inr, ⊎_elim, ℕ, ◌+◌, ◌-◌, ◌<◌, ◌≤◌, List, length, take, drop, Result, Ok, Err, sym, ◌∙◌, ap, subst, arith}
+use Rattle.clfs_recover.proofs.Words.{length-drop, drop-take, drop-drop, drop_all, take_all, length-take, OnOk, cases_lt, IsFrontOf, Piece, Shows}
 use Rattle.clfs_recover.specs.Fronts.{Reaches}
 
 -- the bytes of a piece from a place on are a front of those of its file

@@ -1,7 +1,8 @@
 -- The bases of streams, record by record.
-use Rattle.clfs_recover.proofs.Words.{◌≡◌, ◌≢◌, ⊎_elim, ℕ, ◌+◌, ◌-◌, ◌<◌, ◌≤◌, Bool, true, false, cond, eqb, max, List, [], ◌∷◌, ◌++◌, length, get_or, set,
-    map, refl, sym, ◌∙◌, ap, arith, get_or-set_other, get_or-set_same, length-set, fold, filter, ext_get_or, map-append, length-map, get_or-map, filter-append,
-    fold-append, length-map-range_with_len, cases_eq, eq-eqb, ne_eqb, LogEntry, Row, row_in, base_with, bases_with, raised}
+use Rattle.clfs_recover.proofs.Words.{◌≡◌, ◌≢◌, ⊎_elim, ℕ, ◌+◌, ◌-◌, ◌<◌, ◌≤◌, Bool, true, false, cond, eqb, max, List, [], ◌∷◌, ◌++◌, length, get_or, set}
+use Rattle.clfs_recover.proofs.Words.{map, refl, sym, ◌∙◌, ap, arith, get_or-set_other, get_or-set_same, length-set, fold, filter, ext_get_or, map-append}
+use Rattle.clfs_recover.proofs.Words.{length-map, get_or-map, filter-append, fold-append, length-map-range_with_len, cases_eq, eq-eqb, ne_eqb, LogEntry, Row}
+use Rattle.clfs_recover.proofs.Words.{row_in, base_with, bases_with, raised}
 use Rattle.std.proofs.lemmas.List.FromFn.{get_or-map-range_with_len}
 
 new_base_of : LogEntry → ℕ

@@ -1,7 +1,8 @@
 -- The records that are read from a block: each fits its LSN, and with the header they take the bytes that the block says to use.
-use Rattle.clfs_recover.proofs.Words.{◌≡◌, ℕ, zero, suc, ◌+◌, ◌^◌, ◌<◌, ◌≤◌, Bool, true, false, cond, eqb, List, [], ◌∷◌, length, drop, Result, Ok, Err, refl,
-    ◌∙◌, ap, subst, arith, length-drop, eqb-true, length-map-range_with_len, slice_index, size, sectors, FitsAt, record_at, LogEntry, Shape, block_sectors,
-    place_of, payload_of, left_from, frame_at, rest_at, AreReadAsWritten, BlockHead, BlockRefusal, ◌>>=◌, told_as, records_from, block_records, FitFrom}
+use Rattle.clfs_recover.proofs.Words.{◌≡◌, ℕ, zero, suc, ◌+◌, ◌^◌, ◌<◌, ◌≤◌, Bool, true, false, cond, eqb, List, [], ◌∷◌, length, drop, Result, Ok, Err, refl}
+use Rattle.clfs_recover.proofs.Words.{◌∙◌, ap, subst, arith, length-drop, eqb-true, length-map-range_with_len, slice_index, size, sectors, FitsAt, record_at}
+use Rattle.clfs_recover.proofs.Words.{LogEntry, Shape, block_sectors, place_of, payload_of, left_from, frame_at, rest_at, AreReadAsWritten, BlockHead}
+use Rattle.clfs_recover.proofs.Words.{BlockRefusal, ◌>>=◌, told_as, records_from, block_records, FitFrom}
 use Rattle.clfs_block.specs.declared.head.BlockRefusal.TheVariants as blocks
 use Rattle.clfs_recover.proofs.Binding.{bound, one_value, told_value}
 use Rattle.clfs_recover.proofs.Containers.{sectors_said}

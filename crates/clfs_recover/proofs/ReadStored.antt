@@ -1,8 +1,9 @@
 -- What is read of blocks and of containers, part by part.
-use Rattle.clfs_recover.proofs.Words.{◌≡◌, ℕ, zero, suc, ◌+◌, ◌*◌, ◌^◌, ◌<◌, ◌≤◌, eqb, ltb, ◌||◌, List, [], ◌∷◌, ◌++◌, length, drop, Option, None, Result, Ok,
-    refl, sym, ◌∙◌, ap, subst, arith, append_assoc, ltb-false, le-ltb, or_parts, or_from, append-nil, lsn_number, IsShape, size, unless_wrong, unless_ok,
-    pass_check, pass_guard, record_at, LogEntry, Shape, total, place_of, payload_of, frame_at, rest_at, AreReadAsWritten, BlockHead, BlockRefusal, ◌>>=◌,
-    told_as, records_from, block_records, damage_at, FitFrom, stored_in, stored_records, stored_end}
+use Rattle.clfs_recover.proofs.Words.{◌≡◌, ℕ, zero, suc, ◌+◌, ◌*◌, ◌^◌, ◌<◌, ◌≤◌, eqb, ltb, ◌||◌, List, [], ◌∷◌, ◌++◌, length, drop, Option, None, Result, Ok}
+use Rattle.clfs_recover.proofs.Words.{refl, sym, ◌∙◌, ap, subst, arith, append_assoc, ltb-false, le-ltb, or_parts, or_from, append-nil, lsn_number, IsShape}
+use Rattle.clfs_recover.proofs.Words.{size, unless_wrong, unless_ok, pass_check, pass_guard, record_at, LogEntry, Shape, total, place_of, payload_of}
+use Rattle.clfs_recover.proofs.Words.{frame_at, rest_at, AreReadAsWritten, BlockHead, BlockRefusal, ◌>>=◌, told_as, records_from, block_records, damage_at}
+use Rattle.clfs_recover.proofs.Words.{FitFrom, stored_in, stored_records, stored_end}
 use Rattle.clfs_lsn.specs.Checks.{no_fault, guard_ok}
 use Rattle.clfs_lsn.specs.Spelling.{Header, header_of, header_fault, filling_fault, entry_of}
 use Rattle.clfs_block.specs.declared.head.BlockRefusal.TheVariants as blocks

@@ -1,8 +1,9 @@
 -- The places at which the records of stored blocks are read: block by block and container by container, each at its LSN.
-use Rattle.clfs_recover.proofs.Words.{◌≡◌, inl, ℕ, suc, ◌+◌, ◌-◌, ◌*◌, ◌%◌, ◌^◌, ◌<◌, ◌≤◌, List, [], ◌∷◌, ◌++◌, length, get_or, take, drop, map, Some, Ok,
-    refl, sym, ◌∙◌, ap, subst, arith, All, drop-drop, length-take-le, length-map, All-nil, All-append, All-weaker, All-from_recursion, recursion_from_All,
-    slice_get-get_or, lsn_number, container_of, offset_of, sequence_of, LogEntry, Shape, Files, block_sectors, BeginsWith, Opens, AreWhole, total, BaseImage,
-    IsImage, IsEnough, AreReadAsWritten, ◌>>=◌, told_as, block_records, IsLogWith, stored_in, stored_records, damage_at, shape_of}
+use Rattle.clfs_recover.proofs.Words.{◌≡◌, inl, ℕ, suc, ◌+◌, ◌-◌, ◌*◌, ◌%◌, ◌^◌, ◌<◌, ◌≤◌, List, [], ◌∷◌, ◌++◌, length, get_or, take, drop, map, Some, Ok}
+use Rattle.clfs_recover.proofs.Words.{refl, sym, ◌∙◌, ap, subst, arith, All, drop-drop, length-take-le, length-map, All-nil, All-append, All-weaker}
+use Rattle.clfs_recover.proofs.Words.{All-from_recursion, recursion_from_All, slice_get-get_or, lsn_number, container_of, offset_of, sequence_of, LogEntry}
+use Rattle.clfs_recover.proofs.Words.{Shape, Files, block_sectors, BeginsWith, Opens, AreWhole, total, BaseImage, IsImage, IsEnough, AreReadAsWritten, ◌>>=◌}
+use Rattle.clfs_recover.proofs.Words.{told_as, block_records, IsLogWith, stored_in, stored_records, damage_at, shape_of}
 use Rattle.std.specs.Prelude.{Contains, slice_get}
 use Rattle.clfs_lsn.specs.Size.{longest}
 use Rattle.clfs_recover.specs.Reading.{file_of, IsReadAt}

@@ -1,8 +1,9 @@
 -- The bases of a copy's rows and those that records move, where a row, a stream or a record more changes them.
-use Rattle.clfs_recover.proofs.Words.{◌≡◌, ◌≢◌, inl, inr, ⊎_elim, ℕ, zero, suc, ◌+◌, ◌-◌, ◌<◌, ◌≤◌, false, eqb, max, List, [], ◌∷◌, ◌++◌, length, get_or, set,
-    map, refl, sym, ◌∙◌, ap, subst, arith, length-append, length-set, get_or-set_same, get_or-set_other, All, AllByRecursion, fold, filter, cases_Bool,
-    cases_eq, ne_eqb, get_or-append_seam, ext_get_or, map-append, get_or_append_left, filter-append, recursion_from_All, fold-append, LogEntry, Row, row_in,
-    Stream, set_base, streams_with, base_with, bases_with}
+use Rattle.clfs_recover.proofs.Words.{◌≡◌, ◌≢◌, inl, inr, ⊎_elim, ℕ, zero, suc, ◌+◌, ◌-◌, ◌<◌, ◌≤◌, false, eqb, max, List, [], ◌∷◌, ◌++◌, length, get_or, set}
+use Rattle.clfs_recover.proofs.Words.{map, refl, sym, ◌∙◌, ap, subst, arith, length-append, length-set, get_or-set_same, get_or-set_other, All}
+use Rattle.clfs_recover.proofs.Words.{AllByRecursion, fold, filter, cases_Bool, cases_eq, ne_eqb, get_or-append_seam, ext_get_or, map-append}
+use Rattle.clfs_recover.proofs.Words.{get_or_append_left, filter-append, recursion_from_All, fold-append, LogEntry, Row, row_in, Stream, set_base}
+use Rattle.clfs_recover.proofs.Words.{streams_with, base_with, bases_with}
 use Rattle.std.proofs.lemmas.List.{set-get_or}
 use Rattle.clfs_recover.proofs.FoundBases.{new_bases, greatest_first, greatest_above, greatest_below}
 use Rattle.clfs_recover.proofs.FoundStreams.{length-streams_with, stream_in}

@@ -1,7 +1,7 @@
 -- A piece that slides on shows its file still: what it keeps is the front of what is there, and what is read goes on after it.
-use Rattle.clfs_recover.proofs.Words.{nat_le, ◌≡◌, inl, inr, ⊎_elim, ℕ, true, false, zero, suc, ◌+◌, ◌-◌, ◌<◌, ◌≤◌, List, [], ◌∷◌, ◌++◌, length, take, drop,
-    refl, sym, ◌∙◌, ap, subst, arith, length-drop, drop-drop, drop-take, drop_all, take_at, take-take, length-take, cases_lt, leb-true, found_count, Piece,
-    Shows}
+use Rattle.clfs_recover.proofs.Words.{nat_le, ◌≡◌, inl, inr, ⊎_elim, ℕ, true, false, zero, suc, ◌+◌, ◌-◌, ◌<◌, ◌≤◌, List, [], ◌∷◌, ◌++◌, length, take, drop}
+use Rattle.clfs_recover.proofs.Words.{refl, sym, ◌∙◌, ap, subst, arith, length-drop, drop-drop, drop-take, drop_all, take_at, take-take, length-take}
+use Rattle.clfs_recover.proofs.Words.{cases_lt, leb-true, found_count, Piece, Shows}
 use Rattle.std.specs.Prelude.{if◌then◌else◌}
 use Rattle.std.proofs.lemmas.List.{take-append-le, length-append}
 use Rattle.clfs_recover.proofs.Pieces.{shown_front}

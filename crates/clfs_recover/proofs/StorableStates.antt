@@ -1,7 +1,7 @@
 -- The state of parts that opening finds is one that files can hold, and its own flushed part.
-use Rattle.clfs_recover.proofs.Words.{◌≡◌, inl, inr, ℕ, ◌-◌, ◌<◌, ◌≤◌, true, ltb, [], length, None, refl, sym, subst, arith, All-from_recursion,
-    recursion_from_All, container_of, offset_of, frontier, FitsAt, LogEntry, Files, AreReadAsWritten, BaseImage, State, Stream, name_fault, before_all,
-    behind_all, IsValid, base_with, state_of, StandsFor, Parts}
+use Rattle.clfs_recover.proofs.Words.{◌≡◌, inl, inr, ℕ, ◌-◌, ◌<◌, ◌≤◌, true, ltb, [], length, None, refl, sym, subst, arith, All-from_recursion}
+use Rattle.clfs_recover.proofs.Words.{recursion_from_All, container_of, offset_of, frontier, FitsAt, LogEntry, Files, AreReadAsWritten, BaseImage, State}
+use Rattle.clfs_recover.proofs.Words.{Stream, name_fault, before_all, behind_all, IsValid, base_with, state_of, StandsFor, Parts}
 use Rattle.std.proofs.lemmas.Bool.{lt-ltb}
 use Rattle.clfs_model.specs.Flush.{flushed, cut}
 use Rattle.clfs_model.specs.Storable.{GoesOnAt, HasMovedBase, IsAreaWithinLimits, IsStorable}

@@ -1,9 +1,9 @@
 -- Logs as copies and blocks, and the files that they are found in.
-use Rattle.clfs_recover.proofs.Words.{◌≡◌, inl, inr, ℕ, ◌+◌, ◌-◌, ◌<◌, ◌≤◌, Bool, true, false, cond, ltb, ◌&&◌, ◌||◌, List, [], length, map, Option, Some,
-    None, Ok, refl, sym, ◌∙◌, ap, subst, arith, position, position_or_len, option_map, option_or, cases_Bool, le-ltb, or_from, position_or_len_is,
-    container_of, frontier, LogEntry, Files, AreReadAsWritten, BaseImage, Row, layout_of, row_place, row_in, told, Container, shape_of, last_end, high_row,
-    is_wrong_tail, image_fault, parts_with, Finds, StandsFor, HaveBlocks, HasLog, stored_records, stored_end, stored_parts, IsLogWith, IsStoredIn,
-    stored_state, Parts}
+use Rattle.clfs_recover.proofs.Words.{◌≡◌, inl, inr, ℕ, ◌+◌, ◌-◌, ◌<◌, ◌≤◌, Bool, true, false, cond, ltb, ◌&&◌, ◌||◌, List, [], length, map, Option, Some}
+use Rattle.clfs_recover.proofs.Words.{None, Ok, refl, sym, ◌∙◌, ap, subst, arith, position, position_or_len, option_map, option_or, cases_Bool, le-ltb}
+use Rattle.clfs_recover.proofs.Words.{or_from, position_or_len_is, container_of, frontier, LogEntry, Files, AreReadAsWritten, BaseImage, Row, layout_of}
+use Rattle.clfs_recover.proofs.Words.{row_place, row_in, told, Container, shape_of, last_end, high_row, is_wrong_tail, image_fault, parts_with, Finds}
+use Rattle.clfs_recover.proofs.Words.{StandsFor, HaveBlocks, HasLog, stored_records, stored_end, stored_parts, IsLogWith, IsStoredIn, stored_state, Parts}
 use Rattle.clfs_recover.specs.Logs.{FitsUpTo}
 use Rattle.clfs_recover.proofs.CleanEnds.{open_in, listed_whole, listed_by_file, each_whole, blocks_within}
 use Rattle.clfs_recover.proofs.FoundParts.{AreImagesRead, IsFoundIn, found_in, both_none, rows_below, tail_within}

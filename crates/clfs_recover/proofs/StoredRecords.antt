@@ -1,6 +1,7 @@
 -- The records that are read of stored blocks: their LSNs rise, block by block and container by container, and each fits its own.
-use Rattle.clfs_recover.proofs.Words.{◌≡◌, ℕ, ◌+◌, ◌*◌, ◌≤◌, List, [], ◌∷◌, ◌++◌, length, Ok, refl, sym, subst, arith, AllByRecursion, lsn_number, IsShape,
-    FitsAt, LogEntry, Shape, total, AreReadAsWritten, ◌>>=◌, told_as, block_records, damage_at, FitFrom, stored_in, stored_records}
+use Rattle.clfs_recover.proofs.Words.{◌≡◌, ℕ, ◌+◌, ◌*◌, ◌≤◌, List, [], ◌∷◌, ◌++◌, length, Ok, refl, sym, subst, arith, AllByRecursion, lsn_number, IsShape}
+use Rattle.clfs_recover.proofs.Words.{FitsAt, LogEntry, Shape, total, AreReadAsWritten, ◌>>=◌, told_as, block_records, damage_at, FitFrom, stored_in}
+use Rattle.clfs_recover.proofs.Words.{stored_records}
 use Rattle.clfs_recover.proofs.Binding.{read, bound, one_value, told_value}
 use Rattle.clfs_recover.proofs.LaidBlocks.{RiseWithin, FitTheirs, rise_both, fit_both}
 use Rattle.clfs_recover.proofs.ReadBlocks.{ReadsFit, block_read}

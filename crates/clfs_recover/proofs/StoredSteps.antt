@@ -1,8 +1,9 @@
 -- A log with a group of blocks more, and with a container more.
-use Rattle.clfs_recover.proofs.Words.{◌≡◌, ◌≢◌, ℕ, suc, ◌+◌, ◌-◌, ◌*◌, ◌<◌, ◌≤◌, cond, eqb, List, [], ◌∷◌, ◌++◌, length, get_or, take, map, None, Ok, refl,
-    sym, ◌∙◌, ap, subst, arith, length-append, All, eq-eqb, ne_eqb, cond-true, take_more, take_all, take_at, length-take, get_or-take, get_or-map, map-append,
-    length-map, All-push, All-append, All-take, frontier, LogEntry, Place, total, BaseImage, IsImage, shape_of, image_fault, stored_in, stored_records,
-    stored_end, stored_place, IsLogWith, HaveMore, HaveEmpty, file_at_end}
+use Rattle.clfs_recover.proofs.Words.{◌≡◌, ◌≢◌, ℕ, suc, ◌+◌, ◌-◌, ◌*◌, ◌<◌, ◌≤◌, cond, eqb, List, [], ◌∷◌, ◌++◌, length, get_or, take, map, None, Ok, refl}
+use Rattle.clfs_recover.proofs.Words.{sym, ◌∙◌, ap, subst, arith, length-append, All, eq-eqb, ne_eqb, cond-true, take_more, take_all, take_at, length-take}
+use Rattle.clfs_recover.proofs.Words.{get_or-take, get_or-map, map-append, length-map, All-push, All-append, All-take, frontier, LogEntry, Place, total}
+use Rattle.clfs_recover.proofs.Words.{BaseImage, IsImage, shape_of, image_fault, stored_in, stored_records, stored_end, stored_place, IsLogWith, HaveMore}
+use Rattle.clfs_recover.proofs.Words.{HaveEmpty, file_at_end}
 use Rattle.std.proofs.lemmas.Bool.{cond-false}
 use Rattle.clfs_recover.proofs.ReadStored.{total-append, read_in_last, read_with_empty, end_of_last}
 use Rattle.clfs_recover.proofs.StoredLogs.{fault_fits, fits_right}

@@ -1,10 +1,11 @@
 -- Blocks that the walk has taken in, one after the other, whatever the disk told.
-use Rattle.clfs_recover.proofs.Words.{◌≡◌, inl, inr, ⊎_elim, ℕ, ◌+◌, ◌-◌, ◌*◌, ◌/◌, ◌%◌, ◌<◌, ◌≤◌, cond, List, [], ◌∷◌, ◌++◌, length, take, drop, Some, None,
-    Result, Ok, Err, refl, sym, ◌∙◌, ap, subst, arith, append_assoc, append-nil, length-take-le, take-take, get_or-take, get_or_past, drop-drop, cases_lt,
-    lt-leb, lsn_number, IsShape, LogEntry, Shape, block_sectors, BeginsWith, Opens, Ends, EndsCleanly, AreOpen, total, Row, AreBytes, left_from, frame_at,
-    IsEnough, AreJudgedAlone, AreReadAsWritten, BlockHead, BlockRefusal, block_refused, block_same, told_as, block_records, damage_at, end_at, blocks_end,
-    blocks_records, container_records, stored_in, LieIn, HasTaken, GathersBlock, RefusesAs, TakesContainer, IsFrontOf, LoadRefusal, NoBase, Damaged, DiskFault,
-    NoMemory}
+use Rattle.clfs_recover.proofs.Words.{◌≡◌, inl, inr, ⊎_elim, ℕ, ◌+◌, ◌-◌, ◌*◌, ◌/◌, ◌%◌, ◌<◌, ◌≤◌, cond, List, [], ◌∷◌, ◌++◌, length, take, drop, Some, None}
+use Rattle.clfs_recover.proofs.Words.{Result, Ok, Err, refl, sym, ◌∙◌, ap, subst, arith, append_assoc, append-nil, length-take-le, take-take, get_or-take}
+use Rattle.clfs_recover.proofs.Words.{get_or_past, drop-drop, cases_lt, lt-leb, lsn_number, IsShape, LogEntry, Shape, block_sectors, BeginsWith, Opens, Ends}
+use Rattle.clfs_recover.proofs.Words.{EndsCleanly, AreOpen, total, Row, AreBytes, left_from, frame_at, IsEnough, AreJudgedAlone, AreReadAsWritten, BlockHead}
+use Rattle.clfs_recover.proofs.Words.{BlockRefusal, block_refused, block_same, told_as, block_records, damage_at, end_at, blocks_end, blocks_records}
+use Rattle.clfs_recover.proofs.Words.{container_records, stored_in, LieIn, HasTaken, GathersBlock, RefusesAs, TakesContainer, IsFrontOf, LoadRefusal, NoBase}
+use Rattle.clfs_recover.proofs.Words.{Damaged, DiskFault, NoMemory}
 use Rattle.clfs_block.specs.Checks.{HasFrame}
 use Rattle.clfs_block.specs.declared.head.BlockRefusal.TheVariants as blocks
 use Rattle.clfs_recover.proofs.Joined.{Records, joined, joined_nil, joined_assoc}

@@ -1,7 +1,7 @@
 -- Of which bytes damage is told when a log is opened.
-use Rattle.clfs_recover.proofs.Words.{◌≡◌, inr, ℕ, ◌+◌, ◌*◌, ◌%◌, ◌<◌, List, [], take, Ok, Err, refl, sym, ◌∙◌, subst, arith, lsn_number, IsShape, LogEntry,
-    Shape, BaseImage, Row, NewestRefusal, AreJudgedAlone, AreReadAsWritten, block_records, block_same, without_copy, GathersBlock, TellsBlock, TellsBehind,
-    TellsOpening, LoadRefusal, NoBase, Damaged, DiskFault, NoMemory}
+use Rattle.clfs_recover.proofs.Words.{◌≡◌, inr, ℕ, ◌+◌, ◌*◌, ◌%◌, ◌<◌, List, [], take, Ok, Err, refl, sym, ◌∙◌, subst, arith, lsn_number, IsShape, LogEntry}
+use Rattle.clfs_recover.proofs.Words.{Shape, BaseImage, Row, NewestRefusal, AreJudgedAlone, AreReadAsWritten, block_records, block_same, without_copy}
+use Rattle.clfs_recover.proofs.Words.{GathersBlock, TellsBlock, TellsBehind, TellsOpening, LoadRefusal, NoBase, Damaged, DiskFault, NoMemory}
 use Rattle.std.proofs.Common.{length-take}
 use Rattle.clfs_base.specs.declared.refusal.NewestRefusal.TheVariants as newest
 use Rattle.clfs_base.specs.Reading.{IsReadCopy}

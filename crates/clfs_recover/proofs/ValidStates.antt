@@ -1,7 +1,8 @@
 -- The state of parts that opening finds is one that a log can have.
-use Rattle.clfs_recover.proofs.Words.{◌≡◌, inl, inr, ℕ, ◌<◌, ◌≤◌, Bool, true, false, cond, eqb, leb, List, [], length, get_or, map, Option, Some, None, refl,
-    sym, ◌∙◌, ap, subst, arith, All, AllByRecursion, option_to_list, cases_Bool, eq-eqb, eqb-true, eqb-false, All-from_recursion, lsn_number, sequence_of,
-    IsWithin, frontier, FitsAt, LogEntry, Restart, BaseImage, IsImage, State, Stream, IsValid, shape_of, base_with, state_of, Parts}
+use Rattle.clfs_recover.proofs.Words.{◌≡◌, inl, inr, ℕ, ◌<◌, ◌≤◌, Bool, true, false, cond, eqb, leb, List, [], length, get_or, map, Option, Some, None, refl}
+use Rattle.clfs_recover.proofs.Words.{sym, ◌∙◌, ap, subst, arith, All, AllByRecursion, option_to_list, cases_Bool, eq-eqb, eqb-true, eqb-false}
+use Rattle.clfs_recover.proofs.Words.{All-from_recursion, lsn_number, sequence_of, IsWithin, frontier, FitsAt, LogEntry, Restart, BaseImage, IsImage, State}
+use Rattle.clfs_recover.proofs.Words.{Stream, IsValid, shape_of, base_with, state_of, Parts}
 use Rattle.std.specs.Prelude.{IfSome}
 use Rattle.std.specs.List.{range_with_len}
 use Rattle.std.proofs.lemmas.Bool.Decides.{nat_tests}

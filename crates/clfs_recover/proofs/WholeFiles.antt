@@ -1,6 +1,6 @@
 -- The test tells that files are at full length.
-use Rattle.clfs_recover.proofs.Words.{inl, inr, ◌≡◌, ℕ, zero, suc, ◌+◌, ◌*◌, ◌≤◌, ◌<◌, Bool, true, false, refl, sym, ap, subst, ◌∙◌, List, length, arith,
-    nat_le, cases_lt, Files, BaseImage, NewestRefusal, newest_of}
+use Rattle.clfs_recover.proofs.Words.{inl, inr, ◌≡◌, ℕ, zero, suc, ◌+◌, ◌*◌, ◌≤◌, ◌<◌, Bool, true, false, refl, sym, ap, subst, ◌∙◌, List, length, arith}
+use Rattle.clfs_recover.proofs.Words.{nat_le, cases_lt, Files, BaseImage, NewestRefusal, newest_of}
 use Rattle.std.specs.Prelude.{◌&&◌, ◌⊎◌, Result, Ok, Err}
 use Rattle.clfs_lsn.specs.Format.{sector_bytes}
 use Rattle.clfs_base.specs.Layout.{slot_bytes}

@@ -1,12 +1,13 @@
 -- The words that the proofs here use, passed on from one place. Declares nothing.
-pub use Rattle.std.proofs.Common.{[], ap, append_assoc, arith, Bool, cond, drop, eqb, Err, false, get_or, get_or-set_other, get_or-set_same, inl, inr, leb,
-    length, length-append, length-drop, length-set, List, ltb, map, max, None, not, Ok, Option, refl, Result, set, Some, subst, suc, sym, take,
-    take-append-drop, true, vec_len, zero, ℕ, ⊎_elim, ◌%◌, ◌&&◌, ◌*◌, ◌++◌, ◌+◌, ◌-◌, ◌/◌, ◌<◌, ◌^◌, ◌||◌, ◌∙◌, ◌∷◌, ◌≡◌, ◌≢◌, ◌≤◌, ◌⊎◌}
+pub use Rattle.std.proofs.Common.{[], ap, append_assoc, arith, Bool, cond, drop, eqb, Err, false, get_or, get_or-set_other, get_or-set_same, inl, inr, leb}
+pub use Rattle.std.proofs.Common.{length, length-append, length-drop, length-set, List, ltb, map, max, None, not, Ok, Option, refl, Result, set, Some, subst}
+pub use Rattle.std.proofs.Common.{suc, sym, take, take-append-drop, true, vec_len, zero, ℕ, ⊎_elim, ◌%◌, ◌&&◌, ◌*◌, ◌++◌, ◌+◌, ◌-◌, ◌/◌, ◌<◌, ◌^◌, ◌||◌, ◌∙◌}
+pub use Rattle.std.proofs.Common.{◌∷◌, ◌≡◌, ◌≢◌, ◌≤◌, ◌⊎◌}
 pub use Rattle.std.proofs.Math.Seq.{get_or-append_seam}
-pub use Rattle.std.proofs.lemmas.Bool.{cases_Bool, cases_eq, cases_lt, cond-true, eq-eqb, eqb-false, eqb-true, le-leb, le-ltb, leb-true, lt-leb, ltb-false,
-    ne_eqb, or_from, or_parts}
-pub use Rattle.std.proofs.lemmas.List.{append-nil, drop-drop, drop-take, drop_all, drop_at, ext_get_or, get_or-map, get_or-take, get_or_append_left,
-    get_or_past, length-map, length-take, length-take-le, map-append, take-take, take_all, take_at, take_more}
+pub use Rattle.std.proofs.lemmas.Bool.{cases_Bool, cases_eq, cases_lt, cond-true, eq-eqb, eqb-false, eqb-true, le-leb, le-ltb, leb-true, lt-leb, ltb-false}
+pub use Rattle.std.proofs.lemmas.Bool.{ne_eqb, or_from, or_parts}
+pub use Rattle.std.proofs.lemmas.List.{append-nil, drop-drop, drop-take, drop_all, drop_at, ext_get_or, get_or-map, get_or-take, get_or_append_left}
+pub use Rattle.std.proofs.lemmas.List.{get_or_past, length-map, length-take, length-take-le, map-append, take-take, take_all, take_at, take_more}
 pub use Rattle.std.proofs.lemmas.List.Elements.{All-append, All-from_recursion, All-nil, All-push, All-take, All-weaker, filter-append, recursion_from_All}
 pub use Rattle.std.proofs.lemmas.List.FromFn.{length-map-range_with_len}
 pub use Rattle.std.proofs.lemmas.List.Sums.{fold-append, position_or_len_is}
@@ -65,8 +66,8 @@ pub use Rattle.clfs_recover.specs.Logs.{file_at_end, HaveEmpty, HaveMore, IsLogW
 pub use Rattle.clfs_recover.specs.Opening.{parts_of}
 pub use Rattle.clfs_recover.specs.Stored.{FitFrom, HasLog, HasRecords, HaveBlocks, stored_end, stored_in, stored_parts, stored_place, stored_records}
 pub use Rattle.clfs_recover.specs.Telling.{TellsBehind, TellsBlock, TellsOpening}
-pub use Rattle.clfs_recover.specs.Walk.{base_with, bases_with, blocks_end, blocks_records, Container, container_records, damage_at, end_at, high_row,
-    image_fault, is_wrong_tail, last_end, listed_records, parts_with, place_behind, shape_of, slot_offset, walked}
+pub use Rattle.clfs_recover.specs.Walk.{base_with, bases_with, blocks_end, blocks_records, Container, container_records, damage_at, end_at, high_row}
+pub use Rattle.clfs_recover.specs.Walk.{image_fault, is_wrong_tail, last_end, listed_records, parts_with, place_behind, shape_of, slot_offset, walked}
 pub use Rattle.clfs_recover.specs.declared.opening.Walked.{Walked}
 pub use Rattle.clfs_recover.specs.declared.parts.Parts.{Parts}
 pub use Rattle.clfs_recover.specs.declared.refusal.LoadRefusal.{LoadRefusal}

@@ -1,7 +1,8 @@
 -- Blocks that were written are read.
-use Rattle.clfs_recover.proofs.Words.{◌≡◌, ℕ, ◌+◌, ◌^◌, ◌<◌, ◌≤◌, Bool, cond, List, [], ◌∷◌, ◌++◌, length, drop, Result, Ok, Err, refl, sym, ◌∙◌, ap, subst,
-    arith, length-append, length-drop, flat_map, append-nil, drop_at, drop-drop, eq-eqb, size, FitsAt, record_bytes, record_at, LogEntry, Shape, payload_of,
-    frame_at, rest_at, AreReadAsWritten, BlockHead, records_from, block_records, FitFrom, HasRecords, block_read}
+use Rattle.clfs_recover.proofs.Words.{◌≡◌, ℕ, ◌+◌, ◌^◌, ◌<◌, ◌≤◌, Bool, cond, List, [], ◌∷◌, ◌++◌, length, drop, Result, Ok, Err, refl, sym, ◌∙◌, ap, subst}
+use Rattle.clfs_recover.proofs.Words.{arith, length-append, length-drop, flat_map, append-nil, drop_at, drop-drop, eq-eqb, size, FitsAt, record_bytes}
+use Rattle.clfs_recover.proofs.Words.{record_at, LogEntry, Shape, payload_of, frame_at, rest_at, AreReadAsWritten, BlockHead, records_from, block_records}
+use Rattle.clfs_recover.proofs.Words.{FitFrom, HasRecords, block_read}
 use Rattle.clfs_block.specs.Frame.{used_bytes, used_payload}
 use Rattle.clfs_block.specs.Checks.{head_for}
 use Rattle.clfs_block.specs.RecordLaws.{behind, record_taken}

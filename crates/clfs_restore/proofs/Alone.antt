@@ -1,6 +1,6 @@
 -- What is restored of one archive alone.
-use Rattle.clfs_restore.proofs.Words.{◌≡◌, ℕ, List, [], ◌∷◌, Option, Some, None, Result, Ok, sym, ◌∙◌, ap, subst, Files, State, StandsFor, Archive,
-    InputRefusal, archives_in, joined, chosen, restored, StandForRestored}
+use Rattle.clfs_restore.proofs.Words.{◌≡◌, ℕ, List, [], ◌∷◌, Option, Some, None, Result, Ok, sym, ◌∙◌, ap, subst, Files, State, StandsFor, Archive}
+use Rattle.clfs_restore.proofs.Words.{InputRefusal, archives_in, joined, chosen, restored, StandForRestored}
 
 read_right : List Archive → Result (List Archive) ℕ
 read_right archives = Ok archives

@@ -1,7 +1,8 @@
 -- The bytes of an archive by its parts, and which log they are of.
-use Rattle.clfs_restore.proofs.Words.{◌≡◌, ℕ, zero, suc, ◌+◌, ◌-◌, min, Bool, true, false, List, [], ◌∷◌, ◌++◌, length, drop, map, Some, None, Result, Ok,
-    refl, sym, ◌∙◌, ap, append_assoc, arith, flat_map, little_bytes, container_of, Files, DiskState, TellsContents, BaseImage, NewestRefusal, newest_of,
-    spelled, State, archived_image, piece_bytes, archive_bytes, archived_pieces, front_bytes, pieces_from, ArchiveRefusal, Log, TooLong, NoMemory}
+use Rattle.clfs_restore.proofs.Words.{◌≡◌, ℕ, zero, suc, ◌+◌, ◌-◌, min, Bool, true, false, List, [], ◌∷◌, ◌++◌, length, drop, map, Some, None, Result, Ok}
+use Rattle.clfs_restore.proofs.Words.{refl, sym, ◌∙◌, ap, append_assoc, arith, flat_map, little_bytes, container_of, Files, DiskState, TellsContents}
+use Rattle.clfs_restore.proofs.Words.{BaseImage, NewestRefusal, newest_of, spelled, State, archived_image, piece_bytes, archive_bytes, archived_pieces}
+use Rattle.clfs_restore.proofs.Words.{front_bytes, pieces_from, ArchiveRefusal, Log, TooLong, NoMemory}
 use Rattle.std.specs.Prelude.{if◌then◌else◌}
 use Rattle.std.proofs.lemmas.List.{drop-map}
 use Rattle.clfs_model.specs.declared.refusal.Refusal.TheVariants as refusals

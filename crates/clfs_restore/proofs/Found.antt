@@ -1,6 +1,7 @@
 -- What was read of a file: the bytes that are there, as many as there is room for; and the newest copy in those of the base file.
-use Rattle.clfs_restore.proofs.Words.{◌≡◌, ℕ, zero, suc, ◌-◌, ◌≤◌, min, List, [], ◌∷◌, length, take, drop, Some, None, Result, Ok, Err, refl, sym, ◌∙◌, ap,
-    arith, take-take, drop-take, GivesCopy, ArchiveRefusal, Log, TooLong, NoMemory, BaseImage, NewestRefusal, image_at, slot_of, copy_in, newest_of}
+use Rattle.clfs_restore.proofs.Words.{◌≡◌, ℕ, zero, suc, ◌-◌, ◌≤◌, min, List, [], ◌∷◌, length, take, drop, Some, None, Result, Ok, Err, refl, sym, ◌∙◌, ap}
+use Rattle.clfs_restore.proofs.Words.{arith, take-take, drop-take, GivesCopy, ArchiveRefusal, Log, TooLong, NoMemory, BaseImage, NewestRefusal, image_at}
+use Rattle.clfs_restore.proofs.Words.{slot_of, copy_in, newest_of}
 use Rattle.clfs_model.specs.declared.refusal.Refusal.TheVariants as refusals
 use Rattle.clfs_base.specs.declared.refusal.NewestRefusal.TheVariants as newest
 use Rattle.clfs_base.specs.Layout.{layout_in}

@@ -1,6 +1,6 @@
 -- A container's front, as it was read: its open blocks are those of its file.
-use Rattle.clfs_restore.proofs.Words.{⊎_elim, inl, inr, ◌≡◌, ◌≢◌, ℕ, zero, suc, ◌+◌, ◌-◌, ◌*◌, ◌<◌, ◌≤◌, List, [], ◌∷◌, ◌++◌, length, take, drop, get_or, refl,
-    sym, ◌∙◌, ap, subst, arith, flat_map, drop-take, take-take, length-take, length-take-le, AreWhole, total}
+use Rattle.clfs_restore.proofs.Words.{⊎_elim, inl, inr, ◌≡◌, ◌≢◌, ℕ, zero, suc, ◌+◌, ◌-◌, ◌*◌, ◌<◌, ◌≤◌, List, [], ◌∷◌, ◌++◌, length, take, drop, get_or}
+use Rattle.clfs_restore.proofs.Words.{refl, sym, ◌∙◌, ap, subst, arith, flat_map, drop-take, take-take, length-take, length-take-le, AreWhole, total}
 use Rattle.std.proofs.Math.Seq.{take-add}
 use Rattle.std.proofs.lemmas.List.{get_or-take}
 use Rattle.clfs_container.specs.OpenBlocks.{block_sectors, BeginsWith, Opens, EndsCleanly}

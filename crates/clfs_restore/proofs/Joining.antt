@@ -1,6 +1,7 @@
 -- Parts of archiving one after the other, by how they leave the log and its disk.
-use Rattle.clfs_restore.proofs.Words.{◌≡◌, ℕ, ◌≤◌, Option, Some, None, Err, List, refl, sym, ◌∙◌, ap, subst, arith, Unchanged, DiskState, Nature,
-    TellsContents, IsSteady, Passes, Rises, with_broken, State, LoadRefusal, Reads, GoesOn, refused_as, ArchiveRefusal, Log, TooLong, NoMemory}
+use Rattle.clfs_restore.proofs.Words.{◌≡◌, ℕ, ◌≤◌, Option, Some, None, Err, List, refl, sym, ◌∙◌, ap, subst, arith, Unchanged, DiskState, Nature}
+use Rattle.clfs_restore.proofs.Words.{TellsContents, IsSteady, Passes, Rises, with_broken, State, LoadRefusal, Reads, GoesOn, refused_as, ArchiveRefusal, Log}
+use Rattle.clfs_restore.proofs.Words.{TooLong, NoMemory}
 use Rattle.std.proofs.Common.{IsTrue}
 use Rattle.clfs_model.specs.declared.refusal.Refusal.TheVariants as refusals
 use Rattle.clfs_recover.specs.declared.refusal.LoadRefusal.TheVariants as loading

@@ -1,7 +1,7 @@
 -- What the files of a restored log's containers hold.
-use Rattle.clfs_restore.proofs.Words.{inl, inr, ⊎_elim, ◌≡◌, ◌≢◌, ◌⊎◌, ℕ, ◌+◌, ◌-◌, ◌*◌, ◌<◌, ◌≤◌, List, [], ◌∷◌, ◌++◌, length, drop, get_or, Option, Some,
-    None, Result, Ok, Err, refl, sym, ◌∙◌, ap, subst, append_assoc, arith, container_of, LogEntry, Shape, Files, AreWhole, total, stored_in, shape_of,
-    LoadRefusal, Archive, below, HoldsKept, IsPiece, AreFilled}
+use Rattle.clfs_restore.proofs.Words.{inl, inr, ⊎_elim, ◌≡◌, ◌≢◌, ◌⊎◌, ℕ, ◌+◌, ◌-◌, ◌*◌, ◌<◌, ◌≤◌, List, [], ◌∷◌, ◌++◌, length, drop, get_or, Option, Some}
+use Rattle.clfs_restore.proofs.Words.{None, Result, Ok, Err, refl, sym, ◌∙◌, ap, subst, append_assoc, arith, container_of, LogEntry, Shape, Files, AreWhole}
+use Rattle.clfs_restore.proofs.Words.{total, stored_in, shape_of, LoadRefusal, Archive, below, HoldsKept, IsPiece, AreFilled}
 use Rattle.std.proofs.Common.{append-nil}
 use Rattle.std.specs.Option.{option_map_or}
 use Rattle.std.proofs.Math.ListN.{get_or-append}

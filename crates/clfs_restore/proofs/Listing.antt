@@ -1,7 +1,7 @@
 -- What asking for the parts that are to be archived says of a log: archiving is off just where it is refused for that.
-use Rattle.clfs_restore.proofs.Words.{MatchBool, MatchOption, IsTrue, inl, inr, ⊎_elim, ◌≡◌, ◌⊎◌, ℕ, Bool, true, false, Option, Some, None, refl, ap, subst,
-    List, Refusal, Happened, Fine, Fault, Damage, Reply, State, answer, flushed, happened_of_refusal, refused_if, Step, Goes, Comes, IsBroken, IsOutOfMemory,
-    Log, NoMemory}
+use Rattle.clfs_restore.proofs.Words.{MatchBool, MatchOption, IsTrue, inl, inr, ⊎_elim, ◌≡◌, ◌⊎◌, ℕ, Bool, true, false, Option, Some, None, refl, ap, subst}
+use Rattle.clfs_restore.proofs.Words.{List, Refusal, Happened, Fine, Fault, Damage, Reply, State, answer, flushed, happened_of_refusal, refused_if, Step}
+use Rattle.clfs_restore.proofs.Words.{Goes, Comes, IsBroken, IsOutOfMemory, Log, NoMemory}
 use Rattle.std.specs.Prelude.{is_none}
 use Rattle.clfs_model.specs.declared.call.Call.TheVariants as calls
 use Rattle.clfs_model.specs.declared.refusal.Refusal.TheVariants as refusals

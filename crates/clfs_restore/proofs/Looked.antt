@@ -1,12 +1,13 @@
 -- What restoring comes to after reads of the disk.
-use Rattle.clfs_restore.proofs.Words.{inl, inr, ⊎_elim, ◌≡◌, ℕ, ◌≤◌, List, length, Option, None, sym, ap, subst, ◌∙◌, Unchanged, DiskState, IsSettled,
-    IsSteady, Leaves, Passes, Rises, open_slot_of, RestoreRefusal, StandForRestored, GrowsBase, base_bytes, IsFreeCause, IsRestoreCause}
+use Rattle.clfs_restore.proofs.Words.{inl, inr, ⊎_elim, ◌≡◌, ℕ, ◌≤◌, List, length, Option, None, sym, ap, subst, ◌∙◌, Unchanged, DiskState, IsSettled}
+use Rattle.clfs_restore.proofs.Words.{IsSteady, Leaves, Passes, Rises, open_slot_of, RestoreRefusal, StandForRestored, GrowsBase, base_bytes, IsFreeCause}
+use Rattle.clfs_restore.proofs.Words.{IsRestoreCause}
 use Rattle.clfs_restore.specs.declared.refusal.RestoreRefusal.TheVariants as refusals
 use Rattle.clfs_restore.specs.Outcomes.{NoneOrRestored, RestoresLog, RefusesRestoring, ReadsComeFirst}
 use Rattle.clfs_restore.specs.Restoring.{RestoresAtOnce}
 use Rattle.clfs_restore.proofs.Made.{none_open, told_cause}
-use Rattle.clfs_restore.proofs.Moments.{no_copy_same, still_settled, passes_then, reads_grow, reads_leave, once_after_reads, grows_after_reads,
-    leaves_after_reads, later_from, later_then, tells_still, honest_still, steady_still, rises_still}
+use Rattle.clfs_restore.proofs.Moments.{no_copy_same, still_settled, passes_then, reads_grow, reads_leave, once_after_reads, grows_after_reads}
+use Rattle.clfs_restore.proofs.Moments.{leaves_after_reads, later_from, later_then, tells_still, honest_still, steady_still, rises_still}
 
 module _ (bytes : List ℕ) (up_to : Option ℕ) (old mid new : DiskState) (same : Unchanged old.files mid.files) (reads : Passes Unchanged old mid) where
   -- no slot was open then either

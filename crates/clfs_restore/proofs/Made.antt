@@ -1,8 +1,8 @@
 -- What restoring leaves once its base copy is written, and why it is refused for what its input is.
-use Rattle.clfs_restore.proofs.Words.{inl, inr, ⊎_elim, ◌≡◌, ◌⊎◌, ℕ, zero, suc, ◌*◌, ◌≤◌, Bool, true, false, ltb, ◌||◌, List, length, Option, Some, None,
-    Result, Ok, Err, refl, sym, subst, arith, lsn_number, container_of, Files, DiskState, BaseImage, is_open_slot, HasNoCopy, NoneOrFirst, StandsFor,
-    open_slot_of, Archive, InputRefusal, archives_in, joined, chosen, restored, restored_copy, base_bytes, StandForRestored, AreFilled, IsFreeCause,
-    IsRestoreCause, IsOfMaking, RestoreRefusal}
+use Rattle.clfs_restore.proofs.Words.{inl, inr, ⊎_elim, ◌≡◌, ◌⊎◌, ℕ, zero, suc, ◌*◌, ◌≤◌, Bool, true, false, ltb, ◌||◌, List, length, Option, Some, None}
+use Rattle.clfs_restore.proofs.Words.{Result, Ok, Err, refl, sym, subst, arith, lsn_number, container_of, Files, DiskState, BaseImage, is_open_slot}
+use Rattle.clfs_restore.proofs.Words.{HasNoCopy, NoneOrFirst, StandsFor, open_slot_of, Archive, InputRefusal, archives_in, joined, chosen, restored}
+use Rattle.clfs_restore.proofs.Words.{restored_copy, base_bytes, StandForRestored, AreFilled, IsFreeCause, IsRestoreCause, IsOfMaking, RestoreRefusal}
 use Rattle.std.proofs.Common.{cond}
 use Rattle.clfs_base.specs.Writing.{HasNewest}
 use Rattle.clfs_recover.specs.Files.{AreWholeFiles}

@@ -1,7 +1,7 @@
 -- What a crash leaves of restoring, call by call.
-use Rattle.clfs_restore.proofs.Words.{inl, inr, ⊎_elim, ◌≡◌, ◌⊎◌, ℕ, zero, suc, ◌<◌, ◌≤◌, eqb, List, length, get_or, refl, sym, ◌∙◌, ap, subst, arith, IsTrue,
-    cases_lt, Files, Unchanged, GrownIn, DiskState, Nature, TellsContents, IsSteady, IsSettled, Passes, Leaves, Rises, is_open_slot, HasNoCopy, BaseStays,
-    base_bytes, GrowsBase, ComesAtOnce}
+use Rattle.clfs_restore.proofs.Words.{inl, inr, ⊎_elim, ◌≡◌, ◌⊎◌, ℕ, zero, suc, ◌<◌, ◌≤◌, eqb, List, length, get_or, refl, sym, ◌∙◌, ap, subst, arith, IsTrue}
+use Rattle.clfs_restore.proofs.Words.{cases_lt, Files, Unchanged, GrownIn, DiskState, Nature, TellsContents, IsSteady, IsSettled, Passes, Leaves, Rises}
+use Rattle.clfs_restore.proofs.Words.{is_open_slot, HasNoCopy, BaseStays, base_bytes, GrowsBase, ComesAtOnce}
 use Rattle.clfs_disk.specs.Files.{Grown, TornIn}
 use Rattle.clfs_disk.specs.State.{IsHonest, MayLeave, Later}
 use Rattle.clfs_format.specs.Making.{KnowsLengths}

@@ -1,8 +1,9 @@
 -- What moving the archive tail says of a log in which archiving is on: the tail is there, or the disk failed; and a tail above the flushed LSN is refused
 -- by telling that one.
-use Rattle.clfs_restore.proofs.Words.{MatchBool, MatchOption, IsTrue, inl, inr, ⊎_elim, ◌≡◌, ◌⊎◌, ℕ, ◌<◌, ◌≤◌, Bool, true, false, ltb, ◌||◌, Option, Some,
-    None, refl, ◌∙◌, ap, subst, arith, cases_lt, Refusal, Happened, Fine, Fault, Damage, Reply, State, answer, flushed, happened_of_refusal, refused_if,
-    tail_refusal, Step, Goes, Comes, IsBroken, IsOutOfMemory, with_broken, DiskState, WritesDisk}
+use Rattle.clfs_restore.proofs.Words.{MatchBool, MatchOption, IsTrue, inl, inr, ⊎_elim, ◌≡◌, ◌⊎◌, ℕ, ◌<◌, ◌≤◌, Bool, true, false, ltb, ◌||◌, Option, Some}
+use Rattle.clfs_restore.proofs.Words.{None, refl, ◌∙◌, ap, subst, arith, cases_lt, Refusal, Happened, Fine, Fault, Damage, Reply, State, answer, flushed}
+use Rattle.clfs_restore.proofs.Words.{happened_of_refusal, refused_if, tail_refusal, Step, Goes, Comes, IsBroken, IsOutOfMemory, with_broken, DiskState}
+use Rattle.clfs_restore.proofs.Words.{WritesDisk}
 use Rattle.std.specs.Prelude.{IfSome}
 use Rattle.clfs_model.specs.declared.call.Call.TheVariants as calls
 use Rattle.clfs_model.specs.declared.refusal.Refusal.TheVariants as refusals

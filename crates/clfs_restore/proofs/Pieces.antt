@@ -1,7 +1,7 @@
 -- The containers of an archive as they come one after the other.
-use Rattle.clfs_restore.proofs.Words.{◌≡◌, ℕ, zero, suc, ◌+◌, ◌<◌, ◌≤◌, List, [], ◌∷◌, ◌++◌, length, take, drop, map, get_or, Result, Ok, Err, refl, sym, ◌∙◌,
-    ap, subst, arith, flat_map, length-take-le, get_or-drop, length-drop, little_bytes, LogEntry, Shape, Files, AreWhole, total, stored_in, stored_records,
-    LoadRefusal, piece_bytes, AreReadable, pieces_from}
+use Rattle.clfs_restore.proofs.Words.{◌≡◌, ℕ, zero, suc, ◌+◌, ◌<◌, ◌≤◌, List, [], ◌∷◌, ◌++◌, length, take, drop, map, get_or, Result, Ok, Err, refl, sym, ◌∙◌}
+use Rattle.clfs_restore.proofs.Words.{ap, subst, arith, flat_map, length-take-le, get_or-drop, length-drop, little_bytes, LogEntry, Shape, Files, AreWhole}
+use Rattle.clfs_restore.proofs.Words.{total, stored_in, stored_records, LoadRefusal, piece_bytes, AreReadable, pieces_from}
 use Rattle.std.specs.List.{range_with_len, zip}
 use Rattle.std.proofs.Math.Seq.{take-suc}
 use Rattle.std.proofs.lemmas.Grind.{flat_map-append}

@@ -1,7 +1,8 @@
 -- By what bytes damage is told that archiving meets.
-use Rattle.clfs_restore.proofs.Words.{inl, inr, ◌≡◌, ◌⊎◌, ℕ, ◌+◌, ◌-◌, ◌*◌, ◌<◌, ◌≤◌, Bool, eqb, ltb, ◌||◌, List, [], ◌∷◌, length, take, drop, Result, Ok, Err,
-    refl, sym, ◌∙◌, ap, subst, arith, length-drop, length-take, lsn_number, Shape, BaseImage, Front, NewestRefusal, image_at, copy_in, front_of, slot_by,
-    slot_of, shape_of, LoadRefusal, archived_image, TellsArchived, TellsContainer, refused_as, ArchiveRefusal, Log, TooLong, NoMemory}
+use Rattle.clfs_restore.proofs.Words.{inl, inr, ◌≡◌, ◌⊎◌, ℕ, ◌+◌, ◌-◌, ◌*◌, ◌<◌, ◌≤◌, Bool, eqb, ltb, ◌||◌, List, [], ◌∷◌, length, take, drop, Result, Ok}
+use Rattle.clfs_restore.proofs.Words.{Err, refl, sym, ◌∙◌, ap, subst, arith, length-drop, length-take, lsn_number, Shape, BaseImage, Front, NewestRefusal}
+use Rattle.clfs_restore.proofs.Words.{image_at, copy_in, front_of, slot_by, slot_of, shape_of, LoadRefusal, archived_image, TellsArchived, TellsContainer}
+use Rattle.clfs_restore.proofs.Words.{refused_as, ArchiveRefusal, Log, TooLong, NoMemory}
 use Rattle.std.proofs.lemmas.Bool.{le-ltb}
 use Rattle.clfs_base.specs.declared.refusal.NewestRefusal.TheVariants as newest
 use Rattle.clfs_base.specs.Layout.{slot_bytes}

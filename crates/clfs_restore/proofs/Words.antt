@@ -1,6 +1,7 @@
 -- The words that the proofs here use, passed on from one place. Declares nothing.
-pub use Rattle.std.proofs.Common.{[], ap, append_assoc, arith, Bool, drop, eqb, Err, false, get_or, inl, inr, length, List, ltb, map, min, None, Ok, Option,
-    refl, Result, Some, subst, suc, sym, take, true, vec_len, zero, ℕ, ⊎_elim, ◌*◌, ◌++◌, ◌+◌, ◌-◌, ◌<◌, ◌||◌, ◌∙◌, ◌∷◌, ◌≡◌, ◌≢◌, ◌≤◌, ◌⊎◌}
+pub use Rattle.std.proofs.Common.{[], ap, append_assoc, arith, Bool, drop, eqb, Err, false, get_or, inl, inr, length, List, ltb, map, min, None, Ok, Option}
+pub use Rattle.std.proofs.Common.{refl, Result, Some, subst, suc, sym, take, true, vec_len, zero, ℕ, ⊎_elim, ◌*◌, ◌++◌, ◌+◌, ◌-◌, ◌<◌, ◌||◌, ◌∙◌, ◌∷◌, ◌≡◌}
+pub use Rattle.std.proofs.Common.{◌≢◌, ◌≤◌, ◌⊎◌}
 pub use Rattle.std.proofs.lemmas.Bool.{cases_lt}
 pub use Rattle.std.proofs.lemmas.List.{drop-take, get_or-drop, length-drop, length-take, length-take-le, take-take}
 pub use Rattle.std.proofs.lemmas.Result.{err_from_is_err_and, IfErr-weaker, on_ok_weaker}

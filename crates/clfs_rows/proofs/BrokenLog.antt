@@ -1,6 +1,6 @@
 -- What a step from a broken state is, and what a step that meets a fault leaves.
-use Rattle.clfs_rows.proofs.Words.{◌≡◌, ◌⊎◌, ℕ, Bool, true, false, inl, inr, subst, Some, None, IsTrue, MatchBool, Call, Fine, Reply, State, refusal, Step,
-    Goes, ReopenStep, IsOutOfMemory, takes_memory, with_broken}
+use Rattle.clfs_rows.proofs.Words.{◌≡◌, ◌⊎◌, ℕ, Bool, true, false, inl, inr, subst, Some, None, IsTrue, MatchBool, Call, Fine, Reply, State, refusal, Step}
+use Rattle.clfs_rows.proofs.Words.{Goes, ReopenStep, IsOutOfMemory, takes_memory, with_broken}
 use Rattle.clfs_model.specs.declared.reply.Happened.{Happened}
 use Rattle.clfs_model.specs.declared.reply.Happened.TheVariants.{Fault, Damage}
 use Rattle.clfs_model.specs.declared.refusal.Refusal.{Refusal}

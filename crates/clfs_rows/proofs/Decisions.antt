@@ -1,6 +1,6 @@
 -- Tests that compute, each with the statement that it decides: instances of relations are shown by what a test gives.
-use Rattle.clfs_rows.proofs.Words.{◌≡◌, ◌⊎◌, ℕ, ◌<◌, ◌≤◌, Bool, true, false, refl, sym, ap, subst, inl, inr, List, length, get_or, arith, ◌==◌, nat_lt, Option,
-    Some, None, All, AllPairs, Any, IsSome, IfSome, Decides, All-nil, All-cons, All-head, All-tail}
+use Rattle.clfs_rows.proofs.Words.{◌≡◌, ◌⊎◌, ℕ, ◌<◌, ◌≤◌, Bool, true, false, refl, sym, ap, subst, inl, inr, List, length, get_or, arith, ◌==◌, nat_lt}
+use Rattle.clfs_rows.proofs.Words.{Option, Some, None, All, AllPairs, Any, IsSome, IfSome, Decides, All-nil, All-cons, All-head, All-tail}
 use Rattle.std.proofs.Common.{zero, suc, [], ◌∷◌}
 use Rattle.std.specs.Prelude.{nat_le, not, ◌&&◌, ◌||◌}
 use Rattle.std.proofs.lemmas.Bool.{ltb-true, ltb-false, leb-true}

@@ -1,6 +1,6 @@
 -- Tests that decide whether a call that nothing happens to may be answered so.
-use Rattle.clfs_rows.proofs.Words.{◌≡◌, ◌⊎◌, ℕ, Bool, true, false, refl, ap, subst, List, Decides, ◌==◌, nat_lt, Option, Some, None, IsTrue, MatchBool,
-    LogEntry, Call, Fine, Reply, State, flushed, refusal, line_request, Step, Goes, IsBroken, IsOutOfMemory, takes_memory}
+use Rattle.clfs_rows.proofs.Words.{◌≡◌, ◌⊎◌, ℕ, Bool, true, false, refl, ap, subst, List, Decides, ◌==◌, nat_lt, Option, Some, None, IsTrue, MatchBool}
+use Rattle.clfs_rows.proofs.Words.{LogEntry, Call, Fine, Reply, State, flushed, refusal, line_request, Step, Goes, IsBroken, IsOutOfMemory, takes_memory}
 use Rattle.std.specs.Prelude.{MatchOption}
 use Rattle.clfs_model.specs.declared.refusal.Refusal.TheVariants as refusals
 use Rattle.clfs_model.specs.declared.reply.Reply.TheVariants as replies

@@ -1,6 +1,6 @@
 -- Whether two states, and the values that they have, are the same.
-use Rattle.clfs_rows.proofs.Words.{◌≡◌, ℕ, Bool, true, false, refl, ap, List, Option, Decides, LogEntry, Kind, Plain, Restart, Place, Shape, Forward, State,
-    Stream, Area, Cursor, CursorKind, Records, RestartAreas}
+use Rattle.clfs_rows.proofs.Words.{◌≡◌, ℕ, Bool, true, false, refl, ap, List, Option, Decides, LogEntry, Kind, Plain, Restart, Place, Shape, Forward, State}
+use Rattle.clfs_rows.proofs.Words.{Stream, Area, Cursor, CursorKind, Records, RestartAreas}
 use Rattle.clfs_lsn.specs.declared.cursor.Mode.{Mode}
 use Rattle.clfs_lsn.specs.declared.cursor.Mode.TheVariants.{Previous, UndoNext}
 use Rattle.clfs_rows.proofs.Decisions.{Decision, like, both, equal, alike, same_lists, same_options, wrong}

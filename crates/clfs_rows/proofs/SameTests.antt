@@ -1,6 +1,6 @@
 -- Tests that decide whether two states are the same but for what no reply can show, and what opening again comes to.
-use Rattle.clfs_rows.proofs.Words.{◌≡◌, ◌⊎◌, ℕ, Bool, true, false, ap, MatchBool, container_of, Fine, State, flushed, cut, IsOutOfMemory, IsBroken, ReopenStep,
-    IsStorable, IsValid}
+use Rattle.clfs_rows.proofs.Words.{◌≡◌, ◌⊎◌, ℕ, Bool, true, false, ap, MatchBool, container_of, Fine, State, flushed, cut, IsOutOfMemory, IsBroken}
+use Rattle.clfs_rows.proofs.Words.{ReopenStep, IsStorable, IsValid}
 use Rattle.std.proofs.Common.{[]}
 use Rattle.clfs_model.specs.declared.reply.Reply.TheVariants as replies
 use Rattle.clfs_model.specs.Live.{hold}

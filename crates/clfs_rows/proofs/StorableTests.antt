@@ -1,7 +1,7 @@
 -- Tests that decide whether a state is one that files can stand for.
-use Rattle.clfs_rows.proofs.Words.{◌≡◌, ◌⊎◌, ℕ, ◌*◌, ◌<◌, ◌≤◌, Bool, true, false, refl, sym, subst, inl, inr, List, length, get_or, arith, ◌==◌, All, Option,
-    Some, None, All-head, All-tail, lsn_number, container_of, block_end, sealed, frontier, Shape, Place, LogEntry, Kind, Plain, Restart, State, Stream, Area,
-    Cursor, CursorKind, Records, RestartAreas, base_of, entry_at, IsStorable}
+use Rattle.clfs_rows.proofs.Words.{◌≡◌, ◌⊎◌, ℕ, ◌*◌, ◌<◌, ◌≤◌, Bool, true, false, refl, sym, subst, inl, inr, List, length, get_or, arith, ◌==◌, All, Option}
+use Rattle.clfs_rows.proofs.Words.{Some, None, All-head, All-tail, lsn_number, container_of, block_end, sealed, frontier, Shape, Place, LogEntry, Kind, Plain}
+use Rattle.clfs_rows.proofs.Words.{Restart, State, Stream, Area, Cursor, CursorKind, Records, RestartAreas, base_of, entry_at, IsStorable}
 use Rattle.std.proofs.Common.{◌^◌, [], ◌∷◌}
 use Rattle.std.specs.Prelude.{filter}
 use Rattle.std.proofs.lemmas.Bool.{eqb-true}
@@ -10,8 +10,8 @@ use Rattle.clfs_lsn.specs.Spelling.{BaseFits}
 use Rattle.clfs_model.specs.State.{areas_of}
 use Rattle.clfs_model.specs.Refusals.{name_fault}
 use Rattle.clfs_model.specs.Conditions.{IsClient}
-use Rattle.clfs_model.specs.Storable.{HasMovedBase, before_all, behind, behind_all, LiesBehind, LieInBlocks, GoesOnAt, HasBlocks, IsOfCursor, IsCursor,
-    IsAreaWithinLimits, IsWithinLimits}
+use Rattle.clfs_model.specs.Storable.{HasMovedBase, before_all, behind, behind_all, LiesBehind, LieInBlocks, GoesOnAt, HasBlocks, IsOfCursor, IsCursor}
+use Rattle.clfs_model.specs.Storable.{IsAreaWithinLimits, IsWithinLimits}
 use Rattle.clfs_rows.proofs.Decisions.{Decision, like, always, never, both, either, equal, less, at_most, each, lacks, same_value}
 use Rattle.clfs_rows.proofs.SameStates.{same_number_options, same_kinds, same_place}
 use Rattle.clfs_rows.proofs.ValidTests.{is_within}

@@ -1,6 +1,6 @@
 -- Tests that decide what a crash may leave.
-use Rattle.clfs_rows.proofs.Words.{◌≡◌, ◌⊎◌, ℕ, ◌+◌, ◌<◌, ◌≤◌, true, false, refl, sym, inl, List, length, arith, ◌==◌, Any, None, null_lsn, container_of,
-    IsClosed, frontier, Place, LogEntry, State, base_of, flushed, cut, line_request, state_behind}
+use Rattle.clfs_rows.proofs.Words.{◌≡◌, ◌⊎◌, ℕ, ◌+◌, ◌<◌, ◌≤◌, true, false, refl, sym, inl, List, length, arith, ◌==◌, Any, None, null_lsn, container_of}
+use Rattle.clfs_rows.proofs.Words.{IsClosed, frontier, Place, LogEntry, State, base_of, flushed, cut, line_request, state_behind}
 use Rattle.std.proofs.Common.{◌-◌, ◌∙◌, []}
 use Rattle.std.specs.Prelude.{slice_get}
 use Rattle.std.proofs.lemmas.Bool.{ne_eqb}
@@ -8,8 +8,8 @@ use Rattle.std.proofs.lemmas.Option.{slice_get_past}
 use Rattle.clfs_model.specs.declared.call.Call.TheVariants as calls
 use Rattle.clfs_model.specs.Archive.{is_in_block, end_of_block}
 use Rattle.clfs_model.specs.Run.{Request, asks}
-use Rattle.clfs_model.specs.Survivors.{names_of, HasSettings, HasBases, EndsBlockOf, records_below, SplitsNoBlock, HasMore, IsSurvivingPlace,
-    HasBasesOfRestart, HasBasesOfRequest, IsSurvivor}
+use Rattle.clfs_model.specs.Survivors.{names_of, HasSettings, HasBases, EndsBlockOf, records_below, SplitsNoBlock, HasMore, IsSurvivingPlace}
+use Rattle.clfs_model.specs.Survivors.{HasBasesOfRestart, HasBasesOfRequest, IsSurvivor}
 use Rattle.clfs_rows.specs.Crashes.{SurvivesLine}
 use Rattle.clfs_rows.proofs.Decisions.{Decision, like, always, both, either, implies, refuted, equal, less, at_most, alike, each, some, each_number, same_lists}
 use Rattle.clfs_rows.proofs.SameStates.{same_numbers, same_number_options, same_entry, same_place, same_shape, same_area}

@@ -1,6 +1,6 @@
 -- Tests that decide whether a state is one that a log can be in.
-use Rattle.clfs_rows.proofs.Words.{◌≡◌, ◌⊎◌, ℕ, true, ◌+◌, ◌*◌, ◌<◌, ◌≤◌, List, length, arith, All, AllPairs, IsSome, IfSome, map, null_lsn, container_of,
-    IsClosed, block_end, frontier, Shape, Place, LogEntry, Restart, State, Area, Cursor, Stream, flushed, entry_at, IsValid}
+use Rattle.clfs_rows.proofs.Words.{◌≡◌, ◌⊎◌, ℕ, true, ◌+◌, ◌*◌, ◌<◌, ◌≤◌, List, length, arith, All, AllPairs, IsSome, IfSome, map, null_lsn, container_of}
+use Rattle.clfs_rows.proofs.Words.{IsClosed, block_end, frontier, Shape, Place, LogEntry, Restart, State, Area, Cursor, Stream, flushed, entry_at, IsValid}
 use Rattle.std.proofs.Common.{◌%◌}
 use Rattle.std.specs.Prelude.{◌≢◌, slice_index}
 use Rattle.std.specs.List.{range_with_len}
@@ -13,10 +13,10 @@ use Rattle.clfs_model.specs.State.{stream_at}
 use Rattle.clfs_model.specs.Live.{active}
 use Rattle.clfs_model.specs.Space.{free, reserved}
 use Rattle.clfs_model.specs.Flush.{block_start}
-use Rattle.clfs_model.specs.Valid.{HasRanges, HasPolicies, AreDifferentAreas, IsArea, HasTables, IsRecord, open_sequences, HasRecords, HasStable, IsWaiting,
-    HasWaiting, HasSpace}
-use Rattle.clfs_rows.proofs.Decisions.{Decision, like, both, either, implies, refuted, alike, equal, less, at_most, each, each_two, each_below, is_there,
-    where_some}
+use Rattle.clfs_model.specs.Valid.{HasRanges, HasPolicies, AreDifferentAreas, IsArea, HasTables, IsRecord, open_sequences, HasRecords, HasStable, IsWaiting}
+use Rattle.clfs_model.specs.Valid.{HasWaiting, HasSpace}
+use Rattle.clfs_rows.proofs.Decisions.{Decision, like, both, either, implies, refuted, alike, equal, less, at_most, each, each_two, each_below, is_there}
+use Rattle.clfs_rows.proofs.Decisions.{where_some}
 use Rattle.clfs_rows.proofs.SameStates.{same_numbers, same_kinds}
 
 abbrev IsShapeParts : Shape → Type 0

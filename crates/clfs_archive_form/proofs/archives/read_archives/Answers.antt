@@ -1,5 +1,5 @@
-use Rattle.clfs_archive_form.proofs.Words.{List, ◌++◌, length, sym, ◌∙◌, ap, subst, arith, All-nil, err_from_is_err_and, Demands, Stored, archive_there,
-    RefusesAt, LieWithin, Suits, IsReadableAs, AreReadable}
+use Rattle.clfs_archive_form.proofs.Words.{List, ◌++◌, length, sym, ◌∙◌, ap, subst, arith, All-nil, err_from_is_err_and, Demands, Stored, archive_there}
+use Rattle.clfs_archive_form.proofs.Words.{RefusesAt, LieWithin, Suits, IsReadableAs, AreReadable}
 use Rattle.clfs_archive_form.proofs.Grammar.{ReadTo, first_refused, first_read, next_refused, next_read, all_read}
 use Rattle.clfs_archive_form.proofs.Readable.{readable_later}
 use Rattle.clfs_archive_form.proofs.archives.read_archives.Goals as goal

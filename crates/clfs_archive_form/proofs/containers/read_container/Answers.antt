@@ -1,5 +1,5 @@
-use Rattle.clfs_archive_form.proofs.Words.{ℕ, ◌+◌, List, sym, ◌∙◌, ap, subst, arith, err_from_is_err_and, Shape, RefusesAs, stored_in, blocks_in, length_there,
-    RefusesAt}
+use Rattle.clfs_archive_form.proofs.Words.{ℕ, ◌+◌, List, sym, ◌∙◌, ap, subst, arith, err_from_is_err_and, Shape, RefusesAs, stored_in, blocks_in}
+use Rattle.clfs_archive_form.proofs.Words.{length_there, RefusesAt}
 use Rattle.clfs_archive_form.proofs.Grammar.{no_id, no_length, no_blocks, is_cut, is_there}
 use Rattle.clfs_archive_form.proofs.containers.read_container.Goals as goal
 

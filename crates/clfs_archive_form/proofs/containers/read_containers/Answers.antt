@@ -1,5 +1,5 @@
-use Rattle.clfs_archive_form.proofs.Words.{◌+◌, List, length, sym, ◌∙◌, ap, subst, refl, arith, err_from_is_err_and, Stored, container_there, Judging,
-    RefusesAt, LieWithin}
+use Rattle.clfs_archive_form.proofs.Words.{◌+◌, List, length, sym, ◌∙◌, ap, subst, refl, arith, err_from_is_err_and, Stored, container_there, Judging}
+use Rattle.clfs_archive_form.proofs.Words.{RefusesAt, LieWithin}
 use Rattle.clfs_archive_form.proofs.Grammar.{lie_more, none_taken, no_container, takes_one, all_taken}
 use Rattle.clfs_archive_form.proofs.containers.read_containers.Goals as goal
 

@@ -1,5 +1,5 @@
-use Rattle.clfs_archive_form.proofs.Words.{◌≡◌, ℕ, List, [], Option, Result, Ok, sym, ◌∙◌, ap, subst, lsn_number, LogEntry, block_records, BlockRefusal,
-    LoadRefusal}
+use Rattle.clfs_archive_form.proofs.Words.{◌≡◌, ℕ, List, [], Option, Result, Ok, sym, ◌∙◌, ap, subst, lsn_number, LogEntry, block_records, BlockRefusal}
+use Rattle.clfs_archive_form.proofs.Words.{LoadRefusal}
 use Rattle.clfs_archive_form.proofs.Bare.{bare, bare_bases}
 use Rattle.clfs_archive_form.proofs.Blocks.{gathered}
 use Rattle.clfs_archive_form.proofs.kept.block_entries.Goals as goal

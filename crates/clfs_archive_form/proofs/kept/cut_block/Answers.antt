@@ -1,5 +1,5 @@
-use Rattle.clfs_archive_form.proofs.Words.{◌≡◌, ℕ, ◌+◌, ◌/◌, ◌≤◌, List, length, take, sym, ◌∙◌, ap, subst, arith, All, flat_map, on_ok_weaker, open_gate,
-    lsn_number, offset_of, sectors, FitsAt, record_bytes, LogEntry, SpellsBlock, block_records, HasRecords}
+use Rattle.clfs_archive_form.proofs.Words.{◌≡◌, ℕ, ◌+◌, ◌/◌, ◌≤◌, List, length, take, sym, ◌∙◌, ap, subst, arith, All, flat_map, on_ok_weaker, open_gate}
+use Rattle.clfs_archive_form.proofs.Words.{lsn_number, offset_of, sectors, FitsAt, record_bytes, LogEntry, SpellsBlock, block_records, HasRecords}
 use Rattle.clfs_archive_form.proofs.CutBlocks.{cut_fits, cut_few, cut_room, cut_has}
 use Rattle.clfs_archive_form.proofs.ReadRecords.{has_read, one_value}
 use Rattle.clfs_archive_form.proofs.kept.cut_block.Goals as goal

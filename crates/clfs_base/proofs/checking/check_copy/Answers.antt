@@ -1,5 +1,5 @@
-use Rattle.clfs_base.proofs.Words.{◌≡◌, ℕ, Option, Ok, ap, sym, ◌∙◌, arith, unless_wrong, Demands, Layout, layout_of, layout_in, image_of, anything,
-    fault_within}
+use Rattle.clfs_base.proofs.Words.{◌≡◌, ℕ, Option, Ok, ap, sym, ◌∙◌, arith, unless_wrong, Demands, Layout, layout_of, layout_in, image_of, anything}
+use Rattle.clfs_base.proofs.Words.{fault_within}
 use Rattle.clfs_base.proofs.AskedFields.{any_fault}
 use Rattle.clfs_base.proofs.Images.{found}
 use Rattle.clfs_base.proofs.checking.check_copy.Goals as goal

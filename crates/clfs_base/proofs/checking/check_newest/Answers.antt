@@ -1,5 +1,5 @@
-use Rattle.clfs_base.proofs.Words.{◌≡◌, ℕ, List, Option, None, Result, Ok, Err, ap, sym, ◌∙◌, err_from_is_err_and, unless_wrong, BaseImage, Numbers,
-    NewestRefusal, layout_in, slot_fault, image_of, image_at, used_slot, copy_in, copy_of, newest_of}
+use Rattle.clfs_base.proofs.Words.{◌≡◌, ℕ, List, Option, None, Result, Ok, Err, ap, sym, ◌∙◌, err_from_is_err_and, unless_wrong, BaseImage, Numbers}
+use Rattle.clfs_base.proofs.Words.{NewestRefusal, layout_in, slot_fault, image_of, image_at, used_slot, copy_in, copy_of, newest_of}
 use Rattle.clfs_base.specs.Slots as slots
 use Rattle.clfs_base.specs.Told.{numbers_told}
 use Rattle.clfs_base.proofs.Telling.{same_numbers}

@@ -1,5 +1,5 @@
-use Rattle.clfs_base.proofs.Words.{◌≡◌, ℕ, ◌+◌, ◌<◌, Bool, true, false, cond, List, length, get_or, drop, find, Some, sym, ◌∙◌, ap, arith, zip, option_map,
-    drop_more, drop_all, Asked, Anything, Field, is_wrong_within, wrong_within}
+use Rattle.clfs_base.proofs.Words.{◌≡◌, ℕ, ◌+◌, ◌<◌, Bool, true, false, cond, List, length, get_or, drop, find, Some, sym, ◌∙◌, ap, arith, zip, option_map}
+use Rattle.clfs_base.proofs.Words.{drop_more, drop_all, Asked, Anything, Field, is_wrong_within, wrong_within}
 use Rattle.clfs_base.proofs.Tables.{no_field}
 use Rattle.clfs_base.proofs.checking.wrong_field.Goals as goal
 

@@ -1,5 +1,5 @@
-use Rattle.clfs_base.proofs.Words.{◌≡◌, ◌∷◌, ◌++◌, [], ℕ, List, length, ap, sym, ◌∙◌, arith, length-map-range_with_len, map-range_with_len_more, number_at,
-    file_in, files_in}
+use Rattle.clfs_base.proofs.Words.{◌≡◌, ◌∷◌, ◌++◌, [], ℕ, List, length, ap, sym, ◌∙◌, arith, length-map-range_with_len, map-range_with_len_more, number_at}
+use Rattle.clfs_base.proofs.Words.{file_in, files_in}
 use Rattle.clfs_base.proofs.decoder.read_files.Goals as goal
 
 pub push-requires : goal.push-requires

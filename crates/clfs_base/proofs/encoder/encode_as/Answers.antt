@@ -1,5 +1,5 @@
-use Rattle.clfs_base.proofs.Words.{◌≡◌, ◌*◌, ◌≤◌, ℕ, List, ◌++◌, length, sym, ap, refl, ◌∙◌, arith, length-take-le, flat_map, Numbers, BaseImage, Row, fields,
-    numbers_for, filled, field_bytes, number_bytes, spelled_row}
+use Rattle.clfs_base.proofs.Words.{◌≡◌, ◌*◌, ◌≤◌, ℕ, List, ◌++◌, length, sym, ap, refl, ◌∙◌, arith, length-take-le, flat_map, Numbers, BaseImage, Row, fields}
+use Rattle.clfs_base.proofs.Words.{numbers_for, filled, field_bytes, number_bytes, spelled_row}
 use Rattle.clfs_base.proofs.Filling.{parts_joined, length-filled, length-all_pieces}
 use Rattle.clfs_base.proofs.encoder.encode_as.Goals as goal
 

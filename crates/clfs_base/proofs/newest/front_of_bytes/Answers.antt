@@ -1,5 +1,5 @@
-use Rattle.clfs_base.proofs.Words.{◌≡◌, ℕ, ◌+◌, ◌-◌, ◌≤◌, min, ◌||◌, eqb, ltb, List, length, get_or, take, drop, ◌∙◌, ap, arith, length-drop, nat_tests,
-    length-take, get_or-take, get_or-drop, slot_place, front_of}
+use Rattle.clfs_base.proofs.Words.{◌≡◌, ℕ, ◌+◌, ◌-◌, ◌≤◌, min, ◌||◌, eqb, ltb, List, length, get_or, take, drop, ◌∙◌, ap, arith, length-drop, nat_tests}
+use Rattle.clfs_base.proofs.Words.{length-take, get_or-take, get_or-drop, slot_place, front_of}
 use Rattle.clfs_base.proofs.newest.front_of_bytes.Goals as goal
 
 same_short : (a n b p : ℕ) → a ≡ min n (b - p) → 3 ≤ n → ltb a 3 ≡ ltb b (p + 3)

@@ -1,5 +1,5 @@
-use Rattle.clfs_base.proofs.Words.{ℕ, List, Result, ap, subst, sym, ◌∙◌, length, ◌≤◌, err_from_is_err_and, NewestRefusal, slot_bytes, image_at, slot_of,
-    copy_in, copy_of, GivesNewest}
+use Rattle.clfs_base.proofs.Words.{ℕ, List, Result, ap, subst, sym, ◌∙◌, length, ◌≤◌, err_from_is_err_and, NewestRefusal, slot_bytes, image_at, slot_of}
+use Rattle.clfs_base.proofs.Words.{copy_in, copy_of, GivesNewest}
 use Rattle.std.proofs.Common.{IsTrue}
 use Rattle.clfs_disk.specs.State.{Nature, TellsContents}
 use Rattle.clfs_base.proofs.CopyReads.{used_outside, none_used, copy_by}

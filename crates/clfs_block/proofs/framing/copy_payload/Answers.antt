@@ -1,5 +1,5 @@
-use Rattle.clfs_block.proofs.Words.{◌≡◌, ◌+◌, ◌-◌, ◌%◌, ◌≤◌, ◌++◌, ℕ, List, length, take, drop, ◌∙◌, ap, arith, append_assoc, length-append, length-take,
-    place_of, payload_from}
+use Rattle.clfs_block.proofs.Words.{◌≡◌, ◌+◌, ◌-◌, ◌%◌, ◌≤◌, ◌++◌, ℕ, List, length, take, drop, ◌∙◌, ap, arith, append_assoc, length-append, length-take}
+use Rattle.clfs_block.proofs.Words.{place_of, payload_from}
 use Rattle.clfs_block.proofs.Frames.{length-payload_from, payload_more}
 use Rattle.clfs_block.proofs.framing.copy_payload.Goals as goal
 

@@ -1,5 +1,5 @@
-use Rattle.clfs_block.proofs.Words.{◌≡◌, ◌++◌, ℕ, List, length, get_or, drop, replicate, ap, ◌∙◌, arith, length-append, length-drop, get_or_append_left,
-    drop-append-le, place_of}
+use Rattle.clfs_block.proofs.Words.{◌≡◌, ◌++◌, ℕ, List, length, get_or, drop, replicate, ap, ◌∙◌, arith, length-append, length-drop, get_or_append_left}
+use Rattle.clfs_block.proofs.Words.{drop-append-le, place_of}
 use Rattle.clfs_block.proofs.Frames.{payload_pushed}
 use Rattle.clfs_block.proofs.framing.push_part.Goals as goal
 

@@ -1,5 +1,5 @@
-use Rattle.clfs_block.proofs.Words.{◌≡◌, ◌+◌, ◌-◌, ◌*◌, ◌++◌, ◌∙◌, ℕ, List, length, take, drop, replicate, sym, ap, arith, length-drop, take-append-drop,
-    drop-append-le, take-append-le, place_of, head_bytes}
+use Rattle.clfs_block.proofs.Words.{◌≡◌, ◌+◌, ◌-◌, ◌*◌, ◌++◌, ◌∙◌, ℕ, List, length, take, drop, replicate, sym, ap, arith, length-drop, take-append-drop}
+use Rattle.clfs_block.proofs.Words.{drop-append-le, take-append-le, place_of, head_bytes}
 use Rattle.clfs_block.proofs.Sealing.{spells}
 use Rattle.clfs_block.proofs.framing.seal_block.Goals as goal
 

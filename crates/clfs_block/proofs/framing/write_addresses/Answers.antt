@@ -1,5 +1,5 @@
-use Rattle.clfs_block.proofs.Words.{◌≡◌, ◌+◌, ◌*◌, ◌<◌, ◌≤◌, ◌^◌, ⊎_elim, ℕ, List, length, get_or, drop, sym, ◌∙◌, ap, subst, arith, cases_lt, cases_eq,
-    get_or-drop, drop-drop, little_number, address, address_in}
+use Rattle.clfs_block.proofs.Words.{◌≡◌, ◌+◌, ◌*◌, ◌<◌, ◌≤◌, ◌^◌, ⊎_elim, ℕ, List, length, get_or, drop, sym, ◌∙◌, ap, subst, arith, cases_lt, cases_eq}
+use Rattle.clfs_block.proofs.Words.{get_or-drop, drop-drop, little_number, address, address_in}
 use Rattle.clfs_block.proofs.Splices.{length-spliced, spliced_below, spliced_above, number_spliced, take_spliced, same_address}
 use Rattle.clfs_block.proofs.framing.write_addresses.Goals as goal
 

@@ -1,5 +1,5 @@
-use Rattle.clfs_block.proofs.Words.{◌≡◌, ◌+◌, ◌-◌, ◌≤◌, ◌++◌, ℕ, List, length, take, drop, sym, ◌∙◌, ap, arith, append_assoc, length-drop, drop_at, drop-drop,
-    length-take-le, place_of, payload_from}
+use Rattle.clfs_block.proofs.Words.{◌≡◌, ◌+◌, ◌-◌, ◌≤◌, ◌++◌, ℕ, List, length, take, drop, sym, ◌∙◌, ap, arith, append_assoc, length-drop, drop_at, drop-drop}
+use Rattle.clfs_block.proofs.Words.{length-take-le, place_of, payload_from}
 use Rattle.std.proofs.lemmas.List.{take_at}
 use Rattle.clfs_block.proofs.Frames.{length-payload_from, payload_more}
 use Rattle.clfs_block.proofs.gathering.gather_payload.Goals as goal

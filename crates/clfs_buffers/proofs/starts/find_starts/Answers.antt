@@ -1,5 +1,6 @@
-use Rattle.clfs_buffers.proofs.Words.{◌≡◌, ℕ, suc, ◌+◌, ◌-◌, List, [], ◌∷◌, ◌++◌, length, drop, Result, Ok, Err, sym, ◌∙◌, ap, subst, arith, length-drop,
-    record_at, entry_of, LogEntry, told_as, records_from, behind, BlockRefusal, BadByte, first_lsn, records_at, IsStart, AreStarts, wrong_in}
+use Rattle.clfs_buffers.proofs.Words.{◌≡◌, ℕ, suc, ◌+◌, ◌-◌, List, [], ◌∷◌, ◌++◌, length, drop, Result, Ok, Err, sym, ◌∙◌, ap, subst, arith, length-drop}
+use Rattle.clfs_buffers.proofs.Words.{record_at, entry_of, LogEntry, told_as, records_from, behind, BlockRefusal, BadByte, first_lsn, records_at, IsStart}
+use Rattle.clfs_buffers.proofs.Words.{AreStarts, wrong_in}
 use Rattle.std.proofs.Common.{length-append}
 use Rattle.clfs_block.specs.Frame.{place_of}
 use Rattle.clfs_block.specs.RecordLaws.{behind-nil, no_header, record_wrong, records_step, records_stop, records_done, records_uneven}

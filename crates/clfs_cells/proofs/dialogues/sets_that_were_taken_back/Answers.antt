@@ -1,5 +1,5 @@
-use Rattle.clfs_cells.proofs.Words.{refl, digits, decode_pairs, encode_with, grown, has_room, fine_outcome, request_in, txn_call_in, fine_load, fine_call,
-    call_without_memory}
+use Rattle.clfs_cells.proofs.Words.{refl, digits, decode_pairs, encode_with, grown, has_room, fine_outcome, request_in, txn_call_in, fine_load, fine_call}
+use Rattle.clfs_cells.proofs.Words.{call_without_memory}
 use Rattle.clfs_cells.proofs.dialogues.sets_that_were_taken_back.Goals as goal
 
 pub returns : goal.returns

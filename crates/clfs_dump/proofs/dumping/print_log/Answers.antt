@@ -1,5 +1,5 @@
-use Rattle.clfs_dump.proofs.Words.{ℕ, List, [], ◌++◌, Ok, Err, sym, ◌∙◌, subst, err_from_is_err_and, frontier, Row, shape_of, stream_lines, only, then_told,
-    listed_told, place_at, log_end, as_dump}
+use Rattle.clfs_dump.proofs.Words.{ℕ, List, [], ◌++◌, Ok, Err, sym, ◌∙◌, subst, err_from_is_err_and, frontier, Row, shape_of, stream_lines, only, then_told}
+use Rattle.clfs_dump.proofs.Words.{listed_told, place_at, log_end, as_dump}
 use Rattle.clfs_dump.specs.Lines.{log_line}
 use Rattle.clfs_dump.proofs.Walks.{PrintsTold}
 use Rattle.clfs_dump.proofs.PrintedParts.{prints_behind, prints_no_more, prints_first, prints_next, prints_refusal}

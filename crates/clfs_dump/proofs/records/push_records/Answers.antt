@@ -1,5 +1,5 @@
-use Rattle.clfs_dump.proofs.Words.{◌≡◌, ℕ, suc, ◌+◌, ◌-◌, List, [], ◌∷◌, ◌++◌, length, drop, Some, Ok, Err, refl, sym, ◌∙◌, ap, arith, flat_map, lsn_number,
-    record_at, LogEntry, records_from, first_wrong, record_text, records_met}
+use Rattle.clfs_dump.proofs.Words.{◌≡◌, ℕ, suc, ◌+◌, ◌-◌, List, [], ◌∷◌, ◌++◌, length, drop, Some, Ok, Err, refl, sym, ◌∙◌, ap, arith, flat_map, lsn_number}
+use Rattle.clfs_dump.proofs.Words.{record_at, LogEntry, records_from, first_wrong, record_text, records_met}
 use Rattle.std.proofs.lemmas.List.{length-drop}
 use Rattle.std.specs.Prelude.{Result, Option}
 use Rattle.clfs_block.specs.RecordLaws.{behind-nil, no_header, record_wrong, records_step, records_stop, records_done, records_uneven}

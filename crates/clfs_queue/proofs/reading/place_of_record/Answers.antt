@@ -1,5 +1,5 @@
-use Rattle.clfs_queue.proofs.Words.{◌≡◌, ◌+◌, ◌<◌, ◌≤◌, ◌^◌, ◌++◌, ◌∷◌, [], ℕ, List, length, get_or, take, ◌∙◌, ap, arith, flat_map, take_all, record_bytes,
-    size, LogEntry, place_of, payload_from, IsHeld}
+use Rattle.clfs_queue.proofs.Words.{◌≡◌, ◌+◌, ◌<◌, ◌≤◌, ◌^◌, ◌++◌, ◌∷◌, [], ℕ, List, length, get_or, take, ◌∙◌, ap, arith, flat_map, take_all, record_bytes}
+use Rattle.clfs_queue.proofs.Words.{size, LogEntry, place_of, payload_from, IsHeld}
 use Rattle.std.proofs.lemmas.List.{take_more}
 use Rattle.clfs_queue.proofs.Contents.{content_aligned, content_more, place_grows}
 use Rattle.clfs_queue.proofs.Holding.{held_small, held_before, held_within, held_bytes}

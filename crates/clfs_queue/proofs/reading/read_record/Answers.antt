@@ -1,5 +1,5 @@
-use Rattle.clfs_queue.proofs.Words.{◌≡◌, ◌+◌, ◌<◌, ◌≤◌, ◌^◌, ◌++◌, ℕ, List, length, take, ◌∙◌, ap, arith, size, record_bytes, LogEntry, place_of, payload_from,
-    IsHeld, payload_before}
+use Rattle.clfs_queue.proofs.Words.{◌≡◌, ◌+◌, ◌<◌, ◌≤◌, ◌^◌, ◌++◌, ℕ, List, length, take, ◌∙◌, ap, arith, size, record_bytes, LogEntry, place_of}
+use Rattle.clfs_queue.proofs.Words.{payload_from, IsHeld, payload_before}
 use Rattle.clfs_queue.proofs.Contents.{content_aligned, place_grows}
 use Rattle.clfs_queue.proofs.Holding.{held_small, held_within, held_bytes, held_data}
 use Rattle.clfs_queue.proofs.reading.read_record.Goals as goal

@@ -1,5 +1,5 @@
-use Rattle.clfs_queue.proofs.Words.{◌≡◌, ◌+◌, ◌++◌, ◌∙◌, ℕ, List, length, drop, replicate, refl, sym, ap, arith, append_assoc, size, header_bytes, filling,
-    LogEntry, payload_of, placed_record}
+use Rattle.clfs_queue.proofs.Words.{◌≡◌, ◌+◌, ◌++◌, ◌∙◌, ℕ, List, length, drop, replicate, refl, sym, ap, arith, append_assoc, size, header_bytes, filling}
+use Rattle.clfs_queue.proofs.Words.{LogEntry, payload_of, placed_record}
 use Rattle.clfs_queue.proofs.writing.push_record.Goals as goal
 
 pub returns-clause-payload : goal.returns-clause-payload

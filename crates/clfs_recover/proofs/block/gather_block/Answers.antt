@@ -1,5 +1,5 @@
-use Rattle.clfs_recover.proofs.Words.{◌≡◌, ℕ, List, vec_len, Ok, sym, ◌∙◌, subst, err_from_is_err_and, lsn_number, told_as, records_from, RefusesAs, Damaged,
-    block_refused, block_read}
+use Rattle.clfs_recover.proofs.Words.{◌≡◌, ℕ, List, vec_len, Ok, sym, ◌∙◌, subst, err_from_is_err_and, lsn_number, told_as, records_from, RefusesAs, Damaged}
+use Rattle.clfs_recover.proofs.Words.{block_refused, block_read}
 use Rattle.clfs_block.specs.declared.head.BlockRefusal.TheVariants.{Closed}
 use Rattle.clfs_recover.proofs.Blocks.{frame_refusal, records_refusal, rest_refusal, told_records}
 use Rattle.clfs_recover.proofs.block.gather_block.Goals as goal

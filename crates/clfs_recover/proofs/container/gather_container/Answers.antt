@@ -1,5 +1,5 @@
-use Rattle.clfs_recover.proofs.Words.{ℕ, ◌*◌, ◌++◌, Option, Some, None, Result, Ok, Err, vec_len, refl, ◌∙◌, ap, subst, arith, err_from_is_err_and, lsn_number,
-    Unchanged, TellsContents, AreBytes, block_records, GathersBlock, LoadRefusal}
+use Rattle.clfs_recover.proofs.Words.{ℕ, ◌*◌, ◌++◌, Option, Some, None, Result, Ok, Err, vec_len, refl, ◌∙◌, ap, subst, arith, err_from_is_err_and}
+use Rattle.clfs_recover.proofs.Words.{lsn_number, Unchanged, TellsContents, AreBytes, block_records, GathersBlock, LoadRefusal}
 use Rattle.std.proofs.Common.{rules}
 use Rattle.clfs_recover.proofs.Containers.{block_end}
 use Rattle.clfs_recover.proofs.Told.{block_told}

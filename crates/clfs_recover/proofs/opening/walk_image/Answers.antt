@@ -1,5 +1,5 @@
-use Rattle.clfs_recover.proofs.Words.{inl, inr, ◌≡◌, ℕ, List, [], length, map, Some, None, vec_len, sym, ◌∙◌, ap, subst, arith, err_from_is_err_and, frontier,
-    Place, TellsContents, Row, shape_of, listed_records, image_fault, AreListed, RefusesAs, TellsBlock}
+use Rattle.clfs_recover.proofs.Words.{inl, inr, ◌≡◌, ℕ, List, [], length, map, Some, None, vec_len, sym, ◌∙◌, ap, subst, arith, err_from_is_err_and, frontier}
+use Rattle.clfs_recover.proofs.Words.{Place, TellsContents, Row, shape_of, listed_records, image_fault, AreListed, RefusesAs, TellsBlock}
 use Rattle.clfs_recover.proofs.Raising.{first_bases, length-bases_with}
 use Rattle.clfs_recover.proofs.Finding.{walk_refused}
 use Rattle.clfs_recover.proofs.OpenedLogs.{taken_by_image, is_fault, fits_records}

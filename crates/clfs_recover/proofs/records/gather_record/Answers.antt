@@ -1,5 +1,5 @@
-use Rattle.clfs_recover.proofs.Words.{◌≡◌, ℕ, ◌++◌, ◌∷◌, [], List, Ok, sym, ◌∙◌, ap, subst, arith, take, drop, length, ◌+◌, ◌-◌, record_at, LogEntry,
-    entry_with, bases_with, raised}
+use Rattle.clfs_recover.proofs.Words.{◌≡◌, ℕ, ◌++◌, ◌∷◌, [], List, Ok, sym, ◌∙◌, ap, subst, arith, take, drop, length, ◌+◌, ◌-◌, record_at, LogEntry}
+use Rattle.clfs_recover.proofs.Words.{entry_with, bases_with, raised}
 use Rattle.clfs_recover.proofs.Raising.{bases_more, length-bases_with}
 use Rattle.clfs_recover.proofs.records.gather_record.Goals as goal
 

@@ -1,5 +1,6 @@
-use Rattle.clfs_recover.proofs.Words.{◌≡◌, ◌+◌, ◌-◌, ℕ, suc, List, [], ◌∷◌, ◌++◌, length, drop, vec_len, Result, Ok, Err, refl, sym, ◌∙◌, ap, subst, arith,
-    append_assoc, append-nil, lsn_number, record_at, LogEntry, place_of, told_as, records_from, HasTaken, RefusesAs, LoadRefusal, Damaged}
+use Rattle.clfs_recover.proofs.Words.{◌≡◌, ◌+◌, ◌-◌, ℕ, suc, List, [], ◌∷◌, ◌++◌, length, drop, vec_len, Result, Ok, Err, refl, sym, ◌∙◌, ap, subst, arith}
+use Rattle.clfs_recover.proofs.Words.{append_assoc, append-nil, lsn_number, record_at, LogEntry, place_of, told_as, records_from, HasTaken, RefusesAs}
+use Rattle.clfs_recover.proofs.Words.{LoadRefusal, Damaged}
 use Rattle.std.proofs.lemmas.List.{length-drop}
 use Rattle.clfs_block.specs.RecordLaws.{behind-nil, no_header, record_wrong, records_step, records_stop, records_done, records_uneven}
 use Rattle.clfs_recover.proofs.records.gather_records.Goals as goal

@@ -1,6 +1,6 @@
-use Rattle.clfs_restore.proofs.Words.{◌≡◌, ℕ, ◌<◌, List, [], length, map, get_or, Some, None, Result, Ok, Err, sym, ◌∙◌, ap, subst, err_from_is_err_and,
-    AreWhole, BaseImage, NewestRefusal, newest_of, stored_records, shape_of, archived_image, archive_bytes, archived_pieces, GivesCopy, GoesOn, TellsArchived,
-    ArchiveRefusal, Log}
+use Rattle.clfs_restore.proofs.Words.{◌≡◌, ℕ, ◌<◌, List, [], length, map, get_or, Some, None, Result, Ok, Err, sym, ◌∙◌, ap, subst, err_from_is_err_and}
+use Rattle.clfs_restore.proofs.Words.{AreWhole, BaseImage, NewestRefusal, newest_of, stored_records, shape_of, archived_image, archive_bytes, archived_pieces}
+use Rattle.clfs_restore.proofs.Words.{GivesCopy, GoesOn, TellsArchived, ArchiveRefusal, Log}
 use Rattle.clfs_model.specs.declared.refusal.Refusal.TheVariants as refusals
 use Rattle.clfs_restore.proofs.Archived.{archiving_on, one_copy, is_archive, cause_of}
 use Rattle.clfs_restore.proofs.Joining.{tells_still, joined}

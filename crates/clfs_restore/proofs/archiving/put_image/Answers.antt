@@ -1,5 +1,5 @@
-use Rattle.clfs_restore.proofs.Words.{◌≡◌, ℕ, ◌+◌, ◌<◌, List, ◌++◌, drop, length, map, get_or, sym, ◌∙◌, ap, subst, arith, err_from_is_err_and, get_or-drop,
-    length-drop, flat_map, shape_of, piece_bytes, front_bytes, AreReadable, TellsContainer, pieces_from}
+use Rattle.clfs_restore.proofs.Words.{◌≡◌, ℕ, ◌+◌, ◌<◌, List, ◌++◌, drop, length, map, get_or, sym, ◌∙◌, ap, subst, arith, err_from_is_err_and, get_or-drop}
+use Rattle.clfs_restore.proofs.Words.{length-drop, flat_map, shape_of, piece_bytes, front_bytes, AreReadable, TellsContainer, pieces_from}
 use Rattle.clfs_restore.proofs.Archived.{skipped, archive_is}
 use Rattle.clfs_restore.proofs.Joining.{goes_refused}
 use Rattle.clfs_restore.proofs.Pieces.{readable_from}

@@ -1,5 +1,5 @@
-use Rattle.clfs_restore.proofs.Words.{ℕ, ◌+◌, List, ◌++◌, length, map, take, get_or, Some, None, sym, ◌∙◌, ap, subst, append_assoc, arith, err_from_is_err_and,
-    flat_map, AreWhole, stored_in, piece_bytes, shape_of, TellsContainer, pieces_from}
+use Rattle.clfs_restore.proofs.Words.{ℕ, ◌+◌, List, ◌++◌, length, map, take, get_or, Some, None, sym, ◌∙◌, ap, subst, append_assoc, arith}
+use Rattle.clfs_restore.proofs.Words.{err_from_is_err_and, flat_map, AreWhole, stored_in, piece_bytes, shape_of, TellsContainer, pieces_from}
 use Rattle.std.proofs.lemmas.List.{take_all}
 use Rattle.clfs_archive_form.specs.Judging.{Judging}
 use Rattle.clfs_restore.proofs.Joining.{tells_still, joined, goes_refused}

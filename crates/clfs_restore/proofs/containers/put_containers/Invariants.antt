@@ -1,5 +1,5 @@
-use Rattle.clfs_restore.proofs.Words.{◌≡◌, ℕ, ◌+◌, ◌*◌, ◌≤◌, List, ◌++◌, length, map, take, None, vec_len, flat_map, TellsContents, shape_of, piece_bytes,
-    Reads, AreReadable, pieces_from}
+use Rattle.clfs_restore.proofs.Words.{◌≡◌, ℕ, ◌+◌, ◌*◌, ◌≤◌, List, ◌++◌, length, map, take, None, vec_len, flat_map, TellsContents, shape_of, piece_bytes}
+use Rattle.clfs_restore.proofs.Words.{Reads, AreReadable, pieces_from}
 use Rattle.std.proofs.Common.{◌^◌}
 use Rattle.clfs_restore.proofs.containers.put_containers.Given as goal
 

@@ -1,5 +1,5 @@
-use Rattle.clfs_restore.proofs.Words.{inl, inr, ⊎_elim, ◌⊎◌, sym, ◌∙◌, subst, IsTrue, lsn_number, container_of, Files, Nature, HasNoCopy, NoneOrFirst,
-    restored_copy, GrowsBase, ComesAtOnce}
+use Rattle.clfs_restore.proofs.Words.{inl, inr, ⊎_elim, ◌⊎◌, sym, ◌∙◌, subst, IsTrue, lsn_number, container_of, Files, Nature, HasNoCopy, NoneOrFirst}
+use Rattle.clfs_restore.proofs.Words.{restored_copy, GrowsBase, ComesAtOnce}
 use Rattle.clfs_restore.proofs.Made.{StandFor, stand_after, whole_after, none_or_stand}
 use Rattle.clfs_restore.proofs.Moments.{Never, later_then, leaves_then, leaves_weaker, none_or, once_then, once_weaker, steady_still}
 use Rattle.clfs_restore.proofs.restoring.make_log.Goals as goal

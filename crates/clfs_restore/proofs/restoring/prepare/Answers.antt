@@ -1,7 +1,7 @@
 use Rattle.clfs_restore.proofs.Words.{inl, inr, ◌⊎◌, ℕ, List, length, subst, sym, on_ok_weaker, Files, GrownIn, HasNoCopy, BaseStays, base_bytes}
 use Rattle.std.specs.Prelude.{◌≤◌}
-use Rattle.clfs_restore.proofs.Moments.{Never, later_from, later_then, leaves_then, leaves_weaker, no_copy_same, no_copy_grown, no_copy_left, none_or,
-    once_begins, knows_still}
+use Rattle.clfs_restore.proofs.Moments.{Never, later_from, later_then, leaves_then, leaves_weaker, no_copy_same, no_copy_grown, no_copy_left, none_or}
+use Rattle.clfs_restore.proofs.Moments.{once_begins, knows_still}
 use Rattle.clfs_restore.proofs.restoring.prepare.Goals as goal
 
 pub returns-in_err-make_base-clause-moments : goal.returns-in_err-make_base-clause-moments

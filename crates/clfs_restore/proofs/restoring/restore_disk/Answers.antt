@@ -1,8 +1,9 @@
-use Rattle.clfs_restore.proofs.Words.{inl, inr, ⊎_elim, ◌≡◌, ◌⊎◌, ◌≤◌, ℕ, List, length, sym, ◌∙◌, ap, subst, on_ok_weaker, IfErr-weaker, Files, Unchanged,
-    TellsContents, Passes, HasNoCopy, base_bytes, GrowsBase, ComesAtOnce, StandForRestored, IsFreeCause, IsRestoreCause, IsOfMaking}
+use Rattle.clfs_restore.proofs.Words.{inl, inr, ⊎_elim, ◌≡◌, ◌⊎◌, ◌≤◌, ℕ, List, length, sym, ◌∙◌, ap, subst, on_ok_weaker, IfErr-weaker, Files, Unchanged}
+use Rattle.clfs_restore.proofs.Words.{TellsContents, Passes, HasNoCopy, base_bytes, GrowsBase, ComesAtOnce, StandForRestored, IsFreeCause, IsRestoreCause}
+use Rattle.clfs_restore.proofs.Words.{IsOfMaking}
 use Rattle.clfs_restore.proofs.Made.{none_open, told_cause}
-use Rattle.clfs_restore.proofs.Moments.{later_from, later_then, no_copy_same, reads_grow, reads_leave, grows_after_reads, once_after_reads, leaves_after_reads,
-    still_settled, tells_still, honest_still, steady_still, rises_still}
+use Rattle.clfs_restore.proofs.Moments.{later_from, later_then, no_copy_same, reads_grow, reads_leave, grows_after_reads, once_after_reads}
+use Rattle.clfs_restore.proofs.Moments.{leaves_after_reads, still_settled, tells_still, honest_still, steady_still, rises_still}
 use Rattle.clfs_restore.proofs.restoring.restore_disk.Goals as goal
 
 pub returns-in-Ok-Some-clause-moments : goal.returns-in-Ok-Some-clause-moments

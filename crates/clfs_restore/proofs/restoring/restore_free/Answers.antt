@@ -1,5 +1,5 @@
-use Rattle.clfs_restore.proofs.Words.{inl, inr, ⊎_elim, ◌≡◌, ◌⊎◌, refl, err_from_is_err_and, on_ok_weaker, IfErr-weaker, Files, GrownIn, HasNoCopy, base_bytes,
-    GrowsBase, ComesAtOnce, StandForRestored, IsFreeCause, IsOfMaking}
+use Rattle.clfs_restore.proofs.Words.{inl, inr, ⊎_elim, ◌≡◌, ◌⊎◌, refl, err_from_is_err_and, on_ok_weaker, IfErr-weaker, Files, GrownIn, HasNoCopy}
+use Rattle.clfs_restore.proofs.Words.{base_bytes, GrowsBase, ComesAtOnce, StandForRestored, IsFreeCause, IsOfMaking}
 use Rattle.clfs_restore.proofs.Made.{StandFor, stand_chosen, free_cause, making_cause, no_fault}
 use Rattle.clfs_restore.proofs.Moments.{passes_still, reads_leave, leaves_weaker, once_weaker}
 use Rattle.clfs_restore.proofs.restoring.restore_free.Goals as goal

@@ -1,5 +1,5 @@
-use Rattle.clfs_rows.proofs.Words.{refl, digits, decode_pairs, encode_with, grown, has_room, lsn_number, cut, fine_outcome, request_in, left_of, with_base,
-    codes}
+use Rattle.clfs_rows.proofs.Words.{refl, digits, decode_pairs, encode_with, grown, has_room, lsn_number, cut, fine_outcome, request_in, left_of, with_base}
+use Rattle.clfs_rows.proofs.Words.{codes}
 use Rattle.clfs_rows.specs.Crashes.{advance, advanced_log, rebasing_log, restart, restarted_log, two_streams_log, with_streams_of}
 use Rattle.clfs_rows.proofs.Decisions.{no, yes}
 use Rattle.clfs_rows.proofs.SurvivorTests.{is_survivor_of_line}

@@ -1,5 +1,5 @@
-use Rattle.clfs_rows.proofs.Words.{refl, digits, decode_pairs, encode_with, grown, has_room, fine_outcome, request_in, closed_at, waiting_log, empty_record,
-    map, ◌∷◌, []}
+use Rattle.clfs_rows.proofs.Words.{refl, digits, decode_pairs, encode_with, grown, has_room, fine_outcome, request_in, closed_at, waiting_log, empty_record}
+use Rattle.clfs_rows.proofs.Words.{map, ◌∷◌, []}
 use Rattle.clfs_rows.proofs.Decisions.{no, yes}
 use Rattle.clfs_rows.proofs.SurvivorTests.{splits_no_block, ends_block}
 use Rattle.clfs_rows.proofs.crashes.blocks_that_a_crash_leaves.Goals as goal

@@ -1,5 +1,5 @@
-use Rattle.clfs_rows.proofs.Words.{refl, digits, decode_pairs, encode_with, grown, has_room, cut, fine_outcome, request_in, with_broken, left_of, waiting_log,
-    codes}
+use Rattle.clfs_rows.proofs.Words.{refl, digits, decode_pairs, encode_with, grown, has_room, cut, fine_outcome, request_in, with_broken, left_of, waiting_log}
+use Rattle.clfs_rows.proofs.Words.{codes}
 use Rattle.clfs_rows.proofs.Decisions.{no, yes}
 use Rattle.clfs_rows.proofs.SurvivorTests.{is_survivor_of_line}
 use Rattle.clfs_rows.proofs.crashes.lines_that_flush_nothing.Goals as goal

@@ -1,5 +1,5 @@
-use Rattle.clfs_rows.proofs.Words.{refl, digits, decode_pairs, encode_with, grown, has_room, fine_outcome, line_request, request_in, closed_at, left_of,
-    long_append, long_log, waiting_log, opened_log, codes}
+use Rattle.clfs_rows.proofs.Words.{refl, digits, decode_pairs, encode_with, grown, has_room, fine_outcome, line_request, request_in, closed_at, left_of}
+use Rattle.clfs_rows.proofs.Words.{long_append, long_log, waiting_log, opened_log, codes}
 use Rattle.clfs_rows.specs.Crashes.{skipping_log, turned_log, turning_log}
 use Rattle.clfs_rows.proofs.Decisions.{no, yes}
 use Rattle.clfs_rows.proofs.SurvivorTests.{is_survivor_of_line, is_survivor}

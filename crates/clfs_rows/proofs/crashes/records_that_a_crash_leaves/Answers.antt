@@ -1,5 +1,5 @@
-use Rattle.clfs_rows.proofs.Words.{refl, digits, decode_pairs, encode_with, grown, has_room, fine_outcome, request_in, left_of, long_append, long_log,
-    waiting_log, with_other_data, map}
+use Rattle.clfs_rows.proofs.Words.{refl, digits, decode_pairs, encode_with, grown, has_room, fine_outcome, request_in, left_of, long_append, long_log}
+use Rattle.clfs_rows.proofs.Words.{waiting_log, with_other_data, map}
 use Rattle.std.specs.Prelude.{drop}
 use Rattle.clfs_rows.proofs.Decisions.{no}
 use Rattle.clfs_rows.proofs.SurvivorTests.{is_survivor_of_line}

@@ -1,5 +1,5 @@
-use Rattle.clfs_rows.proofs.Words.{refl, digits, decode_pairs, encode_with, grown, has_room, cut, fine_outcome, line_request, request_in, state_behind,
-    flushed_log, Some, codes}
+use Rattle.clfs_rows.proofs.Words.{refl, digits, decode_pairs, encode_with, grown, has_room, cut, fine_outcome, line_request, request_in, state_behind}
+use Rattle.clfs_rows.proofs.Words.{flushed_log, Some, codes}
 use Rattle.clfs_rows.specs.Crashes.{growing_append, growing_log}
 use Rattle.std.specs.Prelude.{true}
 use Rattle.clfs_rows.proofs.Decisions.{no, yes}

@@ -1,5 +1,5 @@
-use Rattle.clfs_rows.proofs.Words.{refl, digits, decode_pairs, encode_with, grown, has_room, fine_outcome, request_in, with_broken, left_of, long_append,
-    long_log, waiting_log}
+use Rattle.clfs_rows.proofs.Words.{refl, digits, decode_pairs, encode_with, grown, has_room, fine_outcome, request_in, with_broken, left_of, long_append}
+use Rattle.clfs_rows.proofs.Words.{long_log, waiting_log}
 use Rattle.clfs_rows.proofs.Decisions.{no, yes}
 use Rattle.clfs_rows.proofs.SurvivorTests.{is_survivor_of_line}
 use Rattle.clfs_rows.proofs.crashes.what_else_a_crash_leaves.Goals as goal

@@ -1,5 +1,5 @@
-use Rattle.clfs_rows.proofs.Words.{refl, digits, decode_pairs, encode_with, grown, has_room, fine_outcome, request_in, inr, Step, ReopenStep, with_broken,
-    opened_log, flushed_log}
+use Rattle.clfs_rows.proofs.Words.{refl, digits, decode_pairs, encode_with, grown, has_room, fine_outcome, request_in, inr, Step, ReopenStep, with_broken}
+use Rattle.clfs_rows.proofs.Words.{opened_log, flushed_log}
 use Rattle.clfs_rows.proofs.BrokenLog.{fault_breaks, no_fault_without_disk, no_fault_where_refused}
 use Rattle.clfs_rows.proofs.faults.what_a_fault_leaves.Goals as goal
 

@@ -1,5 +1,5 @@
-use Rattle.clfs_rows.proofs.Words.{refl, inr, false, digits, decode_pairs, encode_with, grown, has_room, Step, ReopenStep, with_broken, fine_outcome,
-    request_in, with_other_data, behind_first, behind_read, codes, read_log, second_record}
+use Rattle.clfs_rows.proofs.Words.{refl, inr, false, digits, decode_pairs, encode_with, grown, has_room, Step, ReopenStep, with_broken, fine_outcome}
+use Rattle.clfs_rows.proofs.Words.{request_in, with_other_data, behind_first, behind_read, codes, read_log, second_record}
 use Rattle.clfs_rows.specs.Interleaved.{behind_second, behind_third}
 use Rattle.clfs_model.specs.declared.reply.Reply.TheVariants as replies
 use Rattle.clfs_rows.proofs.Decisions.{yes}

@@ -1,5 +1,5 @@
-use Rattle.clfs_rows.proofs.Words.{refl, true, arith, digits, decode_pairs, encode_with, grown, has_room, Step, ReopenStep, fine_outcome, request_in, codes,
-    lsn_number, opened_log, with_other_data, behind_first, behind_read, read_log, second_record}
+use Rattle.clfs_rows.proofs.Words.{refl, true, arith, digits, decode_pairs, encode_with, grown, has_room, Step, ReopenStep, fine_outcome, request_in, codes}
+use Rattle.clfs_rows.proofs.Words.{lsn_number, opened_log, with_other_data, behind_first, behind_read, read_log, second_record}
 use Rattle.clfs_model.specs.declared.reply.Reply.TheVariants as replies
 use Rattle.clfs_rows.specs.Interleaved.{first_entry, read_entry}
 use Rattle.clfs_rows.proofs.Decisions.{no}

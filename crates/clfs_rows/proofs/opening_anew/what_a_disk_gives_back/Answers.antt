@@ -1,5 +1,5 @@
-use Rattle.clfs_rows.proofs.Words.{refl, digits, decode_pairs, encode_with, grown, has_room, lsn_number, cut, fine_outcome, request_in, two_containers,
-    unflushed_log, with_link_to_itself, with_one_changed, without_first, without_one, closed_at, with_other_data, ◌∷◌, []}
+use Rattle.clfs_rows.proofs.Words.{refl, digits, decode_pairs, encode_with, grown, has_room, lsn_number, cut, fine_outcome, request_in, two_containers}
+use Rattle.clfs_rows.proofs.Words.{unflushed_log, with_link_to_itself, with_one_changed, without_first, without_one, closed_at, with_other_data, ◌∷◌, []}
 use Rattle.std.specs.Prelude.{true}
 use Rattle.clfs_rows.proofs.Decisions.{no, yes}
 use Rattle.clfs_rows.proofs.SameTests.{reopens_up_to}

@@ -1,5 +1,5 @@
-use Rattle.clfs_rows.proofs.Words.{refl, digits, decode_pairs, encode_with, grown, has_room, lsn_number, cut, fine_outcome, request_in, with_broken,
-    unflushed_log, with_link_to_itself, with_one_changed, without_one, state_behind, opened_log, codes, []}
+use Rattle.clfs_rows.proofs.Words.{refl, digits, decode_pairs, encode_with, grown, has_room, lsn_number, cut, fine_outcome, request_in, with_broken}
+use Rattle.clfs_rows.proofs.Words.{unflushed_log, with_link_to_itself, with_one_changed, without_one, state_behind, opened_log, codes, []}
 use Rattle.std.specs.Prelude.{false}
 use Rattle.clfs_rows.proofs.Decisions.{no, yes}
 use Rattle.clfs_rows.proofs.SameTests.{reopens_up_to}

@@ -1,5 +1,5 @@
-use Rattle.clfs_rows.proofs.Words.{refl, digits, decode_pairs, encode_with, grown, has_room, lsn_number, fine_outcome, request_in, two_containers,
-    with_one_changed, without_first, without_one, with_base, with_other_data, Some}
+use Rattle.clfs_rows.proofs.Words.{refl, digits, decode_pairs, encode_with, grown, has_room, lsn_number, fine_outcome, request_in, two_containers}
+use Rattle.clfs_rows.proofs.Words.{with_one_changed, without_first, without_one, with_base, with_other_data, Some}
 use Rattle.clfs_rows.proofs.Decisions.{yes, no}
 use Rattle.clfs_rows.proofs.SameTests.{is_same}
 use Rattle.clfs_rows.proofs.sameness.records_that_are_compared.Goals as goal

@@ -1,5 +1,5 @@
-use Rattle.clfs_rows.proofs.Words.{refl, digits, decode_pairs, encode_with, grown, has_room, lsn_number, fine_outcome, request_in, with_broken, two_containers,
-    closed_at, with_base, Some, codes, ◌∷◌, []}
+use Rattle.clfs_rows.proofs.Words.{refl, digits, decode_pairs, encode_with, grown, has_room, lsn_number, fine_outcome, request_in, with_broken}
+use Rattle.clfs_rows.proofs.Words.{two_containers, closed_at, with_base, Some, codes, ◌∷◌, []}
 use Rattle.std.specs.Prelude.{true}
 use Rattle.clfs_rows.proofs.Decisions.{no}
 use Rattle.clfs_rows.proofs.SameTests.{is_same}

@@ -1,5 +1,5 @@
-use Rattle.clfs_rows.proofs.Words.{refl, digits, decode_pairs, encode_with, grown, has_room, fine_outcome, request_in, arranged_log, block_of, open_at,
-    with_place, with_one_changed, without_first, without_one, opened_log}
+use Rattle.clfs_rows.proofs.Words.{refl, digits, decode_pairs, encode_with, grown, has_room, fine_outcome, request_in, arranged_log, block_of, open_at}
+use Rattle.clfs_rows.proofs.Words.{with_place, with_one_changed, without_first, without_one, opened_log}
 use Rattle.clfs_rows.specs.Arranged.{with_bytes}
 use Rattle.clfs_rows.proofs.Decisions.{no, yes}
 use Rattle.clfs_rows.proofs.StorableTests.{is_storable}

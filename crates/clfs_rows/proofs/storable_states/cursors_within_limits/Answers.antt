@@ -1,5 +1,5 @@
-use Rattle.clfs_rows.proofs.Words.{refl, digits, decode_pairs, encode_with, grown, has_room, lsn_number, fine_outcome, request_in, Forward, Records,
-    RestartAreas, an_area, arranged_log, cursor_at, with_areas, with_cursors, worked, replicate, ◌∷◌, []}
+use Rattle.clfs_rows.proofs.Words.{refl, digits, decode_pairs, encode_with, grown, has_room, lsn_number, fine_outcome, request_in, Forward, Records}
+use Rattle.clfs_rows.proofs.Words.{RestartAreas, an_area, arranged_log, cursor_at, with_areas, with_cursors, worked, replicate, ◌∷◌, []}
 use Rattle.clfs_rows.proofs.Decisions.{no, yes}
 use Rattle.clfs_rows.proofs.StorableTests.{is_storable}
 use Rattle.clfs_rows.proofs.storable_states.cursors_within_limits.Goals as goal

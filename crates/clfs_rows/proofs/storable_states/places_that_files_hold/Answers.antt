@@ -1,5 +1,5 @@
-use Rattle.clfs_rows.proofs.Words.{refl, digits, decode_pairs, encode_with, grown, has_room, sealed, fine_outcome, request_in, arranged_log, open_at,
-    with_place, closed_at}
+use Rattle.clfs_rows.proofs.Words.{refl, digits, decode_pairs, encode_with, grown, has_room, sealed, fine_outcome, request_in, arranged_log, open_at}
+use Rattle.clfs_rows.proofs.Words.{with_place, closed_at}
 use Rattle.clfs_rows.specs.Filled.{last_of_all}
 use Rattle.clfs_rows.proofs.Decisions.{no, yes}
 use Rattle.clfs_rows.proofs.StorableTests.{is_storable}

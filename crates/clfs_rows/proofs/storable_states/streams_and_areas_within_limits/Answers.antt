@@ -1,5 +1,5 @@
-use Rattle.clfs_rows.proofs.Words.{refl, digits, decode_pairs, encode_with, grown, has_room, fine_outcome, request_in, an_area, with_areas, streams_of, worked,
-    codes, replicate, ◌∷◌, []}
+use Rattle.clfs_rows.proofs.Words.{refl, digits, decode_pairs, encode_with, grown, has_room, fine_outcome, request_in, an_area, with_areas, streams_of}
+use Rattle.clfs_rows.proofs.Words.{worked, codes, replicate, ◌∷◌, []}
 use Rattle.clfs_rows.specs.Arranged.{stream_named}
 use Rattle.clfs_rows.proofs.Decisions.{no, yes}
 use Rattle.clfs_rows.proofs.StorableTests.{is_storable}

@@ -1,5 +1,5 @@
-use Rattle.clfs_rows.proofs.Words.{refl, digits, decode_pairs, encode_with, grown, has_room, lsn_number, null_lsn, Restart, fine_outcome, request_in,
-    state_behind, with_other_data, read_log, second_record, codes}
+use Rattle.clfs_rows.proofs.Words.{refl, digits, decode_pairs, encode_with, grown, has_room, lsn_number, null_lsn, Restart, fine_outcome, request_in}
+use Rattle.clfs_rows.proofs.Words.{state_behind, with_other_data, read_log, second_record, codes}
 use Rattle.clfs_model.specs.declared.reply.Reply.TheVariants as replies
 use Rattle.clfs_rows.specs.ReadAnew.{restart_area, restart_log}
 use Rattle.std.specs.Prelude.{false}

@@ -1,5 +1,5 @@
-use Rattle.clfs_rows.proofs.Words.{refl, digits, decode_pairs, encode_with, grown, has_room, null_lsn, fine_outcome, request_in, state_behind, with_other_data,
-    read_log, second_record, codes}
+use Rattle.clfs_rows.proofs.Words.{refl, digits, decode_pairs, encode_with, grown, has_room, null_lsn, fine_outcome, request_in, state_behind}
+use Rattle.clfs_rows.proofs.Words.{with_other_data, read_log, second_record, codes}
 use Rattle.clfs_model.specs.declared.reply.Reply.TheVariants as replies
 use Rattle.std.specs.Prelude.{true}
 use Rattle.clfs_rows.proofs.Decisions.{yes, no}

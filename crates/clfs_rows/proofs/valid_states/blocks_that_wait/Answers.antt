@@ -1,5 +1,5 @@
-use Rattle.clfs_rows.proofs.Words.{refl, digits, decode_pairs, encode_with, grown, has_room, lsn_number, null_lsn, fine_outcome, request_in, open_log,
-    two_containers, long_log, waiting_log, with_base, ◌∷◌, []}
+use Rattle.clfs_rows.proofs.Words.{refl, digits, decode_pairs, encode_with, grown, has_room, lsn_number, null_lsn, fine_outcome, request_in, open_log}
+use Rattle.clfs_rows.proofs.Words.{two_containers, long_log, waiting_log, with_base, ◌∷◌, []}
 use Rattle.clfs_rows.proofs.Decisions.{yes, no}
 use Rattle.clfs_rows.proofs.ValidTests.{is_valid}
 use Rattle.clfs_rows.proofs.valid_states.blocks_that_wait.Goals as goal

@@ -1,5 +1,5 @@
-use Rattle.clfs_rows.proofs.Words.{refl, digits, decode_pairs, encode_with, grown, has_room, lsn_number, null_lsn, fine_outcome, request_in, open_log,
-    with_place, with_records, with_link_to_itself, closed_at, empty_record, ◌∷◌, []}
+use Rattle.clfs_rows.proofs.Words.{refl, digits, decode_pairs, encode_with, grown, has_room, lsn_number, null_lsn, fine_outcome, request_in, open_log}
+use Rattle.clfs_rows.proofs.Words.{with_place, with_records, with_link_to_itself, closed_at, empty_record, ◌∷◌, []}
 use Rattle.clfs_rows.proofs.Decisions.{no}
 use Rattle.clfs_rows.proofs.ValidTests.{is_valid}
 use Rattle.clfs_rows.proofs.valid_states.records_of_a_log.Goals as goal

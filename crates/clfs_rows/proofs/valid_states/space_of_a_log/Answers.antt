@@ -1,5 +1,5 @@
-use Rattle.clfs_rows.proofs.Words.{refl, digits, decode_pairs, encode_with, grown, has_room, null_lsn, fine_outcome, request_in, an_area, with_areas,
-    two_containers, with_base, opened_log, ◌∷◌, []}
+use Rattle.clfs_rows.proofs.Words.{refl, digits, decode_pairs, encode_with, grown, has_room, null_lsn, fine_outcome, request_in, an_area, with_areas}
+use Rattle.clfs_rows.proofs.Words.{two_containers, with_base, opened_log, ◌∷◌, []}
 use Rattle.clfs_rows.proofs.Decisions.{yes, no}
 use Rattle.clfs_rows.proofs.ValidTests.{is_valid}
 use Rattle.clfs_rows.proofs.valid_states.space_of_a_log.Goals as goal

@@ -1,5 +1,5 @@
-use Rattle.clfs_rows.proofs.Words.{refl, digits, decode_pairs, encode_with, grown, has_room, fine_outcome, request_in, log_of, arranged_log, open_log,
-    waiting_log, worked}
+use Rattle.clfs_rows.proofs.Words.{refl, digits, decode_pairs, encode_with, grown, has_room, fine_outcome, request_in, log_of, arranged_log, open_log}
+use Rattle.clfs_rows.proofs.Words.{waiting_log, worked}
 use Rattle.clfs_rows.proofs.Decisions.{yes}
 use Rattle.clfs_rows.proofs.ValidTests.{is_valid}
 use Rattle.clfs_rows.proofs.valid_states.states_that_a_log_can_be_in.Goals as goal

@@ -1,5 +1,5 @@
-use Rattle.clfs_rows.proofs.Words.{refl, digits, decode_pairs, encode_with, grown, has_room, lsn_number, null_lsn, fine_outcome, request_in, Forward, Records,
-    an_area, arranged_log, cursor_at, with_areas, with_cursors, streams_of, opened_log, worked, codes, ◌∷◌, []}
+use Rattle.clfs_rows.proofs.Words.{refl, digits, decode_pairs, encode_with, grown, has_room, lsn_number, null_lsn, fine_outcome, request_in, Forward, Records}
+use Rattle.clfs_rows.proofs.Words.{an_area, arranged_log, cursor_at, with_areas, with_cursors, streams_of, opened_log, worked, codes, ◌∷◌, []}
 use Rattle.std.specs.Prelude.{true}
 use Rattle.clfs_rows.proofs.Decisions.{yes, no}
 use Rattle.clfs_rows.proofs.ValidTests.{is_valid}

@@ -1,5 +1,5 @@
-use Rattle.clfs_rows.proofs.Words.{refl, digits, decode_pairs, encode_with, grown, has_room, lsn_number, fine_outcome, request_in, with_records, closed_at,
-    waiting_log, with_base, Some, ◌∷◌, []}
+use Rattle.clfs_rows.proofs.Words.{refl, digits, decode_pairs, encode_with, grown, has_room, lsn_number, fine_outcome, request_in, with_records, closed_at}
+use Rattle.clfs_rows.proofs.Words.{waiting_log, with_base, Some, ◌∷◌, []}
 use Rattle.clfs_rows.specs.Arranged.{empty_restart}
 use Rattle.clfs_rows.proofs.Decisions.{yes, no}
 use Rattle.clfs_rows.proofs.ValidTests.{is_valid}

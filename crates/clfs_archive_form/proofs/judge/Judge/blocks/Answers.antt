@@ -1,5 +1,5 @@
-use Rattle.clfs_archive_form.proofs.Words.{ℕ, ◌+◌, ◌*◌, Option, Result, Ok, Err, List, drop, refl, sym, ◌∙◌, ap, subst, arith, err_from_is_err_and, lsn_number,
-    frame_at, block_records, stored_in, LoadRefusal, blocks_in, Judging, JudgesBlock}
+use Rattle.clfs_archive_form.proofs.Words.{ℕ, ◌+◌, ◌*◌, Option, Result, Ok, Err, List, drop, refl, sym, ◌∙◌, ap, subst, arith, err_from_is_err_and}
+use Rattle.clfs_archive_form.proofs.Words.{lsn_number, frame_at, block_records, stored_in, LoadRefusal, blocks_in, Judging, JudgesBlock}
 use Rattle.clfs_block.specs.declared.head.BlockRefusal.TheVariants.{Closed}
 use Rattle.clfs_archive_form.proofs.Blocks.{AreRightTo, starts, goes_on, goes_within, is_refused, all_right, refuses}
 use Rattle.clfs_archive_form.proofs.judge.Judge.blocks.Goals as goal

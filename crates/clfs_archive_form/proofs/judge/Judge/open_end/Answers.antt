@@ -1,5 +1,5 @@
-use Rattle.clfs_archive_form.proofs.Words.{◌≡◌, ℕ, ◌+◌, ◌*◌, Option, Result, Ok, Err, List, drop, refl, sym, ◌∙◌, ap, subst, arith, err_from_is_err_and,
-    lsn_number, total, frame_at, block_records, LoadRefusal, DiskFault, Judging, JudgesBlock}
+use Rattle.clfs_archive_form.proofs.Words.{◌≡◌, ℕ, ◌+◌, ◌*◌, Option, Result, Ok, Err, List, drop, refl, sym, ◌∙◌, ap, subst, arith, err_from_is_err_and}
+use Rattle.clfs_archive_form.proofs.Words.{lsn_number, total, frame_at, block_records, LoadRefusal, DiskFault, Judging, JudgesBlock}
 use Rattle.clfs_archive_form.proofs.OpenEnds.{AreLeft, begin_left, left_none, on_closed, on_wrong, on_block, ends_within, refused_end}
 use Rattle.clfs_archive_form.proofs.judge.Judge.open_end.Goals as goal
 

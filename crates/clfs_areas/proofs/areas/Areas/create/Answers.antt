@@ -1,5 +1,5 @@
-use Rattle.clfs_areas.proofs.Words.{◌≡◌, ℕ, [], ◌∷◌, ◌++◌, ◌∙◌, ap, arith, List, count_by, least_unused, Reservation, without, is_client_row, is_used, name_in,
-    Inside, AreaName, AreaRow}
+use Rattle.clfs_areas.proofs.Words.{◌≡◌, ℕ, [], ◌∷◌, ◌++◌, ◌∙◌, ap, arith, List, count_by, least_unused, Reservation, without, is_client_row, is_used}
+use Rattle.clfs_areas.proofs.Words.{name_in, Inside, AreaName, AreaRow}
 use Rattle.clfs_areas.proofs.Clients.{count_of_client, unused_in_state}
 use Rattle.clfs_areas.proofs.Made.{with_name, added_goes, ledger_has_none, told_again, joined_again, told_now, joined_now}
 use Rattle.clfs_areas.proofs.Parts.{parts_seen}

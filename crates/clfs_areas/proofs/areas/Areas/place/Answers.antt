@@ -1,5 +1,5 @@
-use Rattle.clfs_areas.proofs.Words.{◌≡◌, ℕ, ◌<◌, ◌∙◌, ap, sym, refl, List, length, Option, Some, None, find, position, option_map, Area, is_area, no_area,
-    area_at}
+use Rattle.clfs_areas.proofs.Words.{◌≡◌, ℕ, ◌<◌, ◌∙◌, ap, sym, refl, List, length, Option, Some, None, find, position, option_map, Area, is_area, no_area}
+use Rattle.clfs_areas.proofs.Words.{area_at}
 use Rattle.std.specs.Prelude.{IfSome}
 use Rattle.clfs_areas.proofs.First.{found_first, find_at_place}
 use Rattle.clfs_areas.proofs.Named.{place_named, different_areas, named_client, named_number}

@@ -1,5 +1,5 @@
-use Rattle.clfs_buffers.proofs.Words.{◌≡◌, ℕ, ◌+◌, List, drop, Option, Some, None, Result, Ok, Err, sym, ◌∙◌, ap, subst, arith, err_from_is_err_and, slice_get,
-    ok_or, sequence_of, LogEntry, told_as, block_records, BlockPlace, block_place, first_lsn, refused_at, HaveLsns}
+use Rattle.clfs_buffers.proofs.Words.{◌≡◌, ℕ, ◌+◌, List, drop, Option, Some, None, Result, Ok, Err, sym, ◌∙◌, ap, subst, arith, err_from_is_err_and}
+use Rattle.clfs_buffers.proofs.Words.{slice_get, ok_or, sequence_of, LogEntry, told_as, block_records, BlockPlace, block_place, first_lsn, refused_at, HaveLsns}
 use Rattle.std.specs.Option.{option_copied}
 use Rattle.clfs_lsn.specs.Lsn.{offset_of}
 use Rattle.clfs_buffers.specs.Reading.{Gives}

@@ -1,5 +1,5 @@
-use Rattle.clfs_buffers.proofs.Words.{◌≡◌, ℕ, ◌+◌, ◌≤◌, List, length, Option, Some, get_or, take, drop, sym, ◌∙◌, ap, subst, arith, ◌-◌, length-drop,
-    length-take, option_map, slice_get, size, header_of, entry_of, LogEntry, first_lsn, IsStart}
+use Rattle.clfs_buffers.proofs.Words.{◌≡◌, ℕ, ◌+◌, ◌≤◌, List, length, Option, Some, get_or, take, drop, sym, ◌∙◌, ap, subst, arith, ◌-◌, length-drop}
+use Rattle.clfs_buffers.proofs.Words.{length-take, option_map, slice_get, size, header_of, entry_of, LogEntry, first_lsn, IsStart}
 use Rattle.clfs_buffers.proofs.Positions.{record_there, none_there, read_whole}
 use Rattle.clfs_buffers.proofs.kept.KeptBlock.data_at.Goals as goal
 

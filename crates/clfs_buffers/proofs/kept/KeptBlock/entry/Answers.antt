@@ -1,5 +1,5 @@
-use Rattle.clfs_buffers.proofs.Words.{◌≡◌, ℕ, ◌+◌, List, length, Option, Some, Result, Ok, Err, get_or, drop, sym, ◌∙◌, ap, arith, length-drop, length-take,
-    ok_or, slice_get, record_at, entry_of, header_of, LogEntry, first_lsn, IsStart}
+use Rattle.clfs_buffers.proofs.Words.{◌≡◌, ℕ, ◌+◌, List, length, Option, Some, Result, Ok, Err, get_or, drop, sym, ◌∙◌, ap, arith, length-drop, length-take}
+use Rattle.clfs_buffers.proofs.Words.{ok_or, slice_get, record_at, entry_of, header_of, LogEntry, first_lsn, IsStart}
 use Rattle.clfs_buffers.proofs.Positions.{record_there, none_there}
 use Rattle.clfs_buffers.proofs.kept.KeptBlock.entry.Goals as goal
 

@@ -1,5 +1,6 @@
-use Rattle.clfs_buffers.proofs.Words.{◌≡◌, ℕ, ◌+◌, List, Result, Ok, Err, sym, ◌∙◌, ap, subst, arith, err_from_is_err_and, LogEntry, Shape, frame_at, told_as,
-    records_from, block_records, block_refused, BlockHead, BlockRefusal, Closed, BadByte, NoMemory, first_lsn, RefusesAs, records_at}
+use Rattle.clfs_buffers.proofs.Words.{◌≡◌, ℕ, ◌+◌, List, Result, Ok, Err, sym, ◌∙◌, ap, subst, arith, err_from_is_err_and, LogEntry, Shape, frame_at, told_as}
+use Rattle.clfs_buffers.proofs.Words.{records_from, block_records, block_refused, BlockHead, BlockRefusal, Closed, BadByte, NoMemory, first_lsn, RefusesAs}
+use Rattle.clfs_buffers.proofs.Words.{records_at}
 use Rattle.clfs_block.specs.Frame.{payload_of}
 use Rattle.clfs_block.specs.RecordLaws.{records_refused, rest_refused, block_read}
 use Rattle.clfs_buffers.proofs.Positions.{have_lsns}

@@ -1,5 +1,5 @@
-use Rattle.clfs_cursor.proofs.Words.{◌≡◌, ℕ, ◌+◌, ◌≤◌, ◌∙◌, ap, sym, subst, refl, List, length, map, None, is_some, cond, count_by, remove, get, slab_len,
-    Table, Keys, area_by, has_key, uses_in, AreOwned, Numbered}
+use Rattle.clfs_cursor.proofs.Words.{◌≡◌, ℕ, ◌+◌, ◌≤◌, ◌∙◌, ap, sym, subst, refl, List, length, map, None, is_some, cond, count_by, remove, get, slab_len}
+use Rattle.clfs_cursor.proofs.Words.{Table, Keys, area_by, has_key, uses_in, AreOwned, Numbered}
 use Rattle.clfs_cursor.proofs.Opened.{row_there}
 use Rattle.clfs_cursor.proofs.Removed.{removed_areas, removed_owned, row_is_owned}
 use Rattle.clfs_cursor.proofs.cursors.Cursors.remove_area.Goals as goal

@@ -1,5 +1,5 @@
-use Rattle.clfs_cursor.proofs.Words.{◌≡◌, ◌<◌, ◌++◌, [], ◌∷◌, ◌∙◌, sym, ap, subst, length, slice_set, unused_cursor, AreaCursors, Table, area_at, with_cursors,
-    Keys, area_by, AreOwned}
+use Rattle.clfs_cursor.proofs.Words.{◌≡◌, ◌<◌, ◌++◌, [], ◌∷◌, ◌∙◌, sym, ap, subst, length, slice_set, unused_cursor, AreaCursors, Table, area_at}
+use Rattle.clfs_cursor.proofs.Words.{with_cursors, Keys, area_by, AreOwned}
 use Rattle.std.specs.Prelude.{map}
 use Rattle.clfs_cursor.proofs.Opened.{row_there, area_seen}
 use Rattle.clfs_cursor.proofs.Seen.{unused_seen}

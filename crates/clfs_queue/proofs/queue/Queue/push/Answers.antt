@@ -1,5 +1,5 @@
-use Rattle.clfs_queue.proofs.Words.{◌≡◌, ℕ, ◌<◌, ◌≤◌, length, refl, ap, sym, ◌∙◌, subst, arith, lsn_number, IsWithin, place_after, longest, FitsAt, LogEntry,
-    Place, placed_record, Queued, HasRoomFor}
+use Rattle.clfs_queue.proofs.Words.{◌≡◌, ℕ, ◌<◌, ◌≤◌, length, refl, ap, sym, ◌∙◌, subst, arith, lsn_number, IsWithin, place_after, longest, FitsAt, LogEntry}
+use Rattle.clfs_queue.proofs.Words.{Place, placed_record, Queued, HasRoomFor}
 use Rattle.clfs_lsn.specs.Spelling.{BaseFits}
 use Rattle.clfs_queue.proofs.Shown.{shown}
 use Rattle.clfs_queue.specs.Queued.{next_lsn}

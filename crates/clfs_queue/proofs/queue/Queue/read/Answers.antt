@@ -1,5 +1,5 @@
-use Rattle.clfs_queue.proofs.Words.{◌≡◌, ◌-◌, ℕ, List, length, take, drop, ap, sym, ◌∙◌, subst, arith, IsSome, Some, offset_of, sequence_of, LogEntry, Queued,
-    data_at, IsHeld}
+use Rattle.clfs_queue.proofs.Words.{◌≡◌, ◌-◌, ℕ, List, length, take, drop, ap, sym, ◌∙◌, subst, arith, IsSome, Some, offset_of, sequence_of, LogEntry, Queued}
+use Rattle.clfs_queue.proofs.Words.{data_at, IsHeld}
 use Rattle.std.specs.Prelude.{IfOk, Option, Result, Ok, Err}
 use Rattle.std.proofs.lemmas.List.{take_rest}
 use Rattle.std.specs.declared.alloc.AllocError.{AllocError}
