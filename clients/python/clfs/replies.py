@@ -1,6 +1,6 @@
 """What the program answers: LSNs, records and other values, why a call may fail, and how a reply is read.
 
-A reply is read strictly: what the language doesn't have raises ValueError, and `clfs.py` makes an `UnknownReply` of it.
+A reply is read strictly: what the language doesn't have raises ValueError, and the handle makes an `UnknownReply` of it.
 """
 
 from __future__ import annotations
