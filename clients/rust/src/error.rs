@@ -5,6 +5,7 @@ use std::io;
 
 /// Why a call wasn't done.
 #[derive(Debug)]
+#[non_exhaustive]
 pub enum Error {
     /// The log refused the call. Except after [`Refusal::DiskFault`] and [`Refusal::Damaged`] it is as it was; after these two it is broken until
     /// the next start.
@@ -25,6 +26,7 @@ pub enum Error {
 
 /// Why the log refused a call, with the fields that it told.
 #[derive(Clone, Copy, Debug, PartialEq, Eq)]
+#[non_exhaustive]
 pub enum Refusal {
     /// The program found no memory.
     NoMemory,
@@ -33,33 +35,78 @@ pub enum Refusal {
     /// An earlier call was answered `DiskFault` or `Damaged`.
     Broken,
     /// A log of one container takes no records.
-    NotEnoughContainers { have: u32 },
+    NotEnoughContainers {
+        /// The containers that it has.
+        have: u32,
+    },
     /// The free sectors are fewer than the reserved ones and those that the call needs.
-    Full { free: u32, reserved: u32, need: u32 },
+    Full {
+        /// The free sectors.
+        free: u32,
+        /// The sectors that all areas hold.
+        reserved: u32,
+        /// The sectors that the call needs.
+        need: u32,
+    },
     /// The area holds fewer sectors than the call takes from it.
-    ReservationShort { held: u32, need: u32 },
+    ReservationShort {
+        /// The sectors that the area holds.
+        held: u32,
+        /// The sectors that the call takes.
+        need: u32,
+    },
     /// A length is above the area's largest, or an area's largest above the log's longest record.
-    RecordTooLong { length: u32, most: u32 },
+    RecordTooLong {
+        /// The length.
+        length: u32,
+        /// The longest one that is allowed.
+        most: u32,
+    },
     /// The link is neither null, nor below the stream's base, nor a live record's.
-    LinkInvalid { lsn: Lsn },
+    LinkInvalid {
+        /// The link.
+        lsn: Lsn,
+    },
     /// No stream has the number.
     NoSuchStream,
     /// The client has no area of the number.
     NoSuchArea,
     /// Bytes on the disk aren't those that a log has. Container 0 is the base file.
-    Damaged { container: u32, offset: u32, at: u32 },
+    Damaged {
+        /// The id of the container.
+        container: u32,
+        /// The offset of the block, in bytes.
+        offset: u32,
+        /// The byte of the block.
+        at: u32,
+    },
     /// The area has no cursor of the number and kind.
     NoSuchCursor,
     /// The log has as many streams as it may have.
-    StreamLimit { count: u32 },
+    StreamLimit {
+        /// How many it has.
+        count: u32,
+    },
     /// The client has as many areas as it may have.
-    AreaLimit { count: u32 },
+    AreaLimit {
+        /// How many the client has.
+        count: u32,
+    },
     /// The area has as many cursors as it was made for.
-    CursorLimit { open: u32 },
+    CursorLimit {
+        /// How many cursors are open.
+        open: u32,
+    },
     /// Byte `at` of the name isn't a letter, a digit, `_`, `-` or `.`, or the name is too long.
-    NameInvalid { at: u32 },
+    NameInvalid {
+        /// The byte of the name, from 0.
+        at: u32,
+    },
     /// No live record of the stream has the LSN; for `flush_to`, no record of the log lies there yet.
-    RecordNonexistent { lsn: Lsn },
+    RecordNonexistent {
+        /// The LSN that was asked for.
+        lsn: Lsn,
+    },
     /// No record of the stream follows.
     EndOfLog,
     /// The link of the cursor's record names no live record.
@@ -67,21 +114,51 @@ pub enum Refusal {
     /// There is no restart area, or none before the cursor's.
     NoRestart,
     /// The new base is neither a live record's LSN nor one above the last one's.
-    TailInvalid { lsn: Lsn, base: Lsn, last: Lsn },
+    TailInvalid {
+        /// The base that was asked for.
+        lsn: Lsn,
+        /// The stream's base.
+        base: Lsn,
+        /// The stream's last live record, or null.
+        last: Lsn,
+    },
     /// The new tail is below the old one, or above what is on the disk.
-    ArchiveTailInvalid { lsn: Lsn, tail: Lsn, flushed: Lsn },
+    ArchiveTailInvalid {
+        /// The tail that was asked for.
+        lsn: Lsn,
+        /// The archive tail.
+        tail: Lsn,
+        /// All records below it are on the disk.
+        flushed: Lsn,
+    },
     /// Archiving is off.
     Ephemeral,
     /// Fewer containers were asked for than are needed.
-    CantShrink { active: u32, need: u32 },
+    CantShrink {
+        /// The containers that are in use.
+        active: u32,
+        /// The fewest that are allowed.
+        need: u32,
+    },
     /// More containers were asked for than the policies or the log allow.
-    ContainerLimit { limit: u32 },
+    ContainerLimit {
+        /// The most that are allowed.
+        limit: u32,
+    },
     /// The value is outside its range.
-    PolicyConflict { least: u32, most: u32 },
+    PolicyConflict {
+        /// The least value.
+        least: u32,
+        /// The greatest value.
+        most: u32,
+    },
     /// The policy isn't there.
     PolicyNotInstalled,
     /// The language has no such line: it goes wrong at byte `at`, as at a client 0 or a cursor 17.
-    BadLine { at: u32 },
+    BadLine {
+        /// The byte of the line, from 0.
+        at: u32,
+    },
     /// The log is dedicated and has its one stream already.
     Dedicated,
 }
@@ -97,6 +174,7 @@ pub struct Ending {
 
 /// How the program ended.
 #[derive(Clone, Copy, Debug, PartialEq, Eq)]
+#[non_exhaustive]
 pub enum End {
     /// With status 0.
     Well,

@@ -1,29 +1,6 @@
-//! A client of the log manager clfs: it starts the program over a folder, sends lines of the script and reads the replies.
-//!
-//! ```no_run
-//! use clfs::{Draft, Log, Mode};
-//!
-//! fn main() -> Result<(), clfs::Error> {
-//!     clfs::format("log", &clfs::Sizes { block_sectors: 8, container_sectors: 1024, containers: 4, dedicated: false }, "clfs")?;
-//!     let mut log = Log::start("log")?;
-//!     let stream = log.open(1, "orders")?;
-//!     let orders = log.area(1, stream, 1000, 4)?;
-//!     let first = log.append(orders, &Draft::new(b"begin"))?;
-//!     let last = log.append(orders, &Draft { previous: first, undo_next: first, flush: true, ..Draft::new(b"commit") })?;
-//!     for record in log.records(orders, last, Mode::Previous)? {
-//!         let record = record?;
-//!         println!("{} {:?}", record.lsn, record.data);
-//!     }
-//!     log.close()
-//! }
-//! ```
-//!
-//! A call waits for its reply. [`Log::send_append`], [`Log::send_read`] and so on don't: they give a [`Ticket`], and [`Log::answer`] waits. Any
-//! number of lines may be under way. Replies come in the order of the lines.
-//!
-//! A record is safe once a flush was answered: an append with `flush`, [`Log::flush`], [`Log::flush_to`], [`Log::restart`], [`Log::advance`].
-//! Closing doesn't flush.
+#![doc = include_str!("../README.md")]
 #![forbid(unsafe_code)]
+#![warn(missing_docs)]
 
 mod error;
 mod pipe;

@@ -191,6 +191,7 @@ pub struct Extent {
 
 /// A rule for the size of the log, with its value.
 #[derive(Clone, Copy, Debug, PartialEq, Eq)]
+#[non_exhaustive]
 pub enum Policy {
     /// The most containers.
     Maximum(u16),
@@ -204,6 +205,7 @@ pub enum Policy {
 
 /// A kind of rule for the size of the log.
 #[derive(Clone, Copy, Debug, PartialEq, Eq)]
+#[non_exhaustive]
 pub enum PolicyKind {
     /// The most containers.
     Maximum,
