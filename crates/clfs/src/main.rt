@@ -3,14 +3,17 @@
 //! Everything that matters is `clfs_engine::run_alone`, which is proved over any source, sink and disk. Here the two standard streams become a source and a
 //! sink, the folder a disk, and the words after it the command. A command that starts threads is run by `clfs_engine::run`, which may wait; `share`, whose
 //! clients have paths of their own, by `clfs_engine::run_share`. A word that isn't text, or no folder, is no command. `--help` and `--version` are words in the
-//! folder's place, answered here. Standard error has what standard output doesn't say: which words are allowed in the place of those that are no command, and why
-//! a run, or a client that shares the log, ended without its work done. On a terminal it has how far a large log was read, but for `share`.
+//! folder's place, answered here. Standard error has what standard output doesn't say: which words are allowed in the place of those that are no command, or
+//! the help that they ask for, and why a run, or a client that shares the log, ended without its work done. On a terminal it has how far a large log was read,
+//! but for `share`.
 #![tactic(auto)]
 
 mod clients;
+mod usage;
 
 use crate::clients::{Clients, may_share};
-use clfs_command::{asks_to_share, form_of, help_text};
+use crate::usage::answer_to;
+use clfs_command::{asks_to_share, help_text};
 use clfs_engine::{
     DONE, NO_MEMORY, NOT_A_LOG, SINK_FAULT, SOURCE_FAULT, USAGE, run, run_alone, run_share,
 };
@@ -131,15 +134,15 @@ fn run_command(rt: &HostRuntime, threads: &(impl Threads + Wait + Sync), words: 
         run_folder(rt, threads, path, command)
     };
     if status == USAGE {
-        tell_form(rt, command);
+        tell_usage(rt, command);
     }
     status
 }
 
-// Says on standard error which words are allowed in the place of these.
-fn tell_form(rt: &HostRuntime, command: &[String]) {
-    if let Ok(line) = form_of(rt.alloc(), command) {
-        let _said = rt.eprintln(line.as_str());
+// Says on standard error which words are allowed in the place of these, or the help that they ask for.
+fn tell_usage(rt: &HostRuntime, command: &[String]) {
+    if let Ok(text) = answer_to(rt.alloc(), command) {
+        let _said = rt.eprintln(text.as_str());
     }
 }
 
