@@ -46,7 +46,9 @@ def write_wheel(folder, files):
     with zipfile.ZipFile(pathlib.Path(folder) / wheel, "w", zipfile.ZIP_DEFLATED) as archive:
         for name, data in {**files, f"{about}/RECORD": record.encode()}.items():
             # Without the time of the file, so that the same sources give the same wheel.
-            archive.writestr(zipfile.ZipInfo(name), data, zipfile.ZIP_DEFLATED)
+            entry = zipfile.ZipInfo(name)
+            entry.external_attr = 0o644 << 16
+            archive.writestr(entry, data, zipfile.ZIP_DEFLATED)
     return wheel
 
 

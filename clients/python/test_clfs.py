@@ -289,10 +289,10 @@ class OnTheProgram(Folder):
         for call in (pending.result, area.flush, log.reopen):
             with self.assertRaises(clfs.TimedOut):
                 call()
-        # (the program was killed, so its folder is free)
+        # (the program was killed, and closing waits for its end, so its folder is free)
+        log.close()
         with self.start() as again:
             self.assertEqual(again.area("orders", largest=960).record(Lsn.parse("1:0:0")).data, b"kept")
-        log.close()
 
     def test_a_start_and_an_end_that_take_too_long(self):
         for call in (clfs.Log, lambda folder, **more: clfs.format(folder, block_sectors=2, container_sectors=8, containers=2, **more)):

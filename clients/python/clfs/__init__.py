@@ -35,12 +35,13 @@ import weakref
 from collections import deque
 from typing import Any, Callable, Deque, Generic, Iterator, List, Optional, Sequence, Tuple, Type, TypeVar, Union
 
-from clfs import replies
-from clfs._program import Program, deadline_after
-from clfs.replies import *
+from . import replies
+from ._program import Program, deadline_after
+from .replies import *
 
 # Without `format`, which would hide the built-in one from who takes all names.
-__all__ = [*replies.__all__, "Pending", "Log", "Area", "Cursor", "RestartCursor"]
+__all__ = ["Pending", "Log", "Area", "Cursor", "RestartCursor"]
+__all__ += replies.__all__
 __version__ = "0.1.0"
 
 T = TypeVar("T")

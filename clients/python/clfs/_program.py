@@ -18,7 +18,7 @@ import subprocess
 import time
 from typing import Any, List, Optional, Type
 
-from clfs.replies import Ended, Locked, NoFolder, NoPermission, TimedOut
+from .replies import Ended, Locked, NoFolder, NoPermission, TimedOut
 
 _BEGINNINGS = {b"clfs: locked: ": Locked, b"clfs: no folder: ": NoFolder, b"clfs: no permission: ": NoPermission}
 # As many bytes as any of these may have.
