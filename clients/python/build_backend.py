@@ -40,6 +40,8 @@ def write_wheel(folder, files):
     about = f"{release}.dist-info"
     kind = b"Wheel-Version: 1.0\nGenerator: clfs\nRoot-Is-Purelib: true\nTag: py3-none-any\n"
     files = {**files, f"{about}/METADATA": metadata, f"{about}/WHEEL": kind}
+    if (HERE / "clfs_look.py").exists():
+        files[f"{about}/entry_points.txt"] = b"[console_scripts]\nclfs-look = clfs_look:main\n"
     sums = {name: base64.urlsafe_b64encode(hashlib.sha256(data).digest()).rstrip(b"=").decode() for name, data in files.items()}
     record = "".join(f"{name},sha256={sums[name]},{len(data)}\n" for name, data in files.items()) + f"{about}/RECORD,,\n"
     wheel = f"{release}-py3-none-any.whl"
