@@ -9,11 +9,9 @@
 #![tactic(auto)]
 
 mod clients;
-mod usage;
 
 use crate::clients::{Clients, may_share};
-use crate::usage::answer_to;
-use clfs_command::{asks_to_share, help_text};
+use clfs_command::{answer_to, asks_to_share, help_text};
 use clfs_engine::{
     DONE, NO_MEMORY, NOT_A_LOG, SINK_FAULT, SOURCE_FAULT, USAGE, run, run_alone, run_share,
 };

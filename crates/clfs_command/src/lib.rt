@@ -12,11 +12,13 @@ mod forms;
 mod help;
 mod line;
 mod share;
+mod usage;
 mod words;
 
 pub use forms::form_of;
 pub use help::help_text;
 pub use share::{PathPair, ShareWords, asks_to_share, read_share};
+pub use usage::answer_to;
 pub use words::{
     AskedName, Command, DataWord, DumpOptions, ScriptLength, WordsRefusal, read_command,
 };

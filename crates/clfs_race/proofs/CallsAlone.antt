@@ -1,10 +1,10 @@
 -- In the language of calls alone no line asks to open the log again: after a client stands the verb of a call.
-use Rattle.std.proofs.Common.{◌≡◌, ℕ, List, [], ◌∷◌, length, true, refl, Some, None, Ok, Err}
-use Rattle.std.specs.Prelude.{Option, Result, IfSome}
+use Rattle.clfs_race.proofs.Words.{◌≡◌, ℕ, List, [], ◌∷◌, length, true, refl, Some, None, Ok, Err, Option, Result, IfSome, words_of, Request, Rest, Read}
+use Rattle.clfs_race.proofs.Words.{Word, Verb, ◌>>=◌, value_or, word, word_at, words_from, client_word, allowed_verb, call_line, request_behind, calls_alone}
+use Rattle.clfs_race.proofs.Words.{client_line, request_or_bad, request_in}
 use Rattle.std.specs.Option.{option_map}
-use Rattle.clfs_model.specs.Lines.{words_of}
-use Rattle.clfs_model.specs.Run.{Request, is_no_reopening}
-use Rattle.clfs_model.specs.Script.{Rest, Read, Word, Verb, ◌>>=◌, value_or, word, word_at, words_from, client_word, verb_word, allowed_verb, call_line, request_behind, calls_alone, client_line, request_or_bad, request_in}
+use Rattle.clfs_model.specs.Run.{is_no_reopening}
+use Rattle.clfs_model.specs.Script.{verb_word}
 
 -- what was read has a property
 abbrev Has : {A : Type 0} → (A → Type 0) → Result A ℕ → Type 0

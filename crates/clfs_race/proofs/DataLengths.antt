@@ -1,9 +1,7 @@
 -- What a word of hexadecimal digits spells is no longer than the word.
-use Rattle.std.proofs.Common.{◌≡◌, ℕ, ◌+◌, ◌%◌, ◌≤◌, refl, List, [], ◌∷◌, length, Ok, Err, arith, inl, inr}
-use Rattle.std.specs.Prelude.{Result, ◌==◌}
-use Rattle.std.proofs.lemmas.Bool.{cases_Bool}
-use Rattle.hex.specs.Hex.{◌>>=◌, decode_of, decode_pairs, pair_value}
-use Rattle.hex.specs.declared.error.FromHexError.{FromHexError}
+use Rattle.clfs_race.proofs.Words.{◌≡◌, ℕ, ◌+◌, ◌≤◌, refl, List, [], ◌∷◌, length, Ok, Err, arith, inl, inr, Result, ◌==◌, cases_Bool, decode_of, FromHexError}
+use Rattle.std.proofs.Common.{◌%◌}
+use Rattle.hex.specs.Hex.{◌>>=◌, decode_pairs, pair_value}
 
 -- where the second step gave a value the first gave one
 given : {A B : Type 0} (r : Result A FromHexError) (f : A → Result B FromHexError) (y : B) → (r >>= f) ≡ Ok y → (x : A) × ((r ≡ Ok x) × (f x ≡ Ok y))

@@ -1,13 +1,13 @@
 -- The lines of bytes of which the first is known, and what the limits say of them.
-use Rattle.std.proofs.Common.{◌≡◌, ℕ, zero, suc, ◌+◌, ◌-◌, ◌≤◌, ◌<◌, List, [], ◌∷◌, ◌++◌, length, take, Bool, true, false, refl, sym, ap, ◌∙◌, arith, inl, inr}
-use Rattle.std.specs.Prelude.{nat_le, ◌==◌, ◌&&◌, take_while}
-use Rattle.std.specs.List.{slice_split, onto_first, list_all}
-use Rattle.std.proofs.lemmas.Bool.{cases_Bool, le-leb, lt-leb, ne_eqb}
+use Rattle.clfs_race.proofs.Words.{◌≡◌, ℕ, zero, suc, ◌+◌, ◌-◌, ◌≤◌, ◌<◌, List, [], ◌∷◌, ◌++◌, length, take, Bool, true, false, refl, sym, ap, ◌∙◌, arith}
+use Rattle.clfs_race.proofs.Words.{inl, inr, nat_le, ◌==◌, ◌&&◌, slice_split, onto_first, list_all, cases_Bool, le-leb, ne_eqb, lines_of, race_limits}
+use Rattle.clfs_race.proofs.Words.{ended_lines, is_feed, HasNoFeed}
+use Rattle.std.specs.Prelude.{take_while}
+use Rattle.std.proofs.lemmas.Bool.{lt-leb}
 use Rattle.std.proofs.lemmas.List.Sums.{take_while-cons}
 use Rattle.std.proofs.lemmas.List.Splits.{slice_split_none, slice_split_at}
-use Rattle.clfs_model.specs.Lines.{lines_of, whole_lines}
-use Rattle.clfs_model.specs.Accepted.{race_limits, is_within, ended_lines, without_last}
-use Rattle.clfs_race.specs.Feeds.{is_feed, HasNoFeed}
+use Rattle.clfs_model.specs.Lines.{whole_lines}
+use Rattle.clfs_model.specs.Accepted.{is_within, without_last}
 
 -- ---- parts
 

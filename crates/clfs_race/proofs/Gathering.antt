@@ -1,21 +1,18 @@
 -- The calls of lines, gathered client by client.
-use Rattle.std.proofs.Common.{◌≡◌, ℕ, zero, suc, ◌<◌, List, [], ◌∷◌, ◌++◌, length, Bool, true, false, refl, sym, ap, subst, ◌∙◌, Some, None, arith, inl, inr, slice_set, slice_index_or, position}
-use Rattle.std.specs.Prelude.{Option, ◌==◌, ◌||◌, ◌&&◌, not, if◌then◌else◌}
+use Rattle.clfs_race.proofs.Words.{◌≡◌, ℕ, zero, suc, ◌<◌, List, [], ◌∷◌, ◌++◌, length, Bool, true, false, refl, sym, ap, subst, ◌∙◌, Some, None, arith, inl}
+use Rattle.clfs_race.proofs.Words.{inr, slice_set, Option, ◌==◌, ◌&&◌, if◌then◌else◌, cases_Bool, eqb-true, ne_eqb, append-nil, Call, IsClient, HasArguments}
+use Rattle.clfs_race.proofs.Words.{ClientScript, Request, reopens, Meets, Division, IsDivided, IsDividedFurther}
+use Rattle.std.proofs.Common.{slice_index_or, position}
+use Rattle.std.specs.Prelude.{◌||◌, not}
 use Rattle.std.specs.List.{All}
-use Rattle.std.proofs.lemmas.Bool.{cases_Bool, eqb-true, ne_eqb, eq-eqb}
-use Rattle.std.proofs.lemmas.List.{append-nil}
+use Rattle.std.proofs.lemmas.Bool.{eq-eqb}
 use Rattle.std.proofs.lemmas.List.Elements.{All-nil, All-head, All-tail, All-cons, All-push}
 use Rattle.std.proofs.lemmas.List.Quantifiers.{position-Some}
 use Rattle.std.proofs.lemmas.Grind.{common_steps}
 use Rattle.clfs_turn.specs.Lists.{is_in, are_distinct}
-use Rattle.clfs_model.specs.declared.call.Call.{Call}
-use Rattle.clfs_model.specs.Conditions.{IsClient, HasArguments}
-use Rattle.clfs_model.specs.Journals.{ClientScript}
-use Rattle.clfs_model.specs.Run.{Request, asks, reopens, bad_line}
-use Rattle.clfs_race.specs.Meets.{Meets}
-use Rattle.clfs_race.specs.declared.dividing.Division.{Division}
+use Rattle.clfs_model.specs.Run.{asks, bad_line}
 use Rattle.clfs_race.specs.Scripts.{calls_asked, bad_places}
-use Rattle.clfs_race.specs.Divided.{clients_of, calls_in, is_of, with_call, with_request, HasAllArguments, IsDivided, IsDividedFurther}
+use Rattle.clfs_race.specs.Divided.{clients_of, calls_in, is_of, with_call, with_request, HasAllArguments}
 
 -- ---- where a client's script stands
 

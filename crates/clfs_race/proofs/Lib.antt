@@ -3,6 +3,7 @@ mod LineConditions
 mod CallsAlone
 pub mod Outcomes
 mod FirstFeed
+mod Words
 pub mod FirstLines
 pub mod Gathering
 pub mod SoFar

@@ -1,26 +1,25 @@
 -- What a line asks for meets the condition of its call: a name and data are no longer than the line, and numbers are within their words' ranges.
-use Rattle.std.proofs.Common.{◌≡◌, ℕ, ◌+◌, ◌-◌, ◌≤◌, Bool, refl, List, [], ◌∷◌, length, Some, None, Ok, Err, arith, inl, inr}
-use Rattle.std.specs.Prelude.{Option, Result, IfSome, nat_le, ◌==◌, codes, if◌then◌else◌}
-use Rattle.std.specs.List.{AllByRecursion, slice_split, onto_first}
+use Rattle.clfs_race.proofs.Words.{◌≡◌, ℕ, ◌+◌, ◌-◌, ◌≤◌, Bool, refl, List, [], ◌∷◌, length, Some, None, Ok, Err, arith, inl, inr, Option, Result, IfSome}
+use Rattle.clfs_race.proofs.Words.{nat_le, ◌==◌, if◌then◌else◌, slice_split, onto_first, cases_Bool, decode_of, FromHexError, Call, IsClient, HasArguments}
+use Rattle.clfs_race.proofs.Words.{words_of, Request, reopens, Word, Rest, Read, ◌>>=◌, value_or, word_at, word, client_word, words_from, Verb, call_line}
+use Rattle.clfs_race.proofs.Words.{allowed_verb, request_behind, client_line, request_or_bad, request_in, Meets}
+use Rattle.std.specs.Prelude.{codes}
+use Rattle.std.specs.List.{AllByRecursion}
 use Rattle.std.specs.Option.{option_and_then}
 use Rattle.std.specs.Result.{result_ok}
 use Rattle.std.specs.Str.{bytes_eq}
-use Rattle.std.proofs.lemmas.Bool.{cases_Bool}
 use Rattle.std.proofs.lemmas.Bool.Decides.{nat_tests}
-use Rattle.hex.specs.Hex.{decode_of}
 use Rattle.clfs_race.proofs.DataLengths.{decode_short}
-use Rattle.hex.specs.declared.error.FromHexError.{FromHexError}
 use Rattle.clfs_lsn.specs.Words.{decimal_number, data_of_word, is_number_word, is_decimal_digit}
 use Rattle.std.specs.Str.Parse.{digits_value}
-use Rattle.clfs_model.specs.declared.call.Call.{Call}
 use Rattle.clfs_model.specs.declared.call.Call.TheVariants as calls
 use Rattle.clfs_lsn.specs.declared.policy.PolicyKind.{PolicyKind}
 use Rattle.clfs_lsn.specs.declared.policy.PolicyKind.TheVariants as kinds
-use Rattle.clfs_model.specs.Conditions.{IsClient, HasArguments}
-use Rattle.clfs_model.specs.Lines.{words_of}
-use Rattle.clfs_model.specs.Run.{Request, reopens}
-use Rattle.clfs_model.specs.Script.{Word, Rest, Read, ◌>>=◌, value_or, word_at, word, last_of, ends, number, name_word, cursor_word, client_word, words_from, option_at, one_word_line, two_word_line, sizes_line, area_line, append_line, restart_line, read_line, policy_line, policy_of, options_of, sizes, Verb, open_verb, area_verb, drop_verb, reserve_verb, release_verb, align_verb, append_verb, flush_verb, flush_to_verb, read_verb, next_verb, end_verb, restart_verb, read_restart_verb, previous_restart_verb, advance_verb, archive_verb, tail_verb, extents_verb, policy_verb, unpolicy_verb, size_verb, info_verb, call_line, Language, allowed_verb, request_behind, client_line, request_or_bad, request_in}
-use Rattle.clfs_race.specs.Meets.{Meets}
+use Rattle.clfs_model.specs.Script.{last_of, ends, number, name_word, cursor_word, option_at, one_word_line, two_word_line, sizes_line, area_line}
+use Rattle.clfs_model.specs.Script.{append_line, restart_line, read_line, policy_line, policy_of, options_of, sizes, open_verb, area_verb, drop_verb}
+use Rattle.clfs_model.specs.Script.{reserve_verb, release_verb, align_verb, append_verb, flush_verb, flush_to_verb, read_verb, next_verb, end_verb}
+use Rattle.clfs_model.specs.Script.{restart_verb, read_restart_verb, previous_restart_verb, advance_verb, archive_verb, tail_verb, extents_verb, policy_verb}
+use Rattle.clfs_model.specs.Script.{unpolicy_verb, size_verb, info_verb, Language}
 
 -- ---- readings that may go wrong
 

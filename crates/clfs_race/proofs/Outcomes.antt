@@ -1,6 +1,6 @@
 -- Facts on what a call answered.
-use Rattle.std.proofs.Common.{Ok, Err}
-use Rattle.std.specs.Prelude.{Result, OnOk, OnErr}
+use Rattle.clfs_race.proofs.Words.{Ok, Err, Result}
+use Rattle.std.specs.Prelude.{OnOk, OnErr}
 
 pub on_ok : {T E : Type 0} (answer : Result T E) (P Q : Type 0) → (P → Q) → OnOk answer P → OnOk answer Q
 on_ok (Ok x) P Q more is = more is

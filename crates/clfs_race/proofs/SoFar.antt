@@ -1,17 +1,13 @@
 -- How far the lines of a script are divided.
-use Rattle.std.proofs.Common.{◌≡◌, ℕ, ◌≤◌, ◌<◌, ◌-◌, List, [], ◌∷◌, ◌++◌, length, take, Bool, true, false, refl, sym, ap, subst, ◌∙◌, arith, inl, inr, append_assoc}
-use Rattle.std.specs.Prelude.{min, ◌&&◌}
-use Rattle.std.specs.List.{list_all}
+use Rattle.clfs_race.proofs.Words.{◌≡◌, ℕ, ◌≤◌, ◌<◌, ◌-◌, List, [], ◌∷◌, ◌++◌, length, take, Bool, true, false, refl, sym, ap, subst, ◌∙◌, arith, inl, inr}
+use Rattle.clfs_race.proofs.Words.{◌&&◌, list_all, append-nil, race_limits, ended_lines, Request, calls_alone, request_in, IsDivided, IsDividedFurther}
+use Rattle.clfs_race.proofs.Words.{HasNoFeed, Division}
+use Rattle.std.proofs.Common.{append_assoc}
+use Rattle.std.specs.Prelude.{min}
 use Rattle.std.proofs.lemmas.Bool.{cases_lt, leb-true}
-use Rattle.std.proofs.lemmas.List.{append-nil, take_all, map-append}
-use Rattle.clfs_model.specs.Accepted.{race_limits, ended_lines}
+use Rattle.std.proofs.lemmas.List.{take_all, map-append}
 use Rattle.clfs_model.specs.Lines.{without_return}
-use Rattle.clfs_model.specs.Run.{Request}
-use Rattle.clfs_model.specs.Script.{calls_alone, request_in}
-use Rattle.clfs_race.specs.Divided.{IsDivided, IsDividedFurther}
 use Rattle.clfs_race.specs.Scripts.{race_requests}
-use Rattle.clfs_race.specs.Feeds.{HasNoFeed}
-use Rattle.clfs_race.specs.declared.dividing.Division.{Division}
 use Rattle.clfs_race.proofs.FirstLines.{Splits, first_ended, none_ended, is_short, first_short, short_more, long_ends, no_more}
 use Rattle.clfs_race.proofs.Gathering.{divided_further}
 

@@ -1,21 +1,14 @@
 -- What the log tells of a stream's last record: it can be followed by a further LSN.
-use Rattle.std.proofs.Common.{◌≡◌, ◌⊎◌, inl, inr, ℕ, suc, ◌+◌, ◌-◌, ◌<◌, ◌≤◌, ◌^◌, Bool, true, false, List, [], ◌∷◌, Option, Some, None, Ok, subst, sym, arith}
-use Rattle.std.specs.Prelude.{All, IfOk, MatchBool, MatchOption, Result, Err}
+use Rattle.clfs_txn.proofs.Words.{◌≡◌, ◌⊎◌, inl, inr, ℕ, suc, ◌+◌, ◌-◌, ◌<◌, ◌≤◌, ◌^◌, Bool, true, false, List, [], ◌∷◌, Option, Some, None, Ok, subst, sym}
+use Rattle.clfs_txn.proofs.Words.{arith, All, IfOk, MatchBool, MatchOption, frontier, LogEntry, LogInfo, Refusal, State, live, refusal, Step, IsValid}
+use Rattle.clfs_txn.proofs.Words.{IsRecord, Steps}
+use Rattle.std.specs.Prelude.{Result, Err}
 use Rattle.std.specs.List.{last_or}
 use Rattle.std.proofs.lemmas.List.Elements.{All-filter}
-use Rattle.clfs_lsn.specs.Place.{frontier}
-use Rattle.clfs_lsn.specs.declared.entry.LogEntry.{LogEntry}
 use Rattle.clfs_model.specs.declared.call.Call.TheVariants as calls
-use Rattle.clfs_model.specs.declared.info.LogInfo.{LogInfo}
-use Rattle.clfs_model.specs.declared.refusal.Refusal.{Refusal}
 use Rattle.clfs_model.specs.declared.reply.Reply.TheVariants as replies
-use Rattle.clfs_model.specs.declared.state.State.{State}
 use Rattle.clfs_model.specs.Answers.{info_of}
-use Rattle.clfs_model.specs.Live.{live, last_live, lsn_or_null}
-use Rattle.clfs_model.specs.Refusals.{refusal}
-use Rattle.clfs_model.specs.Step.{Step}
-use Rattle.clfs_model.specs.Valid.{IsValid, IsRecord}
-use Rattle.clfs_manager.specs.Calls.{Steps}
+use Rattle.clfs_model.specs.Live.{last_live, lsn_or_null}
 
 where_not : (b : Bool) (A B : Type 0) → b ≡ false → MatchBool b A B → B
 where_not true A B e x = absurd (cc e)

@@ -1,21 +1,10 @@
 -- What is so where a call of the log is answered and not refused.
-use Rattle.std.proofs.Common.{◌≡◌, ℕ, Bool, true, false, refl, ap, ◌∙◌, inl, inr}
-use Rattle.std.specs.Prelude.{Option, Some, None, MatchBool, is_none, nat_lt}
-use Rattle.std.specs.Option.{option_map_or}
-use Rattle.clfs_lsn.specs.declared.entry.LogEntry.{LogEntry}
-use Rattle.clfs_model.specs.declared.call.Call.{Call}
-use Rattle.clfs_model.specs.declared.refusal.Refusal.{Refusal}
+use Rattle.clfs_txn.proofs.Words.{◌≡◌, ℕ, Bool, true, false, refl, ap, ◌∙◌, inl, inr, MatchBool, is_none, nat_lt, option_map_or, LogEntry, Call, Refusal}
+use Rattle.clfs_txn.proofs.Words.{Happened, Fine, Fault, Damage, Reply, State, Area, flushed, refusal, refused_if, answer, Step, Goes, Comes, IsDamaged}
+use Rattle.clfs_txn.proofs.Words.{IsReply}
+use Rattle.std.specs.Prelude.{Option, Some, None}
 use Rattle.clfs_model.specs.declared.refusal.Refusal.TheVariants as refusals
-use Rattle.clfs_model.specs.declared.reply.Happened.{Happened}
-use Rattle.clfs_model.specs.declared.reply.Happened.TheVariants.{Fine, Fault, Damage}
-use Rattle.clfs_model.specs.declared.reply.Reply.{Reply}
 use Rattle.clfs_model.specs.declared.reply.Reply.TheVariants as replies
-use Rattle.clfs_model.specs.declared.state.State.{State}
-use Rattle.clfs_model.specs.declared.state.Area.{Area}
-use Rattle.clfs_model.specs.Flush.{flushed}
-use Rattle.clfs_model.specs.Refusals.{refusal, refused_if}
-use Rattle.clfs_model.specs.Answers.{answer}
-use Rattle.clfs_model.specs.Step.{Step, Goes, Comes, IsDamaged, IsReply}
 use Rattle.clfs_txn.proofs.Written.{where_not, either}
 
 -- a reply tells of a refusal

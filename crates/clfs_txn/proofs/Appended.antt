@@ -1,37 +1,17 @@
 -- What an append of what an area holds leaves: the record, by its LSN and its link, and the cursors as they were.
-use Rattle.std.proofs.Common.{◌≡◌, ℕ, ◌<◌, ◌≤◌, Bool, true, false, refl, sym, ap, ◌∙◌, List, [], ◌∷◌, ◌++◌, length, arith, subst}
-use Rattle.std.specs.Prelude.{Option, Some, None, Result, Ok, Err, IfOk, OnOk, All, find, ◌==◌, nat_lt}
-use Rattle.std.specs.List.{AllByRecursion}
-use Rattle.std.specs.Option.{option_map_or, option_or}
-use Rattle.std.proofs.lemmas.Bool.{eq-eqb, ne_eqb}
+use Rattle.clfs_txn.proofs.Words.{◌≡◌, ℕ, ◌<◌, ◌≤◌, Bool, true, false, refl, sym, ap, ◌∙◌, List, [], ◌∷◌, ◌++◌, length, arith, subst, IfOk, OnOk, All, find}
+use Rattle.clfs_txn.proofs.Words.{◌==◌, nat_lt, AllByRecursion, option_map_or, eq-eqb, ne_eqb, recursion_from_All, frontier, own, Mode, LogEntry, Call, Draft}
+use Rattle.clfs_txn.proofs.Words.{Refusal, Happened, Reply, Area, State, Outcome, answer, outcome, flushed, happened_of, Steps, appended, next_lsn}
+use Rattle.clfs_txn.proofs.Words.{plain_record, with_less_held, record_cursor, refusal, refused_if, area_of, is_area, Step, Comes, IsValid, IsRecord, IsAt}
+use Rattle.clfs_txn.proofs.Words.{HasLink}
+use Rattle.std.specs.Prelude.{Option, Some, None, Result, Ok, Err}
+use Rattle.std.specs.Option.{option_or}
 use Rattle.std.proofs.lemmas.List.{append_cancel_left}
-use Rattle.std.proofs.lemmas.List.Elements.{recursion_from_All}
 use Rattle.std.proofs.lemmas.List.Folds.{find-append}
-use Rattle.clfs_lsn.specs.Place.{frontier}
-use Rattle.clfs_lsn.specs.Size.{own}
-use Rattle.clfs_lsn.specs.declared.cursor.Mode.{Mode}
-use Rattle.clfs_lsn.specs.declared.entry.LogEntry.{LogEntry}
-use Rattle.clfs_model.specs.declared.call.Call.{Call}
 use Rattle.clfs_model.specs.declared.call.Call.TheVariants as calls
-use Rattle.clfs_model.specs.declared.call.Draft.{Draft}
-use Rattle.clfs_model.specs.declared.refusal.Refusal.{Refusal}
 use Rattle.clfs_model.specs.declared.refusal.Refusal.TheVariants as refusals
-use Rattle.clfs_model.specs.declared.reply.Happened.{Happened}
-use Rattle.clfs_model.specs.declared.reply.Reply.{Reply}
 use Rattle.clfs_model.specs.declared.reply.Reply.TheVariants as replies
-use Rattle.clfs_model.specs.declared.state.Area.{Area}
-use Rattle.clfs_model.specs.declared.state.State.{State}
-use Rattle.clfs_model.specs.Answers.{Outcome, answer, outcome}
-use Rattle.clfs_model.specs.Flush.{flushed}
-use Rattle.clfs_model.specs.Happened.{happened_of}
-use Rattle.clfs_manager.specs.Calls.{Steps}
-use Rattle.clfs_model.specs.Put.{appended, next_lsn, plain_record, with_less_held}
-use Rattle.clfs_model.specs.Reading.{record_cursor}
-use Rattle.clfs_model.specs.Refusals.{refusal, refused_if, append_refusal}
-use Rattle.clfs_model.specs.State.{area_of, is_area}
-use Rattle.clfs_model.specs.Step.{Step, Comes}
-use Rattle.clfs_model.specs.Valid.{IsValid, IsRecord}
-use Rattle.clfs_txn.specs.Reading.{IsAt, HasLink}
+use Rattle.clfs_model.specs.Refusals.{append_refusal}
 use Rattle.clfs_txn.proofs.Answered.{answered, area_there, placed_is}
 use Rattle.clfs_txn.proofs.Cursors.{appended_areas, appended_records, changed_area}
 

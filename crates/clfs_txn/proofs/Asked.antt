@@ -1,19 +1,8 @@
 -- The same call of the same log, by other names.
-use Rattle.std.proofs.Common.{◌≡◌, ℕ, Bool, true, false, List, [], ◌∷◌, Result, Some, find, sym, subst, ap, ◌∙◌, inl, inr}
-use Rattle.std.proofs.lemmas.Bool.{cases_Bool, eqb-true}
-use Rattle.clfs_lsn.specs.declared.cursor.Mode.{Mode}
-use Rattle.clfs_model.specs.declared.call.Call.{Call}
+use Rattle.clfs_txn.proofs.Words.{◌≡◌, ℕ, Bool, true, false, List, [], ◌∷◌, Result, Some, sym, subst, ap, ◌∙◌, inl, inr, cases_Bool, eqb-true, Mode, Call}
+use Rattle.clfs_txn.proofs.Words.{Draft, Refusal, Happened, Reply, State, Step, Steps, Action, append_call, Memory, Transaction, transaction, is_numbered}
+use Rattle.std.proofs.Common.{find}
 use Rattle.clfs_model.specs.declared.call.Call.TheVariants as log_calls
-use Rattle.clfs_model.specs.declared.call.Draft.{Draft}
-use Rattle.clfs_model.specs.declared.refusal.Refusal.{Refusal}
-use Rattle.clfs_model.specs.declared.reply.Happened.{Happened}
-use Rattle.clfs_model.specs.declared.reply.Reply.{Reply}
-use Rattle.clfs_model.specs.declared.state.State.{State}
-use Rattle.clfs_model.specs.Step.{Step}
-use Rattle.clfs_manager.specs.Calls.{Steps}
-use Rattle.clfs_cells.specs.declared.row.Action.{Action}
-use Rattle.clfs_cells.specs.Calls.{append_call}
-use Rattle.clfs_cells.specs.Stored.{Memory, Transaction, transaction, is_numbered}
 
 pub same_steps : {A : Type 0} (told : Bool) (log other : State) (client same : ℕ) (call asked : Call) (answer : A → Reply) (result : Result A Refusal) (t : State)
     → log ≡ other → client ≡ same → call ≡ asked → Steps told log client call answer result t → Steps told other same asked answer result t

@@ -1,20 +1,13 @@
 -- The ways in which taking sets back and rolling back go.
-use Rattle.std.proofs.Common.{◌≡◌, ℕ, ◌-◌, ◌<◌, ◌≤◌, Bool, false, length, Result, Some, refl, sym, subst, ap, ◌∙◌, arith}
-use Rattle.std.proofs.lemmas.Bool.{lt-ltb, le-ltb}
-use Rattle.clfs_model.specs.declared.refusal.Refusal.{Refusal}
+use Rattle.clfs_txn.proofs.Words.{◌≡◌, ℕ, ◌-◌, ◌<◌, ◌≤◌, Bool, false, length, Result, Some, refl, sym, subst, ap, ◌∙◌, arith, lt-ltb, le-ltb, Refusal}
+use Rattle.clfs_txn.proofs.Words.{RolledBack, TxnRefusal, Answered, TxnStep, answers, end_plan, over_transaction, stops, txn_plan, undo_sets, Plan}
+use Rattle.clfs_txn.proofs.Words.{CarriesOut, Memory, Store, Transaction, standing, IsFound, Leads, TxnSteps, DiskState, Meanwhile, UnderWay}
 use Rattle.clfs_cells.specs.declared.asked.TxnCall.TheVariants as asked
-use Rattle.clfs_cells.specs.declared.row.Action.TheVariants.{RolledBack}
-use Rattle.clfs_cells.specs.declared.told.TxnRefusal.{TxnRefusal}
 use Rattle.clfs_cells.specs.declared.told.TxnRefusal.TheVariants as refusals
 use Rattle.clfs_cells.specs.declared.told.TxnReply.TheVariants as replies
-use Rattle.clfs_cells.specs.Calls.{Answered, TxnStep, answers, end_plan, over_transaction, stops, txn_plan, undo_sets}
-use Rattle.clfs_cells.specs.Plans.{Plan, CarriesOut}
-use Rattle.clfs_cells.specs.Stored.{Memory, Store, Transaction, standing}
-use Rattle.clfs_txn.specs.Calls.{Carries, IsFound, Leads, TxnSteps, replied}
+use Rattle.clfs_txn.specs.Calls.{Carries, replied}
 use Rattle.clfs_txn.proofs.Carried.{as_plan, met, passed, refused_at_once, step_is}
 use Rattle.clfs_txn.proofs.Sets.{goes_on, over}
-use Rattle.clfs_disk.specs.State.{DiskState}
-use Rattle.clfs_txn.specs.UnderWay.{Meanwhile, UnderWay}
 use Rattle.clfs_txn.proofs.Moments.{meanwhile_as, meanwhile_by, meanwhile_then}
 
 -- more are to be kept than stand

@@ -1,22 +1,17 @@
 -- The ways in which the beginning of a transaction goes.
-use Rattle.std.proofs.Common.{◌≡◌, ℕ, Bool, true, false, length, refl, sym, subst, ◌∙◌, ◌<◌, ◌≤◌, arith}
-use Rattle.std.specs.Prelude.{◌+◌, ◌==◌, nat_le, replicate, slice_index}
-use Rattle.std.proofs.lemmas.Bool.{le-leb, lt-leb, eq-eqb, ne_eqb}
+use Rattle.clfs_txn.proofs.Words.{◌≡◌, ℕ, Bool, true, false, length, refl, sym, subst, ◌∙◌, ◌<◌, ◌≤◌, arith, ◌==◌, nat_le, slice_index, eq-eqb, ne_eqb}
+use Rattle.clfs_txn.proofs.Words.{Refusal, happened_of, happened_of_refusal, Step, Plan, calls, Answered, TxnStep, txn_plan, stops, answers, Store, Memory}
+use Rattle.clfs_txn.proofs.Words.{most_records, with_begun, DiskState, CrashLeaves, LeavesCall, Meanwhile, UnderWay}
+use Rattle.std.specs.Prelude.{◌+◌, replicate}
+use Rattle.std.proofs.lemmas.Bool.{le-leb, lt-leb}
 use Rattle.clfs_model.specs.declared.call.Call.TheVariants as log_calls
-use Rattle.clfs_model.specs.declared.refusal.Refusal.{Refusal}
 use Rattle.clfs_model.specs.declared.refusal.Refusal.TheVariants as log_refusals
 use Rattle.clfs_model.specs.declared.reply.Reply.TheVariants as log_replies
-use Rattle.clfs_model.specs.Happened.{happened_of, happened_of_refusal}
-use Rattle.clfs_model.specs.Step.{Step}
 use Rattle.clfs_cells.specs.declared.asked.TxnCall.TheVariants as asked
 use Rattle.clfs_cells.specs.declared.told.TxnRefusal.TheVariants as refusals
 use Rattle.clfs_cells.specs.declared.told.TxnReply.TheVariants as replies
-use Rattle.clfs_cells.specs.Plans.{Plan, calls, on_held}
-use Rattle.clfs_cells.specs.Calls.{Answered, TxnStep, txn_plan, stops, answers}
-use Rattle.clfs_cells.specs.Stored.{Store, Memory, most_records, with_begun}
+use Rattle.clfs_cells.specs.Plans.{on_held}
 use Rattle.clfs_txn.proofs.Carried.{passed, met, one_call, step_is, refused_at_once}
-use Rattle.clfs_disk.specs.State.{DiskState}
-use Rattle.clfs_txn.specs.UnderWay.{CrashLeaves, LeavesCall, Meanwhile, UnderWay}
 use Rattle.clfs_txn.proofs.Moments.{first_call, meanwhile_as}
 
 pub broken : (told : Bool) (s : Store) (changes : ℕ) → s.log.broken ≡ true

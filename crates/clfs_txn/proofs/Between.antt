@@ -1,16 +1,8 @@
 -- What a step of a store says of it between two calls, by what the call answered.
-use Rattle.std.proofs.Common.{◌≡◌, Bool, Result, Ok, Err, subst}
-use Rattle.std.specs.Prelude.{IsErrOf, OnOk}
-use Rattle.clfs_model.specs.declared.refusal.Refusal.{Refusal}
-use Rattle.clfs_cells.specs.declared.asked.TxnCall.{TxnCall}
-use Rattle.clfs_cells.specs.declared.told.TxnRefusal.{TxnRefusal}
+use Rattle.clfs_txn.proofs.Words.{◌≡◌, Bool, Result, Ok, Err, subst, IsErrOf, OnOk, Refusal, TxnCall, TxnRefusal, TxnReply, TxnStep, Store, IsKeptStore}
+use Rattle.clfs_txn.proofs.Words.{TxnSteps}
 use Rattle.clfs_cells.specs.declared.told.TxnRefusal.TheVariants as refusals
-use Rattle.clfs_cells.specs.declared.told.TxnReply.{TxnReply}
 use Rattle.clfs_cells.specs.declared.told.TxnReply.TheVariants as replies
-use Rattle.clfs_cells.specs.Calls.{TxnStep}
-use Rattle.clfs_cells.specs.Stored.{Store}
-use Rattle.clfs_cells_laws.specs.Stores.{IsKeptStore}
-use Rattle.clfs_txn.specs.Calls.{TxnSteps}
 
 -- what is known of the store that makes a call, and how the call went
 pub record Went {A : Type 0} (tabled told : Bool) (s : Store) (call : TxnCall) (answer : A → TxnReply) (result : Result A TxnRefusal) (t : Store) : Type 0 where

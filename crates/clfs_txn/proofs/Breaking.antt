@@ -1,22 +1,11 @@
 -- Whether a log is broken after a call, by its answer.
-use Rattle.std.proofs.Common.{◌≡◌, ◌≢◌, ℕ, Bool, true, false, Result, Ok, Err, refl, sym, ◌∙◌}
-use Rattle.std.specs.Prelude.{IfErr, OnOk}
-use Rattle.std.specs.List.{AllByRecursion}
-use Rattle.clfs_model.specs.declared.call.Call.{Call}
-use Rattle.clfs_model.specs.declared.refusal.Refusal.{Refusal}
+use Rattle.clfs_txn.proofs.Words.{◌≡◌, ◌≢◌, ℕ, Bool, true, false, Result, Ok, Err, refl, sym, ◌∙◌, IfErr, OnOk, AllByRecursion, Call, Refusal, Happened, Fine}
+use Rattle.clfs_txn.proofs.Words.{Fault, Damage, Reply, State, happened_of, happened_of_refusal, Step, IsValid, Steps, replied, Memory, Store, is_break}
+use Rattle.clfs_txn.proofs.Words.{AreLogged}
 use Rattle.clfs_model.specs.declared.refusal.Refusal.TheVariants as refusals
-use Rattle.clfs_model.specs.declared.reply.Happened.{Happened}
-use Rattle.clfs_model.specs.declared.reply.Happened.TheVariants.{Fine, Fault, Damage}
-use Rattle.clfs_model.specs.declared.reply.Reply.{Reply}
 use Rattle.clfs_model.specs.declared.reply.Reply.TheVariants as replies
-use Rattle.clfs_model.specs.declared.state.State.{State}
-use Rattle.clfs_model.specs.Happened.{happened_of, happened_of_refusal}
-use Rattle.clfs_model.specs.Step.{Step}
-use Rattle.clfs_model.specs.Valid.{IsValid}
-use Rattle.clfs_manager.specs.Calls.{Steps, replied}
-use Rattle.clfs_cells.specs.Stored.{Memory, Store}
-use Rattle.clfs_txn.specs.Calls.{is_break, breaks}
-use Rattle.clfs_txn.specs.Kept.{AreLogged, IsKept}
+use Rattle.clfs_txn.specs.Calls.{breaks}
+use Rattle.clfs_txn.specs.Kept.{IsKept}
 use Rattle.clfs_txn.proofs.Appended.{OnlyAdds}
 use Rattle.clfs_txn.proofs.Logged.{all_logged_on}
 

@@ -1,18 +1,8 @@
 -- Carrying out plans, piece by piece.
-use Rattle.std.proofs.Common.{◌≡◌, ℕ, Bool, true, false, refl, sym, subst, ap, ◌∙◌}
-use Rattle.clfs_model.specs.declared.call.Call.{Call}
-use Rattle.clfs_model.specs.declared.reply.Reply.{Reply}
-use Rattle.clfs_model.specs.declared.state.State.{State}
-use Rattle.clfs_model.specs.Happened.{happened_of}
-use Rattle.clfs_model.specs.Step.{Step}
-use Rattle.clfs_cells.specs.declared.asked.TxnCall.{TxnCall}
-use Rattle.clfs_cells.specs.declared.told.TxnRefusal.{TxnRefusal}
-use Rattle.clfs_cells.specs.declared.told.TxnReply.{TxnReply}
+use Rattle.clfs_txn.proofs.Words.{◌≡◌, ℕ, Bool, true, false, refl, sym, subst, ap, ◌∙◌, Call, Reply, State, happened_of, Step, TxnCall, TxnRefusal, TxnReply}
+use Rattle.clfs_txn.proofs.Words.{Plan, calls, CarriesOut, Answered, TxnStep, txn_plan, refuses, Memory, Store, store_of}
 use Rattle.clfs_cells.specs.declared.told.TxnReply.TheVariants as replies
-use Rattle.clfs_cells.specs.Plans.{Plan, calls, CarriesOut}
-use Rattle.clfs_cells.specs.Calls.{Answered, TxnStep, txn_plan, unless, refuses}
-use Rattle.clfs_cells.specs.Stored.{Memory, Store}
-use Rattle.clfs_txn.specs.Kept.{store_of}
+use Rattle.clfs_cells.specs.Calls.{unless}
 
 pub passed : (test : Bool) (refusal : TxnRefusal) (memory : Memory) (others : Plan Answered) → test ≡ false → unless test refusal memory others ≡ others
 passed test refusal memory others e = rw e refl

@@ -1,39 +1,25 @@
 -- Where a cursor over records is: after the read that made it, after it went on, and after an append.
-use Rattle.std.proofs.Common.{◌≡◌, ◌≢◌, ℕ, suc, ◌+◌, Bool, true, false, refl, sym, ap, ◌∙◌, inl, inr, List, [], ◌∷◌, ◌++◌, length, arith, subst}
-use Rattle.std.specs.Prelude.{Option, Some, None, Result, Ok, Err, IfOk, AllPairs, find, map, not, ◌&&◌, ◌==◌, nat_lt, if◌then◌else◌, slice_index_or}
-use Rattle.std.specs.List.{AllByRecursion}
-use Rattle.std.specs.Option.{option_map, option_map_or}
-use Rattle.std.proofs.lemmas.Bool.{cases_Bool, eqb-true, eq-eqb, and_parts}
+use Rattle.clfs_txn.proofs.Words.{◌≡◌, ◌≢◌, ℕ, suc, ◌+◌, Bool, true, false, refl, sym, ap, ◌∙◌, inl, inr, List, [], ◌∷◌, ◌++◌, length, arith, subst, IfOk}
+use Rattle.clfs_txn.proofs.Words.{find, not, ◌&&◌, ◌==◌, nat_lt, AllByRecursion, option_map, option_map_or, cases_Bool, eqb-true, eq-eqb, recursion_from_All}
+use Rattle.clfs_txn.proofs.Words.{own, Cursor, Records, Mode, LogEntry, Draft, Refusal, Happened, Area, State, Outcome, answer, outcome, flushed, happened_of}
+use Rattle.clfs_txn.proofs.Words.{Steps, live, live_at, appended, next_lsn, plain_record, with_less_held, next, record_cursor, refusal, area_of, change_first}
+use Rattle.clfs_txn.proofs.Words.{is_area, Step, Comes, IsValid, IsAt}
+use Rattle.std.specs.Prelude.{Option, Some, None, Result, Ok, Err, AllPairs, map, if◌then◌else◌, slice_index_or}
+use Rattle.std.proofs.lemmas.Bool.{and_parts}
 use Rattle.std.proofs.lemmas.List.{get_or_push, length_push}
-use Rattle.std.proofs.lemmas.List.Elements.{recursion_from_All}
 use Rattle.clfs_lsn.specs.Cursors.{is_over_restarts, unused_cursor}
 use Rattle.clfs_lsn.specs.Place.{joins, begins_here}
-use Rattle.clfs_lsn.specs.Size.{own}
-use Rattle.clfs_lsn.specs.declared.cursor.Cursor.{Cursor}
-use Rattle.clfs_lsn.specs.declared.cursor.CursorKind.TheVariants.{Records}
-use Rattle.clfs_lsn.specs.declared.cursor.Mode.{Mode}
-use Rattle.clfs_lsn.specs.declared.entry.LogEntry.{LogEntry}
 use Rattle.clfs_model.specs.declared.call.Call.TheVariants as calls
-use Rattle.clfs_model.specs.declared.call.Draft.{Draft}
-use Rattle.clfs_model.specs.declared.refusal.Refusal.{Refusal}
 use Rattle.clfs_model.specs.declared.refusal.Refusal.TheVariants as refusals
-use Rattle.clfs_model.specs.declared.reply.Happened.{Happened}
 use Rattle.clfs_model.specs.declared.reply.Reply.TheVariants as replies
-use Rattle.clfs_model.specs.declared.state.Area.{Area}
-use Rattle.clfs_model.specs.declared.state.State.{State}
-use Rattle.clfs_model.specs.Answers.{Outcome, answer, read_at, found_with_cursor, moved_on, outcome}
-use Rattle.clfs_model.specs.Flush.{flush, flushed, seal}
-use Rattle.clfs_model.specs.Happened.{happened_of}
-use Rattle.clfs_manager.specs.Calls.{Steps}
-use Rattle.clfs_model.specs.Live.{live, live_at}
-use Rattle.clfs_model.specs.Put.{appended, flush_if, next_lsn, plain_record, put, with_less_held}
-use Rattle.clfs_model.specs.Reading.{next, next_of_cursor, record_cursor, with_cursor, with_cursor_at}
-use Rattle.clfs_model.specs.Refusals.{refusal, next_refusal, read_refusal}
+use Rattle.clfs_model.specs.Answers.{read_at, found_with_cursor, moved_on}
+use Rattle.clfs_model.specs.Flush.{flush, seal}
+use Rattle.clfs_model.specs.Put.{flush_if, put}
+use Rattle.clfs_model.specs.Reading.{next_of_cursor, with_cursor, with_cursor_at}
+use Rattle.clfs_model.specs.Refusals.{next_refusal, read_refusal}
 use Rattle.clfs_model.specs.Space.{grown, grown_if, reserved}
-use Rattle.clfs_model.specs.State.{area_of, change_area, change_first, is_area}
-use Rattle.clfs_model.specs.Step.{Step, Comes}
-use Rattle.clfs_model.specs.Valid.{IsValid, IsArea}
-use Rattle.clfs_txn.specs.Reading.{IsAt}
+use Rattle.clfs_model.specs.State.{change_area}
+use Rattle.clfs_model.specs.Valid.{IsArea}
 use Rattle.clfs_txn.proofs.Answered.{answered, area_there, record_there, found_is, next_is}
 
 -- ---- what is found passes, and is one of those among which it is searched

@@ -1,7 +1,5 @@
 -- A refusal of the log that a call of a store hands on.
-use Rattle.std.proofs.Common.{◌≡◌, ap, Err}
-use Rattle.std.specs.Prelude.{IsErrOf}
-use Rattle.clfs_model.specs.declared.refusal.Refusal.{Refusal}
+use Rattle.clfs_txn.proofs.Words.{◌≡◌, ap, Err, IsErrOf, Refusal}
 use Rattle.clfs_cells.specs.declared.told.TxnRefusal.TheVariants.{Log}
 
 -- by one call of the log as by another

@@ -1,20 +1,11 @@
 -- The ways in which the end of a transaction goes.
-use Rattle.std.proofs.Common.{◌≡◌, ℕ, Bool, refl}
+use Rattle.clfs_txn.proofs.Words.{◌≡◌, ℕ, Bool, refl, null_lsn, Refusal, State, happened_of, happened_of_refusal, Step, Action, TxnReply, CarriesOut}
+use Rattle.clfs_txn.proofs.Words.{Answered, append_call, end_plan, Store, Memory, Transaction, most_records, records_made, without_transaction}
 use Rattle.std.specs.Prelude.{◌-◌}
-use Rattle.clfs_lsn.specs.Lsn.{null_lsn}
 use Rattle.clfs_model.specs.declared.call.Call.TheVariants as log_calls
-use Rattle.clfs_model.specs.declared.refusal.Refusal.{Refusal}
 use Rattle.clfs_model.specs.declared.reply.Reply.TheVariants as log_replies
-use Rattle.clfs_model.specs.declared.state.State.{State}
-use Rattle.clfs_model.specs.Happened.{happened_of, happened_of_refusal}
-use Rattle.clfs_model.specs.Step.{Step}
-use Rattle.clfs_cells.specs.declared.row.Action.{Action}
 use Rattle.clfs_cells.specs.declared.told.TxnRefusal.TheVariants as refusals
-use Rattle.clfs_cells.specs.declared.told.TxnReply.{TxnReply}
 use Rattle.clfs_cells.specs.declared.told.TxnReply.TheVariants as replies
-use Rattle.clfs_cells.specs.Plans.{CarriesOut}
-use Rattle.clfs_cells.specs.Calls.{Answered, append_call, end_plan}
-use Rattle.clfs_cells.specs.Stored.{Store, Memory, Transaction, most_records, records_made, without_transaction}
 use Rattle.clfs_txn.proofs.Carried.{one_call}
 
 result : TxnReply → Memory → Answered

@@ -1,11 +1,9 @@
 -- How two calls of the log leave the disk, one after the other, and how one that reads does.
-use Rattle.std.proofs.Common.{◌≡◌, ◌⊎◌, ℕ, ◌<◌, ◌≤◌, inl, inr, sym, subst, ◌∙◌, arith}
-use Rattle.std.specs.Prelude.{IsErrOf, IsTrue, Ok}
-use Rattle.std.proofs.lemmas.Bool.{cases_lt}
-use Rattle.clfs_disk.specs.Files.{Files, Unchanged}
-use Rattle.clfs_disk.specs.State.{DiskState, Nature, IsSteady, Later, MayLeave, Passes, Rises, TellsContents}
+use Rattle.clfs_txn.proofs.Words.{◌≡◌, ◌⊎◌, ℕ, ◌<◌, ◌≤◌, inl, inr, sym, subst, ◌∙◌, arith, IsErrOf, IsTrue, cases_lt, Files, Unchanged, DiskState, Nature}
+use Rattle.clfs_txn.proofs.Words.{Later, MayLeave, Passes, TellsContents, WritesDisk}
+use Rattle.std.specs.Prelude.{Ok}
+use Rattle.clfs_disk.specs.State.{IsSteady, Rises}
 use Rattle.clfs_model.specs.declared.refusal.Refusal.TheVariants as log_refusals
-use Rattle.clfs_manager.specs.Written.{WritesDisk}
 use Rattle.clfs_txn.proofs.Written.{of_ok}
 
 later_then : (a b c : DiskState) → Later a b → Later b c → Later a c

@@ -1,12 +1,5 @@
 -- Plans that were carried out in part.
-use Rattle.std.proofs.Common.{◌≡◌, ℕ, Bool, sym, subst}
-use Rattle.clfs_model.specs.declared.call.Call.{Call}
-use Rattle.clfs_model.specs.declared.reply.Reply.{Reply}
-use Rattle.clfs_model.specs.declared.state.State.{State}
-use Rattle.clfs_model.specs.Happened.{happened_of}
-use Rattle.clfs_model.specs.Step.{Step}
-use Rattle.clfs_cells.specs.Plans.{Plan, calls}
-use Rattle.clfs_txn.specs.Calls.{LeadsTo}
+use Rattle.clfs_txn.proofs.Words.{◌≡◌, ℕ, Bool, sym, subst, Call, Reply, State, happened_of, Step, Plan, calls, LeadsTo}
 
 pub leads_on : {A : Type 0} (told : Bool) (client : ℕ) (a b c : State) (p q r : Plan A) → LeadsTo A told client a p b q → LeadsTo A told client b q c r
     → LeadsTo A told client a p c r

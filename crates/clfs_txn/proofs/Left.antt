@@ -1,13 +1,8 @@
 -- What a crash leaves of a log, and with it of the log's table.
-use Rattle.std.proofs.Common.{◌≡◌, ◌⊎◌, ℕ, true, List, inl, inr, sym, ◌∙◌}
-use Rattle.clfs_disk.specs.Files.{Files}
-use Rattle.clfs_model.specs.declared.state.State.{State}
+use Rattle.clfs_txn.proofs.Words.{◌≡◌, ◌⊎◌, ℕ, true, List, inl, inr, sym, ◌∙◌, Files, State, Plan, ends, calls, never, table, LeavesTables, HoldsTable}
+use Rattle.clfs_txn.proofs.Words.{HoldsLeft, IsLeftMeanwhile, LeavesCalls, UnderWay}
 use Rattle.clfs_model.specs.Flush.{IsSame}
-use Rattle.clfs_cells.specs.Plans.{Plan, ends, calls, never}
-use Rattle.clfs_cells.specs.Table.{table}
-use Rattle.clfs_cells_laws.specs.Crashes.{LeavesTables}
-use Rattle.clfs_txn.specs.Crashes.{HoldsTable}
-use Rattle.clfs_txn.specs.UnderWay.{HoldsLeft, IsLeftBy, IsLeftIn, IsLeftMeanwhile, LeavesCalls, UnderWay}
+use Rattle.clfs_txn.specs.UnderWay.{IsLeftBy, IsLeftIn}
 
 -- logs that are the same have the same table
 abbrev pub SameTable : Type 0

@@ -2,6 +2,7 @@ mod Breaking
 mod Carried
 mod Begun
 mod Sets
+mod Words
 mod Written
 mod Joined
 mod Asked

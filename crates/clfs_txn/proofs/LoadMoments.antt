@@ -1,27 +1,12 @@
 -- What a crash leaves while a table is loaded.
-use Rattle.std.proofs.Common.{◌≡◌, ◌⊎◌, ℕ, Bool, true, false, List, length, sym, subst, ap, ◌∙◌, inl, inr}
-use Rattle.clfs_lsn.specs.Lsn.{null_lsn}
-use Rattle.clfs_disk.specs.State.{DiskState}
+use Rattle.clfs_txn.proofs.Words.{◌≡◌, ◌⊎◌, ℕ, Bool, true, false, List, length, sym, subst, ap, ◌∙◌, inl, inr, null_lsn, DiskState, LogInfo, Refusal, State}
+use Rattle.clfs_txn.proofs.Words.{happened_of, bad_line, Step, Survives, CrashSurvives, checkpoint_bytes, Loaded, load_area, load_new, Plan, calls, on_info}
+use Rattle.clfs_txn.proofs.Words.{Memory, table, LeavesTables, LeadsTo, checkpoint_of, CrashLeavesTable, HoldsTable, CrashLeaves, HoldsLeft, IsLeftMeanwhile}
+use Rattle.clfs_txn.proofs.Words.{LeavesCall, LeavesCalls, Meanwhile, UnderWay, unread}
 use Rattle.clfs_model.specs.declared.call.Call.TheVariants as log_calls
-use Rattle.clfs_model.specs.declared.info.LogInfo.{LogInfo}
-use Rattle.clfs_model.specs.declared.refusal.Refusal.{Refusal}
 use Rattle.clfs_model.specs.declared.reply.Reply.TheVariants as log_replies
-use Rattle.clfs_model.specs.declared.state.State.{State}
-use Rattle.clfs_model.specs.Happened.{happened_of}
-use Rattle.clfs_model.specs.Run.{bad_line}
-use Rattle.clfs_model.specs.Step.{Step}
-use Rattle.clfs_model.specs.Survivors.{Survives}
-use Rattle.clfs_manager.specs.Crashes.{CrashSurvives}
-use Rattle.clfs_cells.specs.Layout.{checkpoint_bytes}
-use Rattle.clfs_cells.specs.Loading.{Loaded, load_area, load_new, load_plan}
-use Rattle.clfs_cells.specs.Plans.{Plan, calls, on_info}
-use Rattle.clfs_cells.specs.Stored.{Memory}
-use Rattle.clfs_cells.specs.Table.{table}
-use Rattle.clfs_cells_laws.specs.Crashes.{LeavesTables}
-use Rattle.clfs_txn.specs.Calls.{LeadsTo, checkpoint_of}
-use Rattle.clfs_txn.specs.Crashes.{CrashLeavesTable, HoldsTable}
-use Rattle.clfs_txn.specs.UnderWay.{CrashLeaves, HoldsLeft, IsLeftMeanwhile, LeavesCall, LeavesCalls, Meanwhile, UnderWay, loading_of}
-use Rattle.clfs_txn.specs.Loading.{unread}
+use Rattle.clfs_cells.specs.Loading.{load_plan}
+use Rattle.clfs_txn.specs.UnderWay.{loading_of}
 use Rattle.clfs_txn.proofs.LoadParts.{first_data}
 use Rattle.clfs_txn.proofs.Left.{SameTable, along_left, left_has_table, table_held}
 use Rattle.clfs_txn.proofs.Moments.{asked_leaves, by_call, first_call, honest_on, leaves_now, leaves_then, leaves_weaker}

@@ -1,46 +1,19 @@
 -- What the parts of loading make of each other: how the plan goes on, and what is known of the log.
-use Rattle.std.proofs.Common.{◌≡◌, ◌≢◌, ℕ, ◌<◌, Bool, true, false, refl, sym, subst, ap, ◌∙◌, inl, inr, List, [], ◌∷◌, length, Option, Some, Result, Ok, Err}
-use Rattle.std.specs.Prelude.{IfOk, IsErrOf, OnOk, ◌==◌}
-use Rattle.std.specs.Option.{option_map_or}
-use Rattle.std.proofs.lemmas.Bool.{cases_Bool}
-use Rattle.clfs_disk.specs.State.{DiskState}
-use Rattle.clfs_lsn.specs.Lsn.{null_lsn}
-use Rattle.clfs_lsn.specs.declared.cursor.CursorKind.TheVariants.{Records}
-use Rattle.clfs_lsn.specs.declared.cursor.Mode.{Mode}
-use Rattle.clfs_lsn.specs.declared.cursor.Mode.TheVariants.{Forward}
-use Rattle.clfs_lsn.specs.declared.entry.LogEntry.{LogEntry}
-use Rattle.clfs_model.specs.declared.call.Call.{Call}
+use Rattle.clfs_txn.proofs.Words.{◌≡◌, ◌≢◌, ℕ, ◌<◌, Bool, true, false, refl, sym, subst, ap, ◌∙◌, inl, inr, List, [], ◌∷◌, length, Option, Some, Result, Ok}
+use Rattle.clfs_txn.proofs.Words.{Err, IfOk, IsErrOf, OnOk, ◌==◌, option_map_or, cases_Bool, DiskState, null_lsn, Records, Mode, Forward, LogEntry, Call}
+use Rattle.clfs_txn.proofs.Words.{LogInfo, Refusal, Fine, Damage, Reply, Area, State, flushed, happened_of, happened_of_refusal, live_at, area_of, Step}
+use Rattle.clfs_txn.proofs.Words.{IsReply, reads_disk, IsValid, StillGives, Steps, WritesDisk, TxnRecord, TxnLoadRefusal, Log, NotATable, checkpoint_bytes}
+use Rattle.clfs_txn.proofs.Words.{Loaded, gives_up, in_table_area, load_new, memory_of, read_records, Plan, ends, Memory, table_name, LeadsTo, GoesForward}
+use Rattle.clfs_txn.proofs.Words.{or_all_read, to_come, unread, IsAt}
 use Rattle.clfs_model.specs.declared.call.Call.TheVariants as log_calls
-use Rattle.clfs_model.specs.declared.info.LogInfo.{LogInfo}
-use Rattle.clfs_model.specs.declared.refusal.Refusal.{Refusal}
 use Rattle.clfs_model.specs.declared.refusal.Refusal.TheVariants as log_refusals
-use Rattle.clfs_model.specs.declared.reply.Happened.TheVariants.{Fine, Damage}
-use Rattle.clfs_model.specs.declared.reply.Reply.{Reply}
 use Rattle.clfs_model.specs.declared.reply.Reply.TheVariants as log_replies
-use Rattle.clfs_model.specs.declared.state.Area.{Area}
-use Rattle.clfs_model.specs.declared.state.State.{State}
-use Rattle.clfs_model.specs.Flush.{flushed}
-use Rattle.clfs_model.specs.Happened.{happened_of, happened_of_refusal}
-use Rattle.clfs_model.specs.Live.{live_at}
 use Rattle.clfs_model.specs.Reading.{chain}
-use Rattle.clfs_model.specs.State.{area_of}
-use Rattle.clfs_model.specs.Step.{Step, IsReply, reads_disk}
-use Rattle.clfs_model.specs.Valid.{IsValid}
-use Rattle.clfs_laws.specs.Cursors.{StillGives}
-use Rattle.clfs_manager.specs.Calls.{Steps}
-use Rattle.clfs_manager.specs.Written.{WritesDisk}
 use Rattle.clfs_cells.specs.declared.checkpoint.Checkpoint.{Checkpoint}
-use Rattle.clfs_cells.specs.declared.row.TxnRecord.{TxnRecord}
-use Rattle.clfs_cells.specs.declared.told.TxnLoadRefusal.{TxnLoadRefusal}
-use Rattle.clfs_cells.specs.declared.told.TxnLoadRefusal.TheVariants.{Log, NotATable}
-use Rattle.clfs_cells.specs.Layout.{blank_checkpoint, checkpoint_bytes, checkpoint_of}
-use Rattle.clfs_cells.specs.Loading.{Loaded, gives_up, in_table_area, load_above, load_new, load_stream, load_table, memory_of, read_records, replayed}
-use Rattle.clfs_cells.specs.Plans.{Plan, ends}
-use Rattle.clfs_cells.specs.Stored.{Memory}
-use Rattle.clfs_cells.specs.Table.{table_name}
-use Rattle.clfs_txn.specs.Calls.{LeadsTo, checkpoint_of as checkpoint_of_memory}
-use Rattle.clfs_txn.specs.Loading.{GoesForward, or_all_read, or_refused, to_come, unread}
-use Rattle.clfs_txn.specs.Reading.{IsAt}
+use Rattle.clfs_cells.specs.Layout.{blank_checkpoint, checkpoint_of}
+use Rattle.clfs_cells.specs.Loading.{load_above, load_stream, load_table, replayed}
+use Rattle.clfs_txn.specs.Calls.{checkpoint_of as checkpoint_of_memory}
+use Rattle.clfs_txn.specs.Loading.{or_refused}
 use Rattle.clfs_txn.proofs.Cursors.{area_read}
 use Rattle.clfs_txn.proofs.Leads.{leads_call, leads_on, leads_to}
 use Rattle.clfs_txn.proofs.LoadSteps.{area_made, area_refused, few_come, goes_forward}

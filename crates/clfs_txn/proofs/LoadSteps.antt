@@ -1,44 +1,20 @@
 -- How the plan of loading is carried out, piece by piece.
-use Rattle.std.proofs.Common.{◌≡◌, ◌≢◌, ℕ, zero, suc, ◌<◌, ◌≤◌, Bool, true, false, refl, sym, subst, ap, ◌∙◌, inl, inr, arith, List, [], ◌∷◌, ◌++◌, length, Option, Some, None, Result, Ok, Err}
-use Rattle.std.specs.Option.{option_map_or}
-use Rattle.std.proofs.lemmas.Bool.{cases_Bool}
-use Rattle.clfs_lsn.specs.declared.cursor.Cursor.{Cursor}
-use Rattle.clfs_lsn.specs.declared.cursor.CursorKind.TheVariants.{Records}
-use Rattle.clfs_lsn.specs.declared.cursor.Mode.{Mode}
-use Rattle.clfs_lsn.specs.declared.cursor.Mode.TheVariants.{Forward}
-use Rattle.clfs_lsn.specs.declared.entry.LogEntry.{LogEntry}
-use Rattle.clfs_model.specs.declared.call.Call.{Call}
+use Rattle.clfs_txn.proofs.Words.{◌≡◌, ◌≢◌, ℕ, suc, ◌<◌, ◌≤◌, Bool, true, false, refl, sym, subst, ap, ◌∙◌, inl, inr, arith, List, [], ◌∷◌, ◌++◌, length}
+use Rattle.clfs_txn.proofs.Words.{Option, Some, None, Result, Ok, Err, option_map_or, cases_Bool, Cursor, Records, Mode, Forward, LogEntry, Call, LogInfo}
+use Rattle.clfs_txn.proofs.Words.{Refusal, Happened, Fine, Reply, Area, State, Outcome, answer, happened_of, happened_of_refusal, next, refused_if, area_of}
+use Rattle.clfs_txn.proofs.Words.{Step, IsReply, flushed, IsValid, StillGives, TxnRecord, Log, NotATable, txn_record_of, Loaded, gives_up, in_table_area}
+use Rattle.clfs_txn.proofs.Words.{read_records, Plan, calls, ends, Memory, table_name, Steps, replied, is_none, LeadsTo, GoesForward, to_come}
+use Rattle.std.proofs.Common.{zero}
 use Rattle.clfs_model.specs.declared.call.Call.TheVariants as log_calls
-use Rattle.clfs_model.specs.declared.info.LogInfo.{LogInfo}
-use Rattle.clfs_model.specs.declared.refusal.Refusal.{Refusal}
 use Rattle.clfs_model.specs.declared.refusal.Refusal.TheVariants as log_refusals
-use Rattle.clfs_model.specs.declared.reply.Happened.{Happened}
-use Rattle.clfs_model.specs.declared.reply.Happened.TheVariants.{Fine}
-use Rattle.clfs_model.specs.declared.reply.Reply.{Reply}
 use Rattle.clfs_model.specs.declared.reply.Reply.TheVariants as log_replies
-use Rattle.clfs_model.specs.declared.state.Area.{Area}
-use Rattle.clfs_model.specs.declared.state.State.{State}
-use Rattle.clfs_model.specs.Answers.{Outcome, answer}
-use Rattle.clfs_model.specs.Happened.{happened_of, happened_of_refusal}
-use Rattle.clfs_model.specs.Reading.{chain_from, next, newest_restart}
-use Rattle.clfs_model.specs.Refusals.{refused_if, stream_number}
-use Rattle.clfs_model.specs.State.{area_of, stream_at}
-use Rattle.clfs_model.specs.Step.{Step, IsReply}
-use Rattle.clfs_model.specs.Flush.{flushed}
-use Rattle.clfs_model.specs.Valid.{IsValid}
-use Rattle.clfs_laws.specs.Cursors.{StillGives, still_to_come}
-use Rattle.clfs_cells.specs.declared.row.TxnRecord.{TxnRecord}
-use Rattle.clfs_cells.specs.declared.told.TxnLoadRefusal.TheVariants.{Log, NotATable}
-use Rattle.clfs_cells.specs.Layout.{txn_record_of}
-use Rattle.clfs_cells.specs.Loading.{Loaded, gives_up, in_table_area, on_more, read_records}
-use Rattle.clfs_cells.specs.Plans.{Plan, calls, ends}
-use Rattle.clfs_cells.specs.Stored.{Memory}
-use Rattle.clfs_cells.specs.Table.{table_name}
-use Rattle.clfs_manager.specs.Calls.{Steps, replied}
-use Rattle.std.specs.Prelude.{is_none}
+use Rattle.clfs_model.specs.Reading.{chain_from, newest_restart}
+use Rattle.clfs_model.specs.Refusals.{stream_number}
+use Rattle.clfs_model.specs.State.{stream_at}
+use Rattle.clfs_laws.specs.Cursors.{still_to_come}
+use Rattle.clfs_cells.specs.Loading.{on_more}
 use Rattle.clfs_txn.proofs.Quiet.{QuietLaws}
-use Rattle.clfs_txn.specs.Calls.{LeadsTo}
-use Rattle.clfs_txn.specs.Loading.{GoesForward, Taken, says_broken, to_come, to_come_in}
+use Rattle.clfs_txn.specs.Loading.{Taken, says_broken, to_come_in}
 use Rattle.clfs_txn.proofs.Leads.{leads_call, leads_from, leads_on, leads_to}
 use Rattle.clfs_txn.proofs.Ways.{Way, broken_way, came, damaged, faulted, lacked, refused, way}
 

@@ -1,19 +1,9 @@
 -- Loading as a whole: a step of its definition, and what the law says of it.
-use Rattle.std.proofs.Common.{◌≡◌, ℕ, Bool, true, false, refl, sym, subst, ap, ◌∙◌, length, Result, Ok, Err}
-use Rattle.std.specs.Prelude.{IfErr, IfOk, IsErrOf}
-use Rattle.clfs_disk.specs.State.{DiskState}
-use Rattle.clfs_model.specs.declared.refusal.Refusal.{Refusal}
+use Rattle.clfs_txn.proofs.Words.{◌≡◌, ℕ, Bool, true, false, refl, sym, subst, ap, ◌∙◌, length, Result, Ok, Err, IfErr, IfOk, IsErrOf, DiskState, Refusal}
+use Rattle.clfs_txn.proofs.Words.{State, WritesDisk, TxnLoadRefusal, Log, Loaded, LoadStep, in_table_area, load_area, ends, Memory, LeadsTo, unread}
 use Rattle.clfs_model.specs.declared.refusal.Refusal.TheVariants as log_refusals
-use Rattle.clfs_model.specs.declared.state.State.{State}
-use Rattle.clfs_manager.specs.Written.{WritesDisk}
-use Rattle.clfs_cells.specs.declared.told.TxnLoadRefusal.{TxnLoadRefusal}
-use Rattle.clfs_cells.specs.declared.told.TxnLoadRefusal.TheVariants.{Log}
-use Rattle.clfs_cells.specs.Loading.{Loaded, LoadStep, in_table_area, load_area}
-use Rattle.clfs_cells.specs.Plans.{ends}
-use Rattle.clfs_cells.specs.Stored.{Memory}
 use Rattle.clfs_cells_laws.specs.Loads.{IsLoaded, IsNotLoaded}
-use Rattle.clfs_txn.specs.Calls.{LeadsTo}
-use Rattle.clfs_txn.specs.Loading.{left_by, loaded_of, unread}
+use Rattle.clfs_txn.specs.Loading.{left_by, loaded_of}
 use Rattle.clfs_txn.proofs.Leads.{leads_on}
 use Rattle.clfs_txn.proofs.Written.{writes_as}
 

@@ -1,29 +1,19 @@
 -- That the log has the sets of the open transactions: kept by all that a store does, so that undoing comes to sets of the transaction alone.
-use Rattle.std.proofs.Common.{◌≡◌, ◌⊎◌, inl, inr, ℕ, ◌+◌, ◌-◌, ◌<◌, Bool, true, false, refl, sym, ap, ◌∙◌, subst, List, [], ◌∷◌, ◌++◌, length, arith}
-use Rattle.std.specs.Prelude.{Option, Some, None, Result, Ok, Err, IfOk, IsSome, All, find, filter, not, reverse, slice_get, ◌==◌, ◌&&◌}
-use Rattle.std.specs.List.{AllByRecursion}
-use Rattle.std.specs.Option.{option_map_or, option_and_then}
-use Rattle.std.proofs.lemmas.Bool.{cases_Bool, eqb-true, eq-eqb}
+use Rattle.clfs_txn.proofs.Words.{◌≡◌, ◌⊎◌, inl, inr, ℕ, ◌+◌, ◌-◌, ◌<◌, Bool, true, false, refl, sym, ap, ◌∙◌, subst, List, [], ◌∷◌, ◌++◌, length, arith}
+use Rattle.clfs_txn.proofs.Words.{IfOk, IsSome, All, find, not, ◌==◌, ◌&&◌, AllByRecursion, option_map_or, cases_Bool, eqb-true, eq-eqb, recursion_from_All}
+use Rattle.clfs_txn.proofs.Words.{null_lsn, UndoNext, LogEntry, State, live, live_at, next, change_first, IsValid, IsRecord, Made, Change, Memory}
+use Rattle.clfs_txn.proofs.Words.{Transaction, is_at, is_numbered, newest_standing, standing, transaction, with_begun, with_set, with_undone}
+use Rattle.clfs_txn.proofs.Words.{without_transaction, AreLogged, Refusal, happened_of, Steps, HasLink, IsAt, IsSet}
+use Rattle.std.specs.Prelude.{Option, Some, None, Result, Ok, Err, filter, reverse, slice_get}
+use Rattle.std.specs.Option.{option_and_then}
 use Rattle.std.proofs.lemmas.List.{get_or-reverse, length-reverse}
-use Rattle.std.proofs.lemmas.List.Elements.{recursion_from_All, All-from_recursion}
-use Rattle.clfs_lsn.specs.Lsn.{null_lsn}
-use Rattle.clfs_lsn.specs.declared.cursor.Mode.TheVariants.{UndoNext}
-use Rattle.clfs_lsn.specs.declared.entry.LogEntry.{LogEntry}
-use Rattle.clfs_model.specs.declared.state.State.{State}
-use Rattle.clfs_model.specs.Live.{live, live_at, is_live}
-use Rattle.clfs_model.specs.Reading.{entry_at, next}
-use Rattle.clfs_model.specs.State.{change_first}
-use Rattle.clfs_model.specs.Valid.{IsValid, IsRecord}
-use Rattle.clfs_cells.specs.declared.begun.Made.{Made}
-use Rattle.clfs_cells.specs.declared.row.Change.{Change}
-use Rattle.clfs_cells.specs.Stored.{Memory, Transaction, is_at, is_numbered, newest_standing, standing, transaction, with_begun, with_one_undone, with_set, with_undone, without_first, without_transaction}
-use Rattle.clfs_txn.specs.Kept.{IsLogged, AreLogged}
+use Rattle.std.proofs.lemmas.List.Elements.{All-from_recursion}
+use Rattle.clfs_model.specs.Live.{is_live}
+use Rattle.clfs_model.specs.Reading.{entry_at}
+use Rattle.clfs_cells.specs.Stored.{with_one_undone, without_first}
+use Rattle.clfs_txn.specs.Kept.{IsLogged}
 use Rattle.clfs_model.specs.declared.call.Call.TheVariants as calls
-use Rattle.clfs_model.specs.declared.refusal.Refusal.{Refusal}
 use Rattle.clfs_model.specs.declared.reply.Reply.TheVariants as replies
-use Rattle.clfs_model.specs.Happened.{happened_of}
-use Rattle.clfs_manager.specs.Calls.{Steps}
-use Rattle.clfs_txn.specs.Reading.{HasLink, IsAt, IsSet}
 use Rattle.clfs_txn.proofs.Appended.{still_links}
 use Rattle.clfs_txn.proofs.Cursors.{found_has, found_passes, next_there}
 

@@ -1,18 +1,9 @@
 -- What crashes leave of a table while a store's calls of the log are made, one after the other.
-use Rattle.std.proofs.Common.{◌≡◌, ◌⊎◌, ℕ, ◌<◌, ◌≤◌, Bool, false, inl, inr, refl, sym, subst, ◌∙◌, arith}
-use Rattle.std.specs.Prelude.{IsTrue}
-use Rattle.std.proofs.lemmas.Bool.{cases_lt}
-use Rattle.clfs_disk.specs.Files.{Files, Unchanged}
-use Rattle.clfs_disk.specs.State.{DiskState, IsHonest, Leaves, MayLeave, Nature, Passes}
-use Rattle.clfs_model.specs.declared.call.Call.{Call}
-use Rattle.clfs_model.specs.declared.reply.Reply.{Reply}
-use Rattle.clfs_model.specs.declared.state.State.{State}
+use Rattle.clfs_txn.proofs.Words.{◌≡◌, ◌⊎◌, ℕ, ◌<◌, ◌≤◌, Bool, false, inl, inr, refl, sym, subst, ◌∙◌, arith, IsTrue, cases_lt, Files, Unchanged, DiskState}
+use Rattle.clfs_txn.proofs.Words.{Leaves, MayLeave, Nature, Passes, Call, Reply, State, Survives, CrashSurvives, HoldSurvivor, Plan, calls, LeadsTo}
+use Rattle.clfs_txn.proofs.Words.{CrashLeaves, HoldsLeft, IsLeftMeanwhile, LeavesCall, Meanwhile, UnderWay}
+use Rattle.clfs_disk.specs.State.{IsHonest}
 use Rattle.clfs_model.specs.Run.{Request, asks}
-use Rattle.clfs_model.specs.Survivors.{Survives}
-use Rattle.clfs_manager.specs.Crashes.{CrashSurvives, HoldSurvivor}
-use Rattle.clfs_cells.specs.Plans.{Plan, calls}
-use Rattle.clfs_txn.specs.Calls.{LeadsTo}
-use Rattle.clfs_txn.specs.UnderWay.{CrashLeaves, HoldsLeft, IsLeftMeanwhile, LeavesCall, Meanwhile, UnderWay}
 
 -- ---- moments
 

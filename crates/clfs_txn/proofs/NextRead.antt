@@ -1,28 +1,13 @@
 -- What a reply to reading on makes of the plan of loading, of the log and of the disk.
-use Rattle.std.proofs.Common.{◌≡◌, ◌≢◌, ℕ, ◌-◌, ◌<◌, Bool, true, false, refl, sym, subst, ap, ◌∙◌, inl, inr, arith, List, length, Option, Some, None, Result, Ok, Err}
-use Rattle.std.specs.Prelude.{IsErrOf, IsSome, OnOk}
-use Rattle.clfs_disk.specs.State.{DiskState}
-use Rattle.clfs_lsn.specs.declared.entry.LogEntry.{LogEntry}
+use Rattle.clfs_txn.proofs.Words.{◌≡◌, ◌≢◌, ℕ, ◌-◌, ◌<◌, Bool, true, false, refl, sym, subst, ap, ◌∙◌, inl, inr, arith, List, length, Option, Some, None}
+use Rattle.clfs_txn.proofs.Words.{Result, Ok, Err, IsErrOf, IsSome, OnOk, DiskState, LogEntry, Refusal, Fine, State, happened_of_refusal, Step, IsValid}
+use Rattle.clfs_txn.proofs.Words.{Steps, WritesDisk, TxnRecord, TxnLoadRefusal, Log, NotATable, txn_record_of, Loaded, gives_up, read_records, Memory}
+use Rattle.clfs_txn.proofs.Words.{LeadsTo, GoesForward, or_ended_read, to_come}
 use Rattle.clfs_model.specs.declared.call.Call.TheVariants as log_calls
-use Rattle.clfs_model.specs.declared.refusal.Refusal.{Refusal}
 use Rattle.clfs_model.specs.declared.refusal.Refusal.TheVariants as log_refusals
-use Rattle.clfs_model.specs.declared.reply.Happened.TheVariants.{Fine}
 use Rattle.clfs_model.specs.declared.reply.Reply.TheVariants as log_replies
-use Rattle.clfs_model.specs.declared.state.State.{State}
-use Rattle.clfs_model.specs.Happened.{happened_of_refusal}
-use Rattle.clfs_model.specs.Step.{Step}
-use Rattle.clfs_model.specs.Valid.{IsValid}
 use Rattle.clfs_model.specs.Ways.{GoesTheseWays}
-use Rattle.clfs_manager.specs.Calls.{Steps}
-use Rattle.clfs_manager.specs.Written.{WritesDisk}
-use Rattle.clfs_cells.specs.declared.row.TxnRecord.{TxnRecord}
-use Rattle.clfs_cells.specs.declared.told.TxnLoadRefusal.{TxnLoadRefusal}
-use Rattle.clfs_cells.specs.declared.told.TxnLoadRefusal.TheVariants.{Log, NotATable}
-use Rattle.clfs_cells.specs.Layout.{txn_record_of}
-use Rattle.clfs_cells.specs.Loading.{Loaded, gives_up, read_records}
-use Rattle.clfs_cells.specs.Stored.{Memory}
-use Rattle.clfs_txn.specs.Calls.{LeadsTo}
-use Rattle.clfs_txn.specs.Loading.{GoesForward, IsJoined, IsNotTaken, or_ended_read, to_come}
+use Rattle.clfs_txn.specs.Loading.{IsJoined, IsNotTaken}
 use Rattle.clfs_txn.proofs.Joined.{writes_then}
 use Rattle.clfs_txn.proofs.Leads.{leads_to}
 use Rattle.clfs_txn.proofs.LoadSteps.{ComesToEnd, GoesOn, fewer_come, record_lost, record_strange, record_taken, records_end, records_refused}

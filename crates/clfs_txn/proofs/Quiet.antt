@@ -1,15 +1,8 @@
 -- A call of the log that makes no call on the disk and takes no memory leaves the log broken or not, as it was.
-use Rattle.std.proofs.Common.{◌≡◌, ◌≢◌, ℕ, Bool, true, false, inl, inr, refl, sym, ap, ◌∙◌}
-use Rattle.std.proofs.lemmas.Bool.{cases_Bool}
-use Rattle.clfs_model.specs.declared.call.Call.{Call}
+use Rattle.clfs_txn.proofs.Words.{◌≡◌, ◌≢◌, ℕ, Bool, true, false, inl, inr, refl, sym, ap, ◌∙◌, cases_Bool, Call, Happened, Fine, Fault, Damage, Reply, State}
+use Rattle.clfs_txn.proofs.Words.{happened_of, Step, IsBroken, calls_disk, reads_disk, takes_memory}
 use Rattle.clfs_model.specs.declared.refusal.Refusal.TheVariants as refusals
-use Rattle.clfs_model.specs.declared.reply.Happened.{Happened}
-use Rattle.clfs_model.specs.declared.reply.Happened.TheVariants.{Fine, Fault, Damage}
-use Rattle.clfs_model.specs.declared.reply.Reply.{Reply}
 use Rattle.clfs_model.specs.declared.reply.Reply.TheVariants as replies
-use Rattle.clfs_model.specs.declared.state.State.{State}
-use Rattle.clfs_model.specs.Happened.{happened_of}
-use Rattle.clfs_model.specs.Step.{Step, IsBroken, calls_disk, reads_disk, takes_memory}
 use Rattle.clfs_txn.proofs.Written.{where_not}
 
 -- what the laws say

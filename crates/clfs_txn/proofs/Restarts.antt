@@ -1,24 +1,14 @@
 -- The ways in which a checkpoint goes.
-use Rattle.std.proofs.Common.{◌≡◌, ℕ, ◌+◌, ◌<◌, Bool, true, false, length, refl, sym, subst, ◌∙◌, arith}
-use Rattle.std.proofs.lemmas.Bool.{lt-ltb, le-ltb}
+use Rattle.clfs_txn.proofs.Words.{◌≡◌, ℕ, ◌+◌, ◌<◌, Bool, true, false, length, refl, sym, subst, ◌∙◌, arith, lt-ltb, le-ltb, LogInfo, Refusal, happened_of}
+use Rattle.clfs_txn.proofs.Words.{happened_of_refusal, Step, checkpoint_bytes, Plan, calls, on_info, on_placed, Answered, TxnStep, txn_plan, stops, answers}
+use Rattle.clfs_txn.proofs.Words.{Store, Memory, checkpoint_of, DiskState, CrashLeaves, LeavesCall, Meanwhile, UnderWay}
 use Rattle.clfs_model.specs.declared.call.Call.TheVariants as log_calls
-use Rattle.clfs_model.specs.declared.info.LogInfo.{LogInfo}
-use Rattle.clfs_model.specs.declared.refusal.Refusal.{Refusal}
 use Rattle.clfs_model.specs.declared.refusal.Refusal.TheVariants as log_refusals
 use Rattle.clfs_model.specs.declared.reply.Reply.TheVariants as log_replies
-use Rattle.clfs_model.specs.Happened.{happened_of, happened_of_refusal}
-use Rattle.clfs_model.specs.Step.{Step}
 use Rattle.clfs_cells.specs.declared.asked.TxnCall.TheVariants as asked
 use Rattle.clfs_cells.specs.declared.told.TxnRefusal.TheVariants as refusals
 use Rattle.clfs_cells.specs.declared.told.TxnReply.TheVariants as replies
-use Rattle.clfs_cells.specs.Layout.{checkpoint_bytes}
-use Rattle.clfs_cells.specs.Plans.{Plan, calls, on_info, on_placed}
-use Rattle.clfs_cells.specs.Calls.{Answered, TxnStep, txn_plan, stops, answers}
-use Rattle.clfs_cells.specs.Stored.{Store, Memory}
-use Rattle.clfs_txn.specs.Calls.{checkpoint_of}
 use Rattle.clfs_txn.proofs.Carried.{passed, met, one_call, step_is, refused_at_once}
-use Rattle.clfs_disk.specs.State.{DiskState}
-use Rattle.clfs_txn.specs.UnderWay.{CrashLeaves, LeavesCall, Meanwhile, UnderWay}
 use Rattle.clfs_txn.proofs.Moments.{meanwhile_as}
 
 pub broken : (told : Bool) (s : Store) → s.log.broken ≡ true → TxnStep told s asked.Checkpoint (replies.Refused (refusals.Log log_refusals.Broken)) s

@@ -1,12 +1,6 @@
 -- Reading records one after the other, as the plan of loading does.
-use Rattle.std.proofs.Common.{◌≡◌, ℕ, ◌-◌, ◌<◌, Bool, true, false, ap, subst, arith, List, length, Result, Ok, Err}
-use Rattle.clfs_model.specs.declared.state.State.{State}
-use Rattle.clfs_cells.specs.declared.row.TxnRecord.{TxnRecord}
-use Rattle.clfs_cells.specs.declared.told.TxnLoadRefusal.{TxnLoadRefusal}
-use Rattle.clfs_cells.specs.Loading.{Loaded, read_records}
-use Rattle.clfs_cells.specs.Stored.{Memory}
-use Rattle.clfs_txn.specs.Calls.{LeadsTo}
-use Rattle.clfs_txn.specs.Loading.{GoesForward, or_all_read, or_ended_read, to_come}
+use Rattle.clfs_txn.proofs.Words.{◌≡◌, ℕ, ◌-◌, ◌<◌, Bool, true, false, ap, subst, arith, List, length, Result, Ok, Err, State, TxnRecord, TxnLoadRefusal}
+use Rattle.clfs_txn.proofs.Words.{Loaded, read_records, Memory, LeadsTo, GoesForward, or_all_read, or_ended_read, to_come}
 use Rattle.clfs_txn.proofs.Leads.{leads_on}
 
 -- a store's reading came so far

@@ -1,24 +1,14 @@
 -- The ways in which a set goes.
-use Rattle.std.proofs.Common.{◌≡◌, inl, inr, ℕ, Bool, true, false, length, Option, Some, None, refl, sym, ap, ◌∙◌}
-use Rattle.std.specs.Prelude.{nat_le}
-use Rattle.std.specs.Option.{option_map, option_map_or}
-use Rattle.clfs_model.specs.declared.refusal.Refusal.{Refusal}
+use Rattle.clfs_txn.proofs.Words.{◌≡◌, inl, inr, ℕ, Bool, true, false, length, Option, Some, None, refl, sym, ap, ◌∙◌, nat_le, option_map, option_map_or}
+use Rattle.clfs_txn.proofs.Words.{Refusal, happened_of, happened_of_refusal, Step, TxnCall, Set, TxnRefusal, Plan, Answered, TxnStep, txn_plan, refuses}
+use Rattle.clfs_txn.proofs.Words.{over_transaction, append_call, change_to, Store, Memory, Transaction, transaction, holder, newest_standing, with_set}
+use Rattle.clfs_txn.proofs.Words.{IsFound, IsNotFound, DiskState, CrashLeaves, LeavesCall, Meanwhile, UnderWay}
 use Rattle.clfs_model.specs.declared.reply.Reply.TheVariants as log_replies
-use Rattle.clfs_model.specs.Happened.{happened_of, happened_of_refusal}
-use Rattle.clfs_model.specs.Step.{Step}
-use Rattle.clfs_cells.specs.declared.asked.TxnCall.{TxnCall}
 use Rattle.clfs_cells.specs.declared.asked.TxnCall.TheVariants as asked
-use Rattle.clfs_cells.specs.declared.row.Action.TheVariants.{Set}
-use Rattle.clfs_cells.specs.declared.told.TxnRefusal.{TxnRefusal}
 use Rattle.clfs_cells.specs.declared.told.TxnRefusal.TheVariants as refusals
 use Rattle.clfs_cells.specs.declared.told.TxnReply.TheVariants as replies
-use Rattle.clfs_cells.specs.Plans.{Plan}
-use Rattle.clfs_cells.specs.Calls.{Answered, TxnStep, txn_plan, refuses, over_transaction, unbroken, append_call, change_to, set_cell}
-use Rattle.clfs_cells.specs.Stored.{Store, Memory, Transaction, transaction, holder, newest_standing, with_set}
-use Rattle.clfs_txn.specs.Calls.{IsFound, IsNotFound}
+use Rattle.clfs_cells.specs.Calls.{unbroken, set_cell}
 use Rattle.clfs_txn.proofs.Carried.{passed, met, one_call, step_is, refused_at_once}
-use Rattle.clfs_disk.specs.State.{DiskState}
-use Rattle.clfs_txn.specs.UnderWay.{CrashLeaves, LeavesCall, Meanwhile, UnderWay}
 use Rattle.clfs_txn.proofs.Moments.{first_call, meanwhile_as}
 
 pub over : (memory : Memory) (number : ℕ) (go : Transaction → Plan Answered) (found : Option Transaction) → transaction memory number ≡ found

@@ -1,25 +1,14 @@
 -- What a crash leaves of a store's table while a call of it is under way, and what the call leaves of it.
-use Rattle.std.proofs.Common.{◌≡◌, ◌⊎◌, ℕ, Bool, true, false, refl, sym, subst, ◌∙◌, inl, inr, List, Result, Ok}
-use Rattle.clfs_disk.specs.State.{DiskState, Leaves}
-use Rattle.clfs_model.specs.declared.state.State.{State}
-use Rattle.clfs_model.specs.Run.{bad_line}
-use Rattle.clfs_model.specs.Survivors.{Survives}
-use Rattle.clfs_manager.specs.Crashes.{CrashSurvives, HoldSurvivor}
-use Rattle.clfs_cells.specs.declared.asked.TxnCall.{TxnCall}
+use Rattle.clfs_txn.proofs.Words.{◌≡◌, ◌⊎◌, ℕ, Bool, true, false, refl, sym, subst, ◌∙◌, inl, inr, List, Result, Ok, DiskState, Leaves, State, bad_line}
+use Rattle.clfs_txn.proofs.Words.{Survives, CrashSurvives, HoldSurvivor, TxnCall, TxnRefusal, TxnReply, TxnStep, txn_plan, LoadStep, Memory, Store, table}
+use Rattle.clfs_txn.proofs.Words.{LeavesTables, IsKeptStore, TxnSteps, CrashLeavesTable, HoldsTable, HoldsLeft, IsLeftMeanwhile, LeavesCalls, Meanwhile}
 use Rattle.clfs_cells.specs.declared.asked.TxnCall.TheVariants as asked
-use Rattle.clfs_cells.specs.declared.told.TxnRefusal.{TxnRefusal}
-use Rattle.clfs_cells.specs.declared.told.TxnReply.{TxnReply}
 use Rattle.clfs_cells.specs.declared.told.TxnReply.TheVariants as replies
-use Rattle.clfs_cells.specs.Calls.{TxnStep, txn_plan}
-use Rattle.clfs_cells.specs.Loading.{LoadStep}
-use Rattle.clfs_cells.specs.Stored.{Memory, Store}
-use Rattle.clfs_cells.specs.Table.{table}
-use Rattle.clfs_cells_laws.specs.Crashes.{EndsSafe, IsSafe, LeavesTables, table_joined, table_once}
+use Rattle.clfs_cells_laws.specs.Crashes.{EndsSafe, IsSafe, table_joined, table_once}
 use Rattle.clfs_cells_laws.specs.Steps.{HasArguments}
-use Rattle.clfs_cells_laws.specs.Stores.{IsKeptStore, IsStore}
-use Rattle.clfs_txn.specs.Calls.{TxnSteps}
-use Rattle.clfs_txn.specs.Crashes.{CrashLeavesTable, HoldsTable, KeepsTable, LeavesTableOf}
-use Rattle.clfs_txn.specs.UnderWay.{HoldsLeft, IsLeftMeanwhile, LeavesCalls, Meanwhile, asking}
+use Rattle.clfs_cells_laws.specs.Stores.{IsStore}
+use Rattle.clfs_txn.specs.Crashes.{KeepsTable, LeavesTableOf}
+use Rattle.clfs_txn.specs.UnderWay.{asking}
 use Rattle.clfs_txn.proofs.Left.{SameTable, along_left, left_has_table, table_held}
 use Rattle.clfs_txn.proofs.Moments.{asked_leaves, leaves_weaker}
 

@@ -1,28 +1,15 @@
 -- How a plan of taking sets back is carried out, piece by piece.
-use Rattle.std.proofs.Common.{◌≡◌, ℕ, suc, Bool, false, refl, sym, subst, ap, ◌∙◌, Result, Ok, Err, Option}
-use Rattle.std.specs.Prelude.{find}
-use Rattle.std.specs.Option.{option_map_or}
-use Rattle.clfs_lsn.specs.declared.cursor.Mode.{Mode}
-use Rattle.clfs_lsn.specs.declared.cursor.Mode.TheVariants.{UndoNext}
-use Rattle.clfs_lsn.specs.declared.entry.LogEntry.{LogEntry}
-use Rattle.clfs_model.specs.declared.call.Call.{Call}
+use Rattle.clfs_txn.proofs.Words.{◌≡◌, ℕ, suc, Bool, false, refl, sym, subst, ap, ◌∙◌, Result, Ok, Err, Option, find, option_map_or, Mode, UndoNext, LogEntry}
+use Rattle.clfs_txn.proofs.Words.{Call, Refusal, Happened, Reply, State, happened_of, happened_of_refusal, Step, Made, Plan, calls, never, on_placed}
+use Rattle.clfs_txn.proofs.Words.{Answered, append_call, stops, undo_from, undo_sets, with_read_ended, Memory, Transaction, is_at, newest_standing}
+use Rattle.clfs_txn.proofs.Words.{with_undone, HasSameArea, Leads, or_stopped, IsAt, DiskState, CrashLeaves, LeavesCall, Meanwhile, UnderWay}
 use Rattle.clfs_model.specs.declared.call.Call.TheVariants as log_calls
-use Rattle.clfs_model.specs.declared.refusal.Refusal.{Refusal}
-use Rattle.clfs_model.specs.declared.reply.Happened.{Happened}
-use Rattle.clfs_model.specs.declared.reply.Reply.{Reply}
 use Rattle.clfs_model.specs.declared.reply.Reply.TheVariants as log_replies
-use Rattle.clfs_model.specs.declared.state.State.{State}
-use Rattle.clfs_model.specs.Happened.{happened_of, happened_of_refusal}
-use Rattle.clfs_model.specs.Step.{Step}
-use Rattle.clfs_cells.specs.declared.begun.Made.{Made}
-use Rattle.clfs_cells.specs.Plans.{Plan, calls, never, on_placed, on_next}
-use Rattle.clfs_cells.specs.Calls.{Answered, append_call, compensation, stops, undo_from, undo_set, undo_sets, with_read_ended}
-use Rattle.clfs_cells.specs.Stored.{Memory, Transaction, is_at, newest_standing, with_undone}
-use Rattle.clfs_txn.specs.Calls.{HasSameArea, Leads, or_ended, or_stopped}
-use Rattle.clfs_txn.specs.Reading.{IsAt, IsSetOf}
+use Rattle.clfs_cells.specs.Plans.{on_next}
+use Rattle.clfs_cells.specs.Calls.{compensation, undo_set}
+use Rattle.clfs_txn.specs.Calls.{or_ended}
+use Rattle.clfs_txn.specs.Reading.{IsSetOf}
 use Rattle.clfs_txn.proofs.Leads.{leads_call, leads_from, leads_nowhere, leads_on, leads_to}
-use Rattle.clfs_disk.specs.State.{DiskState}
-use Rattle.clfs_txn.specs.UnderWay.{CrashLeaves, LeavesCall, Meanwhile, UnderWay}
 use Rattle.clfs_txn.proofs.Moments.{first_call, meanwhile_as, meanwhile_then}
 
 -- ---- the same step and the same place, by other names

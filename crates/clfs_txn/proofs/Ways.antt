@@ -1,19 +1,10 @@
 -- The ways that a call of the log can go, one by one, and what each leaves of a plan.
-use Rattle.std.proofs.Common.{◌≡◌, ℕ, Bool, true, false, refl, subst, inl, inr, Option, Some, None}
-use Rattle.std.specs.Prelude.{MatchOption}
-use Rattle.clfs_model.specs.declared.call.Call.{Call}
-use Rattle.clfs_model.specs.declared.refusal.Refusal.{Refusal}
+use Rattle.clfs_txn.proofs.Words.{◌≡◌, ℕ, Bool, true, false, refl, subst, inl, inr, Option, Some, None, MatchOption, Call, Refusal, Happened, Fine, Fault}
+use Rattle.clfs_txn.proofs.Words.{Damage, Reply, State, answer, flushed, refusal, Step, Goes, Comes, IsBroken, IsDamaged, calls_disk, reads_disk}
+use Rattle.clfs_txn.proofs.Words.{takes_memory, Plan, calls, CarriesOut}
 use Rattle.clfs_model.specs.declared.refusal.Refusal.TheVariants as refusals
-use Rattle.clfs_model.specs.declared.reply.Happened.{Happened}
-use Rattle.clfs_model.specs.declared.reply.Happened.TheVariants.{Fine, Fault, Damage}
-use Rattle.clfs_model.specs.declared.reply.Reply.{Reply}
 use Rattle.clfs_model.specs.declared.reply.Reply.TheVariants as replies
-use Rattle.clfs_model.specs.declared.state.State.{State}
-use Rattle.clfs_model.specs.Answers.{answer}
-use Rattle.clfs_model.specs.Flush.{flushed}
-use Rattle.clfs_model.specs.Refusals.{refusal}
-use Rattle.clfs_model.specs.Step.{Step, Goes, Comes, IsBroken, IsDamaged, calls_disk, reads_disk, takes_memory, with_broken}
-use Rattle.clfs_cells.specs.Plans.{Plan, calls, CarriesOut}
+use Rattle.clfs_model.specs.Step.{with_broken}
 use Rattle.clfs_txn.proofs.Written.{where_not, where_so}
 
 -- how a call of a log that isn't broken went: the refusal that came, with the state after it, or the answer

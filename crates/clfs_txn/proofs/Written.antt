@@ -1,28 +1,14 @@
 -- How calls leave the disk, seen from a store.
-use Rattle.std.proofs.Common.{◌≡◌, ℕ, Bool, true, false, Result, Ok, Err, Option, Some, None, ◌⊎◌, inl, inr, refl, ap, ◌∙◌, subst, arith}
-use Rattle.std.specs.Prelude.{IsErrOf, MatchBool, MatchOption}
-use Rattle.std.specs.Option.{option_map_or}
-use Rattle.clfs_disk.specs.State.{DiskState, Later}
-use Rattle.clfs_model.specs.declared.refusal.Refusal.{Refusal}
+use Rattle.clfs_txn.proofs.Words.{◌≡◌, ℕ, Bool, true, false, Result, Ok, Err, Option, Some, None, ◌⊎◌, inl, inr, refl, ap, ◌∙◌, subst, arith, IsErrOf}
+use Rattle.clfs_txn.proofs.Words.{MatchBool, MatchOption, option_map_or, DiskState, Later, Refusal, TxnRefusal, Store, Call, Fine, Fault, Reply, Area, State}
+use Rattle.clfs_txn.proofs.Words.{outcome, refusal, area_of, Step, calls_disk, Steps, WritesDisk, IsNotFound}
 use Rattle.clfs_model.specs.declared.refusal.Refusal.TheVariants as log_refusals
-use Rattle.clfs_cells.specs.declared.told.TxnRefusal.{TxnRefusal}
 use Rattle.clfs_cells.specs.declared.told.TxnRefusal.TheVariants as refusals
-use Rattle.clfs_cells.specs.Stored.{Store}
-use Rattle.clfs_model.specs.declared.call.Call.{Call}
 use Rattle.clfs_model.specs.declared.call.Call.TheVariants as calls
-use Rattle.clfs_model.specs.declared.reply.Happened.TheVariants.{Fine, Fault}
-use Rattle.clfs_model.specs.declared.reply.Reply.{Reply}
 use Rattle.clfs_model.specs.declared.reply.Reply.TheVariants as replies
-use Rattle.clfs_model.specs.declared.state.Area.{Area}
-use Rattle.clfs_model.specs.declared.state.State.{State}
-use Rattle.clfs_model.specs.Answers.{outcome, released}
-use Rattle.clfs_model.specs.Refusals.{refusal}
-use Rattle.clfs_model.specs.State.{area_of}
+use Rattle.clfs_model.specs.Answers.{released}
 use Rattle.clfs_laws.specs.Refused.{is_of_call}
-use Rattle.clfs_model.specs.Step.{Step, calls_disk}
-use Rattle.clfs_manager.specs.Calls.{Steps}
-use Rattle.clfs_manager.specs.Written.{WritesDisk}
-use Rattle.clfs_txn.specs.Calls.{IsNotFound, is_fault}
+use Rattle.clfs_txn.specs.Calls.{is_fault}
 
 later_still : (disk : DiskState) → Later disk disk
 later_still disk = record {

@@ -1,5 +1,4 @@
-use Rattle.std.proofs.Common.{◌∙◌, ap, List, [], ◌∷◌, ◌++◌, slice_set}
-use Rattle.clfs_model.specs.Journals.{ClientScript}
+use Rattle.clfs_race.proofs.Words.{◌∙◌, ap, List, [], ◌∷◌, ◌++◌, slice_set, ClientScript}
 use Rattle.clfs_race.proofs.Gathering.{found_and_pushed, none_and_added}
 use Rattle.clfs_race.proofs.Outcomes.{on_ok}
 use Rattle.clfs_race.proofs.dividing.add_call.Goals as goal

@@ -1,5 +1,4 @@
-use Rattle.std.proofs.Common.{◌≡◌, ◌∙◌, ◌+◌, ◌-◌, ap, List, ℕ, length, take, drop, arith}
-use Rattle.clfs_model.specs.Accepted.{race_limits, accepted, ended_lines}
+use Rattle.clfs_race.proofs.Words.{◌≡◌, ◌∙◌, ◌+◌, ◌-◌, ap, List, ℕ, length, take, drop, arith, race_limits, accepted, ended_lines}
 use Rattle.clfs_race.proofs.FirstLines.{first_short}
 use Rattle.clfs_race.proofs.SoFar.{none_yet, one_more, all_done, front_is, short_left, none_after_long, none_unended}
 use Rattle.clfs_race.proofs.dividing.divide_accepted.Goals as goal

@@ -1,4 +1,4 @@
-use Rattle.clfs_model.specs.Accepted.{race_limits, accepted, ended_lines}
+use Rattle.clfs_race.proofs.Words.{race_limits, accepted, ended_lines}
 use Rattle.clfs_race.proofs.FirstLines.{first_short}
 use Rattle.clfs_race.proofs.SoFar.{IsDividedSoFar}
 use Rattle.clfs_race.proofs.dividing.divide_accepted.Given as goal

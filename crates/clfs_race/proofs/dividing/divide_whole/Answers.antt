@@ -1,5 +1,4 @@
-use Rattle.std.proofs.Common.{◌≡◌, ◌+◌, ◌<◌, List, ℕ, [], length, drop, refl, arith}
-use Rattle.clfs_model.specs.Lines.{lines_of}
+use Rattle.clfs_race.proofs.Words.{◌≡◌, ◌+◌, ◌<◌, List, ℕ, [], length, drop, refl, arith, lines_of}
 use Rattle.clfs_race.proofs.FirstLines.{first_line, last_line, no_line}
 use Rattle.clfs_race.proofs.SoFar.{one_more, all_done, first_is_short}
 use Rattle.clfs_race.proofs.dividing.divide_whole.Goals as goal

@@ -1,6 +1,4 @@
-use Rattle.std.proofs.Common.{◌≡◌, length, true}
-use Rattle.std.specs.List.{list_all}
-use Rattle.clfs_model.specs.Lines.{lines_of}
+use Rattle.clfs_race.proofs.Words.{◌≡◌, length, true, list_all, lines_of}
 use Rattle.clfs_race.proofs.FirstLines.{is_short}
 use Rattle.clfs_race.proofs.SoFar.{IsDividedSoFar}
 use Rattle.clfs_race.proofs.dividing.divide_whole.Given as goal

@@ -1,4 +1,4 @@
-use Rattle.std.proofs.Common.{◌++◌, take}
+use Rattle.clfs_race.proofs.Words.{◌++◌, take}
 use Rattle.std.proofs.KnownBytes.{Consumes-trans}
 use Rattle.clfs_race.proofs.Outcomes.{on_err}
 use Rattle.clfs_race.proofs.input.take_bytes.Goals as goal

@@ -1,6 +1,5 @@
-use Rattle.std.proofs.Common.{◌≡◌, ◌+◌, ◌<◌, List, ℕ, ◌∷◌, ◌++◌, length, drop, true, sym, ap, refl, ◌∙◌, arith, length-append}
-use Rattle.std.specs.Prelude.{nat_le}
-use Rattle.std.proofs.lemmas.Bool.{le-leb}
+use Rattle.clfs_race.proofs.Words.{◌≡◌, ◌+◌, ◌<◌, List, ℕ, ◌∷◌, ◌++◌, length, drop, true, sym, ap, refl, ◌∙◌, arith, nat_le, le-leb}
+use Rattle.std.proofs.Common.{length-append}
 use Rattle.clfs_race.proofs.FirstLines.{long_is_past, counted_more, cut_within}
 use Rattle.clfs_race.proofs.lines.is_within_limits.Goals as goal
 

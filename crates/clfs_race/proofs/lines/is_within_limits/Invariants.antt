@@ -1,4 +1,4 @@
-use Rattle.std.proofs.Common.{length}
+use Rattle.clfs_race.proofs.Words.{length}
 use Rattle.clfs_race.proofs.FirstLines.{AreCounted}
 use Rattle.clfs_race.proofs.lines.is_within_limits.Given as goal
 

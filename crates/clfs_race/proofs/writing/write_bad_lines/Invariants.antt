@@ -1,4 +1,4 @@
-use Rattle.std.proofs.Common.{◌≡◌, ◌++◌, take}
+use Rattle.clfs_race.proofs.Words.{◌≡◌, ◌++◌, take}
 use Rattle.std.specs.List.{flat_map}
 use Rattle.clfs_race.specs.Scripts.{bad_line_text}
 use Rattle.clfs_race.proofs.writing.write_bad_lines.Given as goal

@@ -1,4 +1,4 @@
-use Rattle.std.proofs.Common.{◌≡◌, ◌++◌, take}
+use Rattle.clfs_race.proofs.Words.{◌≡◌, ◌++◌, take}
 use Rattle.clfs_race.specs.Scripts.{journal_text}
 use Rattle.clfs_race.proofs.writing.write_journal.Given as goal
 

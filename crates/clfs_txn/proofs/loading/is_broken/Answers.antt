@@ -1,4 +1,4 @@
-use Rattle.std.proofs.Common.{true, ◌∙◌}
+use Rattle.clfs_txn.proofs.Words.{true, ◌∙◌}
 use Rattle.clfs_txn.proofs.LoadSteps.{says_is}
 use Rattle.clfs_txn.proofs.Quiet.{QuietLaws}
 use Rattle.clfs_txn.proofs.loading.is_broken.Goals as goal

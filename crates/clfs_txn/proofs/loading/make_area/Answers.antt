@@ -1,8 +1,6 @@
-use Rattle.std.proofs.Common.{◌≡◌, ap, refl, true, ◌∙◌, Ok, Err}
-use Rattle.std.specs.Prelude.{IsErrOf}
+use Rattle.clfs_txn.proofs.Words.{◌≡◌, ap, refl, true, ◌∙◌, Ok, Err, IsErrOf, Memory}
 use Rattle.clfs_model.specs.declared.refusal.Refusal.TheVariants as log_refusals
 use Rattle.clfs_model.specs.declared.reply.Reply.TheVariants as log_replies
-use Rattle.clfs_cells.specs.Stored.{Memory}
 use Rattle.clfs_txn.proofs.LoadSteps.{leaves_records, making, opening, stream_refused}
 use Rattle.clfs_txn.proofs.LoadParts.{answered_whole, area_then, no_damage, on_ok, was_whole, with_its_stream}
 use Rattle.clfs_txn.proofs.Quiet.{QuietLaws}

@@ -1,4 +1,4 @@
-use Rattle.std.proofs.Common.{refl, ap}
+use Rattle.clfs_txn.proofs.Words.{refl, ap}
 use Rattle.clfs_model.specs.declared.call.Call.TheVariants as log_calls
 use Rattle.clfs_txn.proofs.Moments.{call_leaves, none_leaves}
 use Rattle.clfs_txn.proofs.loading.open_stream.Goals as goal

@@ -1,11 +1,7 @@
-use Rattle.std.proofs.Common.{◌≡◌, true, refl, ap, sym, subst, Bool}
-use Rattle.clfs_model.specs.declared.refusal.Refusal.{Refusal}
+use Rattle.clfs_txn.proofs.Words.{◌≡◌, true, refl, ap, sym, subst, Bool, Refusal, from_outside, Nature, IsKeptStore}
 use Rattle.clfs_cells.specs.declared.asked.TxnCall.TheVariants as asked
 use Rattle.clfs_cells.specs.declared.told.TxnReply.TheVariants as replies
-use Rattle.clfs_cells_laws.specs.Steps.{from_outside}
 use Rattle.clfs_txn.proofs.Between.{if_done, if_refused, went}
-use Rattle.clfs_disk.specs.State.{Nature}
-use Rattle.clfs_cells_laws.specs.Stores.{IsKeptStore}
 use Rattle.clfs_txn.proofs.Tables.{Crashes, keeps, lasts, moments}
 use Rattle.clfs_txn.proofs.store.TxnStore.commit.Goals as goal
 

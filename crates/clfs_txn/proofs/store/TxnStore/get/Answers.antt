@@ -1,6 +1,4 @@
-use Rattle.std.proofs.Common.{ap, subst, ◌∙◌, ◌≡◌, ℕ, List, false}
-use Rattle.std.specs.Prelude.{slice_index}
-use Rattle.clfs_disk.specs.State.{TellsContents}
+use Rattle.clfs_txn.proofs.Words.{ap, subst, ◌∙◌, ◌≡◌, ℕ, List, false, slice_index, TellsContents}
 use Rattle.clfs_cells.specs.Table.{table_with}
 use Rattle.clfs_cells_laws.specs.Tables.{numbers_of}
 use Rattle.clfs_txn.proofs.Tables.{whole_store}

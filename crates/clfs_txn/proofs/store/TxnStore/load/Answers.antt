@@ -1,9 +1,6 @@
-use Rattle.std.proofs.Common.{Bool, false, ap, refl, sym, subst, Ok}
-use Rattle.clfs_disk.specs.State.{Nature}
-use Rattle.clfs_cells_laws.specs.Stores.{IsKeptStore}
+use Rattle.clfs_txn.proofs.Words.{Bool, false, ap, refl, sym, subst, Ok, Nature, IsKeptStore, LoadStep}
 use Rattle.clfs_txn.proofs.Tables.{loaded_kept, so_safe}
 use Rattle.clfs_txn.proofs.LoadMoments.{loads_meanwhile}
-use Rattle.clfs_cells.specs.Loading.{LoadStep}
 use Rattle.clfs_txn.proofs.store.TxnStore.load.Goals as goal
 
 pub invariant_of-result : goal.invariant_of-result

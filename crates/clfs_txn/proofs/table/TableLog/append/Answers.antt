@@ -1,9 +1,7 @@
-use Rattle.std.proofs.Common.{◌≡◌, ap, ◌∙◌, refl, false, true}
+use Rattle.clfs_txn.proofs.Words.{◌≡◌, ap, ◌∙◌, refl, false, true, subst, IsValid}
 use Rattle.clfs_model.specs.declared.reply.Reply.TheVariants as replies
 use Rattle.clfs_txn.proofs.Asked.{same_steps, append_is}
 use Rattle.clfs_txn.proofs.Breaking.{Laws, kept_after, broken_then, whole_then, unchanged}
-use Rattle.std.proofs.Common.{subst}
-use Rattle.clfs_model.specs.Valid.{IsValid}
 use Rattle.clfs_txn.proofs.Appended.{links_reply, cursors_reply}
 use Rattle.clfs_txn.proofs.LoadParts.{no_damage}
 use Rattle.clfs_txn.proofs.Moments.{call_leaves, none_leaves}

@@ -1,6 +1,5 @@
-use Rattle.clfs_cells.specs.Calls.{answers}
+use Rattle.clfs_txn.proofs.Words.{answers, transaction_of}
 use Rattle.clfs_cells.specs.declared.told.TxnReply.TheVariants as replies
-use Rattle.clfs_cells.specs.Kept.{transaction_of}
 use Rattle.clfs_txn.proofs.Backs.{back_meanwhile, backs_done, backs_refused, too_many}
 use Rattle.clfs_txn.proofs.Written.{of_log}
 use Rattle.clfs_txn.proofs.Damage.{of_the_log}

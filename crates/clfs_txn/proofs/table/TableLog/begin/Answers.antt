@@ -1,8 +1,6 @@
-use Rattle.std.proofs.Common.{◌≡◌, ap, ◌+◌, ◌∙◌, sym, refl, false, length}
+use Rattle.clfs_txn.proofs.Words.{◌≡◌, ap, ◌+◌, ◌∙◌, sym, refl, false, length, with_begun, store_of}
 use Rattle.clfs_txn.proofs.Breaking.{same_store}
 use Rattle.clfs_txn.proofs.Begun.{begin_meanwhile, broken, limit_of, spent, refused, done, some_room, is_last, is_not_last}
-use Rattle.clfs_cells.specs.Stored.{with_begun}
-use Rattle.clfs_txn.specs.Kept.{store_of}
 use Rattle.clfs_txn.proofs.Written.{at_once, of_log, of_ok}
 use Rattle.clfs_txn.proofs.table.TableLog.begin.Goals as goal
 

@@ -1,4 +1,4 @@
-use Rattle.std.proofs.Common.{ap, ◌∙◌, sym, refl, length}
+use Rattle.clfs_txn.proofs.Words.{ap, ◌∙◌, sym, refl, length}
 use Rattle.clfs_txn.proofs.Restarts.{broken, some_open}
 use Rattle.clfs_txn.proofs.Written.{at_once}
 use Rattle.clfs_txn.proofs.table.TableLog.checkpoint.Goals as goal

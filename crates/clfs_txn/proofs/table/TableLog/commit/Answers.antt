@@ -1,6 +1,5 @@
-use Rattle.std.proofs.Common.{refl}
+use Rattle.clfs_txn.proofs.Words.{refl, transaction_of}
 use Rattle.clfs_cells.specs.declared.asked.TxnCall.TheVariants as asked
-use Rattle.clfs_cells.specs.Kept.{transaction_of}
 use Rattle.clfs_txn.proofs.Carried.{step_is}
 use Rattle.clfs_txn.proofs.Sets.{goes_on, not_found}
 use Rattle.clfs_txn.proofs.Written as written

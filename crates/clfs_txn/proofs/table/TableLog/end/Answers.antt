@@ -1,10 +1,8 @@
-use Rattle.std.proofs.Common.{◌≡◌, ◌*◌, ◌-◌, ◌∙◌, ap, arith, refl, ℕ}
-use Rattle.clfs_cells.specs.Kept.{transaction_of}
-use Rattle.clfs_cells.specs.Stored.{Memory, most_records, records_made, without_transaction}
+use Rattle.clfs_txn.proofs.Words.{◌≡◌, ◌-◌, ◌∙◌, ap, arith, refl, ℕ, transaction_of, Memory, most_records, records_made, without_transaction, is_break}
+use Rattle.std.proofs.Common.{◌*◌}
 use Rattle.clfs_txn.proofs.Asked.{same_call, same_step, append_call_is, release_is}
 use Rattle.clfs_txn.proofs.Ends.{refused, done, stopped}
 use Rattle.clfs_model.specs.declared.refusal.Refusal.TheVariants as log_refusals
-use Rattle.clfs_txn.specs.Calls.{is_break}
 use Rattle.clfs_txn.proofs.Breaking.{same_store}
 use Rattle.clfs_txn.proofs.Written.{of_log, of_ok}
 use Rattle.clfs_txn.proofs.Logged.{ended_logged}

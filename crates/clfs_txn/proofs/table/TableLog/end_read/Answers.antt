@@ -1,6 +1,5 @@
-use Rattle.std.proofs.Common.{ap, ◌∙◌, refl, sym, true}
+use Rattle.clfs_txn.proofs.Words.{ap, ◌∙◌, refl, sym, true, replied}
 use Rattle.clfs_model.specs.declared.reply.Reply.TheVariants as replies
-use Rattle.clfs_manager.specs.Calls.{replied}
 use Rattle.clfs_txn.proofs.Asked.{same_step, end_read_is}
 use Rattle.clfs_txn.proofs.Breaking.{still_logged}
 use Rattle.clfs_txn.proofs.Quiet.{QuietLaws, still_broken}

@@ -1,5 +1,4 @@
-use Rattle.std.proofs.Common.{ap, ◌∙◌}
-use Rattle.std.specs.Prelude.{slice_index}
+use Rattle.clfs_txn.proofs.Words.{ap, ◌∙◌, slice_index}
 use Rattle.clfs_txn.proofs.Begun.{told_value}
 use Rattle.clfs_txn.proofs.table.TableLog.get.Goals as goal
 

@@ -1,4 +1,4 @@
-use Rattle.std.proofs.Common.{◌≡◌, ap, ◌∙◌, refl, true, false}
+use Rattle.clfs_txn.proofs.Words.{◌≡◌, ap, ◌∙◌, refl, true, false}
 use Rattle.clfs_txn.proofs.Above.{next_fits}
 use Rattle.clfs_txn.proofs.Written.{no_fault}
 use Rattle.clfs_txn.proofs.table.TableLog.info.Goals as goal

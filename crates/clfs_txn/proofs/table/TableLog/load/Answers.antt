@@ -1,13 +1,9 @@
-use Rattle.std.proofs.Common.{ap, ◌∙◌, sym, subst, length}
-use Rattle.clfs_disk.specs.State.{Nature}
+use Rattle.clfs_txn.proofs.Words.{ap, ◌∙◌, sym, subst, length, Nature, load_area, Memory, CrashLeaves}
 use Rattle.clfs_model.specs.Conditions.{IsClient}
-use Rattle.clfs_cells.specs.Loading.{load_area}
-use Rattle.clfs_cells.specs.Stored.{Memory}
 use Rattle.clfs_txn.proofs.Joined.{tells_on, writes_then}
 use Rattle.clfs_txn.proofs.LoadParts.{from_same}
 use Rattle.clfs_txn.proofs.LoadWhole.{load_is, load_then, so_loaded, so_refused, unread_by, writes_not_made}
 use Rattle.clfs_txn.proofs.LoadMoments.{load_meanwhile}
-use Rattle.clfs_txn.specs.UnderWay.{CrashLeaves}
 use Rattle.clfs_txn.proofs.table.TableLog.load.Goals as goal
 
 pub over-requires-clause-client : goal.over-requires-clause-client

@@ -1,10 +1,5 @@
-use Rattle.std.proofs.Common.{◌<◌, ap, sym, subst, length}
-use Rattle.std.proofs.lemmas.Result.{err_from_is_err_and}
-use Rattle.clfs_disk.specs.State.{Nature}
-use Rattle.clfs_model.specs.Valid.{IsValid}
+use Rattle.clfs_txn.proofs.Words.{◌<◌, ap, sym, subst, length, err_from_is_err_and, Nature, IsValid, Memory, GoesForward, to_come}
 use Rattle.clfs_model.specs.declared.reply.Reply.TheVariants as log_replies
-use Rattle.clfs_cells.specs.Stored.{Memory}
-use Rattle.clfs_txn.specs.Loading.{GoesForward, to_come}
 use Rattle.clfs_txn.proofs.Joined.{tells_on, writes_then}
 use Rattle.clfs_txn.proofs.Leads.{leads_call}
 use Rattle.clfs_txn.proofs.LoadParts.{above_few, above_read, at_forward, given_up, of_load, refused_as}

@@ -1,6 +1,4 @@
-use Rattle.std.proofs.Common.{◌≡◌, ap, ◌∙◌, sym, ℕ, true}
-use Rattle.std.specs.Prelude.{◌==◌}
-use Rattle.clfs_lsn.specs.Lsn.{null_lsn}
+use Rattle.clfs_txn.proofs.Words.{◌≡◌, ap, ◌∙◌, sym, ℕ, true, ◌==◌, null_lsn}
 use Rattle.clfs_txn.proofs.Leads.{leads_from}
 use Rattle.clfs_txn.proofs.LoadParts.{is_new}
 use Rattle.clfs_txn.proofs.Moments.{meanwhile_as, reads_leave}

@@ -1,4 +1,4 @@
-use Rattle.std.proofs.Common.{refl, true, Err}
+use Rattle.clfs_txn.proofs.Words.{refl, true, Err}
 use Rattle.clfs_model.specs.declared.reply.Reply.TheVariants as log_replies
 use Rattle.clfs_txn.proofs.Leads.{leads_call, leads_on}
 use Rattle.clfs_txn.proofs.LoadParts.{no_damage, refused_as}

@@ -1,6 +1,4 @@
-use Rattle.std.proofs.Common.{ap, ◌∙◌, sym, ℕ, List, length, true, Some, None, subst}
-use Rattle.std.proofs.lemmas.Result.{err_from_is_err_and}
-use Rattle.clfs_disk.specs.State.{Nature}
+use Rattle.clfs_txn.proofs.Words.{ap, ◌∙◌, sym, ℕ, List, length, true, Some, None, subst, err_from_is_err_and, Nature, Unchanged, Passes}
 use Rattle.clfs_model.specs.declared.reply.Reply.TheVariants as log_replies
 use Rattle.clfs_cells.specs.Layout.{checkpoint_of}
 use Rattle.clfs_txn.proofs.Joined.{tells_on, writes_then}
@@ -9,8 +7,6 @@ use Rattle.clfs_txn.proofs.LoadSteps.{ending, leaves_records, reading}
 use Rattle.clfs_txn.proofs.LoadParts.{from_same, given_up, of_load, refused_as, restart_read, table_read}
 use Rattle.clfs_txn.proofs.Written.{of_ok}
 use Rattle.clfs_txn.proofs.Moments.{passes_then}
-use Rattle.clfs_disk.specs.Files.{Unchanged}
-use Rattle.clfs_disk.specs.State.{Passes}
 use Rattle.clfs_txn.proofs.table.TableLog.load_table.Goals as goal
 
 pub returns-in_err-cursor-clause-step : goal.returns-in_err-cursor-clause-step

@@ -1,5 +1,4 @@
-use Rattle.std.proofs.Common.{ap, Err}
-use Rattle.clfs_cells.specs.declared.told.TxnLoadRefusal.{TxnLoadRefusal}
+use Rattle.clfs_txn.proofs.Words.{ap, Err, TxnLoadRefusal}
 use Rattle.clfs_txn.proofs.Leads.{by_client, leads_on}
 use Rattle.clfs_txn.proofs.LoadWhole.{writes_loaded, writes_refused}
 use Rattle.clfs_txn.proofs.table.TableLog.loaded.Goals as goal

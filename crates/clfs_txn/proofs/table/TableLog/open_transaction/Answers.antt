@@ -1,6 +1,4 @@
-use Rattle.std.proofs.Common.{◌≡◌, ap, ◌∙◌, sym, Some}
-use Rattle.clfs_cells.specs.Kept.{transaction_of}
-use Rattle.clfs_cells.specs.Stored.{transaction}
+use Rattle.clfs_txn.proofs.Words.{◌≡◌, ap, ◌∙◌, sym, Some, transaction_of, transaction}
 use Rattle.clfs_txn.proofs.Asked.{numbered}
 use Rattle.clfs_txn.proofs.table.TableLog.open_transaction.Goals as goal
 

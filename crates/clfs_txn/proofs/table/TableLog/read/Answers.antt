@@ -1,5 +1,4 @@
-use Rattle.std.proofs.Common.{◌≡◌, ap, ◌∙◌, refl, sym, false, ℕ}
-use Rattle.clfs_lsn.specs.declared.entry.LogEntry.{LogEntry}
+use Rattle.clfs_txn.proofs.Words.{◌≡◌, ap, ◌∙◌, refl, sym, false, ℕ, LogEntry}
 use Rattle.clfs_model.specs.declared.reply.Reply.TheVariants as replies
 use Rattle.clfs_txn.proofs.Asked.{same_steps, read_is}
 use Rattle.clfs_txn.proofs.Breaking.{Laws, kept_by, broken_then, whole_then}

@@ -1,7 +1,4 @@
-use Rattle.std.proofs.Common.{ap, ◌∙◌, refl, false, true, Ok, Err}
-use Rattle.std.proofs.lemmas.Result.{err_from_is_err_and}
-use Rattle.clfs_disk.specs.State.{Nature}
-use Rattle.clfs_cells.specs.Stored.{Memory}
+use Rattle.clfs_txn.proofs.Words.{ap, ◌∙◌, refl, false, true, Ok, Err, err_from_is_err_and, Nature, Memory}
 use Rattle.clfs_txn.proofs.Leads.{leads_nowhere}
 use Rattle.clfs_txn.proofs.NextRead.{read_then_err, read_then_ok}
 use Rattle.clfs_txn.proofs.Rounds.{by_true, came_on, came_to_end, came_to_refusal, forward_by, fewer_by, ok_is, same_read}

@@ -1,12 +1,5 @@
-use Rattle.std.proofs.Common.{◌≡◌, ◌<◌, ℕ, List, false, length}
-use Rattle.clfs_disk.specs.Files.{Unchanged}
-use Rattle.clfs_disk.specs.State.{Passes}
-use Rattle.clfs_manager.specs.Written.{WritesDisk}
-use Rattle.clfs_cells.specs.declared.row.TxnRecord.{TxnRecord}
-use Rattle.clfs_cells.specs.Loading.{Loaded, read_records}
-use Rattle.clfs_cells.specs.Stored.{Memory}
-use Rattle.clfs_txn.specs.Calls.{LeadsTo}
-use Rattle.clfs_txn.specs.Loading.{GoesForward, to_come}
+use Rattle.clfs_txn.proofs.Words.{◌≡◌, ◌<◌, ℕ, List, false, length, Unchanged, Passes, WritesDisk, TxnRecord, Loaded, read_records, Memory, LeadsTo}
+use Rattle.clfs_txn.proofs.Words.{GoesForward, to_come}
 use Rattle.clfs_txn.proofs.table.TableLog.read_all.Given as goal
 
 -- The plan was carried out up to a rest that reads on, by as many records at least as come.

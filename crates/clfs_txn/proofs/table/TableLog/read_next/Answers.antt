@@ -1,4 +1,4 @@
-use Rattle.std.proofs.Common.{◌≡◌, ap, ◌∙◌, refl, sym, false}
+use Rattle.clfs_txn.proofs.Words.{◌≡◌, ap, ◌∙◌, refl, sym, false}
 use Rattle.clfs_model.specs.declared.reply.Reply.TheVariants as replies
 use Rattle.clfs_txn.proofs.Asked.{same_steps, read_next_is}
 use Rattle.clfs_txn.proofs.Breaking.{Laws, kept_by, broken_then, whole_then}

@@ -1,5 +1,4 @@
-use Rattle.std.proofs.Common.{ap, subst}
-use Rattle.clfs_model.specs.Valid.{IsValid}
+use Rattle.clfs_txn.proofs.Words.{ap, subst, IsValid}
 use Rattle.clfs_txn.proofs.Quiet.{QuietLaws}
 use Rattle.clfs_txn.proofs.NextRead.{goes_on, reads_on, still_whole, writes_on}
 use Rattle.clfs_txn.proofs.table.TableLog.read_record.Goals as goal

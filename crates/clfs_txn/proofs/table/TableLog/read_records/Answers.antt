@@ -1,8 +1,4 @@
-use Rattle.std.proofs.Common.{ap, ◌∙◌, sym, List}
-use Rattle.std.proofs.lemmas.Result.{err_from_is_err_and}
-use Rattle.clfs_cells.specs.declared.row.TxnRecord.{TxnRecord}
-use Rattle.clfs_cells.specs.Loading.{memory_of, read_records}
-use Rattle.clfs_cells.specs.Stored.{Memory}
+use Rattle.clfs_txn.proofs.Words.{ap, ◌∙◌, sym, List, err_from_is_err_and, TxnRecord, memory_of, read_records, Memory}
 use Rattle.clfs_txn.proofs.Leads.{leads_from}
 use Rattle.clfs_txn.proofs.LoadParts.{ended_at, given_up, records_read, table_set}
 use Rattle.clfs_txn.proofs.table.TableLog.read_records.Goals as goal

@@ -1,5 +1,4 @@
-use Rattle.std.proofs.Common.{◌≡◌, ap, ◌∙◌, refl, sym, false, ℕ}
-use Rattle.clfs_lsn.specs.declared.entry.LogEntry.{LogEntry}
+use Rattle.clfs_txn.proofs.Words.{◌≡◌, ap, ◌∙◌, refl, sym, false, ℕ, LogEntry}
 use Rattle.clfs_model.specs.declared.call.Call.TheVariants as log_calls
 use Rattle.clfs_model.specs.declared.reply.Reply.TheVariants as replies
 use Rattle.clfs_txn.proofs.Asked.{same_steps}

@@ -1,13 +1,9 @@
-use Rattle.std.proofs.Common.{ap, false, refl}
-use Rattle.clfs_cells.specs.Calls.{end_plan, over_transaction}
-use Rattle.clfs_cells.specs.declared.row.Action.TheVariants.{RolledBack}
-use Rattle.clfs_cells.specs.Kept.{transaction_of}
+use Rattle.clfs_txn.proofs.Words.{ap, false, refl, end_plan, over_transaction, RolledBack, transaction_of, Nature}
 use Rattle.clfs_txn.proofs.Backs.{roll_meanwhile, rolled_meanwhile, rolls_ended, rolls_refused}
 use Rattle.clfs_txn.proofs.Joined.{then_ok, writes_then}
 use Rattle.clfs_txn.proofs.Written.{nothing, of_log}
 use Rattle.clfs_txn.proofs.Damage.{of_the_log}
 use Rattle.clfs_txn.proofs.Moments.{meanwhile_by}
-use Rattle.clfs_disk.specs.State.{Nature}
 use Rattle.clfs_txn.proofs.table.TableLog.roll_back_open.Goals as goal
 
 pub returns-in-Err-clause-step : goal.returns-in-Err-clause-step

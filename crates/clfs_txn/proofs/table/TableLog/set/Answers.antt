@@ -1,4 +1,4 @@
-use Rattle.std.proofs.Common.{refl}
+use Rattle.clfs_txn.proofs.Words.{refl}
 use Rattle.clfs_cells.specs.declared.asked.TxnCall.TheVariants as asked
 use Rattle.clfs_txn.proofs.Sets.{not_found}
 use Rattle.clfs_txn.proofs.Written as written

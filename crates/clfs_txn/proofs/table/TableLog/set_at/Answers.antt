@@ -1,8 +1,5 @@
-use Rattle.std.proofs.Common.{◌≡◌, ap, ◌∙◌, sym, Some, find}
-use Rattle.std.specs.Option.{option_map}
-use Rattle.std.proofs.lemmas.Bool.{eqb-true}
-use Rattle.clfs_cells.specs.Kept.{transaction_of}
-use Rattle.clfs_cells.specs.Stored.{is_at, transaction}
+use Rattle.clfs_txn.proofs.Words.{◌≡◌, ap, ◌∙◌, sym, Some, option_map, eqb-true, transaction_of, is_at, transaction}
+use Rattle.std.proofs.Common.{find}
 use Rattle.clfs_txn.proofs.Asked.{numbered}
 use Rattle.clfs_txn.proofs.Cursors.{found_passes}
 use Rattle.clfs_txn.proofs.table.TableLog.set_at.Goals as goal

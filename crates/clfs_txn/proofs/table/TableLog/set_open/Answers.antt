@@ -1,20 +1,12 @@
-use Rattle.std.proofs.Common.{◌∙◌, ap, sym, subst, ℕ}
-use Rattle.std.specs.Option.{option_map}
+use Rattle.clfs_txn.proofs.Words.{◌∙◌, ap, sym, subst, ℕ, option_map, Set, Change, TxnStep, change_to, transaction_of, Memory, Transaction, holder, with_set}
+use Rattle.clfs_txn.proofs.Words.{store_of, newest_standing, transaction, HasLink}
 use Rattle.clfs_cells.specs.declared.asked.TxnCall.TheVariants as asked
-use Rattle.clfs_cells.specs.declared.row.Action.TheVariants.{Set}
-use Rattle.clfs_cells.specs.declared.row.Change.{Change}
 use Rattle.clfs_cells.specs.declared.told.TxnRefusal.TheVariants as refusals
 use Rattle.clfs_cells.specs.declared.told.TxnReply.TheVariants as replies
-use Rattle.clfs_cells.specs.Calls.{TxnStep, change_to}
-use Rattle.clfs_cells.specs.Kept.{transaction_of}
-use Rattle.clfs_cells.specs.Stored.{Memory, Transaction, holder, with_set}
-use Rattle.clfs_txn.specs.Kept.{store_of}
 use Rattle.clfs_txn.proofs.Asked.{same_call, same_end, append_call_is}
 use Rattle.clfs_txn.proofs.Breaking.{same_store}
 use Rattle.clfs_txn.proofs.Sets.{held, spent, refused, done, set_meanwhile}
 use Rattle.clfs_txn.proofs.Written.{of_log}
-use Rattle.clfs_cells.specs.Stored.{newest_standing, transaction}
-use Rattle.clfs_txn.specs.Reading.{HasLink}
 use Rattle.clfs_txn.proofs.Logged.{set_logged}
 use Rattle.clfs_txn.proofs.Moments.{by_call}
 use Rattle.clfs_txn.proofs.table.TableLog.set_open.Goals as goal

@@ -1,6 +1,4 @@
-use Rattle.std.proofs.Common.{subst}
-use Rattle.clfs_model.specs.Run.{bad_line}
-use Rattle.clfs_manager.specs.Crashes.{CrashSurvives}
+use Rattle.clfs_txn.proofs.Words.{subst, bad_line, CrashSurvives}
 use Rattle.clfs_txn.proofs.table.TableLog.stored.Goals as goal
 
 pub returns : goal.returns

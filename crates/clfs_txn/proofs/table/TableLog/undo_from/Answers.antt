@@ -1,14 +1,9 @@
-use Rattle.std.proofs.Common.{◌≡◌, ap, ◌∙◌, refl, sym, subst, arith, suc, ◌+◌, ◌-◌}
-use Rattle.std.proofs.lemmas.Result.{err_from_is_err_and}
-use Rattle.clfs_lsn.specs.declared.cursor.Mode.TheVariants.{UndoNext}
-use Rattle.clfs_disk.specs.State.{Nature}
-use Rattle.clfs_cells.specs.Calls.{with_read_ended}
-use Rattle.clfs_cells.specs.Stored.{Memory}
-use Rattle.clfs_txn.specs.Reading.{IsSet}
+use Rattle.clfs_txn.proofs.Words.{◌≡◌, ap, ◌∙◌, refl, sym, subst, arith, suc, ◌+◌, ◌-◌, err_from_is_err_and, UndoNext, Nature, with_read_ended, Memory, IsSet}
 use Rattle.clfs_txn.proofs.Damage.{handed_on}
 use Rattle.clfs_txn.proofs.Joined.{tells_on, then_ok, writes_then}
 use Rattle.clfs_txn.proofs.Leads.{by_client}
-use Rattle.clfs_txn.proofs.Undone.{areas_then, at_by, behind_set, last_meanwhile, last_undone, next_meanwhile, not_undone, same_area, set_meanwhile, started, step_by, went_nowhere, went_on}
+use Rattle.clfs_txn.proofs.Undone.{areas_then, at_by, behind_set, last_meanwhile, last_undone, next_meanwhile, not_undone, same_area, set_meanwhile, started}
+use Rattle.clfs_txn.proofs.Undone.{step_by, went_nowhere, went_on}
 use Rattle.clfs_txn.proofs.Written.{nothing, of_same}
 use Rattle.clfs_txn.proofs.Moments.{by_client_call, meanwhile_by}
 use Rattle.clfs_txn.proofs.table.TableLog.undo_from.Goals as goal

@@ -1,12 +1,5 @@
-use Rattle.std.proofs.Common.{◌≡◌, ◌-◌, false}
-use Rattle.clfs_lsn.specs.declared.cursor.Mode.TheVariants.{UndoNext}
-use Rattle.clfs_manager.specs.Written.{WritesDisk}
-use Rattle.clfs_cells.specs.Calls.{Answered, undo_from}
-use Rattle.clfs_cells.specs.Plans.{Plan}
-use Rattle.clfs_cells.specs.Stored.{Memory}
-use Rattle.clfs_txn.specs.Calls.{HasSameArea, Leads}
-use Rattle.clfs_txn.specs.UnderWay.{Meanwhile, UnderWay}
-use Rattle.clfs_txn.specs.Reading.{IsAt, IsSet}
+use Rattle.clfs_txn.proofs.Words.{◌≡◌, ◌-◌, false, UndoNext, WritesDisk, Answered, undo_from, Plan, Memory, HasSameArea, Leads, Meanwhile, UnderWay, IsAt}
+use Rattle.clfs_txn.proofs.Words.{IsSet}
 use Rattle.clfs_txn.proofs.table.TableLog.undo_from.Given as goal
 
 -- So many sets fewer are left, from the one at which the cursor is.

@@ -1,7 +1,4 @@
-use Rattle.std.proofs.Common.{ap, ◌∙◌, refl, sym, subst}
-use Rattle.clfs_cells.specs.Kept.{transaction_of}
-use Rattle.clfs_cells.specs.Stored.{Memory, with_undone}
-use Rattle.clfs_txn.specs.Reading.{IsSet}
+use Rattle.clfs_txn.proofs.Words.{ap, ◌∙◌, refl, sym, subst, transaction_of, Memory, with_undone, IsSet}
 use Rattle.clfs_txn.proofs.Asked.{same_call, same_end, append_call_is}
 use Rattle.clfs_txn.proofs.Logged.{undone_is_set, undone_logged}
 use Rattle.clfs_txn.proofs.Undone.{set_undone, set_refused, undo_meanwhile}

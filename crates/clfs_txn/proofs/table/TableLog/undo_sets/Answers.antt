@@ -1,13 +1,6 @@
-use Rattle.std.proofs.Common.{◌≡◌, ◌<◌, ap, ◌∙◌, sym, subst, arith, ℕ, suc, ◌-◌, length}
-use Rattle.std.proofs.lemmas.Result.{err_from_is_err_and}
-use Rattle.clfs_lsn.specs.declared.cursor.Mode.TheVariants.{UndoNext}
-use Rattle.clfs_disk.specs.State.{Nature}
+use Rattle.clfs_txn.proofs.Words.{◌≡◌, ◌<◌, ap, ◌∙◌, sym, subst, arith, ℕ, suc, ◌-◌, length, err_from_is_err_and, UndoNext, Nature, undo_from, transaction_of}
+use Rattle.clfs_txn.proofs.Words.{Memory, standing, or_stopped, IsSet}
 use Rattle.clfs_model.specs.declared.call.Call.TheVariants as log_calls
-use Rattle.clfs_cells.specs.Calls.{undo_from}
-use Rattle.clfs_cells.specs.Kept.{transaction_of}
-use Rattle.clfs_cells.specs.Stored.{Memory, standing}
-use Rattle.clfs_txn.specs.Calls.{or_stopped}
-use Rattle.clfs_txn.specs.Reading.{IsSet}
 use Rattle.clfs_txn.proofs.Asked.{same_call}
 use Rattle.clfs_txn.proofs.Damage.{handed_on}
 use Rattle.clfs_txn.proofs.Joined.{tells_on, then_ok, writes_then}

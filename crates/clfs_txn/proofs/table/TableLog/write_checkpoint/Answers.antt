@@ -1,4 +1,4 @@
-use Rattle.std.proofs.Common.{◌+◌, ap, ◌∙◌}
+use Rattle.clfs_txn.proofs.Words.{◌+◌, ap, ◌∙◌}
 use Rattle.clfs_txn.proofs.Asked.{same_call, base_is}
 use Rattle.clfs_txn.proofs.Breaking.{same_store}
 use Rattle.clfs_txn.proofs.Restarts.{checkpoint_meanwhile, unknown, refused, done}

@@ -1,4 +1,4 @@
-use Rattle.std.proofs.Common.{refl, true, Err}
+use Rattle.clfs_txn.proofs.Words.{refl, true, Err}
 use Rattle.clfs_model.specs.declared.reply.Reply.TheVariants as log_replies
 use Rattle.clfs_txn.proofs.Asked.{base_is, same_call}
 use Rattle.clfs_txn.proofs.LoadParts.{first_refused, first_written, no_damage, of_load, refused_as}

@@ -1,7 +1,5 @@
-use Rattle.std.proofs.Common.{◌≡◌, ap, ◌∙◌, refl, false, true}
+use Rattle.clfs_txn.proofs.Words.{◌≡◌, ap, ◌∙◌, refl, false, true, checkpoint_bytes, checkpoint_of}
 use Rattle.clfs_model.specs.declared.reply.Reply.TheVariants as replies
-use Rattle.clfs_cells.specs.Layout.{checkpoint_bytes}
-use Rattle.clfs_txn.specs.Calls.{checkpoint_of}
 use Rattle.clfs_txn.proofs.Asked.{same_steps, restart_is}
 use Rattle.clfs_txn.proofs.Breaking.{Laws, kept_after, unchanged}
 use Rattle.clfs_txn.proofs.Moments.{call_leaves, none_leaves}

@@ -1,5 +1,6 @@
 // What is said on standard error of words that are no command.
-use clfs_command::{form_of, help_text};
+use crate::forms::form_of;
+use crate::help::help_text;
 use std::alloc::{AllocError, Global};
 
 // What the usage of the program itself has in a command's place.

@@ -1,6 +1,6 @@
 use denote.Shadow.{shadow}
 use denote.Text.{Utf8}
-use Rattle.clfs.proofs.usage.part_of.Given as goal
+use Rattle.clfs_command.proofs.usage.part_of.Given as goal
 
 abbrev pub invariant-loop-paragraph : goal.invariant-loop-paragraph
 invariant-loop-paragraph l = record {
