@@ -1,0 +1,92 @@
+#!/usr/bin/env python3
+"""Looks into a log that no program has open: how full it is, who keeps it so, and a page of all that is in it.
+
+    python3 clfs_look.py status FOLDER
+    python3 clfs_look.py page FOLDER > log.html
+
+In place of FOLDER there may stand a file that `clfs FOLDER dump` wrote, also on another machine, or `-` for standard input. For a folder the program
+is run: the one that `--program` names, else the one in the variable CLFS, else `clfs`.
+"""
+
+from __future__ import annotations
+
+import argparse
+import os
+import subprocess
+import sys
+from typing import Optional
+
+from clfs_dump_reader import PROGRAM, CannotTell, Source
+from clfs_status import Status, json_of, prometheus_of, status_of, text_of
+
+TOLD, AT_OR_ABOVE, NOT_TOLD, NOT_WRITTEN = 0, 1, 2, 3
+
+STATUSES = """The status is 0, or with --warn 1 if the log is as full or fuller; 2 if something can't be told, as with a damaged log, a folder
+that another process has, or words that aren't these; and 3 if the output can't be written."""
+
+
+def percent(word: str) -> int:
+    value = int(word)
+    if not 0 <= value <= 100:
+        raise ValueError(word)
+    return value
+
+
+def words() -> argparse.ArgumentParser:
+    parser = argparse.ArgumentParser(description=__doc__, epilog=STATUSES, formatter_class=argparse.RawDescriptionHelpFormatter)
+    commands = parser.add_subparsers(dest="command", required=True, metavar="status or page")
+    place = argparse.ArgumentParser(add_help=False)
+    place.add_argument("place", metavar="FOLDER", help="a log's folder, a file with its dump, or - for a dump on standard input")
+    place.add_argument("--program", default=os.environ.get("CLFS") or PROGRAM, help="the program that reads a folder")
+    about = "how full a log is, and who keeps it so"
+    status = commands.add_parser("status", parents=[place], description=about, help=about, epilog=STATUSES)
+    forms = status.add_mutually_exclusive_group()
+    forms.add_argument("--json", dest="form", action="store_const", const=json_of, help="as one JSON object")
+    forms.add_argument("--prometheus", dest="form", action="store_const", const=prometheus_of, help="as gauges for Prometheus")
+    status.add_argument("--warn", type=percent, metavar="PERCENT", help="status 1 if the log is as full or fuller")
+    status.set_defaults(form=text_of)
+    return parser
+
+
+def version_of(program: str) -> Optional[str]:
+    """What the program says of its version, if it says so in time."""
+    try:
+        said = subprocess.run([program, "--version"], stdin=subprocess.DEVNULL, capture_output=True, timeout=20)
+    except (OSError, subprocess.SubprocessError):
+        return None
+    return said.stdout.decode("ascii", "backslashreplace").strip() if said.returncode == 0 else None
+
+
+def look(source: Source) -> Status:
+    mark = source.has_mark()
+    dump = source.read()
+    name = "standard input" if source.place == "-" else source.place
+    return status_of(dump, name, version_of(source.program) if source.is_folder else None, mark)
+
+
+def tell_status(asked: argparse.Namespace) -> int:
+    status = look(Source(asked.place, asked.program))
+    sys.stdout.write(asked.form(status))
+    if status.percent is None:
+        return NOT_TOLD
+    return AT_OR_ABOVE if asked.warn is not None and status.percent >= asked.warn else TOLD
+
+
+def main() -> int:
+    asked = words().parse_args()
+    try:
+        status = tell_status(asked)
+        sys.stdout.flush()
+    except CannotTell as cause:
+        sys.stderr.write(f"clfs_look: {cause}\n")
+        return NOT_TOLD
+    except OSError as cause:
+        sys.stderr.write(f"clfs_look: standard output can't be written: {cause.strerror}\n")
+        # (the interpreter would try it again)
+        os.dup2(os.open(os.devnull, os.O_WRONLY), 1)
+        return NOT_WRITTEN
+    return status
+
+
+if __name__ == "__main__":
+    sys.exit(main())
