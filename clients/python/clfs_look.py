@@ -17,6 +17,7 @@ import sys
 from typing import Optional
 
 from clfs_dump_reader import PROGRAM, CannotTell, Source
+from clfs_page import MOST_BYTES, log_of, page_of
 from clfs_status import Status, json_of, prometheus_of, status_of, text_of
 
 TOLD, AT_OR_ABOVE, NOT_TOLD, NOT_WRITTEN = 0, 1, 2, 3
@@ -28,6 +29,13 @@ that another process has, or words that aren't these; and 3 if the output can't 
 def percent(word: str) -> int:
     value = int(word)
     if not 0 <= value <= 100:
+        raise ValueError(word)
+    return value
+
+
+def number(word: str) -> int:
+    value = int(word)
+    if value < 0:
         raise ValueError(word)
     return value
 
@@ -44,7 +52,11 @@ def words() -> argparse.ArgumentParser:
     forms.add_argument("--json", dest="form", action="store_const", const=json_of, help="as one JSON object")
     forms.add_argument("--prometheus", dest="form", action="store_const", const=prometheus_of, help="as gauges for Prometheus")
     status.add_argument("--warn", type=percent, metavar="PERCENT", help="status 1 if the log is as full or fuller")
-    status.set_defaults(form=text_of)
+    status.set_defaults(form=text_of, do=tell_status)
+    about = "a page of all that is in a log, one HTML file that needs no network"
+    page = commands.add_parser("page", parents=[place], description=about, help=about, epilog=STATUSES)
+    page.add_argument("--bytes", type=number, default=MOST_BYTES, metavar="N", help=f"as many bytes of each record are in it, {MOST_BYTES} if N is left out")
+    page.set_defaults(do=make_page)
     return parser
 
 
@@ -57,25 +69,43 @@ def version_of(program: str) -> Optional[str]:
     return said.stdout.decode("ascii", "backslashreplace").strip() if said.returncode == 0 else None
 
 
-def look(source: Source) -> Status:
-    mark = source.has_mark()
-    dump = source.read()
-    name = "standard input" if source.place == "-" else source.place
-    return status_of(dump, name, version_of(source.program) if source.is_folder else None, mark)
+class Look:
+    """A log that was read, with what the folder and the program tell beside its dump."""
+
+    def __init__(self, asked: argparse.Namespace, data: str) -> None:
+        source = Source(asked.place, asked.program)
+        self.name = "standard input" if source.place == "-" else source.place
+        self._mark = source.has_mark()
+        self.dump = source.read(data)
+        self._version = version_of(source.program) if source.is_folder else None
+
+    def status(self) -> Status:
+        return status_of(self.dump, self.name, self._version, self._mark)
 
 
 def tell_status(asked: argparse.Namespace) -> int:
-    status = look(Source(asked.place, asked.program))
+    status = Look(asked, "none").status()
     sys.stdout.write(asked.form(status))
     if status.percent is None:
         return NOT_TOLD
     return AT_OR_ABOVE if asked.warn is not None and status.percent >= asked.warn else TOLD
 
 
+def make_page(asked: argparse.Namespace) -> int:
+    """A part of a log has a page too, which then says why nothing is told of the space."""
+    look = Look(asked, "hex" if asked.bytes else "none")
+    try:
+        status, missing = look.status(), ""
+    except CannotTell as cause:
+        status, missing = None, f"{look.name}: {cause}. Bases may have moved further than this page knows."
+    sys.stdout.write(page_of(log_of(look.dump, look.name, status, missing, asked.bytes)))
+    return TOLD
+
+
 def main() -> int:
     asked = words().parse_args()
     try:
-        status = tell_status(asked)
+        status: int = asked.do(asked)
         sys.stdout.flush()
     except CannotTell as cause:
         sys.stderr.write(f"clfs_look: {cause}\n")

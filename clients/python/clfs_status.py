@@ -18,7 +18,7 @@ from clfs_replies import NULL, Lsn
 
 FORM = 1
 """The form of the JSON. It rises if a member changes its meaning or goes."""
-MOST_ROWS = 16
+MOST_ROWS = 10
 """As many rows a table for people has, so that all is one screen."""
 
 
@@ -113,14 +113,14 @@ class _Places:
         return Space(containers, max(0, here) + max(0, containers) * self._usable)
 
 
-def _bases(dump: Dump) -> Dict[int, Lsn]:
+def bases(dump: Dump) -> Dict[int, Lsn]:
     """The bases as they are now: the greatest of that of the base copy and those of restart areas."""
-    bases = {stream.number: stream.base for stream in dump.streams}
+    found = {stream.number: stream.base for stream in dump.streams}
     records = dump.records
     for is_restart, number, new_base in zip(records.is_restart, records.stream, records.new_base):
-        if is_restart and new_base > bases[number]:
-            bases[number] = Lsn(new_base)
-    return bases
+        if is_restart and new_base > found[number]:
+            found[number] = Lsn(new_base)
+    return found
 
 
 def _by_stream(dump: Dump) -> Dict[int, array]:
@@ -144,10 +144,10 @@ def _bytes_of(dump: Dump, lsns: Sequence[int]) -> int:
 
 def _streams(dump: Dump) -> Tuple[List[StreamStatus], Dict[int, Lsn]]:
     """Each stream, and the least live record of each that has one."""
-    bases, records = _bases(dump), _by_stream(dump)
+    now, records = bases(dump), _by_stream(dump)
     streams, oldest = [], {}
     for stream in dump.streams:
-        lsns, base = records[stream.number], bases[stream.number]
+        lsns, base = records[stream.number], now[stream.number]
         live = lsns[bisect_left(lsns, base):]
         if live:
             oldest[stream.number] = Lsn(live[0])
@@ -328,9 +328,14 @@ def _facts(status: Status) -> List[str]:
     return lines
 
 
+def first_lines(status: Status) -> List[str]:
+    """Three lines: how full the log is, who keeps it so, and what frees how much."""
+    return [_first_line(status), *_who_keeps(status)]
+
+
 def text_of(status: Status) -> str:
-    """One screen. The first three lines say how full the log is, who keeps it so, and what frees how much."""
-    lines = [_first_line(status), *_who_keeps(status), ""]
+    """One screen."""
+    lines = [*first_lines(status), ""]
     if status.holders:
         lines += [*_table(_holder_rows(status), (2, 3)), "  A stream moves by `advance` or `restart`, archiving by `archive` or `tail`.", ""]
     if status.streams:
