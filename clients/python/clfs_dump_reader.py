@@ -14,15 +14,16 @@ import sys
 import time
 from array import array
 from dataclasses import dataclass, field
-from typing import Callable, Dict, Iterable, Iterator, List, Optional, TextIO
+from typing import Callable, Dict, Iterable, Iterator, List, Optional, Set, TextIO
 
-from clfs_replies import Lsn
+from clfs.replies import Lsn
 
 SECTOR = 512
 PROGRAM = "clfs"
 MARK = "unsynced"
 """The file in a log's folder that says that a sync failed."""
 
+_SEQUENCE = 0x1FF
 _KINDS = {"data": 0, "restart": 1}
 _ENCODING = "utf-8"
 _ERRORS = "backslashreplace"
@@ -147,6 +148,7 @@ class _Reader:
 
     def __init__(self, dump: Dump) -> None:
         self.dump = dump
+        self._numbers: Set[int] = set()
         self._takes: Dict[str, Callable[[List[str]], None]] = {
             "record": self._record,
             "block": self._block,
@@ -161,17 +163,20 @@ class _Reader:
         return self.dump.end is not None or self.dump.damage is not None
 
     def take(self, line: str) -> None:
-        """Raises ValueError or KeyError if it is no line of a dump at this place."""
+        """Raises an error of a value or an index if it is no line of a dump at this place."""
         kind, *words = line.split(" ", 7)
         if self.is_over:
             raise ValueError(line)
         self._takes[kind](words)
 
     def _record(self, words: List[str]) -> None:
-        lsn, stream, kind, previous, undo_next, new_base = words[:6]
-        records = self.dump.records
-        records.lsn.append(_lsn(lsn))
-        records.stream.append(int(stream))
+        lsn, number, kind, previous, undo_next, new_base = words[:6]
+        records, place = self.dump.records, _lsn(lsn)
+        # It lies in the block above, behind the record above.
+        _require(place & ~_SEQUENCE == self.dump.blocks.lsn[-1] and int(number) in self._numbers)
+        _require(not records.lsn or place > records.lsn[-1])
+        records.lsn.append(place)
+        records.stream.append(int(number))
         records.is_restart.append(_KINDS[kind])
         records.previous.append(_lsn(previous))
         records.undo_next.append(_lsn(undo_next))
@@ -180,26 +185,44 @@ class _Reader:
 
     def _block(self, words: List[str]) -> None:
         lsn, sectors, records, used = [words[0], *_named(words[1:], "sectors", "records", "used")]
-        blocks = self.dump.blocks
-        blocks.lsn.append(_lsn(lsn))
+        blocks, place = self.dump.blocks, Lsn.parse(lsn)
+        _require(place.container == self.dump.containers[-1].number and place.sequence == 0 and int(sectors) > 0 and int(records) > 0)
+        _require(place.offset // SECTOR + int(sectors) <= self.dump.head.container_sectors)
+        _require(not blocks.lsn or place >= blocks.lsn[-1] + blocks.sectors[-1] * SECTOR)
+        blocks.lsn.append(place)
         blocks.sectors.append(int(sectors))
         blocks.records.append(int(records))
         blocks.used.append(int(used))
 
     def _container(self, words: List[str]) -> None:
-        container, file = [words[0], *_named(words[1:], "file")]
-        self.dump.containers.append(Container(int(container), int(file)))
+        number, file = [words[0], *_named(words[1:], "file")]
+        containers = self.dump.containers
+        _require(not containers or int(number) == containers[-1].number + 1)
+        _require(len(containers) < self.dump.head.containers)
+        containers.append(Container(int(number), int(file)))
 
     def _stream(self, words: List[str]) -> None:
         number, base, name = [words[0], *_named(words[1:3], "base"), *words[3:]]
+        _require(int(number) not in self._numbers)
+        self._numbers.add(int(number))
         self.dump.streams.append(Stream(int(number), Lsn.parse(base), name))
 
     def _end(self, words: List[str]) -> None:
         (end,) = words
+        self._ends(Lsn.parse(end))
         self.dump.end = Lsn.parse(end)
+
+    def _ends(self, lsn: Lsn) -> None:
+        containers, blocks = self.dump.containers, self.dump.blocks
+        _require(containers[0].number <= lsn.container <= containers[-1].number and (not blocks.lsn or lsn > blocks.lsn[-1]))
 
     def _damage(self, words: List[str]) -> None:
         self.dump.damage = Damage(*map(int, _named(words, "container", "offset", "byte")))
+
+
+def _require(is_so: bool) -> None:
+    if not is_so:
+        raise ValueError
 
 
 def _named(words: List[str], *names: str) -> List[str]:
@@ -216,6 +239,7 @@ def _head(line: str) -> Head:
     names = ("block", "container", "containers", "files", "listed", "streams", "archive", "version", "slot", "turn")
     block, container, containers, _, _, _, archive, version, _, _ = _named(words, *names)
     tail = None if archive == "off" else Lsn.parse(archive)
+    _require(1 <= int(block) <= 128 and 2 * int(block) <= int(container) <= 16384 and 1 <= int(containers) <= 256)
     return Head(int(block), int(container), int(containers), tail, int(version))
 
 
@@ -232,6 +256,7 @@ def _hexadecimal(data: str) -> str:
     if data == "-":
         return ""
     if not data.startswith('"'):
+        bytes.fromhex(data)
         return data
     if len(data) < 2 or not data.endswith('"'):
         raise ValueError(data)
@@ -250,7 +275,7 @@ def parse(lines: Iterable[str]) -> Dump:
                 reader = _Reader(Dump(_head(line)))
             else:
                 reader.take(line)
-        except (ValueError, KeyError, OverflowError):
+        except (ValueError, KeyError, IndexError, OverflowError):
             raise NotADump(f"line {number} is none of a dump: {line[:80]!r}") from None
     if reader is None or not reader.is_over:
         raise NotADump(f"the dump was cut short after line {number}" if number else "there is no line of a dump")

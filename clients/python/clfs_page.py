@@ -1,6 +1,6 @@
 """Makes one page of a log's dump: an HTML file that needs nothing else, neither a network nor a server.
 
-The page is `clfs_page.html` with `clfs_page.css` and `clfs_page.js`, which lie beside this file, and the log as JSON. An LSN is a number there: the index of
+The page is `clfs_page.html` with `clfs_page.css` and three scripts, which lie beside this file, and the log as JSON. An LSN is a number there: the index of
 its container among those that the log lists, 14 bits of its sector and 9 of its sequence. A link is 0 for none, the index of its record plus 1, or the LSN
 as text if the record isn't in the dump.
 """
@@ -16,13 +16,14 @@ from pathlib import Path
 from typing import Any, Callable, Dict, List, Optional, Union
 
 from clfs_dump_reader import SECTOR, CannotTell, Dump
-from clfs_replies import Lsn
+from clfs.replies import Lsn
 from clfs_status import Status, as_members, bases, first_lines, size
 
 MOST_BYTES = 1024
 """As many bytes of each record are in the page, unless it is asked for more."""
 
 _PARTS = Path(__file__).resolve().parent
+_PAGE, _STYLE, _SCRIPTS = "clfs_page.html", "clfs_page.css", ("clfs_page_log.js", "clfs_page_lanes.js", "clfs_page.js")
 
 
 def _numbers(dump: Dump) -> Callable[[int], int]:
@@ -98,9 +99,9 @@ def log_of(dump: Dump, name: str, status: Optional[Status], missing: str, most_b
 def page_of(log: Dict[str, Any]) -> str:
     """The page. Within JSON a `<` may stand as an escape, so no text of the log ends the script."""
     try:
-        page, style, script = ((_PARTS / name).read_text("utf-8") for name in ("clfs_page.html", "clfs_page.css", "clfs_page.js"))
+        page, style, *scripts = ((_PARTS / name).read_text("utf-8") for name in (_PAGE, _STYLE, *_SCRIPTS))
     except OSError as error:
         raise CannotTell(f"{error.filename}: {error.strerror}") from None
     data = json.dumps(log, separators=(",", ":")).replace("<", "\\u003c")
-    texts = {"TITLE": html.escape(log["name"]), "STYLE": style, "SCRIPT": script, "LOG": data}
+    texts = {"TITLE": html.escape(log["name"]), "STYLE": style, "SCRIPT": "\n".join(scripts), "LOG": data}
     return re.sub("@([A-Z]+)@", lambda mark: texts[mark[1]], page)

@@ -14,7 +14,7 @@ from dataclasses import asdict, dataclass
 from typing import Any, Dict, Iterable, List, Optional, Sequence, Tuple
 
 from clfs_dump_reader import SECTOR, CannotTell, Damage, Dump
-from clfs_replies import NULL, Lsn
+from clfs.replies import NULL, Lsn
 
 FORM = 1
 """The form of the JSON. It rises if a member changes its meaning or goes."""
