@@ -146,7 +146,9 @@ function choose(index, withTable) {
   const y = yOf(streamOf.get(records.stream[index]));
   if (y - 20 < lanes.scrollTop || y + BAR + 8 > lanes.scrollTop + lanes.clientHeight) lanes.scrollTop = y - lanes.clientHeight / 2;
   if (!isInSight) lanes.scrollLeft += x - seen / 2;
+  const hadFocus = byId("chosen").contains(document.activeElement);
   tellChosen();
+  if (hadFocus) byId("chosen").focus();
   if (isInSight) drawMarks();
   else draw();
   if (withTable) showRow(index);
@@ -196,8 +198,10 @@ function showTable() {
 function showRow(index) {
   const position = found ? lowest(found, index) : index;
   if (foundAt(position) !== index) return;
+  const hadFocus = byId("records").contains(document.activeElement);
   page = Math.floor(position / PAGE);
   showTable();
+  if (hadFocus) document.querySelector("#records tr.chosen button").focus();
 }
 
 function markRow() {

@@ -16,8 +16,8 @@ from pathlib import Path
 from typing import Any, Callable, Dict, List, Optional, Union
 
 from clfs_dump_reader import SECTOR, CannotTell, Dump
-from clfs.replies import Lsn
-from clfs_status import Status, as_members, bases, first_lines, size
+from clfs_replies import Lsn
+from clfs_status import Status, as_members, bases, first_lines
 
 MOST_BYTES = 1024
 """As many bytes of each record are in the page, unless it is asked for more."""
@@ -82,7 +82,6 @@ def log_of(dump: Dump, name: str, status: Optional[Status], missing: str, most_b
         "containers": head.containers,
         "containerSectors": head.container_sectors,
         "blockSectors": head.block_sectors,
-        "containerSize": size(head.container_sectors * SECTOR),
         "version": head.version,
         "listed": [[container.number, container.file] for container in dump.containers],
         "streams": [{"number": stream.number, "name": stream.name, "base": str(now[stream.number])} for stream in dump.streams],

@@ -77,7 +77,8 @@ const ROW = streams.length > 24 ? 24 : 34;
 const BAR = ROW - 20;
 const height = TOP + streams.length * ROW + 22;
 const lanes = byId("lanes");
-const most = 8e6 / width;
+// The greatest scale, in pixels for a sector: a few sectors fill the window, and all lanes are no wider than a browser can have them.
+const GREATEST = Math.min(40, 8e6 / width);
 let scale = 1;
 let chosen = -1;
 
@@ -290,7 +291,7 @@ function zoom(factor) {
   const middle = choice >= 0 && choice <= seen ? choice : seen / 2;
   const at = atX(middle);
   const whole = fitting();
-  scale = factor ? Math.min(Math.max(40, whole), Math.max(whole, most), Math.max(whole, scale * factor)) : whole;
+  scale = factor ? Math.max(whole, Math.min(GREATEST, scale * factor)) : whole;
   isWhole = scale === whole;
   byId("reach").style.width = `${Math.ceil(2 * EDGE + width * scale)}px`;
   lanes.scrollLeft = EDGE + at * scale - middle;

@@ -105,7 +105,7 @@ const width = Math.max(1, listed.length) * sectors;
 function element(name, members = {}, ...children) {
   const made = document.createElement(name);
   for (const [key, value] of Object.entries(members)) {
-    if (key in made && key !== "list") made[key] = value;
+    if (key in made) made[key] = value;
     else made.setAttribute(key, value);
   }
   made.append(...children);
