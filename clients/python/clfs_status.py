@@ -240,6 +240,10 @@ def _listed(names: Sequence[str]) -> str:
     return names[0] if len(names) == 1 else ", ".join(names[:-1]) + " and " + names[-1]
 
 
+def _moved(holders: Sequence[Holder]) -> str:
+    return "it moves" if len(holders) == 1 else "all of these move"
+
+
 def first_to_free(status: Status) -> Optional[int]:
     """The index of the first holder with which more is free once it and all older ones have moved, or None."""
     for index, holder in enumerate(status.holders):
@@ -254,17 +258,17 @@ def _who_keeps(status: Status) -> List[str]:
         return ["Kept by nobody: no stream has a live record, and archiving is off.", "Nothing more can be freed."]
     everyone = _listed([_called(holder) for holder in status.holders])
     if status.free is None:
-        return [f"Kept, before the damage, by {everyone}.", "What is freed when they move isn't known."]
+        return [f"Kept, before the damage, by {everyone}.", f"What is freed when {_moved(status.holders)} isn't known."]
     index = first_to_free(status)
     if index is None:
-        return [f"Kept by {everyone}.", "Nothing is freed when they move: all that is kept lies in the container where the log goes on."]
+        why = "all that is kept lies in the container where the log goes on"
+        return [f"Kept by {everyone}.", f"Nothing is freed when {_moved(status.holders)}: {why}."]
     keeping = status.holders[: index + 1]
     then = keeping[-1].free_then
     assert then is not None
     who = _listed([f"{_called(holder)} from {holder.start}" for holder in keeping])
-    moved = "it moves" if len(keeping) == 1 else "all of these move"
     more = then.containers - status.free.containers
-    return [f"Kept by {who}.", f"When {moved}, {count(more, 'container')} more, {then.containers} in all, and {size(then.bytes)} are free."]
+    return [f"Kept by {who}.", f"When {_moved(keeping)}, {count(more, 'container')} more, {then.containers} in all, and {size(then.bytes)} are free."]
 
 
 def _first_line(status: Status) -> str:
