@@ -343,7 +343,7 @@ def _told(lines: TextIO) -> Iterator[str]:
         return
     next_time, shown = time.monotonic() + 1, False
     for number, line in enumerate(lines, 1):
-        if number % 1024 == 0 and time.monotonic() > next_time:
+        if number % 256 == 0 and time.monotonic() > next_time:
             next_time, shown = time.monotonic() + 0.2, True
             sys.stderr.write(f"\rclfs_look: read {number} lines")
         yield line

@@ -16,7 +16,7 @@ from pathlib import Path
 from typing import Any, Callable, Dict, List, Optional, Union
 
 from clfs_dump_reader import SECTOR, CannotTell, Dump
-from clfs_replies import Lsn
+from clfs.replies import Lsn
 from clfs_status import Status, as_members, bases, first_lines
 
 MOST_BYTES = 1024
