@@ -44,6 +44,7 @@ pub mod OwnRefusals
 pub mod SameCut
 pub mod FilesHold
 pub mod OpenedAnew
+mod CurrentCopy
 pub mod StepCalls
 pub mod AdvancedLog
 mod RestartCall

@@ -1,6 +1,10 @@
 -- How calls that write leave a log and its disk.
-use Rattle.std.specs.Prelude.{◌≡◌, false}
+use Rattle.std.specs.Prelude.{◌≡◌, ℕ, false, Result, Ok, OnOk}
 use Rattle.clfs_areas.specs.Table.{AreaTable}
+use Rattle.clfs_base.specs.declared.image.BaseImage.{BaseImage}
+use Rattle.clfs_base.specs.Layout.{version_two}
+use Rattle.clfs_base.specs.Slots.{newest_of}
+use Rattle.clfs_disk.specs.Files.{Files}
 use Rattle.clfs_disk.specs.State.{DiskState, TellsContents, IsHonest, IsSettled, IsSteady, Later, Rises}
 use Rattle.clfs_physical.specs.Stored.{Blocks, Stores}
 use Rattle.clfs_recover.specs.Files.{AreWholeFiles}
@@ -35,3 +39,18 @@ pub record WritesDisk (fault : Type 0) (old new : DiskState) : Type 0 where
   pub cause : fault → Rises old.faults new.faults
   pub whole : (fault → ⊥) → TellsContents old → AreWholeFiles old.files → AreWholeFiles new.files
   pub steady : IsSteady old → TellsContents old → AreWholeFiles old.files → (fault → ⊥) × (new.faults ≡ old.faults)
+
+-- an image of the second version of the copies
+abbrev pub IsCurrent : BaseImage → Type 0
+IsCurrent image = image.version ≡ version_two.version
+
+-- The newest base copy that files have is of the second version, whatever the one of before it was.
+pub record HaveCurrentCopy (files : Files) : Type 0 where
+  pub slot : ℕ
+  pub image : BaseImage
+  pub newest : newest_of (files 0) ≡ Ok (slot, image)
+  pub current : IsCurrent image
+
+-- Once a call that writes a copy was answered, over a disk that tells what it holds, the newest copy is of the second version.
+abbrev pub CopyIsCurrent : {A E : Type 0} → Result A E → DiskState → Type 0
+CopyIsCurrent result disk = OnOk result (TellsContents disk → HaveCurrentCopy disk.files)

@@ -8,6 +8,7 @@ ghost use Rattle.clfs_manager.specs.Calls.{WritesAs};
 ghost use Rattle.clfs_manager.specs.Memory.{HasForgotten, IsSound};
 ghost use Rattle.clfs_manager.specs.Settings.{KeepsQueue, KeepsTables, archive_change, with_archive};
 ghost use Rattle.clfs_manager.specs.Storing.{StoresState};
+ghost use Rattle.clfs_manager.specs.Written.{CopyIsCurrent, IsCurrent};
 
 use crate::log::Log;
 use crate::manager::Manager;
@@ -73,6 +74,7 @@ impl Log {
         requires up { container_of (hold self.old.state.value) ≤ container_of (hold (with_archive tail self.old.state.value)) }
         ensures change { StoresState result (with_archive tail self.old.state.value) (D.state disk.old) (D.state disk.new) self.old self.new }
         ensures same { OnOk result (KeepsTables self.old self.new) }
+        ensures current { OnOk result (IsCurrent self.new.physical.image) }
     {
         settings_leave_the_records();
         low_containers_are_left_out();
@@ -100,6 +102,7 @@ impl Log {
         ensures change { StoresState result (with_archive tail self.old.state.value) (D.state disk.old) (D.state disk.new) self.old self.new }
         ensures forgotten { OnOk result (HasForgotten self.new.state.value self.new) }
         ensures same { OnOk result (KeepsQueue self.old self.new) }
+        ensures current { OnOk result (IsCurrent self.new.physical.image) }
     {
         self.store_archive(disk, tail)?;
         self.forget_low();
@@ -113,6 +116,7 @@ impl<D: Disk> Manager<D> {
     pub fn set_archive(&mut self, on: bool) -> Result<(), Refusal>
         ensures call { (client : ℕ) → WritesAs D.state client (calls.SetArchive on) (λ _. replies.Done) result self.old self.new }
         ensures quiet { calls_disk self.old.0 (calls.SetArchive on) ≡ false → self.new.1 ≡ self.old.1 }
+        ensures current { calls_disk self.old.0 (calls.SetArchive on) ≡ true → CopyIsCurrent result (D.state self.new.1) }
     {
         calls_follow_laws();
         the_holds_container_never_falls();
@@ -133,6 +137,7 @@ impl<D: Disk> Manager<D> {
     /// old one up to the LSN below which all is on the disk; the three LSNs are told.
     pub fn set_archive_tail(&mut self, lsn: Lsn) -> Result<Lsn, Refusal>
         ensures call { (client : ℕ) → WritesAs D.state client (calls.SetArchiveTail lsn) replies.Tail result self.old self.new }
+        ensures current { CopyIsCurrent result (D.state self.new.1) }
     {
         calls_follow_laws();
         the_holds_container_never_falls();

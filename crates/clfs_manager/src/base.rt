@@ -1,7 +1,7 @@
 // Moving the base of a stream: the records below it are needed no more. The log is flushed first, so that the base lies at or below what is on the
 // disk, and then the base copy that follows is written, which lists the containers from the hold's on as it is after the new base. So a crash leaves
 // the old base or the new one. Where the hold came to a further container nothing below that is asked for any more, and memory forgets it.
-ghost use Rattle.std.specs.Prelude.{◌≡◌, ◌≤◌, ◌∷◌, [], true, None, Some, IsSome, IfOk, IfErr, OnErr};
+ghost use Rattle.std.specs.Prelude.{◌≡◌, ◌≤◌, ◌∷◌, [], true, None, Some, IsSome, IfOk, IfErr, OnErr, OnOk};
 ghost use Rattle.clfs_manager.specs.Machine.{answer, base_of, container_of, flush, hold, is_base, IsClient, IsStorable, IsValid, outcome, refusal, stream_at};
 ghost use Rattle.clfs_model.specs.declared.call.Call.TheVariants as calls;
 ghost use Rattle.clfs_model.specs.declared.reply.Reply.TheVariants as replies;
@@ -11,7 +11,7 @@ ghost use Rattle.clfs_manager.specs.Changing.{ChangesLog};
 ghost use Rattle.clfs_manager.specs.Flushing.{IsBroken};
 ghost use Rattle.clfs_manager.specs.Memory.{HasForgotten, IsSound};
 ghost use Rattle.clfs_manager.specs.Putting.{KeepsRoom};
-ghost use Rattle.clfs_manager.specs.Written.{IsIntact, IsYetToForget};
+ghost use Rattle.clfs_manager.specs.Written.{IsIntact, IsYetToForget, CopyIsCurrent, IsCurrent};
 
 use crate::log::{Log, broken};
 use crate::manager::Manager;
@@ -64,6 +64,7 @@ impl Log {
         requires held { container_of (hold self.old.state.value) ≤ container_of (hold (with_base stream base self.old.state.value)) }
         ensures change { ChangesLog IsYetToForget result (self.old.state.value ∷ []) (with_base stream base self.old.state.value) (D.state disk.old) (D.state disk.new) self.new }
         ensures broken { OnErr result (IsBroken self.old self.new) }
+        ensures current { OnOk result (IsCurrent self.new.physical.image) }
     {
         bases_of_rows_move();
         low_containers_are_left_out();
@@ -96,6 +97,7 @@ impl Log {
         ensures change { ChangesLog IsIntact result (self.old.state.value ∷ flush self.old.state.value ∷ [])
             (with_base stream base (flush self.old.state.value)) (D.state disk.old) (D.state disk.new) self.new }
         ensures broken { OnErr result (IsBroken self.old self.new) }
+        ensures current { OnOk result (IsCurrent self.new.physical.image) }
     {
         let faulted = broken(&self.state);
         self.write_all(disk)?;
@@ -135,6 +137,7 @@ impl<D: Disk> Manager<D> {
     pub fn advance(&mut self, client: u16, area: u16, lsn: Lsn) -> Result<Lsn, Refusal>
         requires client { IsClient client }
         ensures call { WritesAs D.state client (calls.Advance area lsn) replies.Base result self.old self.new }
+        ensures current { CopyIsCurrent result (D.state self.new.1) }
     {
         calls_follow_laws();
         the_holds_container_never_falls();

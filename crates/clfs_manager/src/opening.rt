@@ -1,6 +1,6 @@
 // Opening a stream by its name: the one of that name, or a new one after the others. A new stream is in the base copy that follows the newest one, so
 // that a crash leaves it or not. Its memory is taken first, and it joins the tables once it is on the disk, which takes none.
-ghost use Rattle.std.specs.Prelude.{◌≡◌, ◌+◌, ◌<◌, ◌≤◌, ◌^◌, false, None, IsErrOf, IfOk, IfErr, OnOk, length};
+ghost use Rattle.std.specs.Prelude.{◌≡◌, ◌+◌, ◌<◌, ◌≤◌, ◌^◌, true, false, None, IsErrOf, IfOk, IfErr, OnOk, length};
 ghost use Rattle.clfs_manager.specs.Machine.{calls_disk, container_of, cut, hold, IsClient, IsStorable, IsValid, null_lsn, open_refusal, Request, State, stream_number, Survives};
 ghost use Rattle.clfs_model.specs.declared.call.Call.TheVariants as calls;
 ghost use Rattle.clfs_model.specs.declared.reply.Reply.TheVariants as replies;
@@ -8,7 +8,7 @@ ghost use Rattle.clfs_tables.specs.Tables.{HasSame};
 ghost use Rattle.clfs_manager.specs.Calls.{WritesAs};
 ghost use Rattle.clfs_manager.specs.Crashes.{CrashLeavesSurvivor};
 ghost use Rattle.clfs_manager.specs.Streams.{IsNotAdded, with_stream};
-ghost use Rattle.clfs_manager.specs.Written.{IsIntact, WritesDisk};
+ghost use Rattle.clfs_manager.specs.Written.{IsIntact, WritesDisk, CopyIsCurrent, IsCurrent};
 
 use crate::log::Log;
 use crate::manager::Manager;
@@ -82,6 +82,7 @@ impl Log {
         ensures moments { (asked : Request) (s : State) → Survives asked s (cut self.old.state.value)
             → Survives asked s (cut (with_stream name.now self.old.state.value)) → CrashLeavesSurvivor asked s (D.state disk.old) (D.state disk.new) }
         ensures no_memory { IsErrOf result Refusal.NoMemory → disk.new ≡ disk.old }
+        ensures current { OnOk result (IsCurrent self.new.physical.image) }
     {
         streams_come_last();
         low_containers_are_left_out();
@@ -116,6 +117,7 @@ impl<D: Disk> Manager<D> {
         requires name { length name.now < 2 ^ 32 }
         ensures call { WritesAs D.state client (calls.OpenStream name.now) replies.Stream result self.old self.new }
         ensures quiet { calls_disk self.old.0 (calls.OpenStream name.now) ≡ false → self.new.1 ≡ self.old.1 }
+        ensures current { calls_disk self.old.0 (calls.OpenStream name.now) ≡ true → CopyIsCurrent result (D.state self.new.1) }
     {
         calls_follow_laws();
         if self.log.broken {

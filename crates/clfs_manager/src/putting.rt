@@ -10,7 +10,7 @@ ghost use Rattle.clfs_manager.specs.Flushing.{IsBroken, StoredAfter};
 ghost use Rattle.clfs_manager.specs.Memory.{Holds, IsSound};
 ghost use Rattle.clfs_manager.specs.Putting.{IsPutInMemory, KeepsRoom, MayTurnTo, TakesContainer, sealing_writes, unplaced};
 ghost use Rattle.clfs_manager.specs.Storing.{CallsDisk};
-ghost use Rattle.clfs_manager.specs.Written.{IsIntact, IsYetToForget};
+ghost use Rattle.clfs_manager.specs.Written.{IsIntact, IsYetToForget, IsCurrent};
 
 use crate::log::Log;
 use clfs_archive::ends_of_blocks_go_on;
@@ -121,6 +121,7 @@ impl Log {
         ensures meanwhile { StoredMeanwhile (D.state disk.old) (D.state disk.new) self.old.state.value (turned self.old.state.value) self.old.physical }
         ensures same { self.new ≡ record self.old { physical = self.new.physical } }
         ensures calls { CallsDisk result self.old.physical.image (D.state disk.old) (D.state disk.new) }
+        ensures current { OnOk result (IsCurrent self.new.physical.image) }
     {
         settings_leave_the_records();
         low_containers_are_left_out();

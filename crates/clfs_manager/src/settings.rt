@@ -9,6 +9,7 @@ ghost use Rattle.clfs_policy.specs.Ranges.{AreAllowed};
 ghost use Rattle.clfs_manager.specs.Memory.{IsSound};
 ghost use Rattle.clfs_manager.specs.Settings.{KeepsTables, change_to, with_policies};
 ghost use Rattle.clfs_manager.specs.Storing.{StoresState};
+ghost use Rattle.clfs_manager.specs.Written.{CopyIsCurrent, IsCurrent};
 
 use crate::log::Log;
 use crate::manager::Manager;
@@ -78,6 +79,7 @@ impl Log {
         requires allowed { AreAllowed policies }
         ensures change { StoresState result (with_policies policies self.old.state.value) (D.state disk.old) (D.state disk.new) self.old self.new }
         ensures same { OnOk result (KeepsTables self.old self.new) }
+        ensures current { OnOk result (IsCurrent self.new.physical.image) }
     {
         settings_leave_the_records();
         low_containers_are_left_out();
@@ -98,6 +100,7 @@ impl<D: Disk> Manager<D> {
     /// told.
     pub fn install_policy(&mut self, policy: Policy) -> Result<(), Refusal>
         ensures call { (client : ℕ) → WritesAs D.state client (calls.InstallPolicy policy) (λ _. replies.Done) result self.old self.new }
+        ensures current { CopyIsCurrent result (D.state self.new.1) }
     {
         calls_follow_laws();
         if self.log.broken {
@@ -116,6 +119,7 @@ impl<D: Disk> Manager<D> {
     /// Takes the policy of a kind away, on the disk too. Refused where there is none.
     pub fn remove_policy(&mut self, kind: PolicyKind) -> Result<(), Refusal>
         ensures call { (client : ℕ) → WritesAs D.state client (calls.RemovePolicy kind) (λ _. replies.Done) result self.old self.new }
+        ensures current { CopyIsCurrent result (D.state self.new.1) }
     {
         calls_follow_laws();
         if self.log.broken {

@@ -1,13 +1,13 @@
 // The size of the log, in containers: what a client asks for, and growth for a call that needs sectors. Files that aren't there are made and synced, and
 // then the base copy that follows the newest one counts them, with the containers from the hold's on: so a crash leaves the old size or the new one.
 // Making files takes memory; where it fails, and where the size stays, the log is as before.
-ghost use Rattle.std.specs.Prelude.{◌≡◌, ◌<◌, ◌^◌, ℕ, false, IsOk};
+ghost use Rattle.std.specs.Prelude.{◌≡◌, ◌<◌, ◌^◌, ℕ, true, false, IsOk, OnOk};
 ghost use Rattle.clfs_model.specs.declared.call.Call.TheVariants as calls;
 ghost use Rattle.clfs_model.specs.declared.reply.Reply.TheVariants as replies;
 ghost use Rattle.clfs_manager.specs.Machine.{calls_disk, grown, grows, IsValid, with_containers};
 ghost use Rattle.clfs_manager.specs.Calls.{WritesAs};
 ghost use Rattle.clfs_manager.specs.Sizes.{ResizesLog};
-ghost use Rattle.clfs_manager.specs.Written.{IsIntact};
+ghost use Rattle.clfs_manager.specs.Written.{IsIntact, CopyIsCurrent, IsCurrent};
 
 use crate::log::Log;
 use crate::manager::Manager;
@@ -34,6 +34,7 @@ impl Log {
         requires intact { IsIntact (D.state disk.old) self.old }
         requires valid { IsValid (with_containers containers self.old.state.value) }
         ensures change { ResizesLog result (with_containers containers self.old.state.value) (D.state disk.old) (D.state disk.new) self.old self.new }
+        ensures current { OnOk result (IsCurrent self.new.physical.image) }
     {
         settings_leave_the_records();
         low_containers_are_left_out();
@@ -82,6 +83,7 @@ impl<D: Disk> Manager<D> {
     pub fn set_size(&mut self, containers: u32) -> Result<u32, Refusal>
         ensures call { (client : ℕ) → WritesAs D.state client (calls.SetSize containers) replies.Containers result self.old self.new }
         ensures quiet { calls_disk self.old.0 (calls.SetSize containers) ≡ false → self.new.1 ≡ self.old.1 }
+        ensures current { calls_disk self.old.0 (calls.SetSize containers) ≡ true → CopyIsCurrent result (D.state self.new.1) }
     {
         calls_follow_laws();
         if self.log.broken {

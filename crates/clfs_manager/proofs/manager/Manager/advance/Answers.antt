@@ -14,6 +14,7 @@ use Rattle.clfs_manager.specs.Base.{with_base}
 use Rattle.clfs_manager.proofs.AdvancedLog.{advanced_step}
 use Rattle.clfs_manager.proofs.FlushKeeps.{on_ok, on_err, managed_broken}
 use Rattle.clfs_manager.proofs.Intact.{managed_intact, writes_as, writes_seen}
+use Rattle.clfs_manager.proofs.CurrentCopy.{current_on_disk}
 use Rattle.clfs_manager.proofs.manager.Manager.advance.Goals as goal
 
 pub advance-requires-clause-valid : goal.advance-requires-clause-valid
@@ -54,14 +55,14 @@ invariant_of-self-2 g c =
     managed_intact (g.D.Disk.state c.advance.new.disk) c.advance.new.self
     (on_ok c.advance.result (sym c.is_err.ensures.value ∙ c.if-is_err.false) c.advance.ensures.change.left)
 
-pub returns-then-self : goal.returns-then-self
-returns-then-self g c = record { call = call_stopped c.calls_follow_laws.ensures.ways g.D.Disk.state c.self.inside.log c.self.inside.disk c.args.self.now c.self.view_is c.self.invariant c.if-self.true c.args.client (calls.Advance c.args.area c.args.lsn) replies.Base }
+pub returns-then-self-clause-call : goal.returns-then-self-clause-call
+returns-then-self-clause-call g c = call_stopped c.calls_follow_laws.ensures.ways g.D.Disk.state c.self.inside.log c.self.inside.disk c.args.self.now c.self.view_is c.self.invariant c.if-self.true c.args.client (calls.Advance c.args.area c.args.lsn) replies.Base
 
-pub returns-in-Err : goal.returns-in-Err
-returns-in-Err g c = record { call = call_refused c.calls_follow_laws.ensures.crashes c.calls_follow_laws.ensures.ways g.D.Disk.state c.self.inside.log c.self.inside.disk c.args.self.now c.self.view_is c.self.invariant c.if-self.false c.args.client (calls.Advance c.args.area c.args.lsn) replies.Base c.in-Err.refusal c.in-Err.ensures.refused }
+pub returns-in-Err-clause-call : goal.returns-in-Err-clause-call
+returns-in-Err-clause-call g c = call_refused c.calls_follow_laws.ensures.crashes c.calls_follow_laws.ensures.ways g.D.Disk.state c.self.inside.log c.self.inside.disk c.args.self.now c.self.view_is c.self.invariant c.if-self.false c.args.client (calls.Advance c.args.area c.args.lsn) replies.Base c.in-Err.refusal c.in-Err.ensures.refused
 
-pub returns-then-is_err : goal.returns-then-is_err
-returns-then-is_err g c =
+pub returns-then-is_err-clause-call : goal.returns-then-is_err-clause-call
+returns-then-is_err-clause-call g c =
     let s : State = c.self.inside.log.state.value in
     let managed = c.self.invariant in
     let call = calls.Advance c.args.area c.args.lsn in
@@ -71,15 +72,13 @@ returns-then-is_err g c =
     (two_survive (asks c.args.client call) s s (flush s) before
     (flush_survives c.states_between_survive.ensures.advance s c.args.client c.args.area c.args.lsn managed.valid managed.storable
     (managed.broken ∙ c.if-self.false) c.in-Ok.ensures.allowed)) moved) in
-    record {
-      call = call_faulted c.calls_follow_laws.ensures.ways g.D.Disk.state c.self.inside.log c.advance.new.self c.self.inside.disk c.advance.new.disk c.args.self.now c.self.view_is c.self.invariant c.if-self.false c.args.client call replies.Base c.in-Ok.ensures.allowed refl
-          (on_err c.advance.result (sym c.is_err.ensures.value ∙ c.if-is_err.true) c.advance.ensures.broken)
-          (writes_seen g.D.Disk.state (s, c.self.inside.disk) c.args.self.now c.self.view_is _ (g.D.Disk.state c.advance.new.disk)
-          (writes_as _ _ (g.D.Disk.state c.self.inside.disk) (g.D.Disk.state c.advance.new.disk) (λ f. refl) (λ f. sym c.is_err.ensures.value ∙ c.if-is_err.true) c.advance.ensures.change.writes)) moments;
-    }
+    call_faulted c.calls_follow_laws.ensures.ways g.D.Disk.state c.self.inside.log c.advance.new.self c.self.inside.disk c.advance.new.disk c.args.self.now c.self.view_is c.self.invariant c.if-self.false c.args.client call replies.Base c.in-Ok.ensures.allowed refl
+    (on_err c.advance.result (sym c.is_err.ensures.value ∙ c.if-is_err.true) c.advance.ensures.broken)
+    (writes_seen g.D.Disk.state (s, c.self.inside.disk) c.args.self.now c.self.view_is _ (g.D.Disk.state c.advance.new.disk)
+    (writes_as _ _ (g.D.Disk.state c.self.inside.disk) (g.D.Disk.state c.advance.new.disk) (λ f. refl) (λ f. sym c.is_err.ensures.value ∙ c.if-is_err.true) c.advance.ensures.change.writes)) moments
 
-pub returns : goal.returns
-returns g c =
+pub returns-clause-call : goal.returns-clause-call
+returns-clause-call g c =
     let s : State = c.self.inside.log.state.value in
     let managed = c.self.invariant in
     let call = calls.Advance c.args.area c.args.lsn in
@@ -90,9 +89,14 @@ returns g c =
     (flush_survives c.states_between_survive.ensures.advance s c.args.client c.args.area c.args.lsn managed.valid managed.storable
     (managed.broken ∙ c.if-self.false) c.in-Ok.ensures.allowed)) moved) in
     let ok = sym c.is_err.ensures.value ∙ c.if-is_err.false in
-    record {
-      call = call_done c.calls_follow_laws.ensures.ways g.D.Disk.state c.self.inside.log c.advance.new.self c.self.inside.disk c.advance.new.disk c.args.self.now c.self.view_is c.self.invariant c.if-self.false c.args.client call replies.Base c.args.lsn refl c.in-Ok.ensures.allowed
-          (sym (ap (λ (o : Outcome). o.reply) is)) (on_ok c.advance.result ok c.advance.ensures.change.state ∙ sym (ap (λ (o : Outcome). o.state) is))
-          (writes_seen g.D.Disk.state (s, c.self.inside.disk) c.args.self.now c.self.view_is _ (g.D.Disk.state c.advance.new.disk)
-          (writes_as _ _ (g.D.Disk.state c.self.inside.disk) (g.D.Disk.state c.advance.new.disk) (λ f. absurd (cc (f, ok))) (λ f. absurd (cc f)) c.advance.ensures.change.writes)) moments;
-    }
+    call_done c.calls_follow_laws.ensures.ways g.D.Disk.state c.self.inside.log c.advance.new.self c.self.inside.disk c.advance.new.disk c.args.self.now c.self.view_is c.self.invariant c.if-self.false c.args.client call replies.Base c.args.lsn refl c.in-Ok.ensures.allowed
+    (sym (ap (λ (o : Outcome). o.reply) is)) (on_ok c.advance.result ok c.advance.ensures.change.state ∙ sym (ap (λ (o : Outcome). o.state) is))
+    (writes_seen g.D.Disk.state (s, c.self.inside.disk) c.args.self.now c.self.view_is _ (g.D.Disk.state c.advance.new.disk)
+    (writes_as _ _ (g.D.Disk.state c.self.inside.disk) (g.D.Disk.state c.advance.new.disk) (λ f. absurd (cc (f, ok))) (λ f. absurd (cc f)) c.advance.ensures.change.writes)) moments
+
+pub returns-clause-current : goal.returns-clause-current
+returns-clause-current g c =
+    let ok = sym c.is_err.ensures.value ∙ c.if-is_err.false in
+    let intact = on_ok c.advance.result ok c.advance.ensures.change.left in
+    current_on_disk (g.D.Disk.state c.advance.new.disk) c.advance.new.self (managed_intact (g.D.Disk.state c.advance.new.disk) c.advance.new.self intact)
+    intact.sound.whole (on_ok c.advance.result ok c.advance.ensures.current)

@@ -1,6 +1,6 @@
 use Rattle.clfs_manager.proofs.WritingCalls.{stored_done, stored_faulted, call_stopped, call_refused}
 use Rattle.clfs_manager.specs.Settings.{with_policies}
-use Rattle.std.proofs.Common.{refl, sym, ◌∙◌, false, arith}
+use Rattle.std.proofs.Common.{refl, sym, ◌∙◌, false, arith, ap}
 use Rattle.clfs_model.specs.declared.call.Call.TheVariants as calls
 use Rattle.clfs_model.specs.declared.reply.Reply.TheVariants as replies
 use Rattle.clfs_model.specs.declared.state.State.{State}
@@ -9,6 +9,7 @@ use Rattle.clfs_manager.proofs.FlushKeeps.{on_ok, on_err, managed_broken}
 use Rattle.clfs_manager.proofs.SettingsKeep.{settings_done}
 use Rattle.clfs_manager.proofs.StoredKeeps.{managed_done}
 use Rattle.clfs_manager.proofs.Intact.{intact_managed}
+use Rattle.clfs_manager.proofs.CurrentCopy.{current_on_disk}
 use Rattle.clfs_manager.proofs.manager.Manager.install_policy.Goals as goal
 
 pub invariant_of-self : goal.invariant_of-self
@@ -43,25 +44,26 @@ policies_with-policies-requires-clause-sound g c = (intact_managed (g.D.Disk.sta
 pub store_policies-requires-clause-sound : goal.store_policies-requires-clause-sound
 store_policies-requires-clause-sound g c = (intact_managed (g.D.Disk.state c.self.inside.disk) c.self.inside.log c.self.invariant c.if-self.false).sound
 
-pub returns-then-self : goal.returns-then-self
-returns-then-self g c = record { call = λ client. call_stopped c.calls_follow_laws.ensures.ways g.D.Disk.state c.self.inside.log c.self.inside.disk c.args.self.now c.self.view_is c.self.invariant c.if-self.true client (calls.InstallPolicy c.args.policy) (λ _. replies.Done) }
+pub returns-then-self-clause-call : goal.returns-then-self-clause-call
+returns-then-self-clause-call g c = λ client. call_stopped c.calls_follow_laws.ensures.ways g.D.Disk.state c.self.inside.log c.self.inside.disk c.args.self.now c.self.view_is c.self.invariant c.if-self.true client (calls.InstallPolicy c.args.policy) (λ _. replies.Done)
 
-pub returns-in-Some : goal.returns-in-Some
-returns-in-Some g c = record {
-  call = λ client. call_refused c.calls_follow_laws.ensures.crashes c.calls_follow_laws.ensures.ways g.D.Disk.state c.self.inside.log c.self.inside.disk c.args.self.now c.self.view_is c.self.invariant c.if-self.false client
-      (calls.InstallPolicy c.args.policy) (λ _. replies.Done) c.in-Some.refusal (sym c.policy_refusal.ensures ∙ c.in-Some.is);
-}
+pub returns-in-Some-clause-call : goal.returns-in-Some-clause-call
+returns-in-Some-clause-call g c = λ client. call_refused c.calls_follow_laws.ensures.crashes c.calls_follow_laws.ensures.ways g.D.Disk.state c.self.inside.log c.self.inside.disk c.args.self.now c.self.view_is c.self.invariant c.if-self.false client
+    (calls.InstallPolicy c.args.policy) (λ _. replies.Done) c.in-Some.refusal (sym c.policy_refusal.ensures ∙ c.in-Some.is)
 
-pub returns-then-is_err : goal.returns-then-is_err
-returns-then-is_err g c = record {
-  call = λ client. stored_faulted c.calls_follow_laws.ensures.crashes c.calls_follow_laws.ensures.ways c.calls_follow_laws.ensures.valid g.D.Disk.state c.self.inside.log c.store_policies.new.self c.self.inside.disk c.store_policies.new.disk c.args.self.now c.self.view_is c.self.invariant c.if-self.false client
-      (calls.InstallPolicy c.args.policy) (λ _. replies.Done) (with_policies c.policies_with-policies.result c.self.inside.log.state.value) (sym c.policy_refusal.ensures ∙ c.in_default.is) (sym c.policies_with-policies.ensures.state) refl
-      c.store_policies.result (sym c.is_err.ensures.value ∙ c.if-is_err.true) c.store_policies.ensures.change.broken c.store_policies.ensures.change.meanwhile c.store_policies.ensures.change.calls.time c.store_policies.ensures.change.calls.cause c.store_policies.ensures.change.calls.steady;
-}
+pub returns-then-is_err-clause-call : goal.returns-then-is_err-clause-call
+returns-then-is_err-clause-call g c = λ client. stored_faulted c.calls_follow_laws.ensures.crashes c.calls_follow_laws.ensures.ways c.calls_follow_laws.ensures.valid g.D.Disk.state c.self.inside.log c.store_policies.new.self c.self.inside.disk c.store_policies.new.disk c.args.self.now c.self.view_is c.self.invariant c.if-self.false client
+    (calls.InstallPolicy c.args.policy) (λ _. replies.Done) (with_policies c.policies_with-policies.result c.self.inside.log.state.value) (sym c.policy_refusal.ensures ∙ c.in_default.is) (sym c.policies_with-policies.ensures.state) refl
+    c.store_policies.result (sym c.is_err.ensures.value ∙ c.if-is_err.true) c.store_policies.ensures.change.broken c.store_policies.ensures.change.meanwhile c.store_policies.ensures.change.calls.time c.store_policies.ensures.change.calls.cause c.store_policies.ensures.change.calls.steady
 
-pub returns : goal.returns
-returns g c = record {
-  call = λ client. stored_done c.calls_follow_laws.ensures.crashes c.calls_follow_laws.ensures.ways c.calls_follow_laws.ensures.valid g.D.Disk.state c.self.inside.log c.store_policies.new.self c.self.inside.disk c.store_policies.new.disk c.args.self.now c.self.view_is c.self.invariant c.if-self.false client
-      (calls.InstallPolicy c.args.policy) (λ _. replies.Done) tt refl (with_policies c.policies_with-policies.result c.self.inside.log.state.value) (sym c.policy_refusal.ensures ∙ c.in_default.is) refl (sym c.policies_with-policies.ensures.state)
-      c.store_policies.result (sym c.is_err.ensures.value ∙ c.if-is_err.false) c.store_policies.ensures.change.state c.store_policies.ensures.change.stored c.store_policies.ensures.change.meanwhile c.store_policies.ensures.change.calls.time c.store_policies.ensures.change.calls.steady;
-}
+pub returns-clause-call : goal.returns-clause-call
+returns-clause-call g c = λ client. stored_done c.calls_follow_laws.ensures.crashes c.calls_follow_laws.ensures.ways c.calls_follow_laws.ensures.valid g.D.Disk.state c.self.inside.log c.store_policies.new.self c.self.inside.disk c.store_policies.new.disk c.args.self.now c.self.view_is c.self.invariant c.if-self.false client
+    (calls.InstallPolicy c.args.policy) (λ _. replies.Done) tt refl (with_policies c.policies_with-policies.result c.self.inside.log.state.value) (sym c.policy_refusal.ensures ∙ c.in_default.is) refl (sym c.policies_with-policies.ensures.state)
+    c.store_policies.result (sym c.is_err.ensures.value ∙ c.if-is_err.false) c.store_policies.ensures.change.state c.store_policies.ensures.change.stored c.store_policies.ensures.change.meanwhile c.store_policies.ensures.change.calls.time c.store_policies.ensures.change.calls.steady
+
+pub returns-clause-current : goal.returns-clause-current
+returns-clause-current g c =
+    let ok = sym c.is_err.ensures.value ∙ c.if-is_err.false in
+    let state = on_ok c.store_policies.result ok c.store_policies.ensures.change.state in
+    current_on_disk (g.D.Disk.state c.store_policies.new.disk) c.store_policies.new.self (invariant_of-self-2 g c)
+    (ap (λ (u : State). u.broken) state ∙ c.self.invariant.broken ∙ c.if-self.false) (on_ok c.store_policies.result ok c.store_policies.ensures.current)

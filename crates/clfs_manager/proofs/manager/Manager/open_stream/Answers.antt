@@ -20,6 +20,7 @@ use Rattle.clfs_model.specs.declared.refusal.Refusal.{Refusal}
 use Rattle.clfs_model.specs.Refusals.{open_refusal, stream_number}
 use Rattle.clfs_manager.specs.Streams.{IsNotAdded, with_stream}
 use Rattle.clfs_manager.proofs.AddedStream.{managed_added, new_step}
+use Rattle.clfs_manager.proofs.CurrentCopy.{current_answered}
 use Rattle.clfs_manager.proofs.manager.Manager.open_stream.Goals as goal
 
 passes : (s : State) (given name : List ℕ) (found : Option Refusal) → given ≡ name → found ≡ open_refusal s given → found ≡ None → open_refusal s name ≡ None
@@ -120,3 +121,7 @@ returns-clause-call g c =
     (λ want. crash_not_called c.calls_follow_laws.ensures.crashes g.D.Disk.state c.self.inside.log c.self.inside.disk c.add_stream.new.disk c.args.self.now c.self.view_is c.self.invariant
     (c.add_stream.ensures.no_memory want))
     (not_own _ (g.D.Disk.state c.add_stream.new.disk) c.self.inside.log c.add_stream.new.self c.add_stream.result c.add_stream.ensures.refused)
+
+pub returns-clause-current : goal.returns-clause-current
+returns-clause-current g c = λ called. current_answered c.add_stream.result (g.D.Disk.state c.add_stream.new.disk) c.add_stream.new.self
+    c.add_stream.ensures.intact c.add_stream.ensures.current

@@ -1,6 +1,6 @@
 use Rattle.clfs_manager.proofs.WritingCalls.{stored_done, stored_faulted, call_stopped, call_refused}
 use Rattle.clfs_manager.specs.Settings.{with_policies}
-use Rattle.std.proofs.Common.{refl, sym, ◌∙◌, false, arith}
+use Rattle.std.proofs.Common.{refl, sym, ◌∙◌, false, arith, ap}
 use Rattle.clfs_model.specs.declared.call.Call.TheVariants as calls
 use Rattle.clfs_model.specs.declared.reply.Reply.TheVariants as replies
 use Rattle.clfs_model.specs.declared.state.State.{State}
@@ -10,6 +10,7 @@ use Rattle.clfs_manager.proofs.SettingsKeep.{settings_done}
 use Rattle.clfs_manager.proofs.StoredKeeps.{managed_done}
 use Rattle.clfs_manager.proofs.Intact.{intact_managed}
 use Rattle.clfs_model.specs.declared.refusal.Refusal.TheVariants as refusals
+use Rattle.clfs_manager.proofs.CurrentCopy.{current_on_disk}
 use Rattle.clfs_manager.proofs.manager.Manager.remove_policy.Goals as goal
 
 pub invariant_of-self : goal.invariant_of-self
@@ -41,25 +42,26 @@ policies_without-requires g c = record { sound = (intact_managed (g.D.Disk.state
 pub store_policies-requires-clause-sound : goal.store_policies-requires-clause-sound
 store_policies-requires-clause-sound g c = (intact_managed (g.D.Disk.state c.self.inside.disk) c.self.inside.log c.self.invariant c.if-self.false).sound
 
-pub returns-then-self : goal.returns-then-self
-returns-then-self g c = record { call = λ client. call_stopped c.calls_follow_laws.ensures.ways g.D.Disk.state c.self.inside.log c.self.inside.disk c.args.self.now c.self.view_is c.self.invariant c.if-self.true client (calls.RemovePolicy c.args.kind) (λ _. replies.Done) }
+pub returns-then-self-clause-call : goal.returns-then-self-clause-call
+returns-then-self-clause-call g c = λ client. call_stopped c.calls_follow_laws.ensures.ways g.D.Disk.state c.self.inside.log c.self.inside.disk c.args.self.now c.self.view_is c.self.invariant c.if-self.true client (calls.RemovePolicy c.args.kind) (λ _. replies.Done)
 
-pub returns-in_default : goal.returns-in_default
-returns-in_default g c = record {
-  call = λ client. call_refused c.calls_follow_laws.ensures.crashes c.calls_follow_laws.ensures.ways g.D.Disk.state c.self.inside.log c.self.inside.disk c.args.self.now c.self.view_is c.self.invariant c.if-self.false client
-      (calls.RemovePolicy c.args.kind) (λ _. replies.Done) refusals.PolicyNotInstalled (rw c.in_default.ensures.none refl);
-}
+pub returns-in_default-clause-call : goal.returns-in_default-clause-call
+returns-in_default-clause-call g c = λ client. call_refused c.calls_follow_laws.ensures.crashes c.calls_follow_laws.ensures.ways g.D.Disk.state c.self.inside.log c.self.inside.disk c.args.self.now c.self.view_is c.self.invariant c.if-self.false client
+    (calls.RemovePolicy c.args.kind) (λ _. replies.Done) refusals.PolicyNotInstalled (rw c.in_default.ensures.none refl)
 
-pub returns-then-is_err : goal.returns-then-is_err
-returns-then-is_err g c = record {
-  call = λ client. stored_faulted c.calls_follow_laws.ensures.crashes c.calls_follow_laws.ensures.ways c.calls_follow_laws.ensures.valid g.D.Disk.state c.self.inside.log c.store_policies.new.self c.self.inside.disk c.store_policies.new.disk c.args.self.now c.self.view_is c.self.invariant c.if-self.false client
-      (calls.RemovePolicy c.args.kind) (λ _. replies.Done) (with_policies c.in-Some.policies c.self.inside.log.state.value) (rw c.in-Some.ensures.some refl) (sym c.in-Some.ensures.state) refl
-      c.store_policies.result (sym c.is_err.ensures.value ∙ c.if-is_err.true) c.store_policies.ensures.change.broken c.store_policies.ensures.change.meanwhile c.store_policies.ensures.change.calls.time c.store_policies.ensures.change.calls.cause c.store_policies.ensures.change.calls.steady;
-}
+pub returns-then-is_err-clause-call : goal.returns-then-is_err-clause-call
+returns-then-is_err-clause-call g c = λ client. stored_faulted c.calls_follow_laws.ensures.crashes c.calls_follow_laws.ensures.ways c.calls_follow_laws.ensures.valid g.D.Disk.state c.self.inside.log c.store_policies.new.self c.self.inside.disk c.store_policies.new.disk c.args.self.now c.self.view_is c.self.invariant c.if-self.false client
+    (calls.RemovePolicy c.args.kind) (λ _. replies.Done) (with_policies c.in-Some.policies c.self.inside.log.state.value) (rw c.in-Some.ensures.some refl) (sym c.in-Some.ensures.state) refl
+    c.store_policies.result (sym c.is_err.ensures.value ∙ c.if-is_err.true) c.store_policies.ensures.change.broken c.store_policies.ensures.change.meanwhile c.store_policies.ensures.change.calls.time c.store_policies.ensures.change.calls.cause c.store_policies.ensures.change.calls.steady
 
-pub returns : goal.returns
-returns g c = record {
-  call = λ client. stored_done c.calls_follow_laws.ensures.crashes c.calls_follow_laws.ensures.ways c.calls_follow_laws.ensures.valid g.D.Disk.state c.self.inside.log c.store_policies.new.self c.self.inside.disk c.store_policies.new.disk c.args.self.now c.self.view_is c.self.invariant c.if-self.false client
-      (calls.RemovePolicy c.args.kind) (λ _. replies.Done) tt refl (with_policies c.in-Some.policies c.self.inside.log.state.value) (rw c.in-Some.ensures.some refl) refl (sym c.in-Some.ensures.state)
-      c.store_policies.result (sym c.is_err.ensures.value ∙ c.if-is_err.false) c.store_policies.ensures.change.state c.store_policies.ensures.change.stored c.store_policies.ensures.change.meanwhile c.store_policies.ensures.change.calls.time c.store_policies.ensures.change.calls.steady;
-}
+pub returns-clause-call : goal.returns-clause-call
+returns-clause-call g c = λ client. stored_done c.calls_follow_laws.ensures.crashes c.calls_follow_laws.ensures.ways c.calls_follow_laws.ensures.valid g.D.Disk.state c.self.inside.log c.store_policies.new.self c.self.inside.disk c.store_policies.new.disk c.args.self.now c.self.view_is c.self.invariant c.if-self.false client
+    (calls.RemovePolicy c.args.kind) (λ _. replies.Done) tt refl (with_policies c.in-Some.policies c.self.inside.log.state.value) (rw c.in-Some.ensures.some refl) refl (sym c.in-Some.ensures.state)
+    c.store_policies.result (sym c.is_err.ensures.value ∙ c.if-is_err.false) c.store_policies.ensures.change.state c.store_policies.ensures.change.stored c.store_policies.ensures.change.meanwhile c.store_policies.ensures.change.calls.time c.store_policies.ensures.change.calls.steady
+
+pub returns-clause-current : goal.returns-clause-current
+returns-clause-current g c =
+    let ok = sym c.is_err.ensures.value ∙ c.if-is_err.false in
+    let state = on_ok c.store_policies.result ok c.store_policies.ensures.change.state in
+    current_on_disk (g.D.Disk.state c.store_policies.new.disk) c.store_policies.new.self (invariant_of-self-2 g c)
+    (ap (λ (u : State). u.broken) state ∙ c.self.invariant.broken ∙ c.if-self.false) (on_ok c.store_policies.result ok c.store_policies.ensures.current)

@@ -15,6 +15,7 @@ use Rattle.clfs_model.specs.Valid.{IsValid}
 use Rattle.clfs_manager.proofs.FlushKeeps.{on_ok, on_err, managed_broken}
 use Rattle.clfs_manager.proofs.SettingsKeep.{archive_done}
 use Rattle.clfs_manager.proofs.StoredKeeps.{managed_done}
+use Rattle.clfs_manager.proofs.CurrentCopy.{current_on_disk}
 use Rattle.clfs_manager.proofs.manager.Manager.set_archive.Goals as goal
 
 on_as : (s : State) (found on : Bool) → found ≡ is_some s.archive → (beq found on) ≡ true → is_some s.archive ≡ on
@@ -98,3 +99,10 @@ pub returns-clause-call : goal.returns-clause-call
 returns-clause-call g c = λ client. stored_done c.calls_follow_laws.ensures.crashes c.calls_follow_laws.ensures.ways c.calls_follow_laws.ensures.valid g.D.Disk.state c.self.inside.log c.change_archive.new.self c.self.inside.disk c.change_archive.new.disk c.args.self.now c.self.view_is c.self.invariant c.if-self.false client
     (calls.SetArchive c.args.on) (λ _. replies.Done) tt refl (with_archive c.archive_for-tail.result c.self.inside.log.state.value) refl refl (sym c.archive_for-tail.ensures)
     c.change_archive.result (sym c.is_err.ensures.value ∙ c.if-is_err.false) c.change_archive.ensures.change.state c.change_archive.ensures.change.stored c.change_archive.ensures.change.meanwhile c.change_archive.ensures.change.calls.time c.change_archive.ensures.change.calls.steady
+
+pub returns-clause-current : goal.returns-clause-current
+returns-clause-current g c = λ called.
+    let ok = sym c.is_err.ensures.value ∙ c.if-is_err.false in
+    let state = on_ok c.change_archive.result ok c.change_archive.ensures.change.state in
+    current_on_disk (g.D.Disk.state c.change_archive.new.disk) c.change_archive.new.self (invariant_of-self-2 g c)
+    (ap (λ (u : State). u.broken) state ∙ c.self.invariant.broken ∙ c.if-self.false) (on_ok c.change_archive.result ok c.change_archive.ensures.current)

@@ -1,5 +1,5 @@
 use Rattle.clfs_manager.proofs.WritingCalls.{stored_done, stored_faulted, call_stopped, call_refused}
-use Rattle.std.proofs.Common.{refl, sym, ◌∙◌, false, arith}
+use Rattle.std.proofs.Common.{refl, sym, ◌∙◌, false, arith, ap}
 use Rattle.std.specs.Prelude.{Some}
 use Rattle.clfs_model.specs.declared.call.Call.TheVariants as calls
 use Rattle.clfs_model.specs.declared.reply.Happened.TheVariants.{Fine}
@@ -9,6 +9,7 @@ use Rattle.clfs_manager.specs.Settings.{with_archive}
 use Rattle.clfs_manager.proofs.FlushKeeps.{on_ok, on_err, managed_broken}
 use Rattle.clfs_manager.proofs.SettingsKeep.{archive_done}
 use Rattle.clfs_manager.proofs.StoredKeeps.{managed_done}
+use Rattle.clfs_manager.proofs.CurrentCopy.{current_on_disk}
 use Rattle.clfs_manager.proofs.manager.Manager.set_archive_tail.Goals as goal
 
 pub change_archive-requires-clause-valid : goal.change_archive-requires-clause-valid
@@ -48,25 +49,26 @@ invariant_of-self-2 g c =
     (on_ok c.change_archive.result ok c.change_archive.ensures.same) (on_ok c.change_archive.result ok c.change_archive.ensures.change.stored)
     (on_ok c.change_archive.result ok c.change_archive.ensures.change.calls.settled) c.change_archive.ensures.change.calls.time.nature)
 
-pub returns-then-self : goal.returns-then-self
-returns-then-self g c = record { call = λ client. call_stopped c.calls_follow_laws.ensures.ways g.D.Disk.state c.self.inside.log c.self.inside.disk c.args.self.now c.self.view_is c.self.invariant c.if-self.true client (calls.SetArchiveTail c.args.lsn) replies.Tail }
+pub returns-then-self-clause-call : goal.returns-then-self-clause-call
+returns-then-self-clause-call g c = λ client. call_stopped c.calls_follow_laws.ensures.ways g.D.Disk.state c.self.inside.log c.self.inside.disk c.args.self.now c.self.view_is c.self.invariant c.if-self.true client (calls.SetArchiveTail c.args.lsn) replies.Tail
 
-pub returns-in-Some : goal.returns-in-Some
-returns-in-Some g c = record {
-  call = λ client. call_refused c.calls_follow_laws.ensures.crashes c.calls_follow_laws.ensures.ways g.D.Disk.state c.self.inside.log c.self.inside.disk c.args.self.now c.self.view_is c.self.invariant c.if-self.false client
-      (calls.SetArchiveTail c.args.lsn) replies.Tail c.in-Some.refusal (sym c.tail_refusal.ensures ∙ c.in-Some.is);
-}
+pub returns-in-Some-clause-call : goal.returns-in-Some-clause-call
+returns-in-Some-clause-call g c = λ client. call_refused c.calls_follow_laws.ensures.crashes c.calls_follow_laws.ensures.ways g.D.Disk.state c.self.inside.log c.self.inside.disk c.args.self.now c.self.view_is c.self.invariant c.if-self.false client
+    (calls.SetArchiveTail c.args.lsn) replies.Tail c.in-Some.refusal (sym c.tail_refusal.ensures ∙ c.in-Some.is)
 
-pub returns-then-is_err : goal.returns-then-is_err
-returns-then-is_err g c = record {
-  call = λ client. stored_faulted c.calls_follow_laws.ensures.crashes c.calls_follow_laws.ensures.ways c.calls_follow_laws.ensures.valid g.D.Disk.state c.self.inside.log c.change_archive.new.self c.self.inside.disk c.change_archive.new.disk c.args.self.now c.self.view_is c.self.invariant c.if-self.false client
-      (calls.SetArchiveTail c.args.lsn) replies.Tail (with_archive (Some c.args.lsn) c.self.inside.log.state.value) (sym c.tail_refusal.ensures ∙ c.in_default.is) refl refl
-      c.change_archive.result (sym c.is_err.ensures.value ∙ c.if-is_err.true) c.change_archive.ensures.change.broken c.change_archive.ensures.change.meanwhile c.change_archive.ensures.change.calls.time c.change_archive.ensures.change.calls.cause c.change_archive.ensures.change.calls.steady;
-}
+pub returns-then-is_err-clause-call : goal.returns-then-is_err-clause-call
+returns-then-is_err-clause-call g c = λ client. stored_faulted c.calls_follow_laws.ensures.crashes c.calls_follow_laws.ensures.ways c.calls_follow_laws.ensures.valid g.D.Disk.state c.self.inside.log c.change_archive.new.self c.self.inside.disk c.change_archive.new.disk c.args.self.now c.self.view_is c.self.invariant c.if-self.false client
+    (calls.SetArchiveTail c.args.lsn) replies.Tail (with_archive (Some c.args.lsn) c.self.inside.log.state.value) (sym c.tail_refusal.ensures ∙ c.in_default.is) refl refl
+    c.change_archive.result (sym c.is_err.ensures.value ∙ c.if-is_err.true) c.change_archive.ensures.change.broken c.change_archive.ensures.change.meanwhile c.change_archive.ensures.change.calls.time c.change_archive.ensures.change.calls.cause c.change_archive.ensures.change.calls.steady
 
-pub returns : goal.returns
-returns g c = record {
-  call = λ client. stored_done c.calls_follow_laws.ensures.crashes c.calls_follow_laws.ensures.ways c.calls_follow_laws.ensures.valid g.D.Disk.state c.self.inside.log c.change_archive.new.self c.self.inside.disk c.change_archive.new.disk c.args.self.now c.self.view_is c.self.invariant c.if-self.false client
-      (calls.SetArchiveTail c.args.lsn) replies.Tail c.args.lsn refl (with_archive (Some c.args.lsn) c.self.inside.log.state.value) (sym c.tail_refusal.ensures ∙ c.in_default.is) refl refl
-      c.change_archive.result (sym c.is_err.ensures.value ∙ c.if-is_err.false) c.change_archive.ensures.change.state c.change_archive.ensures.change.stored c.change_archive.ensures.change.meanwhile c.change_archive.ensures.change.calls.time c.change_archive.ensures.change.calls.steady;
-}
+pub returns-clause-call : goal.returns-clause-call
+returns-clause-call g c = λ client. stored_done c.calls_follow_laws.ensures.crashes c.calls_follow_laws.ensures.ways c.calls_follow_laws.ensures.valid g.D.Disk.state c.self.inside.log c.change_archive.new.self c.self.inside.disk c.change_archive.new.disk c.args.self.now c.self.view_is c.self.invariant c.if-self.false client
+    (calls.SetArchiveTail c.args.lsn) replies.Tail c.args.lsn refl (with_archive (Some c.args.lsn) c.self.inside.log.state.value) (sym c.tail_refusal.ensures ∙ c.in_default.is) refl refl
+    c.change_archive.result (sym c.is_err.ensures.value ∙ c.if-is_err.false) c.change_archive.ensures.change.state c.change_archive.ensures.change.stored c.change_archive.ensures.change.meanwhile c.change_archive.ensures.change.calls.time c.change_archive.ensures.change.calls.steady
+
+pub returns-clause-current : goal.returns-clause-current
+returns-clause-current g c =
+    let ok = sym c.is_err.ensures.value ∙ c.if-is_err.false in
+    let state = on_ok c.change_archive.result ok c.change_archive.ensures.change.state in
+    current_on_disk (g.D.Disk.state c.change_archive.new.disk) c.change_archive.new.self (invariant_of-self-2 g c)
+    (ap (λ (u : State). u.broken) state ∙ c.self.invariant.broken ∙ c.if-self.false) (on_ok c.change_archive.result ok c.change_archive.ensures.current)

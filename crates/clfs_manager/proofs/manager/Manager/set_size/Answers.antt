@@ -1,5 +1,5 @@
 use Rattle.std.proofs.lemmas.Bool.Decides.{nat_tests}
-use Rattle.std.specs.Prelude.{◌==◌, Err, None, Result, not}
+use Rattle.std.specs.Prelude.{◌==◌, Err, None, Ok, Result, not}
 use Rattle.clfs_model.specs.Run.{asks}
 use Rattle.clfs_model.specs.declared.refusal.Refusal.{Refusal}
 use Rattle.clfs_manager.specs.Calls.{WritesAs}
@@ -15,11 +15,17 @@ use Rattle.clfs_model.specs.Refusals.{size_refusal}
 use Rattle.clfs_model.specs.Space.{with_containers}
 use Rattle.clfs_manager.proofs.FlushKeeps.{managed_broken}
 use Rattle.clfs_manager.proofs.Intact.{intact_managed, managed_intact, writes_seen}
+use Rattle.clfs_manager.proofs.CurrentCopy.{current_answered}
+use Rattle.clfs_physical.specs.declared.refusal.PhysicalRefusal.{PhysicalRefusal}
+use Rattle.clfs_manager.specs.Written.{CopyIsCurrent}
 use Rattle.clfs_manager.proofs.manager.Manager.set_size.Goals.{in-Ok, in-Err-DiskFault, in-Err-NoMemory}
 use Rattle.clfs_manager.proofs.manager.Manager.set_size.Goals as goal
 
 unlike : (a b : ℕ) → (a ≡ b → ⊥) → not (a == b) ≡ true
 unlike a b differs = grind (arith, nat_tests, differs)
+
+like : (a b : ℕ) → a ≡ b → not (a == b) ≡ true → ⊥
+like a b same differs = grind (arith, nat_tests, same, differs)
 
 pub resize-requires-clause-intact : goal.resize-requires-clause-intact
 resize-requires-clause-intact g c = intact_managed (g.D.Disk.state c.self.inside.disk) c.self.inside.log c.self.invariant c.if-self.false
@@ -89,3 +95,19 @@ returns-clause-call g c = λ client.
           (crash_not_grown c.calls_follow_laws.ensures.crashes g.D.Disk.state c.self.inside.log c.self.inside.disk c.args.self.now c.self.view_is c.self.invariant new
           (done.change.old_size refl)))
     ]
+
+pub returns-clause-current : goal.returns-clause-current
+returns-clause-current g c = λ called.
+    let new = g.D.Disk.state c.resize.new.disk in
+    let Current : Result ℕ Refusal → Type 0 = λ r. CopyIsCurrent r new in
+    elim c.match-resize.branch [
+      | in-Ok w ↦ subst Current (sym w.result-is) (current_answered {E = PhysicalRefusal} (Ok (tt {0})) new c.resize.new.self w.in-Ok.ensures.change.intact w.in-Ok.ensures.current)
+      | in-Err-DiskFault w ↦ subst Current (sym w.result-is) (tt {0})
+      | in-Err-NoMemory w ↦ subst Current (sym w.result-is) (tt {0})
+    ]
+
+pub returns-then-containers-clause-current : goal.returns-then-containers-clause-current
+returns-then-containers-clause-current g c = λ called.
+    let s : State = c.self.inside.log.state.value in
+    let changes : not (c.args.containers == s.containers) ≡ true = rw (← c.self.view_is) at called in
+    absurd (like c.args.containers s.containers (c.if-containers.true ∙ c.containers.ensures.value) changes)
