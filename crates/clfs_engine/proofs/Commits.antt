@@ -1,27 +1,33 @@
 -- What the members of a crowd do, one call after the other.
-use Rattle.std.proofs.Common.{◌≡◌, ℕ, ◌+◌, ◌-◌, ◌*◌, ◌≤◌, ◌<◌, Bool, true, false, refl, sym, ap, ap₂, subst, ◌∙◌, inl, inr, List, [], ◌∷◌, ◌++◌, length, map, arith, cond, append-nil, append_assoc}
-use Rattle.std.specs.Prelude.{All, count_by, sum_by, nat_lt, max}
+use Rattle.std.proofs.Common.{◌≡◌, ℕ, ◌+◌, ◌-◌, ◌*◌, ◌≤◌, ◌<◌, Bool, true, false, refl, sym, ap, ap₂, subst, ◌∙◌, inl, inr, List, [], ◌∷◌, ◌++◌, length, map, arith, cond, append-nil, append_assoc, length-append}
+use Rattle.std.specs.Prelude.{◌==◌, if◌then◌else◌, All, Contains, Result, Ok, Err, IfErr, count_by, sum_by, nat_lt, max}
 use mathlib.Core.List.{IsPrefix}
 use Rattle.std.proofs.lemmas.Bool.{cases_Bool, ltb-true, lt-ltb}
 use Rattle.std.proofs.lemmas.List.{length_push, map_push}
 use Rattle.std.proofs.lemmas.List.Sums.{sum_by-cons, sum_by_push}
-use Rattle.std.proofs.lemmas.List.Elements.{All-head, All-nil, All-push, All-same, All-tail}
+use Rattle.std.proofs.lemmas.List.Elements.{All-head, All-nil, All-push, All-same, All-tail, Contains-append_right, Contains-push}
 use Rattle.clfs_model.specs.declared.call.Call.{Call}
 use Rattle.clfs_model.specs.declared.call.Call.TheVariants as calls
 use Rattle.clfs_model.specs.declared.journal.Entry.{Entry}
+use Rattle.clfs_model.specs.declared.refusal.Refusal.{Refusal}
+use Rattle.clfs_model.specs.declared.refusal.Refusal.TheVariants as refusals
 use Rattle.clfs_model.specs.declared.reply.Reply.{Reply}
 use Rattle.clfs_model.specs.declared.reply.Reply.TheVariants as replies
 use Rattle.clfs_model.specs.Journals.{mine}
 use Rattle.clfs_model.specs.Valid.{IsValid}
 use Rattle.clfs_turn.specs.Seats.{IsSameSeat}
+use Rattle.clfs_shared.specs.declared.opening.Opening.{Opening}
+use Rattle.clfs_shared.specs.Counts.{most_calls}
 use Rattle.clfs_shared.specs.Journal.{entry_of, is_out_of_memory}
+use Rattle.clfs_shared.specs.Reached.{is_calm}
 use Rattle.clfs_shared.specs.Sessions.{SessionState, SharedState, IsOf, IsStepped, own_entries}
+use Rattle.clfs_group.specs.Answers.{flush_reply, placed_by, placed_lsns}
 use Rattle.clfs_group.specs.Groups.{HasFlushed}
 use Rattle.clfs_command.specs.Command.{most_crew_records, most_crew_threads}
 use Rattle.clfs_engine.specs.Crew.{is_placed, placed_in}
 use Rattle.clfs_engine.specs.Crowd.{is_placed_below, placed_below}
 use Rattle.clfs_engine.specs.Commits.{IsCrowdAppend, IsMember, MemberState, client_of_member, has_made, member_of}
-use Rattle.clfs_engine.specs.Work.{record_bytes}
+use Rattle.clfs_engine.specs.Work.{NeverFails, record_bytes}
 use Rattle.clfs_engine.proofs.Crews.{still_of}
 
 -- what is on the disk by what a session has seen is there when it has seen more
@@ -78,6 +84,7 @@ new_member log s t stream bytes area of same none eight z =
       mark = 0;
       flushed = λ last legal. omega arith;
       on_disk = omega arith;
+      answered = λ never short. refl;
     }
 
 -- one whose session has seen no more
@@ -95,14 +102,16 @@ kept_member stays log m t begin is same seen =
       mark = is.mark;
       flushed = stays m.session t is.mark begin same ([], append-nil m.session.seen ∙ sym seen) is.flushed;
       on_disk = subst (λ (es : List Entry). m.stable ≤ placed_below is.mark es) (sym own) is.on_disk;
+      answered = λ never short. is.answered never (subst (λ (es : List Entry). length es < most_calls) seen short);
     }
 
 -- one that has made an append more, and may have met others since
 more_member : (log : SharedState) (m : MemberState) (t u : SessionState) (call : Call) (reply : Reply) (records stable mark : ℕ) → IsMember log m
     → IsStepped m.session t call reply → IsCrowdAppend m.area call → IsSameSeat m.session u → own_entries u ≡ own_entries t
     → records ≡ m.records + one_if (is_placed call reply) → HasFlushed u mark
-    → stable ≤ placed_below mark (own_entries m.session) + one_if (is_placed_below mark call reply) → IsMember log (member_of u m.area records stable)
-more_member log m t u call reply records stable mark is z append same own count flushed few =
+    → stable ≤ placed_below mark (own_entries m.session) + one_if (is_placed_below mark call reply)
+    → (NeverFails log → length u.seen < most_calls → stable ≡ records) → IsMember log (member_of u m.area records stable)
+more_member log m t u call reply records stable mark is z append same own count flushed few answered =
     let e : Entry = entry_of m.session.client (length (own_entries m.session) + 1) call reply in
     let grew : own_entries u ≡ own_entries m.session ++ e ∷ [] = own ∙ z.grew in
     let counted = count_more (λ (x : Entry). is_placed x.call x.reply) (own_entries m.session) e in
@@ -120,6 +129,7 @@ more_member log m t u call reply records stable mark is z append same own count 
       mark = mark;
       flushed = flushed;
       on_disk = subst (λ (es : List Entry). stable ≤ placed_below mark es) (sym grew) least;
+      answered = answered;
     }
 
 seen_more : (s t : SessionState) (call : Call) (reply : Reply) → IsStepped s t call reply → IsPrefix s.seen t.seen
@@ -129,6 +139,13 @@ seen_more s t call reply z =
 
 prefix_on : (xs ys zs : List Entry) → IsPrefix xs ys → IsPrefix ys zs → IsPrefix xs zs
 prefix_on xs ys zs p q = (p.0 ++ q.0, sym (append_assoc xs p.0 q.0) ∙ (ap (λ w. w ++ q.0) p.1 ∙ q.1))
+
+-- entries of which there are few began with few
+pub was_short : (before after : List Entry) → IsPrefix before after → length after < most_calls → length before < most_calls
+was_short before after begins short =
+    let parts = length-append before begins.0 in
+    let all : length (before ++ begins.0) ≡ length after = ap length begins.1 in
+    omega (arith, parts, all, short)
 
 same_on : (s t u : SessionState) → IsSameSeat s t → IsSameSeat t u → IsSameSeat s u
 same_on s t u first second = record { lock = second.lock ∙ first.lock; client = second.client ∙ first.client; opening = second.opening ∙ first.opening }
@@ -149,26 +166,28 @@ unplaced_member stays log m t call reply begin is same append none step other =
     let zero = not_placed call reply other in
     let had = is.on_disk in
     more_member log m t t call reply m.records m.stable is.mark is z append same refl (omega (arith, zero))
-    (stays m.session t is.mark begin same (seen_more m.session t call reply z) is.flushed) (omega (arith, had)))
+    (stays m.session t is.mark begin same (seen_more m.session t call reply z) is.flushed) (omega (arith, had))
+    (λ never short. is.answered never (was_short m.session.seen t.seen (seen_more m.session t call reply z) short)))
 
 -- one whose append was, and which met the group then
 met_member : StaysSeen → (log : SharedState) (m : MemberState) (t u : SessionState) (call : Call) (lsn stable mark : ℕ) → IsMember log m
     → IsStepped m.session t call (replies.Placed lsn) → IsCrowdAppend m.area call → IsSameSeat m.session t → IsSameSeat t u → own_entries u ≡ own_entries t
     → HasFlushed u mark → stable ≤ placed_below mark (own_entries m.session) + one_if (is_placed_below mark call (replies.Placed lsn))
-    → IsMember log (member_of u m.area (m.records + 1) stable)
-met_member stays log m t u call lsn stable mark is z append same met own flushed few =
+    → (NeverFails log → length u.seen < most_calls → stable ≡ m.records + 1) → IsMember log (member_of u m.area (m.records + 1) stable)
+met_member stays log m t u call lsn stable mark is z append same met own flushed few answered =
     let one : one_if (is_placed call (replies.Placed lsn)) ≡ 1 = ap (λ (c : Call). one_if (is_placed c (replies.Placed lsn))) append.is in
-    more_member log m t u call (replies.Placed lsn) (m.records + 1) stable mark is z append (same_on m.session t u same met) own (omega (arith, one)) flushed few
+    more_member log m t u call (replies.Placed lsn) (m.records + 1) stable mark is z append (same_on m.session t u same met) own (omega (arith, one)) flushed few answered
 
+-- and to which the group gave no answer, which comes only where a client had all its calls
 pub placed_member : StaysSeen → (log : SharedState) (m : MemberState) (t u : SessionState) (call : Call) (lsn : ℕ) → IsValid m.session.opening.state → IsMember log m
     → IsStepped m.session t call (replies.Placed lsn) → IsCrowdAppend m.area call → IsSameSeat m.session t → IsSameSeat t u → IsPrefix t.seen u.seen
-    → own_entries u ≡ own_entries t → IsMember log (member_of u m.area (m.records + 1) m.stable)
-placed_member stays log m t u call lsn begin is z append same met seen own =
+    → own_entries u ≡ own_entries t → (NeverFails log → length u.seen < most_calls → ⊥) → IsMember log (member_of u m.area (m.records + 1) m.stable)
+placed_member stays log m t u call lsn begin is z append same met seen own full =
     let had = is.on_disk in
     met_member stays log m t u call lsn m.stable is.mark is z append same met own
     (stays m.session u is.mark begin (same_on m.session t u same met)
     (prefix_on m.session.seen t.seen u.seen (seen_more m.session t call (replies.Placed lsn) z) seen) is.flushed)
-    (omega (arith, had))
+    (omega (arith, had)) (λ never short. absurd (full never short))
 
 -- and was answered that its record is on the disk
 pub stable_member : StaysSeen → (log : SharedState) (m : MemberState) (t u : SessionState) (call : Call) (lsn answer : ℕ) → IsValid m.session.opening.state → IsMember log m
@@ -176,8 +195,8 @@ pub stable_member : StaysSeen → (log : SharedState) (m : MemberState) (t u : S
     → own_entries u ≡ own_entries t → lsn < answer → HasFlushed u answer → IsMember log (member_of u m.area (m.records + 1) (m.stable + 1))
 stable_member stays log m t u call lsn answer begin is z append same met seen own above flushed =
     let mark : ℕ = max is.mark answer in
-    let still = stays m.session u is.mark begin (same_on m.session t u same met)
-    (prefix_on m.session.seen t.seen u.seen (seen_more m.session t call (replies.Placed lsn) z) seen) is.flushed in
+    let begins = prefix_on m.session.seen t.seen u.seen (seen_more m.session t call (replies.Placed lsn) z) seen in
+    let still = stays m.session u is.mark begin (same_on m.session t u same met) begins is.flushed in
     let under : nat_lt lsn mark ≡ true = lt-ltb lsn mark (omega (arith, above)) in
     let one : one_if (is_placed_below mark call (replies.Placed lsn)) ≡ 1 =
     ap (λ (c : Call). one_if (is_placed_below mark c (replies.Placed lsn))) append.is ∙ ap (λ (b : Bool). one_if b) under in
@@ -185,7 +204,39 @@ stable_member stays log m t u call lsn answer begin is z append same met seen ow
     let rises = below_rises is.mark mark (omega arith) (own_entries m.session) in
     met_member stays log m t u call lsn (m.stable + 1) mark is z append same met own
     (λ last legal. let a = still last legal in let b = flushed last legal in omega (arith, a, b))
-    (omega (arith, had, rises, one))
+    (omega (arith, had, rises, one)) (λ never short. ap (λ (n : ℕ). n + 1) (is.answered never (was_short m.session.seen u.seen begins short)))
+
+-- ---- answers of the group
+
+placed_last : (es : List Entry) (e : Entry) (lsn : ℕ) → e.reply ≡ replies.Placed lsn → Contains (placed_lsns (es ++ e ∷ [])) lsn
+placed_last [] e lsn is = subst (λ (reply : Reply). Contains (placed_by reply ++ []) lsn) (sym is) (Contains-push [] lsn)
+placed_last (x ∷ es) e lsn is = Contains-append_right (placed_by x.reply) (placed_lsns (es ++ e ∷ [])) lsn (placed_last es e lsn is)
+
+refused_for_memory : (result : Result ℕ Refusal) → ((answer : ℕ) → result ≡ Ok answer → ⊥) → IfErr result (λ given. given ≡ refusals.NoMemory)
+    → is_out_of_memory (flush_reply result) ≡ true
+refused_for_memory (Ok answer) other memory = absurd (other answer refl)
+refused_for_memory (Err given) other memory = ap (λ (r : Refusal). is_out_of_memory (replies.Refused r)) memory
+
+own_few : (es : List Entry) (client : ℕ) → length (mine es client) ≤ length es
+own_few [] client = omega arith
+own_few (e ∷ es) client = by_test (e.client == client) (own_few es client)
+  where
+    by_test : (b : Bool) → length (mine es client) ≤ length es → length (if b then e ∷ mine es client else mine es client) ≤ length (e ∷ es)
+    by_test true few = omega (arith, few)
+    by_test false few = omega (arith, few)
+
+-- to a record that was just placed the group gives no answer only where its client had all its calls
+pub unanswered : (log : SharedState) (s t u : SessionState) (call : Call) (lsn client : ℕ) (result : Result ℕ Refusal) → IsOf log t
+    → IsStepped s t call (replies.Placed lsn) → ((answer : ℕ) → result ≡ Ok answer → ⊥)
+    → (is_calm t.opening ≡ true → t.opening.state.broken ≡ false → Contains (placed_lsns t.seen) lsn → IfErr result (λ given. given ≡ refusals.NoMemory))
+    → (is_out_of_memory (flush_reply result) ≡ true → most_calls ≤ length (mine u.seen client)) → NeverFails log → length u.seen < most_calls → ⊥
+unanswered log s t u call lsn client result of z other calm wanted never short =
+    let e : Entry = entry_of s.client (length (own_entries s) + 1) call (replies.Placed lsn) in
+    let there = subst (λ (es : List Entry). Contains (placed_lsns es) lsn) (sym z.ends) (placed_last z.before e lsn refl) in
+    let memory = calm (ap is_calm of.opening ∙ never.calm) (ap (λ (o : Opening). o.state.broken) of.opening ∙ never.unbroken) there in
+    let many = wanted (refused_for_memory result other memory) in
+    let few = own_few u.seen client in
+    omega (arith, many, few, short)
 
 -- it has made at most one call more
 pub made_more : (s t u : SessionState) (call : Call) (reply : Reply) → IsSameSeat s t → (is_out_of_memory reply ≡ true → t.seen ≡ s.seen)

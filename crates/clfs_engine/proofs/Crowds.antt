@@ -1,5 +1,5 @@
 -- What a crowd leaves: what its members counted, read off the journal that closing its log hands out.
-use Rattle.std.proofs.Common.{◌≡◌, ◌≢◌, ℕ, suc, ◌+◌, ◌*◌, ◌≤◌, Bool, true, false, refl, sym, ap, subst, ◌∙◌, inl, inr, List, [], ◌∷◌, ◌++◌, length, map, arith, cond, zero, drop, append_assoc}
+use Rattle.std.proofs.Common.{◌≡◌, ◌≢◌, ℕ, suc, ◌+◌, ◌*◌, ◌<◌, ◌≤◌, Bool, true, false, refl, sym, ap, subst, ◌∙◌, inl, inr, List, [], ◌∷◌, ◌++◌, length, map, arith, cond, zero, drop, append_assoc}
 use Rattle.std.specs.Prelude.{◌||◌, ◌&&◌, ◌⊎◌, ◌==◌, not, if◌then◌else◌, All, AllPairs, Option, Some, None, find, is_some, nat_lt, count_by, slice_index_or, sum_by}
 use Rattle.std.specs.List.{AllByRecursion, list_any}
 use Rattle.std.proofs.lemmas.Bool.{cases_Bool, eqb-true, eq-eqb, le-leb, ltb-true}
@@ -35,18 +35,19 @@ use Rattle.clfs_model.specs.declared.journal.Entry.{Entry}
 use Rattle.clfs_model.specs.Journals.{GoesOn, IsLegal, held_after, held_through, mine}
 use Rattle.clfs_turn.specs.Lists.{are_distinct, is_in}
 use Rattle.clfs_turn.specs.Seats.{HasSeen}
+use Rattle.clfs_shared.specs.Counts.{most_calls}
 use Rattle.clfs_shared.specs.Journal.{client_of, has_damage, has_fault, is_damage, is_fault}
 use Rattle.clfs_shared.specs.Sessions.{SessionState, SharedState, own_entries}
 use Rattle.clfs_engine.specs.Crowd.{IsCrowdText, crowd_log, crowd_text, is_any_append_refused, is_placed_below, is_refused_append, placed_below}
 use Rattle.clfs_engine.specs.Crew.{is_placed, placed_in}
-use Rattle.clfs_engine.proofs.Commits.{below_rises}
+use Rattle.clfs_engine.proofs.Commits.{below_rises, was_short}
 use Rattle.clfs_group.specs.Groups.{HasFlushed}
 use Rattle.clfs_shared.specs.declared.opening.Opening.{Opening}
 use Rattle.clfs_model.specs.Flush.{flushed}
 use mathlib.Core.List.{IsPrefix}
 use Rattle.clfs_engine.proofs.Crews.{HeldLaw}
 use Rattle.clfs_engine.specs.Commits.{IsCrowdAppend, IsMember, IsQuiet, MadeArea, has_made, MemberState, is_quiet_work}
-use Rattle.clfs_engine.specs.Work.{IsCrewRecord, record_bytes}
+use Rattle.clfs_engine.specs.Work.{IsCrewRecord, NeverFails, record_bytes}
 
 -- ---- sums
 
@@ -622,6 +623,7 @@ All-unmap P f (m ∷ members) ended all =
 -- a crowd's log that was closed
 pub record Closing (log : SharedState) (threads count : ℕ) (members : List MemberState) (ended : SessionState) (journal : List Entry) (last : State) : Type 0 where
   pub begins : log.opening.state ≡ crowd_log
+  pub never : NeverFails log
   pub tells : log.opening.tells_contents ≡ true
   pub valid : IsValid log.opening.state
   pub apart : are_distinct log.clients ≡ true
@@ -685,6 +687,15 @@ counts_are stays log threads count members ended journal last z =
         let V : Opening → Type 0 = λ o. IsValid o.state in
         stays m.session is.mark journal last (subst V (sym is.of.opening) z.valid) seen.begins (subst F (sym is.of.opening) z.legal) is.flushed
 
+-- where the journal has fewer calls than a client may make, each member was answered for all of its records
+all_answered : (log : SharedState) (threads count : ℕ) (members : List MemberState) (ended : SessionState) (journal : List Entry) (last : State)
+    → Closing log threads count members ended journal last → length journal < most_calls
+    → sum_by (λ (m : MemberState). m.stable) members ≡ sum_by (λ (m : MemberState). m.records) members
+all_answered log threads count members ended journal last z short =
+    let seen_by = All-unmap (λ (s : SessionState). HasSeen client_of journal s) (λ (m : MemberState). m.session) members ended z.seen in
+    sum_same (λ (m : MemberState). m.stable) (λ (m : MemberState). m.records) members
+    (λ k d less. (z.are k d less).0.answered z.never (was_short (slice_index_or members k d).session.seen journal (seen_by k d less).begins short))
+
 -- nothing happened in a journal without faults and without damage
 pub fine_entries : (journal : List Entry) → has_fault journal ≡ false → has_damage journal ≡ false → AllByRecursion (λ (e : Entry). e.happened ≡ Fine) journal
 fine_entries [] faults damages = tt
@@ -735,8 +746,9 @@ known_of stays unbroken log threads count members ended journal last z legal =
 pub tells_crowd : PlainTakes → MadeIsThere → NoneGiven → NoBadLine → FineReplies → FrontsAreLegal → StaysValid → HeldLaw → StaysBelow → StaysUnbroken
     → (log : SharedState) (threads count records stable : ℕ) (members : List MemberState) (ended : SessionState) (journal : List Entry) (last : State) (text : List ℕ)
     → Closing log threads count members ended journal last → records ≡ sum_by (λ (m : MemberState). m.records) members
-    → stable ≡ sum_by (λ (m : MemberState). m.stable) members → text ≡ crowd_text threads count records stable → IsCrowdText threads count text
-tells_crowd takes made none_given bad fine fronts stays_valid held stays unbroken log threads count records stable members ended journal last text z is_records is_stable is =
+    → stable ≡ sum_by (λ (m : MemberState). m.stable) members → length journal < most_calls → text ≡ crowd_text threads count records stable
+    → IsCrowdText threads count text
+tells_crowd takes made none_given bad fine fronts stays_valid held stays unbroken log threads count records stable members ended journal last text z is_records is_stable short is =
     let legal : IsLegal true journal crowd_log last = subst (λ (s : State). IsLegal true journal s last) z.begins
     (subst (λ (b : Bool). IsLegal b journal log.opening.state last) z.tells z.legal) in
     let counts = counts_are stays log threads count members ended journal last z in
@@ -753,6 +765,7 @@ tells_crowd takes made none_given bad fine fronts stays_valid held stays unbroke
           (known_of stays unbroken log threads count members ended journal last z legal) legal;
       placed = placed ∙ sym is_records;
       on_disk = omega (arith, is_stable, on_disk);
+      answered = is_stable ∙ (all_answered log threads count members ended journal last z short ∙ sym is_records);
       few = omega (arith, placed, is_records, appends, fewer);
       is = is;
     }

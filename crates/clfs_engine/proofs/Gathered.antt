@@ -162,6 +162,7 @@ closes log threads count records stable sessions journal last disk begins never 
     let pushed = length_push (map of_session g.members) g.ended in
     let by_members = length-map g.members of_session in record {
       begins = begins;
+      never = never;
       tells = tells;
       valid = valid;
       apart = apart;

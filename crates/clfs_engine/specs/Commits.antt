@@ -1,15 +1,16 @@
 -- What the members of a crowd do by their sessions.
-use Rattle.std.specs.Prelude.{◌≡◌, ℕ, ◌-◌, ◌≤◌, Bool, true, false, List, [], ◌∷◌, ◌++◌, length, map, sum_by, All}
+use Rattle.std.specs.Prelude.{◌≡◌, ℕ, ◌-◌, ◌<◌, ◌≤◌, Bool, true, false, List, [], ◌∷◌, ◌++◌, length, map, sum_by, All}
 use Rattle.clfs_model.specs.declared.call.Call.{Call}
 use Rattle.clfs_model.specs.declared.call.Call.TheVariants as calls
 use Rattle.clfs_model.specs.declared.call.Draft.{Draft}
 use Rattle.clfs_model.specs.declared.journal.Entry.{Entry}
 use Rattle.clfs_model.specs.declared.reply.Reply.TheVariants as replies
+use Rattle.clfs_shared.specs.Counts.{most_calls}
 use Rattle.clfs_shared.specs.Sessions.{SessionState, SharedState, IsOf, own_entries}
 use Rattle.clfs_group.specs.Groups.{HasFlushed}
 use Rattle.clfs_engine.specs.Crew.{placed_in}
 use Rattle.clfs_engine.specs.Crowd.{placed_below}
-use Rattle.clfs_engine.specs.Work.{IsCrewRecord, record_bytes}
+use Rattle.clfs_engine.specs.Work.{IsCrewRecord, NeverFails, record_bytes}
 
 -- a member of a crowd: its session, its area, how many records it appended, and of how many of them the group answered that they are on the disk
 pub record MemberState : Type 0 where
@@ -43,7 +44,8 @@ abbrev pub has_made : MemberState → ℕ
 has_made member = length (own_entries member.session) - 1
 
 -- A member of a crowd over this log. Its own entries are the making of its area and then appends by it. Of those that were answered with an LSN at least
--- so many lie below an LSN below which all is on the disk, in each state to which its entries lead.
+-- so many lie below an LSN below which all is on the disk, in each state to which its entries lead. Over a log that never fails these are all of them, where
+-- its session has seen fewer calls than a client may make.
 pub record IsMember (log : SharedState) (member : MemberState) : Type 0 where
   pub of : IsOf log member.session
   pub made : Entry
@@ -55,6 +57,7 @@ pub record IsMember (log : SharedState) (member : MemberState) : Type 0 where
   pub mark : ℕ
   pub flushed : HasFlushed member.session mark
   pub on_disk : member.stable ≤ placed_below mark (own_entries member.session)
+  pub answered : NeverFails log → length member.session.seen < most_calls → member.stable ≡ member.records
 
 -- ---- the end
 

@@ -46,8 +46,8 @@ crew_text threads count records held =
     codes "crew " ++ (decimal threads ++ (codes " " ++ (decimal count ++ (codes " records " ++ (decimal records
     ++ (codes " held " ++ (decimal held ++ codes "\n")))))))
 
--- A crew's log took the calls of a journal, and this text tells what came of them. Out of memory is no entry of a journal; so each append that isn't
--- counted was answered so, and its sector is still held.
+-- A crew's log took the calls of a journal, and this text tells what came of them. None was refused, so the appends that aren't counted are no entries of
+-- it; an append that there is no memory for is none. Their sectors are still held.
 pub record IsCrewText (threads count : ℕ) (text : List ℕ) : Type 0 where
   pub journal : List Entry
   pub last : State

@@ -48,8 +48,8 @@ crowd_text threads count records stable =
     codes "crowd " ++ (decimal threads ++ (codes " " ++ (decimal count ++ (codes " records " ++ (decimal records
     ++ (codes " stable " ++ (decimal stable ++ codes "\n")))))))
 
--- A crowd's log took the calls of a journal, and this text tells what came of them. Out of memory is no entry of a journal, and no append was refused
--- otherwise; so each append that isn't counted was answered so.
+-- A crowd's log took the calls of a journal, and this text tells what came of them. No append was refused, so those that aren't counted are no entries of
+-- it; an append that there is no memory for is none.
 pub record IsCrowdText (threads count : ℕ) (text : List ℕ) : Type 0 where
   pub journal : List Entry
   pub last : State
@@ -63,6 +63,8 @@ pub record IsCrowdText (threads count : ℕ) (text : List ℕ) : Type 0 where
   pub placed : placed_in journal ≡ records
   -- at least so many of these records are on the disk at its end
   pub on_disk : stable ≤ placed_below (flushed last) journal
+  -- and these are all: a flush takes no memory
+  pub answered : stable ≡ records
   -- there are no more than were asked for
   pub few : records ≤ threads * count
   pub is : text ≡ crowd_text threads count records stable

@@ -2,7 +2,8 @@
 //
 // The log is made for the crowd. Each thread has a client of its own, and client 64 makes the flushes of all. When the threads are done the log is closed,
 // and what they counted is then read off its journal: the records are its appends that were answered with an LSN, and those that the group answered for
-// lie below what is on the disk at its end. No append was refused: the log has a sector for each of them.
+// lie below what is on the disk at its end. No append was refused: the log has a sector for each of them. The group answered for each: a flush takes no
+// memory. A full journal alone could have had no room for it, so closing the log looks whether this one may have been.
 ghost use Rattle.std.specs.Prelude.{◌≡◌, ℕ, ◌+◌, ◌≤◌, ◌<◌, true, [], length, map, slice_index_or, All, IfOk, OnOk};
 ghost use Rattle.clfs_command.specs.Command.{most_crew_threads, most_crew_records};
 ghost use Rattle.clfs_disk.specs.State.{TellsContents, IsSteady};
@@ -30,7 +31,7 @@ use clfs_model::{Call, Draft, Reply};
 use clfs_operations::{made_log, push_number};
 use clfs_ports::Sink;
 use clfs_recover::whole_files_pass_the_test;
-use clfs_shared::{Closed, Session, SharedLog, ToldJournal};
+use clfs_shared::{Closed, Recorder, Session, SharedLog, ToldJournal};
 use std::alloc::{AllocError, Global};
 use std::marker::Brand;
 use std::sync::Wait;
@@ -46,6 +47,9 @@ const CLIENTS: [u16; 9] = [8, 7, 6, 5, 4, 3, 2, 1, 64];
 
 /// The bytes of a record.
 const RECORD_BYTES: u32 = 8;
+
+// A journal of fewer calls has room for a further one of each client.
+const MOST_CALLS: u64 = 1 << 57;
 
 // Opens the stream of the crowd, and answers its number.
 fn opened_stream<D: Disk, W: Wait>(
@@ -177,7 +181,7 @@ fn gathered<D: Disk + Send + Drop, W: Threads + Wait + Sync>(
     })
 }
 
-// Closes the log of a crowd that is done, and gives the line that is printed.
+// Closes the log of a crowd that is done, and gives the line that is printed. A journal that may have been full is taken as out of memory.
 fn closed<D: Disk + Send + Drop>(
     alloc: Global,
     log: SharedLog<D, ToldJournal>,
@@ -208,11 +212,11 @@ fn closed<D: Disk + Send + Drop>(
         records,
         stable,
     } = totals;
-    let Closed {
-        manager,
-        journal: _,
-    } = log.close(sessions);
+    let Closed { manager, journal } = log.close(sessions);
     let _disk = manager.close();
+    if journal.count() >= MOST_CALLS {
+        return Err(AllocError);
+    }
     crowd_text(alloc, threads, count, records, stable)
 }
 

@@ -5,7 +5,8 @@ use Rattle.clfs_model.specs.Valid.{IsValid}
 use Rattle.clfs_shared.specs.declared.opening.Opening.{Opening}
 use Rattle.clfs_engine.specs.Commits.{IsCrowdAppend, IsMember, MemberState, has_made, member_of}
 use Rattle.clfs_engine.specs.Work.{IsCrewRecord}
-use Rattle.clfs_engine.proofs.Commits.{made_more, placed_member, stable_member, unplaced_member}
+use Rattle.clfs_engine.proofs.Commits.{made_more, placed_member, stable_member, unanswered, unplaced_member}
+use Rattle.clfs_engine.proofs.Crews.{still_of}
 use Rattle.clfs_engine.proofs.members.Member.commit.Goals as goal
 
 pub returns-in_default-step : goal.returns-in_default-step
@@ -43,6 +44,9 @@ returns-in_default-stable-clause-member g c =
     } in
     placed_member c.what_is_stable_stays.ensures.seen c.args.log.now m c.step.new.session c.stable.new.session call c.in-Placed.lsn begin is
     (c.in-Placed.ensures.step refl) append c.step.ensures.same c.stable.ensures.same c.stable.ensures.seen c.stable.ensures.own
+    (unanswered c.args.log.now f.session c.step.new.session c.stable.new.session call c.in-Placed.lsn g.N.GroupName.session.client c.stable.result
+    (still_of c.args.log.now f.session c.step.new.session is.of c.step.ensures.same) (c.in-Placed.ensures.step refl) c.in_default-stable.not-Ok
+    c.stable.ensures.calm c.stable.ensures.wanted)
 
 pub returns-in_default-stable-clause-made : goal.returns-in_default-stable-clause-made
 returns-in_default-stable-clause-made g c =
