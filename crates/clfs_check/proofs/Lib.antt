@@ -1,3 +1,4 @@
 mod Readings
 mod Lengths
 mod Reports
+mod Faults

@@ -1,7 +1,8 @@
 // Judging a log: the walk of opening with counts alone, and then the lengths of its files.
-ghost use Rattle.std.specs.Prelude.{◌≡◌, OnOk, IfOk, IsErrOf};
+ghost use Rattle.std.specs.Prelude.{◌≡◌, OnOk, IfOk, IfErr, IsErrOf};
 ghost use Rattle.clfs_disk.specs.Files.{Unchanged};
 ghost use Rattle.clfs_disk.specs.State.{TellsContents, IsHonest, IsSteady, IsSettled, Passes, Rises};
+ghost use Rattle.clfs_recover.specs.Telling.{TellsOpening};
 ghost use Rattle.clfs_check.specs.Reporting.{IsChecked, IsReportOfLog};
 
 use crate::length::are_whole;
@@ -18,6 +19,8 @@ use std::alloc::Global;
 /// why there is no log, exactly as opening does. It calls no write of the disk.
 pub fn check<D: Disk>(alloc: Global, disk: &mut D) -> Result<Report, LoadRefusal>
     ensures exact { TellsContents (D.state disk.old) → IsChecked (D.state disk.old).files result }
+    // Whatever the disk, damage is told of some bytes that fail at just that place: of a base copy, or of a block of a container that it lists.
+    ensures place { IfErr result TellsOpening }
     ensures log { IfOk result IsReportOfLog }
     ensures settled { OnOk result (IsHonest (D.state disk.old) → IsSettled (D.state disk.new)) }
     ensures same { Unchanged (D.state disk.old).files (D.state disk.new).files }

@@ -15,7 +15,7 @@ use Rattle.clfs_share.specs.declared.clients.EndedClient.{EndedClient}
 use Rattle.clfs_share.specs.declared.openers.Openers as Openers
 use Rattle.clfs_lines.specs.Answering.{Writes, WritesFront}
 use Rattle.clfs_operations.specs.Ends.{disk_fault_text}
-use Rattle.clfs_operations.specs.Opened.{RefusesLog, IsNoLogText, IsRefusalText}
+use Rattle.clfs_operations.specs.Opened.{RefusesLog, IsUnopenedText, IsRefusalText}
 use Rattle.clfs_operations.specs.Race.{LeavesFiles}
 use Rattle.clfs_operations.specs.Raced.{HasTaken}
 
@@ -94,7 +94,7 @@ pub record EndsSharing (Serves : Serving) (status buffers : ℕ) (old new : Disk
   pub no_memory : status ≡ 5 → LeavesFiles old new
   pub no_memory_silence : status ≡ 5 → Appends written written_after []
   -- the files aren't a log's, and the line that says so was written
-  pub no_log : status ≡ 6 → Writes (IsNoLogText old new) written written_after
+  pub no_log : status ≡ 6 → Writes (IsUnopenedText old new) written written_after
   -- no client has ended then
   pub unopened : (status ≡ 3) ⊎ ((status ≡ 5) ⊎ (status ≡ 6)) → ends ≡ []
   -- the count of faults never falls

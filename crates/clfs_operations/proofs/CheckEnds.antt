@@ -3,6 +3,7 @@ use Rattle.std.proofs.Common.{◌≡◌, ℕ, ◌⊎◌, List, refl, subst, inl,
 use Rattle.std.specs.Prelude.{Option}
 use Rattle.clfs_disk.specs.Files.{Unchanged}
 use Rattle.clfs_disk.specs.State.{DiskState, Passes}
+use Rattle.clfs_recover.specs.Telling.{TellsOpening}
 use Rattle.clfs_recover.specs.declared.refusal.LoadRefusal.{LoadRefusal}
 use Rattle.clfs_check.specs.declared.report.Report.{Report}
 use Rattle.clfs_operations.specs.Check.{ReportsLog, IsReportText, TellsReport, EndsCheck, IsCheckStatus, report_text}
@@ -59,8 +60,8 @@ not_done status (inr (inr (inr e))) f = omega (arith, e, f)
 
 -- no log was found
 pub refusal_checks : (status : ℕ) (refusal : LoadRefusal) (old new : DiskState) (written written' : Option (List ℕ)) (sink sink' : ℕ)
-    → RefusesLog refusal old new → TellsRefusal status refusal written written' sink sink' → EndsCheck status old new written written' sink sink'
-refusal_checks status refusal old new written written' sink sink' refuses tells =
+    → RefusesLog refusal old new → TellsOpening refusal → TellsRefusal status refusal written written' sink sink' → EndsCheck status old new written written' sink sink'
+refusal_checks status refusal old new written written' sink sink' refuses place tells =
     let statuses = refused_statuses status refusal tells.statuses in record {
       statuses = check_status status statuses;
       done = λ e. absurd (not_done status statuses e);
@@ -72,7 +73,7 @@ refusal_checks status refusal old new written written' sink sink' refuses tells 
       no_log = λ e.
           let is = no_log_by status refusal tells.statuses e in
           let line = tells.line (λ f. omega (arith, e, f)) (λ f. omega (arith, e, f)) in
-          (refusal_line refusal, record { refusal = refusal; no_log = is; refuses = refuses; line = no_log_line refusal is }, line);
+          (refusal_line refusal, record { no_log = record { refusal = refusal; no_log = is; refuses = refuses; line = no_log_line refusal is }; place = place }, line);
       same = refuses.same;
       time = refuses.time;
       sink_count = tells.sink_count;
@@ -94,4 +95,4 @@ checking_is_done one status old new written written' sink sink' ends calm = by_s
     by_status (inr (inl e)) = absurd (calm.sink_calm (ends.sink_fault e))
     by_status (inr (inr (inl e))) = by_disk e
     by_status (inr (inr (inr (inl e)))) = inr e
-    by_status (inr (inr (inr (inr e)))) = absurd (let found = ends.no_log e in is_a_log one found.1.refusal old new calm.log found.1.no_log found.1.refuses)
+    by_status (inr (inr (inr (inr e)))) = absurd (let found = ends.no_log e in is_a_log one found.1.no_log.refusal old new calm.log found.1.no_log.no_log found.1.no_log.refuses)

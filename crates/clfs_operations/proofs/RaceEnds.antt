@@ -9,6 +9,7 @@ use Rattle.clfs_disk.specs.State.{DiskState}
 use Rattle.clfs_model.specs.Accepted.{race_limits, accepted}
 use Rattle.clfs_model.specs.declared.journal.Entry.{Entry}
 use Rattle.clfs_model.specs.declared.state.State.{State}
+use Rattle.clfs_recover.specs.Telling.{TellsOpening}
 use Rattle.clfs_recover.specs.declared.refusal.LoadRefusal.{LoadRefusal}
 use Rattle.clfs_race.specs.Divided.{IsDivided}
 use Rattle.clfs_race.specs.Scripts.{race_requests, bad_line_text, journal_text}
@@ -234,9 +235,9 @@ race_without_memory buffers disk left left' written source source' sink read cou
 
 -- why it wasn't opened is told as serving tells it
 pub race_refused : (status buffers : ℕ) (refusal : LoadRefusal) (old new : DiskState) (left left' written written' : Option (List ℕ)) (source source' sink sink' : ℕ)
-    → RefusesLog refusal old new → TellsRefusal status refusal written written' sink sink' → TakesBytes left left' → source ≤ source'
+    → RefusesLog refusal old new → TellsOpening refusal → TellsRefusal status refusal written written' sink sink' → TakesBytes left left' → source ≤ source'
     → EndsRacing status buffers old new left left' written written' source source' sink sink'
-race_refused status buffers refusal old new left left' written written' source source' sink sink' refuses tells read count =
+race_refused status buffers refusal old new left left' written written' source source' sink sink' refuses place tells read count =
     let statuses = refused_statuses status refusal tells.statuses in record {
       statuses = serve_status status statuses;
       done = λ e. absurd (not_answered status 0 statuses e (inl refl));
@@ -251,7 +252,7 @@ race_refused status buffers refusal old new left left' written written' source s
       no_log = λ e.
           let is = no_log_by status refusal tells.statuses e in
           let line = tells.line (λ f. omega (arith, e, f)) (λ f. omega (arith, e, f)) in
-          (refusal_line refusal, record { refusal = refusal; no_log = is; refuses = refuses; line = no_log_line refusal is }, line);
+          (refusal_line refusal, record { no_log = record { refusal = refusal; no_log = is; refuses = refuses; line = no_log_line refusal is }; place = place }, line);
       too_long = λ e. absurd (not_answered status 7 statuses e (inr (inr refl)));
       read = read;
       source_count = count;

@@ -108,7 +108,7 @@ module _ (one : AreOne) (law : AreFine) (status buffers : ℕ) (old new : DiskSt
   by_status (inl (inr (inr (inr (inr e))))) =
       (let long = ends.too_long e in absurd (passes_none race_limits left left' calm.script long.1.bytes calm.given calm.within long.1.given))
   by_status (inr (inl e)) = absurd (no_disk_fault old new (ends.disk_fault e) calm.disk)
-  by_status (inr (inr e)) = absurd (let found = ends.no_log e in is_a_log one found.1.refusal old new calm.log found.1.no_log found.1.refuses)
+  by_status (inr (inr e)) = absurd (let found = ends.no_log e in is_a_log one found.1.no_log.refusal old new calm.log found.1.no_log.no_log found.1.no_log.refuses)
 
   pub race_comes_through : RaceComesThrough status buffers old new left left' written written'
   race_comes_through = record {

@@ -2,6 +2,7 @@
 use Rattle.std.proofs.Common.{◌≡◌, ◌≢◌, ℕ, ◌⊎◌, Bool, true, false, List, refl, subst, inl, inr, arith}
 use Rattle.std.specs.Prelude.{Option}
 use Rattle.clfs_disk.specs.State.{DiskState}
+use Rattle.clfs_recover.specs.Telling.{TellsOpening}
 use Rattle.clfs_recover.specs.declared.refusal.LoadRefusal.{LoadRefusal}
 use Rattle.clfs_recover.specs.declared.refusal.LoadRefusal.TheVariants.{NoBase, Damaged, DiskFault, NoMemory}
 use Rattle.clfs_model.specs.Accepted.{Limits}
@@ -159,9 +160,9 @@ refusal_text DiskFault old new refuses other = inr (refuses, refl)
 refusal_text NoMemory old new refuses other = absurd (other refl)
 
 pub refusal_serves : (limits : Limits) (incomplete : IncompleteLine) (status buffers : ℕ) (refusal : LoadRefusal) (old new : DiskState) (left written written' : Option (List ℕ)) (source sink sink' : ℕ)
-    → RefusesLog refusal old new → TellsRefusal status refusal written written' sink sink'
+    → RefusesLog refusal old new → TellsOpening refusal → TellsRefusal status refusal written written' sink sink'
     → EndsServing limits incomplete status buffers old new left left written written' source source sink sink'
-refusal_serves limits incomplete status buffers refusal old new left written written' source sink sink' refuses tells =
+refusal_serves limits incomplete status buffers refusal old new left written written' source sink sink' refuses place tells =
     let statuses = refused_statuses status refusal tells.statuses in record {
       statuses = serve_status status statuses;
       done = λ e. absurd (not_answered status 0 statuses e (inl refl));
@@ -175,7 +176,7 @@ refusal_serves limits incomplete status buffers refusal old new left written wri
       no_log = λ e.
           let is = no_log_by status refusal tells.statuses e in
           let line = tells.line (λ f. omega (arith, e, f)) (λ f. omega (arith, e, f)) in
-          (refusal_line refusal, record { refusal = refusal; no_log = is; refuses = refuses; line = no_log_line refusal is }, line);
+          (refusal_line refusal, record { no_log = record { refusal = refusal; no_log = is; refuses = refuses; line = no_log_line refusal is }; place = place }, line);
       too_long = λ e. absurd (not_answered status 7 statuses e (inr (inr refl)));
       unread = λ e. (refl, refl);
       source_count = omega arith;

@@ -10,6 +10,7 @@ use Rattle.clfs_model.specs.declared.refusal.Refusal.TheVariants as log_refusals
 use Rattle.clfs_model.specs.declared.state.State.{State}
 use Rattle.clfs_manager.specs.Written.{WritesDisk}
 use Rattle.clfs_recover.specs.Files.{AreWholeFiles}
+use Rattle.clfs_recover.specs.Telling.{TellsOpening}
 use Rattle.clfs_recover.specs.declared.refusal.LoadRefusal.{LoadRefusal}
 use Rattle.clfs_cells.specs.declared.told.TxnLoadRefusal.{TxnLoadRefusal}
 use Rattle.clfs_cells.specs.declared.told.TxnLoadRefusal.TheVariants.{Log, NotATable}
@@ -318,9 +319,9 @@ table_refusal_ends status cause old new left written written' source sink sink' 
 -- ---- the log wasn't opened
 
 pub log_refusal_ends : (status : ℕ) (refusal : LoadRefusal) (old new : DiskState) (left written written' : Option (List ℕ)) (source sink sink' : ℕ)
-    → RefusesLog refusal old new → TellsRefusal status refusal written written' sink sink'
+    → RefusesLog refusal old new → TellsOpening refusal → TellsRefusal status refusal written written' sink sink'
     → EndsTxn status old new left left written written' source source sink sink'
-log_refusal_ends status refusal old new left written written' source sink sink' refuses tells =
+log_refusal_ends status refusal old new left written written' source sink sink' refuses place tells =
     let statuses = refused_statuses status refusal tells.statuses in record {
       statuses = log_status statuses;
       done = λ e. absurd (not_answered status 0 statuses e (inl refl));
@@ -334,7 +335,7 @@ log_refusal_ends status refusal old new left written written' source sink sink' 
       no_log = λ e.
           let is = no_log_by status refusal tells.statuses e in
           let line = tells.line (λ f. omega (arith, e, f)) (λ f. omega (arith, e, f)) in
-          (refusal_line refusal, record { refusal = refusal; no_log = is; refuses = refuses; line = no_log_line refusal is }, line);
+          (refusal_line refusal, record { no_log = record { refusal = refusal; no_log = is; refuses = refuses; line = no_log_line refusal is }; place = place }, line);
       too_long = λ e. absurd (not_answered status 7 statuses e (inr (inr refl)));
       no_table = λ e. absurd (other statuses 9 e (λ f. omega (arith, f)) (λ f. omega (arith, f)) (λ f. omega (arith, f)) (λ f. omega (arith, f)));
       refused = λ e. absurd (other statuses 10 e (λ f. omega (arith, f)) (λ f. omega (arith, f)) (λ f. omega (arith, f)) (λ f. omega (arith, f)));

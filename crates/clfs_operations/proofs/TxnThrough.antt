@@ -61,7 +61,7 @@ module _ (one : AreOne) (status : ℕ) (old new : DiskState) (left left' written
     | inl log ↦ absurd (no_disk_fault old new log calm.disk)
     | inr table ↦ absurd (no_table_fault old new calm.log table calm.disk)
   ]
-  by_status (inr (inr (inl e))) = absurd (let found = ends.no_log e in is_a_log one found.1.refusal old new calm.log found.1.no_log found.1.refuses)
+  by_status (inr (inr (inl e))) = absurd (let found = ends.no_log e in is_a_log one found.1.no_log.refusal old new calm.log found.1.no_log.no_log found.1.no_log.refuses)
   by_status (inr (inr (inr (inl e)))) = inr (inl e)
   by_status (inr (inr (inr (inr e)))) = inr (inr e)
 

@@ -3,6 +3,7 @@ use Rattle.std.proofs.Common.{◌≡◌, ℕ, ◌⊎◌, List, subst, inl, inr, 
 use Rattle.std.specs.Prelude.{Option}
 use Rattle.std.specs.Io.KnownBytes.{Appends}
 use Rattle.clfs_disk.specs.State.{DiskState}
+use Rattle.clfs_recover.specs.Telling.{TellsOpening}
 use Rattle.clfs_recover.specs.declared.refusal.LoadRefusal.{LoadRefusal}
 use Rattle.clfs_operations.specs.Opened.{RefusesLog, TellsRefusal, refusal_line}
 use Rattle.clfs_operations.specs.Unopened.{EndsUnopened}
@@ -15,8 +16,8 @@ in_order status (inr (inr (inl e))) = inl e
 in_order status (inr (inr (inr e))) = inr (inr (inl e))
 
 pub told_ends : (status : ℕ) (refusal : LoadRefusal) (old new : DiskState) (written written' : Option (List ℕ)) (sink sink' : ℕ)
-    → RefusesLog refusal old new → TellsRefusal status refusal written written' sink sink' → EndsUnopened status old new written written' sink sink'
-told_ends status refusal old new written written' sink sink' refuses tells = record {
+    → RefusesLog refusal old new → TellsOpening refusal → TellsRefusal status refusal written written' sink sink' → EndsUnopened status old new written written' sink sink'
+told_ends status refusal old new written written' sink sink' refuses place tells = record {
   statuses = in_order status (refused_statuses status refusal tells.statuses);
   sink_fault = tells.sink_fault;
   sink_fault_front = λ e. let front = tells.sink_fault_front e in (refusal_line refusal, refusal_text refusal old new refuses front.0, front.1);
@@ -29,6 +30,6 @@ told_ends status refusal old new written written' sink sink' refuses tells = rec
   no_log = λ e.
       let is = no_log_by status refusal tells.statuses e in
       let line = tells.line (λ f. omega (arith, e, f)) (λ f. omega (arith, e, f)) in
-      (refusal_line refusal, record { refusal = refusal; no_log = is; refuses = refuses; line = no_log_line refusal is }, line);
+      (refusal_line refusal, record { no_log = record { refusal = refusal; no_log = is; refuses = refuses; line = no_log_line refusal is }; place = place }, line);
   sink_count = tells.sink_count;
 }

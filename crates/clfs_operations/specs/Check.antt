@@ -10,7 +10,7 @@ use Rattle.clfs_check.specs.Reporting.{IsReport, IsReportOfLog}
 use Rattle.clfs_check.specs.declared.report.Report.{Report}
 use Rattle.clfs_lines.specs.Ends.{AppendsFront}
 use Rattle.clfs_operations.specs.Ends.{disk_fault_text}
-use Rattle.clfs_operations.specs.Opened.{RefusesLog, IsNoLogText, IsRefusalText}
+use Rattle.clfs_operations.specs.Opened.{RefusesLog, IsUnopenedText, IsRefusalText}
 use Rattle.clfs_lines.specs.Answering.{Writes, WritesFront}
 
 -- what a report counts
@@ -71,7 +71,7 @@ pub record EndsCheck (status : ℕ) (old new : DiskState) (written written_after
   -- memory ran out, and nothing was written
   pub no_memory_silence : status ≡ 5 → Appends written written_after []
   -- the files aren't a log's, and the line that says so was written
-  pub no_log : status ≡ 6 → Writes (IsNoLogText old new) written written_after
+  pub no_log : status ≡ 6 → Writes (IsUnopenedText old new) written written_after
   -- whatever the status no file changed, and no image
   pub same : Unchanged old.files new.files
   pub time : Passes Unchanged old new

@@ -5,6 +5,7 @@ use Rattle.std.specs.Fmt.{decimal}
 use Rattle.clfs_disk.specs.Files.{Unchanged}
 use Rattle.clfs_disk.specs.State.{DiskState, TellsContents, IsSteady, Passes, Rises}
 use Rattle.clfs_recover.specs.Opening.{IsRefused}
+use Rattle.clfs_recover.specs.Telling.{TellsOpening}
 use Rattle.clfs_recover.specs.declared.refusal.LoadRefusal.{LoadRefusal}
 use Rattle.clfs_recover.specs.declared.refusal.LoadRefusal.TheVariants.{NoBase, Damaged, DiskFault, NoMemory}
 use Rattle.clfs_ports.specs.Cause as ports
@@ -38,6 +39,12 @@ pub record IsNoLogText (old new : DiskState) (text : List ℕ) : Type 0 where
   pub no_log : IsNoLog refusal
   pub refuses : RefusesLog refusal old new
   pub line : text ≡ no_log_text refusal
+
+-- The same of a log that wasn't opened. Whatever the disk, damage is told of some bytes that fail at just that place: of a base copy, or of a block of a
+-- container that it lists.
+pub record IsUnopenedText (old new : DiskState) (text : List ℕ) : Type 0 where
+  pub no_log : IsNoLogText old new text
+  pub place : TellsOpening no_log.refusal
 
 -- The log wasn't opened, and this is the line that says why.
 abbrev pub IsRefusalText : DiskState → DiskState → List ℕ → Type 0

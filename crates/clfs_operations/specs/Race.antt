@@ -8,7 +8,7 @@ use Rattle.clfs_model.specs.Accepted.{race_limits, is_within}
 use Rattle.clfs_recover.specs.declared.refusal.LoadRefusal.TheVariants.{DiskFault}
 use Rattle.clfs_race.specs.Taken.{TakesBytes}
 use Rattle.clfs_operations.specs.Ends.{disk_fault_text}
-use Rattle.clfs_operations.specs.Opened.{RefusesLog, IsNoLogText, IsRefusalText}
+use Rattle.clfs_operations.specs.Opened.{RefusesLog, IsUnopenedText, IsRefusalText}
 use Rattle.clfs_operations.specs.Raced.{IsRaced, IsRacedInPart}
 use Rattle.clfs_lines.specs.Answering.{Answers, IsWholeAnswer, IsAnswerUpToFault, IsAnswerUpToLimit, Writes, WritesFront}
 use Rattle.clfs_operations.specs.Serve.{IsServeStatus}
@@ -58,7 +58,7 @@ pub record EndsRacing (status buffers : ℕ) (old new : DiskState) (left left_af
   pub no_memory : status ≡ 5 → LeavesFiles old new
       ⊎ ((lines : List (List ℕ)) × (AreReached race_limits Counts left left_after lines × IsRacedInPart buffers old new lines))
   -- the files aren't a log's, and the line that says so was written
-  pub no_log : status ≡ 6 → Writes (IsNoLogText old new) written written_after
+  pub no_log : status ≡ 6 → Writes (IsUnopenedText old new) written written_after
   -- what the source gave passes a limit; the lines that came whole before it are answered, and then the line that says so
   pub too_long : status ≡ 7 → Writes (IsAnswerUpToLimit race_limits (IsRaced buffers old new) left left_after) written written_after
   -- the script is read before the log is opened

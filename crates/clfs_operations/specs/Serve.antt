@@ -9,7 +9,7 @@ use Rattle.clfs_recover.specs.declared.refusal.LoadRefusal.TheVariants.{DiskFaul
 use Rattle.clfs_operations.specs.Answered.{IsAnswered, IsAnsweredInPart}
 use Rattle.clfs_lines.specs.Ends.{AppendsFront}
 use Rattle.clfs_operations.specs.Ends.{disk_fault_text}
-use Rattle.clfs_operations.specs.Opened.{RefusesLog, IsNoLogText, IsRefusalText}
+use Rattle.clfs_operations.specs.Opened.{RefusesLog, IsUnopenedText, IsRefusalText}
 use Rattle.clfs_lines.specs.Answering.{Writes, WritesFront, IsWholeAnswer, IsAnswerUpToFault, IsAnswerUpToLimit, StopsShort, StopsAtFault, IsAnswerStatus}
 use Rattle.clfs_lines.specs.declared.incomplete.IncompleteLine.{IncompleteLine}
 
@@ -53,7 +53,7 @@ pub record EndsServing (limits : Limits) (incomplete : IncompleteLine) (status b
   pub no_memory : status ≡ 5 → StaysUnopened old new left left_after written written_after
       ⊎ StopsShort limits incomplete (IsAnsweredInPart buffers old new false) left left_after written written_after
   -- the files aren't a log's, and the line that says so was written
-  pub no_log : status ≡ 6 → Writes (IsNoLogText old new) written written_after
+  pub no_log : status ≡ 6 → Writes (IsUnopenedText old new) written written_after
   -- what the source gave passes a limit; the lines that came whole before it are answered, and then the line that says so
   pub too_long : status ≡ 7 → Writes (IsAnswerUpToLimit limits (IsAnswered buffers old new) left left_after) written written_after
   -- the source isn't read before the log is opened

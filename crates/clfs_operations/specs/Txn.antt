@@ -30,7 +30,7 @@ use Rattle.clfs_lines.specs.declared.incomplete.IncompleteLine.TheVariants.{Coun
 use Rattle.clfs_lines.specs.Ends.{AppendsFront}
 use Rattle.clfs_operations.specs.Complete.{IsDone}
 use Rattle.clfs_operations.specs.Ends.{disk_fault_text}
-use Rattle.clfs_operations.specs.Opened.{RefusesLog, IsNoLogText, IsRefusalText}
+use Rattle.clfs_operations.specs.Opened.{RefusesLog, IsUnopenedText, IsRefusalText}
 use Rattle.clfs_operations.specs.Serve.{StaysUnopened}
 use Rattle.clfs_operations.specs.TxnCrashed.{IsLoadingLeft, IsServingLeft}
 
@@ -217,7 +217,7 @@ pub record EndsTxn (status : ℕ) (old new : DiskState) (left left_after written
       ⊎ (StaysUnloaded old new left left_after written written_after
       ⊎ StopsShort serve_limits Counts (IsTableAnsweredInPart old new false) left left_after written written_after)
   -- the files aren't a log's, and the line that says so was written
-  pub no_log : status ≡ 6 → Writes (IsNoLogText old new) written written_after
+  pub no_log : status ≡ 6 → Writes (IsUnopenedText old new) written written_after
   -- what the source gave passes a limit; the lines that came whole before it are answered, and then the line that says so
   pub too_long : status ≡ 7 → Writes (IsAnswerUpToLimit serve_limits (IsTableAnswered old new) left left_after) written written_after
   -- the stream is no table, and the line that names the record was written

@@ -6,7 +6,7 @@ use Rattle.clfs_disk.specs.State.{DiskState}
 use Rattle.clfs_recover.specs.declared.refusal.LoadRefusal.TheVariants.{DiskFault}
 use Rattle.clfs_lines.specs.Answering.{Writes, WritesFront}
 use Rattle.clfs_operations.specs.Ends.{disk_fault_text}
-use Rattle.clfs_operations.specs.Opened.{RefusesLog, IsNoLogText, IsRefusalText}
+use Rattle.clfs_operations.specs.Opened.{RefusesLog, IsUnopenedText, IsRefusalText}
 use Rattle.clfs_operations.specs.Race.{LeavesFiles}
 
 -- The log wasn't opened: what each status says of the disk, before and after, of the bytes that the sink has taken, and of its count of faults.
@@ -22,6 +22,6 @@ pub record EndsUnopened (status : ℕ) (old new : DiskState) (written written_af
   pub no_memory : status ≡ 5 → LeavesFiles old new
   pub no_memory_silence : status ≡ 5 → Appends written written_after []
   -- the files aren't a log's, and the line that says so was written
-  pub no_log : status ≡ 6 → Writes (IsNoLogText old new) written written_after
+  pub no_log : status ≡ 6 → Writes (IsUnopenedText old new) written written_after
   -- the count of faults never falls
   pub sink_count : sink ≤ sink_after

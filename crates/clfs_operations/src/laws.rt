@@ -3,6 +3,7 @@ ghost use Rattle.std.specs.Prelude.{ℕ, List, Option};
 ghost use Rattle.clfs_disk.specs.State.{Later};
 ghost use Rattle.clfs_model.specs.declared.journal.Entry.{Entry};
 ghost use Rattle.clfs_model.specs.declared.state.State.{State};
+ghost use Rattle.clfs_recover.specs.Telling.{TellsOpening};
 ghost use Rattle.clfs_recover.specs.declared.refusal.LoadRefusal.{LoadRefusal};
 ghost use Rattle.clfs_shared.specs.Reached.{opening_of, IsReached};
 ghost use Rattle.clfs_operations.specs.Archiving.{EndsArchive};
@@ -34,7 +35,7 @@ pub fn memory_runs_out_at_once<D: Disk>()
 /// What was told of a log that wasn't opened, by the status.
 pub fn unopened_logs_are_told<D: Disk>()
     ensures { (status : ℕ) (refusal : LoadRefusal) (old new : D) (written written_after : Option (List ℕ)) (sink sink_after : ℕ)
-        → RefusesLog refusal (D.state old) (D.state new) → TellsRefusal status refusal written written_after sink sink_after
+        → RefusesLog refusal (D.state old) (D.state new) → TellsOpening refusal → TellsRefusal status refusal written written_after sink sink_after
         → EndsUnopened status (D.state old) (D.state new) written written_after sink sink_after }
 {}
 

@@ -2,6 +2,7 @@ use Rattle.std.proofs.Common.{◌∙◌, sym, ap}
 use Rattle.clfs_recover.specs.Opening.{parts_of}
 use Rattle.clfs_recover.specs.Walk.{shape_of}
 use Rattle.clfs_recover.specs.Whole.{are_long}
+use Rattle.clfs_check.proofs.Faults.{faults_told}
 use Rattle.clfs_check.proofs.Lengths.{long_files}
 use Rattle.clfs_check.proofs.Readings.{settled_still, tells_still}
 use Rattle.clfs_check.proofs.Reports.{small_place, few_records, few_blocks, reports, reports_log}
@@ -52,3 +53,6 @@ pub returns-clause-settled : goal.returns-clause-settled
 returns-clause-settled g c honest =
     settled_still g.D.Disk.state c.calls_join.ensures c.walk.new.disk c.are_whole.new.disk (c.in_ok-walked.ensures.settled honest)
     c.in_ok-whole.ensures.reads.time c.in_ok-whole.ensures.reads.same
+
+pub returns-in_err-whole-clause-place : goal.returns-in_err-whole-clause-place
+returns-in_err-whole-clause-place g c = faults_told c.from_residual-in_err-whole.result c.from_residual-in_err-whole.ensures.1

@@ -20,7 +20,7 @@ returns-in-Err g c =
       same = load.same_refused.0;
       time = load.same_refused.1;
     })
-    c.refused.ensures)
+    load.place c.refused.ensures)
     refl)
 
 -- all clients have ended

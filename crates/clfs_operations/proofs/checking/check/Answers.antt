@@ -13,7 +13,7 @@ pub returns-in-Err-clause-ends : goal.returns-in-Err-clause-ends
 returns-in-Err-clause-ends g c =
     let checked = c.in-Err.ensures in
     refusal_checks c.refused.result c.in-Err.refusal (g.D.Disk.state c.args.disk) (g.D.Disk.state c.check.new.disk) _ _ _ _
-    (record { is = checked.exact; cause = λ e. checked.cause (ap Err e); steady = λ s e. (checked.steady s).0 (ap Err e); same = checked.same; time = checked.time }) c.refused.ensures
+    (record { is = checked.exact; cause = λ e. checked.cause (ap Err e); steady = λ s e. (checked.steady s).0 (ap Err e); same = checked.same; time = checked.time }) checked.place c.refused.ensures
 
 pub returns-in-Ok-clause-complete : goal.returns-in-Ok-clause-complete
 returns-in-Ok-clause-complete g c =

@@ -62,7 +62,7 @@ returns-clause-ends g c =
       same = load.same_refused.0;
       time = load.same_refused.1;
     })
-    c.refused.ensures (c.in-Ok.script.bytes.items, c.in-Ok.ensures.taken) c.in-Ok.ensures.count
+    load.place c.refused.ensures (c.in-Ok.script.bytes.items, c.in-Ok.ensures.taken) c.in-Ok.ensures.count
 
 pub returns-in-Ok-load-clause-complete : goal.returns-in-Ok-load-clause-complete
 returns-in-Ok-load-clause-complete g c =

@@ -45,7 +45,7 @@ returns-in-Err-clause-ends g c =
       same = load.same_refused.0;
       time = load.same_refused.1;
     })
-    c.refused.ensures
+    load.place c.refused.ensures
 
 pub returns-in-Ok-clause-complete : goal.returns-in-Ok-clause-complete
 returns-in-Ok-clause-complete g c =

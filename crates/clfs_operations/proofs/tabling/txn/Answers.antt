@@ -18,7 +18,7 @@ returns-in-Err-clause-ends g c =
       same = load.same_refused.0;
       time = load.same_refused.1;
     })
-    c.refused-status.ensures
+    load.place c.refused-status.ensures
 
 pub returns-in-Ok-load-clause-ends : goal.returns-in-Ok-load-clause-ends
 returns-in-Ok-load-clause-ends g c =
