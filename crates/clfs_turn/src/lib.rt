@@ -14,8 +14,8 @@
 //! the entry that the job added by one addition to COUNT, and releases HELD. The addition is the moment from which
 //! on the entry stands in the history: another seat can see it after that alone, by a call of its own or by meeting
 //! a seat that has seen it. A job that added no entry posts nothing. A thread that finds HELD at 1 parks on the word
-//! until a release wakes it, and then tries again. Whether its turn ever comes depends on the others, so nothing is
-//! said of that.
+//! until a release wakes it, and then tries again. Where no thread is counted as asleep a release makes no system
+//! call. Whether a thread's turn ever comes depends on the others, so nothing is said of that.
 //!
 //! # Why one seat at most has the turn
 //!

@@ -18,12 +18,15 @@ use std::marker::Model;
 use std::mem;
 use std::snapshot::Snapshot;
 use std::sync::Wait;
+use std::sync::atomic::AtomicU64;
 
 /// The lock, with the value after it. Contracts see it as which lock it is, the state in which its
 /// history began, and its clients.
 #[derive(Drop)]
 pub struct Turn<V: Logged<E, O>, E, O> {
     table: Table<Option<V>, View<E, O>, Roll<V>, OneHistory, Global>,
+    // How many threads wait for the turn asleep.
+    asleep: AtomicU64,
 }
 
 impl<V: Logged<E, O>, E, O> Model for Turn<V, E, O> {
@@ -80,7 +83,8 @@ impl<V: Logged<E, O>, E, O> Turn<V, E, O> {
         match Table::new(alloc, &[0, 0], slots, &roll) {
             Ok((table, dealer)) => {
                 deal(&table.shared, dealer, clients, &mut seats);
-                Ok((Turn { table }, seats))
+                let asleep = AtomicU64::new(0);
+                Ok((Turn { table, asleep }, seats))
             }
             Err(Refused { mut slots }) => {
                 let value = slots.pop().unwrap().unwrap();
@@ -109,7 +113,7 @@ impl<V: Logged<E, O>, E, O> Turn<V, E, O> {
         let table = &self.table.shared;
         let badge = mem::replace(&mut seat.badge, Badge::blank());
         let mut place = badge.into_seat::<Option<V>>();
-        let answer = with_turn(rt, table, &mut place, job);
+        let answer = with_turn(rt, table, &self.asleep, &mut place, job);
         seat.badge = place.into_badge();
         answer
     }
@@ -148,7 +152,7 @@ impl<V: Logged<E, O>, E, O> Turn<V, E, O> {
         ensures others { (c : ℕ) → is_in c self.clients ≡ false → entries_of V.client_of c (V.entries result) ≡ [] }
         ensures lawful { V.reached self.opening result }
     {
-        let Turn { table } = self;
+        let Turn { table, asleep: _ } = self;
         let place = gather(&table.shared, seats);
         let mut closed = table.close_with(place);
         let value = closed.take(VALUE).unwrap();
