@@ -7,7 +7,12 @@
 // none has, it waits no more. It does so only if the turn before served several, so a client that is alone never waits, and one that stays away is
 // waited for once.
 //
-// A thread that comes sleeps where its kind waits for as long as it must. Who leaves wakes one thread of the kind that comes next, if one of it waits. The
+// A quick call that finds another one being made doesn't sleep at once: most of them take less than a microsecond, and a thread that sleeps and is woken loses
+// more than the two system calls, since its client's process goes on with it on another processor. So it looks for a moment whether that call has ended, hands
+// the processor on once, looks a little longer, and then tries again. It does so as long as calls end, a few times at most, and then sleeps. While it looks it
+// isn't counted among those that wait, and nobody wakes it. A call that finds a flush being made sleeps at once.
+//
+// A thread sleeps where its kind waits for as long as it must. Who leaves wakes one thread of the kind that comes next, if one of it waits. The
 // clauses of waiting.rt say that this one need not wait on, or that one which has come since need not. That it is woken is no clause, and that nobody's
 // wake is lost isn't either. It is so because a thread counts itself among those that wait, and looks whether it must, under the same lock under which
 // the one that leaves counts them, and stays counted while it sleeps. So who leaves and wakes nobody has seen nobody wait. Who comes after that finds no call
@@ -15,6 +20,7 @@
 // flush gathers, it is awake itself, and comes next when it has.
 use crate::waiting::{Clients, Kind, Waiting};
 use clfs_model::Call;
+use std::hint::spin_loop;
 use std::sync::atomic::{AtomicU64, Ordering};
 use std::sync::{Condvar, Mutex, Wait};
 use std::thread::yield_now;
@@ -27,6 +33,26 @@ const MOST_YIELDS: u32 = 8;
 // The processor's hint for such loops isn't in it, since its time differs tenfold from one processor to another.
 const LOOKS: u32 = 400_000;
 
+// How often a quick call tries to be let in, at most, before it sleeps.
+const MOST_TRIES: u32 = 16;
+
+// How often it looks whether the call that is being made has ended, before it hands the processor on and after that, with the processor's hint for such loops.
+// The first is longer than most quick calls take, the second some tens of microseconds: one of them may write a block.
+const FIRST_LOOKS: u32 = 50;
+
+const FURTHER_LOOKS: u32 = 1_000;
+
+// What a quick call finds that comes.
+#[derive(Clone, Copy)]
+enum Entry {
+    // It is let in.
+    In,
+    // Another quick call is being made, and this many have ended so far.
+    Soon(u64),
+    // A flush is being made or comes first.
+    Late,
+}
+
 /// Calls that wait, and where each kind of them sleeps.
 #[derive(Drop)]
 pub(crate) struct Order {
@@ -35,6 +61,18 @@ pub(crate) struct Order {
     flushing: Condvar,
     // How many flushes have come, which is read without the lock. It may begin anew at 0.
     come: AtomicU64,
+    // How many calls have ended, likewise.
+    ended: AtomicU64,
+}
+
+// Of which kind one is to be woken, if some call waits. One is enough, since it need not wait on.
+fn to_wake(waiting: &Waiting) -> Option<Kind> {
+    let next = waiting.next();
+    if waiting.count(next) > 0 {
+        Some(next)
+    } else {
+        None
+    }
 }
 
 /// Of which kind a call is.
@@ -56,6 +94,7 @@ impl Order {
             quick: Condvar::new(),
             flushing: Condvar::new(),
             come: AtomicU64::new(0),
+            ended: AtomicU64::new(0),
         }
     }
 
@@ -67,16 +106,61 @@ impl Order {
         }
     }
 
-    // Wakes a call of the kind that comes next, if one waits. One is enough, since it need not wait on.
-    fn wake_next(&self, waiting: &Waiting) {
-        let next = waiting.next();
-        if waiting.count(next) > 0 {
-            self.place(next).notify_one();
+    // Wakes one call of this kind, if there is a kind.
+    fn wake(&self, kind: Option<Kind>) {
+        if let Some(kind) = kind {
+            self.place(kind).notify_one();
         }
+    }
+
+    // Lets a quick call in, if it need not wait.
+    fn try_quick<R: Wait>(&self, rt: &R) -> Entry {
+        let mut waiting = self.waiting.lock(rt);
+        if !waiting.must_wait(Kind::Quick) {
+            waiting.come();
+            waiting.go_in();
+            Entry::In
+        } else if waiting.makes_quick() {
+            Entry::Soon(self.ended.load(Ordering::SeqCst))
+        } else {
+            Entry::Late
+        }
+    }
+
+    // Looks so often whether more calls have ended.
+    fn more_ended(&self, seen: u64, looks: u32) -> bool {
+        for _ in 0..looks {
+            if self.ended.load(Ordering::SeqCst) != seen {
+                return true;
+            }
+            spin_loop();
+        }
+        false
+    }
+
+    // Whether the quick call that is being made ends in a moment.
+    fn ends_soon(&self, seen: u64) -> bool {
+        if self.more_ended(seen, FIRST_LOOKS) {
+            return true;
+        }
+        yield_now();
+        self.more_ended(seen, FURTHER_LOOKS)
     }
 
     // Waits until a quick call may be made.
     fn enter_quick<R: Wait>(&self, rt: &R) {
+        for _ in 0..MOST_TRIES {
+            match self.try_quick(rt) {
+                Entry::In => return,
+                Entry::Soon(seen) if self.ends_soon(seen) => {}
+                _ => break,
+            }
+        }
+        self.sleep_quick(rt);
+    }
+
+    // Sleeps until a quick call may be made.
+    fn sleep_quick<R: Wait>(&self, rt: &R) {
         let mut waiting = self.waiting.lock(rt);
         waiting.come();
         let mut waiting = self
@@ -95,7 +179,7 @@ impl Order {
             .wait_while(rt, waiting, |w| w.must_wait(Kind::Flushing));
         let gathers = waiting.begin_gathering();
         if gathers {
-            self.wake_next(&waiting);
+            self.wake(to_wake(&waiting));
         } else {
             waiting.go_in_to_flush(client);
         }
@@ -155,10 +239,17 @@ impl Order {
         }
     }
 
-    /// The call is made. One that waits is woken, if there is one.
-    pub fn leave<R: Wait>(&self, rt: &R) {
+    // The call is made. Answers of which kind one is to be woken.
+    fn end_call<R: Wait>(&self, rt: &R) -> Option<Kind> {
         let mut waiting = self.waiting.lock(rt);
         waiting.leave();
-        self.wake_next(&waiting);
+        self.ended.fetch_add(1, Ordering::SeqCst);
+        to_wake(&waiting)
+    }
+
+    /// The call is made. One that waits is woken, if there is one, when the lock is free again.
+    pub fn leave<R: Wait>(&self, rt: &R) {
+        let kind = self.end_call(rt);
+        self.wake(kind);
     }
 }

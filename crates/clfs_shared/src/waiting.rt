@@ -3,7 +3,7 @@
 // Contracts say what a call of each kind finds (`is_let_in`): where none is made and some wait, the kind that comes next has one that waits, and it need
 // not wait on. So to wake one of that kind is enough. A call that comes before the woken one looks lets it in still, or is let in itself. That the woken
 // one looks, and which of one kind does first, no contract says.
-ghost use Rattle.std.specs.Prelude.{◌≡◌, ◌+◌, ◌-◌, ◌^◌, ◌<◌, true, false, not, min, if◌then◌else◌};
+ghost use Rattle.std.specs.Prelude.{◌≡◌, ◌+◌, ◌-◌, ◌^◌, ◌<◌, true, false, not, ◌&&◌, min, if◌then◌else◌};
 ghost use Rattle.clfs_shared.specs.Waiting as waits;
 
 /// The two kinds of calls.
@@ -135,6 +135,13 @@ impl Waiting {
     {
         let others_wait = self.gathering == Gathering::UnderWay || self.count(other_than(kind)) > 0;
         self.busy || others_wait && self.first() != kind
+    }
+
+    /// A quick call is being made.
+    pub fn makes_quick(&self) -> bool
+        ensures { result ≡ self.now.busy && waits.is_same_kind self.now.serves Kind.Quick }
+    {
+        self.busy && self.serves == Kind::Quick
     }
 
     /// A quick call waits.
