@@ -1,50 +1,21 @@
 -- A log with a stream more, in memory and on the disk.
-use Rattle.std.proofs.Common.{◌≡◌, ℕ, zero, suc, ◌+◌, ◌-◌, ◌<◌, ◌≤◌, Bool, true, false, refl, sym, ap, subst, ◌∙◌, inl, inr, List, [], ◌∷◌, ◌++◌, length, map, arith}
-use Rattle.std.specs.Prelude.{Option, Some, None, Result, Ok, Err, IfOk, IfErr, filter, slice_get, if◌then◌else◌, ◌&&◌, ◌==◌, nat_le, nat_lt, not, is_none}
+use Rattle.clfs_manager.proofs.Words.{◌≡◌, ℕ, zero, suc, ◌+◌, ◌-◌, ◌<◌, ◌≤◌, Bool, true, false, refl, sym, ap, subst, ◌∙◌, inl, inr, List, [], ◌∷◌, ◌++◌}
+use Rattle.clfs_manager.proofs.Words.{length, map, arith, Option, Some, None, Result, Ok, Err, IfOk, IfErr, filter, slice_get, if◌then◌else◌, ◌&&◌, ◌==◌}
+use Rattle.clfs_manager.proofs.Words.{nat_le, nat_lt, not, is_none, option_map_or, option_to_list, cases_Bool, nat_tests, null_lsn, container_of, least_or}
+use Rattle.clfs_manager.proofs.Words.{frontier, LogEntry, Stream, DiskState, IsName, row_in, BaseImage, Row, Refusal, Fine, State, Outcome, answer, outcome}
+use Rattle.clfs_manager.proofs.Words.{block_start, heads_of, AreSealed, Tabled, Holds, hold, is_live, base_of, open_refusal, refusal, refused_if}
+use Rattle.clfs_manager.proofs.Words.{stream_number, stream_number_from, Step, GoesTheseWays, Buffered, Blocks, streams_with, IsLogWith, stored_state, Steps}
+use Rattle.clfs_manager.proofs.Words.{IsManaged, IsStored, AreKept, IsNotAdded, with_stream, IsIntact, Log}
 use Rattle.std.specs.List.{list_all, position_or_len}
-use Rattle.std.specs.Option.{option_map_or, option_to_list}
 use Rattle.std.specs.Str.{bytes_eq}
-use Rattle.std.proofs.lemmas.Bool.{cases_Bool}
-use Rattle.std.proofs.lemmas.Bool.Decides.{nat_tests}
 use Rattle.std.proofs.lemmas.Slice.Eq.{bytes_eq-Decides}
 use Rattle.clfs_lsn.specs.Limits.{longest_name, most_streams}
-use Rattle.clfs_lsn.specs.Lsn.{null_lsn, container_of}
-use Rattle.clfs_lsn.specs.Heads.{least_or}
 use Rattle.clfs_lsn.specs.Names.{is_name_byte}
-use Rattle.clfs_lsn.specs.Place.{frontier}
-use Rattle.clfs_lsn.specs.declared.entry.LogEntry.{LogEntry}
-use Rattle.clfs_lsn.specs.declared.stream.Stream.{Stream}
-use Rattle.clfs_disk.specs.State.{DiskState}
-use Rattle.clfs_base.specs.Spelling.{IsName, row_in}
-use Rattle.clfs_base.specs.declared.image.BaseImage.{BaseImage}
-use Rattle.clfs_base.specs.declared.image.Row.{Row}
 use Rattle.clfs_model.specs.declared.call.Call.TheVariants as calls
-use Rattle.clfs_model.specs.declared.refusal.Refusal.{Refusal}
 use Rattle.clfs_model.specs.declared.refusal.Refusal.TheVariants as refusals
-use Rattle.clfs_model.specs.declared.reply.Happened.TheVariants.{Fine}
 use Rattle.clfs_model.specs.declared.reply.Reply.TheVariants as replies
-use Rattle.clfs_model.specs.declared.state.State.{State}
-use Rattle.clfs_model.specs.Answers.{Outcome, answer, outcome}
-use Rattle.clfs_model.specs.Flush.{block_start}
-use Rattle.clfs_model.specs.Heads.{heads_of}
-use Rattle.clfs_archive.specs.Blocks.{AreSealed}
-use Rattle.clfs_tables.specs.Tables.{HasSame, Tabled}
-use Rattle.clfs_manager.specs.Memory.{Holds}
-use Rattle.clfs_model.specs.Live.{hold, is_live}
-use Rattle.clfs_model.specs.State.{base_of}
-use Rattle.clfs_model.specs.Refusals.{name_fault, open_refusal, refusal, refused_if, stream_number}
-use Rattle.clfs_lsn.specs.Streams.{stream_number_from}
-use Rattle.clfs_model.specs.Step.{Step}
-use Rattle.clfs_model.specs.Ways.{GoesTheseWays}
-use Rattle.clfs_buffers.specs.Buffered.{Buffered}
-use Rattle.clfs_physical.specs.Stored.{Blocks}
-use Rattle.clfs_base.specs.Streams.{streams_with}
-use Rattle.clfs_recover.specs.Logs.{IsLogWith, stored_state}
-use Rattle.clfs_manager.specs.Calls.{Steps}
-use Rattle.clfs_manager.specs.OnDisk.{IsManaged, IsStored, AreKept}
-use Rattle.clfs_manager.specs.Streams.{IsNotAdded, with_stream}
-use Rattle.clfs_manager.specs.Written.{IsIntact}
-use Rattle.clfs_manager.specs.declared.log.Log.{Log}
+use Rattle.clfs_tables.specs.Tables.{HasSame}
+use Rattle.clfs_model.specs.Refusals.{name_fault}
 use Rattle.clfs_manager.proofs.FlushKeeps.{ReopensStorable, ReopensValid, managed_broken}
 use Rattle.clfs_manager.proofs.Intact.{managed_intact}
 

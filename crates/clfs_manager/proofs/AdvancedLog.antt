@@ -1,20 +1,9 @@
 -- Moving a base as a call of the machine, in which a flush is another one.
-use Rattle.std.proofs.Common.{◌≡◌, ℕ, true, false, sym, ap, ◌∙◌}
-use Rattle.std.specs.Prelude.{None}
+use Rattle.clfs_manager.proofs.Words.{◌≡◌, ℕ, true, false, sym, ap, ◌∙◌, None, Refusal, Fine, Fault, State, Outcome, answer, outcome, flush}
+use Rattle.clfs_manager.proofs.Words.{happened_of_refusal, refusal, Step, GoesTheseWays, is_of_call, with_base}
 use Rattle.clfs_model.specs.declared.call.Call.TheVariants as calls
-use Rattle.clfs_model.specs.declared.refusal.Refusal.{Refusal}
 use Rattle.clfs_model.specs.declared.refusal.Refusal.TheVariants as refusals
-use Rattle.clfs_model.specs.declared.reply.Happened.TheVariants.{Fine, Fault}
 use Rattle.clfs_model.specs.declared.reply.Reply.TheVariants as replies
-use Rattle.clfs_model.specs.declared.state.State.{State}
-use Rattle.clfs_model.specs.Answers.{Outcome, answer, outcome}
-use Rattle.clfs_model.specs.Flush.{flush}
-use Rattle.clfs_model.specs.Happened.{happened_of_refusal}
-use Rattle.clfs_model.specs.Refusals.{refusal}
-use Rattle.clfs_model.specs.Step.{Step}
-use Rattle.clfs_model.specs.Ways.{GoesTheseWays}
-use Rattle.clfs_laws.specs.Refused.{is_of_call}
-use Rattle.clfs_manager.specs.Base.{with_base}
 use Rattle.clfs_manager.proofs.ReadSteps.{own_is_fine}
 
 -- a refusal of a call's own list is no fault of the disk

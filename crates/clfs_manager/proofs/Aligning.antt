@@ -1,15 +1,9 @@
 -- The steps of the machine that asking for the sectors of records makes.
-use Rattle.std.proofs.Common.{◌≡◌, ℕ, Bool, false, refl, sym, ap, List}
-use Rattle.std.specs.Prelude.{Some, None, Ok, Err, find, nat_lt}
+use Rattle.clfs_manager.proofs.Words.{◌≡◌, ℕ, Bool, false, refl, sym, ap, List, Some, None, Ok, Err, find, nat_lt, State, Area, own_sum, area_of}
+use Rattle.clfs_manager.proofs.Words.{GoesTheseWays, Steps}
 use Rattle.clfs_model.specs.declared.call.Call.TheVariants as calls
 use Rattle.clfs_model.specs.declared.refusal.Refusal.TheVariants as refusals
 use Rattle.clfs_model.specs.declared.reply.Reply.TheVariants as replies
-use Rattle.clfs_model.specs.declared.state.State.{State}
-use Rattle.clfs_model.specs.declared.state.Area.{Area}
-use Rattle.clfs_model.specs.Space.{own_sum}
-use Rattle.clfs_model.specs.State.{area_of}
-use Rattle.clfs_model.specs.Ways.{GoesTheseWays}
-use Rattle.clfs_manager.specs.Calls.{Steps}
 
 -- a length above the area's largest
 pub align_too_long : GoesTheseWays → (told : Bool) (s : State) (client number most len : ℕ) (sizes lengths : List ℕ) (area : Area) → s.broken ≡ false

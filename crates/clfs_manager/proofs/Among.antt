@@ -1,13 +1,10 @@
 -- What a search finds is among what is searched, and what is among it is found.
-use Rattle.std.proofs.Common.{◌≡◌, ℕ, zero, suc, ◌<◌, ◌≤◌, Bool, true, false, cond, eqb, refl, sym, ap, ◌∙◌, subst, inl, inr, ⊎_elim, List, [], ◌∷◌, length, map, get_or, arith}
-use Rattle.std.specs.Prelude.{Option, Some, None, find, filter, All, Contains, slice_get}
+use Rattle.clfs_manager.proofs.Words.{◌≡◌, ℕ, zero, suc, ◌<◌, ◌≤◌, Bool, true, false, refl, sym, ap, ◌∙◌, subst, inl, inr, ⊎_elim, List, [], ◌∷◌, length, map}
+use Rattle.clfs_manager.proofs.Words.{get_or, arith, Option, Some, None, find, filter, All, Contains, slice_get, IsStrictlyIncreasing, cases_Bool, cases_lt}
+use Rattle.clfs_manager.proofs.Words.{eq-eqb, get_or-map, length-map, All-nil, All-cons, All-weaker, All-contains, AllPairs-from_increasing, LogEntry}
+use Rattle.std.proofs.Common.{cond, eqb}
 use borrow.Author.Tests.{eqb-true}
-use Rattle.std.specs.List.Sorted.{IsStrictlyIncreasing}
-use Rattle.std.proofs.lemmas.Bool.{cases_Bool, cases_lt, eq-eqb}
-use Rattle.std.proofs.lemmas.List.{get_or_default, get_or-map, length-map}
-use Rattle.std.proofs.lemmas.List.Elements.{All-nil, All-cons, All-weaker, All-contains}
-use Rattle.std.proofs.lemmas.List.Kept.{AllPairs-from_increasing}
-use Rattle.clfs_lsn.specs.declared.entry.LogEntry.{LogEntry}
+use Rattle.std.proofs.lemmas.List.{get_or_default}
 
 module _ {X : Type 0} where
   pub here : (x : X) (xs : List X) → Contains (x ∷ xs) x

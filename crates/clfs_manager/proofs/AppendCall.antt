@@ -1,26 +1,13 @@
 -- An append: the area that holds sectors for records to come is named by its client and number, whatever it holds.
-use Rattle.std.proofs.Common.{◌≡◌, ◌≤◌, ℕ, Bool, true, false, refl, sym, ap, subst, ◌∙◌, List, [], ◌∷◌, length, arith}
-use Rattle.std.specs.Prelude.{Option, Some, None, nat_lt, not}
-use Rattle.std.specs.Option.{option_map_or}
-use Rattle.std.proofs.lemmas.Bool.{ltb-false, le-ltb}
-use Rattle.clfs_model.specs.declared.call.Call.{Call}
+use Rattle.clfs_manager.proofs.Words.{◌≡◌, ◌≤◌, ℕ, Bool, true, false, refl, sym, ap, subst, ◌∙◌, List, [], ◌∷◌, length, arith, Option, Some, None, nat_lt}
+use Rattle.clfs_manager.proofs.Words.{not, option_map_or, ltb-false, le-ltb, Call, Draft, Refusal, Fine, Area, State, Outcome, answer, outcome}
+use Rattle.clfs_manager.proofs.Words.{happened_of_refusal, hold_sizes, need_of, next_lsn, spent_of, with_more_held, full, refusal, short, grown, own_sum}
+use Rattle.clfs_manager.proofs.Words.{area_of, change_area, Step, calls_disk, grows, takes_memory, GoesTheseWays, LeavesOf}
 use Rattle.clfs_model.specs.declared.call.Call.TheVariants as calls
-use Rattle.clfs_model.specs.declared.call.Draft.{Draft}
-use Rattle.clfs_model.specs.declared.refusal.Refusal.{Refusal}
 use Rattle.clfs_model.specs.declared.refusal.Refusal.TheVariants as refusals
-use Rattle.clfs_model.specs.declared.reply.Happened.TheVariants.{Fine}
 use Rattle.clfs_model.specs.declared.reply.Reply.TheVariants as replies
-use Rattle.clfs_model.specs.declared.state.Area.{Area}
-use Rattle.clfs_model.specs.declared.state.State.{State}
-use Rattle.clfs_model.specs.Answers.{Outcome, answer, outcome}
-use Rattle.clfs_model.specs.Happened.{happened_of_refusal}
-use Rattle.clfs_model.specs.Put.{appended, hold_sizes, need_of, next_lsn, spent_of, with_more_held}
-use Rattle.clfs_model.specs.Refusals.{append_refusal, full, invalid_link, is_link, refusal, short}
-use Rattle.clfs_model.specs.Space.{grown, own_sum}
-use Rattle.clfs_model.specs.State.{area_of, change_area}
-use Rattle.clfs_model.specs.Step.{Step, calls_disk, grows, takes_memory}
-use Rattle.clfs_model.specs.Ways.{GoesTheseWays}
-use Rattle.clfs_manager.specs.Preparing.{LeavesOf}
+use Rattle.clfs_model.specs.Put.{appended}
+use Rattle.clfs_model.specs.Refusals.{append_refusal, invalid_link, is_link}
 use Rattle.clfs_manager.proofs.PreparedCall.{not_long, others_none}
 
 pub hold_named : (a b : Area) (sizes : List ℕ) (s : State) → a.client ≡ b.client → a.number ≡ b.number → hold_sizes a sizes s ≡ hold_sizes b sizes s

@@ -1,21 +1,9 @@
 -- A log whose archiving was changed, in memory and on the disk.
-use Rattle.std.proofs.Common.{◌≡◌, ℕ, ◌<◌, ◌≤◌, ◌^◌, true, refl, ap, ◌∙◌, List, ◌++◌, map, arith, if◌then◌else◌}
-use Rattle.std.specs.Prelude.{Option, Some, None, is_some, unwrap_or}
-use Rattle.std.specs.Option.{option_to_list}
-use Rattle.clfs_lsn.specs.Lsn.{null_lsn, container_of}
-use Rattle.clfs_lsn.specs.Place.{frontier}
+use Rattle.clfs_manager.proofs.Words.{◌≡◌, ℕ, ◌<◌, ◌≤◌, ◌^◌, true, refl, ap, ◌∙◌, List, ◌++◌, map, arith, Option, Some, None, is_some, unwrap_or}
+use Rattle.clfs_manager.proofs.Words.{option_to_list, null_lsn, container_of, frontier, IsImage, current, flag, BaseImage, State, cut, flushed, hold}
+use Rattle.clfs_manager.proofs.Words.{live_lsns, IsValid, Blocks, IsLogWith, stored_state, stored_place, IsStored, with_archive}
+use Rattle.std.proofs.Common.{if◌then◌else◌}
 use Rattle.clfs_base.specs.Layout.{most_tail}
-use Rattle.clfs_base.specs.Spelling.{IsImage, current, flag}
-use Rattle.clfs_base.specs.declared.image.BaseImage.{BaseImage}
-use Rattle.clfs_model.specs.declared.state.State.{State}
-use Rattle.clfs_model.specs.Flush.{cut, flushed}
-use Rattle.clfs_model.specs.Live.{hold, live_lsns}
-use Rattle.clfs_model.specs.Valid.{IsValid}
-use Rattle.clfs_physical.specs.Stored.{Blocks}
-use Rattle.clfs_recover.specs.Logs.{IsLogWith, stored_state}
-use Rattle.clfs_recover.specs.Stored.{stored_place}
-use Rattle.clfs_manager.specs.OnDisk.{IsStored}
-use Rattle.clfs_manager.specs.Settings.{with_archive}
 use Rattle.clfs_manager.proofs.Among.{here}
 use Rattle.clfs_manager.proofs.ClosedPlace.{is_start}
 use Rattle.clfs_manager.proofs.Reached.{least_below}

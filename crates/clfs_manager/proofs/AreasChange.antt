@@ -1,28 +1,8 @@
 -- Calls that change the areas alone: what memory has besides, and what the disk has, is the state's as before, since no part of it speaks of areas.
-use Rattle.std.proofs.Common.{◌≡◌, ◌∙◌, ap, refl, subst, sym, ℕ, Bool, false, List}
-use Rattle.std.specs.Prelude.{None}
-use Rattle.clfs_areas.specs.Table.{AreaTable}
-use Rattle.clfs_disk.specs.State.{DiskState, TellsContents}
-use Rattle.clfs_model.specs.declared.call.Call.{Call}
-use Rattle.clfs_model.specs.declared.reply.Happened.{Happened}
-use Rattle.clfs_model.specs.declared.reply.Reply.{Reply}
-use Rattle.clfs_model.specs.declared.state.State.{State}
-use Rattle.clfs_model.specs.declared.state.Area.{Area}
-use Rattle.clfs_model.specs.Answers.{answer}
-use Rattle.clfs_model.specs.Refusals.{refusal}
-use Rattle.clfs_model.specs.Conditions.{MeetsCondition}
-use Rattle.clfs_model.specs.Step.{Step}
-use Rattle.clfs_model.specs.Storable.{IsStorable}
-use Rattle.clfs_model.specs.Valid.{IsValid}
-use Rattle.clfs_buffers.specs.Buffered.{Buffered}
-use Rattle.clfs_physical.specs.Stored.{Newest, Blocks}
-use Rattle.clfs_queue.specs.Queued.{Queued}
-use Rattle.clfs_tables.specs.Tables.{Tabled}
-use Rattle.clfs_told.specs.declared.told.Told.{Told}
+use Rattle.clfs_manager.proofs.Words.{◌≡◌, ◌∙◌, ap, refl, subst, sym, ℕ, Bool, false, List, None, AreaTable, DiskState, TellsContents, Call, Happened, Reply}
+use Rattle.clfs_manager.proofs.Words.{State, Area, answer, refusal, MeetsCondition, Step, IsStorable, IsValid, Buffered, Newest, Blocks, Queued, Tabled, Told}
+use Rattle.clfs_manager.proofs.Words.{Log, ChangesAreas, HasForgotten, Holds, IsStored, AreKept, IsOpen, IsManaged}
 use Rattle.clfs_manager.specs.ManagerLaws.{ManagerLaws}
-use Rattle.clfs_manager.specs.declared.log.Log.{Log}
-use Rattle.clfs_manager.specs.Memory.{ChangesAreas, HasForgotten, Holds}
-use Rattle.clfs_manager.specs.OnDisk.{IsStored, AreKept, IsOpen, IsManaged}
 
 -- the state with other areas
 abbrev pub with_areas : State → List Area → State

@@ -1,12 +1,6 @@
 -- How the calls of the disk went, as the answer of another function tells it.
-use Rattle.std.proofs.Common.{◌≡◌, refl, subst}
-use Rattle.std.specs.Prelude.{Result, Ok, Err, IsOk, IsErr}
-use Rattle.clfs_base.specs.declared.image.BaseImage.{BaseImage}
-use Rattle.clfs_disk.specs.State.{DiskState}
-use Rattle.clfs_model.specs.declared.state.State.{State}
-use Rattle.clfs_physical.specs.Stored.{Newest}
-use Rattle.clfs_manager.specs.Storing.{CallsDisk, StoresState}
-use Rattle.clfs_manager.specs.declared.log.Log.{Log}
+use Rattle.clfs_manager.proofs.Words.{◌≡◌, refl, subst, Result, Ok, Err, IsOk, IsErr, BaseImage, DiskState, State, Newest, CallsDisk, Log}
+use Rattle.clfs_manager.specs.Storing.{StoresState}
 
 pub calls_fine : {A B E : Type 0} (first : Result A E) (value : B) (image : BaseImage) (old new : DiskState) → IsOk first → CallsDisk first image old new
     → CallsDisk {A = B} {E = E} (Ok value) image old new

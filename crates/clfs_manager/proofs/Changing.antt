@@ -1,21 +1,8 @@
 -- Calls that change a log, one after the other.
-use Rattle.std.proofs.Common.{◌≡◌, true, refl, ap, subst, ◌∙◌, List, [], ◌∷◌, ◌++◌}
-use Rattle.std.specs.Prelude.{All, Result, Ok, Err, OnOk, IsErr}
-use Rattle.std.proofs.lemmas.List.Elements.{All-nil, All-cons, All-head, All-tail}
-use Rattle.clfs_disk.specs.State.{DiskState}
-use Rattle.clfs_model.specs.declared.state.State.{State}
-use Rattle.clfs_model.specs.Flush.{cut}
-use Rattle.clfs_model.specs.Run.{Request}
-use Rattle.clfs_model.specs.Survivors.{Survives}
-use Rattle.clfs_told.specs.declared.told.Told.{Told}
-use Rattle.clfs_manager.specs.Base.{KeepsAllButTables}
-use Rattle.clfs_manager.specs.Changing.{ChangesLog}
-use Rattle.clfs_manager.specs.Crashes.{CrashLeavesSurvivor}
-use Rattle.clfs_manager.specs.Memory.{HasForgotten, IsSound}
-use Rattle.clfs_manager.specs.Written.{IsIntact, IsYetToForget, WritesDisk}
-use Rattle.clfs_manager.specs.declared.log.Log.{Log}
+use Rattle.clfs_manager.proofs.Words.{◌≡◌, true, refl, ap, subst, ◌∙◌, List, [], ◌∷◌, ◌++◌, All, Result, Ok, Err, OnOk, IsErr, All-nil, All-cons, All-head}
+use Rattle.clfs_manager.proofs.Words.{All-tail, DiskState, State, cut, Request, Survives, Told, KeepsAllButTables, ChangesLog, CrashLeavesSurvivor}
+use Rattle.clfs_manager.proofs.Words.{HasForgotten, IsSound, IsIntact, IsYetToForget, WritesDisk, Log, StandByBlocks, HaveByFile}
 use Rattle.clfs_manager.proofs.Crashes.{crash_still, crash_then}
-use Rattle.clfs_manager.specs.CallLaws.{StandByBlocks, HaveByFile}
 use Rattle.clfs_manager.proofs.Intact.{intact_forgot, writes_as, writes_nothing, writes_then}
 
 -- ---- states one after the other

@@ -1,22 +1,11 @@
 -- A log whose open block has ended: its place, and what is on the disk up to there.
-use Rattle.std.proofs.Common.{◌≡◌, ℕ, ◌+◌, ◌*◌, ◌%◌, ◌<◌, ◌≤◌, true, false, refl, sym, ap, ◌∙◌, inl, inr, List, [], ◌∷◌, ◌++◌, arith, if◌then◌else◌}
-use Rattle.std.specs.Prelude.{All, nat_lt}
-use Rattle.std.proofs.lemmas.Bool.{cases_Bool, cases_lt, lt-ltb, le-ltb}
-use Rattle.std.proofs.lemmas.List.Elements.{All-head, All-weaker}
-use Rattle.clfs_lsn.specs.Lsn.{lsn_number, container_of, offset_of, sequence_of}
-use Rattle.clfs_lsn.specs.Place.{IsOpen, IsWithin, block_end, frontier, sealed}
-use Rattle.clfs_lsn.specs.declared.entry.LogEntry.{LogEntry}
-use Rattle.clfs_lsn.specs.declared.place.Place.{Place}
-use Rattle.clfs_lsn.specs.declared.shape.Shape.{Shape}
-use Rattle.clfs_container.specs.OpenBlocks.{total}
-use Rattle.clfs_laws.specs.Between.{IsLaid}
-use Rattle.clfs_model.specs.declared.state.State.{State}
-use Rattle.clfs_model.specs.Flush.{block_start, first_or, flush, flushed}
-use Rattle.clfs_model.specs.Valid.{IsValid, IsRecord, IsWaiting, HasRanges, HasWaiting}
-use Rattle.clfs_queue.specs.Group.{IsGroupOf}
-use Rattle.clfs_queue.specs.Queued.{Queued, seal}
-use Rattle.clfs_queue.specs.Rows.{AreBlocks}
-use Rattle.clfs_manager.specs.Laid.{BeginsAt}
+use Rattle.clfs_manager.proofs.Words.{◌≡◌, ℕ, ◌+◌, ◌*◌, ◌%◌, ◌<◌, ◌≤◌, true, false, refl, sym, ap, ◌∙◌, inl, inr, List, [], ◌∷◌, ◌++◌, arith, All, nat_lt}
+use Rattle.clfs_manager.proofs.Words.{cases_Bool, cases_lt, lt-ltb, le-ltb, All-head, All-weaker, lsn_number, container_of, offset_of, sequence_of, IsWithin}
+use Rattle.clfs_manager.proofs.Words.{block_end, frontier, sealed, LogEntry, Place, Shape, total, IsLaid, State, block_start, first_or, flush, flushed}
+use Rattle.clfs_manager.proofs.Words.{IsValid, IsRecord, IsWaiting, HasRanges, HasWaiting, IsGroupOf, Queued, AreBlocks, BeginsAt}
+use Rattle.std.proofs.Common.{if◌then◌else◌}
+use Rattle.clfs_lsn.specs.Place.{IsOpen}
+use Rattle.clfs_queue.specs.Queued.{seal}
 use Rattle.clfs_manager.proofs.Ending.{opened, parts_at}
 
 -- the place once its block, where one is open, takes no more records

@@ -1,27 +1,9 @@
 -- A base copy that lists the containers from the hold's on: the log on the disk is the flushed part of the state still.
-use Rattle.std.proofs.Common.{◌≡◌, ℕ, ◌<◌, ◌≤◌, true, false, refl, ap, subst, ◌∙◌, inl, inr, List, [], ◌∷◌, ◌++◌, map, arith}
-use Rattle.std.specs.Prelude.{◌⊎◌, All, Contains, Option, Some, None, IfSome, filter, nat_le, nat_lt, unwrap_or, ◌==◌}
-use Rattle.std.proofs.lemmas.Bool.Decides.{nat_tests}
-use Rattle.std.specs.Option.{option_to_list}
-use Rattle.std.proofs.lemmas.Bool.{cases_lt, lt-leb, le-leb}
-use Rattle.std.proofs.lemmas.List.Elements.{All-map, All-append, All-nil, All-cons, All-weaker, All-contains_itself}
-use Rattle.clfs_lsn.specs.Lsn.{lsn_number, container_of}
-use Rattle.clfs_lsn.specs.Place.{frontier}
-use Rattle.clfs_lsn.specs.declared.entry.LogEntry.{LogEntry}
-use Rattle.clfs_base.specs.declared.image.BaseImage.{BaseImage}
-use Rattle.clfs_laws.specs.Between.{IsLaid}
-use Rattle.clfs_model.specs.declared.state.State.{State}
-use Rattle.clfs_model.specs.Flush.{cut, flushed, IsSame}
-use Rattle.clfs_model.specs.Live.{hold, is_live, live_lsns}
-use Rattle.clfs_lsn.specs.Heads.{least_or}
-use Rattle.clfs_model.specs.Valid.{IsValid}
-use Rattle.clfs_physical.specs.Stored.{Blocks}
-use Rattle.clfs_policy.specs.Ranges.{AreAllowed}
-use Rattle.clfs_policy.specs.declared.policies.Policies.{Policies}
-use Rattle.clfs_recover.specs.Files.{policy_of}
-use Rattle.clfs_recover.specs.Logs.{IsLogWith, stored_state, records_from_container, from_container}
-use Rattle.clfs_manager.specs.OnDisk.{IsStored}
-use Rattle.clfs_manager.specs.Settings.{with_policies}
+use Rattle.clfs_manager.proofs.Words.{◌≡◌, ℕ, ◌<◌, ◌≤◌, true, false, refl, ap, subst, ◌∙◌, inl, inr, List, [], ◌∷◌, ◌++◌, map, arith, ◌⊎◌, All, Contains}
+use Rattle.clfs_manager.proofs.Words.{Option, Some, None, IfSome, filter, nat_le, nat_lt, unwrap_or, ◌==◌, nat_tests, option_to_list, cases_lt, lt-leb}
+use Rattle.clfs_manager.proofs.Words.{le-leb, All-map, All-append, All-nil, All-cons, All-weaker, All-contains_itself, lsn_number, container_of, frontier}
+use Rattle.clfs_manager.proofs.Words.{LogEntry, BaseImage, IsLaid, State, cut, flushed, IsSame, hold, is_live, live_lsns, least_or, IsValid, Blocks}
+use Rattle.clfs_manager.proofs.Words.{AreAllowed, Policies, policy_of, IsLogWith, stored_state, records_from_container, from_container, IsStored, with_policies}
 use Rattle.clfs_manager.proofs.Among.{contains_all, here}
 use Rattle.clfs_manager.proofs.ClosedPlace.{is_start, starts_at}
 use Rattle.clfs_manager.proofs.Holding.{least_from}

@@ -1,46 +1,19 @@
 -- Each base copy that follows the newest one stores the log with what is to change, on the same open blocks. So while it is written a crash leaves
 -- the log of before or that one, whatever the call answers.
-use Rattle.std.proofs.Common.{◌≡◌, ℕ, ◌+◌, ◌%◌, ◌<◌, ◌≤◌, ◌^◌, max, Bool, true, ◌⊎◌, sym, ap, subst, List, [], ◌∷◌, ◌++◌, map, length, arith}
-use Rattle.std.specs.Prelude.{Option, Some, None, is_some, unwrap_or, if◌then◌else◌, IsSome}
-use Rattle.clfs_lsn.specs.Lsn.{null_lsn, container_of}
-use Rattle.clfs_lsn.specs.Place.{frontier}
-use Rattle.clfs_lsn.specs.declared.entry.LogEntry.{LogEntry}
-use Rattle.clfs_disk.specs.Files.{Files}
-use Rattle.clfs_disk.specs.State.{DiskState, IsSettled, Leaves}
-use Rattle.clfs_base.specs.Spelling.{IsImage, current}
-use Rattle.clfs_base.specs.Writing.{older_of}
-use Rattle.clfs_base.specs.declared.image.BaseImage.{BaseImage}
-use Rattle.clfs_base.specs.declared.image.Row.{Row}
-use Rattle.clfs_model.specs.declared.state.State.{State}
-use Rattle.clfs_model.specs.Flush.{IsSame, cut, flushed}
-use Rattle.clfs_model.specs.Live.{hold}
-use Rattle.clfs_model.specs.Run.{Request}
-use Rattle.clfs_model.specs.Space.{with_containers}
-use Rattle.clfs_model.specs.State.{base_of, stream_at}
-use Rattle.clfs_lsn.specs.Streams.{set_base}
-use Rattle.clfs_model.specs.Survivors.{Survives}
-use Rattle.clfs_model.specs.Valid.{IsValid}
-use Rattle.clfs_physical.specs.Changes.{next_copy, with_stream as with_row, with_containers as counting}
-use Rattle.clfs_physical.specs.Stored.{Newest, Blocks, Stores}
-use Rattle.clfs_physical.specs.declared.change.Change.{Change}
+use Rattle.clfs_manager.proofs.Words.{◌≡◌, ℕ, ◌+◌, ◌%◌, ◌<◌, ◌≤◌, ◌^◌, max, Bool, true, sym, ap, subst, List, [], ◌∷◌, ◌++◌, map, length, arith, Option, Some}
+use Rattle.clfs_manager.proofs.Words.{None, is_some, unwrap_or, if◌then◌else◌, IsSome, null_lsn, container_of, frontier, LogEntry, Files, DiskState}
+use Rattle.clfs_manager.proofs.Words.{IsSettled, Leaves, IsImage, current, older_of, BaseImage, Row, State, IsSame, cut, flushed, hold, Request}
+use Rattle.clfs_manager.proofs.Words.{with_containers, base_of, stream_at, set_base, Survives, IsValid, next_copy, Newest, Blocks, Stores, Change, AreAllowed}
+use Rattle.clfs_manager.proofs.Words.{Policies, policy_of, IsLogWith, stored_state, records_from_container, from_container, with_row_base, stored_place}
+use Rattle.clfs_manager.proofs.Words.{with_base, CrashLeavesSurvivor, StoredMeanwhile, IsStored, archive_change, change_to, with_archive, with_policies}
+use Rattle.clfs_manager.proofs.Words.{with_stream, IsIntact, Log, StandByBlocks, HaveByFile}
+use Rattle.std.proofs.Common.{◌⊎◌}
+use Rattle.clfs_physical.specs.Changes.{with_stream as with_row, with_containers as counting}
 use Rattle.clfs_physical.specs.declared.change.Change.TheVariants as changes
-use Rattle.clfs_policy.specs.Ranges.{AreAllowed}
-use Rattle.clfs_policy.specs.declared.policies.Policies.{Policies}
-use Rattle.clfs_recover.specs.Files.{policy_of}
-use Rattle.clfs_recover.specs.Logs.{IsLogWith, stored_state, records_from_container, from_container, with_row_base}
-use Rattle.clfs_recover.specs.Stored.{stored_place}
-use Rattle.clfs_manager.specs.Base.{with_base}
-use Rattle.clfs_manager.specs.Crashes.{CrashLeavesSurvivor, StoredMeanwhile}
-use Rattle.clfs_manager.specs.OnDisk.{IsStored}
-use Rattle.clfs_manager.specs.Settings.{archive_change, change_to, with_archive, with_policies}
-use Rattle.clfs_manager.specs.Streams.{with_stream}
-use Rattle.clfs_manager.specs.Written.{IsIntact}
-use Rattle.clfs_manager.specs.declared.log.Log.{Log}
 use Rattle.clfs_manager.proofs.AddedStream.{added, stream_stored}
 use Rattle.clfs_manager.proofs.ArchivedLog.{archived, archived_image, archived_stored, cut_ends, tail_few, tail_fits}
 use Rattle.clfs_manager.proofs.CopiedLog.{copy_stored, hold_kept, policies_stored, stored_among, valid_holds}
 use Rattle.clfs_manager.proofs.Crashes.{crash_stored, meanwhile_of}
-use Rattle.clfs_manager.specs.CallLaws.{StandByBlocks, HaveByFile}
 use Rattle.clfs_manager.proofs.MovedBase.{base_stored, moved, moved_below, moved_image}
 use Rattle.clfs_manager.proofs.Reached.{number_there}
 use Rattle.clfs_manager.proofs.Sized.{sized_stored}

@@ -1,30 +1,12 @@
 -- Calls of a manager that write base copies, by what a crash leaves while they are under way.
-use Rattle.std.proofs.Common.{◌≡◌, ℕ, false, refl, sym, ap, subst, ◌∙◌, List, [], ◌∷◌}
-use Rattle.std.specs.Option.{option_map_or}
-use Rattle.std.specs.Prelude.{All, Option, Some, None}
-use Rattle.std.proofs.lemmas.List.Elements.{All-head, All-tail}
-use Rattle.clfs_disk.specs.State.{DiskState}
+use Rattle.clfs_manager.proofs.Words.{◌≡◌, ℕ, false, refl, sym, ap, subst, ◌∙◌, List, [], ◌∷◌, option_map_or, All, Option, Some, None, All-head, All-tail}
+use Rattle.clfs_manager.proofs.Words.{DiskState, Call, Fine, Area, State, answer, cut, flush, invalid_base, refusal, Request, asks, bad_line, grown, own_sum}
+use Rattle.clfs_manager.proofs.Words.{area_of, IsStorable, Survives, IsValid, GoesTheseWays, CallLaws, CrashLeavesSurvivor, CrashSurvives, StoredMeanwhile}
+use Rattle.clfs_manager.proofs.Words.{IsManaged, Log}
 use Rattle.clfs_laws.specs.Stages.{advance_stages, reserve_stages}
-use Rattle.clfs_model.specs.declared.call.Call.{Call}
 use Rattle.clfs_model.specs.declared.call.Call.TheVariants as calls
 use Rattle.clfs_model.specs.declared.refusal.Refusal.TheVariants as refusals
-use Rattle.clfs_model.specs.declared.reply.Happened.TheVariants.{Fine}
-use Rattle.clfs_model.specs.declared.state.Area.{Area}
-use Rattle.clfs_model.specs.declared.state.State.{State}
-use Rattle.clfs_model.specs.Answers.{advanced, answer}
-use Rattle.clfs_model.specs.Flush.{cut, flush}
-use Rattle.clfs_model.specs.Refusals.{invalid_base, refusal}
-use Rattle.clfs_model.specs.Run.{Request, asks, bad_line}
-use Rattle.clfs_model.specs.Space.{grown, own_sum}
-use Rattle.clfs_model.specs.State.{area_of}
-use Rattle.clfs_model.specs.Storable.{IsStorable}
-use Rattle.clfs_model.specs.Survivors.{Survives}
-use Rattle.clfs_model.specs.Valid.{IsValid}
-use Rattle.clfs_model.specs.Ways.{GoesTheseWays}
-use Rattle.clfs_manager.specs.CallLaws.{CallLaws}
-use Rattle.clfs_manager.specs.Crashes.{CrashLeavesSurvivor, CrashSurvives, StoredMeanwhile}
-use Rattle.clfs_manager.specs.OnDisk.{IsManaged}
-use Rattle.clfs_manager.specs.declared.log.Log.{Log}
+use Rattle.clfs_model.specs.Answers.{advanced}
 use Rattle.clfs_manager.proofs.AreasChange.{KeepsValid}
 use Rattle.clfs_manager.proofs.CopiedLog.{valid_holds}
 use Rattle.clfs_manager.proofs.Crashes.{after_survives, crash_managed, crash_seen, crash_stored, survives_as}

@@ -1,27 +1,10 @@
 -- What a crash leaves of a restart area whose group goes to the disk: the log of before, or the restart area with its base.
-use Rattle.std.proofs.Common.{◌≡◌, ℕ, ◌≤◌, false, subst, length, arith}
-use Rattle.std.specs.Prelude.{◌==◌}
-use Rattle.clfs_disk.specs.State.{DiskState}
-use Rattle.clfs_laws.specs.Between.{IsLaid}
-use Rattle.clfs_lsn.specs.Lsn.{null_lsn}
-use Rattle.clfs_model.specs.declared.state.State.{State}
-use Rattle.clfs_model.specs.Answers.{rebased}
-use Rattle.clfs_model.specs.Flush.{cut, flush}
-use Rattle.clfs_model.specs.Run.{Request}
-use Rattle.clfs_model.specs.State.{base_of}
-use Rattle.clfs_model.specs.Survivors.{Survives}
-use Rattle.clfs_model.specs.Valid.{IsValid}
-use Rattle.clfs_physical.specs.Stored.{Newest, Blocks}
-use Rattle.clfs_tables.specs.Tables.{IsNumber}
-use Rattle.clfs_manager.specs.Crashes.{CrashLeavesSurvivor, StoredMeanwhile}
-use Rattle.clfs_manager.specs.Laid.{HasGroup, IsLaidLog, SendsGroup}
-use Rattle.clfs_manager.specs.OnDisk.{IsStored, IsOpen}
-use Rattle.clfs_manager.specs.Restarts.{EndsInRestart, rebased_streams}
-use Rattle.clfs_manager.specs.declared.log.Log.{Log}
+use Rattle.clfs_manager.proofs.Words.{◌≡◌, ℕ, ◌≤◌, false, subst, length, arith, ◌==◌, DiskState, IsLaid, null_lsn, State, rebased, cut, flush, Request}
+use Rattle.clfs_manager.proofs.Words.{base_of, Survives, IsValid, Newest, Blocks, IsNumber, CrashLeavesSurvivor, StoredMeanwhile, HasGroup, IsLaidLog}
+use Rattle.clfs_manager.proofs.Words.{SendsGroup, IsStored, IsOpen, EndsInRestart, rebased_streams, Log, StandByBlocks, HaveByFile}
 use Rattle.clfs_manager.proofs.ClosedPlace.{flush_is}
 use Rattle.clfs_manager.proofs.CopiedLog.{laid_holds, valid_holds}
 use Rattle.clfs_manager.proofs.Crashes.{crash_stored, meanwhile_of}
-use Rattle.clfs_manager.specs.CallLaws.{StandByBlocks, HaveByFile}
 use Rattle.clfs_manager.proofs.FlushedLog.{done, stored_with}
 use Rattle.clfs_manager.proofs.Restarted.{finished, hold_finished, rebased_is, state_of_group, GroupLaws}
 

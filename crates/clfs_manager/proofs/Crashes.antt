@@ -1,47 +1,22 @@
 -- What a crash leaves of calls that write, one after the other: files that hold a survivor of what was asked.
-use Rattle.std.proofs.Common.{◌≡◌, ◌⊎◌, ℕ, ◌*◌, ◌<◌, ◌≤◌, ◌∙◌, Bool, true, false, refl, sym, ap, subst, inl, inr, ⊎_elim, List, [], ◌++◌, map, length, arith, ◌+◌}
-use Rattle.std.specs.Option.{option_map_or}
-use Rattle.std.specs.Result.{is_err}
-use Rattle.std.specs.Prelude.{Option, None, if◌then◌else◌, Result, Ok, Err, IsOk, IsErr, OnOk}
-use Rattle.std.proofs.lemmas.Bool.{cases_lt}
-use Rattle.clfs_lsn.specs.Format.{sector_bytes}
-use Rattle.clfs_lsn.specs.declared.entry.LogEntry.{LogEntry}
-use Rattle.clfs_laws.specs.Between.{IsLaid}
+use Rattle.clfs_manager.proofs.Words.{◌≡◌, ℕ, ◌*◌, ◌<◌, ◌≤◌, ◌∙◌, Bool, true, false, refl, sym, ap, subst, inl, inr, ⊎_elim, List, [], ◌++◌, map, length}
+use Rattle.clfs_manager.proofs.Words.{arith, ◌+◌, option_map_or, is_err, Option, None, if◌then◌else◌, Result, Ok, Err, IsOk, IsErr, OnOk, cases_lt}
+use Rattle.clfs_manager.proofs.Words.{sector_bytes, LogEntry, IsLaid, newest_of, AreWhole, total, container_of, Files, Unchanged, Failed, DiskState}
+use Rattle.clfs_manager.proofs.Words.{TellsContents, IsSettled, Passes, Leaves, State, cut, flush, hold, Call, Refusal, answer, outcome, refusal, Request}
+use Rattle.clfs_manager.proofs.Words.{asks, IsStorable, IsValid, Survives, Newest, Blocks, Stores, with_blocks, low_of, taken_of, AreWholeFiles, HaveMore}
+use Rattle.clfs_manager.proofs.Words.{stored_state, file_at_end, stored_place, CrashLeavesSurvivor, CrashSurvives, StoredMeanwhile, HasGroup, SendsGroup}
+use Rattle.clfs_manager.proofs.Words.{WrittenAfter, unflushed, IsManaged, IsOpen, IsStored, IsIntact, WritesDisk, Log, StandByBlocks, HaveByFile}
+use Rattle.std.proofs.Common.{◌⊎◌}
 use Rattle.clfs_base.specs.Layout.{slot_bytes}
-use Rattle.clfs_base.specs.Slots.{newest_of}
-use Rattle.clfs_container.specs.OpenBlocks.{AreWhole, total}
-use Rattle.clfs_lsn.specs.Lsn.{container_of}
-use Rattle.clfs_disk.specs.Files.{Files, Unchanged}
-use Rattle.clfs_disk.specs.declared.disk.Failed.{Failed}
-use Rattle.clfs_disk.specs.State.{DiskState, TellsContents, IsSettled, Passes, Leaves}
-use Rattle.clfs_model.specs.declared.state.State.{State}
-use Rattle.clfs_model.specs.Flush.{cut, flush}
-use Rattle.clfs_model.specs.Live.{hold}
-use Rattle.clfs_model.specs.declared.call.Call.{Call}
-use Rattle.clfs_model.specs.declared.refusal.Refusal.{Refusal}
 use Rattle.clfs_model.specs.declared.refusal.Refusal.TheVariants as refusals
 use Rattle.clfs_model.specs.declared.reply.Reply.TheVariants as replies
-use Rattle.clfs_model.specs.Answers.{answer, outcome}
-use Rattle.clfs_model.specs.Refusals.{refusal}
-use Rattle.clfs_model.specs.Run.{Request, asks, fine_outcome}
-use Rattle.clfs_model.specs.Storable.{IsStorable}
-use Rattle.clfs_model.specs.Valid.{IsValid}
-use Rattle.clfs_model.specs.Survivors.{Survives}
-use Rattle.clfs_physical.specs.Stored.{Newest, Blocks, Stores, with_blocks}
-use Rattle.clfs_physical.specs.Taking.{InTurn, low_of, taken_of}
-use Rattle.clfs_recover.specs.Files.{AreWholeFiles}
-use Rattle.clfs_recover.specs.Logs.{HaveMore, stored_state, file_at_end}
-use Rattle.clfs_recover.specs.Stored.{stored_place}
-use Rattle.clfs_manager.specs.Crashes.{HoldSurvivor, CrashLeavesSurvivor, CrashSurvives, HaveStored, StoredMeanwhile}
-use Rattle.clfs_manager.specs.Laid.{HasGroup, SendsGroup, WrittenAfter}
-use Rattle.clfs_manager.specs.Memory.{unflushed}
-use Rattle.clfs_manager.specs.OnDisk.{IsManaged, IsOpen, IsStored}
-use Rattle.clfs_manager.specs.Written.{IsIntact, WritesDisk}
-use Rattle.clfs_manager.specs.declared.log.Log.{Log}
+use Rattle.clfs_model.specs.Run.{fine_outcome}
+use Rattle.clfs_physical.specs.Taking.{InTurn}
+use Rattle.clfs_manager.specs.Crashes.{HoldSurvivor, HaveStored}
 use Rattle.clfs_manager.proofs.ClosedPlace.{flush_is}
 use Rattle.clfs_manager.proofs.FlushedLog.{done, stored_done}
 use Rattle.clfs_manager.proofs.CopiedLog.{valid_holds}
-use Rattle.clfs_manager.specs.CallLaws.{StandByBlocks, HaveByFile, SurvivesAfter}
+use Rattle.clfs_manager.specs.CallLaws.{SurvivesAfter}
 use Rattle.clfs_manager.proofs.FilesHold.{files_have}
 use Rattle.clfs_manager.proofs.Intact.{intact_managed, made_of_whole, stores_whole, whole_of_stores}
 use Rattle.clfs_manager.proofs.Joining.{leaves_then, leaves_weaker}

@@ -1,10 +1,7 @@
 -- The version of the newest copy.
-use Rattle.std.proofs.Common.{◌≡◌, ◌∙◌, false, sym, Ok, Err}
-use Rattle.std.specs.Prelude.{Result, IfOk, OnOk}
-use Rattle.clfs_disk.specs.State.{DiskState, TellsContents}
-use Rattle.clfs_manager.specs.OnDisk.{IsManaged}
-use Rattle.clfs_manager.specs.Written.{CopyIsCurrent, HaveCurrentCopy, IsCurrent, IsIntact}
-use Rattle.clfs_manager.specs.declared.log.Log.{Log}
+use Rattle.clfs_manager.proofs.Words.{◌≡◌, ◌∙◌, false, sym, Result, IfOk, OnOk, DiskState, TellsContents, IsManaged, CopyIsCurrent, IsIntact, Log}
+use Rattle.std.proofs.Common.{Ok, Err}
+use Rattle.clfs_manager.specs.Written.{HaveCurrentCopy, IsCurrent}
 use Rattle.clfs_manager.proofs.Intact.{managed_intact}
 
 -- where memory has a copy of the second version, so have the files

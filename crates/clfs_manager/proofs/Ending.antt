@@ -1,27 +1,10 @@
 -- The end of the open block, against the heads of its records.
-use Rattle.std.proofs.Common.{◌≡◌, ℕ, ◌+◌, ◌*◌, ◌%◌, ◌<◌, ◌≤◌, true, refl, sym, ap, subst, ◌∙◌, inl, inr, List, map, arith}
-use Rattle.std.specs.Prelude.{All, nat_lt}
-use Rattle.std.specs.List.{Any}
-use Rattle.std.proofs.lemmas.Bool.{lt-ltb}
-use Rattle.std.proofs.lemmas.Bool.Decides.{nat_tests}
-use Rattle.std.proofs.lemmas.List.{get_or-map, length-map}
-use Rattle.std.proofs.lemmas.List.Elements.{All-map, All-weaker}
-use Rattle.clfs_lsn.specs.Head.{head_of}
-use Rattle.clfs_lsn.specs.Lsn.{lsn_number, container_of, offset_of, sequence_of}
-use Rattle.clfs_lsn.specs.Place.{IsOpen, IsWithin, block_end, frontier, sealed}
-use Rattle.clfs_lsn.specs.declared.entry.Head.{Head}
-use Rattle.clfs_lsn.specs.declared.entry.LogEntry.{LogEntry}
-use Rattle.clfs_lsn.specs.declared.place.Place.{Place}
-use Rattle.clfs_lsn.specs.declared.shape.Shape.{Shape}
-use Rattle.clfs_archive.specs.Blocks.{IsBlock}
-use Rattle.clfs_archive.specs.declared.block.BlockEnd.{BlockEnd}
-use Rattle.clfs_model.specs.declared.state.State.{State}
-use Rattle.clfs_model.specs.Archive.{is_in_block, end_of_block}
-use Rattle.clfs_model.specs.Flush.{block_start}
-use Rattle.clfs_model.specs.Heads.{heads_of}
-use Rattle.clfs_laws.specs.Between.{IsLaid}
-use Rattle.clfs_model.specs.Valid.{IsRecord}
-use Rattle.clfs_queue.specs.Queued.{Queued, seal}
+use Rattle.clfs_manager.proofs.Words.{◌≡◌, ℕ, ◌+◌, ◌*◌, ◌%◌, ◌<◌, ◌≤◌, true, refl, sym, ap, subst, ◌∙◌, inl, inr, List, map, arith, All, nat_lt, Any, lt-ltb}
+use Rattle.clfs_manager.proofs.Words.{nat_tests, get_or-map, length-map, All-map, All-weaker, head_of, lsn_number, container_of, offset_of, sequence_of}
+use Rattle.clfs_manager.proofs.Words.{IsWithin, block_end, frontier, sealed, Head, LogEntry, Place, Shape, IsBlock, BlockEnd, State, is_in_block}
+use Rattle.clfs_manager.proofs.Words.{end_of_block, block_start, heads_of, IsLaid, IsRecord, Queued}
+use Rattle.clfs_lsn.specs.Place.{IsOpen}
+use Rattle.clfs_queue.specs.Queued.{seal}
 use Rattle.clfs_manager.proofs.Heads.{ends_as_heads}
 
 -- where an LSN lies in a block at an offset of a container

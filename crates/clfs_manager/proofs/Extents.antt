@@ -1,19 +1,8 @@
 -- The ends of blocks that memory has suffice for the extents that are to be archived.
-use Rattle.std.proofs.Common.{◌≡◌, ℕ, ◌<◌, ◌≤◌, true, sym, ap, subst, ◌∙◌, List, arith}
-use Rattle.std.specs.Prelude.{Option, Some, None, IfSome}
-use Rattle.std.specs.List.{Any}
-use Rattle.std.proofs.lemmas.List.Elements.{All-weaker}
-use Rattle.clfs_lsn.specs.Lsn.{lsn_number, container_of}
-use Rattle.clfs_lsn.specs.declared.entry.Head.{Head}
-use Rattle.clfs_model.specs.declared.state.State.{State}
-use Rattle.clfs_model.specs.Archive.{is_in_block, extents}
-use Rattle.clfs_model.specs.declared.info.Extent.{Extent}
-use Rattle.clfs_model.specs.Flush.{block_start, flushed}
-use Rattle.clfs_model.specs.Heads.{heads_of, extents_of}
-use Rattle.clfs_model.specs.Live.{hold}
-use Rattle.clfs_model.specs.Valid.{IsValid}
-use Rattle.clfs_archive.specs.Blocks.{AreBlocks, AreSealed, BlocksGoOn}
-use Rattle.clfs_archive.specs.declared.block.BlockEnd.{BlockEnd}
+use Rattle.clfs_manager.proofs.Words.{◌≡◌, ℕ, ◌<◌, ◌≤◌, true, sym, ap, subst, ◌∙◌, List, arith, Option, Some, None, IfSome, Any, All-weaker, lsn_number}
+use Rattle.clfs_manager.proofs.Words.{container_of, Head, State, is_in_block, extents, Extent, block_start, flushed, heads_of, extents_of, hold, IsValid}
+use Rattle.clfs_manager.proofs.Words.{AreSealed, BlocksGoOn, BlockEnd}
+use Rattle.clfs_archive.specs.Blocks.{AreBlocks}
 use Rattle.clfs_manager.proofs.Numbers.{flushed_below, flushed_starts, hold_up_to_tail}
 
 -- blocks that are told from an LSN on are told from every later one on

@@ -1,29 +1,16 @@
 -- Records that are read: those that wait are in the queue, and those on the disk are in the blocks that are read there or kept.
-use Rattle.std.proofs.Common.{◌≡◌, ℕ, ◌-◌, ◌%◌, ◌<◌, ◌≤◌, ◌⊎◌, refl, sym, ap, ◌∙◌, subst, ⊎_elim, List, [], ◌∷◌, length, drop, Result, Ok, Err, arith}
-use Rattle.std.specs.Prelude.{Option, Some, None, IsSome, find, Contains, nat_le, nat_lt, slice_get, slice_index, slice_index_or, ◌==◌, IfOk, OnOk, OnErr}
-use Rattle.std.specs.Option.{ok_or, option_map, option_and_then}
-use Rattle.std.proofs.lemmas.Bool.{lt-ltb, le-leb}
-use Rattle.clfs_lsn.specs.Lsn.{lsn_number, container_of, offset_of, sequence_of}
-use Rattle.clfs_lsn.specs.declared.entry.LogEntry.{LogEntry}
-use Rattle.clfs_lsn.specs.declared.shape.Shape.{Shape}
-use Rattle.clfs_disk.specs.Files.{Files}
+use Rattle.clfs_manager.proofs.Words.{◌≡◌, ℕ, ◌-◌, ◌%◌, ◌<◌, ◌≤◌, refl, sym, ap, ◌∙◌, subst, ⊎_elim, List, [], ◌∷◌, length, drop, arith, Option, Some, None}
+use Rattle.clfs_manager.proofs.Words.{IsSome, find, Contains, nat_le, nat_lt, slice_get, slice_index, ◌==◌, IfOk, OnOk, OnErr, option_map, option_and_then}
+use Rattle.clfs_manager.proofs.Words.{lt-ltb, le-leb, lsn_number, container_of, offset_of, sequence_of, LogEntry, Shape, Files, BlockRefusal, State, cut}
+use Rattle.clfs_manager.proofs.Words.{flushed, first_or, block_start, hold, IsValid, IsWaiting, Buffered, kept_at, with_used, block_place, first_lsn}
+use Rattle.clfs_manager.proofs.Words.{record_in, Gives, BlockPlace, ReadRefusal, BaseImage, Newest, Blocks, file_of, IsReadAt, shape_of, unflushed, IsStored}
+use Rattle.clfs_manager.proofs.Words.{AreKept, IsNeeded}
+use Rattle.std.proofs.Common.{◌⊎◌, Result, Ok, Err}
+use Rattle.std.specs.Prelude.{slice_index_or}
+use Rattle.std.specs.Option.{ok_or}
 use Rattle.clfs_block.specs.Records.{block_records}
-use Rattle.clfs_block.specs.declared.head.BlockRefusal.{BlockRefusal}
-use Rattle.clfs_model.specs.declared.state.State.{State}
-use Rattle.clfs_model.specs.Flush.{cut, flushed, first_or, block_start}
-use Rattle.clfs_model.specs.Live.{hold}
-use Rattle.clfs_model.specs.Valid.{IsValid, IsWaiting}
-use Rattle.clfs_buffers.specs.Buffered.{Buffered, kept_at, kept_data, with_used, with_block, IsAdded}
-use Rattle.clfs_buffers.specs.Reading.{block_place, first_lsn, record_in, record_by, Gives}
-use Rattle.clfs_buffers.specs.declared.place.BlockPlace.{BlockPlace}
-use Rattle.clfs_buffers.specs.declared.refusal.ReadRefusal.{ReadRefusal}
-use Rattle.clfs_base.specs.declared.image.BaseImage.{BaseImage}
-use Rattle.clfs_physical.specs.Stored.{Newest, Blocks}
-use Rattle.clfs_recover.specs.Reading.{file_of, IsReadAt}
-use Rattle.clfs_recover.specs.Walk.{shape_of}
-use Rattle.clfs_manager.specs.Memory.{unflushed}
-use Rattle.clfs_manager.specs.OnDisk.{IsStored, AreKept}
-use Rattle.clfs_manager.specs.Fetching.{IsNeeded}
+use Rattle.clfs_buffers.specs.Buffered.{kept_data, with_block, IsAdded}
+use Rattle.clfs_buffers.specs.Reading.{record_by}
 use Rattle.clfs_manager.proofs.Among.{contains_passing, found_by_lsn}
 
 -- ---- which records are where

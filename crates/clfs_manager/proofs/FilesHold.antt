@@ -1,26 +1,11 @@
 -- What the files of a manager's log stand for: the flushed part of its state.
-use Rattle.std.proofs.Common.{◌≡◌, ◌≤◌, Bool, true, false, refl, sym, ap, subst, ◌∙◌, inl, inr, List, [], map, arith}
-use Rattle.std.specs.Prelude.{◌⊎◌, slice_index, MatchBool}
-use Rattle.clfs_lsn.specs.Lsn.{container_of}
-use Rattle.clfs_lsn.specs.declared.entry.LogEntry.{LogEntry}
-use Rattle.clfs_disk.specs.Files.{Files}
-use Rattle.clfs_base.specs.declared.image.BaseImage.{BaseImage}
+use Rattle.clfs_manager.proofs.Words.{◌≡◌, ◌≤◌, Bool, true, false, refl, sym, ap, subst, ◌∙◌, inl, inr, List, [], map, arith, ◌⊎◌, slice_index, MatchBool}
+use Rattle.clfs_manager.proofs.Words.{container_of, LogEntry, Files, BaseImage, Happened, Fine, Reply, State, flushed, cut, IsSame, hold, ReopenStep}
+use Rattle.clfs_manager.proofs.Words.{IsOutOfMemory, IsBroken, IsStorable, IsValid, Newest, Blocks, Stores, StandsFor, StandByBlocks, HaveByFile, IsStored}
+use Rattle.clfs_manager.proofs.Words.{HoldsFlushed}
 use Rattle.clfs_model.specs.declared.refusal.Refusal.TheVariants as refusals
-use Rattle.clfs_model.specs.declared.reply.Happened.{Happened}
-use Rattle.clfs_model.specs.declared.reply.Happened.TheVariants.{Fine}
-use Rattle.clfs_model.specs.declared.reply.Reply.{Reply}
 use Rattle.clfs_model.specs.declared.reply.Reply.TheVariants as replies
-use Rattle.clfs_model.specs.declared.state.State.{State}
-use Rattle.clfs_model.specs.Flush.{flushed, cut, IsSame}
-use Rattle.clfs_model.specs.Live.{hold}
-use Rattle.clfs_model.specs.Step.{ReopenStep, Reopens, IsOpenedAnew, IsOutOfMemory, IsBroken}
-use Rattle.clfs_model.specs.Storable.{IsStorable}
-use Rattle.clfs_model.specs.Valid.{IsValid}
-use Rattle.clfs_physical.specs.Stored.{Newest, Blocks, Stores}
-use Rattle.clfs_recover.specs.Files.{StandsFor}
-use Rattle.clfs_manager.specs.CallLaws.{StandByBlocks, HaveByFile}
-use Rattle.clfs_manager.specs.OnDisk.{IsStored}
-use Rattle.clfs_manager.specs.Reopening.{HoldsFlushed}
+use Rattle.clfs_model.specs.Step.{Reopens, IsOpenedAnew}
 use Rattle.clfs_manager.proofs.Reached.{hold_below_live}
 use Rattle.clfs_manager.proofs.SameCut.{same_from}
 

@@ -1,27 +1,11 @@
 -- A log that was flushed is open still.
-use Rattle.std.proofs.Common.{◌≡◌, ℕ, ◌≤◌, refl, sym, ap, ◌∙◌, arith, Bool, true, false, inr}
-use Rattle.std.specs.Prelude.{None, Some, if◌then◌else◌, nat_lt, Result, Ok, Err, OnOk, OnErr}
-use Rattle.std.specs.Result.{is_err}
-use Rattle.clfs_disk.specs.State.{DiskState, IsSettled}
-use Rattle.clfs_model.specs.declared.state.State.{State}
-use Rattle.clfs_lsn.specs.Lsn.{container_of}
-use Rattle.clfs_model.specs.Flush.{flush, flushed}
-use Rattle.clfs_model.specs.Live.{hold}
-use Rattle.clfs_model.specs.declared.call.Call.{Call}
+use Rattle.clfs_manager.proofs.Words.{◌≡◌, ℕ, ◌≤◌, refl, sym, ap, ◌∙◌, arith, Bool, true, false, inr, None, Some, if◌then◌else◌, nat_lt, Result, Ok, Err}
+use Rattle.clfs_manager.proofs.Words.{OnOk, OnErr, is_err, DiskState, IsSettled, State, container_of, flush, flushed, hold, Call, Happened, Fine, Fault}
+use Rattle.clfs_manager.proofs.Words.{Reply, MeetsCondition, Step, ReopenStep, with_broken, IsStorable, IsValid, Buffered, KeepsOthers, StoredAfter, Holds}
+use Rattle.clfs_manager.proofs.Words.{IsOpen, IsManaged, AreKept, Log}
 use Rattle.clfs_model.specs.declared.refusal.Refusal.TheVariants as refusals
-use Rattle.clfs_model.specs.declared.reply.Happened.{Happened}
-use Rattle.clfs_model.specs.declared.reply.Happened.TheVariants.{Fine, Fault}
-use Rattle.clfs_model.specs.declared.reply.Reply.{Reply}
 use Rattle.clfs_model.specs.declared.reply.Reply.TheVariants as replies
-use Rattle.clfs_model.specs.Conditions.{MeetsCondition}
-use Rattle.clfs_model.specs.Step.{Step, ReopenStep, with_broken}
-use Rattle.clfs_model.specs.Storable.{IsStorable}
-use Rattle.clfs_model.specs.Valid.{IsValid}
-use Rattle.clfs_buffers.specs.Buffered.{Buffered}
-use Rattle.clfs_manager.specs.Flushing.{IsBroken, KeepsOthers, StoredAfter}
-use Rattle.clfs_manager.specs.Memory.{Holds}
-use Rattle.clfs_manager.specs.OnDisk.{IsOpen, IsManaged, AreKept}
-use Rattle.clfs_manager.specs.declared.log.Log.{Log}
+use Rattle.clfs_manager.specs.Flushing.{IsBroken}
 use Rattle.clfs_manager.proofs.AreasChange.{KeepsValid, KeepsStorable}
 use Rattle.clfs_manager.proofs.ClosedPlace.{flush_is, is_closed_of, is_start}
 use Rattle.clfs_manager.proofs.FlushedLog.{done, hold_done}

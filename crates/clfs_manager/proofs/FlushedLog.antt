@@ -1,37 +1,14 @@
 -- A flush as memory and the disk have it.
-use Rattle.std.proofs.Common.{◌≡◌, ℕ, ◌+◌, ◌-◌, ◌<◌, ◌≤◌, Bool, true, false, refl, sym, ap, ◌∙◌, inl, inr, List, [], ◌∷◌, ◌++◌, length, map, arith}
-use Rattle.std.specs.Prelude.{All, Option, Some, None, IsSome, Result, Ok, Err, OnOk, filter, nat_le, nat_lt, slice_get, ◌==◌}
-use Rattle.std.specs.Option.{option_to_list}
-use Rattle.std.proofs.lemmas.Bool.{eqb-true}
-use Rattle.std.proofs.lemmas.List.Elements.{All-filter, All-weaker, filter-append}
-use Rattle.std.proofs.lemmas.Option.{slice_get_within}
-use Rattle.clfs_lsn.specs.Lsn.{lsn_number, container_of, offset_of}
-use Rattle.clfs_lsn.specs.Place.{frontier}
+use Rattle.clfs_manager.proofs.Words.{◌≡◌, ℕ, ◌+◌, ◌-◌, ◌<◌, ◌≤◌, Bool, true, false, refl, sym, ap, ◌∙◌, inl, inr, List, [], ◌∷◌, ◌++◌, length, map, arith}
+use Rattle.clfs_manager.proofs.Words.{All, Option, Some, None, IsSome, Result, Ok, Err, OnOk, filter, nat_le, nat_lt, slice_get, ◌==◌, option_to_list}
+use Rattle.clfs_manager.proofs.Words.{eqb-true, All-filter, All-weaker, filter-append, slice_get_within, lsn_number, container_of, offset_of, frontier}
+use Rattle.clfs_manager.proofs.Words.{LogEntry, Place, total, IsLaid, DiskState, Failed, State, Stream, stream_at, block_start, cut, flush, flushed, hold}
+use Rattle.clfs_manager.proofs.Words.{live_lsns, least_or, IsStorable, HasMovedBase, IsValid, IsRecord, HasRanges, Newest, Blocks, HaveMore, stored_state}
+use Rattle.clfs_manager.proofs.Words.{records_from_container, file_at_end, stored_place, IsSound, unflushed, StoredAfter, HasGroup, IsLaidLog, WrittenAfter}
+use Rattle.clfs_manager.proofs.Words.{IsStored, Log}
 use Rattle.clfs_lsn.specs.Spelling.{BaseFits}
 use Rattle.clfs_lsn.specs.declared.entry.Kind.{Kind}
 use Rattle.clfs_lsn.specs.declared.entry.Kind.TheVariants.{Plain, Restart}
-use Rattle.clfs_lsn.specs.declared.entry.LogEntry.{LogEntry}
-use Rattle.clfs_lsn.specs.declared.place.Place.{Place}
-use Rattle.clfs_container.specs.OpenBlocks.{total}
-use Rattle.clfs_laws.specs.Between.{IsLaid}
-use Rattle.clfs_disk.specs.State.{DiskState}
-use Rattle.clfs_disk.specs.declared.disk.Failed.{Failed}
-use Rattle.clfs_model.specs.declared.state.State.{State}
-use Rattle.clfs_lsn.specs.declared.stream.Stream.{Stream}
-use Rattle.clfs_model.specs.State.{stream_at}
-use Rattle.clfs_model.specs.Flush.{block_start, cut, flush, flushed}
-use Rattle.clfs_model.specs.Live.{hold, live_lsns}
-use Rattle.clfs_lsn.specs.Heads.{least_or}
-use Rattle.clfs_model.specs.Storable.{IsStorable, HasMovedBase}
-use Rattle.clfs_model.specs.Valid.{IsValid, IsRecord, HasRanges}
-use Rattle.clfs_physical.specs.Stored.{Newest, Blocks}
-use Rattle.clfs_recover.specs.Logs.{HaveMore, stored_state, records_from_container, file_at_end}
-use Rattle.clfs_recover.specs.Stored.{stored_place}
-use Rattle.clfs_manager.specs.Memory.{IsSound, unflushed}
-use Rattle.clfs_manager.specs.Flushing.{StoredAfter}
-use Rattle.clfs_manager.specs.Laid.{HasGroup, IsLaidLog, WrittenAfter}
-use Rattle.clfs_manager.specs.OnDisk.{IsStored}
-use Rattle.clfs_manager.specs.declared.log.Log.{Log}
 use Rattle.clfs_manager.proofs.ClosedPlace.{closed_place, is_closed_of, flush_is, all_below_closed}
 use Rattle.clfs_manager.proofs.Ending.{parts_at}
 use Rattle.clfs_manager.proofs.Opened.{all_from, none_from}

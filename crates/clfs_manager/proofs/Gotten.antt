@@ -1,27 +1,14 @@
 -- Getting a record: a call that hands on the answer of another one leaves the log and the disk as that one does.
-use Rattle.std.proofs.Common.{◌≡◌, ◌<◌, ◌≤◌, ℕ, Bool, true, false, refl, sym, ap, ◌∙◌, subst, Ok, Err, arith}
-use Rattle.std.specs.Prelude.{Result, nat_lt, MatchBool, IsTrue, IsErrOf, IfOk, IfErr, length}
-use Rattle.std.proofs.lemmas.Bool.{lt-ltb}
-use Rattle.clfs_lsn.specs.Head.{head_of}
+use Rattle.clfs_manager.proofs.Words.{◌≡◌, ◌<◌, ◌≤◌, ℕ, Bool, true, false, refl, sym, ap, ◌∙◌, subst, arith, Result, nat_lt, MatchBool, IsTrue, IsErrOf, IfOk}
+use Rattle.clfs_manager.proofs.Words.{IfErr, lt-ltb, head_of, Head, LogEntry, DiskState, TellsContents, Refusal, State, flushed, is_of_call, Buffered}
+use Rattle.clfs_manager.proofs.Words.{kept_at, with_used, Gives, TellsByte, block_place, BlockPlace, ReadRefusal, IsNeeded, IsNeededHead, IsReadAs}
+use Rattle.clfs_manager.proofs.Words.{LeavesState, IsLeft, OnlyReads, TellsOf, refused_as, IsSound, AreKept, IsOpen, GetsRecord, Log}
+use Rattle.std.proofs.Common.{Ok, Err}
+use Rattle.std.specs.Prelude.{length}
 use Rattle.clfs_lsn.specs.Size.{most_data}
-use Rattle.clfs_lsn.specs.declared.entry.Head.{Head}
-use Rattle.clfs_lsn.specs.declared.entry.LogEntry.{LogEntry}
-use Rattle.clfs_disk.specs.State.{DiskState, TellsContents}
-use Rattle.clfs_model.specs.declared.refusal.Refusal.{Refusal}
 use Rattle.clfs_model.specs.declared.refusal.Refusal.TheVariants as refusals
-use Rattle.clfs_model.specs.declared.state.State.{State}
-use Rattle.clfs_model.specs.Flush.{flushed}
-use Rattle.clfs_laws.specs.Refused.{is_of_call}
-use Rattle.clfs_buffers.specs.Buffered.{Buffered, kept_at, with_used}
-use Rattle.clfs_buffers.specs.Reading.{Gives, TellsByte, block_place}
-use Rattle.clfs_buffers.specs.declared.place.BlockPlace.{BlockPlace}
-use Rattle.clfs_buffers.specs.declared.refusal.ReadRefusal.{ReadRefusal}
 use Rattle.clfs_buffers.specs.declared.refusal.ReadRefusal.TheVariants as reads
-use Rattle.clfs_manager.specs.Fetching.{IsNeeded, IsNeededHead, IsReadAs, LeavesState, IsLeft, OnlyReads, TellsOf, refused_as}
-use Rattle.clfs_manager.specs.Memory.{IsSound}
-use Rattle.clfs_manager.specs.OnDisk.{AreKept, IsOpen}
-use Rattle.clfs_manager.specs.Reading.{GetsRecord, ReadsBlock}
-use Rattle.clfs_manager.specs.declared.log.Log.{Log}
+use Rattle.clfs_manager.specs.Reading.{ReadsBlock}
 use Rattle.clfs_manager.proofs.Fetched.{kept_used}
 use Rattle.clfs_manager.proofs.Placed.{told_block}
 use Rattle.clfs_manager.proofs.ReadKeeps.{left_buffers, left_refused, none_called, quiet, refused_reads, state_stays, still}

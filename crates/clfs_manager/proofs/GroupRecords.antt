@@ -1,13 +1,10 @@
 -- The blocks of a group have the records of the queue, as opening reads them.
-use Rattle.std.proofs.Common.{◌≡◌, ℕ, ◌+◌, ◌≤◌, sym, ap, subst, ◌∙◌, List, [], ◌∷◌, ◌++◌, length}
-use Rattle.std.specs.Prelude.{All}
+use Rattle.clfs_manager.proofs.Words.{◌≡◌, ℕ, ◌+◌, ◌≤◌, sym, ap, subst, ◌∙◌, List, [], ◌∷◌, ◌++◌, length, All, All-head, All-tail, LogEntry, Shape, AreBlocks}
+use Rattle.clfs_manager.proofs.Words.{all_records, HasRecords}
 use Rattle.std.proofs.lemmas.List.Concat.{flat_map-cons}
-use Rattle.std.proofs.lemmas.List.Elements.{All-head, All-tail}
-use Rattle.clfs_lsn.specs.declared.entry.LogEntry.{LogEntry}
-use Rattle.clfs_lsn.specs.declared.shape.Shape.{Shape}
-use Rattle.clfs_queue.specs.Rows.{AreInRow, IsBlock, AreBlocks}
-use Rattle.clfs_recover.specs.Logs.{HaveRecords, all_records}
-use Rattle.clfs_recover.specs.Stored.{FitFrom, HasRecords}
+use Rattle.clfs_queue.specs.Rows.{AreInRow, IsBlock}
+use Rattle.clfs_recover.specs.Logs.{HaveRecords}
+use Rattle.clfs_recover.specs.Stored.{FitFrom}
 use Rattle.clfs_manager.proofs.SplitRecords.{all_left, all_right}
 
 -- the streams of records are among the first so many

@@ -1,19 +1,11 @@
 -- Heads of records against the records: their order, and where their blocks end.
-use Rattle.std.proofs.Common.{◌≡◌, ℕ, ◌+◌, ◌*◌, ◌<◌, Bool, refl, sym, ap, ◌∙◌, inl, inr, List, [], ◌∷◌, length, map, arith, get_or}
-use Rattle.std.specs.Prelude.{All, AllPairs, filter, sum_by}
-use Rattle.std.specs.List.Sorted.{IsStrictlyIncreasing}
-use Rattle.std.proofs.lemmas.Bool.{cases_Bool}
-use Rattle.std.proofs.lemmas.List.{get_or-map, length-map}
-use Rattle.std.proofs.lemmas.List.Elements.{All-map}
-use Rattle.std.proofs.lemmas.List.Kept.{AllPairs-from_increasing}
+use Rattle.clfs_manager.proofs.Words.{◌≡◌, ℕ, ◌+◌, ◌*◌, ◌<◌, Bool, refl, sym, ap, ◌∙◌, inl, inr, List, [], ◌∷◌, length, map, arith, get_or, All, filter}
+use Rattle.clfs_manager.proofs.Words.{IsStrictlyIncreasing, cases_Bool, get_or-map, length-map, All-map, AllPairs-from_increasing, sector_bytes, head_of}
+use Rattle.clfs_manager.proofs.Words.{offset_of, Head, LogEntry, is_in_block, end_of_block}
+use Rattle.std.specs.Prelude.{AllPairs, sum_by}
 use Rattle.std.proofs.lemmas.List.Folds.{fold-map}
-use Rattle.clfs_lsn.specs.Format.{sector_bytes, block_header}
-use Rattle.clfs_lsn.specs.Head.{head_of}
-use Rattle.clfs_lsn.specs.Lsn.{offset_of}
+use Rattle.clfs_lsn.specs.Format.{block_header}
 use Rattle.clfs_lsn.specs.Size.{size, sectors}
-use Rattle.clfs_lsn.specs.declared.entry.Head.{Head}
-use Rattle.clfs_lsn.specs.declared.entry.LogEntry.{LogEntry}
-use Rattle.clfs_model.specs.Archive.{is_in_block, end_of_block}
 use Rattle.clfs_model.specs.Heads.{block_end}
 
 -- heads of records whose LSNs rise

@@ -1,13 +1,7 @@
 -- The hold lies at or above what all LSNs lie at or above.
-use Rattle.std.proofs.Common.{ℕ, ◌≤◌, List, [], ◌∷◌, ◌++◌, arith}
-use Rattle.std.specs.Prelude.{All, filter, min, fold, Option, Some, None, IfSome}
-use Rattle.std.specs.Option.{option_to_list}
-use Rattle.std.proofs.lemmas.List.Elements.{All-nil, All-cons, All-head, All-tail, All-map, All-filter, All-append}
-use Rattle.clfs_lsn.specs.Place.{frontier}
-use Rattle.clfs_lsn.specs.declared.entry.LogEntry.{LogEntry}
-use Rattle.clfs_model.specs.declared.state.State.{State}
-use Rattle.clfs_model.specs.Live.{live_lsns, hold, is_live}
-use Rattle.clfs_lsn.specs.Heads.{least_or}
+use Rattle.clfs_manager.proofs.Words.{ℕ, ◌≤◌, List, [], ◌∷◌, ◌++◌, arith, All, filter, min, fold, Option, Some, None, IfSome, option_to_list, All-nil}
+use Rattle.clfs_manager.proofs.Words.{All-cons, All-head, All-tail, All-map, All-filter, All-append, frontier, LogEntry, State, live_lsns, hold, is_live}
+use Rattle.clfs_manager.proofs.Words.{least_or}
 
 min_from : (low a b : ℕ) → low ≤ a → low ≤ b → low ≤ min a b
 min_from low a b of_a of_b = omega (arith, of_a, of_b)

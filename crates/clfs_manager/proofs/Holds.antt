@@ -1,16 +1,6 @@
 -- What is computed from the tables in memory is what the machine's definitions say of the state that they hold.
-use Rattle.std.proofs.Common.{◌≡◌, ℕ, sym, ap, ◌∙◌, List}
-use Rattle.std.specs.Prelude.{Option}
-use Rattle.clfs_lsn.specs.Place.{frontier}
-use Rattle.clfs_lsn.specs.declared.entry.Head.{Head}
-use Rattle.clfs_lsn.specs.declared.place.Place.{Place}
-use Rattle.clfs_model.specs.declared.state.State.{State}
-use Rattle.clfs_lsn.specs.declared.stream.Stream.{Stream}
-use Rattle.clfs_model.specs.Heads.{heads_of}
+use Rattle.clfs_manager.proofs.Words.{◌≡◌, ℕ, sym, ap, ◌∙◌, List, Option, frontier, Head, Place, State, Stream, heads_of, hold, base_of, base_in}
 use Rattle.clfs_lsn.specs.Heads.{hold_of}
-use Rattle.clfs_model.specs.Live.{hold}
-use Rattle.clfs_model.specs.State.{base_of}
-use Rattle.clfs_tables.specs.Tables.{base_in}
 
 -- the hold
 pub hold_is : (s : State) (place : Place) (tail : Option ℕ) (streams : List Stream) (heads : List Head) (result : ℕ)

@@ -1,26 +1,10 @@
 -- How functions that write are chained: each of them leaves the log intact, and what two of them do to the disk, one after the other, is what one
 -- may do. All is said of logs and disks as plain values, so that it serves every call.
-use Rattle.std.proofs.Common.{◌≡◌, ℕ, ◌+◌, ◌-◌, ◌*◌, ◌^◌, ◌≤◌, true, false, refl, sym, ap, subst, ◌∙◌, length, arith}
-use Rattle.std.specs.Prelude.{Result, Ok, Err, OnOk, OnErr, IsOk, IsErr, min}
-use Rattle.clfs_lsn.specs.Format.{sector_bytes}
-use Rattle.clfs_disk.specs.Files.{Files}
-use Rattle.clfs_disk.specs.State.{DiskState, Nature, TellsContents, IsSettled, IsSteady, Later, Rises}
-use Rattle.clfs_base.specs.Slots.{newest_of}
-use Rattle.clfs_base.specs.declared.image.BaseImage.{BaseImage}
-use Rattle.clfs_model.specs.declared.state.State.{State}
-use Rattle.clfs_model.specs.Flush.{flush}
-use Rattle.clfs_model.specs.Storable.{IsStorable}
-use Rattle.clfs_model.specs.Valid.{IsValid}
-use Rattle.clfs_buffers.specs.Buffered.{Buffered}
-use Rattle.clfs_physical.specs.Stored.{AreMade, Blocks, Newest, Stores}
-use Rattle.clfs_recover.specs.Files.{AreWholeFiles}
-use Rattle.clfs_told.specs.declared.told.Told.{Told}
-use Rattle.clfs_manager.specs.Base.{KeepsAllButTables}
-use Rattle.clfs_manager.specs.Flushing.{KeepsOthers, StoredAfter}
-use Rattle.clfs_manager.specs.Memory.{HasForgotten, Holds, IsSound}
-use Rattle.clfs_manager.specs.OnDisk.{IsOpen, IsManaged, IsStored, AreKept}
-use Rattle.clfs_manager.specs.Written.{IsIntact, IsYetToForget, WritesDisk}
-use Rattle.clfs_manager.specs.declared.log.Log.{Log}
+use Rattle.clfs_manager.proofs.Words.{◌≡◌, ℕ, ◌+◌, ◌-◌, ◌*◌, ◌^◌, ◌≤◌, true, false, refl, sym, ap, subst, ◌∙◌, length, arith, Result, Ok, Err, OnOk, OnErr}
+use Rattle.clfs_manager.proofs.Words.{IsOk, IsErr, min, sector_bytes, Files, DiskState, Nature, TellsContents, IsSettled, IsSteady, Later, Rises, newest_of}
+use Rattle.clfs_manager.proofs.Words.{BaseImage, State, flush, IsStorable, IsValid, Buffered, AreMade, Blocks, Newest, Stores, AreWholeFiles, Told}
+use Rattle.clfs_manager.proofs.Words.{KeepsAllButTables, KeepsOthers, StoredAfter, HasForgotten, Holds, IsSound, IsOpen, IsManaged, IsStored, AreKept}
+use Rattle.clfs_manager.proofs.Words.{IsIntact, IsYetToForget, WritesDisk, Log}
 use Rattle.clfs_manager.proofs.ClosedPlace.{flush_is}
 use Rattle.clfs_manager.proofs.FlushKeeps.{open_flushed}
 use Rattle.clfs_manager.proofs.Joining.{later_then}

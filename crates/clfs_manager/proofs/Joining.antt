@@ -1,8 +1,5 @@
 -- How calls on a disk are joined.
-use Rattle.std.proofs.Common.{◌≡◌, ⊎_elim, ℕ, ◌<◌, ◌≤◌, ◌∙◌, subst, arith}
-use Rattle.std.proofs.lemmas.Bool.{cases_lt}
-use Rattle.clfs_disk.specs.Files.{Files}
-use Rattle.clfs_disk.specs.State.{DiskState, Later, Leaves}
+use Rattle.clfs_manager.proofs.Words.{◌≡◌, ⊎_elim, ℕ, ◌<◌, ◌≤◌, ◌∙◌, subst, arith, cases_lt, Files, DiskState, Later, Leaves}
 
 -- one call after another
 pub later_then : (a b c : DiskState) → Later a b → Later b c → Later a c

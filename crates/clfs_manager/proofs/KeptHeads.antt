@@ -1,17 +1,7 @@
 -- How much of a log is kept in memory, by what memory holds and has forgotten.
-use Rattle.std.proofs.Common.{◌≡◌, ℕ, ◌*◌, ◌≤◌, refl, sym, ap, subst, ◌∙◌, arith, true, false, List, length}
-use Rattle.std.specs.Prelude.{Option, Some, None, IsSome, is_some}
-use Rattle.std.specs.Option.{option_map}
-use Rattle.clfs_lsn.specs.Heads.{heads_from}
-use Rattle.clfs_lsn.specs.declared.entry.Head.{Head}
-use Rattle.clfs_lsn.specs.declared.stream.Stream.{Stream}
-use Rattle.clfs_model.specs.declared.state.State.{State}
-use Rattle.clfs_model.specs.Heads.{heads_of}
-use Rattle.clfs_model.specs.State.{stream_at}
-use Rattle.clfs_tables.specs.Tables.{IsNumber}
-use Rattle.clfs_manager.specs.Keeping.{KeepsFew}
-use Rattle.clfs_manager.specs.Memory.{HasForgotten, Holds, hold_start}
-use Rattle.clfs_manager.specs.declared.log.Log.{Log}
+use Rattle.clfs_manager.proofs.Words.{◌≡◌, ℕ, ◌*◌, ◌≤◌, refl, sym, ap, subst, ◌∙◌, arith, true, false, List, length, Option, Some, None, IsSome, is_some}
+use Rattle.clfs_manager.proofs.Words.{option_map, heads_from, Head, Stream, State, heads_of, stream_at, IsNumber, KeepsFew, HasForgotten, Holds, hold_start}
+use Rattle.clfs_manager.proofs.Words.{Log}
 use Rattle.clfs_manager.proofs.Reached.{number_there}
 
 some_there : (found : Option Stream) (base : ℕ) → option_map (λ (stream : Stream). stream.base) found ≡ Some base → IsSome found

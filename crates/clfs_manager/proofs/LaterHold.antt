@@ -1,23 +1,12 @@
 -- The hold isn't earlier where the base of a stream has moved up.
-use Rattle.std.proofs.Common.{◌≡◌, ℕ, zero, suc, ◌-◌, ◌≤◌, Bool, true, false, refl, subst, inl, inr, arith, List, [], ◌∷◌, ◌++◌}
-use Rattle.std.specs.Prelude.{Contains, Option, Some, None, IfSome, ◌==◌, filter, fold, map, min, nat_le, slice_get}
+use Rattle.clfs_manager.proofs.Words.{◌≡◌, ℕ, zero, suc, ◌-◌, ◌≤◌, Bool, true, false, refl, subst, inl, inr, arith, List, [], ◌∷◌, ◌++◌, Contains, Option}
+use Rattle.clfs_manager.proofs.Words.{Some, None, IfSome, ◌==◌, filter, fold, min, nat_le, slice_get, option_map_or, option_to_list, cases_Bool, eqb-true}
+use Rattle.clfs_manager.proofs.Words.{leb-true, le-leb, All-contains_itself, All-weaker, IsLaid, null_lsn, frontier, LogEntry, State, Stream, flushed, hold}
+use Rattle.clfs_manager.proofs.Words.{is_live, live_lsns, least_or, set_base, IsRecord, base_in, rebased_streams}
+use Rattle.std.specs.Prelude.{map}
 use Rattle.std.specs.List.{AllByRecursion}
-use Rattle.std.specs.Option.{option_map_or, option_to_list}
-use Rattle.std.proofs.lemmas.Bool.{cases_Bool, eqb-true, eqb-false, leb-true, le-leb}
-use Rattle.std.proofs.lemmas.List.Elements.{All-contains_itself, All-weaker, recursion_from_All}
-use Rattle.clfs_laws.specs.Between.{IsLaid}
-use Rattle.clfs_lsn.specs.Lsn.{null_lsn}
-use Rattle.clfs_lsn.specs.Place.{frontier}
-use Rattle.clfs_lsn.specs.declared.entry.LogEntry.{LogEntry}
-use Rattle.clfs_model.specs.declared.state.State.{State}
-use Rattle.clfs_lsn.specs.declared.stream.Stream.{Stream}
-use Rattle.clfs_model.specs.Flush.{flushed}
-use Rattle.clfs_model.specs.Live.{hold, is_live, live_lsns}
-use Rattle.clfs_lsn.specs.Heads.{least_or}
-use Rattle.clfs_lsn.specs.Streams.{set_base}
-use Rattle.clfs_model.specs.Valid.{IsRecord}
-use Rattle.clfs_tables.specs.Tables.{base_in}
-use Rattle.clfs_manager.specs.Restarts.{rebased_streams}
+use Rattle.std.proofs.lemmas.Bool.{eqb-false}
+use Rattle.std.proofs.lemmas.List.Elements.{recursion_from_All}
 use Rattle.clfs_manager.proofs.Among.{here}
 use Rattle.clfs_manager.proofs.ClosedPlace.{starts_at}
 use Rattle.clfs_manager.proofs.Reached.{hold_below_live, least_below}

@@ -58,5 +58,6 @@ pub mod Stages
 pub mod CrashedRestart
 mod CopiedMeanwhile
 mod CopyingCalls
+mod Words
 pub mod Placed
 pub mod WritingCalls

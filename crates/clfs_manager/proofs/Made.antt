@@ -1,23 +1,16 @@
 -- What the files of a log that has just been made stand for.
-use Rattle.std.proofs.Common.{◌≡◌, ◌≢◌, inl, inr, ⊎_elim, ℕ, ◌<◌, Bool, true, false, List, [], ◌∷◌, length, Ok, Err, refl, sym, ◌∙◌, ap, subst, arith}
-use Rattle.std.specs.Prelude.{slice_index, Result, if◌then◌else◌, nat_le}
-use Rattle.std.proofs.lemmas.Bool.Decides.{nat_tests}
+use Rattle.clfs_manager.proofs.Words.{◌≡◌, ◌≢◌, inl, inr, ⊎_elim, ℕ, ◌<◌, Bool, true, false, List, [], ◌∷◌, length, refl, sym, ◌∙◌, ap, subst, arith}
+use Rattle.clfs_manager.proofs.Words.{slice_index, Result, if◌then◌else◌, nat_le, nat_tests, lsn_number, Shape, LogEntry, Files, DiskState, BlockRefusal}
+use Rattle.clfs_manager.proofs.Words.{Parts, LoadRefusal, StandsFor}
+use Rattle.std.proofs.Common.{Ok, Err}
 use Rattle.clfs_lsn.specs.Format.{open_gate}
-use Rattle.clfs_lsn.specs.Lsn.{lsn_number}
-use Rattle.clfs_lsn.specs.declared.shape.Shape.{Shape}
-use Rattle.clfs_lsn.specs.declared.entry.LogEntry.{LogEntry}
-use Rattle.clfs_disk.specs.Files.{Files}
-use Rattle.clfs_disk.specs.State.{DiskState}
 use Rattle.clfs_block.specs.Checks.{frame_at}
 use Rattle.clfs_block.specs.declared.head.BlockHead.{BlockHead}
-use Rattle.clfs_block.specs.declared.head.BlockRefusal.{BlockRefusal}
 use Rattle.clfs_block.specs.declared.head.BlockRefusal.TheVariants as blocks
 use Rattle.clfs_model.specs.State.{fresh}
 use Rattle.clfs_base.specs.Writing.{HasNoCopy}
-use Rattle.clfs_recover.specs.declared.parts.Parts.{Parts}
-use Rattle.clfs_recover.specs.declared.refusal.LoadRefusal.{LoadRefusal}
 use Rattle.clfs_recover.specs.Walk.{Container, end_at, blocks_end, walked, parts_with}
-use Rattle.clfs_recover.specs.Files.{FindsBehind, StandsFor}
+use Rattle.clfs_recover.specs.Files.{FindsBehind}
 use Rattle.clfs_format.specs.Making.{first_image, IsMade, IsMadeAtOnce}
 use Rattle.clfs_manager.specs.Formatting.{ComesAtOnce}
 

@@ -1,35 +1,19 @@
 -- A log of which the base of a stream moved, in memory and on the disk.
-use Rattle.std.proofs.Common.{◌≡◌, ◌≢◌, ⊎_elim, ℕ, ◌+◌, ◌-◌, ◌^◌, ◌<◌, ◌≤◌, suc, Bool, true, false, refl, sym, ap, subst, ◌∙◌, inl, inr, List, [], ◌∷◌, length, map, arith}
-use Rattle.std.specs.Prelude.{All, Contains, Option, Some, None, is_some, ◌&&◌, ◌||◌, ◌==◌, nat_lt}
+use Rattle.clfs_manager.proofs.Words.{◌≡◌, ◌≢◌, ⊎_elim, ℕ, ◌+◌, ◌-◌, ◌^◌, ◌<◌, ◌≤◌, suc, Bool, true, false, refl, sym, ap, subst, ◌∙◌, inl, inr, List, []}
+use Rattle.clfs_manager.proofs.Words.{◌∷◌, length, map, arith, All, Contains, Option, Some, None, is_some, ◌&&◌, ◌==◌, nat_lt, cases_Bool, cases_lt, eqb-true}
+use Rattle.clfs_manager.proofs.Words.{le-leb, nat_tests, length-set, All-head, All-tail, All-map, All-weaker, All-contains_itself, head_of, lsn_number}
+use Rattle.clfs_manager.proofs.Words.{null_lsn, container_of, Head, LogEntry, IsImage, IsName, current, flag, row_in, BaseImage, Row, State, Stream, heads_of}
+use Rattle.clfs_manager.proofs.Words.{hold, is_live, live, live_at, base_of, set_base, Buffered, Blocks, IsLogWith, stored_state, with_row_base, AreSealed}
+use Rattle.clfs_manager.proofs.Words.{BlockEnd, base_in, with_base, IsStored, AreKept}
+use Rattle.std.specs.Prelude.{◌||◌}
 use Rattle.std.specs.List.{last_or}
-use Rattle.std.proofs.lemmas.Bool.{cases_Bool, cases_eq, cases_lt, eqb-true, le-leb}
-use Rattle.std.proofs.lemmas.Bool.Decides.{nat_tests}
-use Rattle.std.proofs.lemmas.List.{get_or-set_same, get_or-set_other, length-set}
-use Rattle.std.proofs.lemmas.List.Elements.{All-head, All-tail, All-map, All-weaker, All-contains_itself}
-use Rattle.clfs_lsn.specs.Head.{head_of}
-use Rattle.clfs_lsn.specs.Lsn.{lsn_number, null_lsn, container_of}
-use Rattle.clfs_lsn.specs.declared.entry.Head.{Head}
-use Rattle.clfs_lsn.specs.declared.entry.LogEntry.{LogEntry}
+use Rattle.std.proofs.lemmas.Bool.{cases_eq}
+use Rattle.std.proofs.lemmas.List.{get_or-set_same, get_or-set_other}
 use Rattle.clfs_base.specs.Layout.{version_two, most_dedicated}
-use Rattle.clfs_base.specs.Spelling.{IsImage, IsName, AreRows, current, flag, row_in}
-use Rattle.clfs_base.specs.declared.image.BaseImage.{BaseImage}
-use Rattle.clfs_base.specs.declared.image.Row.{Row}
-use Rattle.clfs_model.specs.declared.state.State.{State}
-use Rattle.clfs_lsn.specs.declared.stream.Stream.{Stream}
-use Rattle.clfs_model.specs.Heads.{heads_of}
-use Rattle.clfs_model.specs.Live.{hold, is_live, last_live, live, live_at, lsn_or_null}
+use Rattle.clfs_base.specs.Spelling.{AreRows}
+use Rattle.clfs_model.specs.Live.{last_live, lsn_or_null}
 use Rattle.clfs_model.specs.Refusals.{is_base}
-use Rattle.clfs_model.specs.State.{base_of}
-use Rattle.clfs_lsn.specs.Streams.{set_base}
-use Rattle.clfs_buffers.specs.Buffered.{Buffered}
 use Rattle.clfs_physical.specs.Changes.{with_base as row_bases}
-use Rattle.clfs_physical.specs.Stored.{Blocks}
-use Rattle.clfs_recover.specs.Logs.{IsLogWith, stored_state, with_row_base}
-use Rattle.clfs_archive.specs.Blocks.{AreSealed}
-use Rattle.clfs_archive.specs.declared.block.BlockEnd.{BlockEnd}
-use Rattle.clfs_tables.specs.Tables.{base_in}
-use Rattle.clfs_manager.specs.Base.{with_base}
-use Rattle.clfs_manager.specs.OnDisk.{IsStored, AreKept}
 use Rattle.clfs_manager.proofs.Among.{contains_all, found, here, there}
 use Rattle.clfs_manager.proofs.Extents.{told_later}
 use Rattle.clfs_manager.proofs.Reached.{hold_below_live}

@@ -1,27 +1,15 @@
 -- What the numbers of a valid state are, so that they fit their types and the calls that compute with them can be made.
-use Rattle.std.proofs.Common.{◌≡◌, ℕ, ◌+◌, ◌-◌, ◌<◌, ◌≤◌, ◌^◌, true, false, refl, inl, inr, ⊎_elim, List, [], ◌∷◌, ◌++◌, length, arith}
-use Rattle.std.specs.Prelude.{All, filter, min, fold, Option, Some, None, IfSome, IsSome, slice_get}
-use Rattle.std.specs.Option.{option_to_list}
-use Rattle.std.proofs.lemmas.List.Elements.{All-nil, All-cons, All-head, All-map, All-filter, All-append, All-weaker}
-use Rattle.std.proofs.lemmas.Option.{slice_get_within}
+use Rattle.clfs_manager.proofs.Words.{◌≡◌, ℕ, ◌+◌, ◌-◌, ◌<◌, ◌≤◌, ◌^◌, true, false, refl, inl, inr, ⊎_elim, List, [], ◌∷◌, ◌++◌, length, arith, All, filter}
+use Rattle.clfs_manager.proofs.Words.{min, fold, Option, Some, None, IfSome, IsSome, slice_get, option_to_list, All-nil, All-cons, All-head, All-map}
+use Rattle.clfs_manager.proofs.Words.{All-filter, All-append, All-weaker, slice_get_within, lsn_number, container_of, sequence_of, IsWithin, IsClosed}
+use Rattle.clfs_manager.proofs.Words.{frontier, IsShape, Place, Shape, LogEntry, State, Stream, stream_at, block_start, flushed, first_or, live_lsns, hold}
+use Rattle.clfs_manager.proofs.Words.{is_live, least_or, IsValid, IsRecord, IsWaiting, HasRanges, HasWaiting, IsNumber}
 use Rattle.std.proofs.lemmas.Nat.{mul-le}
 use Rattle.std.proofs.lemmas.Bool.Decides.{eqb_tells}
 use Rattle.clfs_lsn.specs.Limits.{most_containers}
-use Rattle.clfs_lsn.specs.Lsn.{lsn_number, container_of, sequence_of}
-use Rattle.clfs_lsn.specs.Place.{IsWithin, IsSmall, IsClosed, IsOpen, frontier}
-use Rattle.clfs_lsn.specs.Size.{IsShape}
+use Rattle.clfs_lsn.specs.Place.{IsSmall, IsOpen}
 use Rattle.clfs_lsn.specs.Space.{free_sectors, next_containers}
-use Rattle.clfs_lsn.specs.declared.place.Place.{Place}
-use Rattle.clfs_lsn.specs.declared.shape.Shape.{Shape}
-use Rattle.clfs_lsn.specs.declared.entry.LogEntry.{LogEntry}
-use Rattle.clfs_model.specs.declared.state.State.{State}
-use Rattle.clfs_lsn.specs.declared.stream.Stream.{Stream}
-use Rattle.clfs_model.specs.State.{stream_at}
-use Rattle.clfs_model.specs.Flush.{block_start, flushed, first_or}
-use Rattle.clfs_model.specs.Live.{live_lsns, hold, is_live}
-use Rattle.clfs_lsn.specs.Heads.{least_or}
-use Rattle.clfs_model.specs.Valid.{IsValid, IsRecord, IsWaiting, HasRanges, HasRecords, HasWaiting}
-use Rattle.clfs_tables.specs.Tables.{IsNumber}
+use Rattle.clfs_model.specs.Valid.{HasRecords}
 
 small_by : (shape : Shape) (place : Place) → IsShape shape → IsWithin shape place → place.used ≤ 64512 → place.records ≤ 511 → IsSmall place
 small_by shape place is within used records = record {

@@ -1,24 +1,9 @@
 -- What memory has of a log that was opened.
-use Rattle.std.proofs.Common.{◌≡◌, ℕ, ◌*◌, ◌<◌, ◌≤◌, ◌^◌, true, false, refl, ap, List, [], ◌∷◌, length, map, arith}
-use Rattle.std.specs.Prelude.{All, filter, nat_le}
-use Rattle.std.specs.List.Sorted.{IsStrictlyIncreasing}
-use Rattle.std.proofs.lemmas.Bool.Decides.{nat_tests}
-use Rattle.std.proofs.lemmas.List.Elements.{All-head, All-tail, All-map, All-weaker}
-use Rattle.clfs_lsn.specs.Head.{head_of}
-use Rattle.clfs_lsn.specs.Lsn.{sequence_of}
-use Rattle.clfs_lsn.specs.Place.{IsClosed, IsWithin, frontier}
-use Rattle.clfs_lsn.specs.declared.shape.Shape.{Shape}
-use Rattle.clfs_lsn.specs.declared.place.Place.{Place}
-use Rattle.clfs_model.specs.Archive.{end_of_block}
-use Rattle.clfs_model.specs.Flush.{block_start}
+use Rattle.clfs_manager.proofs.Words.{◌≡◌, ℕ, ◌*◌, ◌<◌, ◌≤◌, ◌^◌, true, false, refl, ap, List, [], ◌∷◌, length, map, arith, All, filter, nat_le}
+use Rattle.clfs_manager.proofs.Words.{IsStrictlyIncreasing, nat_tests, All-head, All-tail, All-map, All-weaker, head_of, sequence_of, IsClosed, IsWithin}
+use Rattle.clfs_manager.proofs.Words.{frontier, Shape, Place, end_of_block, block_start, Head, LogEntry, Row, streams_with, IsImage, current, Parts}
 use Rattle.clfs_model.specs.Heads.{block_end}
 use Rattle.clfs_lsn.specs.Spelling.{FitsAt}
-use Rattle.clfs_lsn.specs.declared.entry.Head.{Head}
-use Rattle.clfs_lsn.specs.declared.entry.LogEntry.{LogEntry}
-use Rattle.clfs_base.specs.declared.image.Row.{Row}
-use Rattle.clfs_base.specs.Streams.{streams_with}
-use Rattle.clfs_base.specs.Spelling.{IsImage, current}
-use Rattle.clfs_recover.specs.declared.parts.Parts.{Parts}
 use Rattle.clfs_tables.specs.Opening.{AreRowsAndHeads}
 use Rattle.clfs_manager.proofs.Heads.{heads_rise, ends_as_heads}
 

@@ -1,24 +1,15 @@
 -- A log that was opened again, or that wasn't.
-use Rattle.std.proofs.Common.{◌≡◌, ℕ, Bool, true, false, [], refl, sym, subst, ◌∙◌, inl, inr, Ok, Err, arith}
-use Rattle.std.specs.Prelude.{IsErrOf}
-use Rattle.clfs_disk.specs.Files.{Files, Unchanged}
+use Rattle.clfs_manager.proofs.Words.{◌≡◌, ℕ, Bool, true, false, [], refl, sym, subst, ◌∙◌, inl, inr, arith, IsErrOf, Files, Unchanged, DiskState}
+use Rattle.clfs_manager.proofs.Words.{TellsContents, IsSteady, Passes, Rises, Refusal, State, happened_of_refusal, ReopenStep, StandsFor, IsDamaged}
+use Rattle.clfs_manager.proofs.Words.{IsRefused, LoadRefusal, DiskFault, LeavesState, OnlyReads, IsManaged, HoldsFlushed, Log}
+use Rattle.std.proofs.Common.{Ok, Err}
 use Rattle.clfs_base.specs.declared.refusal.NewestRefusal.TheVariants as newest
-use Rattle.clfs_disk.specs.State.{DiskState, TellsContents, IsSteady, Passes, Rises}
-use Rattle.clfs_model.specs.declared.refusal.Refusal.{Refusal}
 use Rattle.clfs_model.specs.declared.refusal.Refusal.TheVariants as refusals
 use Rattle.clfs_model.specs.declared.reply.Reply.TheVariants as replies
-use Rattle.clfs_model.specs.declared.state.State.{State}
-use Rattle.clfs_model.specs.Happened.{happened_of_refusal}
-use Rattle.clfs_model.specs.Step.{ReopenStep}
-use Rattle.clfs_recover.specs.Files.{StandsFor, IsDamaged, HasNoBase}
-use Rattle.clfs_recover.specs.Opening.{IsRefused}
+use Rattle.clfs_recover.specs.Files.{HasNoBase}
 use Rattle.clfs_recover.specs.Telling.{TellsOpening}
-use Rattle.clfs_recover.specs.declared.refusal.LoadRefusal.{LoadRefusal}
-use Rattle.clfs_recover.specs.declared.refusal.LoadRefusal.TheVariants.{NoBase, Damaged, DiskFault, NoMemory}
-use Rattle.clfs_manager.specs.Fetching.{LeavesState, OnlyReads}
-use Rattle.clfs_manager.specs.OnDisk.{IsManaged}
-use Rattle.clfs_manager.specs.Reopening.{HoldsFlushed, TellsPlace, refused_as}
-use Rattle.clfs_manager.specs.declared.log.Log.{Log}
+use Rattle.clfs_recover.specs.declared.refusal.LoadRefusal.TheVariants.{NoBase, Damaged, NoMemory}
+use Rattle.clfs_manager.specs.Reopening.{TellsPlace, refused_as}
 use Rattle.clfs_manager.proofs.FilesHold.{reopens}
 use Rattle.clfs_manager.proofs.FlushKeeps.{ReopensValid, ReopensStorable, managed_broken}
 use Rattle.clfs_manager.proofs.ReadKeeps.{open_buffers}

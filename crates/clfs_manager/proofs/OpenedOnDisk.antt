@@ -1,25 +1,10 @@
 -- What the disk has of a log that was opened.
-use Rattle.std.proofs.Common.{◌≡◌, ℕ, ◌+◌, ◌≤◌, Bool, true, false, refl, sym, ap, subst, ◌∙◌, inl, inr, List, [], length, arith}
-use Rattle.std.specs.Prelude.{IsTrue, All, Some, None, IfSome, if◌then◌else◌, Ok}
-use Rattle.std.proofs.lemmas.Bool.{cases_Bool}
-use Rattle.std.proofs.lemmas.List.Elements.{All-weaker}
-use Rattle.clfs_lsn.specs.Lsn.{lsn_number, container_of}
-use Rattle.clfs_lsn.specs.Place.{frontier}
-use Rattle.clfs_lsn.specs.declared.entry.LogEntry.{LogEntry}
-use Rattle.clfs_disk.specs.Files.{Files}
-use Rattle.clfs_disk.specs.State.{DiskState, TellsContents, IsHonest, IsSettled}
-use Rattle.clfs_container.specs.OpenBlocks.{AreWhole}
-use Rattle.clfs_model.specs.declared.state.State.{State}
-use Rattle.clfs_model.specs.Flush.{cut}
-use Rattle.clfs_model.specs.Live.{hold}
-use Rattle.clfs_physical.specs.Stored.{Newest, Blocks, Stores}
-use Rattle.clfs_base.specs.Slots.{newest_of}
-use Rattle.clfs_recover.specs.Files.{Finds, state_of}
-use Rattle.clfs_recover.specs.Logs.{IsStoredIn, FitsUpTo, records_from_container}
-use Rattle.clfs_recover.specs.declared.parts.Parts.{Parts}
-use Rattle.clfs_manager.specs.Memory.{HasForgotten, Holds}
-use Rattle.clfs_manager.specs.OnDisk.{IsStored, IsOpen, AreKept}
-use Rattle.clfs_manager.specs.declared.log.Log.{Log}
+use Rattle.clfs_manager.proofs.Words.{◌≡◌, ℕ, ◌+◌, ◌≤◌, Bool, true, false, refl, sym, ap, subst, ◌∙◌, inl, inr, List, [], length, arith, IsTrue, All, Some}
+use Rattle.clfs_manager.proofs.Words.{None, IfSome, if◌then◌else◌, Ok, cases_Bool, All-weaker, lsn_number, container_of, frontier, LogEntry, Files, DiskState}
+use Rattle.clfs_manager.proofs.Words.{TellsContents, IsHonest, IsSettled, AreWhole, State, cut, hold, Newest, Blocks, Stores, newest_of, state_of}
+use Rattle.clfs_manager.proofs.Words.{records_from_container, Parts, HasForgotten, Holds, IsStored, IsOpen, AreKept, Log}
+use Rattle.clfs_recover.specs.Files.{Finds}
+use Rattle.clfs_recover.specs.Logs.{IsStoredIn, FitsUpTo}
 use Rattle.clfs_manager.proofs.Holding.{hold_from}
 use Rattle.clfs_manager.proofs.Opened.{all_from}
 

@@ -1,20 +1,9 @@
 -- Refusals that are a call's own: none of them is a fault of the disk, and they change nothing.
-use Rattle.std.proofs.Common.{◌≡◌, ℕ, Bool, true, false, refl, sym, ap, subst}
-use Rattle.std.specs.Prelude.{Ok, Err, IsErrAnd, IsErrOf, Result, Some}
-use Rattle.clfs_disk.specs.State.{DiskState}
-use Rattle.clfs_laws.specs.Refused.{is_of_call}
-use Rattle.clfs_model.specs.declared.call.Call.{Call}
-use Rattle.clfs_model.specs.declared.refusal.Refusal.{Refusal}
+use Rattle.clfs_manager.proofs.Words.{◌≡◌, ℕ, Bool, true, false, refl, sym, ap, subst, Ok, Err, IsErrOf, Result, Some, DiskState, is_of_call, Call, Refusal}
+use Rattle.clfs_manager.proofs.Words.{Happened, Fine, State, happened_of_refusal, refusal, Step, GoesTheseWays, WritesDisk}
+use Rattle.std.specs.Prelude.{IsErrAnd}
 use Rattle.clfs_model.specs.declared.refusal.Refusal.TheVariants as refusals
-use Rattle.clfs_model.specs.declared.reply.Happened.{Happened}
-use Rattle.clfs_model.specs.declared.reply.Happened.TheVariants.{Fine}
 use Rattle.clfs_model.specs.declared.reply.Reply.TheVariants as replies
-use Rattle.clfs_model.specs.declared.state.State.{State}
-use Rattle.clfs_model.specs.Happened.{happened_of_refusal}
-use Rattle.clfs_model.specs.Refusals.{refusal}
-use Rattle.clfs_model.specs.Step.{Step}
-use Rattle.clfs_model.specs.Ways.{GoesTheseWays}
-use Rattle.clfs_manager.specs.Written.{WritesDisk}
 use Rattle.clfs_manager.proofs.Intact.{writes_nothing}
 
 no_fault : {A : Type 0} (given : Refusal) → is_of_call given ≡ true → IsErrOf {T = A} (Err given) refusals.DiskFault → ⊥

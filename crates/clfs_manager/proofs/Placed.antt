@@ -1,19 +1,10 @@
 -- Where damage is told.
-use Rattle.std.proofs.Common.{◌≡◌, ℕ, List, length, Result, Ok, Err, refl, ap, subst, true}
-use Rattle.std.specs.Prelude.{Option, IfErr}
-use Rattle.clfs_lsn.specs.declared.entry.Head.{Head}
-use Rattle.clfs_lsn.specs.declared.entry.LogEntry.{LogEntry}
-use Rattle.clfs_lsn.specs.declared.shape.Shape.{Shape}
-use Rattle.clfs_model.specs.declared.refusal.Refusal.{Refusal}
+use Rattle.clfs_manager.proofs.Words.{◌≡◌, ℕ, List, length, refl, ap, subst, true, Option, IfErr, Head, LogEntry, Shape, Refusal, Area, State, is_of_call}
+use Rattle.clfs_manager.proofs.Words.{area_at, TellsByte, ReadRefusal, refused_as, Reaches, TellsOf}
+use Rattle.std.proofs.Common.{Result, Ok, Err}
 use Rattle.clfs_model.specs.declared.refusal.Refusal.TheVariants as refusals
-use Rattle.clfs_model.specs.declared.state.Area.{Area}
-use Rattle.clfs_model.specs.declared.state.State.{State}
-use Rattle.clfs_laws.specs.Refused.{is_of_call}
-use Rattle.clfs_areas.specs.Table.{area_at}
-use Rattle.clfs_buffers.specs.Reading.{TellsByte}
-use Rattle.clfs_buffers.specs.declared.refusal.ReadRefusal.{ReadRefusal}
 use Rattle.clfs_buffers.specs.declared.refusal.ReadRefusal.TheVariants as reads
-use Rattle.clfs_manager.specs.Fetching.{refused_as, Reaches, TellsOf, TellsWhere}
+use Rattle.clfs_manager.specs.Fetching.{TellsWhere}
 
 -- a block was judged by the log's own shape and number of streams
 pub told_byte : (s : State) (shape : Shape) (streams lsn : ℕ) (result : Result LogEntry ReadRefusal) → shape ≡ s.shape → streams ≡ length s.streams

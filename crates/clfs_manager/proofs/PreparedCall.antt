@@ -1,25 +1,12 @@
 -- A call that puts a record into a log: what it finds once the log has grown and its area has spent, and how it is a step.
-use Rattle.std.proofs.Common.{◌≡◌, ℕ, ◌≤◌, Bool, true, false, refl, sym, ap, subst, ◌∙◌, List, [], ◌∷◌, length}
-use Rattle.std.specs.Prelude.{Option, Some, None, Err, IsErrOf, ◌==◌, find, if◌then◌else◌, nat_lt}
-use Rattle.std.specs.Option.{option_map_or}
-use Rattle.std.proofs.lemmas.Bool.{ltb-false}
-use Rattle.clfs_lsn.specs.Lsn.{null_lsn}
-use Rattle.clfs_model.specs.declared.call.Call.{Call}
+use Rattle.clfs_manager.proofs.Words.{◌≡◌, ℕ, ◌≤◌, Bool, true, false, refl, sym, ap, subst, ◌∙◌, List, [], ◌∷◌, length, Option, Some, None, Err, IsErrOf}
+use Rattle.clfs_manager.proofs.Words.{◌==◌, find, if◌then◌else◌, nat_lt, option_map_or, ltb-false, null_lsn, Call, Refusal, Fine, Area, State, Outcome}
+use Rattle.clfs_manager.proofs.Words.{answer, outcome, restarted, happened_of_refusal, need_of, next_lsn, spend_if, spent_of, full, invalid_base, refused_if}
+use Rattle.clfs_manager.proofs.Words.{refusal, short, too_long, area_of, Step, calls_disk, takes_memory, GoesTheseWays, LeavesOf}
 use Rattle.clfs_model.specs.declared.call.Call.TheVariants as calls
-use Rattle.clfs_model.specs.declared.refusal.Refusal.{Refusal}
 use Rattle.clfs_model.specs.declared.refusal.Refusal.TheVariants as refusals
 use Rattle.clfs_model.specs.declared.reply.Reply.TheVariants as replies
-use Rattle.clfs_model.specs.declared.reply.Happened.TheVariants.{Fine}
-use Rattle.clfs_model.specs.declared.state.Area.{Area}
-use Rattle.clfs_model.specs.declared.state.State.{State}
-use Rattle.clfs_model.specs.Answers.{Outcome, answer, outcome, restarted}
-use Rattle.clfs_model.specs.Happened.{happened_of_refusal}
-use Rattle.clfs_model.specs.Put.{need_of, next_lsn, spend_if, spent_of}
-use Rattle.clfs_model.specs.Refusals.{full, invalid_base, refused_if, refusal, restart_refusal, short, too_long}
-use Rattle.clfs_model.specs.State.{area_of}
-use Rattle.clfs_model.specs.Step.{Step, calls_disk, takes_memory}
-use Rattle.clfs_model.specs.Ways.{GoesTheseWays}
-use Rattle.clfs_manager.specs.Preparing.{LeavesOf}
+use Rattle.clfs_model.specs.Refusals.{restart_refusal}
 
 -- ---- shapes and places
 

@@ -1,46 +1,21 @@
 -- A record that was put into a log that is ready for it: what memory has of it, and that the disk has what it had.
-use Rattle.std.proofs.Common.{◌≡◌, ℕ, ◌+◌, ◌-◌, ◌*◌, ◌<◌, ◌≤◌, Bool, true, false, refl, sym, ap, subst, ◌∙◌, inl, inr, ⊎_elim, arith, List, [], ◌∷◌, ◌++◌, length}
-use Rattle.std.specs.Prelude.{All, Contains, Option, Some, None, filter, fold, map, min, nat_lt, nat_le, slice_get, ◌==◌}
-use Rattle.std.specs.Option.{option_map_or, option_to_list}
-use Rattle.std.proofs.lemmas.Bool.{cases_Bool, le-leb, le-ltb}
-use Rattle.std.proofs.lemmas.Bool.Decides.{nat_tests}
+use Rattle.clfs_manager.proofs.Words.{◌≡◌, ℕ, ◌+◌, ◌-◌, ◌*◌, ◌<◌, ◌≤◌, Bool, true, false, refl, sym, ap, subst, ◌∙◌, inl, inr, ⊎_elim, arith, List, [], ◌∷◌}
+use Rattle.clfs_manager.proofs.Words.{◌++◌, length, All, Contains, Option, Some, None, filter, fold, min, nat_lt, nat_le, slice_get, ◌==◌, option_map_or}
+use Rattle.clfs_manager.proofs.Words.{option_to_list, cases_Bool, le-leb, le-ltb, nat_tests, All-map, All-weaker, filter-append, slice_get_within, head_of}
+use Rattle.clfs_manager.proofs.Words.{least_or, lsn_number, null_lsn, container_of, IsClosed, IsWithin, block_end, frontier, joins, begins_here, IsShape}
+use Rattle.clfs_manager.proofs.Words.{Head, LogEntry, Place, Shape, AreaTable, AreSealed, BlocksGoOn, Buffered, block_place, first_lsn, DiskState, IsReadyFor}
+use Rattle.clfs_manager.proofs.Words.{IsWhole, KeepsTables, State, Stream, block_start, first_or, seal, flushed, cut, heads_of, hold, is_live, live_lsns}
+use Rattle.clfs_manager.proofs.Words.{next_lsn, put, base_of, IsStorable, IsValid, IsRecord, Newest, Blocks, Queued, Fields, records_from_container, shape_of}
+use Rattle.clfs_manager.proofs.Words.{Holds, unflushed, IsStored, AreKept, IsOpen, unplaced, IsIntact, Log}
+use Rattle.std.specs.Prelude.{map}
 use Rattle.std.proofs.lemmas.List.{append_assoc, map-append}
-use Rattle.std.proofs.lemmas.List.Elements.{All-get_or, All-map, All-weaker, Contains-push_cases, filter-append}
-use Rattle.std.proofs.lemmas.Option.{slice_get_within, get_or_from_slice_get}
-use Rattle.clfs_lsn.specs.Head.{head_of}
-use Rattle.clfs_lsn.specs.Heads.{least_or}
-use Rattle.clfs_lsn.specs.Lsn.{lsn_number, null_lsn, container_of}
-use Rattle.clfs_lsn.specs.Place.{IsClosed, IsWithin, block_end, frontier, joins, begins_here, place_after}
-use Rattle.clfs_lsn.specs.Size.{IsShape}
-use Rattle.clfs_lsn.specs.declared.entry.Head.{Head}
-use Rattle.clfs_lsn.specs.declared.entry.LogEntry.{LogEntry}
-use Rattle.clfs_lsn.specs.declared.place.Place.{Place}
-use Rattle.clfs_lsn.specs.declared.shape.Shape.{Shape}
-use Rattle.clfs_areas.specs.Table.{AreaTable}
-use Rattle.clfs_archive.specs.Blocks.{AreSealed, BlocksGoOn}
-use Rattle.clfs_buffers.specs.Buffered.{Buffered}
-use Rattle.clfs_buffers.specs.Reading.{block_place, first_lsn}
-use Rattle.clfs_disk.specs.State.{DiskState}
-use Rattle.clfs_laws.specs.Between.{IsReadyFor, IsWhole, KeepsTables}
-use Rattle.clfs_model.specs.declared.state.State.{State}
-use Rattle.clfs_lsn.specs.declared.stream.Stream.{Stream}
-use Rattle.clfs_model.specs.Flush.{block_start, first_or, seal, flushed, cut}
-use Rattle.clfs_model.specs.Heads.{heads_of}
-use Rattle.clfs_model.specs.Live.{hold, is_live, live_lsns}
-use Rattle.clfs_model.specs.Put.{made_ready, next_lsn, put}
-use Rattle.clfs_model.specs.State.{base_of}
-use Rattle.clfs_model.specs.Storable.{IsStorable}
-use Rattle.clfs_model.specs.Valid.{IsValid, IsRecord}
-use Rattle.clfs_physical.specs.Stored.{Newest, Blocks}
-use Rattle.clfs_queue.specs.Queued.{Queued, pushed}
-use Rattle.clfs_record.specs.declared.fields.Fields.{Fields}
-use Rattle.clfs_recover.specs.Logs.{records_from_container}
-use Rattle.clfs_recover.specs.Walk.{shape_of}
-use Rattle.clfs_manager.specs.Memory.{Holds, unflushed}
-use Rattle.clfs_manager.specs.OnDisk.{IsStored, AreKept, IsOpen}
-use Rattle.clfs_manager.specs.Putting.{IsPutInMemory, unplaced}
-use Rattle.clfs_manager.specs.Written.{IsIntact, IsOpenWith}
-use Rattle.clfs_manager.specs.declared.log.Log.{Log}
+use Rattle.std.proofs.lemmas.List.Elements.{All-get_or, Contains-push_cases}
+use Rattle.std.proofs.lemmas.Option.{get_or_from_slice_get}
+use Rattle.clfs_lsn.specs.Place.{place_after}
+use Rattle.clfs_model.specs.Put.{made_ready}
+use Rattle.clfs_queue.specs.Queued.{pushed}
+use Rattle.clfs_manager.specs.Putting.{IsPutInMemory}
+use Rattle.clfs_manager.specs.Written.{IsOpenWith}
 use Rattle.clfs_manager.proofs.Ending.{parts_at}
 use Rattle.clfs_manager.proofs.Numbers.{flushed_below, small_place}
 use Rattle.clfs_manager.proofs.Sealed.{cut_at}

@@ -1,35 +1,19 @@
 -- What a call that reads comes to: a live record, which the log still needs.
-use Rattle.std.proofs.Common.{◌≡◌, ℕ, zero, suc, ◌-◌, ◌<◌, ◌≤◌, Bool, true, false, refl, sym, ap, ◌∙◌, subst, ⊎_elim, List, [], ◌∷◌, ◌++◌, length, map, arith}
-use Rattle.std.specs.Prelude.{Option, Some, None, IsSome, IfSome, is_some, if◌then◌else◌, All, Contains, ◌&&◌, ◌==◌, nat_lt, find, filter, reverse, min, fold, slice_get}
-use Rattle.std.specs.Option.{option_map, option_and_then, option_to_list}
-use Rattle.std.proofs.lemmas.Bool.{cases_lt, eq-eqb}
+use Rattle.clfs_manager.proofs.Words.{◌≡◌, ℕ, zero, suc, ◌-◌, ◌<◌, ◌≤◌, Bool, true, false, refl, sym, ap, ◌∙◌, subst, ⊎_elim, List, [], ◌∷◌, ◌++◌, length}
+use Rattle.clfs_manager.proofs.Words.{map, arith, Option, Some, None, IsSome, IfSome, is_some, if◌then◌else◌, All, Contains, ◌&&◌, ◌==◌, nat_lt, find, filter}
+use Rattle.clfs_manager.proofs.Words.{min, fold, slice_get, option_map, option_and_then, option_to_list, cases_lt, eq-eqb, All-contains, head_of, frontier}
+use Rattle.clfs_manager.proofs.Words.{Head, LogEntry, Mode, State, Area, Cursor, Stream, CursorKind, Records, RestartAreas, heads_of, least_or, live, live_at}
+use Rattle.clfs_manager.proofs.Words.{live_lsns, hold, is_live, newest_restart, next_of_cursor, area_of, IsAreaWithinLimits, IsCursor, IsNumber, area_at}
+use Rattle.clfs_manager.proofs.Words.{no_area, IsSound, IsNeeded, IsNeededHead, Reaches, Log}
+use Rattle.std.specs.Prelude.{reverse}
 use Rattle.std.proofs.lemmas.List.{get_or-reverse, length-reverse}
 use Rattle.std.proofs.lemmas.Option.{slice_get_past}
-use Rattle.std.proofs.lemmas.List.Elements.{All-contains, Contains-append_right}
-use Rattle.clfs_lsn.specs.Head.{head_of}
-use Rattle.clfs_lsn.specs.Place.{frontier}
-use Rattle.clfs_lsn.specs.declared.entry.Head.{Head}
-use Rattle.clfs_lsn.specs.declared.entry.LogEntry.{LogEntry}
-use Rattle.clfs_lsn.specs.declared.cursor.Mode.{Mode}
+use Rattle.std.proofs.lemmas.List.Elements.{Contains-append_right}
 use Rattle.clfs_lsn.specs.declared.cursor.Mode.TheVariants.{Previous, UndoNext, Forward}
-use Rattle.clfs_model.specs.declared.state.State.{State}
-use Rattle.clfs_model.specs.declared.state.Area.{Area}
-use Rattle.clfs_lsn.specs.declared.cursor.Cursor.{Cursor}
-use Rattle.clfs_lsn.specs.declared.stream.Stream.{Stream}
-use Rattle.clfs_lsn.specs.declared.cursor.CursorKind.{CursorKind}
-use Rattle.clfs_lsn.specs.declared.cursor.CursorKind.TheVariants.{Records, RestartAreas}
-use Rattle.clfs_model.specs.Heads.{heads_of}
-use Rattle.clfs_lsn.specs.Heads.{head_at, least_or, is_restart}
-use Rattle.clfs_model.specs.Live.{live, live_at, live_lsns, hold, is_live}
-use Rattle.clfs_model.specs.Reading.{entry_at, next, newest_restart, restart_areas, next_of_cursor}
-use Rattle.clfs_model.specs.State.{area_of}
-use Rattle.clfs_model.specs.Storable.{IsAreaWithinLimits, IsCursor}
+use Rattle.clfs_lsn.specs.Heads.{head_at, is_restart}
+use Rattle.clfs_model.specs.Reading.{entry_at, next, restart_areas}
 use Rattle.clfs_model.specs.Valid.{IsArea}
-use Rattle.clfs_tables.specs.Tables.{IsKnown, IsNumber}
-use Rattle.clfs_areas.specs.Table.{area_at, no_area}
-use Rattle.clfs_manager.specs.Memory.{IsSound}
-use Rattle.clfs_manager.specs.Fetching.{IsNeeded, IsNeededHead, Reaches}
-use Rattle.clfs_manager.specs.declared.log.Log.{Log}
+use Rattle.clfs_tables.specs.Tables.{IsKnown}
 use Rattle.clfs_manager.proofs.Among.{here, there, contains_all, contains_passing, found, contains_at}
 
 -- ---- a live record is needed

@@ -1,25 +1,9 @@
 -- The calls that read, as a manager answers them.
-use Rattle.std.proofs.Common.{◌≡◌, ◌∙◌, ℕ, false, refl, sym, subst, List, Option, Some, Result, Err}
-use Rattle.clfs_lsn.specs.declared.entry.Head.{Head}
-use Rattle.clfs_lsn.specs.declared.entry.LogEntry.{LogEntry}
-use Rattle.clfs_disk.specs.Files.{Unchanged}
-use Rattle.clfs_disk.specs.State.{DiskState, Passes}
-use Rattle.clfs_model.specs.Conditions.{MeetsCondition}
-use Rattle.clfs_model.specs.Refusals.{refusal}
-use Rattle.clfs_model.specs.Run.{Request, asks, bad_line}
-use Rattle.clfs_model.specs.Storable.{IsStorable}
-use Rattle.clfs_model.specs.Valid.{IsValid}
-use Rattle.clfs_model.specs.declared.call.Call.{Call}
-use Rattle.clfs_model.specs.declared.refusal.Refusal.{Refusal}
-use Rattle.clfs_model.specs.declared.reply.Reply.{Reply}
-use Rattle.clfs_model.specs.declared.state.Area.{Area}
-use Rattle.clfs_model.specs.declared.state.State.{State}
-use Rattle.clfs_manager.specs.Calls.{Steps}
-use Rattle.clfs_manager.specs.Crashes.{CrashSurvives}
-use Rattle.clfs_manager.specs.Fetching.{OnlyReads, Reaches, IsLeft}
-use Rattle.clfs_manager.specs.OnDisk.{IsManaged}
-use Rattle.clfs_manager.specs.Reading.{AnswersRead, GetsRecord, ReadLaws}
-use Rattle.clfs_manager.specs.declared.log.Log.{Log}
+use Rattle.clfs_manager.proofs.Words.{◌≡◌, ◌∙◌, ℕ, false, refl, sym, subst, List, Head, LogEntry, Unchanged, DiskState, Passes, MeetsCondition, refusal}
+use Rattle.clfs_manager.proofs.Words.{Request, asks, bad_line, IsStorable, IsValid, Call, Refusal, Reply, Area, State, Steps, CrashSurvives, OnlyReads}
+use Rattle.clfs_manager.proofs.Words.{Reaches, IsLeft, IsManaged, GetsRecord, Log}
+use Rattle.std.proofs.Common.{Option, Some, Result, Err}
+use Rattle.clfs_manager.specs.Reading.{AnswersRead, ReadLaws}
 use Rattle.clfs_manager.proofs.Placed.{own_where, told_where}
 use Rattle.clfs_manager.proofs.ReadKeeps.{none_called, quiet}
 use Rattle.clfs_manager.proofs.ReadSteps.{own_is_fine, refused_step}

@@ -1,29 +1,13 @@
 -- A call that reads keeps a log open: the disk's files stay, and in memory the areas and the blocks that were read alone change.
-use Rattle.std.proofs.Common.{◌≡◌, ℕ, true, false, refl, sym, ap, ◌∙◌, subst, List, Ok, Err, arith}
-use Rattle.std.specs.Prelude.{◌≤◌, IsErrOf}
-use Rattle.clfs_lsn.specs.declared.entry.LogEntry.{LogEntry}
-use Rattle.clfs_disk.specs.Files.{Files, Unchanged}
-use Rattle.clfs_disk.specs.State.{DiskState, Nature, TellsContents, IsSteady, Passes, Rises, raised}
-use Rattle.clfs_container.specs.OpenBlocks.{AreWhole}
-use Rattle.clfs_base.specs.Slots.{newest_of}
-use Rattle.clfs_model.specs.declared.refusal.Refusal.{Refusal}
+use Rattle.clfs_manager.proofs.Words.{◌≡◌, ℕ, true, false, refl, sym, ap, ◌∙◌, subst, List, arith, IsErrOf, LogEntry, Files, Unchanged, DiskState, Nature}
+use Rattle.clfs_manager.proofs.Words.{TellsContents, IsSteady, Passes, Rises, AreWhole, newest_of, Refusal, Area, State, happened_of_refusal, Fine, AreaTable}
+use Rattle.clfs_manager.proofs.Words.{area_at, change_area, change_first, is_area, Buffered, Gives, ReadRefusal, Newest, Blocks, Stores, Told, Holds, IsSound}
+use Rattle.clfs_manager.proofs.Words.{IsStored, AreKept, IsOpen, IsLeft, LeavesState, OnlyReads, refused_as, Log}
+use Rattle.std.proofs.Common.{Ok, Err}
+use Rattle.std.specs.Prelude.{◌≤◌}
+use Rattle.clfs_disk.specs.State.{raised}
 use Rattle.clfs_model.specs.declared.refusal.Refusal.TheVariants as refusals
-use Rattle.clfs_model.specs.declared.state.Area.{Area}
-use Rattle.clfs_model.specs.declared.state.State.{State}
-use Rattle.clfs_model.specs.Happened.{happened_of_refusal}
-use Rattle.clfs_model.specs.declared.reply.Happened.TheVariants.{Fine}
-use Rattle.clfs_areas.specs.Table.{AreaTable, area_at}
-use Rattle.clfs_model.specs.State.{change_area, change_first, is_area}
-use Rattle.clfs_buffers.specs.Buffered.{Buffered}
-use Rattle.clfs_buffers.specs.Reading.{Gives}
-use Rattle.clfs_buffers.specs.declared.refusal.ReadRefusal.{ReadRefusal}
 use Rattle.clfs_buffers.specs.declared.refusal.ReadRefusal.TheVariants as reads
-use Rattle.clfs_physical.specs.Stored.{Newest, Blocks, Stores}
-use Rattle.clfs_told.specs.declared.told.Told.{Told}
-use Rattle.clfs_manager.specs.Memory.{Holds, IsSound}
-use Rattle.clfs_manager.specs.OnDisk.{IsStored, AreKept, IsOpen}
-use Rattle.clfs_manager.specs.Fetching.{IsLeft, LeavesState, OnlyReads, refused_as}
-use Rattle.clfs_manager.specs.declared.log.Log.{Log}
 use Rattle.clfs_manager.proofs.Settled.{settled_by_reading, stays_settled}
 
 -- ---- what the files have

@@ -1,40 +1,19 @@
 -- The calls that read, as steps of the log machine.
-use Rattle.std.proofs.Common.{◌≡◌, ℕ, Bool, true, false, refl, sym, ap, ◌∙◌, subst, inr, List, Option, Some, None, Result, Ok, Err}
-use Rattle.std.specs.Prelude.{◌⊎◌, IsTrue, IfOk, MatchBool, MatchOption}
-use Rattle.std.specs.Option.{option_map_or, option_and_then}
-use Rattle.clfs_disk.specs.State.{DiskState}
-use Rattle.clfs_lsn.specs.declared.entry.Head.{Head}
-use Rattle.clfs_lsn.specs.declared.entry.LogEntry.{LogEntry}
-use Rattle.clfs_model.specs.declared.call.Call.{Call}
+use Rattle.clfs_manager.proofs.Words.{◌≡◌, ℕ, Bool, true, false, refl, sym, ap, ◌∙◌, subst, inr, List, ◌⊎◌, IsTrue, IfOk, MatchBool, option_map_or}
+use Rattle.clfs_manager.proofs.Words.{option_and_then, DiskState, Head, LogEntry, Call, Mode, Refusal, Happened, Fine, Fault, Reply, State, Area, Cursor}
+use Rattle.clfs_manager.proofs.Words.{CursorKind, Records, RestartAreas, Outcome, outcome, answer, flushed, happened_of_refusal, live_at, newest_restart}
+use Rattle.clfs_manager.proofs.Words.{record_cursor, restart_cursor, next_of_cursor, with_cursor, with_cursor_at, refusal, area_of, change_area, Step}
+use Rattle.clfs_manager.proofs.Words.{IsBroken, IsOutOfMemory, takes_memory, reads_disk, calls_disk, GoesTheseWays, is_of_call, Steps, area_at, IsReadAs}
+use Rattle.clfs_manager.proofs.Words.{LeavesState, Reaches, GetsRecord, Log}
+use Rattle.std.proofs.Common.{Option, Some, None, Result, Ok, Err}
+use Rattle.std.specs.Prelude.{MatchOption}
 use Rattle.clfs_model.specs.declared.call.Call.TheVariants as calls
-use Rattle.clfs_lsn.specs.declared.cursor.Mode.{Mode}
-use Rattle.clfs_model.specs.declared.refusal.Refusal.{Refusal}
 use Rattle.clfs_model.specs.declared.refusal.Refusal.TheVariants as refusals
-use Rattle.clfs_model.specs.declared.reply.Happened.{Happened}
-use Rattle.clfs_model.specs.declared.reply.Happened.TheVariants.{Fine, Fault, Damage}
-use Rattle.clfs_model.specs.declared.reply.Reply.{Reply}
+use Rattle.clfs_model.specs.declared.reply.Happened.TheVariants.{Damage}
 use Rattle.clfs_model.specs.declared.reply.Reply.TheVariants as replies
-use Rattle.clfs_model.specs.declared.state.State.{State}
-use Rattle.clfs_model.specs.declared.state.Area.{Area}
-use Rattle.clfs_lsn.specs.declared.cursor.Cursor.{Cursor}
-use Rattle.clfs_lsn.specs.declared.cursor.CursorKind.{CursorKind}
-use Rattle.clfs_lsn.specs.declared.cursor.CursorKind.TheVariants.{Records, RestartAreas}
-use Rattle.clfs_model.specs.Answers.{Outcome, outcome, answer, found_with_cursor, read_at, read_newest_restart, moved_on}
-use Rattle.clfs_model.specs.Flush.{flushed}
-use Rattle.clfs_model.specs.Happened.{happened_of_refusal}
-use Rattle.clfs_model.specs.Live.{live_at}
-use Rattle.clfs_model.specs.Reading.{newest_restart, record_cursor, restart_cursor, next_of_cursor, with_cursor, with_cursor_at}
+use Rattle.clfs_model.specs.Answers.{found_with_cursor, read_at, read_newest_restart, moved_on}
 use Rattle.clfs_lsn.specs.Cursors.{unused_cursor}
-use Rattle.clfs_model.specs.Refusals.{refusal}
-use Rattle.clfs_model.specs.State.{area_of, change_area}
-use Rattle.clfs_model.specs.Step.{Step, IsReply, Comes, Goes, IsBroken, IsOutOfMemory, takes_memory, reads_disk, calls_disk}
-use Rattle.clfs_model.specs.Ways.{GoesTheseWays}
-use Rattle.clfs_laws.specs.Refused.{is_of_call}
-use Rattle.clfs_manager.specs.Calls.{Steps}
-use Rattle.clfs_areas.specs.Table.{area_at}
-use Rattle.clfs_manager.specs.Fetching.{IsReadAs, LeavesState, Reaches}
-use Rattle.clfs_manager.specs.Reading.{GetsRecord}
-use Rattle.clfs_manager.specs.declared.log.Log.{Log}
+use Rattle.clfs_model.specs.Step.{IsReply, Comes, Goes}
 use Rattle.clfs_manager.proofs.Reached.{live_is_needed}
 
 -- ---- refusals

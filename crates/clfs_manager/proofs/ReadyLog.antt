@@ -1,20 +1,9 @@
 -- A log that is made ready for a record: which case of the rule for places comes.
-use Rattle.std.proofs.Common.{◌≡◌, ℕ, true, false, refl, inl, inr, arith}
-use Rattle.std.specs.Prelude.{nat_lt}
-use Rattle.std.proofs.lemmas.Bool.{cases_Bool, cases_lt, lt-ltb, le-ltb}
-use Rattle.clfs_lsn.specs.Lsn.{container_of}
-use Rattle.clfs_lsn.specs.Place.{IsClosed, IsWithin, joins, begins_here}
-use Rattle.clfs_lsn.specs.declared.place.Place.{Place}
-use Rattle.clfs_lsn.specs.declared.shape.Shape.{Shape}
-use Rattle.clfs_laws.specs.Between.{MayTurn, turned}
-use Rattle.clfs_model.specs.declared.state.State.{State}
-use Rattle.clfs_model.specs.Flush.{flush}
-use Rattle.clfs_model.specs.Live.{hold}
-use Rattle.clfs_model.specs.Storable.{IsStorable}
-use Rattle.clfs_model.specs.Valid.{IsValid}
+use Rattle.clfs_manager.proofs.Words.{◌≡◌, ℕ, true, false, refl, inl, inr, arith, nat_lt, cases_Bool, cases_lt, lt-ltb, le-ltb, container_of, IsClosed}
+use Rattle.clfs_manager.proofs.Words.{IsWithin, joins, begins_here, Place, Shape, turned, State, flush, hold, IsStorable, IsValid, MayTurnTo}
+use Rattle.clfs_laws.specs.Between.{MayTurn}
 use Rattle.clfs_queue.specs.Queued.{placing}
 use Rattle.clfs_queue.specs.declared.placing.Placing.TheVariants.{Joins, BeginsBlock, BeginsContainer}
-use Rattle.clfs_manager.specs.Putting.{MayTurnTo}
 
 -- the place after a flush has no open block
 pub flushed_closed : (s : State) → IsWithin s.shape s.place → IsClosed (flush s).place

@@ -1,30 +1,15 @@
 -- Growth for a call, and an area that holds more sectors.
-use Rattle.std.proofs.Common.{◌≡◌, ℕ, ◌+◌, ◌<◌, ◌≤◌, Bool, true, false, refl, sym, ap, subst, ◌∙◌, ◌≢◌, List, [], ◌∷◌, length, arith}
-use Rattle.std.specs.Prelude.{◌&&◌, nat_lt, Option, None, Some, Result, Err, IsOk}
-use Rattle.std.specs.Option.{option_map_or}
+use Rattle.clfs_manager.proofs.Words.{◌≡◌, ℕ, ◌+◌, ◌<◌, ◌≤◌, Bool, true, false, refl, sym, ap, subst, ◌∙◌, ◌≢◌, List, [], ◌∷◌, length, arith, ◌&&◌, nat_lt}
+use Rattle.clfs_manager.proofs.Words.{Option, None, Some, Result, Err, IsOk, option_map_or, nat_tests, DiskState, all_held, area_at, no_area, Area, State}
+use Rattle.clfs_manager.proofs.Words.{hold_sizes, with_more_held, Refusal, Fine, Outcome, answer, outcome, full, refused_if, refusal, size_refusal, too_long}
+use Rattle.clfs_manager.proofs.Words.{grown, own_sum, with_containers, area_of, change_area, Step, IsStorable, IsValid, GoesTheseWays, ChangesAreas, Holds}
+use Rattle.clfs_manager.proofs.Words.{IsSound, IsIntact, Log}
 use Rattle.std.proofs.lemmas.List.Sums.{get_or-le-sum_by}
-use Rattle.std.proofs.lemmas.Bool.Decides.{nat_tests}
-use Rattle.clfs_disk.specs.State.{DiskState}
-use Rattle.clfs_areas.specs.Table.{all_held, area_at, no_area}
-use Rattle.clfs_model.specs.declared.state.Area.{Area}
-use Rattle.clfs_model.specs.declared.state.State.{State}
-use Rattle.clfs_model.specs.Put.{hold_sizes, with_more_held}
-use Rattle.clfs_model.specs.declared.refusal.Refusal.{Refusal}
 use Rattle.clfs_model.specs.declared.refusal.Refusal.TheVariants as refusals
 use Rattle.clfs_model.specs.declared.call.Call.TheVariants as calls
-use Rattle.clfs_model.specs.declared.reply.Happened.TheVariants.{Fine}
 use Rattle.clfs_model.specs.declared.reply.Reply.TheVariants as replies
-use Rattle.clfs_model.specs.Answers.{Outcome, answer, outcome, reserved_for}
-use Rattle.clfs_model.specs.Refusals.{full, refused_if, refusal, size_refusal, too_long}
-use Rattle.clfs_model.specs.Space.{free, grown, grown_if, own_sum, reserved, size_limit, with_containers}
-use Rattle.clfs_model.specs.State.{area_of, change_area}
-use Rattle.clfs_model.specs.Step.{Step}
-use Rattle.clfs_model.specs.Storable.{IsStorable}
-use Rattle.clfs_model.specs.Valid.{IsValid}
-use Rattle.clfs_model.specs.Ways.{GoesTheseWays}
-use Rattle.clfs_manager.specs.Memory.{ChangesAreas, Holds, IsSound}
-use Rattle.clfs_manager.specs.Written.{IsIntact}
-use Rattle.clfs_manager.specs.declared.log.Log.{Log}
+use Rattle.clfs_model.specs.Answers.{reserved_for}
+use Rattle.clfs_model.specs.Space.{free, grown_if, reserved, size_limit}
 use Rattle.clfs_manager.proofs.AreasChange.{holds_still, open_after}
 
 -- growth changes the number of containers alone

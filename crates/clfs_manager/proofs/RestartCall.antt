@@ -1,29 +1,11 @@
 -- What a restart area finds that isn't refused, and the log that ends in it.
-use Rattle.std.proofs.Common.{inl, inr, ◌≡◌, ℕ, ◌≤◌, Bool, true, false, refl, sym, ap, subst, ◌∙◌, List, length, arith}
-use Rattle.std.specs.Prelude.{All, Option, None, filter, nat_le, nat_lt}
-use Rattle.std.proofs.lemmas.Bool.{cases_Bool, ltb-false}
-use Rattle.std.proofs.lemmas.List.Elements.{All-filter}
-use Rattle.clfs_disk.specs.State.{DiskState}
-use Rattle.clfs_lsn.specs.Place.{begins_here, frontier, joins}
-use Rattle.clfs_lsn.specs.declared.entry.LogEntry.{LogEntry}
-use Rattle.clfs_laws.specs.Between.{IsReadiedFor, IsWhole, KeepsTables, MayMove, MayPut}
-use Rattle.clfs_model.specs.declared.refusal.Refusal.{Refusal}
-use Rattle.clfs_model.specs.declared.state.State.{State}
-use Rattle.clfs_lsn.specs.declared.stream.Stream.{Stream}
-use Rattle.clfs_model.specs.Answers.{rebased}
-use Rattle.clfs_tables.specs.Tables.{IsNumber, base_in}
-use Rattle.clfs_model.specs.Flush.{flush, flushed, seal}
-use Rattle.clfs_model.specs.Put.{next_lsn, put}
+use Rattle.clfs_manager.proofs.Words.{inl, inr, ◌≡◌, ℕ, ◌≤◌, Bool, true, false, refl, sym, ap, subst, ◌∙◌, List, length, arith, All, Option, None, filter}
+use Rattle.clfs_manager.proofs.Words.{nat_le, nat_lt, cases_Bool, ltb-false, All-filter, DiskState, begins_here, frontier, joins, LogEntry, IsWhole}
+use Rattle.clfs_manager.proofs.Words.{KeepsTables, MayMove, MayPut, Refusal, State, Stream, rebased, IsNumber, base_in, flush, flushed, seal, next_lsn, put}
+use Rattle.clfs_manager.proofs.Words.{Newest, Queued, shape_of, IsLeft, Holds, EndsInRestart, MayFinish, IsIntact, Log}
+use Rattle.clfs_laws.specs.Between.{IsReadiedFor}
 use Rattle.clfs_model.specs.Refusals.{unless_two_containers}
-use Rattle.clfs_physical.specs.Stored.{Newest}
-use Rattle.clfs_queue.specs.Queued.{Queued}
-use Rattle.clfs_recover.specs.Walk.{shape_of}
-use Rattle.clfs_manager.specs.Fetching.{IsLeft}
-use Rattle.clfs_manager.specs.Memory.{Holds}
 use Rattle.clfs_manager.specs.Putting.{HasSameLog}
-use Rattle.clfs_manager.specs.Restarts.{EndsInRestart, MayFinish}
-use Rattle.clfs_manager.specs.Written.{IsIntact}
-use Rattle.clfs_manager.specs.declared.log.Log.{Log}
 use Rattle.clfs_manager.proofs.MovedBase.{base_is_up}
 use Rattle.clfs_manager.proofs.Reached.{number_there}
 use Rattle.clfs_manager.proofs.PutRecord.{flushed_put, goes_on, put_is, waits_put, with_put}

@@ -1,36 +1,10 @@
 -- A log that ended in a restart area, once that is on the disk and the base of its stream has moved.
-use Rattle.std.proofs.Common.{◌≡◌, ℕ, ◌+◌, ◌≤◌, Bool, true, false, refl, sym, ap, subst, ◌∙◌, inl, inr, List, [], ◌∷◌, ◌++◌, length, map, arith}
-use Rattle.std.specs.Prelude.{All, ◌==◌}
-use Rattle.std.proofs.lemmas.Bool.{cases_Bool, eqb-true}
-use Rattle.std.proofs.lemmas.List.Elements.{All-append, All-cons, All-nil}
-use Rattle.clfs_disk.specs.State.{DiskState, IsSettled}
-use Rattle.clfs_buffers.specs.Buffered.{Buffered}
-use Rattle.clfs_container.specs.OpenBlocks.{total}
-use Rattle.clfs_base.specs.declared.image.BaseImage.{BaseImage}
-use Rattle.clfs_laws.specs.Between.{IsLaid}
-use Rattle.clfs_lsn.specs.Lsn.{null_lsn, lsn_number, container_of}
-use Rattle.clfs_lsn.specs.declared.entry.LogEntry.{LogEntry}
-use Rattle.clfs_lsn.specs.declared.place.Place.{Place}
-use Rattle.clfs_model.specs.declared.state.State.{State}
-use Rattle.clfs_lsn.specs.declared.stream.Stream.{Stream}
-use Rattle.clfs_model.specs.Answers.{rebased}
-use Rattle.clfs_model.specs.Flush.{block_start, flush, flushed}
-use Rattle.clfs_model.specs.Live.{hold}
-use Rattle.clfs_model.specs.State.{base_of}
-use Rattle.clfs_lsn.specs.Streams.{set_base}
-use Rattle.clfs_model.specs.Storable.{IsStorable}
-use Rattle.clfs_model.specs.Valid.{IsValid}
-use Rattle.clfs_physical.specs.Stored.{Newest, Blocks}
-use Rattle.clfs_recover.specs.Logs.{HaveMore, stored_state, file_at_end}
-use Rattle.clfs_recover.specs.Stored.{stored_place}
-use Rattle.clfs_tables.specs.Tables.{IsNumber, base_in}
-use Rattle.clfs_manager.specs.Flushing.{KeepsOthers, StoredAfter}
-use Rattle.clfs_manager.specs.Laid.{HasGroup, IsLaidLog, WrittenAfter}
-use Rattle.clfs_manager.specs.Memory.{Holds, unflushed}
-use Rattle.clfs_manager.specs.OnDisk.{IsStored, IsOpen, AreKept}
-use Rattle.clfs_manager.specs.Restarts.{EndsInRestart, rebased_streams}
-use Rattle.clfs_manager.specs.Written.{IsYetToForget}
-use Rattle.clfs_manager.specs.declared.log.Log.{Log}
+use Rattle.clfs_manager.proofs.Words.{◌≡◌, ℕ, ◌+◌, ◌≤◌, Bool, true, false, refl, sym, ap, subst, ◌∙◌, inl, inr, List, [], ◌∷◌, ◌++◌, length, map, arith, All}
+use Rattle.clfs_manager.proofs.Words.{◌==◌, cases_Bool, eqb-true, All-append, All-cons, All-nil, DiskState, IsSettled, Buffered, total, BaseImage, IsLaid}
+use Rattle.clfs_manager.proofs.Words.{null_lsn, lsn_number, container_of, LogEntry, Place, State, Stream, rebased, block_start, flush, flushed, hold, base_of}
+use Rattle.clfs_manager.proofs.Words.{set_base, IsStorable, IsValid, Newest, Blocks, HaveMore, stored_state, file_at_end, stored_place, IsNumber, base_in}
+use Rattle.clfs_manager.proofs.Words.{KeepsOthers, StoredAfter, HasGroup, IsLaidLog, WrittenAfter, Holds, unflushed, IsStored, IsOpen, AreKept, EndsInRestart}
+use Rattle.clfs_manager.proofs.Words.{rebased_streams, IsYetToForget, Log}
 use Rattle.clfs_manager.proofs.ClosedPlace.{closed_place, flush_is, is_closed_of, starts_at}
 use Rattle.clfs_manager.proofs.FlushedLog.{done, hold_closed, stored_with}
 use Rattle.clfs_manager.proofs.LaterHold.{higher_bases, hold_later}

@@ -1,16 +1,8 @@
 -- What the disk has of a log is the same log to every reply: records of containers below the hold's alone are left out.
-use Rattle.std.proofs.Common.{◌≡◌, ℕ, ◌≤◌, Bool, true, false, refl, sym, ap, ◌∙◌, List, [], ◌∷◌, ◌++◌, map, arith}
-use Rattle.std.specs.Prelude.{Contains, filter, nat_le}
-use Rattle.std.specs.Option.{option_to_list}
-use Rattle.std.proofs.lemmas.Bool.Decides.{nat_tests}
-use Rattle.clfs_lsn.specs.Lsn.{lsn_number, container_of}
-use Rattle.clfs_lsn.specs.Place.{frontier}
-use Rattle.clfs_lsn.specs.declared.entry.LogEntry.{LogEntry}
-use Rattle.clfs_model.specs.declared.state.State.{State}
-use Rattle.clfs_model.specs.Flush.{IsSame, needed_records}
-use Rattle.clfs_model.specs.Live.{hold, is_live}
-use Rattle.clfs_lsn.specs.Heads.{least_or}
-use Rattle.clfs_recover.specs.Logs.{records_from_container}
+use Rattle.clfs_manager.proofs.Words.{◌≡◌, ℕ, ◌≤◌, Bool, true, false, refl, sym, ap, ◌∙◌, List, [], ◌∷◌, ◌++◌, map, arith, Contains, filter, nat_le}
+use Rattle.clfs_manager.proofs.Words.{option_to_list, nat_tests, lsn_number, container_of, frontier, LogEntry, State, IsSame, hold, is_live, least_or}
+use Rattle.clfs_manager.proofs.Words.{records_from_container}
+use Rattle.clfs_model.specs.Flush.{needed_records}
 use Rattle.clfs_manager.proofs.Among.{here, there}
 
 -- what a test passes is kept by one that all these pass

@@ -1,34 +1,12 @@
 -- A log whose open block was sealed, and what stays of a log where what is on the disk stays.
-use Rattle.std.proofs.Common.{◌≡◌, ℕ, ◌+◌, ◌≤◌, true, false, refl, sym, ap, subst, ◌∙◌, arith, List, [], ◌∷◌, ◌++◌, length, length-append}
-use Rattle.std.specs.Prelude.{Result, Ok, Err, OnOk, OnErr, IsErr, filter, nat_lt, nat_le, slice_index}
-use Rattle.std.proofs.lemmas.Bool.{lt-ltb, le-ltb, leb-true}
-use Rattle.std.proofs.lemmas.Bool.Decides.{nat_tests}
-use Rattle.clfs_lsn.specs.Lsn.{container_of, offset_of}
-use Rattle.clfs_lsn.specs.Place.{sealed}
-use Rattle.clfs_lsn.specs.declared.entry.LogEntry.{LogEntry}
-use Rattle.clfs_lsn.specs.declared.place.Place.{Place}
-use Rattle.clfs_archive.specs.Blocks.{AreSealed}
-use Rattle.clfs_buffers.specs.Buffered.{Buffered}
-use Rattle.clfs_disk.specs.State.{DiskState, IsSettled}
-use Rattle.clfs_disk.specs.declared.disk.Failed.{Failed}
-use Rattle.clfs_laws.specs.Between.{IsWhole, KeepsTables}
-use Rattle.clfs_model.specs.declared.state.State.{State}
-use Rattle.clfs_model.specs.Flush.{block_start, first_or, seal, flush, flushed, cut}
-use Rattle.clfs_model.specs.Heads.{heads_of}
-use Rattle.clfs_model.specs.Live.{hold}
-use Rattle.clfs_model.specs.Step.{fills_buffers}
-use Rattle.clfs_physical.specs.Stored.{Newest, Blocks}
-use Rattle.clfs_queue.specs.Queued.{Queued}
+use Rattle.clfs_manager.proofs.Words.{◌≡◌, ℕ, ◌+◌, ◌≤◌, true, false, refl, sym, ap, subst, ◌∙◌, arith, List, [], ◌∷◌, ◌++◌, length, length-append, Result, Ok}
+use Rattle.clfs_manager.proofs.Words.{Err, OnOk, OnErr, IsErr, filter, nat_lt, nat_le, slice_index, lt-ltb, le-ltb, leb-true, nat_tests, container_of}
+use Rattle.clfs_manager.proofs.Words.{offset_of, sealed, LogEntry, Place, AreSealed, Buffered, DiskState, IsSettled, Failed, IsWhole, KeepsTables, State}
+use Rattle.clfs_manager.proofs.Words.{block_start, first_or, seal, flush, flushed, cut, heads_of, hold, fills_buffers, Newest, Blocks, Queued}
+use Rattle.clfs_manager.proofs.Words.{records_from_container, shape_of, Told, KeepsOthers, StoredAfter, Holds, IsStored, AreKept, IsIntact, WritesDisk, Log}
 use Rattle.clfs_queue.specs.Queued as queues
-use Rattle.clfs_recover.specs.Logs.{records_from_container}
-use Rattle.clfs_recover.specs.Walk.{shape_of}
-use Rattle.clfs_told.specs.declared.told.Told.{Told}
-use Rattle.clfs_manager.specs.Flushing.{EndsBlock, KeepsOthers, StoredAfter}
-use Rattle.clfs_manager.specs.Memory.{Holds}
-use Rattle.clfs_manager.specs.OnDisk.{IsStored, AreKept}
+use Rattle.clfs_manager.specs.Flushing.{EndsBlock}
 use Rattle.clfs_manager.specs.Putting.{KeepsRoom}
-use Rattle.clfs_manager.specs.Written.{IsIntact, WritesDisk}
-use Rattle.clfs_manager.specs.declared.log.Log.{Log}
 use Rattle.clfs_manager.proofs.Intact.{intact_flushed, writes_then}
 
 -- ---- what is on the disk stays

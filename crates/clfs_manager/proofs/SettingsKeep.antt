@@ -1,19 +1,11 @@
 -- A log whose policies or whose archiving were changed.
-use Rattle.std.proofs.Common.{◌≡◌, ℕ, refl, sym, ap, ◌∙◌}
-use Rattle.std.specs.Prelude.{Option}
-use Rattle.clfs_disk.specs.State.{DiskState, IsSettled}
-use Rattle.clfs_model.specs.declared.state.State.{State}
+use Rattle.clfs_manager.proofs.Words.{◌≡◌, ℕ, refl, sym, ap, ◌∙◌, Option, DiskState, IsSettled, State, is_installed, Buffered, Policies, StoredAfter}
+use Rattle.clfs_manager.proofs.Words.{HasForgotten, Holds, AreKept, with_archive, with_policies, Log}
 use Rattle.clfs_lsn.specs.declared.policy.PolicyKind.{PolicyKind}
 use Rattle.clfs_lsn.specs.declared.policy.PolicyKind.TheVariants as kinds
-use Rattle.clfs_model.specs.Policies.{is_installed}
-use Rattle.clfs_buffers.specs.Buffered.{Buffered}
 use Rattle.clfs_policy.specs.Ranges.{is_installed as has_policy}
-use Rattle.clfs_policy.specs.declared.policies.Policies.{Policies}
-use Rattle.clfs_manager.specs.Flushing.{StoredAfter}
-use Rattle.clfs_manager.specs.Memory.{HasForgotten, Holds, policies_of}
-use Rattle.clfs_manager.specs.OnDisk.{AreKept}
-use Rattle.clfs_manager.specs.Settings.{KeepsQueue, KeepsTables, with_archive, with_policies}
-use Rattle.clfs_manager.specs.declared.log.Log.{Log}
+use Rattle.clfs_manager.specs.Memory.{policies_of}
+use Rattle.clfs_manager.specs.Settings.{KeepsQueue, KeepsTables}
 use Rattle.clfs_manager.proofs.StoredKeeps.{IsDone}
 
 -- the blocks that are kept are the state's still

@@ -1,8 +1,6 @@
 -- A disk on which nothing is pending stays so while it is only read.
-use Rattle.std.proofs.Common.{◌≡◌, ℕ, true, ◌<◌, ◌≤◌, ◌∙◌, sym, subst, ⊎_elim, arith}
-use Rattle.std.proofs.lemmas.Bool.{cases_lt}
-use Rattle.clfs_disk.specs.Files.{Unchanged}
-use Rattle.clfs_disk.specs.State.{DiskState, Nature, IsHonest, IsSettled, Passes}
+use Rattle.clfs_manager.proofs.Words.{◌≡◌, ℕ, true, ◌<◌, ◌≤◌, ◌∙◌, sym, subst, ⊎_elim, arith, cases_lt, Unchanged, DiskState, Nature, IsHonest, IsSettled}
+use Rattle.clfs_manager.proofs.Words.{Passes}
 
 -- what a disk is by its making it was before
 pub honest_before : (old new : DiskState) → new.nature ≡ old.nature → IsHonest new → IsHonest old

@@ -1,29 +1,11 @@
 -- A log whose number of containers was changed, in memory and on the disk.
-use Rattle.std.proofs.Common.{◌≡◌, ℕ, ◌+◌, ◌-◌, true, false, max, refl, sym, ap, subst, ◌∙◌, map, length, arith}
-use Rattle.std.specs.Prelude.{Ok}
-use Rattle.std.proofs.lemmas.List.{length-drop}
-use Rattle.clfs_lsn.specs.Lsn.{container_of}
-use Rattle.clfs_disk.specs.State.{DiskState, TellsContents, IsSettled, IsSteady, Later, Rises}
-use Rattle.clfs_base.specs.declared.image.BaseImage.{BaseImage}
-use Rattle.clfs_buffers.specs.Buffered.{Buffered}
-use Rattle.clfs_model.specs.declared.state.State.{State}
-use Rattle.clfs_model.specs.Live.{hold}
-use Rattle.clfs_model.specs.Space.{with_containers}
-use Rattle.clfs_model.specs.Valid.{IsValid}
-use Rattle.clfs_physical.specs.Changes.{next_copy}
+use Rattle.clfs_manager.proofs.Words.{◌≡◌, ℕ, ◌+◌, ◌-◌, true, false, max, refl, sym, ap, subst, ◌∙◌, map, length, arith, Ok, length-drop, container_of}
+use Rattle.clfs_manager.proofs.Words.{DiskState, TellsContents, IsSettled, IsSteady, Later, Rises, BaseImage, Buffered, State, hold, with_containers, IsValid}
+use Rattle.clfs_manager.proofs.Words.{next_copy, Newest, Blocks, AreMade, Stores, Queued, IsLogWith, stored_state, shape_of, Tabled, StandByBlocks}
+use Rattle.clfs_manager.proofs.Words.{HaveByFile, Holds, IsStored, IsOpen, AreKept, ResizesLog, IsIntact, WritesDisk, Log}
 use Rattle.clfs_physical.specs.Changes.{with_containers as counting}
 use Rattle.clfs_physical.specs.declared.change.Change.TheVariants as changes
-use Rattle.clfs_physical.specs.Stored.{Newest, Blocks, AreMade, Stores}
-use Rattle.clfs_queue.specs.Queued.{Queued}
-use Rattle.clfs_recover.specs.Logs.{IsLogWith, stored_state}
-use Rattle.clfs_recover.specs.Walk.{shape_of}
-use Rattle.clfs_tables.specs.Tables.{Tabled}
-use Rattle.clfs_manager.specs.CallLaws.{StandByBlocks, HaveByFile}
-use Rattle.clfs_manager.specs.Memory.{Holds}
-use Rattle.clfs_manager.specs.OnDisk.{IsStored, IsOpen, AreKept}
-use Rattle.clfs_manager.specs.Sizes.{ChangesSize, ResizesLog}
-use Rattle.clfs_manager.specs.Written.{IsIntact, WritesDisk}
-use Rattle.clfs_manager.specs.declared.log.Log.{Log}
+use Rattle.clfs_manager.specs.Sizes.{ChangesSize}
 use Rattle.clfs_manager.proofs.Crashes.{crash_still}
 use Rattle.clfs_manager.proofs.Intact.{made_in, stores_whole, whole_of_stores, writes_nothing}
 use Rattle.clfs_manager.proofs.Numbers.{hold_within}

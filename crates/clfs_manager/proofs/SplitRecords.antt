@@ -1,12 +1,8 @@
 -- Records whose LSNs rise are those below an LSN and after them those from it on.
-use Rattle.std.proofs.Common.{◌≡◌, ℕ, suc, ◌+◌, ◌<◌, ◌≤◌, true, false, refl, ap, subst, inl, inr, List, [], ◌∷◌, ◌++◌, map, arith, slice_index}
-use Rattle.std.specs.Prelude.{All, filter, nat_le, nat_lt}
-use Rattle.std.specs.List.Sorted.{IsStrictlyIncreasing}
-use Rattle.std.proofs.lemmas.Bool.{cases_lt, lt-ltb, le-ltb, lt-leb, le-leb}
-use Rattle.std.proofs.lemmas.List.{length-map, get_or-map}
-use Rattle.std.proofs.lemmas.List.Elements.{All-nil, All-cons, All-head, All-tail, All-weaker}
-use Rattle.std.proofs.lemmas.List.Kept.{AllPairs-from_increasing}
-use Rattle.clfs_lsn.specs.declared.entry.LogEntry.{LogEntry}
+use Rattle.clfs_manager.proofs.Words.{◌≡◌, ℕ, suc, ◌+◌, ◌<◌, ◌≤◌, true, false, refl, ap, subst, inl, inr, List, [], ◌∷◌, ◌++◌, map, arith, All, filter}
+use Rattle.clfs_manager.proofs.Words.{nat_le, nat_lt, IsStrictlyIncreasing, cases_lt, lt-ltb, le-ltb, lt-leb, le-leb, length-map, get_or-map, All-nil}
+use Rattle.clfs_manager.proofs.Words.{All-cons, All-head, All-tail, All-weaker, AllPairs-from_increasing, LogEntry}
+use Rattle.std.proofs.Common.{slice_index}
 use Rattle.clfs_manager.proofs.Opened.{all_from}
 
 -- the LSNs of records

@@ -1,16 +1,7 @@
 -- The states between the small changes of an append and of a restart area: the first, the one that has grown, and those after it.
-use Rattle.std.proofs.Common.{ℕ, Bool, List, [], ◌∷◌, ◌++◌, length}
-use Rattle.std.specs.Prelude.{All}
-use Rattle.std.proofs.lemmas.List.Elements.{All-head, All-tail}
-use Rattle.clfs_laws.specs.Stages.{ready_stages, append_stages, restart_stages}
-use Rattle.clfs_lsn.specs.declared.entry.LogEntry.{LogEntry}
-use Rattle.clfs_model.specs.declared.call.Draft.{Draft}
-use Rattle.clfs_model.specs.declared.state.Area.{Area}
-use Rattle.clfs_model.specs.declared.state.State.{State}
-use Rattle.clfs_model.specs.Answers.{rebased, restart_record}
-use Rattle.clfs_model.specs.Flush.{flush}
-use Rattle.clfs_model.specs.Put.{flush_if, hold_sizes, need_of, plain_record, put, seal_if, spend_if}
-use Rattle.clfs_model.specs.Space.{grown}
+use Rattle.clfs_manager.proofs.Words.{ℕ, Bool, List, [], ◌∷◌, ◌++◌, length, All, All-head, All-tail, ready_stages, LogEntry, Draft, Area, State, rebased}
+use Rattle.clfs_manager.proofs.Words.{restart_record, flush, flush_if, hold_sizes, need_of, plain_record, put, seal_if, spend_if, grown}
+use Rattle.clfs_laws.specs.Stages.{append_stages, restart_stages}
 use Rattle.clfs_manager.proofs.Through.{all_without}
 
 -- What is true of the first state, of the one that has grown, and of all that come after it.

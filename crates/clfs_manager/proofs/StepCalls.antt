@@ -1,18 +1,13 @@
 -- What a call by name tells, by its step.
-use Rattle.std.proofs.Common.{◌≡◌, ◌≢◌, ℕ, Bool, true, false, sym, ap, subst, ◌∙◌, inl, inr, Ok, Err}
-use Rattle.std.specs.Prelude.{◌⊎◌, Result, MatchBool, MatchResult, IsTrue, IfErr, IsErrOf}
-use Rattle.clfs_laws.specs.Refused.{is_of_call}
-use Rattle.clfs_disk.specs.State.{DiskState}
-use Rattle.clfs_model.specs.declared.call.Call.{Call}
-use Rattle.clfs_model.specs.declared.refusal.Refusal.{Refusal}
+use Rattle.clfs_manager.proofs.Words.{◌≡◌, ◌≢◌, ℕ, Bool, true, false, sym, ap, subst, ◌∙◌, inl, inr, ◌⊎◌, Result, MatchBool, IsTrue, IfErr, IsErrOf}
+use Rattle.clfs_manager.proofs.Words.{is_of_call, DiskState, Call, Refusal, Reply, State, happened_of, Step, IsBroken, IsOutOfMemory, reads_disk, calls_disk}
+use Rattle.clfs_manager.proofs.Words.{Steps, WritesDisk}
+use Rattle.std.proofs.Common.{Ok, Err}
+use Rattle.std.specs.Prelude.{MatchResult}
 use Rattle.clfs_model.specs.declared.refusal.Refusal.TheVariants as refusals
-use Rattle.clfs_model.specs.declared.reply.Reply.{Reply}
 use Rattle.clfs_model.specs.declared.reply.Reply.TheVariants as replies
-use Rattle.clfs_model.specs.declared.state.State.{State}
-use Rattle.clfs_model.specs.Happened.{happened_of}
-use Rattle.clfs_model.specs.Step.{Step, IsBroken, IsOutOfMemory, IsDamaged, reads_disk, calls_disk}
-use Rattle.clfs_manager.specs.Calls.{IsRefused, replied, Steps}
-use Rattle.clfs_manager.specs.Written.{WritesDisk}
+use Rattle.clfs_model.specs.Step.{IsDamaged}
+use Rattle.clfs_manager.specs.Calls.{IsRefused, replied}
 use Rattle.clfs_manager.proofs.Intact.{writes_as, writes_nothing}
 
 -- an answer's reply, by the reply that has its value

@@ -1,16 +1,9 @@
 -- States of other sizes, with another archiving, and of areas that hold more, are states that files can hold: none of that says more of them.
-use Rattle.std.proofs.Common.{◌≡◌, ℕ, Bool, true, false, refl, ap, inl, inr, List, [], ◌∷◌, length, filter, suc, arith}
-use Rattle.std.specs.Prelude.{◌⊎◌, All, Option, ◌==◌}
-use Rattle.std.proofs.lemmas.Bool.{cases_Bool}
-use Rattle.std.proofs.lemmas.List.Elements.{All-nil, All-cons, All-head, All-tail, All-weaker}
-use Rattle.clfs_model.specs.declared.state.State.{State}
-use Rattle.clfs_model.specs.declared.state.Area.{Area}
-use Rattle.clfs_lsn.specs.declared.cursor.Cursor.{Cursor}
-use Rattle.clfs_model.specs.Put.{hold_sizes, with_more_held}
-use Rattle.clfs_model.specs.Space.{own_sum, with_containers}
-use Rattle.clfs_model.specs.State.{areas_of, change_area, change_first, is_area}
-use Rattle.clfs_model.specs.Storable.{HasMovedBase, IsAreaWithinLimits, IsCursor, IsStorable}
-use Rattle.clfs_manager.specs.Settings.{with_archive}
+use Rattle.clfs_manager.proofs.Words.{◌≡◌, ℕ, Bool, true, false, refl, ap, inl, inr, List, [], ◌∷◌, length, suc, arith, ◌⊎◌, All, Option, ◌==◌, cases_Bool}
+use Rattle.clfs_manager.proofs.Words.{All-nil, All-cons, All-head, All-tail, All-weaker, State, Area, Cursor, hold_sizes, with_more_held, own_sum}
+use Rattle.clfs_manager.proofs.Words.{with_containers, change_area, change_first, is_area, HasMovedBase, IsAreaWithinLimits, IsCursor, IsStorable, with_archive}
+use Rattle.std.proofs.Common.{filter}
+use Rattle.clfs_model.specs.State.{areas_of}
 
 -- the state with so many containers and these areas
 abbrev pub changed : State → ℕ → List Area → State

@@ -1,16 +1,6 @@
 -- A manager whose log was changed on the disk, by a call that is answered.
-use Rattle.std.proofs.Common.{◌≡◌, ℕ, sym, ap, ◌∙◌, false}
-use Rattle.clfs_disk.specs.State.{DiskState, IsSettled}
-use Rattle.clfs_model.specs.declared.call.Call.{Call}
-use Rattle.clfs_model.specs.declared.reply.Happened.TheVariants.{Fine}
-use Rattle.clfs_model.specs.declared.reply.Reply.{Reply}
-use Rattle.clfs_model.specs.declared.state.State.{State}
-use Rattle.clfs_model.specs.Conditions.{MeetsCondition}
-use Rattle.clfs_model.specs.Step.{Step}
-use Rattle.clfs_manager.specs.Flushing.{StoredAfter}
-use Rattle.clfs_manager.specs.Memory.{HasForgotten, Holds}
-use Rattle.clfs_manager.specs.OnDisk.{IsManaged, AreKept}
-use Rattle.clfs_manager.specs.declared.log.Log.{Log}
+use Rattle.clfs_manager.proofs.Words.{◌≡◌, ℕ, sym, ap, ◌∙◌, false, DiskState, IsSettled, Call, Fine, Reply, State, MeetsCondition, Step, StoredAfter}
+use Rattle.clfs_manager.proofs.Words.{HasForgotten, Holds, IsManaged, AreKept, Log}
 use Rattle.clfs_manager.proofs.AreasChange.{KeepsValid, KeepsStorable}
 use Rattle.clfs_manager.proofs.ReadKeeps.{tells_before}
 use Rattle.clfs_manager.proofs.Settled.{stays_settled}

@@ -1,13 +1,6 @@
 -- Calls that take a log through stages all of which are told, one after the other.
-use Rattle.std.proofs.Common.{◌≡◌, refl, subst, List, [], ◌∷◌, ◌++◌}
-use Rattle.std.specs.Prelude.{All, Result, Ok, Err, IsErr}
-use Rattle.std.proofs.lemmas.List.Elements.{All-cons, All-head, All-tail}
-use Rattle.clfs_disk.specs.State.{DiskState}
-use Rattle.clfs_model.specs.declared.state.State.{State}
-use Rattle.clfs_manager.specs.CallLaws.{StandByBlocks, HaveByFile}
-use Rattle.clfs_manager.specs.Changing.{ChangesLog, GoesThrough}
-use Rattle.clfs_manager.specs.Written.{IsIntact}
-use Rattle.clfs_manager.specs.declared.log.Log.{Log}
+use Rattle.clfs_manager.proofs.Words.{◌≡◌, refl, subst, List, [], ◌∷◌, ◌++◌, All, Result, Ok, Err, IsErr, All-cons, All-head, All-tail, DiskState, State}
+use Rattle.clfs_manager.proofs.Words.{StandByBlocks, HaveByFile, ChangesLog, GoesThrough, IsIntact, Log}
 use Rattle.clfs_manager.proofs.Changing.{Survive, behind_of, front_of}
 use Rattle.clfs_manager.proofs.Crashes.{crash_still, crash_then}
 use Rattle.clfs_manager.proofs.Intact.{writes_as, writes_nothing, writes_then}

@@ -1,34 +1,13 @@
 -- A log that goes on in its next container: the copy without the low containers, the file that it takes, and what memory and the disk have then.
-use Rattle.std.proofs.Common.{◌≡◌, ℕ, ◌+◌, ◌-◌, ◌%◌, ◌<◌, ◌≤◌, Bool, true, false, refl, sym, ap, subst, ◌∙◌, arith, List, [], ◌∷◌, ◌++◌, length, map, drop, length-drop}
-use Rattle.std.specs.Prelude.{All, filter, nat_lt, nat_le, ◌==◌}
-use Rattle.std.proofs.lemmas.Bool.{eqb-true}
+use Rattle.clfs_manager.proofs.Words.{◌≡◌, ℕ, ◌+◌, ◌-◌, ◌%◌, ◌<◌, ◌≤◌, Bool, true, false, refl, sym, ap, subst, ◌∙◌, arith, List, [], ◌∷◌, ◌++◌, length, map}
+use Rattle.clfs_manager.proofs.Words.{drop, All, filter, nat_lt, nat_le, ◌==◌, eqb-true, All-map, All-weaker, lsn_number, container_of, offset_of, IsClosed}
+use Rattle.clfs_manager.proofs.Words.{head_of, Head, LogEntry, AreSealed, BlocksGoOn, BaseImage, IsImage, current, Buffered, turned, State, block_start}
+use Rattle.clfs_manager.proofs.Words.{flushed, cut, heads_of, hold, IsValid, IsRecord, Newest, Blocks, with_blocks, low_of, Queued, IsLogWith, stored_state}
+use Rattle.clfs_manager.proofs.Words.{records_from_container, from_container, shape_of, Holds, unflushed, IsStored, AreKept, MayTurnTo, Log}
+use Rattle.std.proofs.Common.{length-drop}
 use Rattle.std.proofs.lemmas.List.{get_or-drop}
-use Rattle.std.proofs.lemmas.List.Elements.{All-map, All-weaker}
-use Rattle.clfs_lsn.specs.Lsn.{lsn_number, container_of, offset_of}
-use Rattle.clfs_lsn.specs.Place.{IsClosed}
-use Rattle.clfs_lsn.specs.Head.{head_of}
-use Rattle.clfs_lsn.specs.declared.entry.Head.{Head}
-use Rattle.clfs_lsn.specs.declared.entry.LogEntry.{LogEntry}
-use Rattle.clfs_archive.specs.Blocks.{AreSealed, BlocksGoOn}
-use Rattle.clfs_base.specs.declared.image.BaseImage.{BaseImage}
-use Rattle.clfs_base.specs.Spelling.{IsImage, AreFiles, current}
-use Rattle.clfs_buffers.specs.Buffered.{Buffered}
-use Rattle.clfs_laws.specs.Between.{turned}
-use Rattle.clfs_model.specs.declared.state.State.{State}
-use Rattle.clfs_model.specs.Flush.{block_start, flushed, cut}
-use Rattle.clfs_model.specs.Heads.{heads_of}
-use Rattle.clfs_model.specs.Live.{hold}
-use Rattle.clfs_model.specs.Valid.{IsValid, IsRecord}
-use Rattle.clfs_physical.specs.Stored.{Newest, Blocks, with_blocks}
-use Rattle.clfs_physical.specs.Taking.{low_of}
-use Rattle.clfs_queue.specs.Queued.{Queued}
+use Rattle.clfs_base.specs.Spelling.{AreFiles}
 use Rattle.clfs_queue.specs.Queued as queues
-use Rattle.clfs_recover.specs.Logs.{IsLogWith, stored_state, records_from_container, from_container}
-use Rattle.clfs_recover.specs.Walk.{shape_of}
-use Rattle.clfs_manager.specs.Memory.{Holds, unflushed}
-use Rattle.clfs_manager.specs.OnDisk.{IsStored, AreKept}
-use Rattle.clfs_manager.specs.Putting.{MayTurnTo}
-use Rattle.clfs_manager.specs.declared.log.Log.{Log}
 use Rattle.clfs_manager.proofs.Numbers.{hold_within}
 use Rattle.clfs_manager.proofs.Opened.{none_from}
 use Rattle.clfs_manager.proofs.SplitRecords.{all_below}

@@ -1,36 +1,15 @@
 -- Calls of a manager that may write, by what each of them comes to.
-use Rattle.std.proofs.Common.{[], ◌≡◌, ℕ, Bool, true, false, refl, sym, ap, subst, ◌∙◌, Ok, Err}
-use Rattle.std.specs.Prelude.{Result, Some, None, IfErr, IsErrOf, IsOk, OnErr, OnOk, is_err}
-use Rattle.clfs_disk.specs.State.{DiskState, IsSteady, Later, Rises}
-use Rattle.clfs_laws.specs.Refused.{is_of_call}
-use Rattle.clfs_model.specs.declared.call.Call.{Call}
-use Rattle.clfs_model.specs.declared.refusal.Refusal.{Refusal}
+use Rattle.clfs_manager.proofs.Words.{[], ◌≡◌, ℕ, Bool, true, false, refl, sym, ap, subst, ◌∙◌, Result, Some, None, IfErr, IsErrOf, IsOk, OnErr, OnOk}
+use Rattle.clfs_manager.proofs.Words.{DiskState, IsSteady, Later, Rises, is_of_call, Call, Refusal, Happened, Fine, Fault, Reply, State, answer}
+use Rattle.clfs_manager.proofs.Words.{MeetsCondition, block_start, flush, flushed, happened_of, refusal, asks, bad_line, Step, calls_disk, takes_memory}
+use Rattle.clfs_manager.proofs.Words.{GoesTheseWays, PhysicalRefusal, AreMade, CallLaws, Steps, WritesAs, CrashLeavesSurvivor, CrashSurvives, StoredMeanwhile}
+use Rattle.clfs_manager.proofs.Words.{IsLeft, StoredAfter, Holds, IsManaged, WritesDisk, Log}
+use Rattle.std.proofs.Common.{Ok, Err}
+use Rattle.std.specs.Prelude.{is_err}
 use Rattle.clfs_model.specs.declared.refusal.Refusal.TheVariants as refusals
-use Rattle.clfs_model.specs.declared.reply.Happened.{Happened}
-use Rattle.clfs_model.specs.declared.reply.Happened.TheVariants.{Fine, Fault}
-use Rattle.clfs_model.specs.declared.reply.Reply.{Reply}
 use Rattle.clfs_model.specs.declared.reply.Reply.TheVariants as replies
-use Rattle.clfs_model.specs.declared.state.State.{State}
-use Rattle.clfs_model.specs.Answers.{answer}
-use Rattle.clfs_model.specs.Conditions.{MeetsCondition}
-use Rattle.clfs_model.specs.Flush.{block_start, flush, flushed}
-use Rattle.clfs_model.specs.Happened.{happened_of}
-use Rattle.clfs_model.specs.Refusals.{refusal}
-use Rattle.clfs_model.specs.Run.{asks, bad_line}
-use Rattle.clfs_model.specs.Step.{Step, calls_disk, takes_memory}
-use Rattle.clfs_model.specs.Ways.{GoesTheseWays}
-use Rattle.clfs_physical.specs.declared.refusal.PhysicalRefusal.{PhysicalRefusal}
 use Rattle.clfs_physical.specs.declared.refusal.PhysicalRefusal.TheVariants as physical
-use Rattle.clfs_physical.specs.Stored.{AreMade}
-use Rattle.clfs_manager.specs.CallLaws.{CallLaws}
-use Rattle.clfs_manager.specs.Calls.{Steps, WritesAs}
-use Rattle.clfs_manager.specs.Crashes.{CrashLeavesSurvivor, CrashSurvives, StoredMeanwhile}
-use Rattle.clfs_manager.specs.Fetching.{IsLeft}
-use Rattle.clfs_manager.specs.Flushing.{IsBroken, StoredAfter}
-use Rattle.clfs_manager.specs.Memory.{Holds}
-use Rattle.clfs_manager.specs.OnDisk.{IsManaged}
-use Rattle.clfs_manager.specs.Written.{WritesDisk}
-use Rattle.clfs_manager.specs.declared.log.Log.{Log}
+use Rattle.clfs_manager.specs.Flushing.{IsBroken}
 use Rattle.clfs_manager.proofs.AreasChange.{KeepsStorable, KeepsValid}
 use Rattle.clfs_manager.proofs.CopyingCalls.{crash_written}
 use Rattle.clfs_manager.proofs.Crashes.{crash_broken, crash_managed, never_ok}

@@ -1,6 +1,4 @@
-use Rattle.clfs_lsn.specs.Size.{own}
-use Rattle.clfs_model.specs.Put.{with_less_held}
-use Rattle.clfs_model.specs.State.{change_area}
+use Rattle.clfs_manager.proofs.Words.{own, with_less_held, change_area}
 use Rattle.clfs_manager.proofs.appending.spent.Given as goal
 
 abbrev pub ghost-next : goal.ghost-next

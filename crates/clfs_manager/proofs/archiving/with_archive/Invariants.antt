@@ -1,4 +1,4 @@
-use Rattle.clfs_manager.specs.Settings.{with_archive}
+use Rattle.clfs_manager.proofs.Words.{with_archive}
 use Rattle.clfs_manager.proofs.archiving.with_archive.Given as goal
 
 abbrev pub ghost-next : goal.ghost-next

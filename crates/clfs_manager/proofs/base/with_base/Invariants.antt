@@ -1,4 +1,4 @@
-use Rattle.clfs_manager.specs.Base.{with_base}
+use Rattle.clfs_manager.proofs.Words.{with_base}
 use Rattle.clfs_manager.proofs.base.with_base.Given as goal
 
 abbrev pub ghost-next : goal.ghost-next

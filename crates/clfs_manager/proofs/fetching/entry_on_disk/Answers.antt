@@ -1,15 +1,6 @@
-use Rattle.std.proofs.Common.{◌≡◌, ℕ, ◌<◌, ◌≤◌, List, length, Ok, refl, sym, ap, ◌∙◌, subst}
-use Rattle.std.specs.Prelude.{Option, Some, None, Contains, slice_index}
-use Rattle.clfs_lsn.specs.Lsn.{container_of}
-use Rattle.clfs_lsn.specs.declared.entry.LogEntry.{LogEntry}
-use Rattle.clfs_disk.specs.State.{TellsContents}
-use Rattle.clfs_base.specs.declared.image.BaseImage.{BaseImage}
-use Rattle.clfs_buffers.specs.Buffered.{kept_at}
-use Rattle.clfs_buffers.specs.Reading.{block_place, record_in, Gives}
-use Rattle.clfs_model.specs.Flush.{flushed}
-use Rattle.clfs_model.specs.Live.{hold}
-use Rattle.clfs_recover.specs.Reading.{file_of, IsReadAt}
-use Rattle.clfs_recover.specs.Walk.{shape_of}
+use Rattle.clfs_manager.proofs.Words.{◌≡◌, ℕ, ◌<◌, ◌≤◌, List, length, refl, sym, ap, ◌∙◌, subst, Option, Some, None, Contains, slice_index, container_of}
+use Rattle.clfs_manager.proofs.Words.{LogEntry, TellsContents, BaseImage, kept_at, block_place, record_in, Gives, flushed, hold, file_of, IsReadAt, shape_of}
+use Rattle.std.proofs.Common.{Ok}
 use Rattle.clfs_manager.proofs.Fetched.{is_stored, kept_gives, gives_as, file_gives, kept_after}
 use Rattle.clfs_manager.proofs.Placed.{told_byte}
 use Rattle.clfs_manager.proofs.fetching.entry_on_disk.Goals as goal

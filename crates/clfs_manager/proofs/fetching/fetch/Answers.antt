@@ -1,8 +1,6 @@
-use Rattle.std.proofs.Common.{sym, ◌∙◌, refl}
+use Rattle.clfs_manager.proofs.Words.{sym, ◌∙◌, refl, flushed, LogEntry}
 use Rattle.std.proofs.lemmas.Bool.{ltb-true}
-use Rattle.clfs_model.specs.Flush.{flushed}
 use Rattle.clfs_model.specs.declared.refusal.Refusal.TheVariants as refusals
-use Rattle.clfs_lsn.specs.declared.entry.LogEntry.{LogEntry}
 use Rattle.clfs_manager.proofs.Gotten.{gets_no_memory, gets_waiting, gets_stored, gets_unread, left_open}
 use Rattle.clfs_manager.proofs.OwnRefusals.{error_of}
 use Rattle.clfs_manager.proofs.fetching.fetch.Goals as goal

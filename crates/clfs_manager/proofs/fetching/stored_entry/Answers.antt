@@ -1,9 +1,5 @@
-use Rattle.std.proofs.Common.{rules, ℕ, Result, Ok, Err, sym, ap, subst, ◌∙◌}
-use Rattle.clfs_lsn.specs.declared.entry.Head.{Head}
-use Rattle.clfs_lsn.specs.declared.entry.LogEntry.{LogEntry}
-use Rattle.std.specs.Prelude.{IsSome}
-use Rattle.clfs_buffers.specs.Buffered.{Buffered, kept_at}
-use Rattle.clfs_buffers.specs.Reading.{block_place}
+use Rattle.clfs_manager.proofs.Words.{rules, ℕ, sym, ap, subst, ◌∙◌, Head, LogEntry, IsSome, Buffered, kept_at, block_place}
+use Rattle.std.proofs.Common.{Result, Ok, Err}
 use Rattle.clfs_buffers.specs.declared.refusal.ReadRefusal.TheVariants as reads
 use Rattle.clfs_manager.proofs.Fetched.{kept_bytes, kept_used}
 use Rattle.clfs_manager.proofs.Gotten.{block_kept}

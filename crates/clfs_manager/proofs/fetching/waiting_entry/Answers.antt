@@ -1,16 +1,7 @@
-use Rattle.std.proofs.Common.{◌≡◌, ℕ, ◌≤◌, Some, refl, sym, ap, subst, arith, length}
-use Rattle.std.proofs.lemmas.List.Elements.{All-contains}
-use Rattle.std.specs.Prelude.{find, ◌==◌}
-use Rattle.std.specs.Option.{option_map}
-use Rattle.clfs_lsn.specs.Head.{head_of}
+use Rattle.clfs_manager.proofs.Words.{◌≡◌, ℕ, ◌≤◌, refl, sym, ap, subst, arith, length, All-contains, find, ◌==◌, option_map, head_of, Head, LogEntry, State}
+use Rattle.clfs_manager.proofs.Words.{flushed, IsSound, IsNeeded, Log}
+use Rattle.std.proofs.Common.{Some}
 use Rattle.clfs_lsn.specs.Size.{longest}
-use Rattle.clfs_lsn.specs.declared.entry.Head.{Head}
-use Rattle.clfs_lsn.specs.declared.entry.LogEntry.{LogEntry}
-use Rattle.clfs_model.specs.declared.state.State.{State}
-use Rattle.clfs_model.specs.Flush.{flushed}
-use Rattle.clfs_manager.specs.Memory.{IsSound}
-use Rattle.clfs_manager.specs.Fetching.{IsNeeded}
-use Rattle.clfs_manager.specs.declared.log.Log.{Log}
 use Rattle.clfs_manager.proofs.Fetched.{waits_in_queue}
 use Rattle.clfs_manager.proofs.fetching.waiting_entry.Goals as goal
 

@@ -1,4 +1,4 @@
-use Rattle.clfs_model.specs.Flush.{flush}
+use Rattle.clfs_manager.proofs.Words.{flush}
 use Rattle.clfs_manager.proofs.flushing.flushed.Given as goal
 
 abbrev pub ghost-next : goal.ghost-next

@@ -1,4 +1,4 @@
-use Rattle.clfs_model.specs.Step.{with_broken}
+use Rattle.clfs_manager.proofs.Words.{with_broken}
 use Rattle.clfs_manager.proofs.log.broken.Given as goal
 
 abbrev pub ghost-next : goal.ghost-next

@@ -1,7 +1,4 @@
-use Rattle.std.proofs.Common.{length, refl, sym, ap, ◌∙◌, arith}
-use Rattle.clfs_physical.specs.Stored.{Newest}
-use Rattle.clfs_queue.specs.Queued.{Queued}
-use Rattle.clfs_recover.specs.Walk.{shape_of}
+use Rattle.clfs_manager.proofs.Words.{length, refl, sym, ap, ◌∙◌, arith, Newest, Queued, shape_of}
 use Rattle.clfs_manager.proofs.log.open_log.Goals as goal
 
 pub open_records-requires-clause-fit : goal.open_records-requires-clause-fit

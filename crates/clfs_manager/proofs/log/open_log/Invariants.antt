@@ -1,5 +1,4 @@
-use Rattle.clfs_recover.specs.Files.{state_of}
-use Rattle.clfs_recover.specs.Opening.{told_parts}
+use Rattle.clfs_manager.proofs.Words.{state_of, told_parts}
 use Rattle.clfs_manager.proofs.log.open_log.Given as goal
 
 abbrev pub ghost-pick : goal.ghost-pick

@@ -1,4 +1,4 @@
-use Rattle.std.proofs.Common.{◌∙◌}
+use Rattle.clfs_manager.proofs.Words.{◌∙◌}
 use Rattle.clfs_manager.proofs.log.open_records.Goals as goal
 
 pub open_tables-requires : goal.open_tables-requires

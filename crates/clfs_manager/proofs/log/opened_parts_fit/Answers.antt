@@ -1,7 +1,4 @@
-use Rattle.std.proofs.Common.{◌<◌, sym}
-use Rattle.clfs_model.specs.Flush.{block_start}
-use Rattle.clfs_recover.specs.Opening.{told_parts}
-use Rattle.clfs_recover.specs.Files.{state_of}
+use Rattle.clfs_manager.proofs.Words.{◌<◌, sym, block_start, told_parts, state_of}
 use Rattle.clfs_manager.proofs.Heads.{all_heads}
 use Rattle.clfs_manager.proofs.Opened.{rows_and_heads, none_from, ends_fit, below_start, starts, streams_long}
 use Rattle.clfs_manager.proofs.OpenedOnDisk.{opened_needed}

@@ -1,4 +1,4 @@
-use Rattle.clfs_manager.specs.Streams.{with_stream}
+use Rattle.clfs_manager.proofs.Words.{with_stream}
 use Rattle.clfs_manager.proofs.opening.with_stream.Given as goal
 
 abbrev pub ghost-next : goal.ghost-next

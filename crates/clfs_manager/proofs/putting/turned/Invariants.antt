@@ -1,4 +1,4 @@
-use Rattle.clfs_laws.specs.Between.{turned}
+use Rattle.clfs_manager.proofs.Words.{turned}
 use Rattle.clfs_manager.proofs.putting.turned.Given as goal
 
 abbrev pub ghost-next : goal.ghost-next

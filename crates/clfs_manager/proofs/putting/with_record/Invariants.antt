@@ -1,5 +1,4 @@
-use Rattle.clfs_model.specs.Put.{put}
-use Rattle.clfs_manager.specs.Putting.{unplaced}
+use Rattle.clfs_manager.proofs.Words.{put, unplaced}
 use Rattle.clfs_manager.proofs.putting.with_record.Given as goal
 
 abbrev pub ghost-next : goal.ghost-next

@@ -1,8 +1,6 @@
 use Rattle.clfs_manager.proofs.Settled.{honest_before}
-use Rattle.std.proofs.Common.{◌∙◌, refl, sym}
+use Rattle.clfs_manager.proofs.Words.{◌∙◌, refl, sym, state_of, told_parts}
 use Rattle.std.proofs.lemmas.Result.{err_from_is_err_and}
-use Rattle.clfs_recover.specs.Files.{state_of}
-use Rattle.clfs_recover.specs.Opening.{told_parts}
 use Rattle.clfs_manager.proofs.OpenedOnDisk.{AreListed, found_files, opened_open}
 use Rattle.clfs_manager.proofs.OpenedAnew.{memory_told}
 use Rattle.clfs_manager.proofs.reopening.read_log.Goals as goal

@@ -1,4 +1,4 @@
-use Rattle.clfs_model.specs.Answers.{rebased}
+use Rattle.clfs_manager.proofs.Words.{rebased}
 use Rattle.clfs_manager.proofs.restarting.rebased.Given as goal
 
 abbrev pub ghost-next : goal.ghost-next

@@ -1,4 +1,4 @@
-use Rattle.clfs_manager.specs.Settings.{with_policies}
+use Rattle.clfs_manager.proofs.Words.{with_policies}
 use Rattle.clfs_manager.proofs.settings.with_policies.Given as goal
 
 abbrev pub ghost-next : goal.ghost-next

@@ -1,4 +1,4 @@
-use Rattle.clfs_model.specs.Space.{with_containers}
+use Rattle.clfs_manager.proofs.Words.{with_containers}
 use Rattle.clfs_manager.proofs.sizes.with_containers.Given as goal
 
 abbrev pub ghost-next : goal.ghost-next

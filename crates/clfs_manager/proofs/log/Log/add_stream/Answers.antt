@@ -1,29 +1,12 @@
-use Rattle.std.proofs.Common.{◌≡◌, ℕ, ◌+◌, ◌-◌, refl, sym, ap, subst, ◌∙◌, List, [], ◌∷◌, ◌++◌, length, arith, Err}
-use Rattle.std.specs.Prelude.{None}
-use Rattle.std.proofs.lemmas.List.{length-append, length-drop}
-use Rattle.clfs_lsn.specs.Lsn.{null_lsn, container_of}
-use Rattle.clfs_base.specs.Writing.{older_of}
-use Rattle.clfs_base.specs.declared.image.BaseImage.{BaseImage}
-use Rattle.clfs_base.specs.declared.image.Row.{Row}
-use Rattle.clfs_model.specs.declared.state.State.{State}
-use Rattle.clfs_lsn.specs.declared.stream.Stream.{Stream}
-use Rattle.clfs_archive.specs.Blocks.{AreSealed}
-use Rattle.clfs_model.specs.Flush.{block_start}
-use Rattle.clfs_model.specs.Heads.{heads_of}
-use Rattle.clfs_model.specs.Live.{hold}
-use Rattle.clfs_lsn.specs.Streams.{stream_number_from}
-use Rattle.clfs_physical.specs.Changes.{IsNewRow, next_copy, with_stream as with_row}
-use Rattle.clfs_physical.specs.Stored.{Newest}
+use Rattle.clfs_manager.proofs.Words.{◌≡◌, ℕ, ◌+◌, ◌-◌, refl, sym, ap, subst, ◌∙◌, List, [], ◌∷◌, ◌++◌, length, arith, None, length-drop, null_lsn}
+use Rattle.clfs_manager.proofs.Words.{container_of, older_of, BaseImage, Row, State, Stream, AreSealed, block_start, heads_of, hold, stream_number_from}
+use Rattle.clfs_manager.proofs.Words.{next_copy, Newest, PhysicalRefusal, streams_with, shape_of, StoredAfter, Holds, AreKept, with_stream, IsIntact}
+use Rattle.clfs_manager.proofs.Words.{WritesDisk, Log}
+use Rattle.std.proofs.Common.{Err}
+use Rattle.std.proofs.lemmas.List.{length-append}
+use Rattle.clfs_physical.specs.Changes.{IsNewRow, with_stream as with_row}
 use Rattle.clfs_physical.specs.declared.change.Change.TheVariants as changes
-use Rattle.clfs_physical.specs.declared.refusal.PhysicalRefusal.{PhysicalRefusal}
-use Rattle.clfs_base.specs.Streams.{streams_with}
-use Rattle.clfs_recover.specs.Walk.{bases_with, shape_of}
-use Rattle.clfs_manager.specs.Flushing.{StoredAfter}
-use Rattle.clfs_manager.specs.Memory.{Holds}
-use Rattle.clfs_manager.specs.OnDisk.{AreKept}
-use Rattle.clfs_manager.specs.Streams.{with_stream}
-use Rattle.clfs_manager.specs.Written.{IsIntact, WritesDisk}
-use Rattle.clfs_manager.specs.declared.log.Log.{Log}
+use Rattle.clfs_recover.specs.Walk.{bases_with}
 use Rattle.clfs_manager.proofs.AddedStream.{hold_added, intact_reserved, is_name, kept_added, no_row, open_allowed}
 use Rattle.clfs_manager.proofs.CopiedMeanwhile.{crash_copied, stream_copied}
 use Rattle.clfs_manager.proofs.Crashes.{crash_still}

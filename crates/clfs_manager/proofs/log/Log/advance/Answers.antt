@@ -1,13 +1,5 @@
-use Rattle.std.proofs.Common.{◌≤◌, refl, sym, ap, subst, ◌∙◌, arith, [], ◌∷◌}
-use Rattle.std.specs.Prelude.{IsErr}
-use Rattle.clfs_lsn.specs.Lsn.{container_of}
-use Rattle.clfs_model.specs.declared.state.State.{State}
-use Rattle.clfs_model.specs.Flush.{flush}
-use Rattle.clfs_model.specs.Live.{hold}
-use Rattle.clfs_model.specs.State.{base_of}
-use Rattle.clfs_manager.specs.Base.{with_base}
-use Rattle.clfs_manager.specs.Changing.{ChangesLog}
-use Rattle.clfs_manager.specs.Written.{IsYetToForget}
+use Rattle.clfs_manager.proofs.Words.{◌≤◌, refl, sym, ap, subst, ◌∙◌, arith, [], ◌∷◌, IsErr, container_of, State, flush, hold, base_of, with_base, ChangesLog}
+use Rattle.clfs_manager.proofs.Words.{IsYetToForget}
 use Rattle.clfs_manager.proofs.Changing.{changes_failed, changes_forgot, changes_refused, changes_then}
 use Rattle.clfs_manager.proofs.ClosedPlace.{flush_is}
 use Rattle.clfs_manager.proofs.FlushedLog.{hold_done}

@@ -1,10 +1,5 @@
-use Rattle.std.proofs.Common.{◌≡◌, ap, List}
+use Rattle.clfs_manager.proofs.Words.{◌≡◌, ap, List, Place, Extent, State, extents, extents_of, heads_of}
 use Rattle.std.proofs.lemmas.Result.{IfOk-weaker}
-use Rattle.clfs_lsn.specs.declared.place.Place.{Place}
-use Rattle.clfs_model.specs.declared.info.Extent.{Extent}
-use Rattle.clfs_model.specs.declared.state.State.{State}
-use Rattle.clfs_model.specs.Archive.{extents}
-use Rattle.clfs_model.specs.Heads.{extents_of, heads_of}
 use Rattle.clfs_manager.proofs.Extents.{told_by, extents_are}
 use Rattle.clfs_manager.proofs.log.Log.all_extents.Goals as goal
 

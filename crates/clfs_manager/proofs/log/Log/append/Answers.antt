@@ -1,24 +1,13 @@
-use Rattle.clfs_model.specs.Flush.{cut}
-use Rattle.clfs_model.specs.Run.{Request, asks, bad_line}
-use Rattle.clfs_model.specs.Survivors.{Survives}
+use Rattle.clfs_manager.proofs.Words.{cut, Request, asks, bad_line, Survives, ◌≡◌, ◌≤◌, ℕ, true, false, refl, sym, ap, subst, ◌∙◌, List, length, All, Err}
+use Rattle.clfs_manager.proofs.Words.{IsErr, IsErrOf, IsOk, Result, AreaTable, area_at, TakesThrough, Refusal, Fault, Area, State, flush_if, hold_sizes}
+use Rattle.clfs_manager.proofs.Words.{need_of, next_lsn, plain_record, put, seal_if, spend_if, spent_of, grown, own_sum, Step, fills_buffers, grows}
+use Rattle.clfs_manager.proofs.Words.{making_ready_writes, with_broken, Steps, WritesDisk}
 use Rattle.clfs_manager.proofs.Crashes.{crash_still, crash_then, survives_as}
 use Rattle.clfs_manager.proofs.Stages.{appended_stages, while_appended}
-use Rattle.std.proofs.Common.{◌≡◌, ◌≤◌, ℕ, true, false, refl, sym, ap, subst, ◌∙◌, List, length}
-use Rattle.std.specs.Prelude.{All, Err, IsErr, IsErrOf, IsOk, Result}
-use Rattle.clfs_areas.specs.Table.{AreaTable, area_at}
-use Rattle.clfs_laws.specs.Between.{TakesThrough}
 use Rattle.clfs_model.specs.declared.call.Call.TheVariants as calls
-use Rattle.clfs_model.specs.declared.refusal.Refusal.{Refusal}
 use Rattle.clfs_model.specs.declared.refusal.Refusal.TheVariants as refusals
-use Rattle.clfs_model.specs.declared.reply.Happened.TheVariants.{Fault}
 use Rattle.clfs_model.specs.declared.reply.Reply.TheVariants as replies
-use Rattle.clfs_model.specs.declared.state.Area.{Area}
-use Rattle.clfs_model.specs.declared.state.State.{State}
-use Rattle.clfs_model.specs.Put.{flush_if, hold_sizes, need_of, next_lsn, plain_record, put, seal_if, spend_if, spent_of}
-use Rattle.clfs_model.specs.Space.{grown, own_sum}
-use Rattle.clfs_model.specs.Step.{Step, append_writes, fills_buffers, grows, making_ready_writes, with_broken}
-use Rattle.clfs_manager.specs.Calls.{Steps}
-use Rattle.clfs_manager.specs.Written.{WritesDisk}
+use Rattle.clfs_model.specs.Step.{append_writes}
 use Rattle.clfs_manager.proofs.AppendCall.{append_enough, append_step, asked, grows_not, stopped_step}
 use Rattle.clfs_manager.proofs.Intact.{writes_as, writes_then}
 use Rattle.clfs_manager.proofs.OwnRefusals.{error_of, refused_step, writes_refused}

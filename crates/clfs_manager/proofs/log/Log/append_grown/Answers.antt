@@ -1,15 +1,5 @@
-use Rattle.std.proofs.Common.{◌≡◌, List, [], ◌∷◌, false, refl, sym, ap, subst, ◌∙◌, length}
-use Rattle.std.specs.Prelude.{IsErr, IsOk}
-use Rattle.clfs_areas.specs.Table.{area_at}
-use Rattle.clfs_laws.specs.Between.{IsWhole}
-use Rattle.clfs_laws.specs.Stages.{ready_stages}
-use Rattle.clfs_model.specs.declared.state.Area.{Area}
-use Rattle.clfs_model.specs.declared.state.State.{State}
-use Rattle.clfs_model.specs.Put.{flush_if, hold_sizes, plain_record, put, seal_if, spend_if}
-use Rattle.clfs_model.specs.Step.{fills_buffers}
-use Rattle.clfs_model.specs.Valid.{IsValid}
-use Rattle.clfs_manager.specs.Changing.{GoesThrough}
-use Rattle.clfs_manager.specs.Written.{IsIntact}
+use Rattle.clfs_manager.proofs.Words.{◌≡◌, List, [], ◌∷◌, false, refl, sym, ap, subst, ◌∙◌, length, IsErr, IsOk, area_at, IsWhole, ready_stages, Area, State}
+use Rattle.clfs_manager.proofs.Words.{flush_if, hold_sizes, plain_record, put, seal_if, spend_if, fills_buffers, IsValid, GoesThrough, IsIntact}
 use Rattle.clfs_manager.proofs.AppendCall.{hold_named}
 use Rattle.clfs_manager.proofs.Reserved.{intact_after}
 use Rattle.clfs_manager.proofs.Through.{through_changes, through_answered, through_failed, through_named, through_refused, through_then}

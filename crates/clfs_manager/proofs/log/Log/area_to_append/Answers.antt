@@ -1,5 +1,4 @@
-use Rattle.std.proofs.Common.{rules}
-use Rattle.std.specs.Prelude.{None}
+use Rattle.clfs_manager.proofs.Words.{rules, None}
 use Rattle.clfs_manager.proofs.RestartCall.{two_containers}
 use Rattle.clfs_manager.proofs.log.Log.area_to_append.Goals as goal
 

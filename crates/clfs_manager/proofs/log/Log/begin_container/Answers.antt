@@ -1,13 +1,5 @@
-use Rattle.std.proofs.Common.{refl, sym, subst, ◌∙◌, arith, [], ◌∷◌}
-use Rattle.std.specs.Prelude.{IsErr, Ok}
-use Rattle.clfs_disk.specs.declared.disk.Failed.{Failed}
-use Rattle.clfs_laws.specs.Between.{turned}
-use Rattle.clfs_disk.specs.State.{DiskState}
-use Rattle.clfs_model.specs.declared.state.State.{State}
-use Rattle.clfs_model.specs.Flush.{flush}
-use Rattle.clfs_manager.specs.Changing.{ChangesLog}
-use Rattle.clfs_manager.specs.Written.{IsIntact, IsYetToForget}
-use Rattle.clfs_manager.specs.declared.log.Log.{Log}
+use Rattle.clfs_manager.proofs.Words.{refl, sym, subst, ◌∙◌, arith, [], ◌∷◌, IsErr, Ok, Failed, turned, DiskState, State, flush, ChangesLog, IsIntact}
+use Rattle.clfs_manager.proofs.Words.{IsYetToForget, Log}
 use Rattle.clfs_manager.proofs.Changing.{changes_failed, changes_forgot, changes_refused, changes_then}
 use Rattle.clfs_manager.proofs.log.Log.begin_container.Goals as goal
 

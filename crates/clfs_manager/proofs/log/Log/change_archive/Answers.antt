@@ -1,9 +1,4 @@
-use Rattle.std.proofs.Common.{refl, ap, ◌∙◌, sym, subst}
-use Rattle.std.specs.Prelude.{IsErr, IsOk}
-use Rattle.clfs_model.specs.declared.state.State.{State}
-use Rattle.clfs_physical.specs.Stored.{Newest}
-use Rattle.clfs_manager.specs.Flushing.{StoredAfter}
-use Rattle.clfs_manager.specs.Settings.{with_archive}
+use Rattle.clfs_manager.proofs.Words.{refl, ap, ◌∙◌, sym, subst, IsErr, IsOk, State, Newest, StoredAfter, with_archive}
 use Rattle.clfs_manager.proofs.Called.{calls_fine, stores_failed}
 use Rattle.clfs_manager.proofs.StillStorable.{storable_archived}
 use Rattle.clfs_manager.proofs.log.Log.change_archive.Goals as goal

@@ -1,11 +1,5 @@
-use Rattle.std.proofs.Common.{◌≡◌, ◌*◌, ◌≤◌, refl, sym, ap, subst, ◌∙◌, arith}
-use Rattle.clfs_lsn.specs.Place.{block_end, frontier, sealed}
-use Rattle.clfs_lsn.specs.declared.place.Place.{Place}
-use Rattle.clfs_archive.specs.Blocks.{AreSealed}
-use Rattle.clfs_model.specs.declared.state.State.{State}
-use Rattle.clfs_model.specs.Flush.{block_start}
-use Rattle.clfs_model.specs.Heads.{heads_of}
-use Rattle.clfs_queue.specs.Queued.{Queued}
+use Rattle.clfs_manager.proofs.Words.{◌≡◌, ◌*◌, ◌≤◌, refl, sym, ap, subst, ◌∙◌, arith, block_end, frontier, sealed, Place, AreSealed, State, block_start}
+use Rattle.clfs_manager.proofs.Words.{heads_of, Queued}
 use Rattle.clfs_manager.proofs.Ending.{Ends, ends, sealed_place}
 use Rattle.clfs_manager.proofs.Numbers.{hold_in_place, hold_up_to_end}
 use Rattle.clfs_manager.proofs.log.Log.end_block.Goals as goal

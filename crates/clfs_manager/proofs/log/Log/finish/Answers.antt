@@ -1,9 +1,4 @@
-use Rattle.std.proofs.Common.{refl, sym, subst, [], ◌∷◌}
-use Rattle.std.specs.Prelude.{IsErr}
-use Rattle.clfs_model.specs.declared.state.State.{State}
-use Rattle.clfs_model.specs.Put.{flush_if, seal_if}
-use Rattle.clfs_manager.specs.Changing.{ChangesLog}
-use Rattle.clfs_manager.specs.Written.{IsIntact}
+use Rattle.clfs_manager.proofs.Words.{refl, sym, subst, [], ◌∷◌, IsErr, State, flush_if, seal_if, ChangesLog, IsIntact}
 use Rattle.clfs_manager.proofs.Changing.{changes_failed, changes_then}
 use Rattle.clfs_manager.proofs.log.Log.finish.Goals as goal
 

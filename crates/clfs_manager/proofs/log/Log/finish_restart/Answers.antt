@@ -1,8 +1,4 @@
-use Rattle.std.proofs.Common.{refl, sym, subst, [], ◌∷◌}
-use Rattle.std.specs.Prelude.{IsErr}
-use Rattle.clfs_model.specs.declared.state.State.{State}
-use Rattle.clfs_model.specs.Answers.{rebased}
-use Rattle.clfs_model.specs.Flush.{flush}
+use Rattle.clfs_manager.proofs.Words.{refl, sym, subst, [], ◌∷◌, IsErr, State, rebased, flush}
 use Rattle.clfs_manager.proofs.Changing.{changes_forgot, changes_refused}
 use Rattle.clfs_manager.proofs.log.Log.finish_restart.Goals as goal
 

@@ -1,10 +1,5 @@
-use Rattle.std.proofs.Common.{◌≡◌, ℕ, ◌≤◌, refl, sym, ap, subst, ◌∙◌, arith}
-use Rattle.clfs_lsn.specs.Lsn.{lsn_number, container_of}
-use Rattle.clfs_archive.specs.Blocks.{AreFew, AreSealed}
-use Rattle.clfs_model.specs.declared.state.State.{State}
-use Rattle.clfs_model.specs.Flush.{block_start}
-use Rattle.clfs_model.specs.Heads.{heads_of}
-use Rattle.clfs_model.specs.Live.{hold}
+use Rattle.clfs_manager.proofs.Words.{◌≡◌, ℕ, ◌≤◌, refl, sym, ap, subst, ◌∙◌, arith, lsn_number, container_of, AreSealed, State, block_start, heads_of, hold}
+use Rattle.clfs_archive.specs.Blocks.{AreFew}
 use Rattle.clfs_manager.proofs.MovedBase.{dead_in, sealed_later}
 use Rattle.clfs_manager.proofs.log.Log.forget_low.Goals as goal
 

@@ -1,9 +1,4 @@
-use Rattle.std.proofs.Common.{◌≡◌, ap, sym, ◌∙◌}
-use Rattle.clfs_lsn.specs.declared.entry.LogEntry.{LogEntry}
-use Rattle.clfs_model.specs.declared.state.Area.{Area}
-use Rattle.clfs_model.specs.declared.state.State.{State}
-use Rattle.clfs_model.specs.Reading.{with_cursor_at}
-use Rattle.clfs_areas.specs.Table.{area_at}
+use Rattle.clfs_manager.proofs.Words.{◌≡◌, ap, sym, ◌∙◌, LogEntry, Area, State, with_cursor_at, area_at}
 use Rattle.clfs_manager.proofs.Gotten.{gets_made, gets_refused}
 use Rattle.clfs_manager.proofs.OwnRefusals.{error_of}
 use Rattle.clfs_manager.proofs.ReadKeeps.{left_areas, changed_alike, areas_stay, state_stays}

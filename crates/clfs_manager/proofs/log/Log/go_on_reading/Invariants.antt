@@ -1,5 +1,4 @@
-use Rattle.clfs_model.specs.Reading.{with_cursor_at}
-use Rattle.clfs_model.specs.State.{change_area}
+use Rattle.clfs_manager.proofs.Words.{with_cursor_at, change_area}
 use Rattle.clfs_manager.proofs.log.Log.go_on_reading.Given as goal
 
 abbrev pub ghost-next : goal.ghost-next

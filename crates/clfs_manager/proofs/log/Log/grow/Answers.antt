@@ -1,11 +1,6 @@
-use Rattle.std.proofs.Common.{ℕ, ◌<◌, refl, sym, ap, subst, ◌∙◌, arith, false}
+use Rattle.clfs_manager.proofs.Words.{ℕ, ◌<◌, refl, sym, ap, subst, ◌∙◌, arith, false, Fine, State, with_containers, Policies, ResizesLog}
 use Rattle.clfs_model.specs.declared.call.Call.TheVariants as calls
-use Rattle.clfs_model.specs.declared.reply.Happened.TheVariants.{Fine}
 use Rattle.clfs_model.specs.declared.reply.Reply.TheVariants as replies
-use Rattle.clfs_model.specs.declared.state.State.{State}
-use Rattle.clfs_model.specs.Space.{with_containers}
-use Rattle.clfs_policy.specs.declared.policies.Policies.{Policies}
-use Rattle.clfs_manager.specs.Sizes.{ResizesLog}
 use Rattle.clfs_manager.proofs.Reserved.{grown_is_sized, not_growing, size_allowed}
 use Rattle.clfs_manager.proofs.Sized.{resizes_nothing}
 use Rattle.clfs_manager.proofs.log.Log.grow.Goals as goal

@@ -1,5 +1,4 @@
-use Rattle.std.proofs.Common.{◌≤◌, ◌∙◌, ℕ, sym, subst}
-use Rattle.clfs_lsn.specs.Lsn.{container_of}
+use Rattle.clfs_manager.proofs.Words.{◌≤◌, ◌∙◌, ℕ, sym, subst, container_of}
 use Rattle.clfs_manager.proofs.Holds.{hold_is}
 use Rattle.clfs_manager.proofs.Numbers.{hold_within}
 use Rattle.clfs_manager.proofs.log.Log.hold.Goals as goal

@@ -1,14 +1,6 @@
-use Rattle.std.proofs.Common.{◌≡◌, ◌==◌, ℕ, true, false, refl, sym, ap, subst, ◌∙◌, List, length, arith}
-use Rattle.clfs_areas.specs.Table.{area_at, all_held}
-use Rattle.clfs_model.specs.declared.state.Area.{Area}
-use Rattle.clfs_model.specs.declared.state.State.{State}
-use Rattle.clfs_model.specs.Live.{hold}
-use Rattle.clfs_model.specs.Put.{hold_sizes, with_more_held}
-use Rattle.clfs_model.specs.Space.{own_sum}
-use Rattle.clfs_model.specs.State.{change_area, change_first, is_area}
-use Rattle.clfs_model.specs.Storable.{IsStorable}
-use Rattle.clfs_model.specs.Valid.{IsValid}
-use Rattle.clfs_manager.specs.Memory.{ChangesAreas}
+use Rattle.clfs_manager.proofs.Words.{◌≡◌, ℕ, true, false, refl, sym, ap, subst, ◌∙◌, List, length, arith, area_at, all_held, Area, State, hold, hold_sizes}
+use Rattle.clfs_manager.proofs.Words.{with_more_held, own_sum, change_area, change_first, is_area, IsStorable, IsValid, ChangesAreas}
+use Rattle.std.proofs.Common.{◌==◌}
 use Rattle.clfs_manager.proofs.Numbers.{free_is_small}
 use Rattle.clfs_manager.proofs.Reserved.{holds_more, sound_after}
 use Rattle.clfs_manager.proofs.StillStorable.{storable_held}

@@ -1,5 +1,4 @@
-use Rattle.clfs_model.specs.Put.{with_more_held}
-use Rattle.clfs_model.specs.State.{change_area}
+use Rattle.clfs_manager.proofs.Words.{with_more_held, change_area}
 use Rattle.clfs_manager.proofs.log.Log.hold_sizes.Given as goal
 
 abbrev pub ghost-next : goal.ghost-next

@@ -1,13 +1,5 @@
-use Rattle.std.proofs.Common.{◌≡◌, ℕ, length, refl, sym, subst, ◌∙◌, false, [], ◌∷◌}
-use Rattle.clfs_disk.specs.State.{DiskState}
-use Rattle.clfs_laws.specs.Between.{readied, turned}
-use Rattle.clfs_laws.specs.Stages.{ready_stages}
-use Rattle.clfs_lsn.specs.Place.{joins, begins_here}
-use Rattle.clfs_lsn.specs.declared.entry.LogEntry.{LogEntry}
-use Rattle.clfs_model.specs.declared.state.State.{State}
-use Rattle.clfs_model.specs.Flush.{seal, flush}
-use Rattle.clfs_model.specs.Storable.{IsStorable}
-use Rattle.clfs_model.specs.Valid.{IsValid}
+use Rattle.clfs_manager.proofs.Words.{◌≡◌, ℕ, length, refl, sym, subst, ◌∙◌, false, [], ◌∷◌, DiskState, readied, turned, ready_stages, joins, begins_here}
+use Rattle.clfs_manager.proofs.Words.{LogEntry, State, seal, flush, IsStorable, IsValid}
 use Rattle.clfs_manager.specs.Putting.{sealing_writes}
 use Rattle.clfs_manager.proofs.ReadyLog.{it_joins, it_begins, it_turns, may_turn}
 use Rattle.clfs_manager.proofs.Through.{through_changes, through_named, through_nothing}

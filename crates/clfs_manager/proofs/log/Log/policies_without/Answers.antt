@@ -1,8 +1,5 @@
-use Rattle.std.proofs.Common.{◌≡◌, refl, sym, ap, ◌∙◌, inl, inr}
-use Rattle.std.proofs.lemmas.Bool.{cases_Bool}
-use Rattle.clfs_model.specs.Policies.{is_installed}
+use Rattle.clfs_manager.proofs.Words.{◌≡◌, refl, sym, ap, ◌∙◌, inl, inr, cases_Bool, is_installed, Policies}
 use Rattle.clfs_policy.specs.Ranges.{is_installed as has_policy}
-use Rattle.clfs_policy.specs.declared.policies.Policies.{Policies}
 use Rattle.clfs_manager.proofs.SettingsKeep.{installed_alike}
 use Rattle.clfs_manager.proofs.log.Log.policies_without.Goals as goal
 

@@ -1,10 +1,6 @@
-use Rattle.clfs_model.specs.Space.{grown}
+use Rattle.clfs_manager.proofs.Words.{grown, ◌≡◌, ◌∙◌, false, refl, ap, subst, sym, IsErrOf, State, grows}
 use Rattle.clfs_manager.proofs.Crashes.{crash_still, survives_as}
-use Rattle.std.proofs.Common.{◌≡◌, ◌∙◌, false, refl, ap, subst, sym}
-use Rattle.std.specs.Prelude.{IsErrOf}
-use Rattle.clfs_model.specs.declared.state.State.{State}
 use Rattle.clfs_physical.specs.declared.refusal.PhysicalRefusal.TheVariants as physical
-use Rattle.clfs_model.specs.Step.{grows}
 use Rattle.clfs_manager.proofs.Intact.{writes_as}
 use Rattle.clfs_manager.proofs.RestartCall.{intact_same, left_broken, left_intact}
 use Rattle.clfs_manager.proofs.log.Log.prepare.Goals as goal

@@ -1,13 +1,5 @@
-use Rattle.std.proofs.Common.{◌≡◌, ℕ, ◌<◌, refl, sym, ap, subst, ◌∙◌, arith, List, [], ◌∷◌, ◌++◌, length}
-use Rattle.std.specs.Prelude.{All}
-use Rattle.clfs_lsn.specs.Head.{head_of}
-use Rattle.clfs_lsn.specs.declared.entry.Head.{Head}
-use Rattle.clfs_model.specs.declared.state.State.{State}
-use Rattle.clfs_lsn.specs.declared.stream.Stream.{Stream}
-use Rattle.clfs_model.specs.Put.{next_lsn}
-use Rattle.clfs_record.specs.declared.fields.Fields.{Fields}
-use Rattle.clfs_tables.specs.Tables.{base_in}
-use Rattle.clfs_manager.specs.Putting.{unplaced}
+use Rattle.clfs_manager.proofs.Words.{◌≡◌, ℕ, ◌<◌, refl, sym, ap, subst, ◌∙◌, arith, List, [], ◌∷◌, ◌++◌, length, All, head_of, Head, State, Stream, next_lsn}
+use Rattle.clfs_manager.proofs.Words.{Fields, base_in, unplaced}
 use Rattle.clfs_manager.proofs.Numbers.{number_of, flushed_below, hold_within}
 use Rattle.clfs_manager.proofs.PutRecord.{base_below, heads_below, holds_put, next_lsn_is}
 use Rattle.clfs_manager.proofs.log.Log.put.Goals as goal

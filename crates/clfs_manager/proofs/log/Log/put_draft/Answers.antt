@@ -1,13 +1,5 @@
-use Rattle.std.proofs.Common.{◌≡◌, ◌<◌, ℕ, refl, sym, ap, subst, ◌∙◌, List, length, false}
-use Rattle.clfs_areas.specs.Table.{AreaTable, area_at}
-use Rattle.clfs_lsn.specs.declared.entry.LogEntry.{LogEntry}
-use Rattle.clfs_laws.specs.Between.{MayPut}
-use Rattle.clfs_laws.specs.Stages.{ready_stages}
-use Rattle.clfs_model.specs.declared.state.Area.{Area}
-use Rattle.clfs_model.specs.declared.state.State.{State}
-use Rattle.clfs_model.specs.Put.{plain_record, put, spend_if}
-use Rattle.clfs_model.specs.Step.{making_ready_writes}
-use Rattle.clfs_manager.specs.Putting.{unplaced}
+use Rattle.clfs_manager.proofs.Words.{◌≡◌, ◌<◌, ℕ, refl, sym, ap, subst, ◌∙◌, List, length, false, AreaTable, area_at, LogEntry, MayPut, ready_stages, Area}
+use Rattle.clfs_manager.proofs.Words.{State, plain_record, put, spend_if, making_ready_writes, unplaced}
 use Rattle.clfs_manager.proofs.PutRecord.{intact_put}
 use Rattle.clfs_manager.proofs.Reserved.{intact_after}
 use Rattle.clfs_manager.proofs.Sealed.{on_ok_by}

@@ -1,12 +1,5 @@
-use Rattle.std.proofs.Common.{refl, sym, ap, subst, ◌∙◌, length}
-use Rattle.std.specs.Prelude.{IsErr}
-use Rattle.clfs_disk.specs.State.{DiskState}
-use Rattle.clfs_lsn.specs.declared.entry.LogEntry.{LogEntry}
-use Rattle.clfs_laws.specs.Between.{IsReadyFor, MayPut, readied}
-use Rattle.clfs_laws.specs.Stages.{ready_stages}
-use Rattle.clfs_model.specs.declared.state.State.{State}
-use Rattle.clfs_model.specs.Put.{next_lsn, put}
-use Rattle.clfs_manager.specs.Putting.{unplaced}
+use Rattle.clfs_manager.proofs.Words.{refl, sym, ap, subst, ◌∙◌, length, IsErr, DiskState, LogEntry, IsReadyFor, MayPut, readied, ready_stages, State}
+use Rattle.clfs_manager.proofs.Words.{next_lsn, put, unplaced}
 use Rattle.clfs_manager.proofs.PutRecord.{open_put}
 use Rattle.clfs_manager.proofs.Through.{through_memory, through_refused}
 use Rattle.clfs_manager.proofs.log.Log.put_record.Goals as goal

@@ -1,9 +1,4 @@
-use Rattle.std.proofs.Common.{ℕ, ap, sym, ◌∙◌}
-use Rattle.std.specs.Option.{option_map}
-use Rattle.clfs_lsn.specs.Head.{head_of}
-use Rattle.clfs_model.specs.declared.state.Area.{Area}
-use Rattle.clfs_model.specs.Live.{live_at}
-use Rattle.clfs_areas.specs.Table.{area_at}
+use Rattle.clfs_manager.proofs.Words.{ℕ, ap, sym, ◌∙◌, option_map, head_of, Area, live_at, area_at}
 use Rattle.clfs_manager.proofs.Reached.{reaches, live_at_is_live}
 use Rattle.clfs_manager.proofs.log.Log.record_to_read.Goals as goal
 

@@ -1,14 +1,7 @@
-use Rattle.std.proofs.Common.{◌≡◌, true, false, refl, sym, ap, subst, ◌∙◌, arith}
-use Rattle.clfs_lsn.specs.Lsn.{container_of}
-use Rattle.clfs_base.specs.Writing.{older_of}
-use Rattle.clfs_model.specs.declared.state.State.{State}
-use Rattle.clfs_model.specs.Live.{hold}
-use Rattle.clfs_model.specs.Space.{with_containers}
-use Rattle.clfs_physical.specs.Changes.{with_containers as counting, next_copy}
-use Rattle.clfs_physical.specs.Stored.{Newest}
+use Rattle.clfs_manager.proofs.Words.{◌≡◌, true, false, refl, sym, ap, subst, ◌∙◌, arith, container_of, older_of, State, hold, with_containers, next_copy}
+use Rattle.clfs_manager.proofs.Words.{Newest, IsIntact, Log}
+use Rattle.clfs_physical.specs.Changes.{with_containers as counting}
 use Rattle.clfs_physical.specs.declared.change.Change.TheVariants as changes
-use Rattle.clfs_manager.specs.Written.{IsIntact}
-use Rattle.clfs_manager.specs.declared.log.Log.{Log}
 use Rattle.clfs_manager.proofs.CopiedMeanwhile.{crash_copied, size_copied}
 use Rattle.clfs_manager.proofs.CopiedLog.{valid_holds}
 use Rattle.clfs_manager.proofs.Crashes.{crash_kept}

@@ -1,12 +1,6 @@
-use Rattle.std.proofs.Common.{◌==◌, ap, sym, ◌∙◌}
-use Rattle.std.specs.Prelude.{◌&&◌, Option}
-use Rattle.std.specs.Option.{option_map, option_and_then}
-use Rattle.clfs_lsn.specs.Head.{head_of}
-use Rattle.clfs_model.specs.declared.state.Area.{Area}
-use Rattle.clfs_lsn.specs.declared.cursor.Cursor.{Cursor}
-use Rattle.clfs_model.specs.Reading.{restart_cursor, next_of_cursor}
-use Rattle.clfs_lsn.specs.Cursors.{is_over_restarts}
-use Rattle.clfs_areas.specs.Table.{area_at}
+use Rattle.clfs_manager.proofs.Words.{ap, sym, ◌∙◌, ◌&&◌, Option, option_map, option_and_then, head_of, Area, Cursor, restart_cursor, next_of_cursor}
+use Rattle.clfs_manager.proofs.Words.{is_over_restarts, area_at}
+use Rattle.std.proofs.Common.{◌==◌}
 use Rattle.clfs_manager.proofs.Reached.{reaches, after_is_live, found_among, found_known}
 use Rattle.clfs_manager.proofs.log.Log.restart_before.Goals as goal
 

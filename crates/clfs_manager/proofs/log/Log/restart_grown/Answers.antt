@@ -1,18 +1,5 @@
-use Rattle.std.proofs.Common.{◌≡◌, refl, sym, ap, subst, ◌∙◌, List, [], ◌∷◌, ◌++◌, length}
-use Rattle.std.specs.Prelude.{IsErr}
-use Rattle.clfs_areas.specs.Table.{area_at}
-use Rattle.clfs_laws.specs.Between.{IsLaid, MayMove, TakesThrough, readied}
-use Rattle.clfs_laws.specs.Stages.{ready_stages}
-use Rattle.clfs_lsn.specs.declared.entry.LogEntry.{LogEntry}
-use Rattle.clfs_model.specs.declared.state.Area.{Area}
-use Rattle.clfs_model.specs.declared.state.State.{State}
-use Rattle.clfs_model.specs.Answers.{rebased}
-use Rattle.clfs_model.specs.Flush.{flush}
-use Rattle.clfs_model.specs.Put.{put, spend_if}
-use Rattle.clfs_manager.specs.Changing.{GoesThrough}
-use Rattle.clfs_manager.specs.Putting.{unplaced}
-use Rattle.clfs_manager.specs.Restarts.{MayFinish}
-use Rattle.clfs_manager.specs.Written.{IsIntact}
+use Rattle.clfs_manager.proofs.Words.{◌≡◌, refl, sym, ap, subst, ◌∙◌, List, [], ◌∷◌, ◌++◌, length, IsErr, area_at, IsLaid, MayMove, TakesThrough, readied}
+use Rattle.clfs_manager.proofs.Words.{ready_stages, LogEntry, Area, State, rebased, flush, put, spend_if, GoesThrough, unplaced, MayFinish, IsIntact}
 use Rattle.clfs_manager.proofs.Reserved.{intact_after}
 use Rattle.clfs_manager.proofs.RestartCall.{may_finish, put_broken}
 use Rattle.clfs_manager.proofs.Through.{through_answered, through_changes, through_failed, through_named, through_refused, through_then}

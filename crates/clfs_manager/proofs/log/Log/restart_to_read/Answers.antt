@@ -1,9 +1,4 @@
-use Rattle.std.proofs.Common.{ℕ, ap, sym, ◌∙◌}
-use Rattle.std.specs.Option.{option_map}
-use Rattle.clfs_lsn.specs.Head.{head_of}
-use Rattle.clfs_model.specs.declared.state.Area.{Area}
-use Rattle.clfs_model.specs.Reading.{newest_restart}
-use Rattle.clfs_areas.specs.Table.{area_at}
+use Rattle.clfs_manager.proofs.Words.{ℕ, ap, sym, ◌∙◌, option_map, head_of, Area, newest_restart, area_at}
 use Rattle.clfs_manager.proofs.Reached.{reaches, newest_is_live}
 use Rattle.clfs_manager.proofs.log.Log.restart_to_read.Goals as goal
 

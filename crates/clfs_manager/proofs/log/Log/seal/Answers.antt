@@ -1,11 +1,5 @@
-use Rattle.std.proofs.Common.{◌≡◌, ◌≤◌, refl, sym, ap, subst, ◌∙◌, arith, true, false, [], ◌∷◌}
-use Rattle.std.proofs.lemmas.List.Elements.{All-head}
-use Rattle.clfs_lsn.specs.declared.place.Place.{Place}
-use Rattle.clfs_model.specs.declared.state.State.{State}
-use Rattle.clfs_model.specs.Flush.{seal}
-use Rattle.clfs_model.specs.Step.{fills_buffers}
-use Rattle.clfs_manager.specs.Changing.{ChangesLog}
-use Rattle.clfs_manager.specs.Written.{IsIntact}
+use Rattle.clfs_manager.proofs.Words.{◌≡◌, ◌≤◌, refl, sym, ap, subst, ◌∙◌, arith, true, false, [], ◌∷◌, All-head, Place, State, seal, fills_buffers}
+use Rattle.clfs_manager.proofs.Words.{ChangesLog, IsIntact}
 use Rattle.clfs_manager.proofs.Changing.{changes_nothing, Survive}
 use Rattle.clfs_manager.proofs.Crashes.{crash_still}
 use Rattle.clfs_manager.proofs.FlushedLog.{laid_log}

@@ -1,5 +1,4 @@
-use Rattle.std.proofs.Common.{refl, []}
-use Rattle.clfs_model.specs.Put.{seal_if}
+use Rattle.clfs_manager.proofs.Words.{refl, [], seal_if}
 use Rattle.clfs_manager.proofs.Changing.{changes_nothing}
 use Rattle.clfs_manager.proofs.log.Log.seal_if.Goals as goal
 

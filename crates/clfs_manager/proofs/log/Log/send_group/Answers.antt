@@ -1,23 +1,12 @@
-use Rattle.std.proofs.Common.{◌≡◌, ◌⊎◌, ℕ, ◌+◌, ◌*◌, ◌≤◌, sym, ap, subst, ◌∙◌, arith, inl, inr, List, length}
-use Rattle.std.specs.Prelude.{All, Ok, IsOk, ◌-◌, ◌/◌}
-use Rattle.clfs_lsn.specs.Size.{IsShape}
-use Rattle.clfs_base.specs.Spelling.{IsImage, current}
-use Rattle.clfs_lsn.specs.declared.entry.LogEntry.{LogEntry}
-use Rattle.clfs_lsn.specs.declared.place.Place.{Place}
-use Rattle.clfs_lsn.specs.declared.shape.Shape.{Shape}
-use Rattle.clfs_container.specs.OpenBlocks.{total}
+use Rattle.clfs_manager.proofs.Words.{◌≡◌, ℕ, ◌+◌, ◌*◌, ◌≤◌, sym, ap, subst, ◌∙◌, arith, inl, inr, List, length, All, Ok, IsOk, IsShape, IsImage, current}
+use Rattle.clfs_manager.proofs.Words.{LogEntry, Place, Shape, total, Leaves, State, Newest, Blocks, Stores, IsGroupOf, Queued, HaveMore, file_at_end}
+use Rattle.clfs_manager.proofs.Words.{all_records, shape_of, unflushed, BeginsAt, HasGroup, SendsGroup, Log}
+use Rattle.std.proofs.Common.{◌⊎◌}
+use Rattle.std.specs.Prelude.{◌-◌, ◌/◌}
 use Rattle.clfs_container.specs.Writing.{IsGroup}
-use Rattle.clfs_disk.specs.State.{Leaves}
-use Rattle.clfs_model.specs.declared.state.State.{State}
-use Rattle.clfs_physical.specs.Stored.{Newest, Blocks, Stores, Waits, with_group}
-use Rattle.clfs_queue.specs.Group.{IsGroupOf}
-use Rattle.clfs_queue.specs.Queued.{Queued, seal}
-use Rattle.clfs_recover.specs.Logs.{HaveMore, file_at_end, all_records}
+use Rattle.clfs_physical.specs.Stored.{Waits, with_group}
+use Rattle.clfs_queue.specs.Queued.{seal}
 use Rattle.clfs_recover.specs.Stored.{stored_in}
-use Rattle.clfs_recover.specs.Walk.{shape_of}
-use Rattle.clfs_manager.specs.Memory.{unflushed}
-use Rattle.clfs_manager.specs.Laid.{BeginsAt, HasGroup, SendsGroup}
-use Rattle.clfs_manager.specs.declared.log.Log.{Log}
 use Rattle.clfs_manager.proofs.ClosedPlace.{closed_place, flush_is, is_ended, is_closed_of, begins_at}
 use Rattle.clfs_manager.proofs.Crashes.{ok_is}
 use Rattle.clfs_manager.proofs.FlushedLog.{few_streams, total_append}

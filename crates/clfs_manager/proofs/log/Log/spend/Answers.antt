@@ -1,13 +1,5 @@
-use Rattle.std.proofs.Common.{◌≡◌, ℕ, Bool, true, refl, sym, ap, subst, ◌∙◌, List}
-use Rattle.clfs_areas.specs.Table.{area_at}
-use Rattle.clfs_lsn.specs.Size.{own}
-use Rattle.clfs_model.specs.declared.state.Area.{Area}
-use Rattle.clfs_model.specs.declared.state.State.{State}
-use Rattle.clfs_model.specs.Put.{spend_if, with_less_held}
-use Rattle.clfs_model.specs.State.{change_area, change_first, is_area}
-use Rattle.clfs_model.specs.Storable.{IsStorable}
-use Rattle.clfs_model.specs.Valid.{IsValid}
-use Rattle.clfs_manager.specs.Memory.{ChangesAreas}
+use Rattle.clfs_manager.proofs.Words.{◌≡◌, ℕ, Bool, true, refl, sym, ap, subst, ◌∙◌, List, area_at, own, Area, State, spend_if, with_less_held, change_area}
+use Rattle.clfs_manager.proofs.Words.{change_first, is_area, IsStorable, IsValid, ChangesAreas}
 use Rattle.clfs_manager.proofs.Reserved.{sound_after}
 use Rattle.clfs_manager.proofs.log.Log.spend.Goals as goal
 

@@ -1,10 +1,5 @@
-use Rattle.std.proofs.Common.{◌≡◌, ℕ, List, ap, refl, sym, ◌∙◌}
-use Rattle.clfs_lsn.specs.declared.entry.LogEntry.{LogEntry}
+use Rattle.clfs_manager.proofs.Words.{◌≡◌, ℕ, List, ap, refl, sym, ◌∙◌, LogEntry, Area, State, with_cursor, area_at}
 use Rattle.clfs_model.specs.declared.refusal.Refusal.TheVariants as refusals
-use Rattle.clfs_model.specs.declared.state.Area.{Area}
-use Rattle.clfs_model.specs.declared.state.State.{State}
-use Rattle.clfs_model.specs.Reading.{with_cursor}
-use Rattle.clfs_areas.specs.Table.{area_at}
 use Rattle.clfs_manager.proofs.Gotten.{gets_made, gets_no_memory, gets_refused, left_open}
 use Rattle.clfs_manager.proofs.OwnRefusals.{error_of}
 use Rattle.clfs_manager.proofs.ReadKeeps.{left_areas, changed_alike, areas_stay, state_stays}

@@ -1,15 +1,5 @@
-use Rattle.std.proofs.Common.{◌≡◌, ◌+◌, ◌-◌, refl, sym, ap, subst, ◌∙◌, length, arith}
-use Rattle.std.specs.Prelude.{IsOk}
-use Rattle.std.proofs.lemmas.List.{length-drop}
-use Rattle.clfs_lsn.specs.Lsn.{container_of}
-use Rattle.clfs_base.specs.Writing.{older_of}
-use Rattle.clfs_model.specs.declared.state.State.{State}
-use Rattle.clfs_model.specs.Live.{hold}
-use Rattle.clfs_physical.specs.Changes.{next_copy}
-use Rattle.clfs_physical.specs.Stored.{Newest}
-use Rattle.clfs_physical.specs.declared.change.Change.{Change}
-use Rattle.clfs_recover.specs.Walk.{shape_of}
-use Rattle.clfs_manager.specs.Settings.{archive_change, with_archive}
+use Rattle.clfs_manager.proofs.Words.{◌≡◌, ◌+◌, ◌-◌, refl, sym, ap, subst, ◌∙◌, length, arith, IsOk, length-drop, container_of, older_of, State, hold}
+use Rattle.clfs_manager.proofs.Words.{next_copy, Newest, Change, shape_of, archive_change, with_archive}
 use Rattle.clfs_manager.proofs.CopiedMeanwhile.{archive_copied, copied_meanwhile}
 use Rattle.clfs_manager.proofs.Holds.{hold_is}
 use Rattle.clfs_manager.proofs.Numbers.{hold_within}

@@ -1,28 +1,7 @@
-use Rattle.std.proofs.Common.{◌≡◌, [], true, ℕ, ◌+◌, ◌-◌, false, refl, sym, ap, subst, ◌∙◌, length, arith}
-use Rattle.std.specs.Prelude.{IsOk}
-use Rattle.std.proofs.lemmas.List.Elements.{All-head}
-use Rattle.std.proofs.lemmas.List.{length-drop, length-set}
-use Rattle.clfs_lsn.specs.Lsn.{container_of}
-use Rattle.clfs_archive.specs.Blocks.{AreSealed}
-use Rattle.clfs_base.specs.Spelling.{row_in}
-use Rattle.clfs_base.specs.Writing.{older_of}
-use Rattle.clfs_base.specs.declared.image.BaseImage.{BaseImage}
-use Rattle.clfs_model.specs.declared.state.State.{State}
-use Rattle.clfs_model.specs.Flush.{block_start, flushed}
-use Rattle.clfs_model.specs.Heads.{heads_of}
-use Rattle.clfs_model.specs.Live.{hold}
-use Rattle.clfs_model.specs.Storable.{IsStorable}
-use Rattle.clfs_model.specs.Valid.{IsValid}
-use Rattle.clfs_lsn.specs.Streams.{set_base}
-use Rattle.clfs_physical.specs.Changes.{next_copy}
-use Rattle.clfs_physical.specs.Stored.{Newest, Blocks}
+use Rattle.clfs_manager.proofs.Words.{◌≡◌, [], true, ℕ, ◌+◌, ◌-◌, false, refl, sym, ap, subst, ◌∙◌, length, arith, IsOk, All-head, length-drop, length-set}
+use Rattle.clfs_manager.proofs.Words.{container_of, AreSealed, row_in, older_of, BaseImage, State, block_start, flushed, heads_of, hold, IsStorable, IsValid}
+use Rattle.clfs_manager.proofs.Words.{set_base, next_copy, Newest, Blocks, shape_of, with_base, StoredAfter, Holds, IsStored, AreKept, Log}
 use Rattle.clfs_physical.specs.declared.change.Change.TheVariants as changes
-use Rattle.clfs_recover.specs.Walk.{shape_of}
-use Rattle.clfs_manager.specs.Base.{with_base}
-use Rattle.clfs_manager.specs.Flushing.{StoredAfter}
-use Rattle.clfs_manager.specs.Memory.{Holds}
-use Rattle.clfs_manager.specs.OnDisk.{IsStored, AreKept}
-use Rattle.clfs_manager.specs.declared.log.Log.{Log}
 use Rattle.clfs_manager.proofs.Changing.{Survive}
 use Rattle.clfs_manager.proofs.CopiedMeanwhile.{base_copied, crash_copied}
 use Rattle.clfs_manager.proofs.Holds.{hold_is}

@@ -1,15 +1,5 @@
-use Rattle.std.proofs.Common.{◌≡◌, ◌+◌, ◌-◌, refl, ap, subst, ◌∙◌, length, arith}
-use Rattle.std.specs.Prelude.{IsOk}
-use Rattle.std.proofs.lemmas.List.{length-drop}
-use Rattle.clfs_lsn.specs.Lsn.{container_of}
-use Rattle.clfs_base.specs.Writing.{older_of}
-use Rattle.clfs_model.specs.declared.state.State.{State}
-use Rattle.clfs_model.specs.Live.{hold}
-use Rattle.clfs_physical.specs.Changes.{next_copy}
-use Rattle.clfs_physical.specs.Stored.{Newest}
-use Rattle.clfs_physical.specs.declared.change.Change.{Change}
-use Rattle.clfs_recover.specs.Walk.{shape_of}
-use Rattle.clfs_manager.specs.Settings.{change_to, with_policies}
+use Rattle.clfs_manager.proofs.Words.{◌≡◌, ◌+◌, ◌-◌, refl, ap, subst, ◌∙◌, length, arith, IsOk, length-drop, container_of, older_of, State, hold, next_copy}
+use Rattle.clfs_manager.proofs.Words.{Newest, Change, shape_of, change_to, with_policies}
 use Rattle.clfs_manager.proofs.CopiedMeanwhile.{copied_meanwhile, policies_copied}
 use Rattle.clfs_manager.proofs.Numbers.{hold_within}
 use Rattle.clfs_manager.proofs.log.Log.store_policies.Goals as goal

@@ -1,13 +1,6 @@
 use Rattle.clfs_manager.proofs.Changing.{changes_broken, Survive}
 use Rattle.clfs_manager.proofs.CrashedRestart.{crash_restart}
-use Rattle.std.proofs.Common.{◌≡◌, false, true, refl, ap, subst, ◌∙◌, [], ◌∷◌}
-use Rattle.std.proofs.lemmas.List.Elements.{All-head}
-use Rattle.std.specs.Prelude.{IsOk}
-use Rattle.clfs_model.specs.declared.state.State.{State}
-use Rattle.clfs_model.specs.Answers.{rebased}
-use Rattle.clfs_model.specs.Flush.{flush}
-use Rattle.clfs_manager.specs.declared.log.Log.{Log}
-use Rattle.clfs_manager.specs.Written.{IsYetToForget}
+use Rattle.clfs_manager.proofs.Words.{◌≡◌, false, true, refl, ap, subst, ◌∙◌, [], ◌∷◌, All-head, IsOk, State, rebased, flush, Log, IsYetToForget}
 use Rattle.clfs_manager.proofs.Intact.{writes_failed, writes_fine}
 use Rattle.clfs_manager.proofs.Restarted.{finished, moved_to_forget, stored_by_group, GroupLaws, IsFinished}
 use Rattle.clfs_manager.proofs.log.Log.store_restart.Given.{Over}

@@ -1,16 +1,9 @@
-use Rattle.std.proofs.Common.{◌≡◌, ℕ, ◌+◌, ◌%◌, ◌≤◌, sym, ap, subst, ◌∙◌, arith, [], ◌∷◌, length, map, length-append}
-use Rattle.clfs_lsn.specs.Lsn.{container_of}
-use Rattle.clfs_base.specs.declared.image.BaseImage.{BaseImage}
-use Rattle.clfs_base.specs.Spelling.{IsImage, current}
-use Rattle.clfs_base.specs.Writing.{older_of}
-use Rattle.clfs_laws.specs.Between.{turned}
-use Rattle.clfs_model.specs.declared.state.State.{State}
-use Rattle.clfs_model.specs.Live.{hold}
+use Rattle.clfs_manager.proofs.Words.{◌≡◌, ℕ, ◌+◌, ◌%◌, ◌≤◌, sym, ap, subst, ◌∙◌, arith, [], ◌∷◌, length, map, length-append, container_of, BaseImage}
+use Rattle.clfs_manager.proofs.Words.{IsImage, current, older_of, turned, State, hold, Newest, Blocks, with_blocks, low_of, taken_of, IsLogWith}
+use Rattle.clfs_manager.proofs.Words.{from_container, IsStored}
 use Rattle.clfs_physical.specs.Changes.{with_file, with_next_turn}
-use Rattle.clfs_physical.specs.Stored.{Newest, Blocks, with_blocks}
-use Rattle.clfs_physical.specs.Taking.{IsFree, low_of, taken_of}
-use Rattle.clfs_recover.specs.Logs.{IsLogWith, HaveEmpty, from_container}
-use Rattle.clfs_manager.specs.OnDisk.{IsStored}
+use Rattle.clfs_physical.specs.Taking.{IsFree}
+use Rattle.clfs_recover.specs.Logs.{HaveEmpty}
 use Rattle.clfs_manager.specs.Putting.{TakesContainer}
 use Rattle.clfs_manager.proofs.CopiedMeanwhile.{SettingsLeave, with_turn, without_low}
 use Rattle.clfs_manager.proofs.Crashes.{turned_meanwhile}

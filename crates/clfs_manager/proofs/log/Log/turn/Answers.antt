@@ -1,11 +1,5 @@
-use Rattle.std.proofs.Common.{◌≡◌, refl, ap, subst, ◌∙◌, true, false, arith, []}
-use Rattle.std.proofs.lemmas.List.Elements.{All-head}
-use Rattle.std.specs.Prelude.{slice_index, IsOk}
-use Rattle.clfs_laws.specs.Between.{turned}
-use Rattle.clfs_model.specs.declared.state.State.{State}
+use Rattle.clfs_manager.proofs.Words.{◌≡◌, refl, ap, subst, ◌∙◌, true, false, arith, [], All-head, slice_index, IsOk, turned, State, Holds, Log}
 use Rattle.clfs_queue.specs.Queued as queues
-use Rattle.clfs_manager.specs.Memory.{Holds}
-use Rattle.clfs_manager.specs.declared.log.Log.{Log}
 use Rattle.clfs_manager.proofs.Changing.{Survive}
 use Rattle.clfs_manager.proofs.CopiedLog.{valid_holds}
 use Rattle.clfs_manager.proofs.Crashes.{crash_stored}

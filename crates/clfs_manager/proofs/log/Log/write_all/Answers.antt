@@ -1,8 +1,4 @@
-use Rattle.std.proofs.Common.{[]}
-use Rattle.std.proofs.lemmas.List.Elements.{All-head}
-use Rattle.clfs_model.specs.declared.state.State.{State}
-use Rattle.clfs_model.specs.Flush.{flush}
-use Rattle.clfs_manager.specs.declared.log.Log.{Log}
+use Rattle.clfs_manager.proofs.Words.{[], All-head, State, flush, Log}
 use Rattle.clfs_manager.proofs.Changing.{Survive}
 use Rattle.clfs_manager.proofs.CopiedLog.{valid_holds}
 use Rattle.clfs_manager.proofs.Crashes.{crash_stored}

@@ -1,15 +1,6 @@
-use Rattle.std.proofs.Common.{◌≡◌, ℕ, ◌+◌, refl, sym, ap, subst, ◌∙◌, arith, [], length}
-use Rattle.std.specs.Prelude.{IsOk}
-use Rattle.clfs_lsn.specs.declared.place.Place.{Place}
-use Rattle.clfs_archive.specs.Blocks.{AreSealed}
-use Rattle.clfs_model.specs.declared.state.State.{State}
-use Rattle.clfs_model.specs.Flush.{block_start, flush}
-use Rattle.clfs_model.specs.Heads.{heads_of}
-use Rattle.clfs_model.specs.Step.{with_broken}
-use Rattle.clfs_physical.specs.Stored.{Newest}
-use Rattle.clfs_queue.specs.Queued.{Queued, seal}
-use Rattle.clfs_recover.specs.Walk.{shape_of}
-use Rattle.clfs_manager.specs.Storing.{CallsDisk}
+use Rattle.clfs_manager.proofs.Words.{◌≡◌, ℕ, ◌+◌, refl, sym, ap, subst, ◌∙◌, arith, [], length, IsOk, Place, AreSealed, State, block_start, flush, heads_of}
+use Rattle.clfs_manager.proofs.Words.{with_broken, Newest, Queued, shape_of, CallsDisk}
+use Rattle.clfs_queue.specs.Queued.{seal}
 use Rattle.clfs_manager.proofs.ClosedPlace.{closed_place, flush_is, is_ended, is_closed_of}
 use Rattle.clfs_manager.proofs.Crashes.{written_by_group, group_of_answer}
 use Rattle.clfs_manager.proofs.FlushedLog.{done, hold_closed, none_unflushed}

@@ -1,5 +1,4 @@
-use Rattle.std.specs.Prelude.{IsOk}
-use Rattle.clfs_model.specs.declared.state.State.{State}
+use Rattle.clfs_manager.proofs.Words.{IsOk, State}
 use Rattle.clfs_manager.proofs.Crashes.{flushed_meanwhile}
 use Rattle.clfs_manager.proofs.FlushedLog.{laid_log, no_bases, stored_flushed}
 use Rattle.clfs_manager.proofs.Sealed.{on_ok_by}

@@ -1,29 +1,12 @@
-use Rattle.clfs_model.specs.Flush.{cut}
-use Rattle.clfs_model.specs.Run.{Request, asks, bad_line}
-use Rattle.clfs_model.specs.Survivors.{Survives}
-use Rattle.clfs_manager.specs.Crashes.{CrashLeavesSurvivor}
+use Rattle.clfs_manager.proofs.Words.{cut, Request, asks, bad_line, Survives, CrashLeavesSurvivor, ◌≡◌, ◌≤◌, ℕ, refl, sym, ap, subst, ◌∙◌, List, [], length}
+use Rattle.clfs_manager.proofs.Words.{All, IsErr, IsErrOf, Result, AreaTable, area_at, TakesThrough, LogEntry, Refusal, Area, State, Fault, Fine, Step}
+use Rattle.clfs_manager.proofs.Words.{with_broken, rebased, restart_record, restarted, flush, need_of, next_lsn, put, spend_if, spent_of, grown, Steps}
+use Rattle.clfs_manager.proofs.Words.{unplaced, WritesDisk}
 use Rattle.clfs_manager.proofs.Crashes.{crash_still, crash_then, survives_as}
 use Rattle.clfs_manager.proofs.Stages.{restarted_stages, while_restarted}
-use Rattle.std.proofs.Common.{◌≡◌, ◌≤◌, ℕ, refl, sym, ap, subst, ◌∙◌, List, [], length}
-use Rattle.std.specs.Prelude.{All, IsErr, IsErrOf, Result}
-use Rattle.clfs_areas.specs.Table.{AreaTable, area_at}
-use Rattle.clfs_laws.specs.Between.{TakesThrough}
-use Rattle.clfs_lsn.specs.declared.entry.LogEntry.{LogEntry}
 use Rattle.clfs_model.specs.declared.call.Call.TheVariants as calls
-use Rattle.clfs_model.specs.declared.refusal.Refusal.{Refusal}
 use Rattle.clfs_model.specs.declared.refusal.Refusal.TheVariants as refusals
 use Rattle.clfs_model.specs.declared.reply.Reply.TheVariants as replies
-use Rattle.clfs_model.specs.declared.state.Area.{Area}
-use Rattle.clfs_model.specs.declared.state.State.{State}
-use Rattle.clfs_model.specs.declared.reply.Happened.TheVariants.{Fault, Fine}
-use Rattle.clfs_model.specs.Step.{Step, with_broken}
-use Rattle.clfs_model.specs.Answers.{rebased, restart_record, restarted}
-use Rattle.clfs_model.specs.Flush.{flush}
-use Rattle.clfs_model.specs.Put.{need_of, next_lsn, put, spend_if, spent_of}
-use Rattle.clfs_model.specs.Space.{grown}
-use Rattle.clfs_manager.specs.Calls.{Steps}
-use Rattle.clfs_manager.specs.Putting.{unplaced}
-use Rattle.clfs_manager.specs.Written.{WritesDisk}
 use Rattle.clfs_manager.proofs.Intact.{writes_as, writes_then}
 use Rattle.clfs_manager.proofs.OwnRefusals.{error_of, writes_refused}
 use Rattle.clfs_manager.proofs.PreparedCall.{as_fault, leaves_step, restart_enough, restart_step}

@@ -1,16 +1,9 @@
 use Rattle.clfs_manager.proofs.WritingCalls.{call_done, call_faulted, call_refused, call_stopped}
-use Rattle.std.proofs.Common.{ap}
-use Rattle.clfs_model.specs.Answers.{Outcome}
-use Rattle.clfs_model.specs.Run.{asks}
+use Rattle.clfs_manager.proofs.Words.{ap, Outcome, asks, refl, sym, ◌∙◌, false, Fine, State, flush, with_base}
 use Rattle.clfs_manager.proofs.Changing.{two_survive}
 use Rattle.clfs_manager.proofs.CopyingCalls.{crash_answered, flush_survives}
-use Rattle.std.proofs.Common.{refl, sym, ◌∙◌, false}
 use Rattle.clfs_model.specs.declared.call.Call.TheVariants as calls
-use Rattle.clfs_model.specs.declared.reply.Happened.TheVariants.{Fine}
 use Rattle.clfs_model.specs.declared.reply.Reply.TheVariants as replies
-use Rattle.clfs_model.specs.declared.state.State.{State}
-use Rattle.clfs_model.specs.Flush.{flush}
-use Rattle.clfs_manager.specs.Base.{with_base}
 use Rattle.clfs_manager.proofs.AdvancedLog.{advanced_step}
 use Rattle.clfs_manager.proofs.FlushKeeps.{on_ok, on_err, managed_broken}
 use Rattle.clfs_manager.proofs.Intact.{managed_intact, writes_as, writes_seen}

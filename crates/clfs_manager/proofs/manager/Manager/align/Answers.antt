@@ -1,5 +1,4 @@
-use Rattle.std.proofs.Common.{◌∙◌, ap, sym}
-use Rattle.clfs_model.specs.Space.{own_sum}
+use Rattle.clfs_manager.proofs.Words.{◌∙◌, ap, sym, own_sum}
 use Rattle.clfs_manager.proofs.Aligning.{align_too_long, align_done}
 use Rattle.clfs_manager.proofs.manager.Manager.align.Goals as goal
 

@@ -1,6 +1,5 @@
-use Rattle.std.proofs.Common.{refl, sym, ◌∙◌, List, ◌++◌, ◌∷◌, []}
+use Rattle.clfs_manager.proofs.Words.{refl, sym, ◌∙◌, List, ◌++◌, ◌∷◌, [], Area}
 use Rattle.clfs_model.specs.declared.call.Call.TheVariants as calls
-use Rattle.clfs_model.specs.declared.state.Area.{Area}
 use Rattle.clfs_model.specs.Answers.{new_area}
 use Rattle.clfs_manager.proofs.AreasChange.{managed_answered}
 use Rattle.clfs_manager.proofs.manager.Manager.create_area.Goals as goal

@@ -1,8 +1,5 @@
-use Rattle.std.proofs.Common.{refl}
-use Rattle.std.specs.Prelude.{None, filter, not}
+use Rattle.clfs_manager.proofs.Words.{refl, None, filter, not, Area, is_area}
 use Rattle.clfs_model.specs.declared.call.Call.TheVariants as calls
-use Rattle.clfs_model.specs.declared.state.Area.{Area}
-use Rattle.clfs_model.specs.State.{is_area}
 use Rattle.clfs_manager.proofs.AreasChange.{managed_answered}
 use Rattle.clfs_manager.proofs.manager.Manager.delete_area.Goals as goal
 

@@ -1,9 +1,6 @@
-use Rattle.std.proofs.Common.{ℕ, refl, ap, ◌∙◌, rules}
+use Rattle.clfs_manager.proofs.Words.{ℕ, refl, ap, ◌∙◌, rules, Area, area_at, change_first, is_area}
 use Rattle.clfs_model.specs.declared.call.Call.TheVariants as calls
-use Rattle.clfs_model.specs.declared.state.Area.{Area}
-use Rattle.clfs_areas.specs.Table.{area_at}
 use Rattle.clfs_model.specs.Reading.{without_cursor}
-use Rattle.clfs_model.specs.State.{change_first, is_area}
 use Rattle.clfs_manager.proofs.AreasChange.{managed_answered}
 use Rattle.clfs_manager.proofs.manager.Manager.end_read.Goals as goal
 

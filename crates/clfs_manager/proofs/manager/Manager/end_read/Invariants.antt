@@ -1,5 +1,5 @@
 use Rattle.clfs_model.specs.declared.call.Call.TheVariants as calls
-use Rattle.clfs_model.specs.Answers.{answer}
+use Rattle.clfs_manager.proofs.Words.{answer}
 use Rattle.clfs_manager.proofs.manager.Manager.end_read.Given as goal
 
 abbrev pub ghost-next : goal.ghost-next

@@ -1,15 +1,8 @@
-use Rattle.std.proofs.Common.{◌≡◌, ◌∙◌, ℕ, ◌*◌, ◌≤◌, arith, true, false, length, refl, subst, sym}
-use Rattle.std.specs.Prelude.{Some, nat_le}
+use Rattle.clfs_manager.proofs.Words.{◌≡◌, ◌∙◌, ℕ, ◌*◌, ◌≤◌, arith, true, false, length, refl, subst, sym, Some, nat_le, heads_from, State, block_start}
+use Rattle.clfs_manager.proofs.Words.{heads_of, BlockEnd, KeepsFew, HasForgotten, Holds, hold_start, Log}
 use Rattle.std.proofs.lemmas.List.Sums.{count_by-le-length, length-filter}
-use Rattle.clfs_lsn.specs.Heads.{heads_from}
-use Rattle.clfs_model.specs.declared.state.State.{State}
-use Rattle.clfs_model.specs.Flush.{block_start}
-use Rattle.clfs_model.specs.Heads.{heads_of}
 use Rattle.clfs_archive.specs.Blocks.{blocks_from, sealed_lasts}
-use Rattle.clfs_archive.specs.declared.block.BlockEnd.{BlockEnd}
-use Rattle.clfs_manager.specs.Keeping.{KeepsFew}
-use Rattle.clfs_manager.specs.Memory.{HasForgotten, Holds, hold_start, lasts_needed}
-use Rattle.clfs_manager.specs.declared.log.Log.{Log}
+use Rattle.clfs_manager.specs.Memory.{lasts_needed}
 use Rattle.clfs_manager.proofs.KeptHeads.{seen}
 use Rattle.clfs_manager.proofs.manager.Manager.ends_kept.Goals as goal
 

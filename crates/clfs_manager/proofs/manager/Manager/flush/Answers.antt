@@ -1,20 +1,10 @@
-use Rattle.std.proofs.Common.{ap}
-use Rattle.clfs_model.specs.declared.state.Area.{Area}
-use Rattle.clfs_model.specs.Step.{is_pending}
-use Rattle.std.specs.Prelude.{Result}
-use Rattle.std.proofs.Common.{ℕ, subst}
-use Rattle.clfs_model.specs.declared.refusal.Refusal.{Refusal}
-use Rattle.clfs_manager.specs.Calls.{WritesAs}
+use Rattle.clfs_manager.proofs.Words.{ap, Area, is_pending, Result, ℕ, subst, Refusal, WritesAs, ◌≡◌, refl, sym, ◌∙◌, false, None, State, flush, flushed}
+use Rattle.clfs_manager.proofs.Words.{refusal}
 use Rattle.clfs_manager.proofs.OwnRefusals.{error_of}
 use Rattle.clfs_manager.proofs.WritingCalls.{fault_calls, flushed_written, call_refused, call_stopped, stored_done, stored_faulted}
 use Rattle.clfs_manager.proofs.Intact.{intact_managed}
-use Rattle.std.proofs.Common.{◌≡◌, refl, sym, ◌∙◌, false}
-use Rattle.std.specs.Prelude.{None}
 use Rattle.clfs_model.specs.declared.call.Call.TheVariants as calls
 use Rattle.clfs_model.specs.declared.reply.Reply.TheVariants as replies
-use Rattle.clfs_model.specs.declared.state.State.{State}
-use Rattle.clfs_model.specs.Flush.{flush, flushed}
-use Rattle.clfs_model.specs.Refusals.{refusal}
 use Rattle.clfs_manager.proofs.FlushKeeps.{on_ok, on_err, managed_broken, managed_flushed}
 use Rattle.clfs_manager.proofs.manager.Manager.flush.Goals as goal
 

@@ -1,18 +1,10 @@
-use Rattle.clfs_model.specs.Step.{is_pending}
-use Rattle.std.proofs.lemmas.Bool.Decides.{nat_tests}
-use Rattle.std.specs.Prelude.{◌&&◌, nat_le, nat_lt}
-use Rattle.std.proofs.Common.{◌≡◌, Bool, true, arith}
-use Rattle.clfs_manager.specs.Calls.{WritesAs}
+use Rattle.clfs_manager.proofs.Words.{is_pending, nat_tests, ◌&&◌, nat_le, nat_lt, ◌≡◌, Bool, true, arith, WritesAs, ℕ, false, refl, sym, ap, subst, ◌∙◌}
+use Rattle.clfs_manager.proofs.Words.{Result, Refusal, State, flush, flushed}
 use Rattle.clfs_manager.proofs.WritingCalls.{fault_calls, flushed_written, call_idle, call_refused, call_stopped, stored_done, stored_faulted}
 use Rattle.clfs_manager.proofs.Intact.{intact_managed}
-use Rattle.std.proofs.Common.{ℕ, false, refl, sym, ap, subst, ◌∙◌}
-use Rattle.std.specs.Prelude.{Result}
-use Rattle.clfs_model.specs.declared.refusal.Refusal.{Refusal}
 use Rattle.clfs_manager.proofs.OwnRefusals.{error_of}
 use Rattle.clfs_model.specs.declared.call.Call.TheVariants as calls
 use Rattle.clfs_model.specs.declared.reply.Reply.TheVariants as replies
-use Rattle.clfs_model.specs.declared.state.State.{State}
-use Rattle.clfs_model.specs.Flush.{flush, flushed}
 use Rattle.clfs_manager.proofs.FlushKeeps.{is_above, is_later, on_ok, on_err, managed_broken, managed_flushed}
 use Rattle.clfs_manager.proofs.manager.Manager.flush_to.Goals as goal
 

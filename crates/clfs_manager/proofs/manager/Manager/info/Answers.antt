@@ -1,4 +1,4 @@
-use Rattle.std.proofs.Common.{sym}
+use Rattle.clfs_manager.proofs.Words.{sym}
 use Rattle.clfs_manager.proofs.KeptHeads.{is_number}
 use Rattle.clfs_manager.proofs.manager.Manager.info.Goals as goal
 

@@ -1,9 +1,7 @@
 use Rattle.clfs_manager.proofs.WritingCalls.{stored_done, stored_faulted, call_stopped, call_refused}
-use Rattle.clfs_manager.specs.Settings.{with_policies}
-use Rattle.std.proofs.Common.{refl, sym, ◌∙◌, false, arith, ap}
+use Rattle.clfs_manager.proofs.Words.{with_policies, refl, sym, ◌∙◌, false, arith, ap, State}
 use Rattle.clfs_model.specs.declared.call.Call.TheVariants as calls
 use Rattle.clfs_model.specs.declared.reply.Reply.TheVariants as replies
-use Rattle.clfs_model.specs.declared.state.State.{State}
 use Rattle.clfs_model.specs.Policies.{with_policy}
 use Rattle.clfs_manager.proofs.FlushKeeps.{on_ok, on_err, managed_broken}
 use Rattle.clfs_manager.proofs.SettingsKeep.{settings_done}

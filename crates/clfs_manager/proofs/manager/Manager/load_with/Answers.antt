@@ -1,6 +1,4 @@
-use Rattle.std.proofs.Common.{ap, sym, subst}
-use Rattle.std.specs.Prelude.{Err, IsErrOf}
-use Rattle.clfs_recover.specs.declared.refusal.LoadRefusal.{LoadRefusal}
+use Rattle.clfs_manager.proofs.Words.{ap, sym, subst, Err, IsErrOf, LoadRefusal}
 use Rattle.clfs_recover.specs.declared.refusal.LoadRefusal.TheVariants as loads
 use Rattle.clfs_manager.proofs.Settled.{honest_after}
 use Rattle.clfs_manager.proofs.manager.Manager.load_with.Goals as goal

@@ -1,24 +1,13 @@
-use Rattle.clfs_disk.specs.State.{DiskState}
-use Rattle.clfs_laws.specs.Refused.{is_of_call}
-use Rattle.clfs_manager.specs.declared.log.Log.{Log}
+use Rattle.clfs_manager.proofs.Words.{DiskState, is_of_call, Log, asks, ap, Outcome, ◌≡◌, refl, ◌+◌, ℕ, true, List, length, sym, subst, ◌∙◌, false, IfErr}
+use Rattle.clfs_manager.proofs.Words.{Option, Some, None, Result, Fine, State, BaseImage, Refusal, open_refusal, stream_number, IsNotAdded, with_stream}
 use Rattle.clfs_model.specs.declared.refusal.Refusal.TheVariants as refusals
 use Rattle.clfs_manager.proofs.WritingCalls.{call_idle, call_made, call_refused, call_stopped}
 use Rattle.clfs_manager.proofs.Intact.{intact_managed}
-use Rattle.clfs_model.specs.Run.{asks}
-use Rattle.std.proofs.Common.{ap}
-use Rattle.clfs_model.specs.Answers.{Outcome}
 use Rattle.clfs_manager.proofs.AddedStream.{added_step, new_answer, old_answer}
 use Rattle.clfs_manager.proofs.CopyingCalls.{crash_answered, crash_not_called}
-use Rattle.std.proofs.Common.{◌≡◌, refl, ◌+◌, ℕ, true, Ok, Err, List, length, sym, subst, ◌∙◌, false}
-use Rattle.std.specs.Prelude.{IfErr, Option, Some, None, Result}
+use Rattle.std.proofs.Common.{Ok, Err}
 use Rattle.clfs_model.specs.declared.call.Call.TheVariants as calls
-use Rattle.clfs_model.specs.declared.reply.Happened.TheVariants.{Fine}
 use Rattle.clfs_model.specs.declared.reply.Reply.TheVariants as replies
-use Rattle.clfs_model.specs.declared.state.State.{State}
-use Rattle.clfs_base.specs.declared.image.BaseImage.{BaseImage}
-use Rattle.clfs_model.specs.declared.refusal.Refusal.{Refusal}
-use Rattle.clfs_model.specs.Refusals.{open_refusal, stream_number}
-use Rattle.clfs_manager.specs.Streams.{IsNotAdded, with_stream}
 use Rattle.clfs_manager.proofs.AddedStream.{managed_added, new_step}
 use Rattle.clfs_manager.proofs.CurrentCopy.{current_answered}
 use Rattle.clfs_manager.proofs.manager.Manager.open_stream.Goals as goal

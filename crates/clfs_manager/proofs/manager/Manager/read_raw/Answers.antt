@@ -1,6 +1,5 @@
-use Rattle.std.proofs.Common.{refl}
+use Rattle.clfs_manager.proofs.Words.{refl, DiskFault}
 use Rattle.clfs_model.specs.declared.refusal.Refusal.TheVariants as refusals
-use Rattle.clfs_recover.specs.declared.refusal.LoadRefusal.TheVariants.{DiskFault}
 use Rattle.clfs_manager.proofs.OpenedAnew.{managed_read, managed_refused}
 use Rattle.clfs_manager.proofs.manager.Manager.read_raw.Goals as goal
 

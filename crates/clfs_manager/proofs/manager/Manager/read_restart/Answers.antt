@@ -1,9 +1,5 @@
-use Rattle.std.proofs.Common.{◌≡◌, ◌∙◌, false, refl}
-use Rattle.clfs_lsn.specs.declared.cursor.CursorKind.TheVariants.{RestartAreas}
-use Rattle.clfs_model.specs.Reading.{newest_restart}
+use Rattle.clfs_manager.proofs.Words.{◌≡◌, ◌∙◌, false, refl, RestartAreas, newest_restart, Area, area_at}
 use Rattle.clfs_model.specs.declared.call.Call.TheVariants as calls
-use Rattle.clfs_model.specs.declared.state.Area.{Area}
-use Rattle.clfs_areas.specs.Table.{area_at}
 use Rattle.clfs_manager.proofs.OwnRefusals.{error_of}
 use Rattle.clfs_manager.proofs.Reached.{reached_is_needed}
 use Rattle.clfs_manager.proofs.ReadCalls.{comes, managed, refuses}

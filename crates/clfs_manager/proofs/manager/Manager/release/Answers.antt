@@ -1,9 +1,5 @@
-use Rattle.std.proofs.Common.{refl, rules}
+use Rattle.clfs_manager.proofs.Words.{refl, rules, Area, area_at, with_less_held, change_first, is_area}
 use Rattle.clfs_model.specs.declared.call.Call.TheVariants as calls
-use Rattle.clfs_model.specs.declared.state.Area.{Area}
-use Rattle.clfs_areas.specs.Table.{area_at}
-use Rattle.clfs_model.specs.Put.{with_less_held}
-use Rattle.clfs_model.specs.State.{change_first, is_area}
 use Rattle.clfs_manager.proofs.AreasChange.{managed_answered}
 use Rattle.clfs_manager.proofs.manager.Manager.release.Goals as goal
 

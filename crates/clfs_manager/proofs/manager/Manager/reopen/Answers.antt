@@ -1,5 +1,4 @@
-use Rattle.std.proofs.Common.{◌∙◌}
-use Rattle.clfs_model.specs.declared.reply.Happened.TheVariants.{Fine}
+use Rattle.clfs_manager.proofs.Words.{◌∙◌, Fine}
 use Rattle.clfs_manager.proofs.FilesHold.{files_hold, reopened, reopens_broken}
 use Rattle.clfs_manager.proofs.Intact.{intact_managed}
 use Rattle.clfs_manager.proofs.OpenedAnew.{managed_refused, refused_place, refused_reopens, refused_reads, answered_reads}

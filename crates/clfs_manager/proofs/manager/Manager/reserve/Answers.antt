@@ -1,22 +1,9 @@
-use Rattle.clfs_manager.specs.declared.log.Log.{Log}
+use Rattle.clfs_manager.proofs.Words.{Log, ◌≡◌, ℕ, ◌+◌, refl, sym, ap, subst, ◌∙◌, arith, false, true, Err, None, Result, AreaTable, all_held, area_at}
+use Rattle.clfs_manager.proofs.Words.{Refusal, Fine, Area, State, hold, hold_sizes, full, refusal, too_long, grown, own_sum, Step, grows, IsValid, WritesAs}
 use Rattle.clfs_manager.proofs.WritingCalls.{call_faulted, call_made, call_refused, call_starved, call_stopped, sized_fine, sized_faulted, sized_starved}
 use Rattle.clfs_manager.proofs.CopyingCalls.{crash_not_grown, crash_reserved}
-use Rattle.std.proofs.Common.{◌≡◌, ℕ, ◌+◌, refl, sym, ap, subst, ◌∙◌, arith, false, true}
-use Rattle.std.specs.Prelude.{Err, None, Result}
-use Rattle.clfs_areas.specs.Table.{AreaTable, all_held, area_at}
 use Rattle.clfs_model.specs.declared.call.Call.TheVariants as calls
-use Rattle.clfs_model.specs.declared.refusal.Refusal.{Refusal}
-use Rattle.clfs_model.specs.declared.reply.Happened.TheVariants.{Fine}
 use Rattle.clfs_model.specs.declared.reply.Reply.TheVariants as replies
-use Rattle.clfs_model.specs.declared.state.Area.{Area}
-use Rattle.clfs_model.specs.declared.state.State.{State}
-use Rattle.clfs_model.specs.Live.{hold}
-use Rattle.clfs_model.specs.Put.{hold_sizes}
-use Rattle.clfs_model.specs.Refusals.{full, refusal, too_long}
-use Rattle.clfs_model.specs.Space.{grown, own_sum}
-use Rattle.clfs_model.specs.Step.{Step, grows}
-use Rattle.clfs_model.specs.Valid.{IsValid}
-use Rattle.clfs_manager.specs.Calls.{WritesAs}
 use Rattle.clfs_manager.proofs.FlushKeeps.{managed_broken}
 use Rattle.clfs_manager.proofs.Intact.{intact_managed, managed_intact, writes_seen}
 use Rattle.clfs_manager.proofs.Numbers.{free_is_small}

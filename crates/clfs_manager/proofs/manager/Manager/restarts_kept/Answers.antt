@@ -1,6 +1,4 @@
-use Rattle.std.proofs.Common.{◌∙◌, List, sym}
-use Rattle.clfs_lsn.specs.Heads.{stream_heads}
-use Rattle.clfs_lsn.specs.declared.entry.Head.{Head}
+use Rattle.clfs_manager.proofs.Words.{◌∙◌, List, sym, stream_heads, Head}
 use Rattle.clfs_tables.specs.Tables.{restarts_of}
 use Rattle.clfs_manager.proofs.KeptHeads.{counted, is_number}
 use Rattle.clfs_manager.proofs.manager.Manager.restarts_kept.Goals as goal

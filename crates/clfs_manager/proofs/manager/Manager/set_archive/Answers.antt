@@ -1,17 +1,10 @@
 use mathlib.Core.Bool.{beq}
 use Rattle.clfs_manager.proofs.WritingCalls.{stored_done, stored_faulted, call_stopped, call_idle}
-use Rattle.clfs_manager.specs.Settings.{with_archive}
-use Rattle.std.specs.Option.{option_map_or}
-use Rattle.std.specs.Prelude.{if◌then◌else◌, is_none, is_some, Option, Some, None}
-use Rattle.std.proofs.Common.{◌≡◌, ℕ, Bool, true, ap, ◌≤◌, refl, sym, subst, ◌∙◌, false, arith}
-use Rattle.clfs_lsn.specs.Lsn.{container_of}
+use Rattle.clfs_manager.proofs.Words.{with_archive, option_map_or, if◌then◌else◌, is_none, is_some, Option, Some, None, ◌≡◌, ℕ, Bool, true, ap, ◌≤◌, refl}
+use Rattle.clfs_manager.proofs.Words.{sym, subst, ◌∙◌, false, arith, container_of, Fine, State, hold, IsValid}
 use Rattle.clfs_model.specs.declared.call.Call.TheVariants as calls
-use Rattle.clfs_model.specs.declared.reply.Happened.TheVariants.{Fine}
 use Rattle.clfs_model.specs.declared.reply.Reply.TheVariants as replies
-use Rattle.clfs_model.specs.declared.state.State.{State}
 use Rattle.clfs_model.specs.Answers.{archiving}
-use Rattle.clfs_model.specs.Live.{hold}
-use Rattle.clfs_model.specs.Valid.{IsValid}
 use Rattle.clfs_manager.proofs.FlushKeeps.{on_ok, on_err, managed_broken}
 use Rattle.clfs_manager.proofs.SettingsKeep.{archive_done}
 use Rattle.clfs_manager.proofs.StoredKeeps.{managed_done}

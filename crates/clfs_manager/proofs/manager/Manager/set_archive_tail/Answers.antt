@@ -1,11 +1,7 @@
 use Rattle.clfs_manager.proofs.WritingCalls.{stored_done, stored_faulted, call_stopped, call_refused}
-use Rattle.std.proofs.Common.{refl, sym, ◌∙◌, false, arith, ap}
-use Rattle.std.specs.Prelude.{Some}
+use Rattle.clfs_manager.proofs.Words.{refl, sym, ◌∙◌, false, arith, ap, Some, Fine, State, with_archive}
 use Rattle.clfs_model.specs.declared.call.Call.TheVariants as calls
-use Rattle.clfs_model.specs.declared.reply.Happened.TheVariants.{Fine}
 use Rattle.clfs_model.specs.declared.reply.Reply.TheVariants as replies
-use Rattle.clfs_model.specs.declared.state.State.{State}
-use Rattle.clfs_manager.specs.Settings.{with_archive}
 use Rattle.clfs_manager.proofs.FlushKeeps.{on_ok, on_err, managed_broken}
 use Rattle.clfs_manager.proofs.SettingsKeep.{archive_done}
 use Rattle.clfs_manager.proofs.StoredKeeps.{managed_done}

@@ -1,23 +1,13 @@
-use Rattle.std.proofs.lemmas.Bool.Decides.{nat_tests}
-use Rattle.std.specs.Prelude.{◌==◌, Err, None, Ok, Result, not}
-use Rattle.clfs_model.specs.Run.{asks}
-use Rattle.clfs_model.specs.declared.refusal.Refusal.{Refusal}
-use Rattle.clfs_manager.specs.Calls.{WritesAs}
-use Rattle.clfs_manager.specs.declared.log.Log.{Log}
+use Rattle.clfs_manager.proofs.Words.{nat_tests, ◌==◌, Err, None, Ok, Result, not, asks, Refusal, WritesAs, Log, ◌≡◌, ℕ, true, arith, subst, refl, sym, ap}
+use Rattle.clfs_manager.proofs.Words.{◌∙◌, false, Fine, State, size_refusal, with_containers, PhysicalRefusal, CopyIsCurrent}
 use Rattle.clfs_manager.proofs.CopyingCalls.{crash_answered, crash_not_grown}
-use Rattle.clfs_manager.proofs.WritingCalls.{sized_fine, sized_faulted, sized_starved, call_done, call_faulted, call_starved, call_idle, call_refused, call_stopped}
-use Rattle.std.proofs.Common.{◌≡◌, ℕ, true, arith, subst, refl, sym, ap, ◌∙◌, false}
+use Rattle.clfs_manager.proofs.WritingCalls.{sized_fine, sized_faulted, sized_starved, call_done, call_faulted, call_starved, call_idle, call_refused}
+use Rattle.clfs_manager.proofs.WritingCalls.{call_stopped}
 use Rattle.clfs_model.specs.declared.call.Call.TheVariants as calls
-use Rattle.clfs_model.specs.declared.reply.Happened.TheVariants.{Fine}
 use Rattle.clfs_model.specs.declared.reply.Reply.TheVariants as replies
-use Rattle.clfs_model.specs.declared.state.State.{State}
-use Rattle.clfs_model.specs.Refusals.{size_refusal}
-use Rattle.clfs_model.specs.Space.{with_containers}
 use Rattle.clfs_manager.proofs.FlushKeeps.{managed_broken}
 use Rattle.clfs_manager.proofs.Intact.{intact_managed, managed_intact, writes_seen}
 use Rattle.clfs_manager.proofs.CurrentCopy.{current_answered}
-use Rattle.clfs_physical.specs.declared.refusal.PhysicalRefusal.{PhysicalRefusal}
-use Rattle.clfs_manager.specs.Written.{CopyIsCurrent}
 use Rattle.clfs_manager.proofs.manager.Manager.set_size.Goals.{in-Ok, in-Err-DiskFault, in-Err-NoMemory}
 use Rattle.clfs_manager.proofs.manager.Manager.set_size.Goals as goal
 

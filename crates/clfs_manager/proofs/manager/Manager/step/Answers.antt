@@ -1,7 +1,4 @@
-use Rattle.std.proofs.Common.{ℕ, refl, sym, subst}
-use Rattle.clfs_lsn.specs.declared.entry.LogEntry.{LogEntry}
-use Rattle.clfs_disk.specs.Files.{Unchanged}
-use Rattle.clfs_disk.specs.State.{Passes}
+use Rattle.clfs_manager.proofs.Words.{ℕ, refl, sym, subst, LogEntry, Unchanged, Passes}
 use Rattle.clfs_model.specs.declared.reply.Reply.TheVariants as replies
 use Rattle.clfs_manager.proofs.ReadKeeps.{still as still_passes}
 use Rattle.clfs_manager.proofs.StepCalls.{no_memory_by, place_by, said, stepped, undamaged, still, written, refused_by}

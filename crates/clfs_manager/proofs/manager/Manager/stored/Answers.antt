@@ -1,5 +1,4 @@
-use Rattle.std.proofs.Common.{◌∙◌, sym}
-use Rattle.clfs_model.specs.Run.{asks, reopens, bad_line}
+use Rattle.clfs_manager.proofs.Words.{◌∙◌, sym, asks, reopens, bad_line}
 use Rattle.clfs_manager.proofs.Crashes.{crash_managed_reads}
 use Rattle.clfs_manager.proofs.FilesHold.{files_hold}
 use Rattle.clfs_manager.proofs.ReadKeeps.{still}
