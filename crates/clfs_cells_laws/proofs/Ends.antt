@@ -17,7 +17,7 @@ use Rattle.clfs_cells_laws.proofs.Changes.{others_stay, written}
 use Rattle.clfs_cells_laws.proofs.Links.{append_passes, some_held, some_left, standing_live}
 use Rattle.clfs_cells_laws.proofs.OneOf.{placed}
 use Rattle.clfs_cells_laws.proofs.OwnCalls.{Laws, Went, broke, gave, kept, went}
-use Rattle.clfs_cells_laws.proofs.StoreCalls.{added, append_came, found_by_its, open_found, set_store}
+use Rattle.clfs_cells_laws.proofs.StoreCalls.{added, append_came, broken_store, found_by_its, open_found, set_store}
 use Rattle.clfs_cells_laws.proofs.Undoes.{Halted, Undoing, behind_reply, came_to, halted, halted_broken, halted_store, none_undone, same_log, same_plan}
 use Rattle.clfs_cells_laws.proofs.Undoes.{top_is, undoes}
 use Rattle.clfs_cells_laws.proofs.UndoReads.{Began, Stopped, begins, first_cursor, found, left_broken, left_whole, not_read}
@@ -58,7 +58,7 @@ stopped_by {tabled = tabled} allowed told s mid memory rest reply result v wider
     (same_plan told memory.client mid (rest (replies.Refused refusals.NoMemory)) (stops memory refusals.NoMemory) result v (stopping refusals.NoMemory)
     (behind_reply told memory.client mid rest reply (replies.Refused refusals.NoMemory) result v is behind)))
 stopped_by {tabled = tabled} allowed told s mid memory rest reply result v wider stopping store (left_broken given outside is same) behind =
-    halted_broken allowed told memory.client mid memory given result v (wider given outside) (ap (λ (x : State). x.broken) same)
+    halted_broken allowed told memory.client mid memory given result v (wider given outside) (broken_store s mid memory [] store same)
     (same_plan told memory.client mid (rest (replies.Refused given)) (stops memory given) result v (stopping given)
     (behind_reply told memory.client mid rest reply (replies.Refused given) result v is behind))
 

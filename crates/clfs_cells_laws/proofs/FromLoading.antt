@@ -1,9 +1,10 @@
 -- A table that was loaded is a store.
-use Rattle.clfs_cells_laws.proofs.Words.{◌≡◌, ℕ, Bool, true, refl, sym, subst, ap, ◌∙◌, List, [], ◌∷◌, length, Option, option_map_or, AllByRecursion, State}
-use Rattle.clfs_cells_laws.proofs.Words.{area_of, IsValid, Loaded, LoadStep, load_plan, Plan, CarriesOut, calls, ends, never, Memory, Transaction, IsLoaded}
-use Rattle.clfs_cells_laws.proofs.Words.{AllApart, IsOpen, IsStore, sectors_held, store_area, TxnRecord, blank_cells, changed, records_after, table, table_in}
-use Rattle.clfs_cells_laws.proofs.Words.{AreExclusive, IsInTable, IsTabled, done_by, numbers_of}
+use Rattle.clfs_cells_laws.proofs.Words.{◌≡◌, ℕ, Bool, true, refl, sym, subst, ap, ◌∙◌, inl, inr, List, [], ◌∷◌, length, Option, option_map_or}
+use Rattle.clfs_cells_laws.proofs.Words.{AllByRecursion, State, area_of, IsValid, Loaded, LoadStep, load_plan, Plan, CarriesOut, calls, ends, never, Memory}
+use Rattle.clfs_cells_laws.proofs.Words.{Transaction, IsLoaded, AllApart, IsKeptStore, IsOpen, IsStore, sectors_held, store_area, TxnRecord, blank_cells}
+use Rattle.clfs_cells_laws.proofs.Words.{changed, records_after, table, table_in, AreExclusive, IsInTable, IsTabled, done_by, numbers_of}
 use Rattle.std.specs.Prelude.{Some}
+use Rattle.clfs_cells.specs.Table.{table_with}
 use Rattle.clfs_cells_laws.specs.Tables.{HasNumbers}
 use Rattle.clfs_cells_laws.proofs.OwnCalls.{Laws}
 
@@ -67,6 +68,10 @@ pub by_table : (log : State) (memory : Memory) → IsStore true log memory
     → memory.cells ≡ changed (table log) (done_by (numbers_of memory.transactions) (records_after log memory.stream))
 by_table log memory store =
     (store.table refl).cells ∙ ap (λ (l : List ℕ). changed l (done_by (numbers_of memory.transactions) (records_after log memory.stream))) (sym (table_of log memory store))
+
+pub by_its_table : (log : State) (memory : Memory) → IsKeptStore true log memory → memory.cells ≡ table_with log memory.stream (numbers_of memory.transactions)
+by_its_table log memory (inl broken) = (broken.table refl).cells
+by_its_table log memory (inr store) = (store.table refl).cells
 
 pub at_rest : (log : State) (memory : Memory) → IsStore true log memory → memory.transactions ≡ [] → memory.cells ≡ table log
 at_rest log memory store none =

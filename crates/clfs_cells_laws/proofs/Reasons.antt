@@ -390,7 +390,7 @@ module _ (tabled : Bool) (laws : Laws) (lengths : Lengths) (outside : Outside) (
   broken_for asked.Checkpoint reply broken step = broken_says asked.Checkpoint reply broken refl step
 
   pub for_reason : (call : TxnCall) (reply : TxnReply) → HasArguments call → IsKeptStore tabled s.log s.memory → TxnStep told s call reply t → IsForReason s call reply
-  for_reason call reply has (inl broken) step = broken_for call reply broken step
+  for_reason call reply has (inl broken) step = broken_for call reply broken.broken step
   for_reason call reply has (inr store) step = whole_for call reply has store step
 
 -- ---- what the log refuses of a checkpoint

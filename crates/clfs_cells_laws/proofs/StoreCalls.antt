@@ -2,10 +2,11 @@
 use Rattle.clfs_cells_laws.proofs.Words.{◌≡◌, ℕ, ◌-◌, ◌<◌, ◌≤◌, Bool, true, false, refl, sym, subst, ap, ◌∙◌, inl, inr, arith, List, [], ◌∷◌, ◌++◌, length}
 use Rattle.clfs_cells_laws.proofs.Words.{Some, None, not, ◌^◌, ◌&&◌, ◌==◌, find, nat_le, slice_index, slice_set, AllByRecursion, list_any, cases_Bool}
 use Rattle.clfs_cells_laws.proofs.Words.{eqb-true, ne_eqb, append-nil, length-set, own, Cursor, LogEntry, Stream, stream_number_from, Area, State}
-use Rattle.clfs_cells_laws.proofs.Words.{stream_number, change_area, change_first, IsValid, Made, Set, Change, change_to, compensation, cell_count, Memory}
-use Rattle.clfs_cells_laws.proofs.Words.{Transaction, holder, holds, is_holder, is_numbered, newest_standing, standing, transaction, with_one_undone}
-use Rattle.clfs_cells_laws.proofs.Words.{with_set, with_undone, table_name, AllApart, AreApart, IsInLog, IsLiveRecord, IsOpen, IsStoreWith, is_of_cell}
-use Rattle.clfs_cells_laws.proofs.Words.{records_left, sectors_held, store_area, IsTabled, Keeps, TxnRecord, first_cells, records_after}
+use Rattle.clfs_cells_laws.proofs.Words.{stream_number, with_broken, change_area, change_first, IsValid, Made, Set, Change, change_to, compensation}
+use Rattle.clfs_cells_laws.proofs.Words.{cell_count, Memory, Transaction, holder, holds, is_holder, is_numbered, newest_standing, standing, transaction}
+use Rattle.clfs_cells_laws.proofs.Words.{with_one_undone, with_set, with_undone, table_name, AllApart, AreApart, IsBrokenStore, IsInLog, IsLiveRecord, IsOpen}
+use Rattle.clfs_cells_laws.proofs.Words.{IsStoreWith, is_of_cell, records_left, sectors_held, store_area, IsTabled, Keeps, TxnRecord, first_cells}
+use Rattle.clfs_cells_laws.proofs.Words.{records_after}
 use Rattle.clfs_cells_laws.proofs.Changes.{made_holds, new_made, others_stay, set_open, undone_open, undone_standing, with_made}
 use Rattle.clfs_cells_laws.proofs.Grown.{Grows, in_log_on, live_on, still_some}
 use Rattle.clfs_cells_laws.proofs.Links.{held_less, made_left, some_left, undone_left}
@@ -216,6 +217,13 @@ tabled_on s u memory streams records is =
     let same = reads_as s u memory.stream streams records in
     subst (λ (l : List ℕ). Keeps l (records_after u memory.stream) memory) (sym same.first)
     (subst (λ (l : List TxnRecord). Keeps (first_cells s memory.stream) l memory) (sym same.records) is)
+
+-- the log broke in a call, and neither its records nor its streams have changed
+pub broken_store : {tabled : Bool} → (s u : State) (memory : Memory) (cursors : List Cursor) → IsStoreWith tabled cursors s memory → u ≡ with_broken s → IsBrokenStore tabled u memory
+broken_store {tabled = tabled} s u memory cursors store is = record {
+  broken = ap (λ (x : State). x.broken) is;
+  table = λ so. tabled_on s u memory (ap (λ (x : State). x.streams) is) (ap (λ (x : State). x.records) is) (store.table so);
+}
 
 pub moved_store : {tabled : Bool} → (s u : State) (memory : Memory) (cursors others : List Cursor) (change : Area → Area) → IsStoreWith tabled cursors s memory → IsValid u → KeepsName change
     → change (store_area memory cursors) ≡ store_area memory others → u ≡ change_area change memory.client memory.area s → IsStoreWith tabled others u memory

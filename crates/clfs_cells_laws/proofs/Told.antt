@@ -3,7 +3,7 @@ use Rattle.clfs_cells_laws.proofs.Words.{◌≡◌, ◌⊎◌, ℕ, ◌<◌, Boo
 use Rattle.clfs_cells_laws.proofs.Words.{TxnRefusal, TxnReply, Answered, TxnStep, back_plan, begin_plan, checkpoint_plan, commit_plan, rollback_plan}
 use Rattle.clfs_cells_laws.proofs.Words.{set_plan, unless, cell_count, Plan, CarriesOut, Memory, Store, with_begun, asks_log, begin_reason, table_reason}
 use Rattle.clfs_cells_laws.proofs.Words.{HasArguments, IsCommitted, IsRolledBack, IsSetTo, IsTakenBack, for_room_or_outside, from_outside, is_of_log}
-use Rattle.clfs_cells_laws.proofs.Words.{IsKeptStore, IsStore}
+use Rattle.clfs_cells_laws.proofs.Words.{IsBrokenStore, IsKeptStore, IsStore}
 use Rattle.std.specs.Prelude.{Option}
 use Rattle.clfs_model.specs.declared.refusal.Refusal.TheVariants as log_refusals
 use Rattle.clfs_cells.specs.declared.asked.TxnCall.TheVariants as asked
@@ -22,7 +22,7 @@ abbrev pub answer_of : TxnReply → Store → Answered
 answer_of reply t = record { reply = reply; memory = t.memory }
 
 still_store : {tabled : Bool} → (allowed : Refusal → Bool) (own : Option TxnRefusal) (s : State) (memory : Memory) (answered : TxnReply → Type 0) (leaves : Memory → Type 0) (result : Answered) (v : State)
-    → IsStore tabled s memory → Out tabled allowed own s memory answered leaves result v → (v.broken ≡ true) ⊎ IsStore tabled v result.memory
+    → IsStore tabled s memory → Out tabled allowed own s memory answered leaves result v → IsKeptStore tabled v result.memory
 still_store {tabled = tabled} allowed own s memory answered leaves result v store (denied given why own_one is same) =
     inr (subst (λ (x : State). IsStore tabled x result.memory) (sym same) (subst (λ (a : Answered). IsStore tabled s a.memory) (sym is) store))
 still_store {tabled = tabled} allowed own s memory answered leaves result v store (stopped clear h) = h.left
@@ -57,14 +57,15 @@ goes told s plan result v whole carries =
 -- a broken one says so, and stays as it is
 broken_says : (told : Bool) (s t : Store) (plan : Plan Answered) (reply : TxnReply) → s.log.broken ≡ true
     → CarriesOut told s.memory.client s.log (unbroken s.log s.memory plan) (answer_of reply t) t.log
-    → (reply ≡ told_replies.Refused (denials.Log log_refusals.Broken)) × (t.log ≡ s.log)
+    → (reply ≡ told_replies.Refused (denials.Log log_refusals.Broken)) × (t ≡ s)
 broken_says told s t plan reply broken carries =
     let ended = subst (λ (p : Plan Answered). CarriesOut told s.memory.client s.log p (answer_of reply t) t.log)
     (ap (λ (b : Bool). unless b (denials.Log log_refusals.Broken) s.memory plan) broken) carries in
-    (ap (λ (a : Answered). a.reply) ended.0, ended.1)
+    let memory : t.memory ≡ s.memory = ap (λ (a : Answered). a.memory) ended.0 in
+    (ap (λ (a : Answered). a.reply) ended.0, λ i. record { log = ended.1 i; memory = memory i })
 
 pub broken_step : (told : Bool) (s t : Store) (call : TxnCall) (reply : TxnReply) → s.log.broken ≡ true → asks_log call ≡ true → TxnStep told s call reply t
-    → (reply ≡ told_replies.Refused (denials.Log log_refusals.Broken)) × (t.log ≡ s.log)
+    → (reply ≡ told_replies.Refused (denials.Log log_refusals.Broken)) × (t ≡ s)
 unfolding TxnStep
 broken_step told s t (asked.Begin changes) reply broken asks step = broken_says told s t (begin_plan s.memory changes) reply broken step
 broken_step told s t (asked.Set number cell value) reply broken asks step = broken_says told s t (set_plan s.memory number cell value) reply broken step
@@ -125,12 +126,12 @@ module _ (tabled : Bool) (laws : Laws) (lengths : Lengths) (told : Bool) (s t : 
       checkpoint_out laws told s.log s.memory (answer_of reply t) t.log store
       (goes told s (checkpoint_plan s.memory) (answer_of reply t) t.log store.whole step)
 
-  get_ends : (cell : ℕ) (reply : TxnReply) → TxnStep told s (asked.Get cell) reply t → (t.log.broken ≡ true) ⊎ IsStore tabled t.log t.memory
+  get_ends : (cell : ℕ) (reply : TxnReply) → TxnStep told s (asked.Get cell) reply t → IsKeptStore tabled t.log t.memory
   unfolding TxnStep
   get_ends cell reply step =
       inr (subst (λ (x : State). IsStore tabled x t.memory) (sym step.1) (subst (λ (a : Answered). IsStore tabled s.log a.memory) (sym step.0) store))
 
-  whole_stays : (call : TxnCall) (reply : TxnReply) → HasArguments call → TxnStep told s call reply t → (t.log.broken ≡ true) ⊎ IsStore tabled t.log t.memory
+  whole_stays : (call : TxnCall) (reply : TxnReply) → HasArguments call → TxnStep told s call reply t → IsKeptStore tabled t.log t.memory
   whole_stays (asked.Begin changes) reply has step = still_store _ _ s.log s.memory _ _ (answer_of reply t) t.log store (begin_ends changes reply step)
   whole_stays (asked.Set number cell value) reply has step = still_store _ _ s.log s.memory _ _ (answer_of reply t) t.log store (set_ends number cell value reply has.0 has.1 step)
   whole_stays (asked.Back number kept) reply has step = still_store _ _ s.log s.memory _ _ (answer_of reply t) t.log store (back_ends number kept reply step)
@@ -187,24 +188,24 @@ module _ (tabled : Bool) (laws : Laws) (lengths : Lengths) (told : Bool) (s t : 
 -- what it leaves if it is done
 by_kept : {tabled : Bool} → {P : Type 0} (told : Bool) (s t : Store) (call : TxnCall) (reply : TxnReply) → asks_log call ≡ true → (reply ≡ told_replies.Refused (denials.Log log_refusals.Broken) → P)
     → (IsStore tabled s.log s.memory → P) → IsKeptStore tabled s.log s.memory → TxnStep told s call reply t → P
-by_kept {tabled = tabled} told s t call reply asks of_broken of_whole (inl broken) step = of_broken (broken_step told s t call reply broken asks step).0
+by_kept {tabled = tabled} told s t call reply asks of_broken of_whole (inl broken) step = of_broken (broken_step told s t call reply broken.broken asks step).0
 by_kept {tabled = tabled} told s t call reply asks of_broken of_whole (inr store) step = of_whole store
 
 module _ (tabled : Bool) (laws : Laws) (lengths : Lengths) (told : Bool) (s t : Store) (kept_so : IsKeptStore tabled s.log s.memory) where
   pub stays : (call : TxnCall) (reply : TxnReply) → HasArguments call → TxnStep told s call reply t → IsKeptStore tabled t.log t.memory
   stays call reply has step = elim kept_so [
-    | inl broken ↦ inl (still call reply broken step)
+    | inl broken ↦ inl (subst (λ (x : Store). IsBrokenStore tabled x.log x.memory) (sym (still call reply broken.broken step)) broken)
     | inr store ↦ whole_stays tabled laws lengths told s t store call reply has step
   ]
     where
-      still : (call : TxnCall) (reply : TxnReply) → s.log.broken ≡ true → TxnStep told s call reply t → t.log.broken ≡ true
-      still (asked.Get cell) reply broken step = ap (λ (x : Store). x.log.broken) (get_leaves told s t cell reply step).1 ∙ broken
-      still (asked.Begin changes) reply broken step = ap (λ (x : State). x.broken) (broken_step told s t (asked.Begin changes) reply broken refl step).1 ∙ broken
-      still (asked.Set number cell value) reply broken step = ap (λ (x : State). x.broken) (broken_step told s t (asked.Set number cell value) reply broken refl step).1 ∙ broken
-      still (asked.Back number kept) reply broken step = ap (λ (x : State). x.broken) (broken_step told s t (asked.Back number kept) reply broken refl step).1 ∙ broken
-      still (asked.Commit number) reply broken step = ap (λ (x : State). x.broken) (broken_step told s t (asked.Commit number) reply broken refl step).1 ∙ broken
-      still (asked.Rollback number) reply broken step = ap (λ (x : State). x.broken) (broken_step told s t (asked.Rollback number) reply broken refl step).1 ∙ broken
-      still asked.Checkpoint reply broken step = ap (λ (x : State). x.broken) (broken_step told s t asked.Checkpoint reply broken refl step).1 ∙ broken
+      still : (call : TxnCall) (reply : TxnReply) → s.log.broken ≡ true → TxnStep told s call reply t → t ≡ s
+      still (asked.Get cell) reply broken step = (get_leaves told s t cell reply step).1
+      still (asked.Begin changes) reply broken step = (broken_step told s t (asked.Begin changes) reply broken refl step).1
+      still (asked.Set number cell value) reply broken step = (broken_step told s t (asked.Set number cell value) reply broken refl step).1
+      still (asked.Back number kept) reply broken step = (broken_step told s t (asked.Back number kept) reply broken refl step).1
+      still (asked.Commit number) reply broken step = (broken_step told s t (asked.Commit number) reply broken refl step).1
+      still (asked.Rollback number) reply broken step = (broken_step told s t (asked.Rollback number) reply broken refl step).1
+      still asked.Checkpoint reply broken step = (broken_step told s t asked.Checkpoint reply broken refl step).1
 
   pub set_leaves : (number cell value : ℕ) → cell < cell_count → value < 2 ^ 64 → TxnStep told s (asked.Set number cell value) told_replies.Done t → IsSetTo cell value s.memory t.memory
   set_leaves number cell value inside fits step =

@@ -1,10 +1,10 @@
 -- Reading along the undo-next links, for a store: from the newest set of a transaction that stands to the one below it, and the end of the cursor.
-use Rattle.clfs_cells_laws.proofs.Words.{◌≡◌, ℕ, Bool, true, refl, subst, ap, ◌∙◌, inl, inr, [], ◌∷◌, Option, Some, None, ◌==◌, is_none, option_and_then}
+use Rattle.clfs_cells_laws.proofs.Words.{◌≡◌, ℕ, Bool, true, refl, sym, subst, ap, ◌∙◌, inl, inr, [], ◌∷◌, Option, Some, None, ◌==◌, is_none, option_and_then}
 use Rattle.clfs_cells_laws.proofs.Words.{option_map_or, eq-eqb, eqb-true, cursor_in, cursors_moved, cursors_without, record_cursor_in, unused_cursor, Cursor}
 use Rattle.clfs_cells_laws.proofs.Words.{Records, UndoNext, LogEntry, Refusal, Happened, Reply, Area, State, Outcome, answer, found_with_cursor, moved_on}
 use Rattle.clfs_cells_laws.proofs.Words.{outcome, read_at, flushed, live, live_at, cursor_of, record_cursor, with_cursor, with_cursor_at, without_cursor}
 use Rattle.clfs_cells_laws.proofs.Words.{next_refusal, read_refusal, refusal, refused_if, change_area, Step, Comes, with_broken, Answered, with_read_ended}
-use Rattle.clfs_cells_laws.proofs.Words.{Plan, CarriesOut, Memory, from_outside, IsLiveRecord, IsStoreWith, store_area}
+use Rattle.clfs_cells_laws.proofs.Words.{Plan, CarriesOut, Memory, from_outside, IsBrokenStore, IsLiveRecord, IsStoreWith, store_area}
 use Rattle.clfs_model.specs.declared.call.Call.TheVariants as calls
 use Rattle.clfs_model.specs.declared.refusal.Refusal.TheVariants as refusals
 use Rattle.clfs_model.specs.declared.reply.Reply.TheVariants as replies
@@ -164,9 +164,9 @@ read_ended {tabled = tabled} laws told s memory k last rest result t store (happ
           behind,
         )
 
-pub read_ended_broken : (told : Bool) (s : State) (memory : Memory) (k : ℕ) (rest : Plan Answered) (result : Answered) (t : State) → s.broken ≡ true
+pub read_ended_broken : {tabled : Bool} → (told : Bool) (s : State) (memory : Memory) (k : ℕ) (rest : Plan Answered) (result : Answered) (t : State) → IsBrokenStore tabled s memory
     → CarriesOut told memory.client s (with_read_ended memory k rest) result t
-    → (u : State) × (u.broken ≡ true) × CarriesOut told memory.client u rest result t
-read_ended_broken told s memory k rest result t broken (happened, reply, mid, (step, behind)) =
-    let stays = broken_way told s memory.client (calls.EndRead memory.area k) happened reply mid broken step in
-    (mid, ap (λ (x : State). x.broken) stays.1 ∙ broken, behind)
+    → (u : State) × IsBrokenStore tabled u memory × CarriesOut told memory.client u rest result t
+read_ended_broken {tabled = tabled} told s memory k rest result t broken (happened, reply, mid, (step, behind)) =
+    let stays = broken_way told s memory.client (calls.EndRead memory.area k) happened reply mid broken.broken step in
+    (mid, subst (λ (x : State). IsBrokenStore tabled x memory) (sym stays.1) broken, behind)

@@ -4,8 +4,8 @@ use Rattle.clfs_cells_laws.proofs.Words.{length, Option, Some, None, length-appe
 use Rattle.clfs_cells_laws.proofs.Words.{eqb-true, Cursor, LogEntry, Refusal, Happened, Reply, State, next_lsn, refusal, change_first, Step, Made, Action}
 use Rattle.clfs_cells_laws.proofs.Words.{Answered, append_call, compensation, stops, undo_from, undo_set, with_read_ended, txn_bytes, txn_record, Plan, never}
 use Rattle.clfs_cells_laws.proofs.Words.{CarriesOut, on_next, on_placed, Memory, Transaction, holds, is_at, is_numbered, standing, transaction}
-use Rattle.clfs_cells_laws.proofs.Words.{with_one_undone, with_undone, from_outside, AreStacked, IsInLog, IsOpen, IsStore, IsStoreWith, newest_of}
-use Rattle.clfs_cells_laws.proofs.Words.{sectors_held, value_before}
+use Rattle.clfs_cells_laws.proofs.Words.{with_one_undone, with_undone, from_outside, AreStacked, IsBrokenStore, IsInLog, IsKeptStore, IsOpen, IsStore}
+use Rattle.clfs_cells_laws.proofs.Words.{IsStoreWith, newest_of, sectors_held, value_before}
 use Rattle.std.proofs.Common.{append_assoc}
 use Rattle.clfs_model.specs.declared.call.Call.TheVariants as calls
 use Rattle.clfs_model.specs.declared.refusal.Refusal.TheVariants as refusals
@@ -19,7 +19,7 @@ use Rattle.clfs_cells_laws.proofs.Links.{IsNullOrLive, append_passes, newest_liv
 use Rattle.clfs_cells_laws.proofs.OneOf.{find_at, placed}
 use Rattle.clfs_cells_laws.proofs.OwnCalls.{Laws, Went, broke, gave, kept, went}
 use Rattle.clfs_cells_laws.proofs.Stacks.{each_held, found_newest, left_standing, standing_has, taken_before, taken_holds}
-use Rattle.clfs_cells_laws.proofs.StoreCalls.{added, append_came, entry_of, found_by_its, grows_by, number_found, open_found, undo_store}
+use Rattle.clfs_cells_laws.proofs.StoreCalls.{added, append_came, broken_store, entry_of, found_by_its, grows_by, number_found, open_found, undo_store}
 use Rattle.clfs_cells_laws.proofs.UndoReads.{Stopped, WentOn, left_broken, left_whole, goes_on, next, not_next, read_ended, read_ended_broken, undo_cursor}
 use Rattle.clfs_cells_laws.proofs.Ways.{way}
 
@@ -29,7 +29,7 @@ pub record Halted (tabled : Bool) (allowed : Refusal → Bool) (result : Answere
   pub given : Refusal
   pub is : result.reply ≡ told_replies.Refused (denials.Log given)
   pub may : allowed given ≡ true
-  pub left : (t.broken ≡ true) ⊎ IsStore tabled t result.memory
+  pub left : IsKeptStore tabled t result.memory
 
 pub halted_store : {tabled : Bool} → (allowed : Refusal → Bool) (told : Bool) (client : ℕ) (s : State) (memory : Memory) (given : Refusal) (result : Answered) (t : State)
     → allowed given ≡ true → IsStore tabled s memory → CarriesOut told client s (stops memory given) result t → Halted tabled allowed result t
@@ -41,12 +41,12 @@ halted_store {tabled = tabled} allowed told client s memory given result t may s
 }
 
 pub halted_broken : {tabled : Bool} → (allowed : Refusal → Bool) (told : Bool) (client : ℕ) (s : State) (memory : Memory) (given : Refusal) (result : Answered) (t : State)
-    → allowed given ≡ true → s.broken ≡ true → CarriesOut told client s (stops memory given) result t → Halted tabled allowed result t
+    → allowed given ≡ true → IsBrokenStore tabled s memory → CarriesOut told client s (stops memory given) result t → Halted tabled allowed result t
 halted_broken {tabled = tabled} allowed told client s memory given result t may broken ended = record {
   given = given;
   is = ap (λ (a : Answered). a.reply) ended.0;
   may = may;
-  left = inl (ap (λ (x : State). x.broken) ended.1 ∙ broken);
+  left = inl (subst (λ (x : State). IsBrokenStore tabled x result.memory) (sym ended.1) (subst (λ (a : Answered). IsBrokenStore tabled s a.memory) (sym ended.0) broken));
 }
 
 -- a plan after a reply that is known
@@ -186,7 +186,7 @@ module _ (tabled : Bool) (laws : Laws) (lengths : (txn : ℕ) (action : Action) 
       let over = read_ended laws told s memory k made.lsn (stops memory given) result v store carries in
       halted_store from_outside told memory.client over.0 memory given result v may over.1 over.2
 
-  stop_broken : (mid : State) (given : Refusal) → from_outside given ≡ true → mid.broken ≡ true
+  stop_broken : (mid : State) (given : Refusal) → from_outside given ≡ true → IsBrokenStore tabled mid memory
       → CarriesOut told memory.client mid (with_read_ended memory k (stops memory given)) result v → Halted tabled from_outside result v
   stop_broken mid given may broken carries =
       let over = read_ended_broken told mid memory k (stops memory given) result v broken carries in
@@ -217,7 +217,7 @@ module _ (tabled : Bool) (laws : Laws) (lengths : (txn : ℕ) (action : Action) 
       (same_log told memory.client mid s (with_read_ended memory k (stops memory refusals.NoMemory)) result v same
       (behind_reply told memory.client mid (behind_append memory t made k rest) reply (replies.Refused refusals.NoMemory) result v is behind)))
   by happened reply mid step behind (broke how given outside is same) =
-      no_more (stop_broken mid given outside (ap (λ (x : State). x.broken) same)
+      no_more (stop_broken mid given outside (broken_store s mid memory (undo_cursor k made.lsn ∷ []) store same)
       (behind_reply told memory.client mid (behind_append memory t made k rest) reply (replies.Refused given) result v is behind))
   by happened reply mid step behind (gave comes) =
       let cursors : List Cursor = undo_cursor k made.lsn ∷ [] in
@@ -314,7 +314,7 @@ undoes {tabled = tabled} (suc more) laws lengths told s memory k number t made (
             (same_log told memory.client mid u (with_read_ended (with_undone t made lsn memory) k (stops (with_undone t made lsn memory) given)) result v same carried) in
             halted_store from_outside told memory.client over.0 (with_undone t made lsn memory) given result v may over.1 over.2
 
-        breaking : (given : Refusal) → from_outside given ≡ true → mid.broken ≡ true
+        breaking : (given : Refusal) → from_outside given ≡ true → IsBrokenStore tabled mid (with_undone t made lsn memory)
             → CarriesOut told memory.client mid (with_read_ended (with_undone t made lsn memory) k (stops (with_undone t made lsn memory) given)) result v
             → Halted tabled from_outside result v
         breaking given may broken carried =
@@ -326,7 +326,7 @@ undoes {tabled = tabled} (suc more) laws lengths told s memory k number t made (
             halted (stopping refusals.NoMemory refl same
             (behind_reply told memory.client mid (behind_next more (with_undone t made lsn memory) number k rest) reply (replies.Refused refusals.NoMemory) result v is behind))
         not_on (left_broken given outside is same) =
-            halted (breaking given outside (ap (λ (y : State). y.broken) same)
+            halted (breaking given outside (broken_store u mid (with_undone t made lsn memory) (undo_cursor k made.lsn ∷ []) after same)
             (behind_reply told memory.client mid (behind_next more (with_undone t made lsn memory) number k rest) reply (replies.Refused given) result v is behind))
 
         on : WentOn tabled told u (with_undone t made lsn memory) k second.lsn reply mid → Undoing tabled told number t memory (suc (suc more)) rest result v

@@ -79,6 +79,6 @@ pub use Rattle.clfs_cells_laws.specs.Crashes.{table_once}
 pub use Rattle.clfs_cells_laws.specs.Loads.{IsLoadCause, IsLoaded, IsNotLoaded}
 pub use Rattle.clfs_cells_laws.specs.Reasons.{asks_log, begin_reason, reason_if, table_reason}
 pub use Rattle.clfs_cells_laws.specs.Steps.{for_room_or_outside, from_outside, HasArguments, is_of_log, IsCommitted, IsRolledBack, IsSetTo, IsTakenBack}
-pub use Rattle.clfs_cells_laws.specs.Stores.{AllApart, AreApart, AreStacked, is_of_cell, IsInLog, IsKeptStore, IsLiveRecord, IsOpen, IsStore, IsStoreWith}
-pub use Rattle.clfs_cells_laws.specs.Stores.{newest_of, records_left, sectors_held, store_area, value_before, value_by}
+pub use Rattle.clfs_cells_laws.specs.Stores.{AllApart, AreApart, AreStacked, is_of_cell, IsBrokenStore, IsInLog, IsKeptStore, IsLiveRecord, IsOpen, IsStore}
+pub use Rattle.clfs_cells_laws.specs.Stores.{IsStoreWith, newest_of, records_left, sectors_held, store_area, value_before, value_by}
 pub use Rattle.clfs_cells_laws.specs.Tables.{AreExclusive, AreOwn, changes, done_by, is_among, IsInTable, IsOwn, IsTabled, Keeps, numbers_of}

@@ -98,6 +98,11 @@ pub record IsStoreWith (tabled : Bool) (cursors : List Cursor) (log : State) (me
 abbrev pub IsStore : Bool → State → Memory → Type 0
 IsStore tabled = IsStoreWith tabled []
 
--- the same, or the log has met a fault of the disk or damage and answers nothing else
+-- A log that has met a fault of the disk or damage and answers nothing else, and what a store keeps beside it: with `tabled` its cells are still what the log says.
+pub record IsBrokenStore (tabled : Bool) (log : State) (memory : Memory) : Type 0 where
+  pub broken : log.broken ≡ true
+  pub table : tabled ≡ true → IsTabled log memory
+
+-- a store between two calls, whose log may be broken
 abbrev pub IsKeptStore : Bool → State → Memory → Type 0
-IsKeptStore tabled log memory = (log.broken ≡ true) ⊎ IsStore tabled log memory
+IsKeptStore tabled log memory = IsBrokenStore tabled log memory ⊎ IsStore tabled log memory

@@ -25,7 +25,7 @@ pub record Crashes : Type 0 where
 -- ---- a disk that tells what it holds
 
 pub whole_store : (told : Bool) (s : Store) → told ≡ true → s.log.broken ≡ false → IsKeptStore told s.log s.memory → IsStore true s.log s.memory
-whole_store told s tells whole (inl broken) = let no : true ≡ false = sym broken ∙ whole in absurd (cc no)
+whole_store told s tells whole (inl broken) = let no : true ≡ false = sym broken.broken ∙ whole in absurd (cc no)
 whole_store told s tells whole (inr store) = subst (λ (b : Bool). IsStore b s.log s.memory) tells store
 
 -- ---- while a call is under way

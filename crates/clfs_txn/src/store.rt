@@ -231,11 +231,11 @@ impl<D: Disk> TxnStore<D> {
         self.table.rollback(txn)
     }
 
-    /// The value that the store keeps of a cell. It asks nothing of the log, and is answered by a broken store too.
+    /// The value that the store keeps of a cell: the table's, changed by the open transactions. It asks nothing of the log, and a broken store answers the same.
     pub fn get(&self, cell: u16) -> u64
         requires { cell < 32 }
         ensures value { result ≡ slice_index self.now.0.memory.cells cell }
-        ensures table { TellsContents (D.state self.now.1) → self.now.0.log.broken ≡ false
+        ensures table { TellsContents (D.state self.now.1)
             → result ≡ slice_index (table_with self.now.0.log self.now.0.memory.stream (numbers_of self.now.0.memory.transactions)) cell }
         ensures step { (told : Bool) → TxnStep told self.now.0 (asked.Get cell) (replies.Value result) self.now.0 }
     {
