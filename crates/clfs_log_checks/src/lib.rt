@@ -2,7 +2,7 @@
 //!
 //! The crate has no function of its own. Its tests make public calls alone, so the commands aren't proved a second time for
 //! them. `runs` makes one run of the program, and `watched` is a disk that counts its calls. Scripts and their replies are in `engine`,
-//! those at the limits of a log and over disks that fail in `worked`, clients at the same time in `race`, generated lines in `trial`,
+//! those at the limits of a log and over disks that fail in `worked`, clients at the same time in `race`, and over a disk that stops in `stopped`, generated lines in `trial`,
 //! threads with permits in `crew`, threads that share flushes in `crowd`, and what is left after a crash in `crashes`. `damage` judges
 //! logs whose files were changed, `dump` prints logs, `txn` serves tables, `archive` archives and restores logs, `share` lets several clients have one, and `faults` lets each call of the disk, the source and the sink fail in turn.
 #![tactic(auto)]
@@ -29,6 +29,8 @@ mod race;
 mod runs;
 #[cfg(test)]
 mod share;
+#[cfg(test)]
+mod stopped;
 #[cfg(test)]
 mod trial;
 #[cfg(test)]
