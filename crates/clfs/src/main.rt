@@ -4,8 +4,7 @@
 //! sink, the folder a disk, and the words after it the command. A command that starts threads is run by `clfs_engine::run`, which may wait; `share`, whose
 //! clients have paths of their own, by `clfs_engine::run_share`. A word that isn't text, or no folder, is no command. `--help` and `--version` are words in the
 //! folder's place, answered here. Standard error has what standard output doesn't say: which words are allowed in the place of those that are no command, or
-//! the help that they ask for, and why a run, or a client that shares the log, ended without its work done. On a terminal it has how far a large log was read,
-//! but for `share`.
+//! the help that they ask for, and why a run or a client ended without its work done. On a terminal it has how far a large log was read, but for `share`.
 #![tactic(auto)]
 
 mod clients;
