@@ -49,10 +49,11 @@ class Crates:
             elif path.suffix in (".rt", ".antt"):
                 yield path
 
-    def minutes(self, page):
-        """How many minutes of a processor each crate takes, by the table of docs/GATE.md; a minute where that has none."""
-        found = re.findall(r"^\| `(\w+)` \| ([\d.]+) \| [^|]*\| [^|]*\| [^|]*\|", page.read_text(), re.M) if page.exists() else []
-        table = {name: float(took) for name, took in found}
+    def minutes(self):
+        """How many minutes of a processor each crate takes, by start/times.txt; a minute where that has none."""
+        times = pathlib.Path(__file__).resolve().parent / "times.txt"
+        lines = [line.split("#")[0].split() for line in times.read_text().split("\n")] if times.exists() else []
+        table = {line[0]: float(line[1]) for line in lines if line}
         return {name: table.get(name, 1.0) for name in self.names}
 
     def planned(self, left, minutes):
@@ -172,14 +173,13 @@ def follow(following):
 
 def main(verb, top, out, kit, *names):
     crates, notes = Crates(top, kit, list(names)), Notes(out)
-    page = pathlib.Path(__file__).resolve().parent.parent / "docs/GATE.md"
     if verb in ("bar", "lines"):
-        follow(Following(crates, notes, crates.minutes(page), verb == "bar"))
+        follow(Following(crates, notes, crates.minutes(), verb == "bar"))
         return
     proved = notes.proved(crates)
     left = [name for name in names if name not in proved]
     if verb == "wait":
-        print(in_minutes(notes.pace() * crates.planned(left, crates.minutes(page))))
+        print(in_minutes(notes.pace() * crates.planned(left, crates.minutes())))
     else:
         print(f"{len(proved)} of {len(names)} crates are proved as they stand" + (f"; the first that isn't is {left[0]}" if left else ""))
 
