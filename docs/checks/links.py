@@ -8,7 +8,7 @@ FOLDERS = ("crates", "clients", "docs", "start", "examples", "install", "include
 PARTS = ("crates", "clients", "start", "examples", "install", "include", ".ci", "docs/checks")
 SUFFIXES = {".rt", ".antt", ".py", ".c", ".h", ".rs", ".toml", ".txt", ".js", ".css", ".html", ".md", ".edit", ".cmake", ".in", ".1", ".bash", ""}
 # Names of systems, languages and tools, which stand in no file here.
-OUTSIDE = {"posix_fadvise", "x86_64", "O_NONBLOCK", "O_EXCL", "CMakeLists.txt"}
+OUTSIDE = {"posix_fadvise", "copy_file_range", "ru_maxrss", "x86_64", "O_NONBLOCK", "O_EXCL"}
 LOOKS_LIKE_CODE = re.compile(r"\w+(?:::\w+)+|\w*[a-z]\w*_\w+|_?[A-Z]+_[A-Z_]+|[A-Z][a-z0-9]+(?:[A-Z][a-z0-9]*)+")
 
 

@@ -114,6 +114,27 @@ def statuses(code):
     return found
 
 
+def helped(code):
+    """The statuses of each command that the help names."""
+    text = code.crates["clfs_command"].source["help.rt"]
+    notes = dict(re.findall(r'^const (\w+): &str = "\\\n(.*?)";', text, re.M | re.S))
+    found = {}
+    for names, const in re.findall(r'^ +((?:"\w+"(?: \| )?)+) => (\w+),', text, re.M):
+        said = re.search(r"Status (.*)", notes[const], re.S)[1]
+        numbers = {int(number) for number in re.findall(r"(?:^|\. |\n)(\d+): ", said)}
+        span = re.match(r"(\d+) to (\d+): as of", said)
+        for name in re.findall(r"\w+", names):
+            found[name] = numbers | (set(range(int(span[1]), int(span[2]) + 1)) if span else set())
+    return found
+
+
+def help_rows(code):
+    """Statuses that the help names and that a command never ends with."""
+    wanted = statuses(code)
+    path = "crates/clfs_command/src/help.rt"
+    return [f"{path}:1: `{name}` never ends with {one}" for name, said in helped(code).items() for one in sorted(said - wanted[name] - {USAGE})]
+
+
 def matrix(page):
     """What SCRIPT says: the statuses of each command, and the line of each status with its number of line."""
     said, lines, start = {}, {}, 1
@@ -145,7 +166,7 @@ def status_rows(page, code):
             fixed = re.split(r" [A-Z]+\b(?! \w+ [a-z])| \.\.", line)[0]
             if len(fixed.split()) > 1 and fixed not in sources:
                 faults.append(f"{page.name}:{number}: no source has the line `{line}`")
-    return faults + usage(page, code)
+    return faults + usage(page, code) + help_rows(code)
 
 
 def usage(page, code):

@@ -26,7 +26,7 @@ DECISIONS = "docs/DECISIONS.md"
 
 # What was, and isn't: git has it. Decisions may say what was rejected.
 HISTORY = [
-    r"\b(earlier|older|previous|former|last) (versions? of (this|the (program|page|code|kit|repository))|program|kit|build|text)s?\b",
+    r"\b(earlier|previous|former|last) (versions? of (this|the (program|page|code|kit|repository))|programs?|kits?|builds?|texts?)\b",
     r"\bbefore (this|that) (change|commit|version)\b",
     r"\b(it|they|this|that|there) used to\b",
     r"\b(no longer|since then|until now|up to now|formerly|nowadays|in the past|in earlier days|of earlier days)\b",
