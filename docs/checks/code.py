@@ -134,26 +134,3 @@ class Code:
     def spec_files(self):
         """All files of specs by crate and name."""
         return {(crate.name, name): text for crate in self.proved() for name, text in crate.specs.items()}
-
-    def closure(self, call):
-        """The files of specs on which a call's contract stands: those that its own source names in it, and all that these use."""
-        source = self.crates[call.crate].source[call.path.removeprefix("src/")]
-        head = " ".join(clause.text for clause in [*call.requires, *call.ensures])
-        found, left = set(), []
-        for line in source.split("\n"):
-            names = re.search(r"\{(.*)\}", line)
-            if line.startswith("ghost use") and any(re.search(rf"(?<!\w){re.escape(word.strip())}(?!\w)", head) for word in names_in(line, names)):
-                left += specs.uses_of(line)
-        while left:
-            crate, path = left.pop()
-            key = (crate, f"{path.replace('.', '/')}.antt")
-            if key in self.spec_files and key not in found:
-                found.add(key)
-                left += specs.uses_of(self.spec_files[key])
-        return sorted(found)
-
-
-def names_in(line, names):
-    """The names that a `use` brings: those in braces, or the one after `as`."""
-    after = re.search(r" as (\w+);", line)
-    return names[1].split(",") if names else [after[1]] if after else []

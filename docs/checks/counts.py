@@ -3,6 +3,7 @@ import functools
 import re
 
 from checks import made
+from checks.closure import Closure
 from checks.code import PROGRAM, ROWS
 from checks.pages import Page
 from checks.tables import forms, refusals, statuses
@@ -54,8 +55,8 @@ def number(text):
 
 @functools.lru_cache(None)
 def audited(code, name):
-    found = code.closure(code.call(made.AUDITED[READ[name]]))
-    return len(found), sum(code.spec_files[key].count("\n") for key in found)
+    found = Closure(code).of_call(code.call(made.AUDITED[READ[name]]))
+    return len(found), made.lines_of_files(code, found)
 
 
 def of_text(code, text):

@@ -2,6 +2,7 @@
 import re
 
 from checks import specs
+from checks.closure import Closure
 from checks.code import TESTS
 
 MADE = "<!-- docs/index makes this page of the sources; what is written here by hand is lost. -->"
@@ -191,32 +192,29 @@ def edited(crate, path, text):
 
 def audit(code):
     """The files of specs on which the statements of some calls stand."""
-    about = ("The files of specs on which each statement stands: those that its contract names, and all that these use. It is an upper bound, since a file "
-             "may have more than what is used of it. Types stand in the sources, the kit's own definitions in the kit.")
-    parts, lines, seen = [about], [], {}
+    about = ("The definitions on which each statement stands: those that its contract names, and all that these name. Types stand in the sources, and the kit's own "
+             "definitions in the kit. Lines are those of whole files; needed are the lines of these definitions, without comments and blank lines.")
+    closure, seen = Closure(code), {}
     for title in AUDITED:
-        found = code.closure(code.call(title))
-        seen[title] = found
-        lines.append((f"`{title}`", *audit_counts(code, found)))
-    parts.append(table(["Statement of", "Files", "Lines", "Without comments, imports and blank lines"], lines))
-    for title in AUDITED:
-        parts.append(f"## {title}\n\n" + audit_files(code, seen[title]))
+        seen[title] = closure.of_call(code.call(title))
+    lines = [(f"`{title}`", f"{len(found):,}", f"{lines_of_files(code, found):,}", f"{sum(found.values()):,}") for title, found in seen.items()]
+    parts = [about, table(["Statement of", "Files", "Lines", "Needed"], lines)]
+    parts += [f"## {title}\n\n" + audit_files(code, found) for title, found in seen.items()]
     return page("What has to be read", *parts)
 
 
-def audit_counts(code, found):
-    texts = [code.spec_files[key] for key in found]
-    return f"{len(found):,}", f"{sum(text.count(chr(10)) for text in texts):,}", f"{sum(len(specs.without_comments(text)) for text in texts):,}"
+def lines_of_files(code, found):
+    return sum(code.spec_files[key].count("\n") for key in found)
 
 
 def audit_files(code, found):
     lines = []
     for crate in code.proved():
-        names = [name for owner, name in found if owner == crate.name]
-        if names:
-            count = sum(code.spec_files[crate.name, name].count("\n") for name in names)
-            lines.append((f"`{crate.name}`", f"{count:,}", ", ".join(f"[{name}](../../crates/{crate.name}/specs/{name})" for name in names)))
-    return table(["Crate", "Lines", "Files"], lines)
+        own = {key: count for key, count in found.items() if key[0] == crate.name}
+        if own:
+            names = ", ".join(f"[{name}](../../crates/{crate.name}/specs/{name}) {count}" for (_, name), count in own.items())
+            lines.append((f"`{crate.name}`", f"{sum(own.values()):,}", names))
+    return table(["Crate", "Needed", "Files, with the lines that are needed"], lines)
 
 
 def times(code):

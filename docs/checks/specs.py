@@ -1,4 +1,4 @@
-"""Reads files of specs: their first comment, the files that they use, and their records with each field and its comment."""
+"""Reads files of specs: their first comment, and their records with each field and its comment."""
 import dataclasses
 import re
 
@@ -6,8 +6,6 @@ from checks.contracts import sentence
 
 RECORD = re.compile(r"(?:abbrev )?pub record (\w+)")
 FIELD = re.compile(r"  pub (\w+) :(.*)")
-USE = re.compile(r"^(?:ghost )?(?:pub )?use Rattle\.(clfs\w*)\.specs\.([\w.]+?)(?:\.\{| as |$)", re.M)
-DEFINITION = re.compile(r"^(?:abbrev )?(?:pub )?(?:record |axiom |lemma )?(◌?\w+◌?)\b", re.M)
 
 
 @dataclasses.dataclass
@@ -61,22 +59,3 @@ def first_comment(lines, mark):
             break
         found.append(line[len(mark) :])
     return sentence(found)
-
-
-def first_sentence(text):
-    """A text up to its first full stop."""
-    return re.split(r"(?<=[.!?])\s+(?=[A-Z`])", text, maxsplit=1)[0]
-
-
-def uses_of(text):
-    """The files of specs that a text uses, each by its crate and its name."""
-    found = set()
-    for crate, path in USE.findall(text):
-        if not path.startswith("declared."):
-            found.add((crate, path.split(".")[0] if path[0].isupper() else path))
-    return found
-
-
-def without_comments(text):
-    """The lines of a file that say something: no comment, no `use`, no blank line."""
-    return [line for line in text.split("\n") if line.strip() and not re.match(r"\s*(--|(ghost )?(pub )?use )", line)]
