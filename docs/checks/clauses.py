@@ -1,7 +1,7 @@
 """Checks that each clause that a page names stands in the contract or the record that it names, and that PROVED names all that it has to.
 
-A page says whose a clause is in its text, as `clause` of `crate::function`, or of record `Name`, or of the calls of `crate::Type`; or in the head of a table's column,
-whose cells have the clauses then. `of the same` is of the owner that was named last."""
+A page says whose a clause is in its text, as `clause` of `crate::function`, or of record `Name`, or of the calls of `crate::Type`; or in the head of a
+table's column, whose cells have the clauses then. `of the same` is of the owner that was named last."""
 import re
 
 from checks.contracts import NAMELESS

@@ -68,7 +68,8 @@ def of_text(code, text):
     for words, what in LOOSE:
         for it in re.finditer(rf"{NUMBER} {words}", text):
             yield f"`{it[0]}`: say which {what}, so that it can be counted"
-    for crate, lines in [*re.findall(rf"`(clfs\w*)`[^`.|]{{0,20}}?{NUMBER} lines", text), *((it[1], it[0]) for it in re.findall(rf"{NUMBER} lines of `(clfs\w*)`", text))]:
+    before = [found[::-1] for found in re.findall(rf"{NUMBER} lines of `(clfs\w*)`", text)]
+    for crate, lines in [*before, *re.findall(rf"`(clfs\w*)`[^`.|]{{0,20}}?{NUMBER} lines", text)]:
         if crate in code.crates and number(lines) != code.lines_of(crate):
             yield f"`{crate}` has {code.lines_of(crate):,} lines"
     for files, lines, name in re.findall(rf"{NUMBER} files, {NUMBER} lines for `([\w:]+)`", text):

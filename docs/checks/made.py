@@ -153,7 +153,7 @@ def rows(code):
             lines = [(f"`{call.title}`", call.comment, codes(clause.name for clause in call.ensures)) for call in calls]
             parts.append(f"## [{name}](../../crates/clfs_rows/src/{name})\n\n{about}\n\n" + table(["Function", "What it shows", "Clauses"], lines))
     total = sum(len(call.ensures) for call in code.rows())
-    about = f"{counted(total, 'worked row')} in {counted(len(code.rows()), 'function')}. A row is a clause of a function that does nothing, and the checker computes it."
+    about = f"{counted(total, 'worked row')} in {counted(len(code.rows()), 'function')}. A row is a clause of a function that does nothing; the checker computes it."
     return page("Worked rows", about, *parts)
 
 
@@ -192,8 +192,8 @@ def edited(crate, path, text):
 
 def audit(code):
     """The files of specs on which the statements of some calls stand."""
-    about = ("The definitions on which each statement stands: those that its contract names, and all that these name. Types stand in the sources, and the kit's own "
-             "definitions in the kit. Lines are those of whole files; needed are the lines of these definitions, without comments and blank lines.")
+    about = ("The definitions on which each statement stands: those that its contract names, and all that these name. Types stand in the sources, and the kit's "
+             "own definitions in the kit. Lines are those of whole files; needed are the lines of these definitions, without comments and blank lines.")
     closure, seen = Closure(code), {}
     for title in AUDITED:
         seen[title] = closure.of_call(code.call(title))
@@ -241,8 +241,9 @@ def gate(code):
         sums[0], sums[1] = sums[0] + own, sums[1] + more
         inside, beside = len(crate.edits("must-fail")), len(crate.edits("wrong-bodies"))
         crates_.append((f"`{name}`", minutes(own), minutes(more), inside or "", beside or ""))
-    whole = " ".join([f"A whole gate takes {sum(sums):.0f} minutes of the processor:", f"{sums[0]:.0f} for proofs, {sums[1]:.0f} for edits and {sums[2]:.0f} for tests."])
-    about = f"Minutes of the processor, by [start/times.txt](../../{TIMES}), which a whole gate's log is written to by `start/times`. {whole}"
+    parts = f"{sums[0]:.0f} for proofs, {sums[1]:.0f} for edits and {sums[2]:.0f} for tests"
+    source = f"Minutes of the processor, by [{TIMES}](../../{TIMES}), which `start/times` writes of the log of a whole gate."
+    about = f"{source} A whole gate takes {sum(sums):.0f} minutes: {parts}."
     first = table(["Crate", "Proof", "Edits", "In the gate", "In `wrong-bodies`"], crates_)
     return page("What the gate takes", about, first, table(["Tests", "The crate", "Its tests"], tests))
 
