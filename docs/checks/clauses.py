@@ -15,11 +15,11 @@ OWNER = r"(?:the |records? |calls of )*`(?:(?:\w+::)+\w+|[A-Z]\w*)`"
 OF = re.compile(rf"({NAMES}) of (the same\b|{OWNER}(?:{AND}{OWNER})*)")
 HEAD = re.compile(r"Clauses? of (.*)")
 
-# What PROVED has to name: these calls, the records of the cases of a run, and the public calls of these types.
+# What PROVED has to name: these calls, the records of the cases of a run, and the public calls of these types; a session is a seat at the turn lock.
 CALLS = ["clfs_engine::run", "clfs_engine::run_alone", "clfs_engine::run_share", "clfs_engine::share_log"]
 CASES = ("clfs_engine", "specs/Run.antt", "Ends")
 SHARING = "EndsSharing"
-TYPES = [("clfs_manager", "Manager"), ("clfs_shared", "SharedLog")]
+TYPES = [("clfs_manager", "Manager"), ("clfs_shared", "SharedLog"), ("clfs_turn", "TurnSeat")]
 
 
 class Owners:
