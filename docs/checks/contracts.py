@@ -1,12 +1,12 @@
 """Reads the contracts of a source file: each public call with its comment, what it requires, and its clauses with theirs."""
 import dataclasses
-import functools
 import re
 
 HEAD = re.compile(r"( *)(pub(?:\((\w+)\))? )?(?:unsafe |const |extern \"C\" )*fn (\w+)")
 IMPL = re.compile(r"(?:unsafe )?impl(?:<.*?>)? (?:.* for )?(?:\w+::)*([A-Z]\w*)")
 TRAIT = re.compile(r"(pub )?trait ([A-Z]\w*)")
 CLAUSE = re.compile(r" *(requires|ensures)(?: (\w+))? \{")
+BRACE = re.compile(r"[{}]")
 NAMELESS = "ensures"
 
 
@@ -45,7 +45,6 @@ def sentence(lines):
     return " ".join(filter(None, (line.strip() for line in lines)))
 
 
-@functools.lru_cache(1)
 def bare(line):
     """A line with what stands in quotation marks, and a comment at its end, made blank."""
     return re.sub(r'"(?:[^"\\]|\\.)*"|//.*', lambda it: " " * len(it[0]), line)
@@ -56,10 +55,10 @@ def braced(lines, row, column):
     depth, text, start = 0, [], row
     while row < len(lines):
         line = lines[row]
-        for at in range(column, len(line)):
-            depth += {"{": 1, "}": -1}.get(bare(line)[at], 0)
+        for brace in BRACE.finditer(bare(line), column):
+            depth += 1 if brace[0] == "{" else -1
             if depth == 0:
-                text.append(line[column : at + 1])
+                text.append(line[column : brace.end()])
                 return sentence(text)[1:-1].strip(), row
         text.append(line[column:])
         row, column = row + 1, 0
