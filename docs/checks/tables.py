@@ -160,7 +160,7 @@ def status_rows(page, code):
         here = said.get(name, set()) - {USAGE}
         faults += [f"{page.name}:{start}: `{name}` can end with {one}" for one in sorted(wanted - here)]
         faults += [f"{page.name}:{start}: `{name}` never ends with {one}" for one in sorted(here - wanted)]
-    sources = "\n".join(text for crate in code.proved() for text in [*crate.source.values(), *crate.specs.values()])
+    sources = "\n".join(re.findall(r'"(?:[^"\\]|\\.)*"', "\n".join(text for crate in code.proved() for text in crate.specs.values())))
     for number, text in lines.values():
         for line in names_in_backticks(text):
             fixed = re.split(r" [A-Z]+\b(?! \w+ [a-z])| \.\.", line)[0]
