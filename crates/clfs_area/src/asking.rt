@@ -1,4 +1,5 @@
-// The calls that an area makes of its log, by its session, and what they are answered.
+// The calls that an area makes of its log, by its session, and what they are answered. What is appended or reserved is copied before the log is asked, so
+// want of memory is answered without a step.
 ghost use Rattle.std.specs.Prelude.{◌≡◌, ◌+◌, ◌-◌, ◌≤◌, ◌<◌, ◌^◌, true, false, [], length, Some, IfOk, IfErr};
 ghost use Rattle.clfs_lsn.specs.Size.{own};
 ghost use Rattle.clfs_model.specs.declared.call.Call.TheVariants as calls;

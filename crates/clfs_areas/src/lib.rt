@@ -7,7 +7,8 @@
 //! number.
 //!
 //! A log has at most 1,024 areas, of 64 clients with 16 each. An area is found by the hash of its client and number, without going through
-//! the others. The place found serves for every further call, as long as no area goes. Making an area and ending one go through all of them.
+//! the others. The hash has a fixed seed: clients are numbered 1 to 64 and the log numbers the areas, so nobody can choose names that collide.
+//! The place found serves for every further call, as long as no area goes. Making an area and ending one go through all of them.
 //!
 //! Memory is taken when an area is made and when room for a cursor is reserved; where it fails the table shows the areas that it showed.
 //! Nothing of this is on a disk, so a crash leaves nothing of it: areas, cursors and held sectors end with it.

@@ -161,7 +161,7 @@ Opens the log, and serves each client in a thread of its own: its IN is opened, 
 soon as it is whole. Client 1 has the first two paths, and each line begins with the client's number, as those of race. A client is done once its IN ends;
 its areas are deleted then. If one client's IN or OUT fails, or a line has more than 131072 bytes, that client alone is done, and standard error says so.
 Status 0: all clients are done. 3: standard output can't be written. 4: disk fault, or damage. 5: out of memory before a path was opened. 6: not a log.
-17: a path can't be used, and nothing was opened.
+17: a path can't be used, and nothing was opened. 18: no client was served.
 ";
 
 #[test]

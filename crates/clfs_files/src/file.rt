@@ -3,7 +3,7 @@
 // It has one name, since another name could be another file of this log or of a second one, and what is written by one name would stand
 // under the other. Its length is known from its opening on, since the folder is locked and the file changes by these calls alone. A
 // growth writes zeros and doesn't only move the end: so the medium has room for all that is written later within the length, and a later
-// sync has no metadata to write. (docs/DECISIONS.md says when that isn't so.)
+// sync has no metadata to write. (docs/RUNNING.md says when that isn't so.)
 ghost use Rattle.std.specs.Prelude.{◌≤◌, length, IfOk};
 
 use crate::fault::{Call, Cause, Fault, Place, asked};
@@ -13,7 +13,7 @@ use std::io::{self, ErrorKind};
 use std::os::unix::fs::{FileExt, MetadataExt};
 
 // The most zeros that are written in one call, as many as the bytes of a largest block. On Linux later syncs of a few sectors were slower after
-// pieces of 1 MiB, and reading was slower after pieces of a page (docs/SPEED.md).
+// pieces of 1 MiB, and reading was slower after pieces of a page.
 pub(crate) const PIECE: usize = 1 << 16;
 
 /// How many files a disk has.

@@ -1,7 +1,7 @@
 // Printing a log as text, up to its end or its first wrong byte.
 //
 // What is printed, and up to which byte, is `clfs_dump`'s; here it is said by a status how it ended. A line comes last if no slot is open, or if the
-// disk failed: the text before it is a front of that of the files then. The disk is only read, and not even synced.
+// disk failed: the text before it is a prefix of that of the files then. The disk is only read, and not even synced.
 ghost use Rattle.std.specs.Prelude.{◌≡◌, IfOk};
 ghost use Rattle.clfs_operations.specs.Complete.{IsDone, NothingFailsChecking};
 ghost use Rattle.clfs_operations.specs.Dump.{form_of, name_of, selection_of, EndsDump};

@@ -15,7 +15,7 @@
 //! `Gatherer` by its head and where its data stand: `load` keeps records, `load_heads` their heads, which is what a log that is open keeps,
 //! and `Counts` only counts them. Each block is judged in memory before it counts, so what is opened is a log over any disk, also one that
 //! doesn't tell what its files hold (specs/KnownLogs.antt); where it tells, this log is the one that its files have.
-//! Files are read ahead in pieces of 1 MiB, or of a container where that is shorter; the memory for a piece and for a block's payload is
+//! Files are read ahead in pieces of 128 KiB, or of a container where that is shorter; the memory for a piece and for a block's payload is
 //! taken once.
 #![tactic(auto)]
 

@@ -29,7 +29,7 @@ use clfs_disk::{Disk, calls_join};
 use clfs_lsn::{Lsn, Place, SECTOR, Shape, frontier};
 use std::alloc::{AllocError, Global};
 
-// The most bytes of a file that are read at a time.
+// The most bytes of a file that are read at a time. Longer pieces go through more memory than a processor keeps near, and were slower.
 const PIECE: u32 = 1 << 17;
 
 /// What a walk leaves beside the records, which its gatherer has.

@@ -1,4 +1,6 @@
 // Moving the archive tail once an archive is in safety.
+//
+// No call of a log without streams answers the flushed LSN. So it is asked for by a tail that is too high, whose refusal tells it and changes nothing.
 ghost use Rattle.std.specs.Prelude.{◌≡◌, ℕ, false, None, OnOk, IfErr, IsErrOf};
 ghost use Rattle.clfs_model.specs.Flush.{flushed};
 ghost use Rattle.clfs_model.specs.Run.{asks};
