@@ -41,7 +41,7 @@ pub record IsAtWork (log : SharedState) (area : AreaBooks) : Type 0 where
 
 -- ---- workers and their permits
 
--- a worker: its permit, and the appends that there was no memory for
+-- a worker: its permit, and the appends that are said to lack memory
 pub record WorkerState : Type 0 where
   pub permit : PermitState
   pub lacked : ℕ
@@ -50,7 +50,8 @@ pub record WorkerState : Type 0 where
 abbrev pub worker_of : PermitState → ℕ → WorkerState
 worker_of permit lacked = record { permit = permit; lacked = lacked }
 
--- So many appends were made by a permit: each was answered with an LSN, or there was no memory for it. A record takes a sector of the permit.
+-- So many appends are told of a permit: those that it counts as records and those that are said to lack memory are as many together. A record takes a
+-- sector of the permit.
 pub record HasAppended (old new : PermitState) (count lacked : ℕ) : Type 0 where
   pub records : new.records + lacked ≡ old.records + count
   pub sectors : new.sectors + count ≡ old.sectors + lacked
@@ -60,7 +61,8 @@ pub record HasAppended (old new : PermitState) (count lacked : ℕ) : Type 0 whe
 abbrev pub ready : ℕ → WorkerState
 ready count = worker_of (permit_of count 0 1) 0
 
--- A worker that is done: it made as many appends as its parts stand for, and its permit still has the sectors of those that there was no memory for.
+-- A worker that is done: its records and the appends that are said to lack memory are as many together as its parts stand for, and its permit still has
+-- a sector for each of the latter.
 pub record HasWorked (count : ℕ) (worker : WorkerState) : Type 0 where
   pub all : worker.permit.records + worker.lacked ≡ worker.permit.parts * count
   pub left : worker.permit.sectors ≡ worker.lacked

@@ -47,7 +47,8 @@ impl<N: LogName, S: Ledger, R: Ledger> Desk<N, S, R> {
     }
 }
 
-/// Appends so many records by a permit that has the sectors for them, and answers for how many there was no memory.
+/// Appends so many records by a permit that has the sectors for them, and counts those for which there was no memory. Contracts see the two numbers
+/// alone: what isn't a record of the permit is in the count.
 pub fn append_records<N: LogName, S: Ledger, R: Ledger, D: Disk, W: Wait>(
     rt: &W,
     log: &SharedLog<D, ToldJournal>,

@@ -1,5 +1,5 @@
 -- What the answers to a client's lines put into the journal.
-use Rattle.std.proofs.Common.{◌≡◌, ℕ, Bool, true, false, refl, sym, ap, subst, ◌∙◌, inl, inr, List, [], ◌∷◌, ◌++◌, append_assoc, append-nil}
+use Rattle.std.proofs.Common.{◌≡◌, ℕ, Bool, true, false, refl, sym, ap, subst, ◌∙◌, inl, inr, List, [], ◌∷◌, ◌++◌, length, append_assoc, append-nil, le_trans}
 use Rattle.std.specs.Prelude.{Option}
 use Rattle.clfs_model.specs.declared.reply.Reply.{Reply}
 use Rattle.clfs_model.specs.Accepted.{Limits, accepted}
@@ -15,9 +15,9 @@ use Rattle.clfs_shared.specs.Sessions.{SessionState, SharedState, IsOf, own_entr
 use Rattle.clfs_share.specs.Answered.{AnswersLine, AnswersRequest}
 use Rattle.clfs_share.specs.Lines.{own_request, own_requests}
 use Rattle.clfs_share.specs.Left.{HasLeft}
-use Rattle.clfs_share.specs.Made.{Made, all_made, calls_made, AreReplies, reply_lines}
+use Rattle.clfs_share.specs.Made.{Made, all_made, calls_made, AreReplies, AreWanted, reply_lines}
 use Rattle.clfs_share.specs.Served.{IsServed, client_limits}
-use Rattle.clfs_share.proofs.Making.{AreReplies-append, calls_made-append, request_adds, request_replies, request_same, same_seat, same_seats}
+use Rattle.clfs_share.proofs.Making.{AreReplies-append, begins_with, calls_made-append, request_adds, request_replies, request_same, request_wanted, same_seat, same_seats}
 
 -- ---- lines, one after the other
 
@@ -27,6 +27,7 @@ pub record LinesMade (client : ℕ) (s t : SessionState) (lines texts : List (Li
   pub answered : AreReplies (own_requests client lines) answers
   pub texts_are : texts ≡ reply_lines (own_requests client lines) answers
   pub entries : all_made (own_entries t) ≡ all_made (own_entries s) ++ calls_made (own_requests client lines) answers
+  pub wanted : AreWanted (length (own_entries t)) (own_requests client lines) answers
   pub same : IsSameSeat s t
 
 none_made : (client : ℕ) (s : SessionState) → LinesMade client s s [] []
@@ -35,6 +36,7 @@ none_made client s = record {
   answered = tt;
   texts_are = refl;
   entries = sym (append-nil (all_made (own_entries s)));
+  wanted = tt;
   same = same_seat s;
 }
 
@@ -49,6 +51,9 @@ one_made client s mid t line text lines texts is one rest = record {
       ∙ append_assoc (all_made (own_entries s)) (calls_made (request ∷ []) (one.reply ∷ [])) (calls_made (own_requests client lines) rest.answers)
       ∙ ap (λ (z : List Made). all_made (own_entries s) ++ z)
       (sym (calls_made-append (request ∷ []) (own_requests client lines) (one.reply ∷ []) rest.answers (request_replies s request one.reply mid answered)));
+  wanted = request_wanted s request one.reply mid (length (own_entries t)) (own_requests client lines) rest.answers answered
+      (le_trans (begins_with (own_entries mid) (own_entries s) (calls_made (request ∷ []) (one.reply ∷ [])) (request_adds s request one.reply mid answered))
+      (begins_with (own_entries t) (own_entries mid) (calls_made (own_requests client lines) rest.answers) rest.entries)) rest.wanted;
   same = same_seats s mid t (request_same s request one.reply mid answered) rest.same;
 }
   where

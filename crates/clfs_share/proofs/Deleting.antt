@@ -126,7 +126,7 @@ grown s t call reply answered = by_memory (is_out_of_memory reply) (λ _. length
     let grew = ap length (answered.step answers).grew ∙ length-append (own_entries s) (entry ∷ []) in omega (arith, grew))
 
 -- a deletion takes no memory, so that it lacks only for a client with as many entries as it may have
-pub has_most : (s t : SessionState) (number : ℕ) (reply : Reply) → AnswersCall s (calls.DeleteArea number) reply t
+has_most : (s t : SessionState) (number : ℕ) (reply : Reply) → AnswersCall s (calls.DeleteArea number) reply t
     → (takes_memory (calls.DeleteArea number) ≡ true) ⊎ (most_calls ≤ length (own_entries s)) → most_calls ≤ length (own_entries t)
 has_most s t number reply answered (inl takes) = absurd (true≢false (sym takes))
 has_most s t number reply answered (inr most) = le_trans most (grown s t (calls.DeleteArea number) reply answered)
@@ -148,13 +148,13 @@ ends_more own more reply less (inr (inl broken)) = inr (inl broken)
 ends_more own more reply less (inr (inr most)) = inr (inr (most.0, le_trans most.1 less))
 
 -- one deletion
-pub deletes : DeletionLaws → (s t : SessionState) (number : ℕ) (reply : Reply) → AnswersCall s (calls.DeleteArea number) reply t
-    → (is_out_of_memory reply ≡ true → most_calls ≤ length (own_entries t)) → DeletesArea s number t
-deletes laws s t number reply answered lacks = record {
+pub deletes : DeletionLaws → (s t : SessionState) (number : ℕ) (reply : Reply) → AnswersCall s (calls.DeleteArea number) reply t → DeletesArea s number t
+deletes laws s t number reply answered = record {
   reply = reply;
   answered = answered;
   ends = ends_by (length (own_entries t)) number reply (λ answers. let step = answered.step answers in
-      laws.kind s.opening.tells_contents step.found s.client (calls.DeleteArea number) _ reply step.left step.step) lacks;
+      laws.kind s.opening.tells_contents step.found s.client (calls.DeleteArea number) _ reply step.left step.step)
+      (λ lacking. has_most s t number reply answered (answered.wanted lacking));
   gone = ended laws s t number reply answered;
 }
 

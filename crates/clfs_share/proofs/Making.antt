@@ -1,17 +1,19 @@
 -- The calls that one request more gives, and what they add to a session's own entries.
-use Rattle.std.proofs.Common.{◌≡◌, ℕ, ◌+◌, Bool, true, false, refl, sym, ap, subst, ◌∙◌, List, [], ◌∷◌, ◌++◌, length, append-nil}
-use Rattle.std.specs.Prelude.{if◌then◌else◌, OnErr, Ok, Err, Result}
-use Rattle.std.proofs.lemmas.List.{map-append}
+use Rattle.std.proofs.Common.{◌≡◌, ℕ, ◌+◌, Bool, true, false, refl, sym, ap, subst, ◌∙◌, inl, inr, List, [], ◌∷◌, ◌++◌, length, append-nil, arith, length-append, le_trans}
+use Rattle.std.specs.Prelude.{◌⊎◌, ◌≤◌, if◌then◌else◌, OnErr, Ok, Err, Result}
+use Rattle.std.proofs.lemmas.List.{length-map, map-append}
 use Rattle.clfs_model.specs.declared.call.Call.{Call}
 use Rattle.clfs_model.specs.declared.journal.Entry.{Entry}
 use Rattle.clfs_model.specs.declared.reply.Reply.{Reply}
 use Rattle.clfs_model.specs.Journals.{mine}
 use Rattle.clfs_model.specs.Run.{Request, asks, reopens, bad_line}
+use Rattle.clfs_model.specs.Step.{takes_memory}
 use Rattle.clfs_turn.specs.Seats.{IsSameSeat}
+use Rattle.clfs_shared.specs.Counts.{most_calls}
 use Rattle.clfs_shared.specs.Journal.{entry_of, is_out_of_memory}
 use Rattle.clfs_shared.specs.Sessions.{SessionState, own_entries}
 use Rattle.clfs_share.specs.Answered.{AnswersCall, AnswersRequest}
-use Rattle.clfs_share.specs.Made.{Made, made, made_of, all_made, calls_made, AreReplies}
+use Rattle.clfs_share.specs.Made.{Made, made, made_of, all_made, calls_made, AreReplies, AreWanted}
 
 -- ---- requests and their replies
 
@@ -84,6 +86,30 @@ pub request_replies : (s : SessionState) (request : Request) (reply : Reply) (t 
 request_replies s (asks client call) reply t answered = tt
 request_replies s (reopens client) reply t answered = absurd answered
 request_replies s (bad_line at) reply t answered = (answered.0, tt)
+
+-- ---- calls that memory runs out for
+
+-- with more entries memory may run out for as many calls
+more_wanted : (own more : ℕ) (call : Call) → own ≤ more → (takes_memory call ≡ true) ⊎ (most_calls ≤ own) → (takes_memory call ≡ true) ⊎ (most_calls ≤ more)
+more_wanted own more call less (inl takes) = inl takes
+more_wanted own more call less (inr most) = inr (le_trans most less)
+
+-- a request that was answered so, and then others
+pub request_wanted : (s : SessionState) (request : Request) (reply : Reply) (t : SessionState) (own : ℕ) (requests : List Request) (answers : List Reply)
+    → AnswersRequest s request reply t → length (own_entries s) ≤ own → AreWanted own requests answers → AreWanted own (request ∷ requests) (reply ∷ answers)
+request_wanted s (asks client call) reply t own requests answers answered less rest =
+    (λ lacking. more_wanted (length (own_entries s)) own call less (answered.1.wanted lacking), rest)
+request_wanted s (reopens client) reply t own requests answers answered less rest = absurd answered
+request_wanted s (bad_line at) reply t own requests answers answered less rest = rest
+
+-- entries that begin with the calls of others are as many at least
+pub begins_with : (entries others : List Entry) (more : List Made) → all_made entries ≡ all_made others ++ more → length others ≤ length entries
+begins_with entries others more are =
+    let many = ap length are in
+    let both = length-append (all_made others) more in
+    let here = length-map entries made_of in
+    let there = length-map others made_of in
+    omega (arith, many, both, here, there)
 
 -- ---- an error
 

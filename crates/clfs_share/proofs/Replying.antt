@@ -1,7 +1,8 @@
 -- A client's answers told by its calls.
-use Rattle.std.proofs.Common.{◌≡◌, ℕ, Bool, true, false, refl, sym, ap, ◌∙◌, inl, inr, List, [], ◌++◌}
+use Rattle.std.proofs.Common.{◌≡◌, ℕ, Bool, true, false, refl, sym, ap, subst, ◌∙◌, inl, inr, List, [], ◌++◌, length}
 use Rattle.std.specs.Prelude.{Option}
 use Rattle.std.specs.List.{concat}
+use Rattle.std.proofs.lemmas.List.{length-map}
 use Rattle.clfs_model.specs.declared.journal.Entry.{Entry}
 use Rattle.clfs_model.specs.Accepted.{Limits}
 use Rattle.clfs_lines.specs.Answering.{Answers, EndsAnswering, IsWholeAnswer, IsAnswerUpToFault, IsAnswerUpToLimit, IsFrontUpToLimit, StopsShort, StopsAtFault}
@@ -10,11 +11,18 @@ use Rattle.clfs_lines.specs.Through.{AnswersThrough, AnswersInPart}
 use Rattle.clfs_shared.specs.Sessions.{SessionState, own_entries}
 use Rattle.clfs_share.specs.Answered.{AnswersLine}
 use Rattle.clfs_share.specs.Lines.{own_requests}
-use Rattle.clfs_share.specs.Made.{all_made, calls_made}
+use Rattle.clfs_share.specs.Made.{all_made, calls_made, made_of, AreWanted}
 use Rattle.clfs_share.specs.Taken.{IsAnswered, IsAnsweredInPart}
 use Rattle.clfs_share.proofs.Answering.{LinesMade, lines_made}
 
 -- ---- a new session's lines
+
+-- where memory ran out, by the count of the calls made
+wanted_by : (client : ℕ) (s t : SessionState) (lines texts : List (List ℕ)) (made : LinesMade client s t lines texts)
+    → AreWanted (length (all_made (own_entries t))) (own_requests client lines) made.answers
+wanted_by client s t lines texts made =
+    let F : ℕ → Type 0 = λ n. AreWanted n (own_requests client lines) made.answers in
+    subst F (sym (length-map (own_entries t) made_of)) made.wanted
 
 pub answered_by : (s t : SessionState) → own_entries s ≡ [] → (lines : List (List ℕ)) (text : List ℕ) → AnswersThrough AnswersLine s t lines text
     → IsAnswered s.client (all_made (own_entries t)) lines text
@@ -22,6 +30,7 @@ answered_by s t none lines text through = record {
   answers = made.answers;
   answered = made.answered;
   made = sym (made.entries ∙ ap (λ (entries : List Entry). all_made entries ++ calls_made (own_requests s.client lines) made.answers) none);
+  wanted = wanted_by s.client s t lines through.replies made;
   is = through.is ∙ ap (λ (z : List (List ℕ)). concat z) made.texts_are;
 }
   where
@@ -36,6 +45,7 @@ in_part_by s t none torn lines text part = record {
     answers = made.answers;
     answered = made.answered;
     made = sym (made.entries ∙ ap (λ (entries : List Entry). all_made entries ++ calls_made (own_requests s.client lines) made.answers) none);
+    wanted = wanted_by s.client s t lines part.replies made;
     is = ap (λ (z : List (List ℕ)). concat z) made.texts_are;
   };
   whole = part.whole;

@@ -16,14 +16,16 @@ use Rattle.clfs_share.specs.declared.openers.Openers as Openers
 use Rattle.clfs_share.specs.Ended.{WasNotOpened, WasRefused}
 use Rattle.clfs_share.specs.Left.{deletions, is_gone, EndsArea}
 use Rattle.clfs_share.specs.Lines.{own_requests}
-use Rattle.clfs_share.specs.Made.{Made, all_made, calls_made, AreReplies, reply_lines}
+use Rattle.clfs_share.specs.Made.{Made, all_made, calls_made, AreReplies, AreWanted, reply_lines}
 use Rattle.clfs_share.specs.Served.{client_limits}
 
--- Lines of a client were answered: the calls that they and the replies give are these, and this text is the replies.
+-- Lines of a client were answered: the calls that they and the replies give are these, and this text is the replies. Memory ran out only for a call that
+-- takes some, or where these calls are as many as a client may make.
 pub record IsAnswered (client : ℕ) (calls : List Made) (lines : List (List ℕ)) (text : List ℕ) : Type 0 where
   pub answers : List Reply
   pub answered : AreReplies (own_requests client lines) answers
   pub made : calls_made (own_requests client lines) answers ≡ calls
+  pub wanted : AreWanted (length calls) (own_requests client lines) answers
   pub is : text ≡ concat (reply_lines (own_requests client lines) answers)
 
 -- Lines of a client were answered, and this text is all replies, or all but the last and, if it is torn, a front of that one.

@@ -8,8 +8,8 @@
 //! What a client is answered is told by its session: each call of its lines is the session's own next entry, at the end of a legal journal that begins with
 //! all that the session had seen.
 //!
-//! When no more lines come the deletion of each area that the client can have is asked for, so that what it held is free for the others. A broken log
-//! refuses, and by the contract of a call memory may run out.
+//! When no more lines come the deletion of each area that the client can have is asked for, so that what it held is free for the others. Only a broken log
+//! refuses that, or one at which the client has made as many calls as it may.
 //!
 //! `share` shares a log among clients, each served in a thread of its own, which opens the client's source and sink by its openers. Its contract tells all of
 //! them by one journal, and of each client which calls its openers took: they are opened once, and closed once if that gave anything; they are refused

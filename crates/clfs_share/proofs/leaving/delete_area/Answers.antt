@@ -1,6 +1,6 @@
 use Rattle.clfs_model.specs.declared.call.Call.TheVariants as calls
 use Rattle.clfs_share.specs.Answered.{AnswersCall}
-use Rattle.clfs_share.proofs.Deleting.{deletes, has_most}
+use Rattle.clfs_share.proofs.Deleting.{deletes}
 use Rattle.clfs_share.proofs.leaving.delete_area.Goals as goal
 
 pub returns : goal.returns
@@ -11,7 +11,11 @@ returns g c = deletes (record {
   rows = c.rows_are_by_own_entries.ensures.rows;
 }) c.args.session.now c.step-reply.new.session c.args.number c.step-reply.result
     answered
-    (λ lacking. has_most c.args.session.now c.step-reply.new.session c.args.number c.step-reply.result answered (c.step-reply.ensures.wanted lacking))
   where
     answered : AnswersCall c.args.session.now (calls.DeleteArea c.args.number) c.step-reply.result c.step-reply.new.session
-    answered = record { same = c.step-reply.ensures.same; none = c.step-reply.ensures.none; step = c.step-reply.ensures.step }
+    answered = record {
+      same = c.step-reply.ensures.same;
+      none = c.step-reply.ensures.none;
+      wanted = c.step-reply.ensures.wanted;
+      step = c.step-reply.ensures.step;
+    }
