@@ -4,7 +4,7 @@
  * `previous` names its record before, and `undo_next` the record that is to be undone after this one. It ends with "commit", which is flushed, or
  * is undone: by reading back along `undo_next`, with a record "back ACCOUNT AMOUNT" for each "move", and "undone" at the end. A "back" names in
  * `undo_next` what is still to be undone after it, so an undo that was cut short goes on where it was. The room for these records is held from the
- * "move" on, so an undo is never refused because the log is full.
+ * "move" on, and a commit takes that of "undone", so neither is ever refused because the log is full.
  *
  * A restart area has all balances; what is before it isn't needed any more, so the log goes round in its four containers. After a start the
  * newest restart area is read and then each record after it, forward; transfers without an end are undone.
@@ -75,12 +75,12 @@ static int move(struct bank *bank, int account, int amount, clfs_lsn *last)
     return 0;
 }
 
-/* Ends a transfer of so many moves. It is safe once this returns 0. */
+/* Ends a transfer of so many moves, in the sector held for its end. It is safe once this returns 0. */
 static int commit(struct bank *bank, clfs_lsn last, uint32_t moves)
 {
     uint32_t held;
-    TRY(append(bank, (struct clfs_draft){.previous = last, .flush = true}, "commit", &last));
-    return clfs_release(bank->log, ME, bank->area, moves + 1, &held);
+    TRY(append(bank, (struct clfs_draft){.previous = last, .reserved = true, .flush = true}, "commit", &last));
+    return clfs_release(bank->log, ME, bank->area, moves, &held);
 }
 
 /* Reads the record that lies in the handle, as "move ACCOUNT AMOUNT". */

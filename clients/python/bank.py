@@ -4,7 +4,7 @@ A transfer takes money from one account and gives it to another, each by a recor
 `previous` names its record before, and `undo_next` the record that is to be undone after this one. It ends with `commit`, which is flushed, or
 is undone: by reading back along `undo_next`, with a record `back ACCOUNT AMOUNT` for each `move`, and `undone` at the end. A `back` names in
 `undo_next` what is still to be undone after it, so an undo that was cut short goes on where it was. The room for these records is held from the
-`move` on, so an undo is never refused because the log is full.
+`move` on, and a commit takes that of `undone`, so neither is ever refused because the log is full.
 
 A restart area has all balances; what is before it isn't needed any more, so the log goes round in its four containers. After a start the
 newest restart area is read and then each record after it, forward; transfers without an end are undone.
@@ -41,9 +41,9 @@ class Bank:
         return lsn
 
     def commit(self, last, moves):
-        """Ends a transfer of so many moves. It is safe once this returns."""
-        self.area.append(b"commit", previous=last, flush=True)
-        self.area.release(moves + 1)
+        """Ends a transfer of so many moves, in the sector held for its end. It is safe once this returns."""
+        self.area.append(b"commit", previous=last, reserved=True, flush=True)
+        self.area.release(moves)
 
     def undo(self, last, reserved=True):
         """Takes a transfer back and ends it."""

@@ -4,7 +4,7 @@
 //! `previous` names its record before, and `undo_next` the record that is to be undone after this one. It ends with `commit`, which is flushed,
 //! or is undone: by reading back along `undo_next`, with a record `back ACCOUNT AMOUNT` for each `move`, and `undone` at the end. A `back` names
 //! in `undo_next` what is still to be undone after it, so an undo that was cut short goes on where it was. The room for these records is held
-//! from the `move` on, so an undo is never refused because the log is full.
+//! from the `move` on, and a commit takes that of `undone`, so neither is ever refused because the log is full.
 //!
 //! A restart area has all balances; what is before it isn't needed any more, so the log goes round in its four containers. After a start the
 //! newest restart area is read and then each record after it, forward; transfers without an end are undone.
@@ -71,10 +71,10 @@ impl Bank<'_> {
         Ok(lsn)
     }
 
-    /// Ends a transfer of so many moves. It is safe once this returns.
+    /// Ends a transfer of so many moves, in the sector held for its end. It is safe once this returns.
     fn commit(&mut self, last: Lsn, moves: u32) -> Result<(), Error> {
-        self.log.append(self.area, &Draft { previous: last, flush: true, ..Draft::new(b"commit") })?;
-        self.log.release(self.area, moves + 1)?;
+        self.log.append(self.area, &Draft { previous: last, reserved: true, flush: true, ..Draft::new(b"commit") })?;
+        self.log.release(self.area, moves)?;
         Ok(())
     }
 
