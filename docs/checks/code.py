@@ -95,6 +95,10 @@ class Code:
                 left += self.crates[one].below(self.crates)
         return found
 
+    def above(self, name):
+        """The crates that stand on one directly, lowest first."""
+        return [crate.name for crate in self.crates.values() if name in crate.words]
+
     def level(self, name):
         """How many crates stand below one another under it."""
         below = self.crates[name].below(self.crates)

@@ -42,11 +42,13 @@ def first_paragraph(text, *marks):
 
 
 def crates(code):
-    """Each crate by its level, with what it stands on and its modules."""
+    """Each crate by its level, with what it stands on, what stands on it and its modules."""
     levels = {}
     for crate in code.proved():
         levels.setdefault(code.level(crate.name), []).append(crate)
-    parts = ["A crate stands on those of lower levels alone. Libraries of the kit stand last. A module's text is the first comment of its file."]
+    about = ("A crate stands on those of lower levels alone; libraries of the kit are named last. What stands on a crate is proved again when it changes: those "
+             "that use it, which are named, and those above them. A module's text is the first comment of its file.")
+    parts = [about]
     for level in sorted(levels):
         parts.append(f"## Level {level}")
         parts += [crate_part(code, crate) for crate in levels[level]]
@@ -62,6 +64,9 @@ def crate_part(code, crate):
     if about:
         about += "\n\n"
     stands = f"Stands on {codes([*below, *libraries])}." if below or libraries else "Stands on no other crate."
+    above = code.above(crate.name)
+    if above or not crate.is_tests:
+        stands += f" Used by {codes(above)}." if above else " No crate uses it."
     modules = [(f"[{name}](../../crates/{crate.name}/src/{name})", first_paragraph(text, "//! ", "// ")) for name, text in crate.source.items()]
     modules = [row for row in modules if not row[0].startswith(("[lib.rt]", "[main.rt]"))]
     return f"### {crate.name}\n\n{about}{stands}" + ("\n\n" + table(["Module", "What it has"], modules) if modules else "")
