@@ -223,18 +223,19 @@ def audit_files(code, found):
 
 
 def times(code):
-    """What each crate took in a whole gate, by the data file: the minutes of its proof, and of its edits or its tests."""
+    """What each crate takes of the gate, by the data file: the minutes of its proof, and of its edits or its tests; and of which runs they are."""
     found = {}
-    for line in (code.top / TIMES).read_text().split("\n"):
+    text = (code.top / TIMES).read_text()
+    for line in text.split("\n"):
         words = line.split("#")[0].split()
         if words:
             found[words[0]] = tuple(float(word) for word in words[1:])
-    return found
+    return found, text.split("\n")[0].removeprefix("# ")
 
 
 def gate(code):
     """What each crate takes of the processor in a whole gate, and how many edits it has."""
-    took = times(code)
+    took, runs = times(code)
     crates_, tests = [], []
     sums = [0.0, 0.0, 0.0]
     for name, crate in code.crates.items():
@@ -247,8 +248,7 @@ def gate(code):
         inside, beside = len(crate.edits("must-fail")), len(crate.edits("wrong-bodies"))
         crates_.append((f"`{name}`", minutes(own), minutes(more), inside or "", beside or ""))
     parts = f"{sums[0]:.0f} for proofs, {sums[1]:.0f} for edits and {sums[2]:.0f} for tests"
-    source = f"Minutes of the processor, by [{TIMES}](../../{TIMES}), which `start/times` writes of the log of a whole gate."
-    about = f"{source} A whole gate takes {sum(sums):.0f} minutes: {parts}."
+    about = f"{runs} They stand in [{TIMES}](../../{TIMES}), and come to {sum(sums):.0f}: {parts}."
     first = table(["Crate", "Proof", "Edits", "In the gate", "In `wrong-bodies`"], crates_)
     return page("What the gate takes", about, first, table(["Tests", "The crate", "Its tests"], tests))
 
